@@ -1,0 +1,49 @@
+ghost use Rattle.std.specs.Prelude.{◌≡◌, IfOk};
+
+use std::alloc::Global;
+use std::marker::Model;
+use std::sync::ArcSlice;
+
+use crate::memory::Memory;
+
+/// A text of bytes, of any encoding. It never changes, and its copies share the bytes.
+///
+/// A contract sees it as the list of its bytes.
+#[derive(Drop)]
+pub struct Txt {
+    bytes: ArcSlice<u8>,
+}
+
+impl Model for Txt {
+    ghost use Rattle.std.specs.Prelude.{ℕ, List};
+    ghost use Rattle.std.specs.Arc.{arc_slice_items};
+
+    ghost Value = { List ℕ };
+
+    ghost view = { λ t. arc_slice_items t.bytes };
+}
+
+impl Txt {
+    /// The text with these bytes.
+    pub fn of(alloc: Global, bytes: &[u8]) -> Result<Txt, Memory>
+        ensures { IfOk result (λ t. t ≡ bytes.now) }
+    {
+        let bytes = ArcSlice::from_slice(alloc, bytes)?;
+        Ok(Txt { bytes })
+    }
+
+    /// The same text once more, in constant time.
+    pub fn copy(&self) -> Result<Txt, Memory>
+        ensures { IfOk result (λ t. t ≡ self.now) }
+    {
+        let bytes = self.bytes.clone()?;
+        Ok(Txt { bytes })
+    }
+
+    /// The bytes of the text.
+    pub fn as_bytes(&self) -> &[u8]
+        ensures { result.now ≡ self.now }
+    {
+        self.bytes.as_slice()
+    }
+}

@@ -1,10 +1,9 @@
 ghost use Rattle.std.specs.Prelude.{◌≡◌, IfOk};
 
+use crate::memory::Memory;
 use std::alloc::Global;
 use std::marker::Model;
 use std::sync::ArcSlice;
-
-use crate::memory::Memory;
 
 /// A text of bytes, of any encoding. It never changes, and its copies share the bytes.
 ///
@@ -29,6 +28,14 @@ impl Txt {
         ensures { IfOk result (λ t. t ≡ bytes.now) }
     {
         let bytes = ArcSlice::from_slice(alloc, bytes)?;
+        Ok(Txt { bytes })
+    }
+
+    /// The text with the bytes of this list, which are not copied.
+    pub fn from_vec(bytes: Vec<u8>) -> Result<Txt, Memory>
+        ensures { IfOk result (λ t. t ≡ bytes.items) }
+    {
+        let bytes = ArcSlice::from_vec(bytes)?;
         Ok(Txt { bytes })
     }
 

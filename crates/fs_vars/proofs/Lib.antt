@@ -1,0 +1,2 @@
+pub mod PairsLemmas
+pub mod TallyLemmas

@@ -1,0 +1,12 @@
+//! Variables in order, within the limits of a channel or of the globals, and the expansion of texts that name them.
+#![tactic(auto)]
+
+mod bounds;
+mod pairs;
+mod table;
+mod tally;
+mod vars;
+
+pub use bounds::Bounds;
+pub use pairs::VarsIter;
+pub use vars::Vars;

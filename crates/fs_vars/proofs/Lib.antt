@@ -1,2 +1,4 @@
 pub mod PairsLemmas
 pub mod TallyLemmas
+pub mod SearchLemmas
+pub mod DigitLemmas

@@ -133,3 +133,23 @@ pub copied_more : (whole copied new rest : Pairs) (name value : Text) → AreDis
 copied_more whole copied new rest name value distinct so_far put =
     let last = with_value-later name value copied rest (subst AreDistinct (sym so_far) distinct) in
     rw (put, last, append_assoc) so_far
+
+-- ---- one list of pairs behind another
+
+-- a name that the first has is found there
+pub found_first : (name value : Text) (ps qs : Pairs) → value_of ps name ≡ Some value → value_of (ps ++ qs) name ≡ Some value
+found_first name value [] qs h = absurd (cc)
+found_first name value (p ∷ ps) qs h = by (same_text name p.0) h (found_first name value ps qs)
+  where
+    by : (b : Bool) → cond b (Some p.1) (value_of ps name) ≡ Some value → (value_of ps name ≡ Some value → value_of (ps ++ qs) name ≡ Some value) → cond b (Some p.1) (value_of (ps ++ qs) name) ≡ Some value
+    by true h rest = h
+    by false h rest = rest h
+
+-- one that it has not is looked for in the second
+pub found_later : (name : Text) (ps qs : Pairs) → value_of ps name ≡ None → value_of (ps ++ qs) name ≡ value_of qs name
+found_later name [] qs h = refl
+found_later name (p ∷ ps) qs h = by (same_text name p.0) h (found_later name ps qs)
+  where
+    by : (b : Bool) → cond b (Some p.1) (value_of ps name) ≡ None → (value_of ps name ≡ None → value_of (ps ++ qs) name ≡ value_of qs name) → cond b (Some p.1) (value_of (ps ++ qs) name) ≡ value_of qs name
+    by true h rest = absurd (cc)
+    by false h rest = rest h

@@ -1,2 +1,4 @@
 pub mod Pairs
 pub mod Variables
+pub mod Parts
+pub mod Scopes

@@ -3,10 +3,15 @@
 
 mod bounds;
 mod pairs;
+mod part;
+mod profile;
+mod scope;
 mod table;
 mod tally;
 mod vars;
 
 pub use bounds::Bounds;
 pub use pairs::VarsIter;
+pub use profile::Profile;
+pub use scope::Scope;
 pub use vars::Vars;

@@ -1,0 +1,100 @@
+ghost use Rattle.std.specs.Prelude.{◌≡◌, [], IfOk, option_copied};
+ghost use Rattle.fs_vars.specs.Pairs.{value_of};
+
+use fs_text::{Memory, Txt};
+use std::alloc::Global;
+
+/// What is known of a call: who calls whom, and how it came in.
+#[derive(Drop)]
+pub struct Profile {
+    pub destination_number: Txt,
+    pub caller_id_name: Txt,
+    pub caller_id_number: Txt,
+    pub ani: Txt,
+    pub rdnis: Txt,
+    pub context: Txt,
+    pub dialplan: Txt,
+    pub source: Txt,
+    pub uuid: Txt,
+    pub chan_name: Txt,
+    pub network_addr: Txt,
+    pub username: Txt,
+}
+
+impl Profile {
+    ghost use Rattle.fs_vars.specs.Scopes.{fields_of};
+
+    /// A profile whose fields are all empty.
+    pub fn empty(alloc: Global) -> Result<Profile, Memory>
+        ensures { IfOk result (λ p. p ≡ record { destination_number = []; caller_id_name = []; caller_id_number = []; ani = []; rdnis = []; context = []; dialplan = []; source = []; uuid = []; chan_name = []; network_addr = []; username = [] }) }
+    {
+        let empty = Txt::of(alloc, b"")?;
+        Ok(Profile {
+            destination_number: empty.copy()?,
+            caller_id_name: empty.copy()?,
+            caller_id_number: empty.copy()?,
+            ani: empty.copy()?,
+            rdnis: empty.copy()?,
+            context: empty.copy()?,
+            dialplan: empty.copy()?,
+            source: empty.copy()?,
+            uuid: empty.copy()?,
+            chan_name: empty.copy()?,
+            network_addr: empty.copy()?,
+            username: empty,
+        })
+    }
+
+    /// The same profile once more.
+    pub fn copy(&self) -> Result<Profile, Memory>
+        ensures { IfOk result (λ p. p ≡ self.now) }
+    {
+        Ok(Profile {
+            destination_number: self.destination_number.copy()?,
+            caller_id_name: self.caller_id_name.copy()?,
+            caller_id_number: self.caller_id_number.copy()?,
+            ani: self.ani.copy()?,
+            rdnis: self.rdnis.copy()?,
+            context: self.context.copy()?,
+            dialplan: self.dialplan.copy()?,
+            source: self.source.copy()?,
+            uuid: self.uuid.copy()?,
+            chan_name: self.chan_name.copy()?,
+            network_addr: self.network_addr.copy()?,
+            username: self.username.copy()?,
+        })
+    }
+
+    /// The field of a name.
+    pub fn get(&self, name: &[u8]) -> Option<&Txt>
+        ensures { option_copied result ≡ value_of (fields_of self.now) name.now }
+    {
+        if name == b"destination_number".as_slice() {
+            Some(&self.destination_number)
+        } else if name == b"caller_id_name".as_slice() {
+            Some(&self.caller_id_name)
+        } else if name == b"caller_id_number".as_slice() {
+            Some(&self.caller_id_number)
+        } else if name == b"ani".as_slice() {
+            Some(&self.ani)
+        } else if name == b"rdnis".as_slice() {
+            Some(&self.rdnis)
+        } else if name == b"context".as_slice() {
+            Some(&self.context)
+        } else if name == b"dialplan".as_slice() {
+            Some(&self.dialplan)
+        } else if name == b"source".as_slice() {
+            Some(&self.source)
+        } else if name == b"uuid".as_slice() {
+            Some(&self.uuid)
+        } else if name == b"chan_name".as_slice() {
+            Some(&self.chan_name)
+        } else if name == b"network_addr".as_slice() {
+            Some(&self.network_addr)
+        } else if name == b"username".as_slice() {
+            Some(&self.username)
+        } else {
+            None
+        }
+    }
+}

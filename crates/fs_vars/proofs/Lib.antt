@@ -2,3 +2,4 @@ pub mod PairsLemmas
 pub mod TallyLemmas
 pub mod SearchLemmas
 pub mod DigitLemmas
+pub mod ExpansionLemmas

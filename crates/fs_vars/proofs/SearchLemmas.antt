@@ -1,6 +1,7 @@
 -- Where the first byte that passes a test stands, and whether there is one.
 use Rattle.std.proofs.Common.{◌≡◌, ℕ, ◌+◌, ◌-◌, take, drop, length-drop, ◌<◌, ◌≤◌, Bool, true, false, cond, not, ◌||◌, nat_lt, ltb, List, [], ◌∷◌, length, refl, sym, ap, ◌∙◌, arith}
-use Rattle.std.specs.List.{position_or_len, list_any}
+use Rattle.std.specs.List.{position_or_len, list_any, after_first}
+use Rattle.std.proofs.Math.ListN.{drop_of_length-le}
 use Rattle.std.proofs.lemmas.List.{take_rest, drop-drop}
 use Rattle.std.proofs.lemmas.Bool.Decides.{nat_tests}
 use Rattle.std.proofs.lemmas.Bool.{lt-ltb, le-ltb, ltb-true, ltb-false}
@@ -23,14 +24,18 @@ found p (b ∷ text) = by (p b) (found p text)
     by true h = sym (lt-ltb 0 (length (b ∷ text)) (omega arith))
     by false h = h ∙ grind (arith, nat_tests)
 
--- where none passes, the place is the end
-pub none_found : (p : ℕ → Bool) (text : List ℕ) → length text ≤ position_or_len p text → list_any p text ≡ false
-none_found p text h = found p text ∙ le-ltb _ _ h
+-- where the place is the end, none passes
+pub none_found : (p : ℕ → Bool) (text : List ℕ) (place : ℕ) → place ≡ position_or_len p text → length text ≤ place → list_any p text ≡ false
+none_found p text place is h = found p text ∙ le-ltb _ _ (rw (← is) h)
 
--- where the place is before the end, one passes
-pub one_found : (p : ℕ → Bool) (text : List ℕ) → position_or_len p text < length text → list_any p text ≡ true
-one_found p text h = found p text ∙ lt-ltb _ _ h
+-- where it is before the end, one passes
+pub one_found : (p : ℕ → Bool) (text : List ℕ) (place : ℕ) → place ≡ position_or_len p text → place < length text → list_any p text ≡ true
+one_found p text place is h = found p text ∙ lt-ltb _ _ (rw (← is) h)
 
 -- what stands behind the first of what is left at a place
 pub rest_is : (n : ℕ) (text rest : List ℕ) → rest ≡ drop n text → take (length rest - 1) (drop 1 rest) ≡ drop (n + 1) text
 rest_is n text rest is = take_rest rest 1 ∙ ap (drop 1) is ∙ drop-drop 1 n text
+
+-- nothing stands behind the first that passes where none does
+pub nothing_after : (p : ℕ → Bool) (text : List ℕ) → list_any p text ≡ false → after_first p text ≡ []
+nothing_after p text h = drop_of_length-le text (omega (arith, ltb-false _ _ (sym (found p text) ∙ h)))

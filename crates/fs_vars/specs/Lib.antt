@@ -2,3 +2,4 @@ pub mod Pairs
 pub mod Variables
 pub mod Parts
 pub mod Scopes
+pub mod Expansion

@@ -4,7 +4,9 @@
 mod bounds;
 mod pairs;
 mod part;
+mod pieces;
 mod profile;
+mod reference;
 mod scope;
 mod table;
 mod tally;

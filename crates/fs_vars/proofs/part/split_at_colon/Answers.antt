@@ -8,11 +8,11 @@ split_at-requires c = omega (arith, c.place_of.ensures, place_within is_colon c.
 
 pub returns-in-empty-clause-found : goal.returns-in-empty-clause-found
 returns-in-empty-clause-found c =
-    sym (none_found is_colon c.args.text.now (omega (arith, c.place_of.ensures, c.split_at.ensures.back_len)))
+    sym (none_found is_colon c.args.text.now c.place_of.result c.place_of.ensures (omega (arith, c.split_at.ensures.back_len)))
 
 pub returns-in-len1-up-clause-found : goal.returns-in-len1-up-clause-found
 returns-in-len1-up-clause-found c =
-    sym (one_found is_colon c.args.text.now (omega (arith, c.place_of.ensures, c.split_at.ensures.back_len)))
+    sym (one_found is_colon c.args.text.now c.place_of.result c.place_of.ensures (omega (arith, c.split_at.ensures.back_len)))
 
 pub returns-in-len1-up-clause-after : goal.returns-in-len1-up-clause-after
 returns-in-len1-up-clause-after c =

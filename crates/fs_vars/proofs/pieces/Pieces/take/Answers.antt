@@ -1,0 +1,6 @@
+use Rattle.std.proofs.Common.{drop}
+use Rattle.fs_vars.specs.Expansion.{Left}
+use Rattle.fs_vars.proofs.pieces.Pieces.take.Goals as goal
+
+pub returns-clause-rest : goal.returns-clause-rest
+returns-clause-rest c = rw (← c.self.view_is, c.split_at.ensures.back)

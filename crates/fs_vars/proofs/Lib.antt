@@ -3,3 +3,4 @@ pub mod TallyLemmas
 pub mod SearchLemmas
 pub mod DigitLemmas
 pub mod ExpansionLemmas
+pub mod OutputLemmas

@@ -3,3 +3,4 @@ pub mod Variables
 pub mod Parts
 pub mod Scopes
 pub mod Expansion
+pub mod Outputs

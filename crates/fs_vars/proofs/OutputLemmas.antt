@@ -1,0 +1,28 @@
+-- An output that takes the pieces of a text one after another.
+use Rattle.std.proofs.Common.{◌≡◌, ◌++◌, ◌+◌, ◌≤◌, ◌<◌, List, [], length, refl, sym, ap, ◌∙◌, append_assoc, subst}
+use Rattle.std.proofs.lemmas.List.{append-nil}
+use Rattle.fs_vars.specs.declared.output.Output.{Output}
+use Rattle.fs_vars.specs.Pairs.{Text, Pairs}
+use Rattle.fs_vars.specs.Expansion.{Left, TakesPiece, expanded}
+use Rattle.fs_vars.specs.Outputs.{Holds}
+use Rattle.fs_vars.proofs.ExpansionLemmas.{expanded-nothing}
+
+-- the output holds what the text is expanded to, up to what is left
+pub record Expands (known : Pairs) (text : Text) (left : Left) (output : Output) : Type 0 where
+  pub done : Text
+  pub whole : expanded known text ≡ done ++ expanded left.known left.text
+  pub holds : Holds output done
+
+-- one piece more
+pub expands_more : (known : Pairs) (text piece : Text) (left next : Left) (output added : Output) → Expands known text left output → TakesPiece left piece next → ((done : Text) → Holds output done → Holds added (done ++ piece)) → Expands known text next added
+expands_more known text piece left next output added so_far step more = record {
+  done = so_far.done ++ piece;
+  whole = so_far.whole ∙ ap (λ rest. so_far.done ++ rest) step.text ∙ sym (append_assoc so_far.done piece (expanded next.known next.text));
+  holds = more so_far.done so_far.holds;
+}
+
+-- once no text is left, the output holds the whole
+pub expands_all : (known : Pairs) (text : Text) (left : Left) (output : Output) → Expands known text left output → left.text ≡ [] → Holds output (expanded known text)
+expands_all known text left output so_far nothing =
+    let whole = so_far.whole ∙ ap (λ rest. so_far.done ++ expanded left.known rest) nothing ∙ ap (λ rest. so_far.done ++ rest) (expanded-nothing left.known) ∙ append-nil so_far.done in
+    subst (Holds output) (sym whole) so_far.holds

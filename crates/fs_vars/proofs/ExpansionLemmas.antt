@@ -1,12 +1,13 @@
 -- A text that is expanded is expanded piece after piece.
-use Rattle.std.proofs.Common.{length-drop, length-append, length-take, Bor, option_map, unwrap_or,  ◌≡◌, ◌==◌, ℕ, zero, suc, ◌+◌, ◌-◌, ◌<◌, ◌≤◌, Bool, true, false, cond, not, ◌&&◌, ◌||◌, nat_eq, List, [], ◌∷◌, ◌++◌, length, take, drop, codes, refl, sym, ap, ◌∙◌, subst, arith, Option, None, Some}
+use Rattle.std.proofs.Common.{length-drop, length-append, length-take, Bor, option_map, unwrap_or, ◌≡◌, ℕ, zero, suc, ◌+◌, ◌-◌, ◌<◌, ◌≤◌, Bool, true, false, cond, not, ◌&&◌, ◌||◌, nat_eq, [], ◌∷◌, ◌++◌, length, take, drop, codes, refl, sym, ap, ◌∙◌, subst, arith, Option, None, Some}
 use Rattle.std.specs.List.{starts_with, list_any, position_or_len, before_first}
 use Rattle.std.proofs.lemmas.List.{length-take-le, take_at}
 use Rattle.fs_vars.proofs.SearchLemmas.{place_within}
 use Rattle.std.proofs.lemmas.Bool.{false≢true, and_right, and_left, and_parts, or_parts, eqb-true, eqb-false, ne_eqb}
 use Rattle.memchr.specs.Find.{is_byte2}
 use Rattle.fs_vars.specs.Pairs.{Text, Pairs}
-use Rattle.fs_vars.specs.Expansion.{Left, TakesPiece, Piece, front, by_pieces, expanded, meaning, value_asked, has_escape, has_reference, inside_of, is_brace}
+use Rattle.fs_vars.specs.Expansion.{Piece, front, by_pieces, expanded, meaning, value_asked, has_escape, has_reference, inside_of, is_brace}
+use Rattle.fs_vars.specs.Pieces.{Left, TakesPiece}
 
 -- ---- pieces in general
 
@@ -100,6 +101,7 @@ module _ (known : Pairs) where
     where
       n : ℕ
       n = position_or_len is_special text
+
       by : (t : Bool) → is_special b ≡ t → expanded known text ≡ take n text ++ expanded known (drop n text)
           → expanded known (b ∷ text) ≡ take (cond (not t) (1 + n) 0) (b ∷ text) ++ expanded known (drop (cond (not t) (1 + n) 0) (b ∷ text))
       by true e rest = refl
@@ -138,6 +140,7 @@ brace_ends (b ∷ text) h = by (is_brace b) refl h (brace_ends text)
   where
     n : ℕ
     n = position_or_len is_brace text
+
     by : (t : Bool) → is_brace b ≡ t → (t || list_any is_brace text) ≡ true → (list_any is_brace text ≡ true → take (n + 1) text ≡ take n text ++ codes "}")
         → take (cond (not t) (1 + n) 0 + 1) (b ∷ text) ≡ take (cond (not t) (1 + n) 0) (b ∷ text) ++ codes "}"
     by true e h rest = ap (λ c. c ∷ []) (eqb-true b 125 e)
@@ -156,7 +159,7 @@ reference_is (b ∷ c ∷ text) h =
     let dollar : 36 ≡ b = eqb-true 36 b start.0 in
     let brace : 123 ≡ c = eqb-true 123 c (and_parts (nat_eq 123 c) true start.1).0 in
     let count : length (inside_of (b ∷ c ∷ text)) + 3 ≡ suc (suc (position_or_len is_brace text + 1)) =
-        omega (arith, length-take-le (position_or_len is_brace text) text (place_within is_brace text)) in
+    omega (arith, length-take-le (position_or_len is_brace text) text (place_within is_brace text)) in
     rw (count, brace_ends text parts.1) (λ i. sym dollar i ∷ sym brace i ∷ (inside_of (b ∷ c ∷ text) ++ codes "}"))
 
 -- and lies within its text
@@ -164,7 +167,7 @@ pub reference_within : (text : Text) → has_reference text ≡ true → length 
 reference_within text h =
     let n : ℕ = length (inside_of text) + 3 in
     let whole : length (take n text) ≡ n =
-        ap length (reference_is text h) ∙ simp (length-append {A = ℕ}) (omega arith) in
+    ap length (reference_is text h) ∙ simp (length-append {A = ℕ}) (omega arith) in
     omega (arith, length-take n text, whole)
 
 -- what stands between its braces

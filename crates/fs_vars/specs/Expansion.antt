@@ -1,6 +1,5 @@
 -- What a text is expanded to.
-use Rattle.std.specs.Prelude.{◌≡◌, ◌==◌, ℕ, zero, suc, ◌+◌, ◌-◌, ◌<◌, ◌≤◌, ◌^◌, min, Bool, ◌&&◌, ◌||◌, nat_eq, if◌then◌else◌, [], ◌∷◌, ◌++◌, length, take, drop, Option, None, Some, is_some, unwrap_or, MatchOption, codes}
-use Rattle.std.specs.Borrow.{Bor}
+use Rattle.std.specs.Prelude.{◌≡◌, ◌==◌, ℕ, zero, suc, ◌+◌, ◌-◌, Bool, false, ◌&&◌, ◌||◌, nat_eq, if◌then◌else◌, [], ◌∷◌, ◌++◌, length, take, drop, Option, None, Some, is_some, unwrap_or, codes}
 use Rattle.std.specs.List.{starts_with, list_any, before_first, after_first}
 use Rattle.fs_vars.specs.declared.part.Part.{Part}
 use Rattle.fs_vars.specs.Pairs.{Text, Pairs, value_of}
@@ -34,6 +33,11 @@ value_asked known inside =
 -- what a reference stands for: what it gives, or else itself as it is written
 unfoldable pub meaning : Pairs → Text → Text
 meaning known inside = unwrap_or (value_asked known inside) (codes "${" ++ inside ++ codes "}")
+
+-- a name that means nothing but itself: without `:`, `(` and `$`
+pub record IsPlainName (name : Text) : Type 0 where
+  pub no_colon : list_any is_colon name ≡ false
+  pub no_call : list_any is_call name ≡ false
 
 -- ---- a text
 
@@ -72,18 +76,3 @@ by_pieces piece zero (b ∷ text) = (piece (b ∷ text)).text ++ by_pieces piece
 -- the whole text, expanded
 unfoldable pub expanded : Pairs → Text → Text
 expanded known text = by_pieces (front known) 0 text
-
--- a text that is left to be expanded, with the named values that it can use
-pub record Left : Type 0 where
-  pub known : Pairs
-  pub text : Text
-
--- a piece was taken off the front: behind it stands what the rest is expanded to
-pub record TakesPiece (old : Left) (piece : Text) (new : Left) : Type 0 where
-  pub known : new.known ≡ old.known
-  pub text : expanded old.known old.text ≡ piece ++ expanded new.known new.text
-  pub shorter : length new.text < length old.text
-
--- a step takes a piece, or gives nothing where no text is left
-abbrev pub GivesPiece : Left → Option (Bor Text) → Left → Type 0
-GivesPiece old piece new = MatchOption piece (old.text ≡ []) (λ bytes. TakesPiece old bytes.now new)

@@ -3,4 +3,5 @@ pub mod Variables
 pub mod Parts
 pub mod Scopes
 pub mod Expansion
+pub mod Pieces
 pub mod Outputs

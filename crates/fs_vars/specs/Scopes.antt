@@ -2,7 +2,7 @@
 use Rattle.std.specs.Prelude.{[], ◌∷◌, ◌++◌, codes}
 use Rattle.fs_vars.specs.declared.profile.Profile.{Profile}
 use Rattle.fs_vars.specs.declared.scope.Scope.{Scope}
-use Rattle.fs_vars.specs.Pairs.{Text, Pairs}
+use Rattle.fs_vars.specs.Pairs.{Pairs}
 
 -- the fields of a profile under their names
 abbrev pub fields_of : Profile → Pairs

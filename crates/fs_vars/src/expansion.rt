@@ -1,5 +1,9 @@
-ghost use Rattle.std.specs.Prelude.{◌≡◌, ◌≤◌, length, IfOk, IfErr};
-ghost use Rattle.fs_vars.specs.Expansion.{expanded};
+ghost use Rattle.std.specs.Prelude.{◌≡◌, ◌≤◌, ℕ, [], ◌∷◌, ◌++◌, true, false, length, unwrap_or, codes, IfOk, IfErr};
+ghost use Rattle.std.specs.List.{list_any};
+ghost use Rattle.fs_vars.specs.declared.part.Part.{Part};
+ghost use Rattle.fs_vars.specs.Pairs.{Text, Pairs, value_of};
+ghost use Rattle.fs_vars.specs.Parts.{part_in, part_of};
+ghost use Rattle.fs_vars.specs.Expansion.{expanded, meaning, asked_name, has_escape, has_reference, is_brace, is_call, IsPlainName};
 ghost use Rattle.fs_vars.specs.Outputs.{IsRefusal};
 ghost use Rattle.fs_vars.specs.Scopes.{known_in};
 
@@ -26,3 +30,28 @@ pub fn expand(alloc: Global, scope: &Scope, text: &[u8]) -> Result<Txt, Refused>
     }
     output.into_text()
 }
+
+/// What the definition of an expansion says, case by case: the value of [`expand`] at each beginning of a text, and what a reference
+/// means.
+pub fn expansion_law()
+    // No text gives no text.
+    ensures nothing { (known : Pairs) → expanded known [] ≡ [] }
+
+    // `\$` gives `$`.
+    ensures escape { (known : Pairs) (rest : Text) → expanded known (codes "\\$" ++ rest) ≡ codes "$" ++ expanded known rest }
+
+    // `${`, what stands up to the first `}`, and that `}` are a reference.
+    ensures reference { (known : Pairs) (inside rest : Text) → list_any is_brace inside ≡ false → expanded known (codes "${" ++ inside ++ codes "}" ++ rest) ≡ meaning known inside ++ expanded known rest }
+
+    // Any other byte stands as it is, the `$` of a `${` without its `}` too.
+    ensures other { (known : Pairs) (b : ℕ) (rest : Text) → has_escape (b ∷ rest) ≡ false → has_reference (b ∷ rest) ≡ false → expanded known (b ∷ rest) ≡ b ∷ expanded known rest }
+
+    // A reference means the first value under its name, or nothing.
+    ensures name { (known : Pairs) (name : Text) → IsPlainName name → meaning known name ≡ unwrap_or (value_of known name) [] }
+
+    // With an offset, or an offset and a length, behind a colon it means that part of the value.
+    ensures part { (known : Pairs) (name asked : Text) (part : Part) → IsPlainName name → part_in asked ≡ Some part → meaning known (name ++ codes ":" ++ asked) ≡ part_of part (unwrap_or (value_of known name) []) }
+
+    // With `(` or `$` in its name it stands as it is written.
+    ensures written { (known : Pairs) (inside : Text) → list_any is_call (asked_name inside) ≡ true → meaning known inside ≡ codes "${" ++ inside ++ codes "}" }
+{}

@@ -2,7 +2,8 @@ ghost use Rattle.std.specs.Prelude.{◌≡◌, ◌+◌, ◌<◌, ◌≤◌, leng
 ghost use Rattle.std.specs.Iterator.{at_most};
 ghost use Rattle.std.specs.List.{list_any, position_or_len, starts_with};
 ghost use Rattle.memchr.specs.Find.{is_byte2};
-ghost use Rattle.fs_vars.specs.Expansion.{GivesPiece, TakesPiece, has_escape, has_reference, inside_of, is_brace};
+ghost use Rattle.fs_vars.specs.Expansion.{has_escape, has_reference, inside_of, is_brace};
+ghost use Rattle.fs_vars.specs.Pieces.{GivesPiece, TakesPiece};
 
 use crate::reference::value_asked;
 use crate::scope::Scope;
@@ -22,7 +23,8 @@ pub(crate) struct Pieces<'a> {
 impl<'a> Model for Pieces<'a> {
     ghost use Rattle.std.specs.Prelude.{◌≡◌, false};
     ghost use Rattle.std.specs.List.{list_any};
-    ghost use Rattle.fs_vars.specs.Expansion.{Left, is_brace};
+    ghost use Rattle.fs_vars.specs.Expansion.{is_brace};
+    ghost use Rattle.fs_vars.specs.Pieces.{Left};
     ghost use Rattle.fs_vars.specs.Scopes.{known_in};
 
     ghost Value = { Left };

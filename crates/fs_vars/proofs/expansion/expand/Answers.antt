@@ -1,4 +1,3 @@
-use Rattle.std.proofs.Common.{◌≡◌}
 use Rattle.std.proofs.lemmas.Result.{MatchResult-weaker}
 use Rattle.fs_vars.proofs.OutputLemmas.{expands_all}
 use Rattle.fs_vars.proofs.expansion.expand.Goals as goal

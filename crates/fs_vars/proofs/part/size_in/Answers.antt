@@ -1,5 +1,5 @@
-use Rattle.std.proofs.Common.{◌+◌, sym, ◌∙◌, ap, arith}
-use Rattle.fs_vars.proofs.DigitLemmas.{size_below, size_more, part_below}
+use Rattle.std.proofs.Common.{◌+◌, sym, arith}
+use Rattle.fs_vars.proofs.DigitLemmas.{size_more, part_below}
 use Rattle.fs_vars.proofs.part.size_in.Goals as goal
 
 pub overflow_mul-size : goal.overflow_mul-size

@@ -1,5 +1,3 @@
-use Rattle.std.proofs.Common.{drop}
-use Rattle.fs_vars.specs.Expansion.{Left}
 use Rattle.fs_vars.proofs.pieces.Pieces.take.Goals as goal
 
 pub returns-clause-rest : goal.returns-clause-rest

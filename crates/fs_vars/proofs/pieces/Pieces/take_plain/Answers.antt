@@ -1,6 +1,6 @@
-use Rattle.std.proofs.Common.{◌≡◌, ◌+◌, ◌≤◌, length, drop, ap, ◌∙◌, arith}
+use Rattle.std.proofs.Common.{◌+◌, length, drop, ap, ◌∙◌, arith}
 use Rattle.std.specs.List.{position_or_len}
-use Rattle.fs_vars.specs.Expansion.{Left}
+use Rattle.fs_vars.specs.Pieces.{Left}
 use Rattle.fs_vars.proofs.ExpansionLemmas.{plain_taken, is_special}
 use Rattle.fs_vars.proofs.pieces.Pieces.take_plain.Goals as goal
 

@@ -1,6 +1,7 @@
-use Rattle.std.proofs.Common.{◌≡◌, ◌-◌, ◌≤◌, sym, ap, ◌∙◌, subst, arith, take, drop, Bor}
+use Rattle.std.proofs.Common.{◌-◌, sym, ap, ◌∙◌, subst, arith, take, drop, Bor}
 use Rattle.fs_vars.specs.Pairs.{Text}
-use Rattle.fs_vars.specs.Expansion.{Left, TakesPiece, value_asked}
+use Rattle.fs_vars.specs.Expansion.{value_asked}
+use Rattle.fs_vars.specs.Pieces.{Left, TakesPiece}
 use Rattle.fs_vars.proofs.ExpansionLemmas.{reference_taken, reference_within, meaning_is}
 use Rattle.fs_vars.proofs.pieces.Pieces.take_reference.Goals as goal
 

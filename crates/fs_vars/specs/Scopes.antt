@@ -5,7 +5,7 @@ use Rattle.fs_vars.specs.declared.scope.Scope.{Scope}
 use Rattle.fs_vars.specs.Pairs.{Pairs}
 
 -- the fields of a profile under their names
-abbrev pub fields_of : Profile → Pairs
+unfoldable pub fields_of : Profile → Pairs
 fields_of p =
     (codes "destination_number", p.destination_number)
     ∷ (codes "caller_id_name", p.caller_id_name)
@@ -22,5 +22,5 @@ fields_of p =
     ∷ []
 
 -- the variables, then the fields of the profile, then the globals
-abbrev pub known_in : Scope → Pairs
+unfoldable pub known_in : Scope → Pairs
 known_in scope = scope.vars.now.pairs ++ fields_of scope.profile.now ++ scope.globals.now.pairs

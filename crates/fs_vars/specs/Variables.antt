@@ -6,7 +6,7 @@ use Rattle.fs_vars.specs.declared.tally.Tally.{Tally}
 use Rattle.fs_vars.specs.Pairs.{Text, Pairs, same_text, with_value, without}
 
 -- the variables that the machine itself sets on a channel
-abbrev pub is_machine_set : Text → Bool
+unfoldable pub is_machine_set : Text → Bool
 is_machine_set name =
     same_text name (codes "originate_disposition") || same_text name (codes "bridge_hangup_cause") || same_text name (codes "hangup_cause") || same_text name (codes "signal_bond")
 
@@ -52,9 +52,9 @@ fits vars name value =
     nat_le (length name) 256 && nat_le (length value) 16384 && is_within vars.bounds (tally_of vars.bounds (with_value vars.pairs name value))
 
 -- the name can be set to the value: it is not empty, and no limit would be passed
-abbrev pub can_set : Variables → Text → Text → Bool
+unfoldable pub can_set : Variables → Text → Text → Bool
 can_set vars name value = not (length name == 0) && (is_removal value || fits vars name value)
 
 -- the variables after the name was set to the value
-abbrev pub set_to : Variables → Text → Text → Variables
+unfoldable pub set_to : Variables → Text → Text → Variables
 set_to vars name value = record vars { pairs = if is_removal value then without vars.pairs name else with_value vars.pairs name value }

@@ -44,6 +44,7 @@ impl Bounds {
     }
 }
 
+#[tactic(auto, unfolding(crate::specs::Variables::is_machine_set))]
 fn is_machine_set(name: &[u8]) -> bool
     ensures { result ≡ is_machine_set name.now }
 {

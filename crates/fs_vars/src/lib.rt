@@ -13,10 +13,12 @@ mod refused;
 mod scope;
 mod table;
 mod tally;
+#[cfg(test)]
+mod tests;
 mod vars;
 
 pub use bounds::Bounds;
-pub use expansion::expand;
+pub use expansion::{expand, expansion_law};
 pub use pairs::VarsIter;
 pub use profile::Profile;
 pub use refused::Refused;

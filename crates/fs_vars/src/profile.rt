@@ -66,6 +66,7 @@ impl Profile {
     }
 
     /// The field of a name.
+    #[tactic(auto, unfolding(crate::specs::Scopes::fields_of))]
     pub fn get(&self, name: &[u8]) -> Option<&Txt>
         ensures { option_copied result ≡ value_of (fields_of self.now) name.now }
     {

@@ -17,7 +17,7 @@ impl<'a> Scope<'a> {
     ghost use Rattle.fs_vars.specs.Scopes.{known_in};
 
     /// The value of a name. A field of the profile hides a global of its name, even where it is empty.
-    #[tactic(auto, using(crate::proofs::PairsLemmas::found_first, crate::proofs::PairsLemmas::found_later))]
+    #[tactic(auto, using(crate::proofs::PairsLemmas::found_first, crate::proofs::PairsLemmas::found_later), unfolding(crate::specs::Scopes::known_in))]
     pub fn get(&self, name: &[u8]) -> Option<&'a Txt>
         ensures { option_copied result ≡ value_of (known_in self.now) name.now }
     {

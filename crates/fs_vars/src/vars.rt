@@ -77,6 +77,7 @@ impl Vars {
     ///
     /// It does not, and changes nothing, where the name is empty or a limit of the bounds would be passed. A new name goes last, and
     /// one that is there keeps its place.
+    #[tactic(auto, unfolding(crate::specs::Variables::can_set, crate::specs::Variables::set_to))]
     pub fn set(&mut self, name: &[u8], value: &[u8]) -> Result<bool, Memory>
         ensures answer { IfOk result (λ done. done ≡ can_set self.old name.now value.now) }
         ensures set { IfOk result (λ done. self.new ≡ (if done then set_to self.old name.now value.now else self.old)) }

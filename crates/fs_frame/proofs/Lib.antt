@@ -1,1 +1,3 @@
 pub mod BlockLaws
+pub mod FormLaws
+pub mod FrontLaws

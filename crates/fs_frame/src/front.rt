@@ -1,4 +1,6 @@
-ghost use Rattle.std.specs.Prelude.{◌≡◌};
+ghost use Rattle.std.specs.Prelude.{◌≡◌, ◌≤◌, length};
+ghost use Rattle.std.specs.List.{list_any, position_or_len};
+ghost use Rattle.fs_frame.specs.Block.{is_lf, is_cr};
 ghost use Rattle.fs_frame.specs.Front.{ArePlain, IsFront};
 
 use fs_text::place_of;
@@ -23,16 +25,32 @@ pub fn look(bytes: &[u8], plain: usize) -> Front
     requires { ArePlain plain bytes.now }
     ensures { IsFront bytes.now result }
 {
-    let end = plain + place_of(LF, &bytes[plain..]);
-    let line = &bytes[plain..end];
-    if place_of(CR, line) < line.len() {
+    let line_len = line_end(bytes, plain);
+    let (line, behind) = bytes.split_at(line_len);
+    if has_cr(&line[plain..]) {
         return Front::Spoilt;
     }
-    match &bytes[end..] {
-        [] => Front::Open { plain: end },
-        _ if end == 0 => Front::Spoilt,
-        [_] => Front::Open { plain: end },
-        [_, LF, ..] => Front::Whole { line_len: end },
+    match behind {
+        [] => Front::Open { plain: line_len },
+        _ if line_len == 0 => Front::Spoilt,
+        [_] => Front::Open { plain: line_len },
+        [_, LF, ..] => Front::Whole { line_len },
         _ => Front::Spoilt,
     }
+}
+
+// How many bytes stand before the first LF, or all where there is none.
+fn line_end(bytes: &[u8], plain: usize) -> usize
+    requires { ArePlain plain bytes.now }
+    ensures place { result ≡ position_or_len is_lf bytes.now }
+    ensures from { plain ≤ result }
+    ensures to { result ≤ length bytes.now }
+{
+    plain + place_of(LF, &bytes[plain..])
+}
+
+fn has_cr(text: &[u8]) -> bool
+    ensures { result ≡ list_any is_cr text.now }
+{
+    place_of(CR, text) < text.len()
 }

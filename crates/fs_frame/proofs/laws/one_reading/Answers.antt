@@ -1,0 +1,14 @@
+use Rattle.std.proofs.Common.{rules, ◌≡◌, ◌-◌, ℕ, true, List, [], ◌∷◌, ◌++◌, length, ◌+◌, ◌*◌, ◌<◌, ◌≤◌, ◌/◌, ◌%◌, Bool, false, nat_eq, nat_lt, slice_index_or, slice_set, bit_and, bit_or, Fits, w8, w32, w64, Bor, MutBor}
+use Rattle.fs_frame.specs.Block.{is_spoilt, is_later}
+use Rattle.fs_frame.specs.Blocks.{Splits, HasNoBlock, blocks_of, rest_of}
+use Rattle.fs_frame.specs.declared.next.Next.{Next}
+use Rattle.fs_frame.specs.Calls.{Call, asked, AreAnswered, ComeFirst, Follows, stream_of, blocks_in}
+use Rattle.fs_frame.proofs.laws.one_reading.Goals as goal
+
+-- src/laws.rt:10:1
+pub returns-clause-some : goal.returns-clause-some
+returns-clause-some c = ?
+
+-- src/laws.rt:10:1
+pub returns-clause-only : goal.returns-clause-only
+returns-clause-only c = ?

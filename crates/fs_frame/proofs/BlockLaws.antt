@@ -48,7 +48,7 @@ first_blocks-splits (block ∷ blocks) (suc n) stream rest split fits =
     let whole : stream ≡ block ++ behind = split.whole ∙ append_assoc block (concat blocks) rest in
     let found : front_of stream ≡ Some block = rw whole (front_of-append block behind split.each.0) in
     let again : first_blocks n behind ≡ blocks =
-      first_blocks-splits blocks n behind rest (record { whole = refl; each = split.each.1; last = split.last }) (omega (arith, length-block block split.each.0, length-append block behind, ap length whole)) in
+    first_blocks-splits blocks n behind rest (record { whole = refl; each = split.each.1; last = split.last }) (omega (arith, length-block block split.each.0, length-append block behind, ap length whole)) in
     rw (found, front_rest stream block behind whole, again) refl
 
 -- the stream falls into these blocks and some rest
@@ -76,12 +76,12 @@ falls zero (byte ∷ stream) fits = absurd (omega arith)
 falls (suc n) stream fits = step (front_of stream) refl (λ (more : List ℕ). falls n more)
   where
     step : (found : Option (List ℕ)) → front_of stream ≡ found → ((more : List ℕ) → length more ≤ n → Falls more (first_blocks n more)) →
-      Falls stream (option_map_or (λ (block : List ℕ). block ∷ first_blocks n (drop (length block) stream)) found [])
+        Falls stream (option_map_or (λ (block : List ℕ). block ∷ first_blocks n (drop (length block) stream)) found [])
     step None is again = no_more stream is
     step (Some block) is again =
         let stands : StandsInFront block stream = front_of-stands stream block is in
         rw (front_rest stream block stands.more stands.split)
-          (falls_behind stream block stands.more (first_blocks n stands.more) stands.split stands.is_block (again stands.more (omega (arith, length-block block stands.is_block, length-append block stands.more, ap length stands.split))))
+        (falls_behind stream block stands.more (first_blocks n stands.more) stands.split stands.is_block (again stands.more (omega (arith, length-block block stands.is_block, length-append block stands.more, ap length stands.split))))
 
 -- a stream falls into its blocks and its rest
 pub splits : (stream : List ℕ) → Splits stream (blocks_of stream) (rest_of stream)

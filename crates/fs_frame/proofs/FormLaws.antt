@@ -1,7 +1,8 @@
 -- Lines, and the block in front of some bytes.
 use Rattle.std.proofs.Common.{◌≡◌, ◌≢◌, ℕ, zero, suc, ◌+◌, ◌≤◌, ◌<◌, Bool, true, false, not, cond, ◌||◌, List, [], ◌∷◌, ◌++◌, length, take, drop, Option, None, Some, ◌⊎◌, inl, inr, refl, sym, ◌∙◌, ap, subst, add-one, one-add, append_assoc, arith, eqb, length-append}
-use Rattle.std.proofs.lemmas.Bool.{or_parts, eqb-true, not-false}
+use Rattle.std.proofs.lemmas.Bool.{or_parts, or_cases, or_left, or_right, or_from, eqb-true, not-false}
 use Rattle.std.proofs.lemmas.Bool.Decides.{eqb_tells}
+use Rattle.std.proofs.lemmas.List.Folds.{list_any-append}
 use Rattle.std.proofs.lemmas.List.{take_at, drop_at, take_all, drop_all, append-nil}
 use Rattle.std.proofs.Math.Seq.{drop-append-add}
 use Rattle.std.specs.List.{list_any, before_first, after_first, position_or_len}
@@ -22,18 +23,18 @@ position_or_len-none p (x ∷ bytes) none =
     rw (parts.0, position_or_len-none p bytes parts.1, one-add) refl
 
 -- bytes with a first LF: what stands before it, and behind it
-pub record HasLine (bytes : List ℕ) : Type 0 where
+pub record HasLf (bytes : List ℕ) : Type 0 where
   pub line : List ℕ
   pub more : List ℕ
   pub no_lf : list_any is_lf line ≡ false
   pub split : bytes ≡ line ++ 10 ∷ more
 
 -- there is a first LF, or none
-pub lines : (bytes : List ℕ) → HasLine bytes ⊎ (list_any is_lf bytes ≡ false)
+pub lines : (bytes : List ℕ) → HasLf bytes ⊎ (list_any is_lf bytes ≡ false)
 lines [] = inr refl
 lines (byte ∷ bytes) = step (eqb_tells byte 10) (lines bytes)
   where
-    step : ((eqb byte 10 ≡ true) × (byte ≡ 10)) ⊎ ((eqb byte 10 ≡ false) × (byte ≢ 10)) → HasLine bytes ⊎ (list_any is_lf bytes ≡ false) → HasLine (byte ∷ bytes) ⊎ (list_any is_lf (byte ∷ bytes) ≡ false)
+    step : ((eqb byte 10 ≡ true) × (byte ≡ 10)) ⊎ ((eqb byte 10 ≡ false) × (byte ≢ 10)) → HasLf bytes ⊎ (list_any is_lf bytes ≡ false) → HasLf (byte ∷ bytes) ⊎ (list_any is_lf (byte ∷ bytes) ≡ false)
     step (inl is) again = inl (record { line = []; more = bytes; no_lf = refl; split = ap (λ (b : ℕ). b ∷ bytes) is.1 })
     step (inr not_lf) (inl has) = inl (record { line = byte ∷ has.line; more = has.more; no_lf = rw (not_lf.0, has.no_lf) refl; split = ap (λ (bs : List ℕ). byte ∷ bs) has.split })
     step (inr not_lf) (inr none) = inr (rw (not_lf.0, none) refl)
@@ -114,9 +115,9 @@ front_of-line_stands line more block no_lf found =
     let first : Bool = begins_with is_lf (line ++ 10 ∷ more) in
     let second : Bool = begins_with (λ byte. not (is_lf byte)) more in
     let choice : ((is_spoilt (line ++ 10 ∷ more) || not (begins_with is_lf more)) ≡ false) × (block_of line ≡ block) =
-      chosen (is_spoilt (line ++ 10 ∷ more) || not (begins_with is_lf more)) (block_of line) block (rw (front_of-line line more no_lf) at found) in
+    chosen (is_spoilt (line ++ 10 ∷ more) || not (begins_with is_lf more)) (block_of line) block (rw (front_of-line line more no_lf) at found) in
     let ended : (is_spoilt (line ++ 10 ∷ more) ≡ false) × (not (begins_with is_lf more) ≡ false) =
-      or_parts (is_spoilt (line ++ 10 ∷ more)) (not (begins_with is_lf more)) choice.0 in
+    or_parts (is_spoilt (line ++ 10 ∷ more)) (not (begins_with is_lf more)) choice.0 in
     let sound : ((first || list_any is_cr line) ≡ false) × (second ≡ false) = or_parts (first || list_any is_cr line) second (rw (is_spoilt-line line more no_lf) at ended.0) in
     let plain : (first ≡ false) × (list_any is_cr line ≡ false) = or_parts first (list_any is_cr line) sound.0 in
     record {
@@ -133,6 +134,62 @@ front_of-line_stands line more block no_lf found =
 pub front_of-stands : (bytes block : List ℕ) → front_of bytes ≡ Some block → StandsInFront block bytes
 front_of-stands bytes block found = step (lines bytes)
   where
-    step : HasLine bytes ⊎ (list_any is_lf bytes ≡ false) → StandsInFront block bytes
+    step : HasLf bytes ⊎ (list_any is_lf bytes ≡ false) → StandsInFront block bytes
     step (inr none) = let nothing : front_of bytes ≡ None = front_of-none bytes none in cc
     step (inl has) = rw has.split (front_of-line_stands has.line has.more block has.no_lf (rw has.split at found))
+
+begins_with-grows : (p : ℕ → Bool) (bytes more : List ℕ) → begins_with p bytes ≡ true → begins_with p (bytes ++ more) ≡ true
+begins_with-grows p [] more is = cc
+begins_with-grows p (byte ∷ bytes) more is = is
+
+-- what is spoilt stays so, where the first line was not ended
+is_spoilt-none_grows : (bytes more : List ℕ) → list_any is_lf bytes ≡ false → is_spoilt bytes ≡ true → is_spoilt (bytes ++ more) ≡ true
+is_spoilt-none_grows bytes more no_lf spoilt = step (lines more)
+  where
+    has_cr : (behind : List ℕ) → list_any is_cr (bytes ++ behind) ≡ true
+    has_cr behind = rw (list_any-append is_cr bytes behind) (or_left (list_any is_cr bytes) (list_any is_cr behind) (rw (is_spoilt-none bytes no_lf) at spoilt))
+
+    step : HasLf more ⊎ (list_any is_lf more ≡ false) → is_spoilt (bytes ++ more) ≡ true
+    step (inr none) =
+        let no_lf' : list_any is_lf (bytes ++ more) ≡ false = rw (list_any-append is_lf bytes more, no_lf, none) refl in
+        rw (is_spoilt-none (bytes ++ more) no_lf') (has_cr more)
+    step (inl has) =
+        let line : List ℕ = bytes ++ has.line in
+        let no_lf' : list_any is_lf line ≡ false = rw (list_any-append is_lf bytes has.line, no_lf, has.no_lf) refl in
+        rw (has.split, ← append_assoc bytes has.line (10 ∷ has.more), is_spoilt-line line has.more no_lf')
+        (or_left (begins_with is_lf (line ++ 10 ∷ has.more) || list_any is_cr line) (begins_with (λ byte. not (is_lf byte)) has.more) (or_right (begins_with is_lf (line ++ 10 ∷ has.more)) (list_any is_cr line) (has_cr has.line)))
+
+-- what is spoilt stays so, where it was
+is_spoilt-line_grows : (line behind more : List ℕ) → list_any is_lf line ≡ false → is_spoilt (line ++ 10 ∷ behind) ≡ true → is_spoilt (line ++ 10 ∷ (behind ++ more)) ≡ true
+is_spoilt-line_grows line behind more no_lf spoilt = rw (is_spoilt-line line (behind ++ more) no_lf) (step (or_cases (first || has_cr) second (rw (is_spoilt-line line behind no_lf) at spoilt)))
+  where
+    first : Bool
+    first = begins_with is_lf (line ++ 10 ∷ behind)
+
+    has_cr : Bool
+    has_cr = list_any is_cr line
+
+    second : Bool
+    second = begins_with (λ byte. not (is_lf byte)) behind
+
+    first' : Bool
+    first' = begins_with is_lf (line ++ 10 ∷ (behind ++ more))
+
+    second' : Bool
+    second' = begins_with (λ byte. not (is_lf byte)) (behind ++ more)
+
+    in_front : (first ≡ true) ⊎ (has_cr ≡ true) → (first' || has_cr) ≡ true
+    in_front (inl is) = or_left first' has_cr (rw (append_assoc line (10 ∷ behind) more) at (begins_with-grows is_lf (line ++ 10 ∷ behind) more is))
+    in_front (inr is) = or_right first' has_cr is
+
+    step : ((first || has_cr) ≡ true) ⊎ (second ≡ true) → (first' || has_cr || second') ≡ true
+    step (inl is) = or_left (first' || has_cr) second' (in_front (or_cases first has_cr is))
+    step (inr is) = or_right (first' || has_cr) second' (begins_with-grows (λ byte. not (is_lf byte)) behind more is)
+
+-- what is spoilt stays so, whatever follows
+pub is_spoilt-append : (bytes more : List ℕ) → is_spoilt bytes ≡ true → is_spoilt (bytes ++ more) ≡ true
+is_spoilt-append bytes more spoilt = step (lines bytes)
+  where
+    step : HasLf bytes ⊎ (list_any is_lf bytes ≡ false) → is_spoilt (bytes ++ more) ≡ true
+    step (inr none) = is_spoilt-none_grows bytes more none spoilt
+    step (inl has) = rw (has.split, append_assoc has.line (10 ∷ has.more) more) (is_spoilt-line_grows has.line has.more more has.no_lf (rw has.split at spoilt))

@@ -2,19 +2,31 @@
 use Rattle.std.proofs.Common.{◌≡◌, ◌≢◌, ℕ, zero, suc, ◌+◌, ◌-◌, ◌≤◌, ◌<◌, Bool, true, false, not, cond, ◌||◌, List, [], ◌∷◌, ◌++◌, length, take, drop, get_or, nat_lt, Option, None, Some, ◌⊎◌, inl, inr, refl, sym, ◌∙◌, ap, one-add, append_assoc, arith, length-append}
 use Rattle.std.proofs.lemmas.Bool.{or_parts, or_left, or_right, ne_eqb, lt-ltb}
 use Rattle.std.proofs.lemmas.Bool.Decides.{nat_tests}
-use Rattle.std.proofs.lemmas.List.{take_at, drop_at, take_all, length-drop, take_rest}
+use Rattle.std.proofs.lemmas.List.{take_at, drop_at, take_all, length-drop, take_rest, drop-append-le}
 use Rattle.std.proofs.lemmas.List.Sums.{prefix_len-le-length}
 use Rattle.std.specs.List.{list_any, before_first, after_first, position_or_len}
 use Rattle.fs_frame.specs.Block.{is_lf, is_cr, begins_with, is_spoilt, front_of, IsLine, IsBlock, block_of}
 use Rattle.fs_frame.specs.Front.{is_break, ArePlain, IsFront}
 use Rattle.fs_frame.specs.declared.front.Front.TheVariants.{Whole, Open, Spoilt}
-use Rattle.fs_frame.proofs.FormLaws.{HasLine, lines, position_or_len-append, position_or_len-none, is_spoilt-line, is_spoilt-none, front_of-none, front_of-line, front_of-append, begins_with-append}
+use Rattle.fs_frame.proofs.FormLaws.{HasLf, lines, position_or_len-append, position_or_len-none, is_spoilt-line, is_spoilt-none, front_of-none, front_of-line, front_of-append, begins_with-append}
 
 position_or_len-le-length : (p : ℕ → Bool) (bytes : List ℕ) → position_or_len p bytes ≤ length bytes
 position_or_len-le-length p bytes = prefix_len-le-length (λ (byte : ℕ). not (p byte)) bytes
 
 pub ArePlain-le-length : (plain : ℕ) (bytes : List ℕ) → ArePlain plain bytes → plain ≤ length bytes
 ArePlain-le-length plain bytes are_plain = omega (arith, position_or_len-le-length is_break bytes)
+
+position_or_len-grows : (p : ℕ → Bool) (bytes more : List ℕ) → position_or_len p bytes ≤ position_or_len p (bytes ++ more)
+position_or_len-grows p [] more = omega arith
+position_or_len-grows p (byte ∷ bytes) more = step (p byte) refl (position_or_len-grows p bytes more)
+  where
+    step : (b : Bool) → p byte ≡ b → position_or_len p bytes ≤ position_or_len p (bytes ++ more) → position_or_len p (byte ∷ bytes) ≤ position_or_len p (byte ∷ (bytes ++ more))
+    step true is again = rw is (omega arith)
+    step false is again = rw is (omega arith)
+
+-- what is plain stays so where more is fed
+pub ArePlain-fed : (plain start : ℕ) (bytes more : List ℕ) → start ≤ length bytes → ArePlain plain (drop start bytes) → ArePlain plain (drop start (bytes ++ more))
+ArePlain-fed plain start bytes more within are_plain = rw (drop-append-le start bytes more within) (omega (arith, position_or_len-grows is_break (drop start bytes) more))
 
 -- a byte that is followed by further plain ones is itself plain
 first_plain : (plain byte : ℕ) (bytes : List ℕ) → ArePlain (suc plain) (byte ∷ bytes) → (is_break byte ≡ false) × ArePlain plain bytes
@@ -87,14 +99,14 @@ front_of-spoilt bytes spoilt = rw spoilt refl
 open_line : (line : List ℕ) → list_any is_lf line ≡ false → list_any is_cr line ≡ false → IsFront line (Open (length line))
 open_line line no_lf no_cr =
     let plain : position_or_len is_break line ≡ length line = position_or_len-none is_break line (list_any-break line no_lf no_cr) in
-    (front_of-none line no_lf, is_spoilt-none line no_lf ∙ no_cr, omega arith)
+    record { no_block = front_of-none line no_lf; sound = is_spoilt-none line no_lf ∙ no_cr; are_plain = omega arith }
 
 -- a line and its end are the beginning of a block
 open_block : (line : List ℕ) → IsLine line → IsFront (line ++ 10 ∷ []) (Open (length line))
 open_block line is_line =
     let sound : is_spoilt (line ++ 10 ∷ []) ≡ false = rw (is_spoilt-line line [] is_line.no_lf, begins_with-append is_lf line (10 ∷ []) is_line.some is_line.no_lf, is_line.no_cr) refl in
     let plain : position_or_len is_break (line ++ 10 ∷ []) ≡ length line = position_or_len-append is_break line 10 [] (list_any-break line is_line.no_lf is_line.no_cr) refl in
-    (rw (front_of-line line [] is_line.no_lf, sound) refl, sound, omega arith)
+    record { no_block = rw (front_of-line line [] is_line.no_lf, sound) refl; sound = sound; are_plain = omega arith }
 
 -- a line, its end and an empty line are a block
 whole_block : (line more : List ℕ) → IsLine line → IsFront (line ++ 10 ∷ 10 ∷ more) (Whole (length line))
@@ -103,19 +115,18 @@ whole_block line more is_line =
     let found : front_of (block_of line ++ more) ≡ Some (block_of line) = front_of-append (block_of line) more (record { line = line; is_line = is_line; spelling = refl }) in
     let split : line ++ 10 ∷ 10 ∷ more ≡ block_of line ++ more = sym (append_assoc line (10 ∷ 10 ∷ []) more) in
     let front : take (length line + 2) (block_of line ++ more) ≡ block_of line = take_at (block_of line) more (length line + 2) (length-append line (10 ∷ 10 ∷ [])) in
-    (sym place, rw (split, front) found)
+    record { line_ends = sym place; within = omega (arith, length-append line (10 ∷ 10 ∷ more)); block = rw (split, front) found }
 
 -- an empty line cannot be the first
 spoilt_by_empty : (more : List ℕ) → IsFront (10 ∷ more) Spoilt
 unfolding is_spoilt
-spoilt_by_empty more = (front_of-spoilt (10 ∷ more) refl, refl)
+spoilt_by_empty more = refl
 
 -- no byte but LF can begin the second line
 spoilt_by_second : (line : List ℕ) (byte : ℕ) (more : List ℕ) → list_any is_lf line ≡ false → byte ≢ 10 → IsFront (line ++ 10 ∷ byte ∷ more) Spoilt
 spoilt_by_second line byte more no_lf other =
     let first : Bool = begins_with is_lf (line ++ 10 ∷ byte ∷ more) || list_any is_cr line in
-    let spoilt : is_spoilt (line ++ 10 ∷ byte ∷ more) ≡ true = rw (is_spoilt-line line (byte ∷ more) no_lf, ne_eqb byte 10 other) (or_right first true refl) in
-    (front_of-spoilt (line ++ 10 ∷ byte ∷ more) spoilt, spoilt)
+    rw (is_spoilt-line line (byte ∷ more) no_lf, ne_eqb byte 10 other) (or_right first true refl)
 
 -- a CR before the first LF
 pub spoilt_by_cr : (bytes : List ℕ) (len : ℕ) → len ≡ position_or_len is_lf bytes → list_any is_cr (take len bytes) ≡ true → IsFront bytes Spoilt
@@ -125,8 +136,7 @@ spoilt_by_cr bytes len place found =
     let first : Bool = begins_with is_lf bytes in
     let line : Bool = list_any is_cr (before_first is_lf bytes) in
     let second : Bool = begins_with (λ byte. not (is_lf byte)) (after_first is_lf bytes) in
-    let spoilt : is_spoilt bytes ≡ true = or_left (first || line) second (or_right first line has_cr) in
-    (front_of-spoilt bytes spoilt, spoilt)
+    or_left (first || line) second (or_right first line has_cr)
 
 -- the search met an LF, behind a line with no CR
 pub record MetLf (bytes behind : List ℕ) (len : ℕ) : Type 0 where
@@ -138,7 +148,7 @@ pub record MetLf (bytes behind : List ℕ) (len : ℕ) : Type 0 where
   pub split : bytes ≡ line ++ 10 ∷ more
   pub behind_is : behind ≡ 10 ∷ more
 
-met : (bytes behind : List ℕ) (len : ℕ) → len ≡ position_or_len is_lf bytes → list_any is_cr (take len bytes) ≡ false → behind ≡ drop len bytes → HasLine bytes → MetLf bytes behind len
+met : (bytes behind : List ℕ) (len : ℕ) → len ≡ position_or_len is_lf bytes → list_any is_cr (take len bytes) ≡ false → behind ≡ drop len bytes → HasLf bytes → MetLf bytes behind len
 met bytes behind len place no_cr back has =
     let len_is : len ≡ length has.line = place ∙ ap (λ (all : List ℕ). position_or_len is_lf all) has.split ∙ position_or_len-append is_lf has.line 10 has.more has.no_lf refl in
     let front : take len bytes ≡ has.line = rw (has.split, len_is) (take_at has.line (10 ∷ has.more) (length has.line) refl) in
@@ -156,7 +166,7 @@ met bytes behind len place no_cr back has =
 pub met_end : (bytes behind : List ℕ) (len : ℕ) → len ≡ position_or_len is_lf bytes → list_any is_cr (take len bytes) ≡ false → behind ≡ drop len bytes → length behind < 1 → IsFront bytes (Open len)
 met_end bytes behind len place no_cr back ended = step (lines bytes)
   where
-    step : HasLine bytes ⊎ (list_any is_lf bytes ≡ false) → IsFront bytes (Open len)
+    step : HasLf bytes ⊎ (list_any is_lf bytes ≡ false) → IsFront bytes (Open len)
     step (inl has) = absurd (omega (arith, ap length (met bytes behind len place no_cr back has).behind_is))
     step (inr no_lf) =
         let all : len ≡ length bytes = place ∙ position_or_len-none is_lf bytes no_lf in
@@ -167,7 +177,7 @@ met_end bytes behind len place no_cr back ended = step (lines bytes)
 pub met_lf : (bytes behind : List ℕ) (len : ℕ) → len ≡ position_or_len is_lf bytes → list_any is_cr (take len bytes) ≡ false → behind ≡ drop len bytes → 1 ≤ length behind → MetLf bytes behind len
 met_lf bytes behind len place no_cr back goes_on = step (lines bytes)
   where
-    step : HasLine bytes ⊎ (list_any is_lf bytes ≡ false) → MetLf bytes behind len
+    step : HasLf bytes ⊎ (list_any is_lf bytes ≡ false) → MetLf bytes behind len
     step (inl has) = met bytes behind len place no_cr back has
     step (inr no_lf) = absurd (omega (arith, position_or_len-none is_lf bytes no_lf, length-drop len bytes, ap length back))
 

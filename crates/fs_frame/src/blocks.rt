@@ -27,15 +27,15 @@ pub struct Blocks {
 }
 
 impl Model for Blocks {
-    ghost use Rattle.std.specs.Prelude.{◌≤◌, length, drop, slice_range};
+    ghost use Rattle.std.specs.Prelude.{drop, slice_range};
     ghost use Rattle.fs_frame.specs.Stream.{Stream};
-    ghost use Rattle.fs_frame.specs.Front.{ArePlain};
+    ghost use Rattle.fs_frame.specs.Front.{IsLaidOut};
 
     ghost Value = { Stream };
 
     ghost view = { λ b. record { room = b.free; last = slice_range b.bytes.items b.lent b.start; rest = drop b.start b.bytes.items } };
 
-    ghost invariant = { λ b. (b.lent ≤ b.start) × (b.start ≤ length b.bytes.items) × ArePlain b.plain (drop b.start b.bytes.items) };
+    ghost invariant = { λ b. IsLaidOut b.bytes.items b.lent b.start b.plain };
 }
 
 impl Blocks {

@@ -7,12 +7,12 @@ use Rattle.fs_frame.proofs.front.look.Goals as goal
 pub returns-then-has_cr : goal.returns-then-has_cr
 returns-then-has_cr c =
     spoilt_by_cr c.args.bytes.now c.line_end-line_len.result c.line_end-line_len.ensures.place
-      (list_any-from _ _ c.args.bytes.now c.split_at.result.0.now _ c.requires c.split_at.ensures.front c.if-has_cr.ensures)
+    (list_any-from _ _ c.args.bytes.now c.split_at.result.0.now _ c.requires c.split_at.ensures.front c.if-has_cr.ensures)
 
 pub returns-in-empty : goal.returns-in-empty
 returns-in-empty c =
     met_end c.args.bytes.now c.split_at.result.1.now _ c.line_end-line_len.ensures.place
-      (list_any-from _ _ c.args.bytes.now c.split_at.result.0.now _ c.requires c.split_at.ensures.front c.if-has_cr.ensures) c.split_at.ensures.back c.in-empty.len_below
+    (list_any-from _ _ c.args.bytes.now c.split_at.result.0.now _ c.requires c.split_at.ensures.front c.if-has_cr.ensures) c.split_at.ensures.back c.in-empty.len_below
 
 pub returns-in_default : goal.returns-in_default
 returns-in_default c =

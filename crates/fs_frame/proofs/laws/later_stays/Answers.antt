@@ -1,14 +1,8 @@
-use Rattle.std.proofs.Common.{rules, ◌≡◌, ◌-◌, ℕ, true, List, [], ◌∷◌, ◌++◌, length, ◌+◌, ◌*◌, ◌<◌, ◌≤◌, ◌/◌, ◌%◌, Bool, false, nat_eq, nat_lt, slice_index_or, slice_set, bit_and, bit_or, Fits, w8, w32, w64, Bor, MutBor}
-use Rattle.fs_frame.specs.Block.{is_spoilt, is_later}
-use Rattle.fs_frame.specs.Blocks.{Splits, HasNoBlock, blocks_of, rest_of}
-use Rattle.fs_frame.specs.declared.next.Next.{Next}
-use Rattle.fs_frame.specs.Calls.{Call, asked, AreAnswered, ComeFirst, Follows, stream_of, blocks_in}
+use Rattle.fs_frame.proofs.StreamLaws.{is_later-fed, HasNoBlock-spoilt}
 use Rattle.fs_frame.proofs.laws.later_stays.Goals as goal
 
--- src/laws.rt:26:1
 pub returns-clause-later : goal.returns-clause-later
-returns-clause-later c = ?
+returns-clause-later c room rest more later = is_later-fed room rest more later
 
--- src/laws.rt:26:1
 pub returns-clause-spoilt : goal.returns-clause-spoilt
-returns-clause-spoilt c = ?
+returns-clause-spoilt c rest more spoilt = HasNoBlock-spoilt rest more spoilt

@@ -1,14 +1,9 @@
-use Rattle.std.proofs.Common.{rules, ◌≡◌, ◌-◌, ℕ, true, List, [], ◌∷◌, ◌++◌, length, ◌+◌, ◌*◌, ◌<◌, ◌≤◌, ◌/◌, ◌%◌, Bool, false, nat_eq, nat_lt, slice_index_or, slice_set, bit_and, bit_or, Fits, w8, w32, w64, Bor, MutBor}
-use Rattle.fs_frame.specs.Block.{is_spoilt, is_later}
-use Rattle.fs_frame.specs.Blocks.{Splits, HasNoBlock, blocks_of, rest_of}
-use Rattle.fs_frame.specs.declared.next.Next.{Next}
-use Rattle.fs_frame.specs.Calls.{Call, asked, AreAnswered, ComeFirst, Follows, stream_of, blocks_in}
+use Rattle.std.proofs.Common.{sym}
+use Rattle.fs_frame.proofs.BlockLaws.{splits, blocks_of-splits, rest_of-splits}
 use Rattle.fs_frame.proofs.laws.one_reading.Goals as goal
 
--- src/laws.rt:10:1
 pub returns-clause-some : goal.returns-clause-some
-returns-clause-some c = ?
+returns-clause-some c stream = splits stream
 
--- src/laws.rt:10:1
 pub returns-clause-only : goal.returns-clause-only
-returns-clause-only c = ?
+returns-clause-only c stream rest blocks split = (sym (blocks_of-splits stream rest blocks split), sym (rest_of-splits stream rest blocks split))

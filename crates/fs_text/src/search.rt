@@ -1,12 +1,11 @@
-ghost use Rattle.std.specs.Prelude.{◌≡◌, ◌≤◌, ◌==◌, length};
+ghost use Rattle.std.specs.Prelude.{◌≡◌, ◌==◌};
 ghost use Rattle.std.specs.List.{position_or_len};
 
 use memchr::memchr;
 
 /// The place of the first such byte in the text, or the length of the text where it has none.
 pub fn place_of(byte: u8, text: &[u8]) -> usize
-    ensures first { result ≡ position_or_len (λ b. b == byte) text.now }
-    ensures within { result ≤ length text.now }
+    ensures { result ≡ position_or_len (λ b. b == byte) text.now }
 {
     memchr(byte, text).unwrap_or(text.len())
 }

@@ -7,7 +7,8 @@ use Rattle.fs_frame.specs.Block.{is_lf, is_spoilt, is_later, front_of, IsBlock}
 use Rattle.fs_frame.specs.Blocks.{HasNoBlock}
 use Rattle.fs_frame.specs.Stream.{Stream, handed_out}
 use Rattle.fs_frame.specs.Front.{IsFront, StandsWhole, StandsOpen}
-use Rattle.fs_frame.specs.Next.{IsNext, HandsOut, HandsOutNothing, HasLine, IsAnswer, LendsBytes, bytes_of}
+use Rattle.fs_frame.specs.Next.{IsNext, HandsOut, HandsOutNothing, bytes_of}
+use Rattle.fs_frame.specs.Answer.{HasLine, IsAnswer}
 use Rattle.fs_frame.specs.declared.front.Front.{Front}
 use Rattle.fs_frame.specs.declared.front.Front.TheVariants.{Whole, Open, Spoilt}
 use Rattle.fs_frame.specs.declared.next.Next.{Next}

@@ -1,4 +1,3 @@
-use Rattle.std.proofs.Common.{◌≡◌}
 use Rattle.fs_frame.proofs.StreamLaws.{seen-whole, seen-open, seen-spoilt}
 use Rattle.fs_frame.proofs.blocks.Blocks.advance.Goals as goal
 

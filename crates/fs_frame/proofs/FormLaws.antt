@@ -1,12 +1,12 @@
 -- Lines, and the block in front of some bytes.
-use Rattle.std.proofs.Common.{◌≡◌, ◌≢◌, ℕ, zero, suc, ◌+◌, ◌≤◌, ◌<◌, Bool, true, false, not, cond, ◌||◌, List, [], ◌∷◌, ◌++◌, length, take, drop, Option, None, Some, ◌⊎◌, inl, inr, refl, sym, ◌∙◌, ap, subst, add-one, one-add, append_assoc, arith, eqb, length-append}
-use Rattle.std.proofs.lemmas.Bool.{or_parts, or_cases, or_left, or_right, or_from, eqb-true, not-false}
+use Rattle.std.proofs.Common.{◌≡◌, ◌≢◌, ℕ, ◌+◌, Bool, true, false, not, cond, ◌||◌, List, [], ◌∷◌, ◌++◌, length, drop, None, Some, ◌⊎◌, inl, inr, refl, sym, ap, one-add, append_assoc, arith, eqb}
+use Rattle.std.proofs.lemmas.Bool.{or_parts, or_cases, or_left, or_right, eqb-true, not-false}
 use Rattle.std.proofs.lemmas.Bool.Decides.{eqb_tells}
 use Rattle.std.proofs.lemmas.List.Folds.{list_any-append}
-use Rattle.std.proofs.lemmas.List.{take_at, drop_at, take_all, drop_all, append-nil}
+use Rattle.std.proofs.lemmas.List.{take_at, take_all, drop_all}
 use Rattle.std.proofs.Math.Seq.{drop-append-add}
 use Rattle.std.specs.List.{list_any, before_first, after_first, position_or_len}
-use Rattle.fs_frame.specs.Block.{is_lf, is_cr, begins_with, is_spoilt, front_of, IsLine, IsBlock, block_of, line_of}
+use Rattle.fs_frame.specs.Block.{is_lf, is_cr, begins_with, is_spoilt, front_of, IsBlock, block_of}
 
 -- the first byte that passes stands behind those that do not
 pub position_or_len-append : (p : ℕ → Bool) (front : List ℕ) (byte : ℕ) (more : List ℕ) → list_any p front ≡ false → p byte ≡ true → position_or_len p (front ++ byte ∷ more) ≡ length front

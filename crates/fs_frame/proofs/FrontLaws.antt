@@ -1,11 +1,11 @@
 -- What a search of the front of some bytes may conclude.
-use Rattle.std.proofs.Common.{◌≡◌, ◌≢◌, ℕ, zero, suc, ◌+◌, ◌-◌, ◌≤◌, ◌<◌, Bool, true, false, not, cond, ◌||◌, List, [], ◌∷◌, ◌++◌, length, take, drop, get_or, nat_lt, Option, None, Some, ◌⊎◌, inl, inr, refl, sym, ◌∙◌, ap, one-add, append_assoc, arith, length-append}
+use Rattle.std.proofs.Common.{◌≡◌, ◌≢◌, ℕ, zero, suc, ◌+◌, ◌-◌, ◌≤◌, ◌<◌, Bool, true, false, not, ◌||◌, List, [], ◌∷◌, ◌++◌, length, take, drop, get_or, nat_lt, None, Some, ◌⊎◌, inl, inr, refl, sym, ◌∙◌, ap, one-add, append_assoc, arith, length-append}
 use Rattle.std.proofs.lemmas.Bool.{or_parts, or_left, or_right, ne_eqb, lt-ltb}
 use Rattle.std.proofs.lemmas.Bool.Decides.{nat_tests}
 use Rattle.std.proofs.lemmas.List.{take_at, drop_at, take_all, length-drop, take_rest, drop-append-le}
 use Rattle.std.proofs.lemmas.List.Sums.{prefix_len-le-length}
 use Rattle.std.specs.List.{list_any, before_first, after_first, position_or_len}
-use Rattle.fs_frame.specs.Block.{is_lf, is_cr, begins_with, is_spoilt, front_of, IsLine, IsBlock, block_of}
+use Rattle.fs_frame.specs.Block.{is_lf, is_cr, begins_with, is_spoilt, front_of, IsLine, block_of}
 use Rattle.fs_frame.specs.Front.{is_break, ArePlain, IsFront}
 use Rattle.fs_frame.specs.declared.front.Front.TheVariants.{Whole, Open, Spoilt}
 use Rattle.fs_frame.proofs.FormLaws.{HasLf, lines, position_or_len-append, position_or_len-none, is_spoilt-line, is_spoilt-none, front_of-none, front_of-line, front_of-append, begins_with-append}

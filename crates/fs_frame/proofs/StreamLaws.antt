@@ -1,13 +1,13 @@
 -- What a buffer stands for, once it went past its front.
-use Rattle.std.proofs.Common.{◌≡◌, ℕ, zero, suc, ◌+◌, ◌-◌, ◌≤◌, ◌<◌, Bool, true, false, cond, ◌||◌, ◌==◌, ◌⊎◌, inl, inr, List, [], ◌∷◌, ◌++◌, length, take, drop, Option, None, Some, refl, sym, ◌∙◌, ap, one-add, arith, slice_range}
+use Rattle.std.proofs.Common.{◌≡◌, ℕ, zero, suc, ◌+◌, ◌-◌, ◌<◌, Bool, true, false, cond, ◌||◌, ◌==◌, ◌⊎◌, inl, inr, List, [], ◌∷◌, ◌++◌, length, take, drop, None, refl, sym, ◌∙◌, arith, slice_range}
 use Rattle.std.proofs.lemmas.Bool.{or_cases, or_left, or_right, eqb-true, eq-eqb}
 use Rattle.std.proofs.lemmas.List.{length-take-le, drop-drop, take_rest, take-append-drop}
 use Rattle.std.specs.List.{position_or_len}
-use Rattle.fs_frame.specs.Block.{is_lf, is_spoilt, is_later, front_of, IsBlock}
-use Rattle.fs_frame.specs.Blocks.{HasNoBlock}
+use Rattle.fs_frame.specs.Block.{is_lf, is_spoilt, is_later, front_of}
 use Rattle.fs_frame.specs.Stream.{Stream, handed_out}
 use Rattle.fs_frame.specs.Front.{IsFront, StandsWhole, StandsOpen}
-use Rattle.fs_frame.specs.Next.{IsNext, HandsOut, HandsOutNothing, HasLine, IsAnswer, LendsBytes, bytes_of}
+use Rattle.fs_frame.specs.Next.{IsNext, HandsOut, HandsOutNothing, bytes_of}
+use Rattle.fs_frame.specs.Answer.{HasLine, IsAnswer}
 use Rattle.fs_frame.specs.declared.front.Front.{Front}
 use Rattle.fs_frame.specs.declared.front.Front.TheVariants.{Whole, Open, Spoilt}
 use Rattle.fs_frame.specs.declared.next.Next.{Next}
@@ -82,9 +82,12 @@ IsNext-open s next no_block sound answer = rw answer (step (s.room == 0) refl)
     step true is = (HandsOutNothing-none s no_block, rw is refl)
     step false is = (HandsOutNothing-none s no_block, rw (is, sound) refl)
 
-IsNext-spoilt : (s : Stream) (next : Next) → is_spoilt s.rest ≡ true → next ≡ Later → IsNext s next
+pub is_later-spoilt : (room : ℕ) (rest : List ℕ) → is_spoilt rest ≡ true → is_later room rest ≡ true
 unfolding is_later
-IsNext-spoilt s next spoilt answer = rw answer (HandsOutNothing-none s (front_of-spoilt s.rest spoilt), or_right (s.room == 0) (is_spoilt s.rest) spoilt)
+is_later-spoilt room rest spoilt = or_right (room == 0) (is_spoilt rest) spoilt
+
+IsNext-spoilt : (s : Stream) (next : Next) → is_spoilt s.rest ≡ true → next ≡ Later → IsNext s next
+IsNext-spoilt s next spoilt answer = rw answer (HandsOutNothing-none s (front_of-spoilt s.rest spoilt), is_later-spoilt s.room s.rest spoilt)
 
 -- the answer for what was found is the one that is due
 pub IsNext-front : (s : Stream) (front : Front) (next : Next) → IsFront s.rest front → IsAnswer (handed_out s) front next → IsNext s next
@@ -103,6 +106,15 @@ is_later-fed room rest more later = step (or_cases (room == 0) (is_spoilt rest) 
     step (inl full) = or_left (room - length more == 0) (is_spoilt (rest ++ more)) (eq-eqb (room - length more) 0 (omega (arith, eqb-true room 0 full)))
     step (inr spoilt) = or_right (room - length more == 0) (is_spoilt (rest ++ more)) (is_spoilt-append rest more spoilt)
 
--- where the form of the bytes is the cause, no block comes either
-pub HasNoBlock-spoilt : (rest more : List ℕ) → is_spoilt rest ≡ true → HasNoBlock (rest ++ more)
-HasNoBlock-spoilt rest more spoilt = HasNoBlock-front_of (rest ++ more) (front_of-spoilt (rest ++ more) (is_spoilt-append rest more spoilt))
+-- no block is handed out of what is spoilt
+pub hands_out-spoilt : (s new : Stream) (block : List ℕ) → HandsOut s new block → is_spoilt s.rest ≡ true → ⊥
+hands_out-spoilt s new block out spoilt = HasNoBlock-front_of s.rest (front_of-spoilt s.rest spoilt) block new.rest out.is_block out.rest
+
+-- nor does the buffer ask for more behind a block
+pub is_later-block : (s new : Stream) (block : List ℕ) → HandsOut s new block → is_later s.room s.rest ≡ true → is_later new.room new.rest ≡ true
+unfolding is_later
+is_later-block s new block out later = step (or_cases (s.room == 0) (is_spoilt s.rest) later)
+  where
+    step : ((s.room == 0) ≡ true) ⊎ (is_spoilt s.rest ≡ true) → ((new.room == 0) || is_spoilt new.rest) ≡ true
+    step (inl full) = or_left (new.room == 0) (is_spoilt new.rest) (rw out.room full)
+    step (inr spoilt) = absurd (hands_out-spoilt s new block out spoilt)

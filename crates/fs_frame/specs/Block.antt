@@ -45,6 +45,6 @@ unfoldable pub front_of : List ℕ → Option (List ℕ)
 front_of bytes =
     if is_spoilt bytes || not (begins_with is_lf (after_first is_lf bytes)) then None else Some (block_of (line_of bytes))
 
--- no block stands in front: none is to come there either, or there is no room for it
+-- what makes `Later` where no block stands in front: all bytes were fed that may be fed, or no block begins so
 unfoldable pub is_later : ℕ → List ℕ → Bool
 is_later room rest = room == 0 || is_spoilt rest

@@ -49,3 +49,19 @@ abbrev pub Follows : List (List ℕ) → List ℕ → Next → Type 0
 Follows blocks stream (Block block) = ComeFirst (blocks ++ bytes_of block ∷ []) stream
 Follows blocks stream NeedMore = IsUsedUp blocks stream false
 Follows blocks stream Later = IsUsedUp blocks stream true
+
+-- no answer asks for more
+abbrev pub NeverNeedMore : List Call → Type 0
+NeverNeedMore [] = ⊤
+NeverNeedMore (fed piece ∷ calls) = NeverNeedMore calls
+NeverNeedMore (asked (Block block) ∷ calls) = NeverNeedMore calls
+NeverNeedMore (asked NeedMore ∷ calls) = ⊥
+NeverNeedMore (asked Later ∷ calls) = NeverNeedMore calls
+
+-- each answer is `Later`
+abbrev pub AlwaysLater : List Call → Type 0
+AlwaysLater [] = ⊤
+AlwaysLater (fed piece ∷ calls) = AlwaysLater calls
+AlwaysLater (asked (Block block) ∷ calls) = ⊥
+AlwaysLater (asked NeedMore ∷ calls) = ⊥
+AlwaysLater (asked Later ∷ calls) = AlwaysLater calls

@@ -23,7 +23,7 @@ pub struct Blocks {
     start: usize,
     // So many bytes of the rest were searched, and are neither LF nor CR.
     plain: usize,
-    free: usize,
+    room: usize,
 }
 
 impl Model for Blocks {
@@ -33,7 +33,7 @@ impl Model for Blocks {
 
     ghost Value = { Stream };
 
-    ghost view = { λ b. record { room = b.free; last = slice_range b.bytes.items b.lent b.start; rest = drop b.start b.bytes.items } };
+    ghost view = { λ b. record { room = b.room; last = slice_range b.bytes.items b.lent b.start; rest = drop b.start b.bytes.items } };
 
     ghost invariant = { λ b. IsLaidOut b.bytes.items b.lent b.start b.plain };
 }
@@ -43,7 +43,8 @@ impl Blocks {
     ghost use Rattle.std.specs.Borrow.{sem};
     ghost use Rattle.std.specs.Io.BufRead.{Rests};
     ghost use Rattle.fs_frame.specs.Stream.{fresh, fed_with, handed_out};
-    ghost use Rattle.fs_frame.specs.Next.{IsNext, HasLine, IsAnswer};
+    ghost use Rattle.fs_frame.specs.Next.{IsNext};
+    ghost use Rattle.fs_frame.specs.Answer.{HasLine, IsAnswer};
     ghost use Rattle.fs_frame.specs.Front.{IsFront};
     ghost use Rattle.fs_frame.specs.contracts.blocks.Blocks.{the_row};
 
@@ -57,7 +58,7 @@ impl Blocks {
             lent: 0,
             start: 0,
             plain: 0,
-            free: MOST_BYTES,
+            room: MOST_BYTES,
         })
     }
 
@@ -67,7 +68,7 @@ impl Blocks {
         ensures err { OnErr result (self.new ≡ self.old) }
     {
         self.bytes.extend_from_slice(piece)?;
-        self.free = self.free.saturating_sub(piece.len());
+        self.room = self.room.saturating_sub(piece.len());
         self.let_go();
         Ok(())
     }
@@ -76,7 +77,7 @@ impl Blocks {
     pub fn room(&self) -> usize
         ensures { result ≡ self.now.room }
     {
-        self.free
+        self.room
     }
 
     /// Hands out the block in front, or says whether one may still come.
@@ -130,7 +131,7 @@ impl Blocks {
                 &self.bytes[self.lent..self.start],
                 line_len,
             )),
-            Front::Open { .. } if self.free > 0 => Next::NeedMore,
+            Front::Open { .. } if self.room > 0 => Next::NeedMore,
             _ => Next::Later,
         }
     }

@@ -10,7 +10,7 @@ const LF: u8 = b'\n';
 const CR: u8 = b'\r';
 
 /// What stands in front of some bytes.
-#[derive(Clone, Copy, Debug)]
+#[derive(Clone, Copy)]
 pub enum Front {
     /// A whole block, whose line has this length.
     Whole { line_len: usize },

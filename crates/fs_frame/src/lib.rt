@@ -1,4 +1,8 @@
 //! Command blocks out of the pieces of a byte stream.
+//!
+//! A client of FreeSWITCH's event socket sends each command as a block of lines that ends with an empty line. What
+//! is read from its connection goes into a [`Blocks`], in whatever pieces it comes, and the blocks come out one by
+//! one, as slices of that buffer.
 #![tactic(auto)]
 
 mod block;
@@ -6,6 +10,8 @@ mod blocks;
 mod front;
 mod laws;
 mod next;
+#[cfg(test)]
+mod tests;
 
 pub use block::Block;
 pub use blocks::Blocks;

@@ -1,4 +1,3 @@
-use Rattle.std.proofs.Common.{◌≡◌}
 use Rattle.fs_frame.specs.Block.{is_cr}
 use Rattle.fs_frame.proofs.FrontLaws.{position_or_len-met}
 use Rattle.fs_frame.proofs.front.has_cr.Goals as goal

@@ -1,6 +1,4 @@
-use Rattle.std.proofs.Common.{◌≡◌, ◌+◌, ◌≤◌, length, arith, rules}
-use Rattle.std.specs.List.{position_or_len}
-use Rattle.fs_frame.specs.Block.{is_lf}
+use Rattle.std.proofs.Common.{◌+◌, ◌≤◌, length, arith, rules}
 use Rattle.fs_frame.proofs.FrontLaws.{ArePlain-le-length, position_or_len-from, place_from-le-length}
 use Rattle.fs_frame.proofs.front.line_end.Goals as goal
 

@@ -1,4 +1,4 @@
-use Rattle.std.proofs.Common.{◌≡◌, ◌∙◌, sym, Bool, false, List, ℕ, take, arith}
+use Rattle.std.proofs.Common.{◌≡◌, false, take, arith}
 use Rattle.std.specs.List.{list_any}
 use Rattle.fs_frame.specs.Block.{is_cr}
 use Rattle.fs_frame.proofs.FrontLaws.{list_any-from, spoilt_by_cr, met_end, met_lf, met_first, met_last, met_second, met_other}

@@ -1,0 +1,6 @@
+mod JournalLaws
+mod Lines
+mod RunLaws
+mod SendLaws
+mod TurnLaws
+mod Words

@@ -1,0 +1,12 @@
+//! The program: what it answers to its words, over files and one link.
+#![tactic(auto)]
+
+mod commands;
+mod entry;
+mod phase;
+mod play;
+mod program;
+mod replies;
+mod switch;
+
+pub use program::{Status, run};

@@ -29,7 +29,7 @@ writes_nothing now = record { written = sym (append_known-nil now.written); faul
 pub writes_both : (old mid new : Output) (xs ys : List ℕ) → Writes old mid xs → Writes mid new ys → Writes old new (xs ++ ys)
 writes_both old mid new xs ys first then = record {
   written = then.written ∙ ap (λ k. append_known k ys) first.written ∙ append_known-append old.written xs ys;
-  faults = then.faults ∙ first.faults
+  faults = then.faults ∙ first.faults;
 }
 
 -- a write, and then one that stopped
@@ -39,7 +39,7 @@ stopped_later old mid new xs ys first then = record {
   back = then.back;
   split = ap (λ zs. xs ++ zs) then.split ∙ sym (append_assoc xs then.front then.back);
   written = then.written ∙ ap (λ k. append_known k then.front) first.written ∙ append_known-append old.written xs then.front;
-  faults = then.faults ∙ ap raised first.faults
+  faults = then.faults ∙ ap raised first.faults;
 }
 
 -- what is behind the front need not be known
@@ -49,7 +49,7 @@ stopped_sooner old new xs ys h = record {
   back = h.back ++ ys;
   split = ap (λ zs. zs ++ ys) h.split ∙ append_assoc h.front h.back ys;
   written = h.written;
-  faults = h.faults
+  faults = h.faults;
 }
 
 -- two reads are one of both texts
@@ -57,7 +57,7 @@ pub reads_both : (old mid new : Input) (xs ys : List ℕ) → Reads old mid xs �
 reads_both old mid new xs ys first then = record {
   taken = then.taken ∙ ap (λ k. append_known k ys) first.taken ∙ append_known-append old.taken xs ys;
   left = first.left ∙ ap (prepend_known xs) then.left ∙ prepend_known-append new.left xs ys;
-  waits = then.waits ∙ first.waits
+  waits = then.waits ∙ first.waits;
 }
 
 -- nothing was read yet
@@ -83,5 +83,5 @@ stops_here old mid new bytes done first failed = record {
   back = drop done bytes;
   split = sym (take-append-drop done bytes);
   written = ap (λ o. o.written) failed ∙ first.written;
-  faults = ap (λ o. o.faults) failed ∙ ap raised first.faults
+  faults = ap (λ o. o.faults) failed ∙ ap raised first.faults;
 }

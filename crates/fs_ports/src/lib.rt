@@ -12,8 +12,6 @@ mod mem_link;
 mod port;
 mod send;
 mod stdio;
-
-
 #[cfg(test)]
 mod tests;
 

@@ -26,10 +26,10 @@ impl Model for MemFiles {
     ghost Value = { Shelf };
 
     ghost view = { λ f. record {
-        held = f.held.items;
-        failed = f.failed.items;
-        loads = f.loads;
-        counts = record { faults = f.faults; absences = f.absences }
+      held = f.held.items;
+      failed = f.failed.items;
+      loads = f.loads;
+      counts = record { faults = f.faults; absences = f.absences };
     } };
 }
 

@@ -32,11 +32,11 @@ impl Model for MemLink {
     ghost Value = { Tape };
 
     ghost view = { λ l. record {
-        taken = take l.at l.input.items;
-        left = drop l.at l.input.items;
-        read_faults = l.read_faults;
-        written = l.output.items;
-        write_faults = l.write_faults
+      taken = take l.at l.input.items;
+      left = drop l.at l.input.items;
+      read_faults = l.read_faults;
+      written = l.output.items;
+      write_faults = l.write_faults;
     } };
 
     ghost invariant = { λ l. (l.at ≤ length l.input.items) × (length l.output.items ≤ l.room) × (l.room ≤ vec_capacity l.output) };

@@ -1,4 +1,6 @@
-use crate::{DiskFiles, Files, Load, MemFiles, MemLink, Read, Sent, Sink, Source, Stdio, Write, send_all};
+use crate::{
+    DiskFiles, Files, Load, MemFiles, MemLink, Read, Sent, Sink, Source, Stdio, Write, send_all,
+};
 use fs_text::Txt;
 use std::alloc::Global;
 use std::test::Fail;

@@ -1,10 +1,10 @@
 -- How journals grow, and what is taken over them.
-use Rattle.std.proofs.Common.{◌≡◌, ℕ, zero, suc, Bool, true, false, cond, List, [], ◌∷◌, ◌++◌, length, take, drop, sym, refl, ap, ◌∙◌, append_assoc, append-nil}
+use Rattle.std.proofs.Common.{◌≡◌, ℕ, true, false, cond, List, [], ◌∷◌, ◌++◌, length, take, drop, sym, refl, ap, ◌∙◌, append_assoc, append-nil}
 use Rattle.std.specs.List.{concat}
 use Rattle.std.proofs.lemmas.List.Folds.{concat-append}
 use lib.ListN.{replicate}
 use Rattle.fs_top.specs.Switch.{State, step, run, run_from, taken_from, handed, bytes_taken}
-use Rattle.fs_top.specs.Play.{submitted, command, take_frame, close, all_taken, is_ending, is_ending_phase, after, after_all, input_ended, closed}
+use Rattle.fs_top.specs.Play.{submitted, command, take_frame, close, all_taken, is_ending, after, after_all, input_ended, closed}
 use Rattle.fs_top.specs.Takes.{Begins}
 use Rattle.fs_top.specs.declared.entry.Entry.{Entry}
 use Rattle.fs_top.specs.declared.entry.Act.{Act}

@@ -1,19 +1,18 @@
 -- What a run of the program comes to, and the causes of its statuses.
-use Rattle.std.proofs.Common.{◌≡◌, ◌≢◌, ℕ, Bool, true, false, cond, IsTrue, List, [], ◌++◌, Option, None, Some, refl, sym, ap, ◌∙◌, subst, inl, inr, ◌↔◌}
+use Rattle.std.proofs.Common.{◌≡◌, ◌≢◌, ℕ, Bool, true, false, cond, IsTrue, List, [], ◌++◌, Option, None, Some, refl, sym, ap, ◌∙◌, subst, inl, inr}
 use Rattle.std.specs.List.{list_all, concat}
-use Rattle.std.specs.Io.KnownBytes.{IsAtEnd}
 use Rattle.fs_ports.specs.Counts.{raised}
-use Rattle.fs_ports.specs.Ports.{Input, Output, Writes, Stopped}
+use Rattle.fs_ports.specs.Ports.{Input, Output, Stopped}
 use Rattle.fs_ports.specs.Loads.{LoadCounts, Tells, Counted}
 use Rattle.fs_ports.specs.declared.files.Load.{Load}
 use Rattle.fs_ports.specs.declared.files.Load.TheVariants.{Got, Absent, Failed}
 use Rattle.fs_ports.proofs.Sides.{reads_nothing, writes_nothing, stopped_sooner}
 use Rattle.fs_top.specs.Switch.{run, taken_from, bytes_taken}
 use Rattle.fs_top.specs.Play.{play, end_of}
-use Rattle.fs_top.specs.Takes.{Begins, StoppedBy}
-use Rattle.fs_top.specs.Turns.{HasRead, Finishes, Stops}
+use Rattle.fs_top.specs.Takes.{Begins}
+use Rattle.fs_top.specs.Turns.{HasRead}
 use Rattle.fs_top.specs.Told.{Told, told_words, told_file, told_play, refused, is_blank, is_eof, line_of_end, status_of_end, usage_line, document_line, write_fault_line, memory_line}
-use Rattle.fs_top.specs.Runs.{line_of, status_of, PlaysTo, Completes, FailsToWrite, LacksMemory, Does, completes, fails_to_write, lacks_memory, Loaded, Runs, HasDocument, CountRose, IsLater}
+use Rattle.fs_top.specs.Runs.{line_of, status_of, PlaysTo, Does, completes, fails_to_write, lacks_memory, Loaded, Runs, CountRose}
 use Rattle.fs_top.specs.declared.entry.Entry.{Entry}
 use Rattle.fs_top.specs.declared.play.End.{End}
 use Rattle.fs_top.specs.declared.play.End.TheVariants.{Exit, Eof, ReadFault, Later}

@@ -1,10 +1,10 @@
 -- How entries are made, and how frames are taken and sent.
-use Rattle.std.proofs.Common.{◌≡◌, ℕ, ◌+◌, ◌<◌, List, [], ◌∷◌, ◌++◌, length, take, drop, refl, sym, ap, ◌∙◌, subst, append-nil, false, Some, Result, Ok, Err, arith}
+use Rattle.std.proofs.Common.{◌≡◌, ℕ, ◌<◌, List, [], ◌∷◌, ◌++◌, length, take, drop, refl, sym, ap, ◌∙◌, subst, append-nil, false, Some, Result, Ok, Err, arith}
 use Rattle.std.specs.List.{concat}
 use Rattle.fs_ports.specs.Ports.{Output, Writes, Stopped}
 use Rattle.fs_ports.proofs.Sides.{writes_both, stopped_later}
-use Rattle.fs_top.specs.Switch.{State, step, run, phase_after, queue_after, handed, bytes_taken}
-use Rattle.fs_top.specs.Play.{submitted, command, take_frame, close, all_taken, is_ending, closed}
+use Rattle.fs_top.specs.Switch.{run, phase_after, queue_after, handed, bytes_taken}
+use Rattle.fs_top.specs.Play.{submitted, command, take_frame, close, all_taken, is_ending}
 use Rattle.fs_top.specs.Takes.{Takes, Begins, Written, Sends, EndsInput, Closes, StoppedBy}
 use Rattle.fs_top.specs.declared.entry.Closing.{Closing}
 use Rattle.fs_top.specs.declared.entry.Closing.TheVariants.{EndOfInput, Sent}

@@ -1,11 +1,11 @@
 -- What a turn of a conversation comes to.
-use Rattle.std.proofs.Common.{◌≡◌, ℕ, ◌+◌, ◌-◌, ◌*◌, ◌<◌, ◌≤◌, Bool, true, false, List, [], ◌∷◌, ◌++◌, length, sym, refl, ap, ◌∙◌, subst, append_assoc, append-nil, length-append, arith, ◌==◌, if◌then◌else◌}
+use Rattle.std.proofs.Common.{◌≡◌, ℕ, ◌+◌, ◌-◌, ◌<◌, ◌≤◌, Bool, true, false, List, [], ◌∷◌, ◌++◌, length, sym, refl, ap, ◌∙◌, subst, append_assoc, append-nil, length-append, arith, ◌==◌, if◌then◌else◌}
 use Rattle.std.specs.List.{AllByRecursion, concat}
 use Rattle.std.specs.Io.KnownBytes.{IsAtEnd}
 use Rattle.std.proofs.lemmas.List.Folds.{concat-append}
 use Rattle.std.proofs.lemmas.Bool.{or_parts, eqb-false}
 use Rattle.fs_ports.specs.Counts.{raised}
-use Rattle.fs_ports.specs.Ports.{Input, Output, Reads, Writes, Stopped}
+use Rattle.fs_ports.specs.Ports.{Input, Output, Reads, Writes}
 use Rattle.fs_ports.proofs.Sides.{reads_both, reads_nothing, writes_nothing}
 use Rattle.fs_frame.specs.Block.{IsBlock, is_spoilt, is_later}
 use Rattle.fs_frame.specs.Blocks.{HasNoBlock, blocks_of, rest_of}
@@ -14,13 +14,12 @@ use Rattle.fs_frame.specs.Next.{HandsOut, HandsOutNothing}
 use Rattle.fs_frame.proofs.BlockLaws.{AllByRecursion-append, blocks_of-append, rest_of-append, blocks_of-no_block, rest_of-no_block, length-block}
 use Rattle.fs_top.specs.Switch.{bytes_taken}
 use Rattle.fs_top.specs.Play.{opened, after, after_all, is_ending, end_of, play, closed, submitted, arrive, command, all_taken}
-use Rattle.fs_top.specs.Takes.{Begins, Written, StoppedBy, Closes}
+use Rattle.fs_top.specs.Takes.{Begins, Written, StoppedBy}
 use Rattle.fs_top.specs.Turns.{Stands, Ends, Stops, HasRead, Finishes, work_left}
 use Rattle.fs_top.specs.declared.entry.Entry.{Entry}
 use Rattle.fs_top.specs.declared.play.End.{End}
-use Rattle.fs_top.specs.declared.play.End.TheVariants.{Exit, Eof, ReadFault, Later}
+use Rattle.fs_top.specs.declared.play.End.TheVariants.{Exit, Eof}
 use Rattle.fs_top.specs.declared.play.Stop.{Stop}
-use Rattle.fs_top.specs.declared.play.Stop.TheVariants.{OutOfMemory}
 use Rattle.fs_top.proofs.JournalLaws.{after-open, after_all-append, after_all-ending, begins-trans, begins-after_all, begins-closed}
 
 -- a connection whose journal is a front of what its blocks give stopped, whatever follows in its input

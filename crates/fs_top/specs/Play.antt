@@ -3,14 +3,14 @@ use Rattle.std.specs.Prelude.{ℕ, ◌-◌, Bool, true, false, List, [], ◌∷�
 use lib.ListN.{replicate}
 use Rattle.fs_frame.specs.Block.{is_later}
 use Rattle.fs_frame.specs.Blocks.{blocks_of, rest_of}
-use Rattle.fs_top.specs.Switch.{State, run, bytes_taken}
+use Rattle.fs_top.specs.Switch.{run, bytes_taken}
 use Rattle.fs_top.specs.declared.phase.Phase.{Phase}
 use Rattle.fs_top.specs.declared.phase.Phase.TheVariants.{Fresh, Ready, Ending, Closed}
 use Rattle.fs_top.specs.declared.entry.Entry.{Entry}
 use Rattle.fs_top.specs.declared.entry.Act.{Act}
 use Rattle.fs_top.specs.declared.entry.Act.TheVariants.{Arrive, Command, Take, Close}
 use Rattle.fs_top.specs.declared.entry.Closing.{Closing}
-use Rattle.fs_top.specs.declared.entry.Closing.TheVariants.{EndOfInput, Sent, Failed}
+use Rattle.fs_top.specs.declared.entry.Closing.TheVariants.{EndOfInput, Sent}
 use Rattle.fs_top.specs.declared.play.End.{End}
 use Rattle.fs_top.specs.declared.play.End.TheVariants.{Exit, Eof, ReadFault, Later}
 

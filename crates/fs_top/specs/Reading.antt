@@ -1,5 +1,5 @@
 -- How the commands and answers of the code are seen by the definitions.
-use Rattle.std.specs.Prelude.{◌≡◌, List, ℕ}
+use Rattle.std.specs.Prelude.{◌≡◌}
 use Rattle.fs_top.specs.Commands as spec
 use Rattle.fs_top.specs.declared.commands.Command as code
 use Rattle.fs_top.specs.declared.commands.Command.TheVariants as of

@@ -1,18 +1,16 @@
 -- What a run of the program does, and the causes of its statuses.
-use Rattle.std.specs.Prelude.{◌≡◌, ◌≢◌, ℕ, Bool, true, false, IsTrue, List, ◌++◌, Option, None, Some, IfSome, ◌⊎◌}
+use Rattle.std.specs.Prelude.{◌≡◌, ◌≢◌, ℕ, Bool, false, IsTrue, List, ◌++◌, Option, None, Some, IfSome, ◌⊎◌}
 use Rattle.std.specs.List.{list_all}
-use Rattle.std.specs.Io.KnownBytes.{append_known, IsAtEnd}
+use Rattle.std.specs.Io.KnownBytes.{IsAtEnd}
 use Rattle.fs_ports.specs.Counts.{raised}
-use Rattle.fs_ports.specs.Ports.{Input, Output, Reads, Writes, Stopped}
+use Rattle.fs_ports.specs.Ports.{Input, Output, Writes, Stopped}
 use Rattle.fs_ports.specs.Loads.{LoadCounts, Tells, Counted}
 use Rattle.fs_ports.specs.declared.files.Load.{Load}
 use Rattle.fs_ports.specs.declared.files.Load.TheVariants.{Got}
 use Rattle.fs_top.specs.Play.{play}
 use Rattle.fs_top.specs.Turns.{HasRead, Finishes, Stops}
 use Rattle.fs_top.specs.Told.{Told, told_words, is_blank, line_of_end, status_of_end, usage_line, cannot_read_line, document_line, write_fault_line, memory_line}
-use Rattle.fs_top.specs.declared.play.End.{End}
 use Rattle.fs_top.specs.declared.play.End.TheVariants.{Later}
-use Rattle.fs_top.specs.declared.play.Stop.{Stop}
 use Rattle.fs_top.specs.declared.play.Stop.TheVariants.{OutOfMemory, WriteFault}
 use Rattle.fs_top.specs.declared.entry.Entry.{Entry}
 use Rattle.fs_top.specs.declared.program.Outcome.{Outcome}

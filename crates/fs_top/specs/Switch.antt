@@ -3,13 +3,12 @@ use Rattle.std.specs.Prelude.{ℕ, List, [], ◌∷◌, ◌++◌, take, drop}
 use Rattle.std.specs.List.{concat}
 use Rattle.fs_frame.specs.Block.{line_of}
 use Rattle.fs_top.specs.Texts.{auth_request}
-use Rattle.fs_top.specs.Commands.{Answer, answer, command_of}
+use Rattle.fs_top.specs.Commands.{answer, command_of}
 use Rattle.fs_top.specs.declared.phase.Phase.{Phase}
-use Rattle.fs_top.specs.declared.phase.Phase.TheVariants.{Fresh, Ready, Ending, Closed}
+use Rattle.fs_top.specs.declared.phase.Phase.TheVariants.{Fresh, Ending, Closed}
 use Rattle.fs_top.specs.declared.entry.Entry.{Entry}
 use Rattle.fs_top.specs.declared.entry.Act.{Act}
 use Rattle.fs_top.specs.declared.entry.Act.TheVariants.{Arrive, Command, Take, Close}
-use Rattle.fs_top.specs.declared.entry.Closing.{Closing}
 use Rattle.fs_top.specs.declared.entry.Closing.TheVariants.{EndOfInput, Sent, Failed}
 
 -- the phase of the connection, and its frames that were not taken yet

@@ -1,21 +1,19 @@
 -- What stands of a played connection from turn to turn, and at its end.
-use Rattle.std.specs.Prelude.{◌≡◌, ℕ, ◌-◌, ◌*◌, ◌+◌, ◌<◌, ◌≤◌, Bool, true, false, List, ◌++◌, length, Option, Result, Ok, Err, ◌⊎◌, if◌then◌else◌}
+use Rattle.std.specs.Prelude.{◌≡◌, ℕ, ◌-◌, ◌*◌, ◌+◌, ◌<◌, ◌≤◌, Bool, false, List, ◌++◌, length, Result, Ok, Err, ◌⊎◌, if◌then◌else◌}
 use Rattle.std.specs.List.{AllByRecursion, concat}
 use Rattle.std.specs.Io.KnownBytes.{IsAtEnd}
 use Rattle.fs_text.specs.declared.memory.Memory.{Memory}
 use Rattle.fs_ports.specs.Counts.{raised}
-use Rattle.fs_ports.specs.Ports.{Input, Output, Reads, Writes, Stopped}
+use Rattle.fs_ports.specs.Ports.{Input, Output, Reads, Writes}
 use Rattle.fs_frame.specs.Block.{IsBlock, is_later}
 use Rattle.fs_frame.specs.Blocks.{blocks_of, rest_of}
 use Rattle.fs_frame.specs.Stream.{Stream, fed_with}
-use Rattle.fs_top.specs.Switch.{bytes_taken}
 use Rattle.fs_top.specs.Play.{opened, after_all, is_ending, end_of, play, submitted, close}
 use Rattle.fs_top.specs.Takes.{Begins, Written, StoppedBy}
 use Rattle.fs_top.specs.declared.entry.Entry.{Entry}
-use Rattle.fs_top.specs.declared.entry.Closing.{Closing}
 use Rattle.fs_top.specs.declared.entry.Closing.TheVariants.{Failed}
 use Rattle.fs_top.specs.declared.play.End.{End}
-use Rattle.fs_top.specs.declared.play.End.TheVariants.{Exit, Eof, ReadFault, Later}
+use Rattle.fs_top.specs.declared.play.End.TheVariants.{Eof}
 use Rattle.fs_top.specs.declared.play.Stop.{Stop}
 use Rattle.fs_top.specs.declared.play.Stop.TheVariants.{OutOfMemory, WriteFault}
 use Rattle.fs_top.specs.declared.play.Turn.{Turn}

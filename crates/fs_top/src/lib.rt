@@ -8,5 +8,7 @@ mod play;
 mod program;
 mod replies;
 mod switch;
+#[cfg(test)]
+mod tests;
 
 pub use program::{Status, run};

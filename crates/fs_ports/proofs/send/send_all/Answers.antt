@@ -6,7 +6,7 @@ pub loop-done-preserved : goal.loop-done-preserved
 loop-done-preserved g c = record {
   within = omega (arith, c.in-Took.ensures.output.1);
   written = writes_more _ _ _ _ _ _ c.loop-done.invariant.written c.in-Took.ensures.output.2;
-  input = c.write.ensures.input ∙ c.loop-done.invariant.input
+  input = c.write.ensures.input ∙ c.loop-done.invariant.input;
 }
 
 pub returns-in-Failed-clause-output : goal.returns-in-Failed-clause-output

@@ -7,7 +7,7 @@ abbrev pub invariant-loop-done : goal.invariant-loop-done
 invariant-loop-done g l = record {
   within : l.done ≤ length l.bytes;
   written : Writes (g.K.Port.output l.initial.sink) (g.K.Port.output l.sink) (take l.done l.bytes);
-  input : g.K.Port.input l.sink ≡ g.K.Port.input l.initial.sink
+  input : g.K.Port.input l.sink ≡ g.K.Port.input l.initial.sink;
 }
 
 abbrev pub decreases-loop-done : goal.decreases-loop-done

@@ -3,7 +3,7 @@ use Rattle.std.proofs.lemmas.Result.{err_from_is_err_and}
 use Rattle.fs_ports.proofs.Sides.{reads_nothing}
 use Rattle.fs_frame.specs.Stream.{Stream}
 use Rattle.fs_frame.specs.Next.{HandsOut, HandsOutNothing, bytes_of}
-use Rattle.fs_top.specs.Play.{all_taken, is_ending}
+use Rattle.fs_top.specs.Play.{is_ending}
 use Rattle.fs_top.specs.declared.play.Stop.TheVariants.{OutOfMemory}
 use Rattle.fs_top.proofs.SendLaws.{written-command}
 use Rattle.fs_top.proofs.TurnLaws.{stops_here, stops_behind, goes_on_behind, ends_behind, ends_between, reads_failed, room_left}

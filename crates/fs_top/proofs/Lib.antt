@@ -1,5 +1,6 @@
 mod JournalLaws
 mod Lines
+mod PlayLaws
 mod RunLaws
 mod SendLaws
 mod TurnLaws

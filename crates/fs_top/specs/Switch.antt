@@ -78,3 +78,15 @@ taken_from s (entry ∷ entries) = handed s entry.act ++ taken_from (step s entr
 -- the bytes of all frames that were taken
 abbrev pub bytes_taken : List Entry → List ℕ
 bytes_taken journal = concat (taken_from empty journal)
+
+-- the block of an act that is a command
+abbrev pub command_in : Act → List (List ℕ)
+command_in Arrive = []
+command_in (Command conn block) = block ∷ []
+command_in (Take conn) = []
+command_in (Close conn how) = []
+
+-- the blocks of the commands in a journal
+abbrev pub commands : List Entry → List (List ℕ)
+commands [] = []
+commands (entry ∷ entries) = command_in entry.act ++ commands entries

@@ -3,6 +3,7 @@
 
 mod commands;
 mod entry;
+mod laws;
 mod phase;
 mod play;
 mod program;
@@ -11,4 +12,5 @@ mod switch;
 #[cfg(test)]
 mod tests;
 
+pub use laws::{enters_commands_once, plays_its_frames};
 pub use program::{Status, run};

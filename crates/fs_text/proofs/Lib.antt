@@ -1,1 +1,5 @@
+pub mod EscapeLemmas
+pub mod NumberLemmas
 pub mod Places
+pub mod TableLemmas
+pub mod TheTables

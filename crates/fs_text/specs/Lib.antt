@@ -1,0 +1,6 @@
+pub mod Cause
+pub mod Escape
+pub mod EventName
+pub mod Number
+pub mod State
+pub mod Tables

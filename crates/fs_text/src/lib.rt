@@ -1,12 +1,21 @@
 //! Byte texts, and what every crate above says of them.
 #![tactic(auto)]
 
+mod causes;
+mod escapes;
+mod event_names;
 mod memory;
 mod numbers;
 mod search;
+mod states;
+mod tables;
 mod text;
 
+pub use causes::Cause;
+pub use escapes::{escape, escape_law};
+pub use event_names::EventName;
 pub use memory::Memory;
-pub use numbers::decimal;
+pub use numbers::{decimal, decimal_law, read_u64};
 pub use search::place_of;
+pub use states::State;
 pub use text::Txt;

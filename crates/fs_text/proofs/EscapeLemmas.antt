@@ -1,13 +1,12 @@
 -- The set of the code holds the bytes of the definition, so that both escape alike.
-use Rattle.std.proofs.Common.{◌≡◌, ◌<◌, ◌≤◌, ◌&&◌, ◌||◌, ◌⊎◌, ℕ, Bool, true, false, List, [], ◌∷◌, ◌++◌, if◌then◌else◌, nat_lt, nat_le, All, refl, sym, ap, ◌∙◌, inl, inr, arith, Result, Ok, Err, IfOk}
+use Rattle.std.proofs.Common.{◌≡◌, ◌<◌, ◌≤◌, ◌&&◌, ◌||◌, ℕ, Bool, true, false, List, [], ◌∷◌, nat_lt, nat_le, All, refl, sym, ◌∙◌, inl, inr, arith, Result, Ok, Err, IfOk}
 use Rattle.std.proofs.lemmas.Bool.{agree_below_at, cases_lt}
 use Rattle.std.proofs.lemmas.Bool.Decides.{nat_tests}
-use Rattle.percent_encoding.specs.declared.ascii_set.AsciiSet.{AsciiSet}
-use Rattle.percent_encoding.specs.AsciiSet.{contains, should_percent_encode}
-use Rattle.percent_encoding.specs.Percent.{percent_encode_byte, percent_encode, percent_decode}
+use Rattle.percent_encoding.specs.AsciiSet.{should_percent_encode}
+use Rattle.percent_encoding.specs.Percent.{percent_encode, percent_decode}
 use Rattle.percent_encoding.proofs.PercentLemmas.{IsByte, IsEscapeByte, All-percent_encode, round_trip}
 use Rattle.fs_text.specs.declared.escapes.TheConstants.{MARKS}
-use Rattle.fs_text.specs.Escape.{is_escaped, IsClean, escape_of_byte, escape}
+use Rattle.fs_text.specs.Escape.{is_escaped, IsClean, escape}
 
 escaped_above : (b : ℕ) → 128 ≤ b → should_percent_encode MARKS b ≡ is_escaped b
 unfolding should_percent_encode

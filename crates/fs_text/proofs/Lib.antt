@@ -1,4 +1,5 @@
 pub mod EscapeLemmas
+pub mod IdLemmas
 pub mod NumberLemmas
 pub mod Places
 pub mod TableLemmas

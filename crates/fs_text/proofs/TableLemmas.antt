@@ -1,7 +1,7 @@
 -- What a look-up in a table finds.
-use Rattle.std.proofs.Common.{◌≡◌, ◌<◌, ℕ, zero, suc, Bool, true, false, List, [], ◌∷◌, map, length, refl, sym, ap, ◌∙◌, subst, Option, Some, None, cond, arith, Bor, eqb, Contains, ◌==◌, ◌⊎◌, inl, inr, ⊎_elim}
+use Rattle.std.proofs.Common.{◌≡◌, ℕ, suc, Bool, true, false, List, [], ◌∷◌, map, refl, sym, ap, ◌∙◌, Option, Some, cond, arith, Bor, Contains, ◌==◌, ◌⊎◌, inl, inr, ⊎_elim}
 use Rattle.std.specs.List.{find}
-use Rattle.std.specs.Option.{option_map, unwrap_or}
+use Rattle.std.specs.Option.{option_map}
 use Rattle.std.specs.Str.{bytes_eq}
 use Rattle.std.proofs.lemmas.Slice.Eq.{bytes_eq-Decides}
 use Rattle.fs_text.specs.Tables.{IsTable, named}
@@ -57,6 +57,6 @@ is_table {A} row values by_number by_name = record {
   numbers = λ a b same. let found : find (λ c. (row c).0 == (row a).0) values ≡ Some b = rw same (by_number b) in let both : Some a ≡ Some b = sym (by_number a) ∙ found in cc;
   names = λ a text. (
     λ found. (bytes_eq-Decides (row a).1 text).0 (found_passes (λ b. bytes_eq (row b).1 text) values a found),
-    λ named. rw (← named) (by_name a)
+    λ named. rw (← named) (by_name a),
   );
 }

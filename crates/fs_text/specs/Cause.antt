@@ -27,7 +27,7 @@ cause_row ManagerRequest = (503, codes "MANAGER_REQUEST")
 cause_row AllottedTimeout = (602, codes "ALLOTTED_TIMEOUT")
 cause_row PickedOff = (605, codes "PICKED_OFF")
 
--- every cause, in the order of their numbers
+-- all causes, in the order of their numbers
 abbrev pub all_causes : List Cause
 all_causes =
     UnallocatedNumber ∷ NoRouteDestination ∷ NormalClearing ∷ UserBusy
@@ -36,16 +36,18 @@ all_causes =
     ∷ NormalTemporaryFailure ∷ SwitchCongestion ∷ OriginatorCancel ∷ SystemShutdown
     ∷ LoseRace ∷ ManagerRequest ∷ AllottedTimeout ∷ PickedOff ∷ []
 
--- the table of causes: numbers and names
+-- the table of causes: number and name
 abbrev pub causes : List (ℕ × List ℕ)
 causes = map cause_row all_causes
 
+-- the number of a cause
 abbrev pub cause_number : Cause → ℕ
 cause_number c = (cause_row c).0
 
+-- the text of a cause's name
 abbrev pub cause_name : Cause → List ℕ
 cause_name c = (cause_row c).1
 
--- the one that has this name
+-- the cause that has this name
 abbrev pub cause_of_name : List ℕ → Option Cause
 cause_of_name text = find (λ c. bytes_eq (cause_name c) text) all_causes

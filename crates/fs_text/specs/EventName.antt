@@ -4,7 +4,7 @@ use Rattle.std.specs.Str.{bytes_eq}
 use Rattle.fs_text.specs.declared.event_names.EventName.{EventName}
 use Rattle.fs_text.specs.declared.event_names.EventName.TheVariants.{Custom, ChannelCreate, ChannelState, ChannelAnswer, ChannelExecute, ChannelExecuteComplete, ChannelBridge, ChannelUnbridge, ChannelPark, ChannelUnpark, ChannelHangup, ChannelHangupComplete, ChannelDestroy, BackgroundJob, Shutdown}
 
--- the number and the name of a kind of event
+-- the number and the name of an event name
 abbrev pub event_row : EventName → ℕ × List ℕ
 event_row Custom = (1, codes "CUSTOM")
 event_row ChannelCreate = (2, codes "CHANNEL_CREATE")
@@ -22,7 +22,7 @@ event_row ChannelDestroy = (13, codes "CHANNEL_DESTROY")
 event_row BackgroundJob = (14, codes "BACKGROUND_JOB")
 event_row Shutdown = (15, codes "SHUTDOWN")
 
--- every kind of event, in the order of their numbers
+-- all event names, in the order of their numbers
 abbrev pub all_events : List EventName
 all_events =
     Custom ∷ ChannelCreate ∷ ChannelState ∷ ChannelAnswer
@@ -30,16 +30,18 @@ all_events =
     ∷ ChannelPark ∷ ChannelUnpark ∷ ChannelHangup ∷ ChannelHangupComplete
     ∷ ChannelDestroy ∷ BackgroundJob ∷ Shutdown ∷ []
 
--- the table of events: numbers and names
+-- the table of event names: number and name
 abbrev pub events : List (ℕ × List ℕ)
 events = map event_row all_events
 
+-- the number of an event name
 abbrev pub event_number : EventName → ℕ
 event_number e = (event_row e).0
 
+-- how an event name is written
 abbrev pub event_name : EventName → List ℕ
 event_name e = (event_row e).1
 
--- the one that has this name
+-- the event name that is written so
 abbrev pub event_of_name : List ℕ → Option EventName
 event_of_name text = find (λ e. bytes_eq (event_name e) text) all_events

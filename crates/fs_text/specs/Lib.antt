@@ -1,4 +1,5 @@
 pub mod Cause
+pub mod CoreId
 pub mod Escape
 pub mod EventName
 pub mod Number

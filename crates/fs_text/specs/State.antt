@@ -20,7 +20,7 @@ state_row CsHangup = (10, codes "CS_HANGUP")
 state_row CsReporting = (11, codes "CS_REPORTING")
 state_row CsDestroy = (12, codes "CS_DESTROY")
 
--- every state, in the order of their numbers
+-- all states, in the order of their numbers
 abbrev pub all_states : List State
 all_states =
     CsNew ∷ CsInit ∷ CsRouting ∷ CsSoftExecute
@@ -28,16 +28,18 @@ all_states =
     ∷ CsHibernate ∷ CsReset ∷ CsHangup ∷ CsReporting
     ∷ CsDestroy ∷ []
 
--- the table of states: numbers and names
+-- the table of states: number and name
 abbrev pub states : List (ℕ × List ℕ)
 states = map state_row all_states
 
+-- the number of a state
 abbrev pub state_number : State → ℕ
 state_number s = (state_row s).0
 
+-- the text of a state's name
 abbrev pub state_name : State → List ℕ
 state_name s = (state_row s).1
 
--- the one that has this name
+-- the state that has this name
 abbrev pub state_of_name : List ℕ → Option State
 state_of_name text = find (λ s. bytes_eq (state_name s) text) all_states

@@ -1,4 +1,4 @@
--- Tables: each value has a row, its number and its name.
+-- Tables of numbers and names.
 use Rattle.std.specs.Prelude.{◌≡◌, ◌↔◌, ℕ, List, Option, Some, find, Contains}
 use Rattle.std.specs.Option.{option_map}
 use Rattle.std.specs.Str.{bytes_eq}
@@ -10,6 +10,6 @@ pub record IsTable {A : Type 0} (table : List (ℕ × List ℕ)) (row : A → �
   pub numbers : (a b : A) → (row a).0 ≡ (row b).0 → a ≡ b
   pub names : (a : A) (text : List ℕ) → (of_name text ≡ Some a) ↔ ((row a).1 ≡ text)
 
--- the value whose row has this name, in the rows that the code keeps
+-- the value of the first row of this name, among rows of value, number and name
 unfoldable pub named : {A : Type 0} → List (A × ℕ × Bor (List ℕ)) → List ℕ → Option A
 named rows text = option_map (λ row. row.0) (find (λ row. bytes_eq row.2.now text) rows)

@@ -1,105 +1,113 @@
-ghost use Rattle.std.specs.Prelude.{◌≡◌};
+ghost use Rattle.std.specs.Prelude.{◌≡◌, map};
 ghost use Rattle.fs_text.specs.Tables.{IsTable};
-ghost use Rattle.fs_text.specs.Cause.{causes, cause_row, cause_number, cause_name, cause_of_name};
+ghost use Rattle.fs_text.specs.Cause.{all_causes, causes, cause_row, cause_number, cause_name, cause_of_name};
 
 use crate::tables::{Row, named};
+use Cause::*;
 
-/// Why a channel is hung up, by the names and numbers of FreeSWITCH's hangup causes.
+/// Why a channel is hung up. Names and numbers are those of FreeSWITCH's hangup causes.
 ///
-/// Numbers below 128 are those of ITU-T Q.850.
+/// A number below 128 is the cause value of ITU-T Q.850; the others are FreeSWITCH's own.
 #[derive(Clone, Copy, Debug, PartialEq, Eq)]
 pub enum Cause {
-    /// The number is assigned to nobody: Q.850 cause 1.
+    /// Q.850 cause 1: the number is assigned to nobody.
     UnallocatedNumber,
-    /// No route to the destination: Q.850 cause 3.
+    /// Q.850 cause 3: no route to the destination.
     NoRouteDestination,
-    /// One of the parties hung up: Q.850 cause 16.
+    /// Q.850 cause 16: a party hung up.
     NormalClearing,
-    /// The called user is busy: Q.850 cause 17.
+    /// Q.850 cause 17: the called user is busy.
     UserBusy,
-    /// The called user does not respond: Q.850 cause 18.
+    /// Q.850 cause 18: the called user does not respond.
     NoUserResponse,
-    /// The called user was alerted and did not answer: Q.850 cause 19.
+    /// Q.850 cause 19: the called user was alerted and did not answer.
     NoAnswer,
-    /// The subscriber is absent: Q.850 cause 20.
+    /// Q.850 cause 20: the subscriber is absent.
     SubscriberAbsent,
-    /// The call was rejected: Q.850 cause 21.
+    /// Q.850 cause 21: the call was rejected.
     CallRejected,
-    /// The exchange could not route the call: Q.850 cause 25.
+    /// Q.850 cause 25: an exchange failed to route the call.
     ExchangeRoutingError,
-    /// The destination does not work: Q.850 cause 27.
+    /// Q.850 cause 27: the destination is out of order.
     DestinationOutOfOrder,
-    /// The number is not complete or of no valid format: Q.850 cause 28.
+    /// Q.850 cause 28: the number is incomplete or badly formed.
     InvalidNumberFormat,
-    /// A normal end that says no more: Q.850 cause 31.
+    /// Q.850 cause 31: normal, and nothing more is known.
     NormalUnspecified,
-    /// A failure that will soon be over: Q.850 cause 41.
+    /// Q.850 cause 41: a temporary failure.
     NormalTemporaryFailure,
-    /// The switch has more work than it can take: Q.850 cause 42.
+    /// Q.850 cause 42: the switch has too much to do.
     SwitchCongestion,
-    /// The caller gave up before an answer. The number is FreeSWITCH's own.
+    /// The caller gave up before an answer.
     OriginatorCancel,
-    /// The switch is stopping. The number is FreeSWITCH's own.
+    /// The switch is stopping.
     SystemShutdown,
-    /// Another leg answered first. The number is FreeSWITCH's own.
+    /// Another leg answered first.
     LoseRace,
-    /// A command asked for it. The number is FreeSWITCH's own.
+    /// A command asked for it.
     ManagerRequest,
-    /// The time that the call was given is over. The number is FreeSWITCH's own.
+    /// The time that the call was given is over.
     AllottedTimeout,
-    /// Another channel took the call. The number is FreeSWITCH's own.
+    /// Another channel took the call.
     PickedOff,
 }
 
-/// The table of causes, in the order of the variants.
+/// The table of causes; a cause's row stands at the place of its variant.
 static CAUSES: [Row<Cause>; 20] = [
-    (Cause::UnallocatedNumber, 1, "UNALLOCATED_NUMBER"),
-    (Cause::NoRouteDestination, 3, "NO_ROUTE_DESTINATION"),
-    (Cause::NormalClearing, 16, "NORMAL_CLEARING"),
-    (Cause::UserBusy, 17, "USER_BUSY"),
-    (Cause::NoUserResponse, 18, "NO_USER_RESPONSE"),
-    (Cause::NoAnswer, 19, "NO_ANSWER"),
-    (Cause::SubscriberAbsent, 20, "SUBSCRIBER_ABSENT"),
-    (Cause::CallRejected, 21, "CALL_REJECTED"),
-    (Cause::ExchangeRoutingError, 25, "EXCHANGE_ROUTING_ERROR"),
-    (Cause::DestinationOutOfOrder, 27, "DESTINATION_OUT_OF_ORDER"),
-    (Cause::InvalidNumberFormat, 28, "INVALID_NUMBER_FORMAT"),
-    (Cause::NormalUnspecified, 31, "NORMAL_UNSPECIFIED"),
-    (Cause::NormalTemporaryFailure, 41, "NORMAL_TEMPORARY_FAILURE"),
-    (Cause::SwitchCongestion, 42, "SWITCH_CONGESTION"),
-    (Cause::OriginatorCancel, 487, "ORIGINATOR_CANCEL"),
-    (Cause::SystemShutdown, 501, "SYSTEM_SHUTDOWN"),
-    (Cause::LoseRace, 502, "LOSE_RACE"),
-    (Cause::ManagerRequest, 503, "MANAGER_REQUEST"),
-    (Cause::AllottedTimeout, 602, "ALLOTTED_TIMEOUT"),
-    (Cause::PickedOff, 605, "PICKED_OFF"),
+    (UnallocatedNumber, 1, "UNALLOCATED_NUMBER"),
+    (NoRouteDestination, 3, "NO_ROUTE_DESTINATION"),
+    (NormalClearing, 16, "NORMAL_CLEARING"),
+    (UserBusy, 17, "USER_BUSY"),
+    (NoUserResponse, 18, "NO_USER_RESPONSE"),
+    (NoAnswer, 19, "NO_ANSWER"),
+    (SubscriberAbsent, 20, "SUBSCRIBER_ABSENT"),
+    (CallRejected, 21, "CALL_REJECTED"),
+    (ExchangeRoutingError, 25, "EXCHANGE_ROUTING_ERROR"),
+    (DestinationOutOfOrder, 27, "DESTINATION_OUT_OF_ORDER"),
+    (InvalidNumberFormat, 28, "INVALID_NUMBER_FORMAT"),
+    (NormalUnspecified, 31, "NORMAL_UNSPECIFIED"),
+    (NormalTemporaryFailure, 41, "NORMAL_TEMPORARY_FAILURE"),
+    (SwitchCongestion, 42, "SWITCH_CONGESTION"),
+    (OriginatorCancel, 487, "ORIGINATOR_CANCEL"),
+    (SystemShutdown, 501, "SYSTEM_SHUTDOWN"),
+    (LoseRace, 502, "LOSE_RACE"),
+    (ManagerRequest, 503, "MANAGER_REQUEST"),
+    (AllottedTimeout, 602, "ALLOTTED_TIMEOUT"),
+    (PickedOff, 605, "PICKED_OFF"),
 ];
 
 impl Cause {
-    /// Its number, of Q.850 where it is below 128.
+    /// The number of this cause.
     pub fn number(self) -> u16
         ensures { result ≡ cause_number self }
     {
         CAUSES[self as usize].1
     }
 
-    /// Its name in the table.
+    /// The name of this cause, as `NORMAL_CLEARING`.
     pub fn name(self) -> &'static str
         ensures { result.now ≡ cause_name self }
     {
         CAUSES[self as usize].2
     }
 
-    /// The one that has exactly this name, if any has it.
+    /// The cause that has exactly this name, if one has it.
     pub fn of_name(name: &[u8]) -> Option<Cause>
         ensures { result ≡ cause_of_name name.now }
     {
         named(&CAUSES, name)
     }
 
-    /// Law: numbers tell causes apart, and `of_name` undoes `name`.
+    /// Each cause with its number and its name, in the order of the numbers.
+    pub fn table() -> &'static [(Cause, u16, &'static str)]
+        ensures values { map (λ row. row.0) result.now ≡ all_causes }
+        ensures rows { map (λ row. (row.1, row.2.now)) result.now ≡ causes }
+    {
+        &CAUSES
+    }
+
+    /// Law: numbers tell causes apart, and `of_name` and `name` undo each other.
     pub fn table_law()
         ensures { IsTable causes cause_row cause_of_name }
-    {
-    }
+    {}
 }

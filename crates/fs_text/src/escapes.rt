@@ -2,14 +2,12 @@ ghost use Rattle.std.specs.Prelude.{◌≡◌, ◌<◌, ℕ, List, IfOk, All};
 ghost use Rattle.percent_encoding.specs.Percent.{percent_decode};
 ghost use Rattle.fs_text.specs.Escape.{escape, IsClean};
 
-use std::alloc::Global;
-
-use percent_encoding::{AsciiSet, CONTROLS, ascii_set, percent_encode};
-
 use crate::memory::Memory;
 use crate::text::Txt;
+use percent_encoding::{AsciiSet, CONTROLS, ascii_set, percent_encode};
+use std::alloc::Global;
 
-/// What is escaped in a value beside all that is not ASCII.
+/// What is escaped beside the bytes above 0x7E: controls and these marks.
 const MARKS: AsciiSet = ascii_set!(
     CONTROLS
         .add(b' ')
@@ -35,7 +33,10 @@ const MARKS: AsciiSet = ascii_set!(
         .add(b'}')
 );
 
-/// The text with each byte that is no plain mark, letter or digit as `%` and two upper-case digits.
+/// The text with some bytes as `%` and two upper-case hexadecimal digits, as the value of a header
+/// is written.
+///
+/// Escaped are bytes below 0x20 and above 0x7E, the space, and ``"#%&+:;<=>?@[\]^`{|}``.
 pub fn escape(alloc: Global, bytes: &[u8]) -> Result<Txt, Memory>
     ensures escaped { IfOk result (λ t. t ≡ escape bytes.now) }
     ensures clean { IfOk result (All IsClean) }
@@ -44,8 +45,7 @@ pub fn escape(alloc: Global, bytes: &[u8]) -> Result<Txt, Memory>
     Txt::of(alloc, escaped.as_bytes())
 }
 
-/// Law: an escaped text of bytes is read back by percent-decoding.
+/// Law: percent-decoding gives an escaped text back.
 pub fn escape_law()
     ensures { (text : List ℕ) → All (λ b. b < 256) text → percent_decode (escape text) ≡ text }
-{
-}
+{}

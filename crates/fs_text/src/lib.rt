@@ -2,18 +2,24 @@
 #![tactic(auto)]
 
 mod causes;
+mod core_id;
 mod escapes;
 mod event_names;
+mod headers;
 mod memory;
 mod numbers;
 mod search;
 mod states;
 mod tables;
+#[cfg(test)]
+mod tests;
 mod text;
 
 pub use causes::Cause;
+pub use core_id::CoreId;
 pub use escapes::{escape, escape_law};
 pub use event_names::EventName;
+pub use headers::Headers;
 pub use memory::Memory;
 pub use numbers::{decimal, decimal_law, read_u64};
 pub use search::place_of;

@@ -4,10 +4,9 @@ ghost use Rattle.std.specs.Fmt as fmt;
 ghost use Rattle.std.specs.List.{list_all};
 ghost use Rattle.fs_text.specs.Number.{read_u64};
 
-use std::alloc::Global;
-
 use crate::memory::Memory;
 use crate::text::Txt;
+use std::alloc::Global;
 
 /// The decimal digits of a number, without sign or leading zeros.
 pub fn decimal(alloc: Global, n: u64) -> Result<Txt, Memory>
@@ -17,9 +16,9 @@ pub fn decimal(alloc: Global, n: u64) -> Result<Txt, Memory>
     Txt::of(alloc, digits.as_bytes())
 }
 
-/// The number that 1 to 20 decimal digits say, leading zeros allowed.
+/// The number that 1 to 20 decimal digits say; leading zeros count as digits.
 ///
-/// `None` for any other text, and where the number is above `u64::MAX`.
+/// `None` for any other text, and for a number above `u64::MAX`.
 pub fn read_u64(bytes: &[u8]) -> Option<u64>
     ensures { result ≡ read_u64 bytes.now }
 {
@@ -36,8 +35,7 @@ fn has_digits_alone(bytes: &[u8]) -> bool
     bytes.iter().all(|b| b.is_ascii_digit())
 }
 
-/// Law: `read_u64` reads each number back from its `decimal` digits.
+/// Law: `read_u64` gives each number back from its `decimal` digits.
 pub fn decimal_law()
     ensures { (n : ℕ) → n < 2 ^ 64 → read_u64 (fmt.decimal n) ≡ Some n }
-{
-}
+{}

@@ -1,10 +1,9 @@
 ghost use Rattle.std.specs.Prelude.{◌≡◌, IfOk};
 
+use crate::memory::Memory;
 use std::alloc::Global;
 use std::marker::Model;
 use std::sync::ArcSlice;
-
-use crate::memory::Memory;
 
 /// A text of bytes, of any encoding. It never changes, and its copies share the bytes.
 ///

@@ -1,4 +1,4 @@
-use Rattle.std.proofs.Common.{◌≡◌, ◌∙◌, IfOk}
+use Rattle.std.proofs.Common.{◌≡◌, ◌∙◌}
 use Rattle.fs_text.specs.Escape.{escape}
 use Rattle.fs_text.proofs.EscapeLemmas.{percent_encode-is-escape, clean_from_escaped}
 use Rattle.fs_text.proofs.escapes.escape.Goals as goal

@@ -48,12 +48,12 @@ bytes_are_small (suc k) n = All-cons (λ b. b < 256) (byte_at k n) (bytes_high_f
 abbrev joined : ℕ → ℕ → ℕ
 joined high low = high * 2 ^ 64 + low
 
-pub parsed-uuid_text : (high low : ℕ) → parsed (uuid_text high low) ≡ Some (to_be_bytes w128 (joined high low))
+parsed-uuid_text : (high low : ℕ) → parsed (uuid_text high low) ≡ Some (to_be_bytes w128 (joined high low))
 unfolding uuid_text
 parsed-uuid_text high low =
     sym (parses_hyphenated lower (to_be_bytes w128 (joined high low)) (inl refl) refl (bytes_are_small 16 (joined high low)))
 
-pub high_of-uuid_text : (high low : ℕ) → high < 2 ^ 64 → low < 2 ^ 64 → high_of (uuid_text high low) ≡ Some high
+high_of-uuid_text : (high low : ℕ) → high < 2 ^ 64 → low < 2 ^ 64 → high_of (uuid_text high low) ≡ Some high
 unfolding high_of
 high_of-uuid_text high low high_fits low_fits =
     let half : joined high low % 2 ^ 128 / 2 ^ 64 ≡ high = omega arith in

@@ -11,7 +11,7 @@ pick f true x r = refl
 pick f false x r = refl
 
 -- the rows of the code find what the definition finds, where they have its names
-pub named_is : {A : Type 0} (name_of : A → List ℕ) (rows : List (A × ℕ × Bor (List ℕ))) (text : List ℕ)
+named_is : {A : Type 0} (name_of : A → List ℕ) (rows : List (A × ℕ × Bor (List ℕ))) (text : List ℕ)
     → map (λ row. row.2.now) rows ≡ map (λ row. name_of row.0) rows
     → named rows text ≡ find (λ a. bytes_eq (name_of a) text) (map (λ row. row.0) rows)
 unfolding named

@@ -14,34 +14,43 @@ use Rattle.fs_text.specs.EventName.{all_events, events, event_row, event_number,
 use Rattle.fs_text.proofs.TableLemmas.{is_table}
 
 state_by_number : (s : State) → find (λ t. state_number t == state_number s) all_states ≡ Some s
+unfolding state_row
 state_by_number CsNew = refl
 state_by_number _ = refl
 
 state_by_name : (s : State) → state_of_name (state_name s) ≡ Some s
+unfolding state_row state_of_name
 state_by_name CsNew = refl
 state_by_name _ = refl
 
 pub state_table : IsTable states state_row state_of_name
+unfolding state_of_name
 state_table = is_table state_row all_states state_by_number state_by_name
 
 cause_by_number : (c : Cause) → find (λ d. cause_number d == cause_number c) all_causes ≡ Some c
+unfolding cause_row
 cause_by_number UnallocatedNumber = refl
 cause_by_number _ = refl
 
 cause_by_name : (c : Cause) → cause_of_name (cause_name c) ≡ Some c
+unfolding cause_row cause_of_name
 cause_by_name UnallocatedNumber = refl
 cause_by_name _ = refl
 
 pub cause_table : IsTable causes cause_row cause_of_name
+unfolding cause_of_name
 cause_table = is_table cause_row all_causes cause_by_number cause_by_name
 
 event_by_number : (e : EventName) → find (λ f. event_number f == event_number e) all_events ≡ Some e
+unfolding event_row
 event_by_number Custom = refl
 event_by_number _ = refl
 
 event_by_name : (e : EventName) → event_of_name (event_name e) ≡ Some e
+unfolding event_row event_of_name
 event_by_name Custom = refl
 event_by_name _ = refl
 
 pub event_table : IsTable events event_row event_of_name
+unfolding event_of_name
 event_table = is_table event_row all_events event_by_number event_by_name

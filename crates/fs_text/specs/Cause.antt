@@ -5,7 +5,7 @@ use Rattle.fs_text.specs.declared.causes.Cause.{Cause}
 use Rattle.fs_text.specs.declared.causes.Cause.TheVariants.{UnallocatedNumber, NoRouteDestination, NormalClearing, UserBusy, NoUserResponse, NoAnswer, SubscriberAbsent, CallRejected, ExchangeRoutingError, DestinationOutOfOrder, InvalidNumberFormat, NormalUnspecified, NormalTemporaryFailure, SwitchCongestion, OriginatorCancel, SystemShutdown, LoseRace, ManagerRequest, AllottedTimeout, PickedOff}
 
 -- the number and the name of a cause
-abbrev pub cause_row : Cause → ℕ × List ℕ
+unfoldable pub cause_row : Cause → ℕ × List ℕ
 cause_row UnallocatedNumber = (1, codes "UNALLOCATED_NUMBER")
 cause_row NoRouteDestination = (3, codes "NO_ROUTE_DESTINATION")
 cause_row NormalClearing = (16, codes "NORMAL_CLEARING")
@@ -49,5 +49,5 @@ abbrev pub cause_name : Cause → List ℕ
 cause_name c = (cause_row c).1
 
 -- the cause that has this name
-abbrev pub cause_of_name : List ℕ → Option Cause
+unfoldable pub cause_of_name : List ℕ → Option Cause
 cause_of_name text = find (λ c. bytes_eq (cause_name c) text) all_causes

@@ -5,7 +5,7 @@ use Rattle.fs_text.specs.declared.event_names.EventName.{EventName}
 use Rattle.fs_text.specs.declared.event_names.EventName.TheVariants.{Custom, ChannelCreate, ChannelState, ChannelAnswer, ChannelExecute, ChannelExecuteComplete, ChannelBridge, ChannelUnbridge, ChannelPark, ChannelUnpark, ChannelHangup, ChannelHangupComplete, ChannelDestroy, BackgroundJob, Shutdown}
 
 -- the number and the name of an event name
-abbrev pub event_row : EventName → ℕ × List ℕ
+unfoldable pub event_row : EventName → ℕ × List ℕ
 event_row Custom = (1, codes "CUSTOM")
 event_row ChannelCreate = (2, codes "CHANNEL_CREATE")
 event_row ChannelState = (3, codes "CHANNEL_STATE")
@@ -43,5 +43,5 @@ abbrev pub event_name : EventName → List ℕ
 event_name e = (event_row e).1
 
 -- the event name that is written so
-abbrev pub event_of_name : List ℕ → Option EventName
+unfoldable pub event_of_name : List ℕ → Option EventName
 event_of_name text = find (λ e. bytes_eq (event_name e) text) all_events

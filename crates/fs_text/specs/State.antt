@@ -5,7 +5,7 @@ use Rattle.fs_text.specs.declared.states.State.{State}
 use Rattle.fs_text.specs.declared.states.State.TheVariants.{CsNew, CsInit, CsRouting, CsSoftExecute, CsExecute, CsExchangeMedia, CsPark, CsConsumeMedia, CsHibernate, CsReset, CsHangup, CsReporting, CsDestroy}
 
 -- the number and the name of a state
-abbrev pub state_row : State → ℕ × List ℕ
+unfoldable pub state_row : State → ℕ × List ℕ
 state_row CsNew = (0, codes "CS_NEW")
 state_row CsInit = (1, codes "CS_INIT")
 state_row CsRouting = (2, codes "CS_ROUTING")
@@ -41,5 +41,5 @@ abbrev pub state_name : State → List ℕ
 state_name s = (state_row s).1
 
 -- the state that has this name
-abbrev pub state_of_name : List ℕ → Option State
+unfoldable pub state_of_name : List ℕ → Option State
 state_of_name text = find (λ s. bytes_eq (state_name s) text) all_states

@@ -76,6 +76,7 @@ static CAUSES: [Row<Cause>; 20] = [
     (PickedOff, 605, "PICKED_OFF"),
 ];
 
+#[tactic(auto, unfolding(crate::specs::Cause::cause_row))]
 impl Cause {
     /// The number of this cause.
     pub fn number(self) -> u16

@@ -60,6 +60,7 @@ static EVENT_NAMES: [Row<EventName>; 15] = [
     (Shutdown, 15, "SHUTDOWN"),
 ];
 
+#[tactic(auto, unfolding(crate::specs::EventName::event_row))]
 impl EventName {
     /// The number of this name, from 1.
     pub fn number(self) -> u16

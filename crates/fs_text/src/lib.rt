@@ -1,4 +1,4 @@
-//! Byte texts, and what every crate above says of them.
+//! Byte texts, the tables of names and numbers, escapes, headers and identifiers.
 #![tactic(auto)]
 
 mod causes;

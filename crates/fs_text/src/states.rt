@@ -55,6 +55,7 @@ static STATES: [Row<State>; 13] = [
     (CsDestroy, 12, "CS_DESTROY"),
 ];
 
+#[tactic(auto, unfolding(crate::specs::State::state_row))]
 impl State {
     /// The number of this state.
     pub fn number(self) -> u16

@@ -1,1 +1,6 @@
+pub mod EscapeLemmas
+pub mod IdLemmas
+pub mod NumberLemmas
 pub mod Places
+pub mod TableLemmas
+pub mod TheTables

@@ -1,12 +1,27 @@
-//! Byte texts, and what every crate above says of them.
+//! Byte texts, the tables of names and numbers, escapes, headers and identifiers.
 #![tactic(auto)]
 
+mod causes;
+mod core_id;
+mod escapes;
+mod event_names;
+mod headers;
 mod memory;
 mod numbers;
 mod search;
+mod states;
+mod tables;
+#[cfg(test)]
+mod tests;
 mod text;
 
+pub use causes::Cause;
+pub use core_id::CoreId;
+pub use escapes::{escape, escape_law};
+pub use event_names::EventName;
+pub use headers::Headers;
 pub use memory::Memory;
-pub use numbers::decimal;
+pub use numbers::{decimal, decimal_law, read_u64};
 pub use search::place_of;
+pub use states::State;
 pub use text::Txt;

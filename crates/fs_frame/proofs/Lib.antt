@@ -1,0 +1,5 @@
+pub mod BlockLaws
+pub mod FormLaws
+pub mod FrontLaws
+pub mod StreamLaws
+pub mod CallLaws

@@ -1,0 +1,138 @@
+use crate::block::Block;
+use crate::front::{Front, look};
+use crate::next::Next;
+use fs_text::Memory;
+use std::alloc::Global;
+use std::marker::Model;
+
+/// How many bytes may be fed in all.
+const MOST_BYTES: usize = 65_536;
+
+/// How many bytes a new buffer has place for.
+const FIRST_BYTES: usize = 4_096;
+
+/// A buffer that cuts a stream of bytes into blocks, in whatever pieces the bytes come.
+///
+/// A contract sees it as a stream: how many bytes may still be fed, the block that was handed out last, and the
+/// bytes that were fed and not handed out.
+#[derive(Drop)]
+pub struct Blocks {
+    bytes: Vec<u8>,
+    // The block handed out last begins at `lent`, and the rest begins at `start`.
+    lent: usize,
+    start: usize,
+    // So many bytes of the rest were searched, and are neither LF nor CR.
+    plain: usize,
+    room: usize,
+}
+
+impl Model for Blocks {
+    ghost use Rattle.std.specs.Prelude.{drop, slice_range};
+    ghost use Rattle.fs_frame.specs.Stream.{Stream};
+    ghost use Rattle.fs_frame.specs.Front.{IsLaidOut};
+
+    ghost Value = { Stream };
+
+    ghost view = { λ b. record { room = b.room; last = slice_range b.bytes.items b.lent b.start; rest = drop b.start b.bytes.items } };
+
+    ghost invariant = { λ b. IsLaidOut b.bytes.items b.lent b.start b.plain };
+}
+
+impl Blocks {
+    ghost use Rattle.std.specs.Prelude.{◌≡◌, [], IfOk, OnOk, OnErr};
+    ghost use Rattle.std.specs.Borrow.{sem};
+    ghost use Rattle.std.specs.Io.BufRead.{Rests};
+    ghost use Rattle.fs_frame.specs.Stream.{fresh, fed_with, handed_out};
+    ghost use Rattle.fs_frame.specs.Next.{IsNext};
+    ghost use Rattle.fs_frame.specs.Answer.{HasLine, IsAnswer};
+    ghost use Rattle.fs_frame.specs.Front.{IsFront};
+    ghost use Rattle.fs_frame.specs.contracts.blocks.Blocks.{the_row};
+
+    /// A buffer to which nothing was fed.
+    pub fn new(alloc: Global) -> Result<Blocks, Memory>
+        ensures { IfOk result (λ b. b ≡ fresh) }
+    {
+        let bytes = Vec::with_capacity(alloc, FIRST_BYTES)?;
+        Ok(Blocks {
+            bytes,
+            lent: 0,
+            start: 0,
+            plain: 0,
+            room: MOST_BYTES,
+        })
+    }
+
+    /// Adds a piece of the stream. On want of memory the buffer stays as it was.
+    pub fn feed(&mut self, piece: &[u8]) -> Result<(), Memory>
+        ensures ok { OnOk result (self.new ≡ fed_with self.old piece.now) }
+        ensures err { OnErr result (self.new ≡ self.old) }
+    {
+        self.bytes.extend_from_slice(piece)?;
+        self.room = self.room.saturating_sub(piece.len());
+        self.let_go();
+        Ok(())
+    }
+
+    /// How many bytes may still be fed.
+    pub fn room(&self) -> usize
+        ensures { result ≡ self.now.room }
+    {
+        self.room
+    }
+
+    /// Hands out the block in front, or says whether one may still come.
+    pub fn next_block(&mut self) -> Next<'_>
+        ensures answer { IsNext self.old result }
+        ensures* after { sem 𝓛 (Rests the_row self.entry (λ new. new ≡ handed_out self.old)) }
+    {
+        let front = self.advance();
+        self.show(front)
+    }
+
+    // Lets go of what was handed out. It is moved over only once it is the greater part, so that no byte is moved
+    // often.
+    fn let_go(&mut self)
+        ensures { self.new ≡ record self.old { last = [] } }
+    {
+        let len = self.bytes.len();
+        if self.start > len / 2 {
+            self.bytes.copy_within(self.start..len, 0);
+            self.bytes.truncate(len - self.start);
+            self.start = 0;
+        }
+        self.lent = self.start;
+    }
+
+    // Goes behind the block in front, and says what stood there.
+    fn advance(&mut self) -> Front
+        ensures after { self.new ≡ handed_out self.old }
+        ensures front { IsFront self.old.rest result }
+    {
+        self.lent = self.start;
+        let front = look(&self.bytes[self.start..], self.plain);
+        match front {
+            Front::Whole { line_len } => {
+                self.start += line_len + 2;
+                self.plain = 0;
+            }
+            Front::Open { plain } => self.plain = plain,
+            Front::Spoilt => {}
+        }
+        front
+    }
+
+    // The answer, where this stood in front.
+    fn show(&self, front: Front) -> Next<'_>
+        requires { HasLine self.now.last front }
+        ensures { IsAnswer self.now front result }
+    {
+        match front {
+            Front::Whole { line_len } => Next::Block(Block::cut(
+                &self.bytes[self.lent..self.start],
+                line_len,
+            )),
+            Front::Open { .. } if self.room > 0 => Next::NeedMore,
+            _ => Next::Later,
+        }
+    }
+}

@@ -1,0 +1,3 @@
+pub mod Sides
+mod Fronts
+mod Tapes

@@ -1,0 +1,4 @@
+pub mod Counts
+pub mod Ports
+pub mod Loads
+pub mod Memory

@@ -1,0 +1,114 @@
+ghost use Rattle.std.specs.Prelude.{◌≡◌, take, IfOk};
+ghost use Rattle.std.specs.Option.{option_copied};
+ghost use Rattle.fs_ports.specs.Memory as spec;
+
+use crate::counts::raised;
+use crate::files::{Files, LOAD_LIMIT, Load};
+use fs_text::{Memory, Txt};
+use std::alloc::Global;
+use std::marker::Model;
+
+/// Files in memory. Loads that are to fail are named by their numbers, counted from 1.
+#[derive(Drop)]
+pub struct MemFiles {
+    alloc: Global,
+    held: Vec<(Txt, Txt)>,
+    failed: Vec<u64>,
+    too_large: Vec<u64>,
+    loads: u64,
+    faults: u64,
+    absences: u64,
+}
+
+impl Model for MemFiles {
+    ghost use Rattle.fs_ports.specs.Memory.{Shelf};
+
+    ghost Value = { Shelf };
+
+    ghost view = { λ f. record {
+      held = f.held.items;
+      failed = f.failed.items;
+      loads = f.loads;
+      counts = record { faults = f.faults; absences = f.absences };
+    } };
+}
+
+impl MemFiles {
+    /// Files of these names and bytes; of a name that stands twice the first counts.
+    /// `too_large` names the builds of patterns that are to find a pattern too large; as yet no
+    /// pattern is built.
+    pub fn new(
+        alloc: Global,
+        held: &[(Txt, Txt)],
+        failed: &[u64],
+        too_large: &[u64],
+    ) -> Result<MemFiles, Memory>
+        ensures { IfOk result (λ files. files ≡ record { held = held.now; failed = failed.now; loads = 0; counts = record { faults = 0; absences = 0 } }) }
+    {
+        Ok(MemFiles {
+            alloc,
+            held: copies(alloc, held)?,
+            failed: Vec::from_slice(alloc, failed)?,
+            too_large: Vec::from_slice(alloc, too_large)?,
+            loads: 0,
+            faults: 0,
+            absences: 0,
+        })
+    }
+}
+
+impl Files for MemFiles {
+    ghost use Rattle.std.specs.Prelude.{Some};
+    ghost use Rattle.fs_ports.specs.Memory.{next_of};
+
+    ghost counts = { λ f. f.counts };
+
+    ghost next_load = { λ f name. Some (next_of f name) };
+
+    fn load(&mut self, name: &Txt) -> Result<Load, Memory> {
+        let number = raised(self.loads);
+        if self.failed.contains(&number) {
+            self.loads = number;
+            self.faults = raised(self.faults);
+            return Ok(Load::Failed);
+        }
+        let Some(bytes) = bytes_of(&self.held, name.as_bytes()) else {
+            self.loads = number;
+            self.absences = raised(self.absences);
+            return Ok(Load::Absent);
+        };
+        let front = front_of(self.alloc, bytes)?;
+        self.loads = number;
+        Ok(Load::Got(front))
+    }
+}
+
+// The same files once more.
+fn copies(alloc: Global, files: &[(Txt, Txt)]) -> Result<Vec<(Txt, Txt)>, Memory>
+    ensures { IfOk result (λ copied. copied.items ≡ files.now) }
+{
+    let mut copied = Vec::with_capacity(alloc, files.len())?;
+    for (name, bytes) in files {
+        copied.push((name.copy()?, bytes.copy()?))?;
+    }
+    Ok(copied)
+}
+
+// The bytes of the first file of this name.
+fn bytes_of<'a>(files: &'a [(Txt, Txt)], name: &[u8]) -> Option<&'a Txt>
+    ensures { option_copied result ≡ spec.bytes_of files.now name.now }
+{
+    files
+        .iter()
+        .find(|file| file.0.as_bytes() == name)
+        .map(|file| &file.1)
+}
+
+// The part of a file that a load gives.
+#[tactic(auto, using(crate::proofs::Fronts::front_rules))]
+fn front_of(alloc: Global, bytes: &Txt) -> Result<Txt, Memory>
+    ensures { IfOk result (λ front. front ≡ take 1048577 bytes.now) }
+{
+    let all = bytes.as_bytes();
+    Txt::of(alloc, &all[..LOAD_LIMIT.min(all.len())])
+}

@@ -1,0 +1,51 @@
+ghost use Rattle.std.specs.Prelude.{◌≡◌, ◌<◌, ℕ, List, IfOk, All};
+ghost use Rattle.percent_encoding.specs.Percent.{percent_decode};
+ghost use Rattle.fs_text.specs.Escape.{escape, IsClean};
+
+use crate::memory::Memory;
+use crate::text::Txt;
+use percent_encoding::{AsciiSet, CONTROLS, ascii_set, percent_encode};
+use std::alloc::Global;
+
+/// What is escaped beside the bytes above 0x7E: controls and these marks.
+const MARKS: AsciiSet = ascii_set!(
+    CONTROLS
+        .add(b' ')
+        .add(b'"')
+        .add(b'#')
+        .add(b'%')
+        .add(b'&')
+        .add(b'+')
+        .add(b':')
+        .add(b';')
+        .add(b'<')
+        .add(b'=')
+        .add(b'>')
+        .add(b'?')
+        .add(b'@')
+        .add(b'[')
+        .add(b'\\')
+        .add(b']')
+        .add(b'^')
+        .add(b'`')
+        .add(b'{')
+        .add(b'|')
+        .add(b'}')
+);
+
+/// The text with some bytes as `%` and two upper-case hexadecimal digits, as the value of a header
+/// is written.
+///
+/// Escaped are bytes below 0x20 and above 0x7E, the space, and ``"#%&+:;<=>?@[\]^`{|}``.
+pub fn escape(alloc: Global, bytes: &[u8]) -> Result<Txt, Memory>
+    ensures escaped { IfOk result (λ t. t ≡ escape bytes.now) }
+    ensures clean { IfOk result (All IsClean) }
+{
+    let escaped = percent_encode(bytes, MARKS).into_cow(alloc)?;
+    Txt::of(alloc, escaped.as_bytes())
+}
+
+/// Law: percent-decoding gives an escaped text back.
+pub fn escape_law()
+    ensures { (text : List ℕ) → All (λ b. b < 256) text → percent_decode (escape text) ≡ text }
+{}

@@ -1,0 +1,68 @@
+ghost use Rattle.std.specs.Prelude.{◌≡◌, [], ◌∷◌, ◌++◌, OnOk, OnErr};
+
+use crate::memory::Memory;
+use crate::text::Txt;
+use std::alloc::Global;
+use std::marker::Model;
+
+/// A list of names and values, in order, as the headers of an event or a reply. A name may stand
+/// in it more than once.
+///
+/// A contract sees it as the list of its pairs.
+#[derive(Drop)]
+pub struct Headers {
+    pairs: Vec<(Txt, Txt)>,
+}
+
+impl Model for Headers {
+    ghost use Rattle.std.specs.Prelude.{ℕ, List};
+
+    ghost Value = { List (List ℕ × List ℕ) };
+
+    ghost view = { λ h. h.pairs.items };
+}
+
+impl Headers {
+    /// The empty list.
+    pub fn new(alloc: Global) -> Headers
+        ensures { result ≡ [] }
+    {
+        Headers {
+            pairs: Vec::new(alloc),
+        }
+    }
+
+    /// Puts a pair behind all others.
+    pub fn push(&mut self, name: Txt, value: Txt) -> Result<(), Memory>
+        ensures ok { OnOk result (self.new ≡ self.old ++ (name, value) ∷ []) }
+        ensures err { OnErr result (self.new ≡ self.old) }
+    {
+        self.pairs.push((name, value))?;
+        Ok(())
+    }
+
+    /// The pairs, in order.
+    pub fn pairs(&self) -> &[(Txt, Txt)]
+        ensures { result.now ≡ self.now }
+    {
+        self.pairs.as_slice()
+    }
+}
+
+/// The pairs of a vector, in its order; takes no memory.
+impl From<Vec<(Txt, Txt)>> for Headers {
+    ghost from_gives = { λ pairs headers. headers ≡ pairs.items };
+
+    fn from(pairs: Vec<(Txt, Txt)>) -> Headers {
+        Headers { pairs }
+    }
+}
+
+/// The vector of the pairs, in order; takes no memory.
+impl From<Headers> for Vec<(Txt, Txt)> {
+    ghost from_gives = { λ headers pairs. pairs.items ≡ headers };
+
+    fn from(headers: Headers) -> Vec<(Txt, Txt)> {
+        headers.pairs
+    }
+}

@@ -1,0 +1,7 @@
+mod JournalLaws
+mod Lines
+mod PlayLaws
+mod RunLaws
+mod SendLaws
+mod TurnLaws
+mod Words

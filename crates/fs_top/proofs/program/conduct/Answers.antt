@@ -1,0 +1,5 @@
+use Rattle.fs_top.proofs.RunLaws.{runs_usage}
+use Rattle.fs_top.proofs.program.conduct.Goals as goal
+
+pub returns-in-None : goal.returns-in-None
+returns-in-None g c = rw (← c.in-None.ensures) (runs_usage _ _ _ _)

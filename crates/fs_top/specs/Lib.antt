@@ -1,0 +1,9 @@
+pub mod Texts
+pub mod Commands
+pub mod Reading
+pub mod Switch
+pub mod Play
+pub mod Takes
+pub mod Turns
+pub mod Told
+pub mod Runs

@@ -1,0 +1,84 @@
+-- What a played connection is: its journal, what is written to it, and how it ends.
+use Rattle.std.specs.Prelude.{ℕ, ◌-◌, Bool, true, false, List, [], ◌∷◌, ◌++◌, length, if◌then◌else◌}
+use lib.ListN.{replicate}
+use Rattle.fs_frame.specs.Block.{is_later}
+use Rattle.fs_frame.specs.Blocks.{blocks_of, rest_of}
+use Rattle.fs_top.specs.Switch.{run, bytes_taken}
+use Rattle.fs_top.specs.declared.phase.Phase.{Phase}
+use Rattle.fs_top.specs.declared.phase.Phase.TheVariants.{Fresh, Ready, Ending, Closed}
+use Rattle.fs_top.specs.declared.entry.Entry.{Entry}
+use Rattle.fs_top.specs.declared.entry.Act.{Act}
+use Rattle.fs_top.specs.declared.entry.Act.TheVariants.{Arrive, Command, Take, Close}
+use Rattle.fs_top.specs.declared.entry.Closing.{Closing}
+use Rattle.fs_top.specs.declared.entry.Closing.TheVariants.{EndOfInput, Sent}
+use Rattle.fs_top.specs.declared.play.End.{End}
+use Rattle.fs_top.specs.declared.play.End.TheVariants.{Exit, Eof, ReadFault, Later}
+
+-- the journal with one more entry, at moment 0
+abbrev pub submitted : List Entry → Act → List Entry
+submitted journal act = journal ++ record { now = 0; act = act } ∷ []
+
+-- the first and only connection
+abbrev pub arrive : Act
+arrive = Arrive
+
+abbrev pub command : List ℕ → Act
+command block = Command 1 block
+
+abbrev pub take_frame : Act
+take_frame = Take 1
+
+abbrev pub close : Closing → Act
+close how = Close 1 how
+
+-- the journal after a Take for each frame that waits
+abbrev pub all_taken : List Entry → List Entry
+all_taken journal = journal ++ replicate (length (run journal).queue) (record { now = 0; act = take_frame })
+
+-- whether the connection reads no further command
+abbrev pub is_ending_phase : Phase → Bool
+is_ending_phase Fresh = false
+is_ending_phase Ready = false
+is_ending_phase Ending = true
+is_ending_phase Closed = true
+
+abbrev pub is_ending : List Entry → Bool
+is_ending journal = is_ending_phase (run journal).phase
+
+-- the journal once the connection came
+abbrev pub opened : List Entry
+opened = all_taken (submitted [] arrive)
+
+-- the journal after the next block, which an ending connection leaves unread
+abbrev pub after : List Entry → List ℕ → List Entry
+after journal block = if is_ending journal then journal else all_taken (submitted journal (command block))
+
+abbrev pub after_all : List Entry → List (List ℕ) → List Entry
+after_all journal [] = journal
+after_all journal (block ∷ blocks) = after_all (after journal block) blocks
+
+-- the journal after the end of the input
+abbrev pub input_ended : List Entry → List Entry
+input_ended journal = if is_ending journal then journal else all_taken (submitted journal (close EndOfInput))
+
+-- the journal once the connection is closed
+abbrev pub closed : List Entry → List Entry
+closed journal = submitted (input_ended journal) (close Sent)
+
+-- how the connection ends: by its last command, by input that cannot be read on, by a read that failed, or by the end of the input
+abbrev pub end_of : Bool → Bool → Bool → End
+end_of ending later read_failed = if ending then Exit else (if later then Later else (if read_failed then ReadFault else Eof))
+
+pub record Played : Type 0 where
+  pub journal : List Entry
+  pub output : List ℕ
+  pub end : End
+
+-- what these bytes of a link play, where the reading ended or failed behind them
+unfoldable pub play : List ℕ → Bool → Played
+play input read_failed =
+    let journal = after_all opened (blocks_of input) in record {
+      journal = closed journal;
+      output = bytes_taken (closed journal);
+      end = end_of (is_ending journal) (is_later (65536 - length input) (rest_of input)) read_failed;
+    }

@@ -1,0 +1,16 @@
+//! The program: what it answers to its words, over files and one link.
+#![tactic(auto)]
+
+mod commands;
+mod entry;
+mod laws;
+mod phase;
+mod play;
+mod program;
+mod replies;
+mod switch;
+#[cfg(test)]
+mod tests;
+
+pub use laws::{enters_commands_once, plays_its_frames};
+pub use program::{Status, run};

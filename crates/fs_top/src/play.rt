@@ -1,0 +1,175 @@
+ghost use Rattle.std.specs.Prelude.{◌≡◌, ◌<◌, [], IsTrue};
+ghost use Rattle.fs_ports.specs.Ports.{Input, Output};
+ghost use Rattle.fs_top.specs.Takes.{Written, Sends, EndsInput, Closes};
+ghost use Rattle.fs_top.specs.Turns.{Fills, Stands, Turns, Ends, Falls, Converses, Plays};
+ghost use Rattle.fs_top.specs.declared.play.Stop.TheVariants.{OutOfMemory};
+
+use crate::entry::Closing;
+use crate::switch::Switch;
+use fs_frame::{Blocks, Next};
+use fs_ports::{Link, Read, Sent, send_all};
+use fs_text::Memory;
+use std::alloc::Global;
+
+/// How a connection came to its end.
+#[derive(Clone, Copy, Debug, PartialEq, Eq)]
+pub(crate) enum End {
+    /// By its command `exit`.
+    Exit,
+    /// By the end of its input.
+    Eof,
+    /// By a read that failed.
+    ReadFault,
+    /// By input that is not read yet.
+    Later,
+}
+
+/// Why a connection stopped before its end.
+#[derive(Clone, Copy, Debug, PartialEq, Eq)]
+pub(crate) enum Stop {
+    OutOfMemory,
+    /// A write failed.
+    WriteFault,
+}
+
+impl From<Memory> for Stop {
+    ghost from_gives = { λ _ stop. stop ≡ OutOfMemory };
+
+    fn from(_memory: Memory) -> Stop {
+        Stop::OutOfMemory
+    }
+}
+
+// What one turn of a conversation came to.
+#[derive(Clone, Copy, Debug)]
+enum Turn {
+    GoOn,
+    Done(End),
+}
+
+// What a read came to.
+#[derive(Clone, Copy, Debug)]
+enum Filled {
+    More,
+    AtEnd,
+    ReadFailed,
+}
+
+/// Plays a whole connection over a link: it comes, its commands are read and answered, and it goes.
+pub(crate) fn play<L: Link>(alloc: Global, switch: &mut Switch, link: &mut L) -> Result<End, Stop>
+    requires waits { IsTrue (L.input link.old).waits }
+    requires empty { switch.old ≡ [] }
+    ensures { Plays (L.input link.old) (L.output link.old) (L.input link.new) (L.output link.new) switch.new result }
+{
+    let ended = converse(alloc, switch, link);
+    if let Err(Stop::WriteFault) = ended {
+        // Where memory is wanting for this entry, the write fault is answered all the same.
+        let _ = switch.close(Closing::Failed);
+    }
+    ended
+}
+
+fn converse<L: Link>(alloc: Global, switch: &mut Switch, link: &mut L) -> Result<End, Stop>
+    requires waits { IsTrue (L.input link.old).waits }
+    requires empty { switch.old ≡ [] }
+    ensures { Converses (L.input link.old) (L.output link.old) (L.input link.new) (L.output link.new) switch.new result }
+{
+    switch.arrive()?;
+    send_frames(switch, link)?;
+    let mut blocks = Blocks::new(alloc)?;
+    loop {
+        match take_turn(switch, &mut blocks, link)? {
+            Turn::GoOn => {}
+            Turn::Done(end) => {
+                finish(switch, link)?;
+                return Ok(end);
+            }
+        }
+    }
+}
+
+// Takes the next block, or reads more where none is there.
+fn take_turn<L: Link>(switch: &mut Switch, blocks: &mut Blocks, link: &mut L) -> Result<Turn, Stop>
+    requires waits { IsTrue (L.input link.old).waits }
+    ensures waits { (L.input link.new).waits ≡ (L.input link.old).waits }
+    ensures turns { (in0 : Input) (out0 : Output) → Stands in0 out0 (L.input link.old) (L.output link.old) blocks.old switch.old
+        → Turns in0 out0 (L.input link.new) (L.output link.new) blocks.new switch.new result }
+    ensures falls { Falls blocks.old blocks.new result }
+{
+    match blocks.next_block() {
+        Next::Block(block) => {
+            switch.command(&block)?;
+            send_frames(switch, link)?;
+            if switch.is_ending() {
+                Ok(Turn::Done(End::Exit))
+            } else {
+                Ok(Turn::GoOn)
+            }
+        }
+        Next::NeedMore => match fill(blocks, link)? {
+            Filled::More => Ok(Turn::GoOn),
+            Filled::AtEnd => Ok(Turn::Done(End::Eof)),
+            Filled::ReadFailed => Ok(Turn::Done(End::ReadFault)),
+        },
+        Next::Later => Ok(Turn::Done(End::Later)),
+    }
+}
+
+// Reads once, as much as there is room for.
+fn fill<L: Link>(blocks: &mut Blocks, link: &mut L) -> Result<Filled, Memory>
+    requires waits { IsTrue (L.input link.old).waits }
+    requires room { 0 < blocks.old.room }
+    ensures fills { Fills (L.input link.old) (L.input link.new) blocks.old blocks.new result }
+    ensures output { L.output link.new ≡ L.output link.old }
+{
+    let mut buf = [0; 4096];
+    let most = blocks.room().min(buf.len());
+    match link.read(&mut buf[..most]) {
+        Read::Got(n) => {
+            blocks.feed(&buf[..n])?;
+            Ok(Filled::More)
+        }
+        Read::End => Ok(Filled::AtEnd),
+        Read::Failed => Ok(Filled::ReadFailed),
+        Read::NotYet => unreachable!(),
+    }
+}
+
+// Takes and writes all frames that wait.
+fn send_frames<L: Link>(switch: &mut Switch, link: &mut L) -> Result<(), Stop>
+    ensures sends { (out0 : Output) → Written out0 (L.output link.old) switch.old
+        → Sends out0 (L.output link.new) switch.old switch.new result }
+    ensures input { L.input link.new ≡ L.input link.old }
+{
+    while let Some(frame) = switch.take()? {
+        match send_all(link, frame.as_bytes()) {
+            Sent::All => {}
+            Sent::Failed => return Err(Stop::WriteFault),
+        }
+    }
+    Ok(())
+}
+
+// Closes a connection that came to its end.
+fn finish<L: Link>(switch: &mut Switch, link: &mut L) -> Result<(), Stop>
+    ensures finishes { (out0 : Output) → Written out0 (L.output link.old) switch.old
+        → Closes out0 (L.output link.new) switch.old switch.new result }
+    ensures input { L.input link.new ≡ L.input link.old }
+{
+    end_input(switch, link)?;
+    switch.close(Closing::Sent)?;
+    Ok(())
+}
+
+// Enters the end of the input, where the connection is not ending already.
+fn end_input<L: Link>(switch: &mut Switch, link: &mut L) -> Result<(), Stop>
+    ensures ends { (out0 : Output) → Written out0 (L.output link.old) switch.old
+        → EndsInput out0 (L.output link.new) switch.old switch.new result }
+    ensures input { L.input link.new ≡ L.input link.old }
+{
+    if switch.is_ending() {
+        return Ok(());
+    }
+    switch.close(Closing::EndOfInput)?;
+    send_frames(switch, link)
+}

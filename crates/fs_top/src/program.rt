@@ -1,0 +1,194 @@
+ghost use Rattle.std.specs.Prelude.{◌≡◌, ◌↔◌, ◌++◌, List, ℕ, None, Some, IsTrue, codes};
+ghost use Rattle.std.specs.List.{list_all};
+ghost use Rattle.std.specs.Option.{option_copied};
+ghost use Rattle.fs_ports.specs.Counts as counts;
+ghost use Rattle.fs_ports.specs.Ports.{SendDid};
+ghost use Rattle.fs_ports.specs.declared.send.Sent.{Sent as AllSent};
+ghost use Rattle.fs_top.specs.Told as spec;
+ghost use Rattle.fs_top.specs.Runs.{line_of, status_of, PlaysTo, Runs, HasDocument, CountRose, IsLater};
+
+use crate::play::{End, Stop, play};
+use crate::switch::Switch;
+use fs_ports::{Files, Link, Load, Sent, Sink, send_all};
+use fs_text::{Memory, Txt};
+use std::alloc::Global;
+
+const USAGE: &str =
+    "usage: fsw check FILE | hunt FILE CONTEXT DEST | play FILE | load COUNT START | serve FILE\n";
+
+/// The status that the program ends with.
+#[derive(Clone, Copy, Debug, PartialEq, Eq)]
+pub struct Status {
+    pub code: u8,
+}
+
+// What a run came to.
+#[derive(Clone, Copy)]
+enum Outcome<'a> {
+    /// The words are of no form.
+    Usage,
+    /// The file is absent, or could not be read.
+    CannotRead { name: &'a Txt },
+    /// The file has a document, and none is read yet.
+    Document,
+    /// The connection came to its end.
+    Ended(End),
+    /// The connection stopped before its end.
+    StoppedBy(Stop),
+}
+
+/// Answers the words of the command line: `play FILE` plays one connection over the link.
+///
+/// On `err` it prints one line where the status is not 0. A fault of `err` changes no status.
+pub fn run<F: Files, L: Link, E: Sink>(
+    alloc: Global,
+    words: &[Txt],
+    files: &mut F,
+    link: &mut L,
+    err: &mut E,
+) -> Status
+    requires { IsTrue (L.input link.old).waits }
+
+    // The output, the line and the status are those that are told for these words, for what the file gave and for
+    // what was taken from the link; or a front of this output, with status 5 after a write fault and 1 for want of
+    // memory.
+    ensures told { (line : List ℕ) × (sent : AllSent)
+        × Runs (spec.file_name words.now) (F.next_load files.old) (F.counts files.old) (F.counts files.new)
+        (L.input link.old) (L.input link.new) (L.output link.old) (L.output link.new) line result.code
+        × SendDid (E.output err.old) (E.output err.new) sent line }
+
+    // Each status has its cause.
+    ensures usage { (result.code ≡ 2) ↔ (spec.file_name words.now ≡ None) }
+    ensures document { result.code ≡ 3 → HasDocument (spec.file_name words.now) (F.next_load files.old) }
+    ensures unreadable { result.code ≡ 4 → CountRose (F.counts files.old) (F.counts files.new) (L.input link.old) (L.input link.new) }
+    ensures write_fault { result.code ≡ 5 → (L.output link.new).faults ≡ counts.raised (L.output link.old).faults }
+    ensures later { result.code ≡ 10 → IsLater (L.input link.old) (L.input link.new) }
+{
+    let outcome = conduct(alloc, words, files, link);
+    say(err, outcome);
+    Status {
+        code: code_of(outcome),
+    }
+}
+
+// Does what the words say, and leaves it to the caller to print a line.
+fn conduct<'a, F: Files, L: Link>(
+    alloc: Global,
+    words: &'a [Txt],
+    files: &mut F,
+    link: &mut L,
+) -> Outcome<'a>
+    requires { IsTrue (L.input link.old).waits }
+    ensures { Runs (spec.file_name words.now) (F.next_load files.old) (F.counts files.old) (F.counts files.new)
+        (L.input link.old) (L.input link.new) (L.output link.old) (L.output link.new) (line_of result) (status_of result) }
+{
+    match file_name(words) {
+        Some(name) => play_file(alloc, name, files, link),
+        None => Outcome::Usage,
+    }
+}
+
+// Plays one connection, as the file of this name says.
+fn play_file<'a, F: Files, L: Link>(
+    alloc: Global,
+    name: &'a Txt,
+    files: &mut F,
+    link: &mut L,
+) -> Outcome<'a>
+    requires { IsTrue (L.input link.old).waits }
+    ensures { Runs (Some name.now) (F.next_load files.old) (F.counts files.old) (F.counts files.new)
+        (L.input link.old) (L.input link.new) (L.output link.old) (L.output link.new) (line_of result) (status_of result) }
+{
+    match files.load(name) {
+        Ok(Load::Got(bytes)) => {
+            if is_blank(bytes.as_bytes()) {
+                played(alloc, link)
+            } else {
+                Outcome::Document
+            }
+        }
+        Ok(Load::Absent) => Outcome::CannotRead { name },
+        Ok(Load::Failed) => Outcome::CannotRead { name },
+        Err(Memory) => Outcome::StoppedBy(Stop::OutOfMemory),
+    }
+}
+
+// Plays one connection over the link.
+fn played<'a, L: Link>(alloc: Global, link: &mut L) -> Outcome<'a>
+    requires { IsTrue (L.input link.old).waits }
+    ensures { PlaysTo (L.input link.old) (L.output link.old) (L.input link.new) (L.output link.new) result }
+{
+    let mut switch = Switch::new(alloc);
+    match play(alloc, &mut switch, link) {
+        Ok(end) => Outcome::Ended(end),
+        Err(stop) => Outcome::StoppedBy(stop),
+    }
+}
+
+// The name in the words `play FILE`.
+fn file_name(words: &[Txt]) -> Option<&Txt>
+    ensures { option_copied result ≡ spec.file_name words.now }
+{
+    match words {
+        [word, name] if word.as_bytes() == b"play".as_slice() => Some(name),
+        _ => None,
+    }
+}
+
+fn is_blank(bytes: &[u8]) -> bool
+    ensures { result ≡ list_all spec.is_blank bytes.now }
+{
+    bytes.iter().all(|byte| *byte == b' ' || *byte == b'\t' || *byte == b'\r' || *byte == b'\n')
+}
+
+fn code_of(outcome: Outcome<'_>) -> u8
+    ensures { result ≡ status_of outcome.entry }
+{
+    match outcome {
+        Outcome::Ended(End::Exit | End::Eof) => 0,
+        Outcome::StoppedBy(Stop::OutOfMemory) => 1,
+        Outcome::Usage => 2,
+        Outcome::Document => 3,
+        Outcome::CannotRead { .. } | Outcome::Ended(End::ReadFault) => 4,
+        Outcome::StoppedBy(Stop::WriteFault) => 5,
+        Outcome::Ended(End::Later) => 10,
+    }
+}
+
+// Prints the line of an outcome, if it has one.
+#[tactic(auto, unfolding(crate::specs::Told::usage_line, crate::specs::Told::document_line, crate::specs::Told::read_fault_line, crate::specs::Told::later_line, crate::specs::Told::write_fault_line, crate::specs::Told::memory_line))]
+fn say<E: Sink>(err: &mut E, outcome: Outcome<'_>) -> Sent
+    ensures { SendDid (E.output err.old) (E.output err.new) result (line_of outcome.entry) }
+{
+    match outcome {
+        Outcome::Usage => send_all(err, USAGE.as_bytes()),
+        Outcome::CannotRead { name } => say_cannot_read(err, name.as_bytes()),
+        Outcome::Document => send_all(err, b"fsw: document not read yet\n"),
+        Outcome::Ended(End::Exit | End::Eof) => send_all(err, b""),
+        Outcome::Ended(End::ReadFault) => send_all(err, b"fsw: read fault\n"),
+        Outcome::Ended(End::Later) => send_all(err, b"fsw: input not read yet\n"),
+        Outcome::StoppedBy(Stop::OutOfMemory) => send_all(err, b"fsw: out of memory\n"),
+        Outcome::StoppedBy(Stop::WriteFault) => send_all(err, b"fsw: write fault\n"),
+    }
+}
+
+// Prints that the file of this name cannot be read. It takes no memory, so it comes in parts.
+#[tactic(auto, unfolding(crate::specs::Told::cannot_read_line))]
+fn say_cannot_read<E: Sink>(err: &mut E, name: &[u8]) -> Sent
+    ensures { SendDid (E.output err.old) (E.output err.new) result (spec.cannot_read_line name.now) }
+{
+    match send_all(err, b"fsw: cannot read ") {
+        Sent::All => send_name(err, name),
+        Sent::Failed => Sent::Failed,
+    }
+}
+
+// Prints a name at the end of a line.
+fn send_name<E: Sink>(err: &mut E, name: &[u8]) -> Sent
+    ensures { SendDid (E.output err.old) (E.output err.new) result (name.now ++ codes "\n") }
+{
+    match send_all(err, name) {
+        Sent::All => send_all(err, b"\n"),
+        Sent::Failed => Sent::Failed,
+    }
+}

@@ -1,0 +1,226 @@
+use crate::run;
+use fs_ports::{MemFiles, MemLink};
+use fs_text::{Memory, Txt};
+use std::alloc::Global;
+use std::test::Fail;
+
+const REQUEST: &str = "Content-Type: auth/request\n\n";
+
+const ACCEPTED: &str = "Content-Type: command/reply\nReply-Text: +OK accepted\n\n";
+
+const HI: &str = "Content-Type: api/response\nContent-Length: 2\n\nhi";
+
+const BYE: &str = "Content-Type: command/reply\nReply-Text: +OK bye\n\n";
+
+const NOTICE: &str =
+    "Content-Type: text/disconnect-notice\nContent-Length: 67\n\nDisconnected, goodbye.\nSee you at ClueCon! http://www.cluecon.com/\n";
+
+const NOT_FOUND: &str = "Content-Type: command/reply\nReply-Text: -ERR command not found\n\n";
+
+const NO_REPLY: &str = "Content-Type: api/response\nContent-Length: 14\n\n-ERR no reply\n";
+
+const USAGE: &str =
+    "usage: fsw check FILE | hunt FILE CONTEXT DEST | play FILE | load COUNT START | serve FILE\n";
+
+const ECHO: &str = "auth ClueCon\n\napi echo hi\n\nexit\n\n";
+
+struct Case {
+    name: &'static str,
+    words: &'static [&'static str],
+    file: &'static str,
+    failed_loads: &'static [u64],
+    input: &'static str,
+    cuts: &'static [usize],
+    failed_reads: &'static [u64],
+    failed_writes: &'static [u64],
+    output: &'static [&'static str],
+    line: &'static str,
+    status: u8,
+}
+
+// A run that plays an empty file over no input.
+const QUIET: Case = Case {
+    name: "empty input",
+    words: &["play", "f"],
+    file: "",
+    failed_loads: &[],
+    input: "",
+    cuts: &[],
+    failed_reads: &[],
+    failed_writes: &[],
+    output: &[REQUEST],
+    line: "",
+    status: 0,
+};
+
+const CASES: &[Case] = &[
+    QUIET,
+    Case {
+        name: "a blank file",
+        file: " \t\r\n",
+        ..QUIET
+    },
+    Case {
+        name: "echo",
+        input: ECHO,
+        output: &[REQUEST, ACCEPTED, HI, BYE, NOTICE],
+        ..QUIET
+    },
+    Case {
+        name: "echo in pieces",
+        input: ECHO,
+        cuts: &[1, 5, 12, 13, 14, 15, 20, 26, 27, 28, 33],
+        output: &[REQUEST, ACCEPTED, HI, BYE, NOTICE],
+        ..QUIET
+    },
+    Case {
+        name: "echo without an exit",
+        input: "auth ClueCon\n\napi echo hi\n\nexit\n",
+        output: &[REQUEST, ACCEPTED, HI],
+        ..QUIET
+    },
+    Case {
+        name: "nothing is read behind an exit",
+        input: "exit now\n\nauth ClueCon\n\n\r",
+        output: &[REQUEST, BYE, NOTICE],
+        ..QUIET
+    },
+    Case {
+        name: "commands that are not known",
+        input: "api echo hi\n\nauth\n\nauth  ClueCon\n\nauth ClueCon\n\nauth ClueCon\n\nlogin\n\n",
+        output: &[
+            REQUEST, NOT_FOUND, NOT_FOUND, NOT_FOUND, ACCEPTED, NOT_FOUND, NOT_FOUND,
+        ],
+        ..QUIET
+    },
+    Case {
+        name: "api commands",
+        input: "auth ClueCon\n\napi  echo   a b \n\napi echo\n\napi nosuch 1\n\napi\n\n",
+        output: &[
+            REQUEST,
+            ACCEPTED,
+            "Content-Type: api/response\nContent-Length: 4\n\na b ",
+            NO_REPLY,
+            "Content-Type: api/response\nContent-Length: 31\n\n-ERR nosuch Command not found!\n",
+            "Content-Type: api/response\nContent-Length: 25\n\n-ERR  Command not found!\n",
+        ],
+        ..QUIET
+    },
+    Case {
+        name: "echo whose first read fails",
+        input: ECHO,
+        failed_reads: &[1],
+        line: "fsw: read fault\n",
+        status: 4,
+        ..QUIET
+    },
+    Case {
+        name: "echo whose third read fails",
+        input: ECHO,
+        cuts: &[14, 20],
+        failed_reads: &[3],
+        output: &[REQUEST, ACCEPTED],
+        line: "fsw: read fault\n",
+        status: 4,
+        ..QUIET
+    },
+    Case {
+        name: "echo whose second write fails",
+        input: ECHO,
+        failed_writes: &[2],
+        line: "fsw: write fault\n",
+        status: 5,
+        ..QUIET
+    },
+    Case {
+        name: "echo with CR LF",
+        input: "auth ClueCon\r\n\r\napi echo hi\r\n\r\nexit\r\n\r\n",
+        line: "fsw: input not read yet\n",
+        status: 10,
+        ..QUIET
+    },
+    Case {
+        name: "a header line",
+        input: "auth ClueCon\n\napi echo hi\nJob-UUID: 1\n\n",
+        output: &[REQUEST, ACCEPTED],
+        line: "fsw: input not read yet\n",
+        status: 10,
+        ..QUIET
+    },
+    Case {
+        name: "an absent file",
+        words: &["play", "nofile"],
+        output: &[],
+        line: "fsw: cannot read nofile\n",
+        status: 4,
+        ..QUIET
+    },
+    Case {
+        name: "a file that cannot be read",
+        failed_loads: &[1],
+        output: &[],
+        line: "fsw: cannot read f\n",
+        status: 4,
+        ..QUIET
+    },
+    Case {
+        name: "a file with a document",
+        file: "<document/>",
+        output: &[],
+        line: "fsw: document not read yet\n",
+        status: 3,
+        ..QUIET
+    },
+    Case {
+        name: "no words",
+        words: &[],
+        output: &[],
+        line: USAGE,
+        status: 2,
+        ..QUIET
+    },
+    Case {
+        name: "words of no form",
+        words: &["play", "f", "g"],
+        output: &[],
+        line: USAGE,
+        status: 2,
+        ..QUIET
+    },
+];
+
+fn text(alloc: Global, words: &[&str]) -> Result<Txt, Memory> {
+    let mut bytes = Vec::new(alloc);
+    for word in words {
+        bytes.extend_from_slice(word.as_bytes())?;
+    }
+    Txt::from_vec(bytes)
+}
+
+#[test]
+fn runs_answer_as_the_rows_say(rt: HostRuntime) -> Result<(), Fail> {
+    let alloc = rt.alloc();
+    for case in CASES {
+        let mut words = Vec::new(alloc);
+        for word in case.words {
+            words.push(text(alloc, &[word])?)?;
+        }
+        let held = [(text(alloc, &["f"])?, text(alloc, &[case.file])?)];
+        let mut files = MemFiles::new(alloc, &held, case.failed_loads, &[])?;
+        let mut link = MemLink::new(
+            alloc,
+            case.input.as_bytes(),
+            case.cuts,
+            case.failed_reads,
+            case.failed_writes,
+            4096,
+        )?;
+        let mut err = MemLink::new(alloc, &[], &[], &[], &[], 4096)?;
+        let status = run(alloc, &words, &mut files, &mut link, &mut err);
+        assert_eq!(rt; status.code, case.status, "{}", case.name);
+        let output = text(alloc, case.output)?;
+        assert_eq!(rt; link.written(), output.as_bytes(), "{}", case.name);
+        assert_eq!(rt; err.written(), case.line.as_bytes(), "{}", case.name);
+    }
+    Ok(())
+}

@@ -1,9 +1,8 @@
 ghost use Rattle.std.specs.Prelude.{◌≡◌, ◌<◌, is_some, IfSome};
-ghost use Rattle.std.specs.Char.{is_ascii_digit};
-ghost use Rattle.std.specs.List.{before_first, after_first, list_all, list_any};
-ghost use Rattle.fs_vars.specs.Parts.{is_colon, is_size, size_in, number_in, part_in, part_of};
+ghost use Rattle.std.specs.List.{before_first, after_first, list_any};
+ghost use Rattle.fs_vars.specs.Parts.{is_colon, size_in, number_in, part_in, part_of};
 
-use fs_text::place_of;
+use fs_text::{place_of, read_u64};
 
 /// The part of a value that a reference asks for: from the offset on, as many bytes as the length says.
 #[derive(Clone, Copy)]
@@ -71,29 +70,12 @@ fn number_in(text: &[u8]) -> Option<i32>
 }
 
 /// The number that 1 to 9 digits write.
-fn size_in(text: &[u8]) -> Option<u32>
+fn size_in(text: &[u8]) -> Option<u64>
     ensures value { result ≡ size_in text.now }
     ensures small { IfSome result (λ n. n < 1000000000) }
 {
-    if !is_size(text) {
+    if text.len() > 9 {
         return None;
     }
-    let mut size = 0;
-    for digit in text {
-        size = size * 10 + u32::from(digit - b'0');
-    }
-    Some(size)
-}
-
-/// Whether a text is 1 to 9 digits.
-fn is_size(text: &[u8]) -> bool
-    ensures { result ≡ is_size text.now }
-{
-    1 <= text.len() && text.len() <= 9 && are_digits(text)
-}
-
-fn are_digits(text: &[u8]) -> bool
-    ensures { result ≡ list_all is_ascii_digit text.now }
-{
-    text.iter().all(u8::is_ascii_digit)
+    read_u64(text)
 }

@@ -1,4 +1,5 @@
 mod JournalLaws
+mod LimitLaws
 mod Lines
 mod PlayLaws
 mod RunLaws

@@ -1,21 +1,23 @@
 -- What stands of a played connection from turn to turn, and at its end.
-use Rattle.std.specs.Prelude.{◌≡◌, ℕ, ◌-◌, ◌*◌, ◌+◌, ◌<◌, ◌≤◌, Bool, false, List, ◌++◌, length, Result, Ok, Err, ◌⊎◌, if◌then◌else◌}
+use Rattle.std.specs.Prelude.{◌≡◌, ℕ, ◌-◌, ◌*◌, ◌+◌, ◌<◌, ◌≤◌, Bool, None, List, ◌++◌, length, Result, Ok, Err, ◌⊎◌, if◌then◌else◌}
 use Rattle.std.specs.List.{AllByRecursion, concat}
 use Rattle.std.specs.Io.KnownBytes.{IsAtEnd}
 use Rattle.fs_text.specs.declared.memory.Memory.{Memory}
 use Rattle.fs_ports.specs.Counts.{raised}
-use Rattle.fs_ports.specs.Ports.{Input, Output, Reads, Writes}
-use Rattle.fs_frame.specs.Block.{IsBlock, is_later}
-use Rattle.fs_frame.specs.Blocks.{blocks_of, rest_of}
+use Rattle.fs_ports.specs.Ports.{Input, Output, Reads, Writes, Stopped}
+use Rattle.fs_frame.specs.Block.{IsBlock}
+use Rattle.fs_frame.specs.Blocks.{blocks_of}
 use Rattle.fs_frame.specs.Stream.{Stream, fed_with}
-use Rattle.fs_top.specs.Play.{opened, after_all, is_ending, end_of, play, submitted, close}
-use Rattle.fs_top.specs.Takes.{Begins, Written, StoppedBy}
+use Rattle.fs_top.specs.Switch.{bytes_taken}
+use Rattle.fs_top.specs.Play.{opened, after_all, farewell, end_of, whole_journal, play, submitted, close}
+use Rattle.fs_top.specs.Takes.{Begins, Written, Halts, StoppedBy}
 use Rattle.fs_top.specs.declared.entry.Entry.{Entry}
 use Rattle.fs_top.specs.declared.entry.Closing.TheVariants.{Failed}
-use Rattle.fs_top.specs.declared.play.End.{End}
-use Rattle.fs_top.specs.declared.play.End.TheVariants.{Eof}
+use Rattle.fs_top.specs.declared.end.End.{End}
+use Rattle.fs_top.specs.declared.end.End.TheVariants.{Eof}
 use Rattle.fs_top.specs.declared.play.Stop.{Stop}
-use Rattle.fs_top.specs.declared.play.Stop.TheVariants.{OutOfMemory, WriteFault}
+use Rattle.fs_top.specs.declared.play.Fault.{Fault}
+use Rattle.fs_top.specs.declared.play.Fault.TheVariants.{OutOfMemory, WriteFault}
 use Rattle.fs_top.specs.declared.play.Turn.{Turn}
 use Rattle.fs_top.specs.declared.play.Turn.TheVariants.{GoOn, Done}
 use Rattle.fs_top.specs.declared.play.Filled.{Filled}
@@ -37,7 +39,7 @@ pub record Stands (in0 : Input) (out0 : Output) (in1 : Input) (out1 : Output) (s
   pub read_faults : in1.faults ≡ in0.faults
   pub room : stream.room ≡ 65536 - length (concat blocks ++ stream.rest)
   pub journal_is : journal ≡ after_all opened blocks
-  pub goes_on : is_ending journal ≡ false
+  pub goes_on : farewell journal ≡ None
   pub written : Written out0 out1 journal
 
 -- the bytes that were read, and whether the reading failed behind them
@@ -52,17 +54,17 @@ pub record Ends (in0 : Input) (out0 : Output) (in1 : Input) (out1 : Output) (end
   pub has_read : HasRead in0 in1 input read_failed
   pub journal_is : journal ≡ after_all opened (blocks_of input)
   pub written : Written out0 out1 journal
-  pub end_is : end ≡ end_of (is_ending journal) (is_later (65536 - length input) (rest_of input)) read_failed
+  pub end_is : end ≡ end_of input read_failed
   pub at_end : end ≡ Eof → IsAtEnd in1.left
 
 -- the connection was closed after this end
-pub record Finishes (in0 : Input) (out0 : Output) (in1 : Input) (out1 : Output) (end : End) (journal : List Entry) : Type 0 where
+pub record Concludes (in0 : Input) (out0 : Output) (in1 : Input) (out1 : Output) (end : End) (journal : List Entry) : Type 0 where
   pub input : List ℕ
   pub read_failed : Bool
   pub has_read : HasRead in0 in1 input read_failed
-  pub journal_is : journal ≡ (play input read_failed).journal
-  pub written : Writes out0 out1 (play input read_failed).output
-  pub end_is : end ≡ (play input read_failed).end
+  pub journal_is : journal ≡ whole_journal input
+  pub written : Written out0 out1 journal
+  pub end_is : end ≡ end_of input read_failed
   pub at_end : end ≡ Eof → IsAtEnd in1.left
 
 -- the connection stopped before its end: its journal is a front of the one that was to come
@@ -70,7 +72,7 @@ pub record Stops (in0 : Input) (out0 : Output) (in1 : Input) (out1 : Output) (st
   pub input : List ℕ
   pub read_failed : Bool
   pub has_read : HasRead in0 in1 input read_failed
-  pub begins : Begins journal (play input read_failed).journal
+  pub halts : Halts stop journal (whole_journal input)
   pub stopped : StoppedBy stop out0 out1 journal
 
 -- what one turn did: the connection goes on, came to an end or stopped
@@ -91,12 +93,35 @@ Falls old new (Err stop) = Unit {0}
 
 -- what a conversation did: it was closed after its end, or stopped
 abbrev pub Converses : Input → Output → Input → Output → List Entry → Result End Stop → Type 0
-Converses in0 out0 in1 out1 journal (Ok end) = Finishes in0 out0 in1 out1 end journal
+Converses in0 out0 in1 out1 journal (Ok end) = Concludes in0 out0 in1 out1 end journal
 Converses in0 out0 in1 out1 journal (Err stop) = Stops in0 out0 in1 out1 stop journal
 
--- what a play did: after a write that failed the connection is closed as Failed, where memory was there for this entry
-abbrev pub Plays : Input → Output → Input → Output → List Entry → Result End Stop → Type 0
+-- the play came to its end
+pub record Finishes (in0 : Input) (out0 : Output) (in1 : Input) (out1 : Output) (end : End) (journal : List Entry) : Type 0 where
+  pub input : List ℕ
+  pub read_failed : Bool
+  pub has_read : HasRead in0 in1 input read_failed
+  pub journal_is : journal ≡ (play input read_failed).journal
+  pub written : Writes out0 out1 (play input read_failed).output
+  pub end_is : end ≡ (play input read_failed).end
+  pub at_end : end ≡ Eof → IsAtEnd in1.left
+
+-- memory was wanting, and the frames that were taken were written; or the last of these writes failed
+abbrev pub BrokenBy : Fault → Output → Output → List Entry → Type 0
+BrokenBy OutOfMemory old new journal = Written old new journal
+BrokenBy WriteFault old new journal = Stopped old new (bytes_taken journal)
+
+-- the play broke off before its end: its journal is a front of the one that was to come
+pub record Breaks (in0 : Input) (out0 : Output) (in1 : Input) (out1 : Output) (fault : Fault) (journal : List Entry) : Type 0 where
+  pub input : List ℕ
+  pub read_failed : Bool
+  pub has_read : HasRead in0 in1 input read_failed
+  pub begins : Begins journal (play input read_failed).journal
+  pub broken : BrokenBy fault out0 out1 journal
+
+-- what a play did: after a write that failed the connection is closed as Failed, where this entry was accepted
+abbrev pub Plays : Input → Output → Input → Output → List Entry → Result End Fault → Type 0
 Plays in0 out0 in1 out1 journal (Ok end) = Finishes in0 out0 in1 out1 end journal
-Plays in0 out0 in1 out1 journal (Err OutOfMemory) = Stops in0 out0 in1 out1 OutOfMemory journal
+Plays in0 out0 in1 out1 journal (Err OutOfMemory) = Breaks in0 out0 in1 out1 OutOfMemory journal
 Plays in0 out0 in1 out1 journal (Err WriteFault) =
-    (before : List Entry) × Stops in0 out0 in1 out1 WriteFault before × ((journal ≡ before) ⊎ (journal ≡ submitted before (close Failed)))
+    (before : List Entry) × Breaks in0 out0 in1 out1 WriteFault before × ((journal ≡ before) ⊎ (journal ≡ submitted before (close Failed)))

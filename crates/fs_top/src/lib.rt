@@ -2,11 +2,13 @@
 #![tactic(auto)]
 
 mod commands;
+mod end;
 mod entry;
 mod laws;
 mod phase;
 mod play;
 mod program;
+mod refusal;
 mod replies;
 mod switch;
 #[cfg(test)]

@@ -2,41 +2,48 @@ ghost use Rattle.std.specs.Prelude.{◌≡◌, ◌<◌, [], IsTrue};
 ghost use Rattle.fs_ports.specs.Ports.{Input, Output};
 ghost use Rattle.fs_top.specs.Takes.{Written, Sends, EndsInput, Closes};
 ghost use Rattle.fs_top.specs.Turns.{Fills, Stands, Turns, Ends, Falls, Converses, Plays};
-ghost use Rattle.fs_top.specs.declared.play.Stop.TheVariants.{OutOfMemory};
+ghost use Rattle.fs_top.specs.declared.refusal.Refusal.TheVariants.{Memory as NoMemory};
+ghost use Rattle.fs_top.specs.declared.play.Stop.TheVariants.{Refused};
 
+use crate::end::End;
 use crate::entry::Closing;
+use crate::refusal::Refusal;
 use crate::switch::Switch;
 use fs_frame::{Blocks, Next};
 use fs_ports::{Link, Read, Sent, send_all};
 use fs_text::Memory;
 use std::alloc::Global;
 
-/// How a connection came to its end.
+/// Why a play broke off before its end.
 #[derive(Clone, Copy, Debug, PartialEq, Eq)]
-pub(crate) enum End {
-    /// By its command `exit`.
-    Exit,
-    /// By the end of its input.
-    Eof,
-    /// By a read that failed.
-    ReadFault,
-    /// By input that is not read yet.
-    Later,
-}
-
-/// Why a connection stopped before its end.
-#[derive(Clone, Copy, Debug, PartialEq, Eq)]
-pub(crate) enum Stop {
+pub(crate) enum Fault {
     OutOfMemory,
     /// A write failed.
     WriteFault,
 }
 
+// Why a conversation stopped.
+#[derive(Clone, Copy, Debug)]
+enum Stop {
+    /// An entry was refused.
+    Refused(Refusal),
+    /// A write failed.
+    WriteFault,
+}
+
 impl From<Memory> for Stop {
-    ghost from_gives = { λ _ stop. stop ≡ OutOfMemory };
+    ghost from_gives = { λ _ stop. stop ≡ Refused NoMemory };
 
     fn from(_memory: Memory) -> Stop {
-        Stop::OutOfMemory
+        Stop::Refused(Refusal::Memory)
+    }
+}
+
+impl From<Refusal> for Stop {
+    ghost from_gives = { λ refusal stop. stop ≡ Refused refusal };
+
+    fn from(refusal: Refusal) -> Stop {
+        Stop::Refused(refusal)
     }
 }
 
@@ -56,17 +63,26 @@ enum Filled {
 }
 
 /// Plays a whole connection over a link: it comes, its commands are read and answered, and it goes.
-pub(crate) fn play<L: Link>(alloc: Global, switch: &mut Switch, link: &mut L) -> Result<End, Stop>
+pub(crate) fn play<L: Link>(alloc: Global, switch: &mut Switch, link: &mut L) -> Result<End, Fault>
     requires waits { IsTrue (L.input link.old).waits }
     requires empty { switch.old ≡ [] }
     ensures { Plays (L.input link.old) (L.output link.old) (L.input link.new) (L.output link.new) switch.new result }
 {
     let ended = converse(alloc, switch, link);
-    if let Err(Stop::WriteFault) = ended {
-        // Where memory is wanting for this entry, the write fault is answered all the same.
-        let _ = switch.close(Closing::Failed);
+    switch.is_within_limit();
+    match ended {
+        Ok(end) => Ok(end),
+        Err(Stop::Refused(Refusal::JournalFull { cost, limit })) => Ok(End::JournalFull {
+            cost,
+            limit,
+        }),
+        Err(Stop::Refused(Refusal::Memory)) => Err(Fault::OutOfMemory),
+        Err(Stop::WriteFault) => {
+            // Where this entry is refused, the write fault is answered all the same.
+            let _ = switch.close(Closing::Failed);
+            Err(Fault::WriteFault)
+        }
     }
-    ended
 }
 
 fn converse<L: Link>(alloc: Global, switch: &mut Switch, link: &mut L) -> Result<End, Stop>
@@ -100,10 +116,9 @@ fn take_turn<L: Link>(switch: &mut Switch, blocks: &mut Blocks, link: &mut L) ->
         Next::Block(block) => {
             switch.command(&block)?;
             send_frames(switch, link)?;
-            if switch.is_ending() {
-                Ok(Turn::Done(End::Exit))
-            } else {
-                Ok(Turn::GoOn)
+            match switch.farewell() {
+                Some(end) => Ok(Turn::Done(end)),
+                None => Ok(Turn::GoOn),
             }
         }
         Next::NeedMore => match fill(blocks, link)? {
@@ -167,7 +182,7 @@ fn end_input<L: Link>(switch: &mut Switch, link: &mut L) -> Result<(), Stop>
         → EndsInput out0 (L.output link.new) switch.old switch.new result }
     ensures input { L.input link.new ≡ L.input link.old }
 {
-    if switch.is_ending() {
+    if switch.farewell().is_some() {
         return Ok(());
     }
     switch.close(Closing::EndOfInput)?;

@@ -15,6 +15,8 @@ const BYE: &str = "Content-Type: command/reply\nReply-Text: +OK bye\n\n";
 const NOTICE: &str =
     "Content-Type: text/disconnect-notice\nContent-Length: 67\n\nDisconnected, goodbye.\nSee you at ClueCon! http://www.cluecon.com/\n";
 
+const INVALID: &str = "Content-Type: command/reply\nReply-Text: -ERR invalid\n\n";
+
 const NOT_FOUND: &str = "Content-Type: command/reply\nReply-Text: -ERR command not found\n\n";
 
 const NO_REPLY: &str = "Content-Type: api/response\nContent-Length: 14\n\n-ERR no reply\n";
@@ -87,10 +89,20 @@ const CASES: &[Case] = &[
     },
     Case {
         name: "commands that are not known",
-        input: "api echo hi\n\nauth\n\nauth  ClueCon\n\nauth ClueCon\n\nauth ClueCon\n\nlogin\n\n",
-        output: &[
-            REQUEST, NOT_FOUND, NOT_FOUND, NOT_FOUND, ACCEPTED, NOT_FOUND, NOT_FOUND,
-        ],
+        input: "api echo hi\n\nauth ClueCon\n\nauth ClueCon\n\nlogin\n\n",
+        output: &[REQUEST, NOT_FOUND, ACCEPTED, NOT_FOUND, NOT_FOUND],
+        ..QUIET
+    },
+    Case {
+        name: "a refused password",
+        input: "auth wrong\n\napi echo hi\n\n",
+        output: &[REQUEST, INVALID, NOTICE],
+        ..QUIET
+    },
+    Case {
+        name: "a password behind two spaces",
+        input: "auth  ClueCon\n\n",
+        output: &[REQUEST, INVALID, NOTICE],
         ..QUIET
     },
     Case {

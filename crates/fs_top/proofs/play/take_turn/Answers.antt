@@ -3,16 +3,17 @@ use Rattle.std.proofs.lemmas.Result.{err_from_is_err_and}
 use Rattle.fs_ports.proofs.Sides.{reads_nothing}
 use Rattle.fs_frame.specs.Stream.{Stream}
 use Rattle.fs_frame.specs.Next.{HandsOut, HandsOutNothing, bytes_of}
-use Rattle.fs_top.specs.Play.{is_ending}
-use Rattle.fs_top.specs.declared.play.Stop.TheVariants.{OutOfMemory}
+use Rattle.fs_top.specs.Play.{farewell}
 use Rattle.fs_top.proofs.SendLaws.{written-command}
-use Rattle.fs_top.proofs.TurnLaws.{stops_here, stops_behind, goes_on_behind, ends_behind, ends_between, reads_failed, room_left}
+use Rattle.fs_top.proofs.TurnLaws.{stops_reading, stops_refused, stops_behind, goes_on_behind, ends_behind, ends_between, reads_failed, room_left}
 use Rattle.fs_top.proofs.play.take_turn.Goals as goal
 
 pub returns-in_err-command-in-Block-clause-turns : goal.returns-in_err-command-in-Block-clause-turns
 returns-in_err-command-in-Block-clause-turns g c =
     let p = err_from_is_err_and c.from_residual.result c.from_residual.ensures.1 in
-    λ in0 out0 stands. rw (p.1, p.2, c.in_err-command-in-Block.ensures.err) (stops_here _ _ _ _ _ OutOfMemory _ _ [] stands (reads_nothing _) refl stands.written)
+    let block = bytes_of c.in-Block.block in
+    let hands_out = subst (λ (s : Stream). HandsOut c.args.blocks.now s block) (sym c.next_block.follows.holds-at-none) c.in-Block.ensures.answer in
+    λ in0 out0 stands. rw (p.1, p.2) (stops_refused _ _ _ _ _ _ _ c.args.switch.now _ block stands hands_out c.in_err-command-in-Block.ensures.err)
 
 pub returns-in_err-send_frames-in-Block-clause-turns : goal.returns-in_err-send_frames-in-Block-clause-turns
 returns-in_err-send_frames-in-Block-clause-turns g c =
@@ -33,21 +34,21 @@ pub returns-in_err-fill-in-NeedMore-clause-turns : goal.returns-in_err-fill-in-N
 returns-in_err-fill-in-NeedMore-clause-turns g c =
     let p = err_from_is_err_and c.from_residual-in_err-fill-in-NeedMore.result c.from_residual-in_err-fill-in-NeedMore.ensures.1 in
     let fills = c.in_err-fill-in-NeedMore.ensures.fills in
-    λ in0 out0 stands. rw (p.1, p.2, c.fill.ensures.output) (stops_here _ _ _ _ _ OutOfMemory _ _ fills.0 stands fills.1 fills.2 stands.written)
+    λ in0 out0 stands. rw (p.1, p.2, c.fill.ensures.output) (stops_reading _ _ _ _ _ _ _ fills.0 stands fills.1 fills.2)
 
-pub returns-then-is_ending-clause-turns : goal.returns-then-is_ending-clause-turns
-returns-then-is_ending-clause-turns g c =
+pub returns-in-Some-clause-turns : goal.returns-in-Some-clause-turns
+returns-in-Some-clause-turns g c =
     let block = bytes_of c.in-Block.block in
     let hands_out = subst (λ (s : Stream). HandsOut c.args.blocks.now s block) (sym c.next_block.follows.holds-at-none) c.in-Block.ensures.answer in
     let sends = rw c.in_ok-command-in-Block.ensures.ok at c.in_ok-send_frames-in-Block.ensures.sends in
     λ in0 out0 stands.
     let sent = sends out0 (written-command _ _ c.args.switch.now block stands.written) in
     rw (c.send_frames.ensures.input, sent.0)
-    (ends_behind _ _ _ _ _ _ _ c.args.switch.now block stands hands_out (rw sent.0 at sent.1)
-    (ap is_ending (sym sent.0) ∙ sym c.is_ending.ensures ∙ c.if-is_ending.true))
+    (ends_behind _ _ _ _ _ _ _ c.args.switch.now block _ stands hands_out (rw sent.0 at sent.1)
+    (ap farewell (sym sent.0) ∙ sym c.farewell.ensures ∙ c.in-Some.is))
 
-pub returns-else-is_ending-clause-turns : goal.returns-else-is_ending-clause-turns
-returns-else-is_ending-clause-turns g c =
+pub returns-in-None-clause-turns : goal.returns-in-None-clause-turns
+returns-in-None-clause-turns g c =
     let block = bytes_of c.in-Block.block in
     let hands_out = subst (λ (s : Stream). HandsOut c.args.blocks.now s block) (sym c.next_block.follows.holds-at-none) c.in-Block.ensures.answer in
     let sends = rw c.in_ok-command-in-Block.ensures.ok at c.in_ok-send_frames-in-Block.ensures.sends in
@@ -55,7 +56,7 @@ returns-else-is_ending-clause-turns g c =
     let sent = sends out0 (written-command _ _ c.args.switch.now block stands.written) in
     rw (c.send_frames.ensures.input, sent.0)
     (goes_on_behind _ _ _ _ _ _ _ c.args.switch.now block stands hands_out (rw sent.0 at sent.1)
-    (ap is_ending (sym sent.0) ∙ sym c.is_ending.ensures ∙ c.if-is_ending.false))
+    (ap farewell (sym sent.0) ∙ sym c.farewell.ensures ∙ c.in-None.is))
 
 pub returns-in-AtEnd-clause-turns : goal.returns-in-AtEnd-clause-turns
 returns-in-AtEnd-clause-turns g c =

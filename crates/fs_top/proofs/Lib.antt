@@ -1,3 +1,4 @@
+mod EndLaws
 mod JournalLaws
 mod LimitLaws
 mod Lines

@@ -1,5 +1,5 @@
 -- What a run of the program comes to, and the causes of its statuses.
-use Rattle.std.proofs.Common.{◌≡◌, ◌≢◌, ℕ, Bool, true, false, cond, IsTrue, List, [], ◌++◌, Option, None, Some, refl, sym, ap, ◌∙◌, subst, inl, inr}
+use Rattle.std.proofs.Common.{◌≡◌, ◌≢◌, ℕ, Bool, true, false, cond, IsTrue, ◌==◌, List, [], ◌++◌, length, Option, None, Some, refl, sym, ap, ◌∙◌, subst, inl, inr}
 use Rattle.std.specs.List.{list_all, concat}
 use Rattle.fs_ports.specs.Counts.{raised}
 use Rattle.fs_ports.specs.Ports.{Input, Output, Stopped}
@@ -8,17 +8,21 @@ use Rattle.fs_ports.specs.declared.files.Load.{Load}
 use Rattle.fs_ports.specs.declared.files.Load.TheVariants.{Got, Absent, Failed}
 use Rattle.fs_ports.proofs.Sides.{reads_nothing, writes_nothing, stopped_sooner}
 use Rattle.fs_top.specs.Switch.{run, taken_from, bytes_taken}
-use Rattle.fs_top.specs.Play.{play, end_of}
+use Rattle.fs_top.specs.Journal.{cost, journal_limit, is_full, accepted_from, accepted, IsFull}
+use Rattle.fs_frame.specs.Blocks.{blocks_of}
+use Rattle.fs_top.specs.Play.{farewell_of, opened, after_all, whole_journal, end_behind, end_of, end_within, play}
 use Rattle.fs_top.specs.Takes.{Begins}
 use Rattle.fs_top.specs.Turns.{HasRead}
 use Rattle.fs_top.specs.Told.{Told, told_words, told_file, told_play, refused, is_blank, is_eof, line_of_end, status_of_end, usage_line, document_line, write_fault_line, memory_line}
-use Rattle.fs_top.specs.Runs.{line_of, status_of, PlaysTo, Does, completes, fails_to_write, lacks_memory, Loaded, Runs, CountRose}
+use Rattle.fs_top.specs.Runs.{line_of, status_of, PlaysTo, Does, completes, fails_to_write, lacks_memory, Loaded, Runs, CountRose, FillsJournal}
 use Rattle.fs_top.specs.declared.entry.Entry.{Entry}
-use Rattle.fs_top.specs.declared.play.End.{End}
-use Rattle.fs_top.specs.declared.play.End.TheVariants.{Exit, Eof, ReadFault, Later}
-use Rattle.fs_top.specs.declared.play.Stop.TheVariants.{OutOfMemory, WriteFault}
+use Rattle.fs_top.specs.declared.phase.Phase.{Phase}
+use Rattle.fs_top.specs.declared.phase.Phase.TheVariants.{Fresh, Ready, Ending, Refused, Closed}
+use Rattle.fs_top.specs.declared.end.End.{End}
+use Rattle.fs_top.specs.declared.end.End.TheVariants.{Exit, AuthRefused, Eof, ReadFault, Later, JournalFull}
+use Rattle.fs_top.specs.declared.play.Fault.TheVariants.{OutOfMemory, WriteFault}
 use Rattle.fs_top.specs.declared.program.Outcome.{Outcome}
-use Rattle.fs_top.specs.declared.program.Outcome.TheVariants.{Usage, CannotRead, Document, Ended, StoppedBy as Fails}
+use Rattle.fs_top.specs.declared.program.Outcome.TheVariants.{Usage, CannotRead, Document, Ended, BrokenOff}
 use Rattle.fs_top.proofs.JournalLaws.{bytes_taken-append}
 
 -- nothing was taken from the link
@@ -101,9 +105,11 @@ output-begins input read_failed journal begins = ap bytes_taken begins.split ∙
 
 eof_is : (end : End) → IsTrue (is_eof end) → end ≡ Eof
 eof_is Exit h = absurd (cc)
+eof_is AuthRefused h = absurd (cc)
 eof_is Eof h = refl
 eof_is ReadFault h = absurd (cc)
 eof_is Later h = absurd (cc)
+eof_is (JournalFull spent limit) h = absurd (cc)
 
 -- the connection was played
 pub runs_played : (name bytes : List ℕ) (next_load : List ℕ → Option Load) (counts0 counts1 : LoadCounts) (in0 in1 : Input) (out0 out1 : Output) (outcome : Outcome) →
@@ -128,7 +134,7 @@ runs_played name bytes next_load counts0 counts1 in0 in1 out0 out1 (Ended end) t
       }));
   usage = λ none. absurd (cc);
 }
-runs_played name bytes next_load counts0 counts1 in0 in1 out0 out1 (Fails OutOfMemory) tells counted blank plays = let s = plays.1 in record {
+runs_played name bytes next_load counts0 counts1 in0 in1 out0 out1 (BrokenOff OutOfMemory) tells counted blank plays = let s = plays.1 in record {
   file = Got bytes;
   input = s.input;
   read_failed = s.read_failed;
@@ -140,13 +146,13 @@ runs_played name bytes next_load counts0 counts1 in0 in1 out0 out1 (Fails OutOfM
         front = bytes_taken plays.0;
         back = concat (taken_from (run plays.0) s.begins.more);
         split = output-begins s.input s.read_failed plays.0 s.begins;
-        written = s.stopped;
+        written = s.broken;
         line_is = refl;
         status_is = refl;
       }));
   usage = λ none. absurd (cc);
 }
-runs_played name bytes next_load counts0 counts1 in0 in1 out0 out1 (Fails WriteFault) tells counted blank plays = let s = plays.1 in record {
+runs_played name bytes next_load counts0 counts1 in0 in1 out0 out1 (BrokenOff WriteFault) tells counted blank plays = let s = plays.1 in record {
   file = Got bytes;
   input = s.input;
   read_failed = s.read_failed;
@@ -156,7 +162,7 @@ runs_played name bytes next_load counts0 counts1 in0 in1 out0 out1 (Fails WriteF
   does = subst (λ (t : Told). Does t in1 out0 out1 write_fault_line 5) (sym (told-blank name bytes s.input s.read_failed blank))
       (fails_to_write (record {
         stopped = subst (λ (xs : List ℕ). Stopped out0 out1 xs) (sym (output-begins s.input s.read_failed plays.0 s.begins))
-            (stopped_sooner out0 out1 (bytes_taken plays.0) (concat (taken_from (run plays.0) s.begins.more)) s.stopped);
+            (stopped_sooner out0 out1 (bytes_taken plays.0) (concat (taken_from (run plays.0) s.begins.more)) s.broken);
         line_is = refl;
         status_is = refl;
       }));
@@ -164,17 +170,34 @@ runs_played name bytes next_load counts0 counts1 in0 in1 out0 out1 (Fails WriteF
 }
 
 -- the count that a status of 4 shows
-unreadable_end : (end : End) (read_failed : Bool) (ending later : Bool) → end ≡ end_of ending later read_failed → status_of_end end ≡ 4 → read_failed ≡ true
-unreadable_end end true ending later is four = refl
-unreadable_end end false true later is four = absurd (cc)
-unreadable_end end false false true is four = absurd (cc)
-unreadable_end end false false false is four = absurd (cc)
+farewell_read : (phase : Phase) (end : End) → farewell_of phase ≡ Some end → status_of_end end ≡ 4 → ⊥
+farewell_read Fresh end is four = cc
+farewell_read Ready end is four = cc
+farewell_read Ending end is four = cc
+farewell_read Refused end is four = cc
+farewell_read Closed end is four = cc
+
+unreadable_behind : (last : Option End) (read_failed later : Bool) → ((end : End) → last ≡ Some end → status_of_end end ≡ 4 → ⊥) →
+    status_of_end (end_behind last later read_failed) ≡ 4 → read_failed ≡ true
+unreadable_behind (Some end) read_failed later not_read four = absurd (not_read end refl four)
+unreadable_behind None true later not_read four = refl
+unreadable_behind None false true not_read four = absurd (cc)
+unreadable_behind None false false not_read four = absurd (cc)
+
+unreadable_within : (journal whole : List Entry) (end : End) → status_of_end (end_within journal whole end) ≡ 4 → status_of_end end ≡ 4
+unreadable_within journal whole end four = by (length journal == length whole) four
+  where
+    by : (same : Bool) → status_of_end (cond same end (JournalFull (cost journal) journal_limit)) ≡ 4 → status_of_end end ≡ 4
+    by true e = e
+    by false e = absurd (cc)
 
 unreadable_play : (counts0 counts1 : LoadCounts) (in0 in1 : Input) (input : List ℕ) (read_failed : Bool) →
     HasRead in0 in1 input read_failed → status_of_end (play input read_failed).end ≡ 4 → CountRose counts0 counts1 in0 in1
 unfolding play
 unreadable_play counts0 counts1 in0 in1 input read_failed has_read four =
-    inr (inr (has_read.faults ∙ ap (λ b. cond b (raised in0.faults) in0.faults) (unreadable_end _ read_failed _ _ refl four)))
+    let last = run (after_all opened (blocks_of input)) in
+    let failed = unreadable_behind (farewell_of last.phase) read_failed _ (farewell_read last.phase) (unreadable_within _ _ _ four) in
+    inr (inr (has_read.faults ∙ ap (λ b. cond b (raised in0.faults) in0.faults) failed))
 
 unreadable_file : (name : List ℕ) (counts0 counts1 : LoadCounts) (in0 in1 : Input) (file : Load) (input : List ℕ) (read_failed : Bool) →
     Counted counts0 counts1 file → HasRead in0 in1 input read_failed → (told_file name file input read_failed).status ≡ 4 → CountRose counts0 counts1 in0 in1
@@ -201,3 +224,13 @@ cause_unreadable name next_load counts0 counts1 in0 in1 out0 out1 line status ru
     by_does (Some name) loaded (completes h) = unreadable_file name counts0 counts1 in0 in1 runs.file runs.input runs.read_failed loaded runs.has_read (sym h.status_is ∙ four)
     by_does name loaded (fails_to_write h) = let is = h.status_is in absurd (cc)
     by_does name loaded (lacks_memory h) = let is = h.status_is in absurd (cc)
+
+-- what status 8 shows
+full_within : (whole : List Entry) (end : End) → (status_of_end end ≡ 8 → ⊥) → status_of_end (end_within (accepted whole) whole end) ≡ 8 →
+    (end_within (accepted whole) whole end ≡ JournalFull (cost (accepted whole)) journal_limit) × (length (accepted whole) < length whole)
+full_within whole end not_full eight = by (length (accepted whole) == length whole) refl
+  where
+    by : (same : Bool) → (length (accepted whole) == length whole) ≡ same →
+        (cond same end (JournalFull (cost (accepted whole)) journal_limit) ≡ JournalFull (cost (accepted whole)) journal_limit) × (length (accepted whole) < length whole)
+    by true is = absurd (not_full (rw is at eight))
+    by false is = (refl, ?)

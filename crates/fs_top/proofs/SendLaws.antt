@@ -7,13 +7,13 @@ use Rattle.fs_ports.proofs.Sides.{writes_both, stopped_later}
 use Rattle.fs_top.specs.Switch.{State, step, run, phase_after, queue_after, handed, bytes_taken}
 use Rattle.fs_top.specs.Journal.{cost_of, cost, is_full, IsAccepted, IsKept, Refuses}
 use Rattle.fs_top.specs.Play.{submitted, command, take_frame, close, all_taken, is_ending, input_ended, closed}
-use Rattle.fs_top.specs.Takes.{Takes, Begins, Written, Halts, IsShort, Sends, EndsInput, Closes, StoppedBy}
+use Rattle.fs_top.specs.Takes.{Takes, Begins, Written, Halts, IsShort, Sends, EndsInput, Closes, StoppedBy, stop_of}
 use Rattle.fs_top.specs.declared.entry.Closing.{Closing}
 use Rattle.fs_top.specs.declared.entry.Closing.TheVariants.{EndOfInput, Sent}
 use Rattle.fs_top.specs.declared.refusal.Refusal.{Refusal}
-use Rattle.fs_top.specs.declared.refusal.Refusal.TheVariants.{JournalFull, Memory}
+use Rattle.fs_top.specs.declared.refusal.Refusal.TheVariants.{JournalFull as IsTooFull, Memory}
 use Rattle.fs_top.specs.declared.play.Stop.{Stop}
-use Rattle.fs_top.specs.declared.play.Stop.TheVariants.{Refused, WriteFault}
+use Rattle.fs_top.specs.declared.play.Stop.TheVariants.{JournalFull, OutOfMemory, WriteFault}
 use Rattle.fs_top.specs.declared.phase.Phase.{Phase}
 use Rattle.fs_top.specs.declared.entry.Entry.{Entry}
 use Rattle.fs_top.specs.declared.entry.Act.{Act}
@@ -39,8 +39,8 @@ pub halts-on : (stop : Stop) (journal mid whole : List Entry) → Halts stop jou
 halts-on stop journal mid whole halts begins = record { begins = begins-trans journal mid whole halts.begins begins; short = shorter_still stop halts.short }
   where
     shorter_still : (stop : Stop) → IsShort stop journal mid → IsShort stop journal whole
-    shorter_still (Refused (JournalFull spent limit)) short = let long = begins-length mid whole begins in omega (arith, long)
-    shorter_still (Refused Memory) short = tt
+    shorter_still (JournalFull spent limit) short = let long = begins-length mid whole begins in omega (arith, long)
+    shorter_still OutOfMemory short = tt
     shorter_still WriteFault short = tt
 
 -- a write that failed halts a front
@@ -49,12 +49,12 @@ halts-write journal whole begins = record { begins = begins; short = tt }
 
 -- an entry that was refused was still to come
 pub halts-refused : (out0 out1 : Output) (refusal : Refusal) (old new whole : List Entry) → Refuses old new refusal → Begins old whole → length old < length whole →
-    Written out0 out1 old → Halts (Refused refusal) new whole × StoppedBy (Refused refusal) out0 out1 new
-halts-refused out0 out1 (JournalFull spent limit) old new whole refuses begins shorter written =
-    subst (λ (j : List Entry). Halts (Refused (JournalFull spent limit)) j whole × StoppedBy (Refused (JournalFull spent limit)) out0 out1 j) (sym refuses.0)
+    Written out0 out1 old → Halts (stop_of refusal) new whole × StoppedBy (stop_of refusal) out0 out1 new
+halts-refused out0 out1 (IsTooFull spent limit) old new whole refuses begins shorter written =
+    subst (λ (j : List Entry). Halts (JournalFull spent limit) j whole × StoppedBy (JournalFull spent limit) out0 out1 j) (sym refuses.0)
     (record { begins = begins; short = shorter }, (refuses.1, written))
 halts-refused out0 out1 Memory old new whole refuses begins shorter written =
-    subst (λ (j : List Entry). Halts (Refused Memory) j whole × StoppedBy (Refused Memory) out0 out1 j) (sym refuses)
+    subst (λ (j : List Entry). Halts OutOfMemory j whole × StoppedBy OutOfMemory out0 out1 j) (sym refuses)
     (record { begins = begins; short = tt }, written)
 
 -- the journal is shorter than one with a further entry, or with a frame that waits
@@ -128,7 +128,7 @@ ends_input out0 out1 old new (Err stop) goes_on sends =
 
 -- or not, where this entry is refused
 pub ends_input_not : (out0 out1 : Output) (refusal : Refusal) (old new : List Entry) → is_ending old ≡ false → Refuses old new refusal →
-    Written out0 out1 old → EndsInput out0 out1 old new (Err (Refused refusal))
+    Written out0 out1 old → EndsInput out0 out1 old new (Err (stop_of refusal))
 ends_input_not out0 out1 refusal old new goes_on refuses written =
     let begins = subst (λ (j : List Entry). Begins (submitted old (close EndOfInput)) j) (sym (input_ended-open old goes_on)) (begins-all_taken (submitted old (close EndOfInput))) in
     halts-refused out0 out1 refusal old new (input_ended old) refuses (begins-input_ended old) (shorter-submitted old (input_ended old) (close EndOfInput) begins) written
@@ -140,7 +140,7 @@ closes out0 out1 old mid new ended is =
 
 -- or not, where this entry is refused
 pub closes_not : (out0 out1 : Output) (refusal : Refusal) (old mid new : List Entry) → EndsInput out0 out1 old mid (Ok tt) → Refuses mid new refusal →
-    Closes out0 out1 old new (Err (Refused refusal))
+    Closes out0 out1 old new (Err (stop_of refusal))
 closes_not out0 out1 refusal old mid new ended refuses =
     let begins = subst (λ (j : List Entry). Begins (submitted mid (close Sent)) j) (ap (λ j. submitted j (close Sent)) ended.0) (begins_self (submitted mid (close Sent))) in
     halts-refused out0 out1 refusal mid new (closed old) refuses (begins-trans _ _ _ (begins-submitted mid (close Sent)) begins)

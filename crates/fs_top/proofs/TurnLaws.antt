@@ -14,17 +14,16 @@ use Rattle.fs_frame.specs.Next.{HandsOut, HandsOutNothing}
 use Rattle.fs_frame.proofs.BlockLaws.{AllByRecursion-append, blocks_of-append, rest_of-append, blocks_of-no_block, rest_of-no_block, length-block}
 use Rattle.fs_top.specs.Journal.{Refuses}
 use Rattle.fs_top.specs.Play.{opened, after, after_all, farewell_of, farewell, end_behind, end_of, whole_journal, closed, submitted, arrive, command, all_taken}
-use Rattle.fs_top.specs.Takes.{Begins, Written, Halts, StoppedBy}
+use Rattle.fs_top.specs.Takes.{Begins, Written, Halts, StoppedBy, stop_of}
 use Rattle.fs_top.specs.Turns.{Stands, Ends, Stops, HasRead, Concludes, work_left}
 use Rattle.fs_top.specs.declared.entry.Entry.{Entry}
 use Rattle.fs_top.specs.declared.end.End.{End}
 use Rattle.fs_top.specs.declared.end.End.TheVariants.{Eof}
 use Rattle.fs_top.specs.declared.phase.Phase.{Phase}
-use Rattle.fs_top.specs.declared.phase.Phase.TheVariants.{Fresh, Ready, Ending, Refused as PasswordRefused, Closed}
+use Rattle.fs_top.specs.declared.phase.Phase.TheVariants.{Fresh, Ready, Ending, Refused, Closed}
 use Rattle.fs_top.specs.declared.refusal.Refusal.{Refusal}
-use Rattle.fs_top.specs.declared.refusal.Refusal.TheVariants.{Memory}
 use Rattle.fs_top.specs.declared.play.Stop.{Stop}
-use Rattle.fs_top.specs.declared.play.Stop.TheVariants.{Refused}
+use Rattle.fs_top.specs.declared.play.Stop.TheVariants.{OutOfMemory}
 use Rattle.fs_top.proofs.JournalLaws.{after-open, after_all-append, after_all-ending, begins_self, begins-trans, begins-submitted, begins-all_taken, begins-after_all, begins-closed}
 use Rattle.fs_top.proofs.SendLaws.{halts-on, halts-refused, shorter-submitted}
 
@@ -49,9 +48,9 @@ stops_short in0 in1 out0 out1 stop journal blocks rest read_failed are_blocks ha
 
 -- memory was wanting for what was read
 pub stops_reading : (in0 in1 in2 : Input) (out0 out1 : Output) (stream : Stream) (journal : List Entry) (piece : List ℕ) →
-    Stands in0 out0 in1 out1 stream journal → Reads in1 in2 piece → in2.faults ≡ in1.faults → Stops in0 out0 in2 out1 (Refused Memory) journal
+    Stands in0 out0 in1 out1 stream journal → Reads in1 in2 piece → in2.faults ≡ in1.faults → Stops in0 out0 in2 out1 OutOfMemory journal
 stops_reading in0 in1 in2 out0 out1 stream journal piece stands reads faults =
-    stops_short in0 in2 out0 out1 (Refused Memory) journal stands.blocks (stream.rest ++ piece) false stands.are_blocks
+    stops_short in0 in2 out0 out1 OutOfMemory journal stands.blocks (stream.rest ++ piece) false stands.are_blocks
     (record {
       reads = subst (λ (xs : List ℕ). Reads in0 in2 xs) (append_assoc (concat stands.blocks) stream.rest piece) (reads_both in0 in1 in2 _ piece stands.reads reads);
       faults = faults ∙ stands.read_faults;
@@ -92,7 +91,7 @@ not_eof : (phase : Phase) (end : End) → farewell_of phase ≡ Some end → end
 not_eof Fresh end is eof = cc
 not_eof Ready end is eof = cc
 not_eof Ending end is eof = cc
-not_eof PasswordRefused end is eof = cc
+not_eof Refused end is eof = cc
 not_eof Closed end is eof = cc
 
 -- the last block was answered
@@ -131,13 +130,13 @@ stops_behind in0 in1 out0 out1 out2 stop old new journal later block stands hand
 
 -- the command of a block was refused
 pub stops_refused : (in0 in1 : Input) (out0 out1 : Output) (refusal : Refusal) (old new : Stream) (journal later : List Entry) (block : List ℕ) →
-    Stands in0 out0 in1 out1 old journal → HandsOut old new block → Refuses journal later refusal → Stops in0 out0 in1 out1 (Refused refusal) later
+    Stands in0 out0 in1 out1 old journal → HandsOut old new block → Refuses journal later refusal → Stops in0 out0 in1 out1 (stop_of refusal) later
 stops_refused in0 in1 out0 out1 refusal old new journal later block stands hands_out refuses =
     let whole = all_taken (submitted journal (command block)) in
     let begins = begins-all_taken (submitted journal (command block)) in
     let halts = halts-refused out0 out1 refusal journal later whole refuses (begins-trans _ _ _ (begins-submitted journal (command block)) begins)
         (shorter-submitted journal whole (command block) begins) stands.written in
-    stops_behind in0 in1 out0 out1 out1 (Refused refusal) old new journal later block stands hands_out halts.0 halts.1
+    stops_behind in0 in1 out0 out1 out1 (stop_of refusal) old new journal later block stands hands_out halts.0 halts.1
 
 -- more was read
 pub goes_on_fed : (in0 in1 in2 : Input) (out0 out1 : Output) (old new : Stream) (journal : List Entry) (piece : List ℕ) →
@@ -250,12 +249,14 @@ pub stops_first : (in0 in1 : Input) (out0 out1 : Output) (stop : Stop) (journal 
 stops_first in0 in1 out0 out1 stop journal in_is halts stopped =
     stops_short in0 in1 out0 out1 stop journal [] [] false tt (record { reads = rw in_is (reads_nothing in0); faults = ap (λ i. i.faults) in_is }) halts stopped
 
--- nothing is written for an empty journal, nor for the coming of a connection
-pub written_first : (out0 : Output) → Written out0 out0 []
-written_first out0 = writes_nothing out0
-
+-- nothing is written for the coming of a connection
 pub written_arrive : (out0 : Output) → Written out0 out0 (submitted [] arrive)
 written_arrive out0 = writes_nothing out0
 
-pub begins_empty : (journal : List Entry) → Begins [] journal
-begins_empty journal = record { more = journal; split = refl }
+-- the connection was refused as it came
+pub stops_coming : (in0 in1 : Input) (out0 : Output) (refusal : Refusal) (journal : List Entry) →
+    in1 ≡ in0 → Refuses [] journal refusal → Stops in0 out0 in1 out0 (stop_of refusal) journal
+stops_coming in0 in1 out0 refusal journal in_is refuses =
+    let halts = halts-refused out0 out0 refusal [] journal opened refuses (record { more = opened; split = refl })
+        (shorter-submitted [] opened arrive (begins-all_taken (submitted [] arrive))) (writes_nothing out0) in
+    stops_first in0 in1 out0 out0 (stop_of refusal) journal in_is halts.0 halts.1

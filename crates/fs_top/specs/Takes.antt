@@ -5,9 +5,10 @@ use Rattle.fs_top.specs.Switch.{run, bytes_taken}
 use Rattle.fs_top.specs.Journal.{IsFull}
 use Rattle.fs_top.specs.Play.{submitted, all_taken, take_frame, input_ended, closed}
 use Rattle.fs_top.specs.declared.entry.Entry.{Entry}
-use Rattle.fs_top.specs.declared.refusal.Refusal.TheVariants.{JournalFull, Memory}
+use Rattle.fs_top.specs.declared.refusal.Refusal.{Refusal}
+use Rattle.fs_top.specs.declared.refusal.Refusal.TheVariants.{JournalFull as IsTooFull, Memory}
 use Rattle.fs_top.specs.declared.play.Stop.{Stop}
-use Rattle.fs_top.specs.declared.play.Stop.TheVariants.{Refused, WriteFault}
+use Rattle.fs_top.specs.declared.play.Stop.TheVariants.{JournalFull, OutOfMemory, WriteFault}
 
 -- no frame waited, or this one was the first and was taken
 abbrev pub Takes : List Entry → List Entry → Option (List ℕ) → Type 0
@@ -23,16 +24,21 @@ pub record Begins (journal whole : List Entry) : Type 0 where
 abbrev pub Written : Output → Output → List Entry → Type 0
 Written old new journal = Writes old new (bytes_taken journal)
 
+-- the stop by an entry that is refused
+abbrev pub stop_of : Refusal → Stop
+stop_of (IsTooFull cost limit) = JournalFull cost limit
+stop_of Memory = OutOfMemory
+
 -- why the sending stopped: an entry was refused, and the frames that were taken were written; or the last of these writes failed
 abbrev pub StoppedBy : Stop → Output → Output → List Entry → Type 0
-StoppedBy (Refused (JournalFull cost limit)) old new journal = IsFull journal cost limit × Written old new journal
-StoppedBy (Refused Memory) old new journal = Written old new journal
+StoppedBy (JournalFull cost limit) old new journal = IsFull journal cost limit × Written old new journal
+StoppedBy OutOfMemory old new journal = Written old new journal
 StoppedBy WriteFault old new journal = Stopped old new (bytes_taken journal)
 
 -- an entry that was refused since the journal is full was still to come
 abbrev pub IsShort : Stop → List Entry → List Entry → Type 0
-IsShort (Refused (JournalFull cost limit)) journal whole = length journal < length whole
-IsShort (Refused Memory) journal whole = Unit {0}
+IsShort (JournalFull cost limit) journal whole = length journal < length whole
+IsShort OutOfMemory journal whole = Unit {0}
 IsShort WriteFault journal whole = Unit {0}
 
 -- what was to become this journal stopped

@@ -1,9 +1,8 @@
 ghost use Rattle.std.specs.Prelude.{◌≡◌, ◌<◌, [], IsTrue};
 ghost use Rattle.fs_ports.specs.Ports.{Input, Output};
-ghost use Rattle.fs_top.specs.Takes.{Written, Sends, EndsInput, Closes};
+ghost use Rattle.fs_top.specs.Takes.{Written, Sends, EndsInput, Closes, stop_of};
 ghost use Rattle.fs_top.specs.Turns.{Fills, Stands, Turns, Ends, Falls, Converses, Plays};
-ghost use Rattle.fs_top.specs.declared.refusal.Refusal.TheVariants.{Memory as NoMemory};
-ghost use Rattle.fs_top.specs.declared.play.Stop.TheVariants.{Refused};
+ghost use Rattle.fs_top.specs.declared.play.Stop.TheVariants.{OutOfMemory};
 
 use crate::end::End;
 use crate::entry::Closing;
@@ -25,25 +24,32 @@ pub(crate) enum Fault {
 // Why a conversation stopped.
 #[derive(Clone, Copy, Debug)]
 enum Stop {
-    /// An entry was refused.
-    Refused(Refusal),
+    /// No further entry is accepted behind what the journal costs.
+    JournalFull {
+        cost: u64,
+        limit: u64,
+    },
+    OutOfMemory,
     /// A write failed.
     WriteFault,
 }
 
 impl From<Memory> for Stop {
-    ghost from_gives = { λ _ stop. stop ≡ Refused NoMemory };
+    ghost from_gives = { λ _ stop. stop ≡ OutOfMemory };
 
     fn from(_memory: Memory) -> Stop {
-        Stop::Refused(Refusal::Memory)
+        Stop::OutOfMemory
     }
 }
 
 impl From<Refusal> for Stop {
-    ghost from_gives = { λ refusal stop. stop ≡ Refused refusal };
+    ghost from_gives = { λ refusal stop. stop ≡ stop_of refusal };
 
     fn from(refusal: Refusal) -> Stop {
-        Stop::Refused(refusal)
+        match refusal {
+            Refusal::JournalFull { cost, limit } => Stop::JournalFull { cost, limit },
+            Refusal::Memory => Stop::OutOfMemory,
+        }
     }
 }
 
@@ -70,14 +76,14 @@ pub(crate) fn play<L: Link>(alloc: Global, switch: &mut Switch, link: &mut L) ->
 {
     let ended = converse(alloc, switch, link);
     switch.is_within_limit();
-    match ended {
-        Ok(end) => Ok(end),
-        Err(Stop::Refused(Refusal::JournalFull { cost, limit })) => Ok(End::JournalFull {
-            cost,
-            limit,
-        }),
-        Err(Stop::Refused(Refusal::Memory)) => Err(Fault::OutOfMemory),
-        Err(Stop::WriteFault) => {
+    let stop = match ended {
+        Ok(end) => return Ok(end),
+        Err(stop) => stop,
+    };
+    match stop {
+        Stop::JournalFull { cost, limit } => Ok(End::JournalFull { cost, limit }),
+        Stop::OutOfMemory => Err(Fault::OutOfMemory),
+        Stop::WriteFault => {
             // Where this entry is refused, the write fault is answered all the same.
             let _ = switch.close(Closing::Failed);
             Err(Fault::WriteFault)

@@ -1,5 +1,5 @@
-pub mod BlockLaws
+pub mod LineLaws
 pub mod FormLaws
-pub mod FrontLaws
+pub mod BlockLaws
 pub mod StreamLaws
 pub mod CallLaws

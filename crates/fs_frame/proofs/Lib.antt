@@ -3,3 +3,4 @@ pub mod FormLaws
 pub mod BlockLaws
 pub mod StreamLaws
 pub mod CallLaws
+pub mod ScanLaws

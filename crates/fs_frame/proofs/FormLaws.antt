@@ -4,8 +4,7 @@ use Rattle.std.proofs.lemmas.Bool.{le-leb, leb-true}
 use Rattle.std.proofs.lemmas.List.{append-nil, take_at, take-take, take-append-drop}
 use Rattle.std.proofs.lemmas.List.Folds.{concat-append}
 use Rattle.std.specs.List.{AllByRecursion, concat}
-use Rattle.std.specs.Option.{option_and_then}
-use Rattle.fs_frame.specs.Block.{IsLine, IsEmptyLine, IsTextLine, IsHead, IsBlock, text_of, lines_of, first_text, line_of, head_of, within_limit, front_of}
+use Rattle.fs_frame.specs.Block.{IsEmptyLine, IsTextLine, IsHead, IsBlock, text_of, lines_of, first_text, line_of, head_of, within_limit, front_of}
 use Rattle.fs_frame.proofs.LineLaws.{lines_of-line, lines_of-lines, AreLines, AreLines-lines_of, AllByRecursion-lines, head_of-parts, first_text-empties, Headed, head_of-headed}
 
 -- the parts of a head
@@ -24,11 +23,11 @@ lines_of-parts : (empties : List (List ℕ)) (command : List ℕ) (headers : Lis
     lines_of (spelling_of empties command headers end ++ more) ≡ empties ++ command ∷ (headers ++ end ∷ lines_of more)
 lines_of-parts empties command headers end more are_empty is_command are_headers is_end =
     rw (
-        grouped_behind (concat empties) command (concat headers) end more,
-        lines_of-lines empties (command ++ (concat headers ++ (end ++ more))) (AllByRecursion-lines (λ line. text_of line ≡ []) empties are_empty),
-        lines_of-line command (concat headers ++ (end ++ more)) is_command.0,
-        lines_of-lines headers (end ++ more) (AllByRecursion-lines (λ line. text_of line ≡ [] → ⊥) headers are_headers),
-        lines_of-line end more is_end.0,
+      grouped_behind (concat empties) command (concat headers) end more,
+      lines_of-lines empties (command ++ (concat headers ++ (end ++ more))) (AllByRecursion-lines (λ line. text_of line ≡ []) empties are_empty),
+      lines_of-line command (concat headers ++ (end ++ more)) is_command.0,
+      lines_of-lines headers (end ++ more) (AllByRecursion-lines (λ line. text_of line ≡ [] → ⊥) headers are_headers),
+      lines_of-line end more is_end.0,
     )
     refl
 

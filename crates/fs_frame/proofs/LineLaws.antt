@@ -1,9 +1,9 @@
 -- Lines in bytes, and heads in lines.
-use Rattle.std.proofs.Common.{◌≡◌, ◌≢◌, ℕ, ◌+◌, Bool, true, false, cond, List, [], ◌∷◌, ◌++◌, length, take, drop, Option, None, Some, ◌⊎◌, inl, inr, refl, sym, ◌∙◌, ap, one-add, append_assoc, arith, eqb}
+use Rattle.std.proofs.Common.{◌≡◌, ◌≢◌, ℕ, Bool, true, false, List, [], ◌∷◌, ◌++◌, length, Option, None, Some, ◌⊎◌, inl, inr, refl, sym, ◌∙◌, ap, one-add, append_assoc, eqb}
 use Rattle.std.proofs.lemmas.Bool.{or_parts}
 use Rattle.std.proofs.lemmas.Bool.Decides.{eqb_tells}
 use Rattle.std.proofs.lemmas.List.{take_at}
-use Rattle.std.specs.List.{AllByRecursion, concat, list_any, before_first, position_or_len}
+use Rattle.std.specs.List.{AllByRecursion, concat, list_any, position_or_len}
 use Rattle.std.specs.Option.{option_map}
 use Rattle.fs_frame.specs.Block.{is_lf, IsLine, IsEmptyLine, IsTextLine, without_cr, text_of, with_front, lines_of, has_bytes, has_text, first_text, up_to_empty, head_of}
 

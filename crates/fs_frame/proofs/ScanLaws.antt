@@ -1,6 +1,5 @@
 -- What one step of a search may conclude.
-use Rattle.std.proofs.Common.{◌≡◌, ◌≢◌, ℕ, zero, suc, ◌+◌, ◌-◌, ◌≤◌, ◌<◌, Bool, true, false, not, cond, ◌||◌, List, [], ◌∷◌, ◌++◌, length, take, drop, get_or, Option, None, Some, is_some, ◌⊎◌, inl, inr, refl, sym, ◌∙◌, ap, one-add, append_assoc, arith, length-append, eqb}
-use Rattle.std.proofs.lemmas.Bool.{or_parts}
+use Rattle.std.proofs.Common.{◌≡◌, ◌≢◌, ℕ, zero, suc, ◌+◌, ◌-◌, ◌≤◌, Bool, true, false, not, cond, ◌||◌, List, [], ◌∷◌, ◌++◌, length, take, drop, get_or, Option, None, Some, ◌⊎◌, inl, inr, refl, sym, ◌∙◌, ap, append_assoc, arith, length-append, eqb}
 use Rattle.std.proofs.lemmas.Bool.Decides.{eqb_tells}
 use Rattle.std.proofs.lemmas.List.{append-nil, take_at, drop_at, take_all, take_rest, length-take-le, take-append-drop, take-append-le, drop-append-le, length-drop}
 use Rattle.std.proofs.lemmas.List.Folds.{concat-append, list_any-append}
@@ -8,7 +7,7 @@ use Rattle.std.proofs.lemmas.List.Sums.{prefix_len-le-length}
 use Rattle.std.specs.List.{concat, list_any, position_or_len}
 use Rattle.std.specs.Option.{option_map}
 use Rattle.fs_frame.specs.Block.{is_lf, IsLine, without_cr, text_of, lines_of, has_text, first_text, line_of, up_to_empty, head_of}
-use Rattle.fs_frame.specs.Front.{part_of, command_in, command_end, IsPassed, IsScanned, GoesOn, IsLineAt, StandsHead}
+use Rattle.fs_frame.specs.Front.{part_of, IsPassed, IsScanned, GoesOn, IsLineAt, StandsHead}
 use Rattle.fs_frame.specs.declared.span.Span.{Span}
 use Rattle.fs_frame.specs.declared.scan.Scan.{Scan}
 use Rattle.fs_frame.proofs.LineLaws.{position_or_len-append, position_or_len-none, text_of-content, lines_of-line, lines_of-none, lines_of-append, has_bytes-none, has_bytes-some}
@@ -323,3 +322,77 @@ no_text content line text_len text none = rw (text, none) refl
 some_text : (content line : List ℕ) (text_len : ℕ) → text_of line ≡ take text_len content → text_len ≤ length content → text_len ≢ 0 → text_of line ≢ []
 some_text content line text_len text within some empty =
     some (omega (arith, ap length (sym text ∙ empty), length-take-le text_len content within))
+
+passed_by : (bytes : List ℕ) (scan : Scan) (text_len len : ℕ) (command : Option Span) (hand : AtHand bytes scan text_len len) → IsScanned bytes scan → scan.command ≡ command → IsPassed hand.passed command
+passed_by bytes scan text_len len command hand scanned is = rw (← is, ← hand.passed_is) scanned.is_passed
+
+-- the line ends a head
+pub ends_head : (bytes : List ℕ) (scan : Scan) (text_len len : ℕ) (span : Span) → IsScanned bytes scan → GoesOn (drop scan.passed bytes) text_len len → scan.command ≡ Some span → text_len ≡ 0 → StandsHead bytes (scan.passed + len) span
+ends_head bytes scan text_len len span scanned goes met none =
+    let hand : AtHand bytes scan text_len len = at_hand bytes scan text_len len scanned goes in
+    let is : IsPassed hand.passed (Some span) = passed_by bytes scan text_len len (Some span) hand scanned met in
+    let front : take (scan.passed + len) bytes ≡ hand.passed ++ hand.line = behind_take bytes scan text_len len hand in
+    record {
+      within = behind_within bytes scan text_len len hand;
+      head = ap (λ (bs : List ℕ). head_of (lines_of bs)) hand.split ∙ head-ended hand.passed hand.line hand.more span is hand.is_line (no_text hand.content hand.line text_len hand.text none) ∙ ap (λ (bs : List ℕ). Some bs) (sym front);
+      line_is = rw front (line_at hand.passed hand.line span is hand.is_line);
+    }
+
+-- the line is an empty one in front
+pub passes_empty : (bytes : List ℕ) (scan next : Scan) (text_len len : ℕ) → IsScanned bytes scan → GoesOn (drop scan.passed bytes) text_len len → scan.command ≡ None → text_len ≡ 0 →
+    next ≡ record { passed = scan.passed + len; searched = 0; command = None } → IsScanned bytes next × (next.passed ≡ scan.passed + len)
+passes_empty bytes scan next text_len len scanned goes met none is =
+    let hand : AtHand bytes scan text_len len = at_hand bytes scan text_len len scanned goes in
+    let passed : IsPassed (hand.passed ++ hand.line) None =
+    IsPassed-empty hand.passed hand.line (passed_by bytes scan text_len len None hand scanned met) hand.is_line (no_text hand.content hand.line text_len hand.text none) in
+    rw is (goes_behind bytes scan (record { passed = scan.passed + len; searched = 0; command = None }) text_len len hand passed refl refl, refl)
+
+-- the line is the command line
+pub passes_command : (bytes : List ℕ) (scan next : Scan) (text_len len : ℕ) → IsScanned bytes scan → GoesOn (drop scan.passed bytes) text_len len → scan.command ≡ None → text_len ≢ 0 →
+    next ≡ record { passed = scan.passed + len; searched = 0; command = Some (record { start = scan.passed; len = text_len }) } → IsScanned bytes next × (next.passed ≡ scan.passed + len)
+passes_command bytes scan next text_len len scanned goes met some is =
+    let hand : AtHand bytes scan text_len len = at_hand bytes scan text_len len scanned goes in
+    let span : Span = record { start = scan.passed; len = text_len } in
+    let width : scan.passed + text_len - scan.passed ≡ text_len = omega arith in
+    let content_len : text_len ≤ length hand.line = omega (arith, ap length hand.line_is, length-append hand.content (10 ∷ []), hand.text_within) in
+    let text : part_of (hand.passed ++ hand.line) span ≡ text_of hand.line =
+    rw (drop_at hand.passed hand.line scan.passed hand.passed_len, width) (ap (λ (bs : List ℕ). take text_len bs) hand.line_is ∙ take-append-le text_len hand.content (10 ∷ []) hand.text_within ∙ sym hand.text) in
+    let passed : IsPassed (hand.passed ++ hand.line) (Some span) =
+    IsPassed-command hand.passed hand.line span (passed_by bytes scan text_len len None hand scanned met) hand.is_line (some_text hand.content hand.line text_len hand.text hand.text_within some)
+    (omega (arith, hand.passed_len, content_len, length-append hand.passed hand.line)) text in
+    rw is (goes_behind bytes scan (record { passed = scan.passed + len; searched = 0; command = Some span }) text_len len hand passed refl refl, refl)
+
+-- the line is a header line
+pub passes_header : (bytes : List ℕ) (scan next : Scan) (text_len len : ℕ) → IsScanned bytes scan → GoesOn (drop scan.passed bytes) text_len len → scan.command ≢ None → text_len ≢ 0 →
+    next ≡ record { passed = scan.passed + len; searched = 0; command = scan.command } → IsScanned bytes next × (next.passed ≡ scan.passed + len)
+passes_header bytes scan next text_len len scanned goes met some is = rw is (step scan.command refl, refl)
+  where
+    hand : AtHand bytes scan text_len len
+    hand = at_hand bytes scan text_len len scanned goes
+
+    step : (command : Option Span) → scan.command ≡ command → IsScanned bytes (record { passed = scan.passed + len; searched = 0; command = command })
+    step None none = absurd (met none)
+    step (Some span) there =
+        let passed : IsPassed (hand.passed ++ hand.line) (Some span) =
+        IsPassed-header hand.passed hand.line span (passed_by bytes scan text_len len (Some span) hand scanned there) hand.is_line (some_text hand.content hand.line text_len hand.text hand.text_within some) in
+        goes_behind bytes scan (record { passed = scan.passed + len; searched = 0; command = Some span }) text_len len hand passed refl refl
+
+-- the bytes go on with no line, so no head ends in them
+pub searched_all : (bytes : List ℕ) (scan : Scan) → IsScanned bytes scan → list_any is_lf (drop scan.passed bytes) ≡ false →
+    IsScanned bytes (record scan { searched = length bytes - scan.passed }) × (head_of (lines_of bytes) ≡ None)
+searched_all bytes scan scanned no_lf = (
+  record {
+    within = scanned.within;
+    is_passed = scanned.is_passed;
+    searched = omega (arith, position_or_len-none is_lf (drop scan.passed bytes) no_lf, length-drop scan.passed bytes);
+  },
+  no_head,
+)
+  where
+    lines : lines_of bytes ≡ lines_of (take scan.passed bytes) ++ []
+    lines =
+        ap lines_of (sym (take-append-drop scan.passed bytes)) ∙ lines_of-append (take scan.passed bytes) (drop scan.passed bytes) scanned.is_passed.whole ∙
+        ap (λ (more : List (List ℕ)). lines_of (take scan.passed bytes) ++ more) (lines_of-none (drop scan.passed bytes) no_lf)
+
+    no_head : head_of (lines_of bytes) ≡ None
+    no_head = ap head_of (lines ∙ append-nil (lines_of (take scan.passed bytes))) ∙ scanned.is_passed.no_head

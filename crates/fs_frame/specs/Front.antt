@@ -1,5 +1,5 @@
 -- What a search of the front of some bytes finds.
-use Rattle.std.specs.Prelude.{◌≡◌, ◌+◌, ◌≤◌, ℕ, Bool, true, false, List, [], ◌∷◌, ◌++◌, Option, None, Some, is_some, length, take, drop, slice_range}
+use Rattle.std.specs.Prelude.{◌≡◌, ◌+◌, ◌≤◌, ℕ, false, List, [], ◌∷◌, ◌++◌, Option, None, Some, is_some, length, take, drop, slice_range}
 use Rattle.std.specs.List.{concat, list_any, position_or_len}
 use Rattle.fs_frame.specs.Block.{is_lf, text_of, lines_of, has_text, first_text, head_of, line_of, front_of}
 use Rattle.fs_frame.specs.declared.span.Span.{Span}

@@ -63,8 +63,8 @@ impl Scan {
             (None, _) => Front::Open {
                 scan: Scan::at(passed, Some(text)),
             },
-            (command, _) => Front::Open {
-                scan: Scan::at(passed, command),
+            _ => Front::Open {
+                scan: Scan::at(passed, self.command),
             },
         }
     }

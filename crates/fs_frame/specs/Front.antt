@@ -7,7 +7,7 @@ use Rattle.fs_frame.specs.declared.scan.Scan.{Scan}
 use Rattle.fs_frame.specs.declared.front.Front.{Front}
 use Rattle.fs_frame.specs.declared.front.Front.TheVariants.{Whole, Open}
 
--- the bytes that a block in front may have
+-- the first bytes, as many as a block may have
 unfoldable pub within_reach : List ℕ → List ℕ
 within_reach bytes = take 65536 bytes
 
@@ -20,12 +20,12 @@ abbrev pub command_in : List ℕ → Option Span → List ℕ
 command_in bytes None = []
 command_in bytes (Some span) = part_of bytes span
 
--- the part lies within the bytes
+-- where that part ends
 abbrev pub command_end : Option Span → ℕ
 command_end None = 0
 command_end (Some span) = span.start + span.len
 
--- these bytes are whole lines, no head ends among them, and the command is the first text among them
+-- these bytes are whole lines among which no head ends, and the command is the first text among them
 pub record IsPassed (passed : List ℕ) (command : Option Span) : Type 0 where
   pub whole : concat (lines_of passed) ≡ passed
   pub no_head : head_of (lines_of passed) ≡ None
@@ -45,7 +45,7 @@ pub record IsLaidOut (bytes : List ℕ) (lent start : ℕ) (scan : Scan) : Type 
   pub start_within : start ≤ length bytes
   pub is_scanned : IsScanned (within_reach (drop start bytes)) scan
 
--- the bytes go on with a line, whose content has this text in front
+-- the bytes go on with a line of this length, and so many bytes in front of it are its text
 pub record GoesOn (bytes : List ℕ) (text_len len : ℕ) : Type 0 where
   pub content : List ℕ
   pub more : List ℕ

@@ -7,7 +7,7 @@ pub enum Next<'a> {
     Block(Block<'a>),
     /// No whole block stands in front, and one may come with what is fed next.
     NeedMore,
-    /// No whole block stands in front, and none can come: more bytes are there than a block may have. So many were
-    /// looked at. Every later answer is the same.
+    /// No whole block stands in front, and none can come: more bytes are there than a block may have. `len` is the
+    /// number of bytes that were looked at. Every later answer is the same.
     TooLong { len: u64 },
 }

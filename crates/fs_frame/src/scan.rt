@@ -22,11 +22,13 @@ pub struct Scan {
     pub command: Option<Span>,
 }
 
-/// How many bytes a line and its text have.
+/// A line, as the numbers of its bytes.
 #[derive(Clone, Copy)]
 pub struct Line {
-    text_len: usize,
-    len: usize,
+    /// The bytes of its text, which come first.
+    pub text_len: usize,
+    /// All its bytes, the end of the line among them.
+    pub len: usize,
 }
 
 impl Scan {
@@ -41,7 +43,7 @@ impl Scan {
         }
     }
 
-    /// Goes behind the line that comes next, with which a head ends or not.
+    /// Goes behind the line at hand. It ends a head, or the search goes on behind it.
     pub fn behind(self, line: Line) -> Front
         requires { self.passed + line.len < 2 ^ 64 }
         ensures { (bytes : List ℕ) → IsScanned bytes self →

@@ -6,8 +6,8 @@ ghost use Rattle.fs_frame.specs.Blocks.{Splits, blocks_of, rest_of};
 ghost use Rattle.fs_frame.specs.declared.next.Next.{Next};
 ghost use Rattle.fs_frame.specs.Calls.{Call, asked, AlwaysTooLong, AreAnswered, ComeFirst, Follows, blocks_in, stream_of};
 
-/// A stream falls into blocks and a rest in exactly one way, and a head has exactly one line:
-/// the text of its command line.
+/// A stream falls into blocks and a rest in exactly one way, and a head has exactly one line: the text of its command
+/// line.
 pub fn one_reading()
     ensures some { (stream : List ℕ) → Splits stream (blocks_of stream) (rest_of stream) }
     ensures only { (stream rest : List ℕ) (blocks : List (List ℕ)) →

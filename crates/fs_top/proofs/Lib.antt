@@ -1,3 +1,4 @@
+mod ApiLaws
 mod EndLaws
 mod JournalLaws
 mod LimitLaws
@@ -6,4 +7,4 @@ mod PlayLaws
 mod RunLaws
 mod SendLaws
 mod TurnLaws
-mod Words
+mod WordLaws

@@ -4,7 +4,8 @@ use lib.ListN.{replicate}
 use Rattle.std.specs.List.{concat}
 use Rattle.fs_ports.specs.Ports.{Output, Writes, Stopped}
 use Rattle.fs_ports.proofs.Sides.{writes_both, stopped_later}
-use Rattle.fs_top.specs.Switch.{State, step, run, phase_after, queue_after, handed, bytes_taken}
+use Rattle.fs_top.specs.Switch.{State, step, run, globals_after, queued, phase_after, queue_after, handed, bytes_taken}
+use Rattle.fs_vars.specs.Variables.{Variables}
 use Rattle.fs_top.specs.Journal.{cost_of, cost, is_full, IsAccepted, IsKept, Refuses}
 use Rattle.fs_top.specs.Play.{submitted, command, take_frame, close, all_taken, is_ending, input_ended, closed}
 use Rattle.fs_top.specs.Takes.{Takes, Begins, Written, Halts, IsShort, Sends, EndsInput, Closes, StoppedBy, stop_of}
@@ -21,14 +22,31 @@ use Rattle.fs_top.proofs.JournalLaws.{entry_of, run-submitted, bytes_taken-submi
 use Rattle.fs_top.proofs.LimitLaws.{cost-submitted, accepted-submitted}
 
 -- what is kept behind one more entry
-pub kept-entered : (old : List Entry) (state : State) (spent : ℕ) (new : List Entry) (act : Act) (phase : Phase) (queue : List (List ℕ)) →
-    IsKept old state spent → is_full (cost old) ≡ false → new ≡ submitted old act →
-    phase ≡ phase_after state act → queue ≡ queue_after state act → IsKept new (record { phase = phase; queue = queue }) (spent + cost_of act)
-kept-entered old state spent new act phase queue kept free new_is phase_is queue_is = record {
-  state_is = ap run new_is ∙ run-submitted old act ∙ ap (λ s. step s (entry_of act)) kept.state_is ∙ rw (phase_is, queue_is) refl;
+pub kept-entered : (old : List Entry) (state : State) (spent : ℕ) (new : List Entry) (act : Act) (globals : Variables) (phase : Phase) (queue : List (List ℕ)) →
+    IsKept old state spent → is_full (cost old) ≡ false → new ≡ submitted old act → globals ≡ globals_after state act →
+    phase ≡ phase_after state act → queue ≡ queue_after state act → IsKept new (record { globals = globals; phase = phase; queue = queue }) (spent + cost_of act)
+kept-entered old state spent new act globals phase queue kept free new_is globals_is phase_is queue_is = record {
+  state_is = ap run new_is ∙ run-submitted old act ∙ ap (λ s. step s (entry_of act)) kept.state_is ∙ rw (globals_is, phase_is, queue_is) refl;
   cost_is = ap (λ n. n + cost_of act) kept.cost_is ∙ sym (cost-submitted old act) ∙ sym (ap cost new_is);
   accepted = subst IsAccepted (sym new_is) (accepted-submitted old act kept.accepted free);
 }
+
+-- what is kept behind an entry whose effect was worked out before
+pub kept-answered : (old now : List Entry) (globals0 globals : Variables) (phase0 phase : Phase) (queue0 queue frames : List (List ℕ)) (spent : ℕ) (new : List Entry) (act : Act) →
+    IsKept old (record { globals = globals0; phase = phase0; queue = queue0 }) spent → old ≡ now → is_full (cost now) ≡ false → new ≡ submitted old act →
+    globals ≡ globals_after (run now) act → phase ≡ phase_after (run now) act → frames ≡ queued (run now) act →
+    queue_after (run now) act ≡ (run now).queue ++ queued (run now) act → queue ≡ queue0 ++ frames →
+    IsKept new (record { globals = globals; phase = phase; queue = queue }) (spent + cost_of act)
+kept-answered old now globals0 globals phase0 phase queue0 queue frames spent new act kept same free new_is globals_is phase_is frames_is both queue_is =
+    kept-entered old (run old) spent new act globals phase queue (record { state_is = refl; cost_is = kept.cost_is; accepted = kept.accepted })
+    (rw same free) new_is (rw same globals_is) (rw same phase_is)
+    (queue_is ∙ ap (λ xs. queue0 ++ xs) frames_is ∙ ap (λ s. s.queue ++ queued (run now) act) (sym kept.state_is) ∙ ap (λ j. (run j).queue ++ queued (run now) act) same
+    ∙ sym both ∙ ap (λ j. queue_after (run j) act) (sym same))
+
+-- the globals that are kept are those of the journal
+pub kept-globals : (old now : List Entry) (globals : Variables) (phase : Phase) (queue : List (List ℕ)) (spent : ℕ) →
+    IsKept old (record { globals = globals; phase = phase; queue = queue }) spent → old ≡ now → globals ≡ (run now).globals
+kept-globals old now globals phase queue spent kept same = sym (ap (λ s. s.globals) kept.state_is) ∙ ap (λ j. (run j).globals) same
 
 -- a front is no longer than the whole
 begins-length : (journal whole : List Entry) → Begins journal whole → length journal ≤ length whole

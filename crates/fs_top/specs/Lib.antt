@@ -1,4 +1,6 @@
 pub mod Texts
+pub mod Words
+pub mod Api
 pub mod Commands
 pub mod Reading
 pub mod Switch

@@ -3,7 +3,9 @@ use Rattle.std.specs.Prelude.{ℕ, List, [], ◌∷◌, ◌++◌, take, drop}
 use Rattle.std.specs.List.{concat}
 use Rattle.fs_frame.specs.Block.{line_of}
 use Rattle.fs_top.specs.Texts.{auth_request}
-use Rattle.fs_top.specs.Commands.{answer, command_of}
+use Rattle.fs_vars.specs.Variables.{Variables}
+use Rattle.fs_vars.specs.declared.bounds.Bounds.TheVariants.{Globals}
+use Rattle.fs_top.specs.Commands.{Answer, answer, command_of}
 use Rattle.fs_top.specs.declared.phase.Phase.{Phase}
 use Rattle.fs_top.specs.declared.phase.Phase.TheVariants.{Fresh, Ending, Closed}
 use Rattle.fs_top.specs.declared.entry.Entry.{Entry}
@@ -11,28 +13,44 @@ use Rattle.fs_top.specs.declared.entry.Act.{Act}
 use Rattle.fs_top.specs.declared.entry.Act.TheVariants.{Arrive, Command, Take, Close}
 use Rattle.fs_top.specs.declared.entry.Closing.TheVariants.{EndOfInput, Sent, Failed}
 
--- the phase of the connection, and its frames that were not taken yet
+-- the globals; the phase of the connection, and its frames that were not taken yet
 pub record State : Type 0 where
+  pub globals : Variables
   pub phase : Phase
   pub queue : List (List ℕ)
 
+-- no globals
+abbrev pub no_globals : Variables
+no_globals = record { bounds = Globals; pairs = [] }
+
 -- no connection
 abbrev pub empty : State
-empty = record { phase = Closed; queue = [] }
+empty = record { globals = no_globals; phase = Closed; queue = [] }
+
+-- the answer to the command of a block
+abbrev pub answer_in : State → List ℕ → Answer
+answer_in s block = answer s.phase s.globals (command_of (line_of block))
 
 -- the phase after an act
 abbrev pub phase_after : State → Act → Phase
 phase_after s Arrive = Fresh
-phase_after s (Command conn block) = (answer s.phase (command_of (line_of block))).phase
+phase_after s (Command conn block) = (answer_in s block).phase
 phase_after s (Take conn) = s.phase
 phase_after s (Close conn EndOfInput) = Ending
 phase_after s (Close conn Sent) = Closed
 phase_after s (Close conn Failed) = Closed
 
+-- the globals after an act
+abbrev pub globals_after : State → Act → Variables
+globals_after s Arrive = s.globals
+globals_after s (Command conn block) = (answer_in s block).globals
+globals_after s (Take conn) = s.globals
+globals_after s (Close conn how) = s.globals
+
 -- the frames that an act queues
 abbrev pub queued : State → Act → List (List ℕ)
 queued s Arrive = auth_request ∷ []
-queued s (Command conn block) = (answer s.phase (command_of (line_of block))).frames
+queued s (Command conn block) = (answer_in s block).frames
 queued s (Take conn) = []
 queued s (Close conn how) = []
 
@@ -52,7 +70,7 @@ queue_after s (Close conn how) = s.queue
 
 -- the state after an entry
 abbrev pub step : State → Entry → State
-step s entry = record { phase = phase_after s entry.act; queue = queue_after s entry.act }
+step s entry = record { globals = globals_after s entry.act; phase = phase_after s entry.act; queue = queue_after s entry.act }
 
 -- the state after a journal, from a state and from the empty switch
 abbrev pub run_from : State → List Entry → State

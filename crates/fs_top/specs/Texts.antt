@@ -39,6 +39,21 @@ bye = codes "+OK bye"
 unfoldable pub not_found : List ℕ
 not_found = codes "-ERR command not found"
 
+unfoldable pub ok : List ℕ
+ok = codes "+OK\n"
+
+-- a variable was not set
+unfoldable pub limit_passed : List ℕ
+limit_passed = codes "-ERR variable limit passed\n"
+
+-- a text is too long once it is expanded
+unfoldable pub too_long_text : List ℕ
+too_long_text = codes "-ERR too long\n"
+
+-- how a command is to be written that misses a word
+unfoldable pub usage_of : List ℕ → List ℕ
+usage_of form = codes "-USAGE: " ++ form ++ codes "\n"
+
 -- what an api command with an empty answer answers
 unfoldable pub no_reply : List ℕ
 no_reply = codes "-ERR no reply\n"

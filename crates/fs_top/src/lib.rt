@@ -1,6 +1,7 @@
 //! The program: what it answers to its words, over files and one link.
 #![tactic(auto)]
 
+mod api;
 mod commands;
 mod end;
 mod entry;
@@ -13,6 +14,7 @@ mod replies;
 mod switch;
 #[cfg(test)]
 mod tests;
+mod words;
 
 pub use laws::{enters_commands_once, keeps_its_limit, plays_its_frames};
 pub use program::{Status, run};

@@ -121,7 +121,9 @@ fn played<'a, L: Link>(alloc: Global, link: &mut L) -> Outcome<'a>
     requires { IsTrue (L.input link.old).waits }
     ensures { PlaysTo (L.input link.old) (L.output link.old) (L.input link.new) (L.output link.new) result }
 {
-    let mut switch = Switch::new(alloc);
+    let Ok(mut switch) = Switch::new(alloc) else {
+        return Outcome::BrokenOff(Fault::OutOfMemory);
+    };
     match play(alloc, &mut switch, link) {
         Ok(end) => Outcome::Ended(end),
         Err(fault) => Outcome::BrokenOff(fault),

@@ -1,6 +1,6 @@
-ghost use Rattle.std.specs.Prelude.{◌≡◌, ◌<◌, [], ◌++◌, false, length, IfOk, IfErr, OnOk, OnErr};
+ghost use Rattle.std.specs.Prelude.{◌≡◌, ◌<◌, [], ◌++◌, false, length, unwrap_or, IfOk, IfErr, OnOk, OnErr};
 ghost use Rattle.fs_frame.specs.Next.{bytes_of};
-ghost use Rattle.fs_top.specs.Switch.{run, phase_after, queued, queue_after};
+ghost use Rattle.fs_top.specs.Switch.{run, globals_after, phase_after, queued, queue_after};
 ghost use Rattle.fs_top.specs.Journal.{cost, is_full, IsAccepted, Refuses};
 ghost use Rattle.fs_top.specs.Play as play;
 ghost use Rattle.fs_top.specs.Takes.{Takes};
@@ -13,6 +13,7 @@ use crate::refusal::Refusal;
 use crate::replies::auth_request;
 use fs_frame::Block;
 use fs_text::{Memory, Txt};
+use fs_vars::{Bounds, Vars};
 use std::alloc::Global;
 use std::collections::LinkedList;
 use std::marker::Model;
@@ -33,6 +34,7 @@ const LARGEST_COST: u64 = 65_600;
 #[derive(Drop)]
 pub(crate) struct Switch {
     alloc: Global,
+    globals: Vars,
     phase: Phase,
     queue: LinkedList<Txt>,
     cost: u64,
@@ -48,21 +50,22 @@ impl Model for Switch {
 
     ghost view = { λ s. s.journal.items };
 
-    ghost invariant = { λ s. IsKept s.journal.items (record { phase = s.phase; queue = s.queue }) s.cost };
+    ghost invariant = { λ s. IsKept s.journal.items (record { globals = s.globals; phase = s.phase; queue = s.queue }) s.cost };
 }
 
 impl Switch {
     /// The switch before its first entry.
-    pub(crate) fn new(alloc: Global) -> Switch
-        ensures { result ≡ [] }
+    pub(crate) fn new(alloc: Global) -> Result<Switch, Memory>
+        ensures { IfOk result (λ switch. switch ≡ []) }
     {
-        Switch {
+        Ok(Switch {
             alloc,
+            globals: Vars::new(alloc, Bounds::Globals)?,
             phase: Phase::Closed,
             queue: LinkedList::new(alloc),
             cost: 0,
             journal: Vec::new(alloc),
-        }
+        })
     }
 
     /// How the connection ends, if it reads no further command.
@@ -87,8 +90,12 @@ impl Switch {
         self.admit()?;
         let request = auth_request(self.alloc)?;
         let frames = one(self.alloc, request)?;
-        let phase = Phase::Fresh;
-        self.enter(Act::Arrive, Answer { phase, frames })?;
+        let effect = Answer {
+            phase: Phase::Fresh,
+            frames,
+            globals: None,
+        };
+        self.enter(Act::Arrive, effect)?;
         Ok(())
     }
 
@@ -100,7 +107,7 @@ impl Switch {
     {
         self.admit()?;
         let command = command_of(block.line());
-        let answer = answer_to(self.alloc, self.phase, command)?;
+        let answer = answer_to(self.alloc, self.phase, &self.globals, command)?;
         let block = Txt::of(self.alloc, block.bytes())?;
         self.enter(Act::Command { conn: FIRST, block }, answer)?;
         Ok(())
@@ -116,8 +123,12 @@ impl Switch {
             Closing::EndOfInput => Phase::Ending,
             Closing::Sent | Closing::Failed => Phase::Closed,
         };
-        let frames = LinkedList::new(self.alloc);
-        self.enter(Act::Close { conn: FIRST, how }, Answer { phase, frames })?;
+        let effect = Answer {
+            phase,
+            frames: LinkedList::new(self.alloc),
+            globals: None,
+        };
+        self.enter(Act::Close { conn: FIRST, how }, effect)?;
         Ok(())
     }
 
@@ -168,17 +179,25 @@ impl Switch {
     fn enter(&mut self, act: Act, effect: Answer) -> Result<(), Memory>
         requires admitted { is_full (cost self.old) ≡ false }
         requires phase { effect.phase ≡ phase_after (run self.old) act }
+        requires globals { unwrap_or effect.globals (run self.old).globals ≡ globals_after (run self.old) act }
         requires frames { effect.frames ≡ queued (run self.old) act }
         requires queue { queue_after (run self.old) act ≡ (run self.old).queue ++ queued (run self.old) act }
         ensures ok { OnOk result (self.new ≡ play.submitted self.old act) }
         ensures err { OnErr result (self.new ≡ self.old) }
     {
-        let Answer { phase, mut frames } = effect;
+        let Answer {
+            phase,
+            mut frames,
+            globals,
+        } = effect;
         self.journal.reserve(1)?;
         self.queue.append(&mut frames)?;
         self.cost += act.cost();
         self.journal.push_reserved(Entry { now: 0, act });
         self.phase = phase;
+        if let Some(changed) = globals {
+            self.globals = changed;
+        }
         Ok(())
     }
 }

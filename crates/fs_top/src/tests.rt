@@ -337,7 +337,7 @@ fn a_full_journal_refuses_again(rt: HostRuntime) -> Result<(), Fail> {
     let alloc = rt.alloc();
     let mut block = Vec::new(alloc);
     push_block(&mut block, "", 65_534)?;
-    let mut switch = Switch::new(alloc);
+    let mut switch = Switch::new(alloc)?;
     assert!(rt; switch.arrive().is_ok());
     let mut blocks = Blocks::new(alloc)?;
     for _ in 0..1_023 {

@@ -9,4 +9,4 @@ pub invariant_of-self-then-is_some : goal.invariant_of-self-then-is_some
 invariant_of-self-then-is_some c =
     let free : is_full (cost c.self.inside.journal.items) ≡ false = rw c.self.view_is c.requires.admitted in
     let entered = c.push_reserved.ensures.items ∙ ap (λ j. j ++ entry_of take_frame ∷ []) c.in_ok-reserve.ensures.items in
-    rw c.cost.ensures.exact (kept-entered c.self.inside.journal.items _ c.self.inside.cost _ take_frame _ _ c.self.invariant free entered refl c.pop_front-frame.ensures.rest)
+    rw c.cost.ensures.exact (kept-entered c.self.inside.journal.items _ c.self.inside.cost _ take_frame _ _ _ c.self.invariant free entered refl refl c.pop_front-frame.ensures.rest)

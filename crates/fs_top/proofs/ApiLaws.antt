@@ -1,5 +1,5 @@
 -- What a text is expanded to that knows the globals alone.
-use Rattle.std.proofs.Common.{◌≡◌, ℕ, zero, suc, ◌-◌, Bool, true, false, cond, List, [], ◌∷◌, ◌++◌, Option, None, Some, Result, IfOk, IfErr, subst, unwrap_or, length, take, append_assoc, ◌+◌, refl, sym, ap, ◌∙◌}
+use Rattle.std.proofs.Common.{◌≡◌, ℕ, zero, suc, ◌-◌, Bool, true, false, cond, [], ◌∷◌, ◌++◌, Option, None, Some, Result, IfOk, IfErr, subst, unwrap_or, length, take, append_assoc, ◌+◌, refl, sym, ap, ◌∙◌}
 use Rattle.std.specs.List.{AllByRecursion, list_any}
 use Rattle.std.specs.Prelude.{codes}
 use Rattle.fs_vars.specs.Pairs.{Text, Pairs, same_text, value_of}
@@ -44,10 +44,10 @@ front-same : (known other : Pairs) (text : Text) → ((name : Text) → known_va
 unfolding front meaning value_asked
 front-same known other text same =
     ap (λ value. cond (has_escape text) (record { text = codes "$"; len = 2 })
-      (cond (has_reference text) (record {
-        text = unwrap_or (cond (list_any is_call (asked_name (inside_of text))) None (Some (asked_of (asked_part (inside_of text)) value))) (codes "${" ++ inside_of text ++ codes "}");
-        len = length (inside_of text) + 3;
-      }) (record { text = take 1 text; len = 1 })))
+    (cond (has_reference text) (record {
+      text = unwrap_or (cond (list_any is_call (asked_name (inside_of text))) None (Some (asked_of (asked_part (inside_of text)) value))) (codes "${" ++ inside_of text ++ codes "}");
+      len = length (inside_of text) + 3;
+    }) (record { text = take 1 text; len = 1 })))
     (same (asked_name (inside_of text)))
 
 by_pieces-same : (piece other : Text → Piece) (skip : ℕ) (text : Text) → ((text : Text) → piece text ≡ other text) → by_pieces piece skip text ≡ by_pieces other skip text

@@ -1,6 +1,7 @@
 -- From a conversation to the play that its limit leaves.
-use Rattle.std.proofs.Common.{◌≡◌, ℕ, List, Result, Ok, Err, OnOk, IfErr, ◌⊎◌, inl, inr, sym, ap, ◌∙◌, subst}
+use Rattle.std.proofs.Common.{◌≡◌, ℕ, List, Result, Ok, Err, OnOk, IfErr, ◌⊎◌, inl, inr, sym, ap, ◌∙◌, subst, false, [], refl}
 use Rattle.fs_ports.specs.Ports.{Input, Output, Writes}
+use Rattle.fs_ports.proofs.Sides.{reads_nothing, writes_nothing}
 use Rattle.fs_top.specs.Switch.{bytes_taken}
 use Rattle.fs_top.specs.Journal.{cost, accepted, IsAccepted, Refuses}
 use Rattle.fs_top.specs.Play.{submitted, close, whole_journal, end_of, end_within, play}
@@ -79,3 +80,13 @@ pub closes_failed : (old new : List Entry) (result : Result (Unit {0}) Refusal) 
 closes_failed old new (Ok done) ok err = inr ok
 closes_failed old new (Err (IsTooFull spent limit)) ok err = inl err.0
 closes_failed old new (Err Memory) ok err = inl err
+
+-- a play for which memory was wanting before it began
+pub breaks_first : (in0 : Input) (out0 : Output) → Breaks in0 out0 in0 out0 LacksMemory []
+breaks_first in0 out0 = record {
+  input = [];
+  read_failed = false;
+  has_read = record { reads = reads_nothing in0; faults = refl };
+  begins = record { more = (play [] false).journal; split = refl };
+  broken = writes_nothing out0;
+}

@@ -24,6 +24,12 @@ const NOT_FOUND: &str = "Content-Type: command/reply\nReply-Text: -ERR command n
 
 const NO_REPLY: &str = "Content-Type: api/response\nContent-Length: 14\n\n-ERR no reply\n";
 
+const OK: &str = "Content-Type: api/response\nContent-Length: 4\n\n+OK\n";
+
+// A global that is set, expanded, asked for and taken out.
+const GLOBALS: &str =
+    "auth ClueCon\n\napi global_setvar x=1234567890\n\napi expand echo ${x:-4:2}\n\napi expand echo ${x:4:2}\n\napi expand echo ${x:12:1}\n\napi expand echo ${x:-20:3}\n\napi expand echo ${nosuch}\n\napi expand echo ${open\n\napi expand echo \\${x}\n\napi global_getvar\n\napi global_getvar x\n\napi global_setvar x=\n\napi global_getvar x\n\napi global_getvar\n\n";
+
 const USAGE: &str =
     "usage: fsw check FILE | hunt FILE CONTEXT DEST | play FILE | load COUNT START | serve FILE\n";
 
@@ -124,6 +130,55 @@ const CASES: &[Case] = &[
             NO_REPLY,
             "Content-Type: api/response\nContent-Length: 31\n\n-ERR nosuch Command not found!\n",
             "Content-Type: api/response\nContent-Length: 25\n\n-ERR  Command not found!\n",
+        ],
+        ..QUIET
+    },
+    Case {
+        name: "globals and expansion",
+        input: GLOBALS,
+        output: &[
+            REQUEST,
+            ACCEPTED,
+            OK,
+            "Content-Type: api/response\nContent-Length: 2\n\n78",
+            "Content-Type: api/response\nContent-Length: 2\n\n56",
+            NO_REPLY,
+            "Content-Type: api/response\nContent-Length: 3\n\n123",
+            NO_REPLY,
+            "Content-Type: api/response\nContent-Length: 6\n\n${open",
+            "Content-Type: api/response\nContent-Length: 4\n\n${x}",
+            "Content-Type: api/response\nContent-Length: 13\n\nx=1234567890\n",
+            "Content-Type: api/response\nContent-Length: 10\n\n1234567890",
+            OK,
+            NO_REPLY,
+            NO_REPLY,
+        ],
+        ..QUIET
+    },
+    Case {
+        name: "api commands that a text is expanded to",
+        input: "auth ClueCon\n\napi expand global_setvar a=echo b\n\napi expand ${a} ${a}\n\napi expand expand x\n\napi expand ${none}\n\n",
+        output: &[
+            REQUEST,
+            ACCEPTED,
+            OK,
+            "Content-Type: api/response\nContent-Length: 4\n\necho",
+            "Content-Type: api/response\nContent-Length: 31\n\n-ERR expand Command not found!\n",
+            "Content-Type: api/response\nContent-Length: 25\n\n-ERR  Command not found!\n",
+        ],
+        ..QUIET
+    },
+    Case {
+        name: "api commands with a word missing, or a name that is none",
+        input: "auth ClueCon\n\napi expand\n\napi global_setvar  \n\napi global_setvar =v\n\napi global_setvar a\n\napi global_getvar a b\n\n",
+        output: &[
+            REQUEST,
+            ACCEPTED,
+            "Content-Type: api/response\nContent-Length: 23\n\n-USAGE: [uuid:U ]text*\n",
+            "Content-Type: api/response\nContent-Length: 23\n\n-USAGE: <name>=<value>\n",
+            "Content-Type: api/response\nContent-Length: 27\n\n-ERR variable limit passed\n",
+            OK,
+            NO_REPLY,
         ],
         ..QUIET
     },

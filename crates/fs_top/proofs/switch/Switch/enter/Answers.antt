@@ -16,4 +16,4 @@ invariant_of-self-in_default c =
     let kept = kept-globals _ _ _ _ _ _ c.self.invariant c.self.view_is in
     rw c.cost.ensures.exact
     (kept-answered _ c.args.self.now _ _ _ _ _ _ c.args.effect.frames _ _ c.args.act c.self.invariant c.self.view_is c.requires.admitted entered
-    (kept ∙ ?) c.requires.phase c.requires.frames c.requires.queue c.in_ok-append.ensures.items)
+    (kept ∙ (rw c.in_default.is at c.requires.globals)) c.requires.phase c.requires.frames c.requires.queue c.in_ok-append.ensures.items)

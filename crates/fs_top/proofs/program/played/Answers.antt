@@ -1,0 +1,6 @@
+use Rattle.std.proofs.Common.{[]}
+use Rattle.fs_top.proofs.EndLaws.{breaks_first}
+use Rattle.fs_top.proofs.program.played.Goals as goal
+
+pub returns-in_default : goal.returns-in_default
+returns-in_default g c = ([], breaks_first _ _)

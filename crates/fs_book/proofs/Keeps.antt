@@ -56,6 +56,10 @@ no_ticket Idle k is h = h
 no_ticket (Waiting t) k is h = absurd (cc is)
 no_ticket (Out t) k is h = absurd (cc is)
 
+-- the slot that was taken last
+pub taken_last : {S : Type 0} (taken others : List (ℕ × S)) (slot : ℕ) (x : S) → taken ≡ (slot, x) ∷ others → taken ≡ (slot, x) ∷ rest taken
+taken_last taken others slot x e = e ∙ ap (λ c. (slot, x) ∷ rest c) (sym e)
+
 abbrev last_taken : {S : Type 0} → List (ℕ × Option S) → Option S
 last_taken [] = None
 last_taken (c ∷ cs) = c.1

@@ -1,3 +1,5 @@
 pub mod Counts
 pub mod Opened
 pub mod Turns
+pub mod Tenures
+pub mod Passes

@@ -1,8 +1,14 @@
 //! A state under a ticket lock, whose journal says in which order its callers came.
 #![tactic(auto)]
 
+mod book;
+mod pass;
+mod rule;
+mod tenure;
 mod turned;
 mod view;
 
+pub use book::Book;
+pub use pass::Pass;
 pub use turned::{Ask, Receipt, Turned};
 pub use view::{Stage, View};

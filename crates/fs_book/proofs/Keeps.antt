@@ -48,7 +48,12 @@ waiting_is k n e = cc e
 out_is : (k n : ℕ) → Out k ≡ Out n → k ≡ n
 out_is k n e = cc e
 
-Some_is : {A : Type 0} (a b : A) → Some a ≡ Some b → a ≡ b
+pub idle_of : (stage : Stage) → tickets_of stage ≡ 0 → stage ≡ Idle
+idle_of Idle is = refl
+idle_of (Waiting k) is = absurd (omega arith)
+idle_of (Out k) is = absurd (omega arith)
+
+pub Some_is : {A : Type 0} (a b : A) → Some a ≡ Some b → a ≡ b
 Some_is a b e = cc e
 
 no_ticket : (stage : Stage) (k : ℕ) → stage ≡ Idle → HasTicket stage k → ⊥
@@ -614,9 +619,9 @@ module _ {S B E : Type 0} (start : S → B) (journal : S → List E) (opens : B 
       }
 
   -- a pass with all parts is the only one: it has seen the whole journal, and has each place once
-  pub closes : (id : ℕ) (v : View B E) (ws : List ℕ) (xs : List (Option S)) → v.stage ≡ Idle → v.parts ≡ all_parts → Final (Seen Rule id v) ws xs
-      → (x : S) × (get_elem? xs 0 ≡ some (Some x)) × (start x ≡ origin) × (journal x ≡ v.seen) × ((p : ℕ) → total (times p) (lists_of v) ≡ once_below p (length v.seen))
-  closes id v ws xs idle all final =
+  pub closes : (id : ℕ) (v : View B E) (ws : List ℕ) (xs : List (Option S)) (slot : Option S) → v.stage ≡ Idle → v.parts ≡ all_parts → Final (Seen Rule id v) ws xs → get_elem? xs 0 ≡ some slot
+      → (x : S) × (slot ≡ Some x) × (start x ≡ origin) × (journal x ≡ v.seen) × ((p : ℕ) → total (times p) (lists_of v) ≡ once_below p (length v.seen))
+  closes id v ws xs slot idle all final taken =
       let s = final.0 in
       let r = final.1.0 in
       let at = final.1.1 in
@@ -637,4 +642,5 @@ module _ {S B E : Type 0} (start : S → B) (journal : S → List E) (opens : B 
                   (λ e. absurd (idle_out r.served (sym idle ∙ ap (λ (z : View B E). z.stage) (same_at s.views id h.0 v h.1 at h.2 e) ∙ h.3)))
                   (λ n. absurd (idle_out r.served (ap (λ (z : View B E). z.stage) (sym (others h.0 h.1 n h.2)) ∙ h.3))))
           r.home in
-      (home.0, final.4 0 (Some home.0) (ap (λ (hs : List (mathlib.Core.Option.Option (Option S))). get_elem? hs 0) home.1), home.2, home.3 ∙ sym seen_is, λ p. alone_held p ∙ ap (λ (log : List E). once_below p (length log)) (sym seen_is))
+      let there = final.4 0 (Some home.0) (ap (λ (hs : List (mathlib.Core.Option.Option (Option S))). get_elem? hs 0) home.1) in
+      (home.0, some-injective slot (Some home.0) (sym taken ∙ there), home.2, home.3 ∙ sym seen_is, λ p. alone_held p ∙ ap (λ (log : List E). once_below p (length log)) (sym seen_is))

@@ -57,6 +57,10 @@ prefix_take (x ∷ xs) [] (suc k) p le = absurd (cc (p.1))
 prefix_take (x ∷ xs) (y ∷ ys) (suc k) p le =
     let rest = prefix_take xs ys k (p.0, cc (p.1)) (omega arith) in cc (p.1, rest)
 
+pub empty_of : {A : Type 0} (xs : List A) → length xs ≡ 0 → xs ≡ []
+empty_of [] is = refl
+empty_of (x ∷ xs) is = absurd (omega arith)
+
 -- a place where something stands is below the length
 pub get_below : {A : Type 0} (xs : List A) (k : ℕ) (x : A) → slice_get xs k ≡ Some x → k < length xs
 get_below [] k x h = absurd cc

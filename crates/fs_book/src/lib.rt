@@ -2,8 +2,11 @@
 #![tactic(auto)]
 
 mod book;
+mod calls;
+mod meeting;
 mod pass;
 mod rule;
+mod start;
 mod tenure;
 mod turned;
 mod view;

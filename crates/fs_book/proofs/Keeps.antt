@@ -1,5 +1,5 @@
 -- Each step keeps the rule of the lock.
-use Rattle.std.proofs.Common.{◌≡◌, ◌≢◌, ◌⊎◌, ℕ, zero, suc, ◌+◌, ◌-◌, ◌%◌, ◌<◌, ◌≤◌, ◌==◌, cond, eqb, ltb, nat_lt, Bool, true, false, List, [], ◌∷◌, ◌++◌, length, take, set, Option, Some, None, slice_get, slice_index, slice_set, refl, ap, sym, ◌∙◌, subst, inl, inr, ⊎_elim, arith, length-append}
+use Rattle.std.proofs.Common.{◌≡◌, ◌≢◌, ◌⊎◌, ℕ, zero, suc, ◌+◌, ◌%◌, ◌<◌, ◌≤◌, cond, eqb, ltb, Bool, true, false, List, [], ◌∷◌, ◌++◌, length, set, Option, Some, None, slice_index, slice_set, refl, ap, sym, ◌∙◌, subst, inl, inr, ⊎_elim, arith, length-append}
 use Rattle.std.proofs.lemmas.Bool.Decides.{nat_tests}
 use mathlib.Core.List.{IsPrefix}
 use mathlib.Core.Logic.{dite}
@@ -7,13 +7,13 @@ use mathlib.Core.Option.{some, none, some-injective, some-ne-none}
 use native.Mathlib.Decide.{dec_lt, ℕ_discrete}
 use native.Mathlib.Nat.{mod-add-mod}
 use lib.ListN.{get_elem?}
-use Rattle.atomic_table.specs.Table.{State, Me, Act, keeps, takes, gives, step, rest, put_back, Allows, Splits, Joins, opening, Final, Seen}
-use Rattle.atomic_table.proofs.Lists.{at_set, at_snoc, at_longer, at_last, set_here, set_else, set_again, one_turn}
+use Rattle.atomic_table.specs.Table.{State, Me, keeps, takes, gives, step, rest, put_back, Allows, Splits, Joins, opening, Final, Seen}
+use Rattle.atomic_table.proofs.Lists.{at_set, at_snoc, at_longer, set_here, set_else, set_again, one_turn}
 use Rattle.fs_book.specs.declared.view.Stage.{Stage}
 use Rattle.fs_book.specs.declared.view.Stage.TheVariants.{Idle, Waiting, Out}
 use Rattle.fs_book.specs.declared.view.View.{View}
 use Rattle.fs_book.specs.Counts.{total, times, once_below}
-use Rattle.fs_book.specs.Opened.{OpensAt, NamesAt, Owns, IsOwn, Rises, Closed, NoStray, Owned, IsSound}
+use Rattle.fs_book.specs.Opened.{OpensAt, NamesAt, Owns, IsOwn, Rises, Closed, Owned}
 use Rattle.fs_book.specs.Turns.{all_parts, tickets_of, HasTicket, parts_of, drawn_by, lists_of, held, longer, shorter, spent, opening_view, cut_left, cut_right, both, Sound, AtStage, Fits, Fair, drew, Took, came, left, added, learned}
 use Rattle.fs_book.proofs.Lists.{prefix_self, prefix_trans, prefix_shorter, prefix_whole, prefix_length, get_below, total_set, total_push, total_append, one_le_total, two_le_total, total_le, total_only, total_alone, find, times_push, once_more}
 use Rattle.fs_book.proofs.Opening.{opens_up, names_up, names_down, closed_up, closed_push, rises_push}
@@ -172,14 +172,14 @@ module _ {S B E : Type 0} (start : S → B) (journal : S → List E) (opens : B 
   ticket_below : (s : State (Option S) (View B E)) (r : Rule s) (j k : ℕ) (v : View B E) → get_elem? s.views j ≡ some v → HasTicket v.stage k → (r.served ≤ k) × (k < r.drawn)
   ticket_below s r j k v at h =
       ⊎_elim (λ (e : v ≡ spent). absurd (no_ticket v.stage k (ap (λ (u : View B E). u.stage) e) h))
-          (λ (f : Fits opens names origin r.log r.served r.drawn s.homes v). in_queue r.log r.log r.served r.drawn s.homes s.homes v.seen v.stage k f.stage h) (r.each j v at)
+      (λ (f : Fits opens names origin r.log r.served r.drawn s.homes v). in_queue r.log r.log r.served r.drawn s.homes s.homes v.seen v.stage k f.stage h) (r.each j v at)
 
   -- a ticket costs a part
   few : (s : State (Option S) (View B E)) (r : Rule s) → r.drawn ≤ r.served + all_parts
   few s r =
       let costs = total_le drawn_by parts_of s.views
-          (λ j v at. ⊎_elim (λ (e : v ≡ spent). let d : drawn_by v ≡ 0 = ap drawn_by e in omega arith)
-              (λ (f : Fits opens names origin r.log r.served r.drawn s.homes v). let t = tickets_le v.stage in let p = f.some_part in omega arith) (r.each j v at)) in
+      (λ j v at. ⊎_elim (λ (e : v ≡ spent). let d : drawn_by v ≡ 0 = ap drawn_by e in omega arith)
+      (λ (f : Fits opens names origin r.log r.served r.drawn s.homes v). let t = tickets_le v.stage in let p = f.some_part in omega arith) (r.each j v at)) in
       let q = r.queue in let p = r.parts in omega arith
 
   -- a pass that has the opening of a number has each place that names it
@@ -227,13 +227,13 @@ module _ {S B E : Type 0} (start : S → B) (journal : S → List E) (opens : B 
   apart_set s r id w others i j k u u' at at' h h' =
       ⊎_elim
       (λ (x : (i ≡ id) × (w ≡ u)).
-          ⊎_elim (λ (y : (j ≡ id) × (w ≡ u')). x.0 ∙ sym y.0)
-              (λ (y : (j ≢ id) × (get_elem? s.views j ≡ some u')). absurd (others j k u' y.0 y.1 (subst (λ (z : View B E). HasTicket z.stage k) (sym x.1) h) h'))
-              (at_set s.views id j w u' at'))
+      ⊎_elim (λ (y : (j ≡ id) × (w ≡ u')). x.0 ∙ sym y.0)
+      (λ (y : (j ≢ id) × (get_elem? s.views j ≡ some u')). absurd (others j k u' y.0 y.1 (subst (λ (z : View B E). HasTicket z.stage k) (sym x.1) h) h'))
+      (at_set s.views id j w u' at'))
       (λ (x : (i ≢ id) × (get_elem? s.views i ≡ some u)).
-          ⊎_elim (λ (y : (j ≡ id) × (w ≡ u')). absurd (others i k u x.0 x.1 (subst (λ (z : View B E). HasTicket z.stage k) (sym y.1) h') h))
-              (λ (y : (j ≢ id) × (get_elem? s.views j ≡ some u')). r.apart i j k u u' x.1 y.1 h h')
-              (at_set s.views id j w u' at'))
+      ⊎_elim (λ (y : (j ≡ id) × (w ≡ u')). absurd (others i k u x.0 x.1 (subst (λ (z : View B E). HasTicket z.stage k) (sym y.1) h') h))
+      (λ (y : (j ≢ id) × (get_elem? s.views j ≡ some u')). r.apart i j k u u' x.1 y.1 h h')
+      (at_set s.views id j w u' at'))
       (at_set s.views id i w u at)
 
   -- one pass's view changes, and what the rule says of the others still holds
@@ -268,10 +268,10 @@ module _ {S B E : Type 0} (start : S → B) (journal : S → List E) (opens : B 
       → ((m : S) × (s.homes ≡ some (Some m) ∷ []) × (start m ≡ origin) × (journal m ≡ r.log)) ⊎ ((j : ℕ) × (u : View B E) × (get_elem? (set s.views id w) j ≡ some u) × (u.stage ≡ Out r.served) × (s.homes ≡ none ∷ []))
   home_set s r id v w at not_out =
       ⊎_elim (λ h. inl h)
-          (λ (h : (j : ℕ) × (u : View B E) × (get_elem? s.views j ≡ some u) × (u.stage ≡ Out r.served) × (s.homes ≡ none ∷ [])).
-              let n : h.0 ≢ id = λ e. not_out r.served (ap (λ (x : View B E). x.stage) (sym (same_at s.views h.0 id h.1 v h.2 at e)) ∙ h.3) in
-              inr (h.0, h.1, set_else s.views id h.0 w n ∙ h.2, h.3, h.4))
-          r.home
+      (λ (h : (j : ℕ) × (u : View B E) × (get_elem? s.views j ≡ some u) × (u.stage ≡ Out r.served) × (s.homes ≡ none ∷ [])).
+      let n : h.0 ≢ id = λ e. not_out r.served (ap (λ (x : View B E). x.stage) (sym (same_at s.views h.0 id h.1 v h.2 at e)) ∙ h.3) in
+      inr (h.0, h.1, set_else s.views id h.0 w n ∙ h.2, h.3, h.4))
+      r.home
 
   -- a ticket is drawn
   pub draws : (slots id : ℕ) (m : Me (Option S) (View B E)) → m.0.stage ≡ Idle → 0 < m.0.parts
@@ -282,12 +282,12 @@ module _ {S B E : Type 0} (start : S → B) (journal : S → List E) (opens : B 
       let f = fits s r id v at part in
       let found : slice_index s.words 0 ≡ r.drawn % 18446744073709551616 = ap (λ (ws : List ℕ). slice_index ws 0) r.words_are in
       let words : slice_set s.words 0 ((slice_index s.words 0 + 1) % 18446744073709551616) ≡ ((r.drawn + 1) % 18446744073709551616) ∷ (r.served % 18446744073709551616) ∷ [] =
-          ap (λ (ws : List ℕ). slice_set ws 0 ((slice_index ws 0 + 1) % 18446744073709551616)) r.words_are
-          ∙ ap (λ (x : ℕ). x ∷ (r.served % 18446744073709551616) ∷ []) (mod-add-mod r.drawn 18446744073709551616 1) in
+      ap (λ (ws : List ℕ). slice_set ws 0 ((slice_index ws 0 + 1) % 18446744073709551616)) r.words_are
+      ∙ ap (λ (x : ℕ). x ∷ (r.served % 18446744073709551616) ∷ []) (mod-add-mod r.drawn 18446744073709551616 1) in
       let none_drawn : drawn_by v ≡ 0 = ap tickets_of idle in
       let q = r.queue in
       let mine : Fits opens names origin r.log r.served (r.drawn + 1) s.homes w =
-          record { some_part = f.some_part; origin_is = f.origin_is; prefix = f.prefix; told = f.told; places = f.places; rising = f.rising; closed = f.closed; stage = (omega arith, omega arith) } in (
+      record { some_part = f.some_part; origin_is = f.origin_is; prefix = f.prefix; told = f.told; places = f.places; rising = f.rising; closed = f.closed; stage = (omega arith, omega arith) } in (
         w,
         keeps,
         tt,
@@ -312,10 +312,10 @@ module _ {S B E : Type 0} (start : S → B) (journal : S → List E) (opens : B 
       → (m : S) × (s.homes ≡ some (Some m) ∷ []) × (start m ≡ origin) × (journal m ≡ r.log)
   at_home s r id v at waits =
       ⊎_elim (λ h. h)
-          (λ (h : (j : ℕ) × (u : View B E) × (get_elem? s.views j ≡ some u) × (u.stage ≡ Out r.served) × (s.homes ≡ none ∷ [])).
-              let e : h.0 ≡ id = r.apart h.0 id r.served h.1 v h.2 at (subst (λ (x : Stage). HasTicket x r.served) (sym h.3) refl) (subst (λ (x : Stage). HasTicket x r.served) (sym waits) refl) in
-              absurd (waiting_out r.served r.served (sym waits ∙ ap (λ (x : View B E). x.stage) (sym (same_at s.views h.0 id h.1 v h.2 at e)) ∙ h.3)))
-          r.home
+      (λ (h : (j : ℕ) × (u : View B E) × (get_elem? s.views j ≡ some u) × (u.stage ≡ Out r.served) × (s.homes ≡ none ∷ [])).
+      let e : h.0 ≡ id = r.apart h.0 id r.served h.1 v h.2 at (subst (λ (x : Stage). HasTicket x r.served) (sym h.3) refl) (subst (λ (x : Stage). HasTicket x r.served) (sym waits) refl) in
+      absurd (waiting_out r.served r.served (sym waits ∙ ap (λ (x : View B E). x.stage) (sym (same_at s.views h.0 id h.1 v h.2 at e)) ∙ h.3)))
+      r.home
 
   -- no other pass has the ticket
   others_wait : (s : State (Option S) (View B E)) (r : Rule s) (id : ℕ) (v : View B E) → get_elem? s.views id ≡ some v → HasTicket v.stage r.served
@@ -340,23 +340,23 @@ module _ {S B E : Type 0} (start : S → B) (journal : S → List E) (opens : B 
       let b = ticket_below s r id k v at (subst (λ (y : Stage). HasTicket y k) (sym waits) refl) in
       let drawn_v : drawn_by v ≡ 1 = ap tickets_of waits in
       let mine : Fits opens names origin r.log r.served r.drawn (slice_set s.homes 0 none) w =
-          record {
-            some_part = f.some_part;
-            origin_is = f.origin_is;
-            prefix = subst (λ (log : List E). IsPrefix (journal x) log) h.3 (prefix_self (journal x));
-            told = prefix_trans v.told v.seen (journal x) f.told pre;
-            places = λ p in_v. let n = f.places p in_v in omega arith;
-            rising = f.rising;
-            closed = closed_up opens names v.start (lists_of v) v.seen (journal x) pre f.places f.closed;
-            stage = (here, b.1, h.3, gone);
-          } in
+      record {
+        some_part = f.some_part;
+        origin_is = f.origin_is;
+        prefix = subst (λ (log : List E). IsPrefix (journal x) log) h.3 (prefix_self (journal x));
+        told = prefix_trans v.told v.seen (journal x) f.told pre;
+        places = λ p in_v. let n = f.places p in_v in omega arith;
+        rising = f.rising;
+        closed = closed_up opens names v.start (lists_of v) v.seen (journal x) pre f.places f.closed;
+        stage = (here, b.1, h.3, gone);
+      } in
       let wait = others_wait s r id v at (subst (λ (y : Stage). HasTicket y r.served) (sym waits') refl) in
       let kept = changes s r id v w at r.log r.served r.drawn (slice_set s.words 1 (slice_index s.words 1)) (slice_set s.homes 0 none) words (omega arith) refl mine
-          (λ j u n at_u g. refit opens names origin r.log r.log r.served r.drawn r.served r.drawn s.homes (slice_set s.homes 0 none) u g (prefix_self r.log)
-              (takes_it r.log r.log r.served r.drawn s.homes (slice_set s.homes 0 none) u.seen u.stage g.stage (wait j u n at_u)))
-          (λ j n u apart at_u t t'. wait j u apart at_u n t' (sym t ∙ here))
-          (λ p. refl)
-          (inr (id, w, set_here s.views id w (at_below s.views id v at), ap (λ (n : ℕ). Out n) here, gone)) in
+      (λ j u n at_u g. refit opens names origin r.log r.log r.served r.drawn r.served r.drawn s.homes (slice_set s.homes 0 none) u g (prefix_self r.log)
+      (takes_it r.log r.log r.served r.drawn s.homes (slice_set s.homes 0 none) u.seen u.stage g.stage (wait j u n at_u)))
+      (λ j n u apart at_u t t'. wait j u apart at_u n t' (sym t ∙ here))
+      (λ p. refl)
+      (inr (id, w, set_here s.views id w (at_below s.views id v at), ap (λ (n : ℕ). Out n) here, gone)) in
       (x, h.1, (x, f.origin_is ∙ ap (λ (y : B). Some y) (sym h.2), pre, sound _ kept id w (set_here s.views id w (at_below s.views id v at)) part, refl), kept)
 
   -- the turn is read by one who waits
@@ -367,28 +367,28 @@ module _ {S B E : Type 0} (start : S → B) (journal : S → List E) (opens : B 
       let q = few s r in
       let turn : slice_index s.words 1 ≡ k % 18446744073709551616 → k ≡ r.served = λ e. sym (one_turn r.served k 18446744073709551616 b.0 (omega arith) (sym found ∙ e)) in
       dite (ℕ_discrete k r.served)
-          (λ here.
-              let t = takes_turn id m k waits part s r at here in
-              let valid : get_elem? s.homes 0 ≡ some (some (Some t.0)) = ap (λ (hs : List (mathlib.Core.Option.Option (Option S))). get_elem? hs 0) t.1 in (
-                record m.0 { stage = Out k; seen = journal t.0 },
-                takes 0 (Some t.0),
-                valid,
-                t.3,
-                λ k' waits'. let e : k ≡ k' = waiting_is k k' (sym waits ∙ waits') in (
-                  λ _. subst (λ (n : ℕ). Took start journal opens names n m (record m.0 { stage = Out k; seen = journal t.0 }, (0, Some t.0) ∷ m.1)) e t.2,
-                  λ n. absurd (n (found ∙ ap (λ (y : ℕ). y % 18446744073709551616) (sym here ∙ e))),
-                ),
-              ))
-          (λ elsewhere. (
-            m.0,
-            keeps,
-            tt,
-            unmoved s r id m.0 at,
-            λ k' waits'. let e : k ≡ k' = waiting_is k k' (sym waits ∙ waits') in (
-              λ is. absurd (elsewhere (turn (is ∙ ap (λ (y : ℕ). y % 18446744073709551616) (sym e)))),
-              λ _. refl,
-            ),
-          ))
+      (λ here.
+      let t = takes_turn id m k waits part s r at here in
+      let valid : get_elem? s.homes 0 ≡ some (some (Some t.0)) = ap (λ (hs : List (mathlib.Core.Option.Option (Option S))). get_elem? hs 0) t.1 in (
+        record m.0 { stage = Out k; seen = journal t.0 },
+        takes 0 (Some t.0),
+        valid,
+        t.3,
+        λ k' waits'. let e : k ≡ k' = waiting_is k k' (sym waits ∙ waits') in (
+          λ _. subst (λ (n : ℕ). Took start journal opens names n m (record m.0 { stage = Out k; seen = journal t.0 }, (0, Some t.0) ∷ m.1)) e t.2,
+          λ n. absurd (n (found ∙ ap (λ (y : ℕ). y % 18446744073709551616) (sym here ∙ e))),
+        ),
+      ))
+      (λ elsewhere. (
+        m.0,
+        keeps,
+        tt,
+        unmoved s r id m.0 at,
+        λ k' waits'. let e : k ≡ k' = waiting_is k k' (sym waits ∙ waits') in (
+          λ is. absurd (elsewhere (turn (is ∙ ap (λ (y : ℕ). y % 18446744073709551616) (sym e)))),
+          λ _. refl,
+        ),
+      ))
 
   -- what the rule says of the pass that has the state
   its_turn : (s : State (Option S) (View B E)) (r : Rule s) (id : ℕ) (v : View B E) → get_elem? s.views id ≡ some v → 0 < v.parts → (k : ℕ) → v.stage ≡ Out k
@@ -419,14 +419,14 @@ module _ {S B E : Type 0} (start : S → B) (journal : S → List E) (opens : B 
       let origin_is : start x ≡ origin = Some_is (start x) origin (sym start_is ∙ f.origin_is) in
       let one = t.4 in
       let mine : Fits opens names origin r.log (r.served + 1) r.drawn homes' w =
-          record { some_part = f.some_part; origin_is = f.origin_is; prefix = f.prefix; told = f.told; places = f.places; rising = f.rising; closed = f.closed; stage = tt } in
+      record { some_part = f.some_part; origin_is = f.origin_is; prefix = f.prefix; told = f.told; places = f.places; rising = f.rising; closed = f.closed; stage = tt } in
       let wait = others_wait s r id v at t.3 in (
         w,
         gives,
         tt,
         changes s r id v w at r.log (r.served + 1) r.drawn _ homes' (next_turn s r) (omega arith) refl mine
             (λ j u n at_u g. refit opens names origin r.log r.log r.served r.drawn (r.served + 1) r.drawn s.homes homes' u g (prefix_self r.log)
-                (later r.log r.log r.served r.drawn s.homes homes' u.seen u.stage g.stage (wait j u n at_u)))
+            (later r.log r.log r.served r.drawn s.homes homes' u.seen u.stage g.stage (wait j u n at_u)))
             (λ j n u apart at_u h h'. h)
             (λ p. refl)
             (inl (x, gives_back s m x t.2 carries, origin_is, same ∙ t.1)),
@@ -452,24 +452,24 @@ module _ {S B E : Type 0} (start : S → B) (journal : S → List E) (opens : B 
       let counts : (p : ℕ) → held p w ≡ held p v + cond {A = ℕ} (eqb (length v.seen) p) 1 0 = λ p. let c = times_push p (length v.seen) v.mine in omega arith in
       let own_all : (b : B) → v.start ≡ Some b → IsOwn opens names b v.seen v.mine entry = λ b is. subst (λ (y : B). IsOwn opens names y v.seen v.mine entry) (Some_is (start x) b (sym start_is ∙ is)) own in
       let mine : Fits opens names origin (journal x) (r.served + 1) r.drawn homes' w =
-          record {
-            some_part = f.some_part;
-            origin_is = f.origin_is;
-            prefix = prefix_self (journal x);
-            told = prefix_trans v.told v.seen (journal x) f.told pre;
-            places = λ p in_w. let c = counts p in dite (ℕ_discrete (length v.seen) p) (λ e. omega arith) (λ n. let g : 0 < held p v = grind (arith, nat_tests) in let b = f.places p g in omega arith);
-            rising = rises_all v.mine v.met (length v.seen) f.places f.rising;
-            closed = subst (λ (log : List E). Closed opens names v.start (lists_of w) log) (sym more) (closed_push opens names v.start v.mine v.met v.seen entry f.places own_all f.closed);
-            stage = tt;
-          } in
+      record {
+        some_part = f.some_part;
+        origin_is = f.origin_is;
+        prefix = prefix_self (journal x);
+        told = prefix_trans v.told v.seen (journal x) f.told pre;
+        places = λ p in_w. let c = counts p in dite (ℕ_discrete (length v.seen) p) (λ e. omega arith) (λ n. let g : 0 < held p v = grind (arith, nat_tests) in let b = f.places p g in omega arith);
+        rising = rises_all v.mine v.met (length v.seen) f.places f.rising;
+        closed = subst (λ (log : List E). Closed opens names v.start (lists_of w) log) (sym more) (closed_push opens names v.start v.mine v.met v.seen entry f.places own_all f.closed);
+        stage = tt;
+      } in
       let wait = others_wait s r id v at t.3 in
       let kept = changes s r id v w at (journal x) (r.served + 1) r.drawn _ homes' (next_turn s r) (omega arith) refl mine
-          (λ j u n at_u g. refit opens names origin r.log (journal x) r.served r.drawn (r.served + 1) r.drawn s.homes homes' u g pre_log
-              (later r.log (journal x) r.served r.drawn s.homes homes' u.seen u.stage g.stage (wait j u n at_u)))
-          (λ j n u apart at_u h h'. h)
-          (λ p. let c = counts p in let o = once_more p (length r.log) in let e : once_below p (length (journal x)) ≡ once_below p (suc (length r.log)) = ap (once_below p) (omega arith) in
-              let d : ◌≡◌ {A = ℕ} (cond (eqb (length v.seen) p) 1 0) (cond (eqb (length r.log) p) 1 0) = ap (λ (n : ℕ). cond (eqb n p) 1 0) len_log in omega arith)
-          (inl (x, gives_back s m x t.2 carries, origin_is, refl)) in (
+      (λ j u n at_u g. refit opens names origin r.log (journal x) r.served r.drawn (r.served + 1) r.drawn s.homes homes' u g pre_log
+      (later r.log (journal x) r.served r.drawn s.homes homes' u.seen u.stage g.stage (wait j u n at_u)))
+      (λ j n u apart at_u h h'. h)
+      (λ p. let c = counts p in let o = once_more p (length r.log) in let e : once_below p (length (journal x)) ≡ once_below p (suc (length r.log)) = ap (once_below p) (omega arith) in
+      let d : ◌≡◌ {A = ℕ} (cond (eqb (length v.seen) p) 1 0) (cond (eqb (length r.log) p) 1 0) = ap (λ (n : ℕ). cond (eqb n p) 1 0) len_log in omega arith)
+      (inl (x, gives_back s m x t.2 carries, origin_is, refl)) in (
         w,
         gives,
         tt,
@@ -528,22 +528,22 @@ module _ {S B E : Type 0} (start : S → B) (journal : S → List E) (opens : B 
       let w = cut_right n v in
       let vs = set s.views id l in
       let left_fits : Fits opens names origin r.log r.served r.drawn s.homes l =
-          record { some_part = omega arith; origin_is = f.origin_is; prefix = f.prefix; told = f.told; places = f.places; rising = f.rising; closed = f.closed; stage = f.stage } in
+      record { some_part = omega arith; origin_is = f.origin_is; prefix = f.prefix; told = f.told; places = f.places; rising = f.rising; closed = f.closed; stage = f.stage } in
       let right_fits : Fits opens names origin r.log r.served r.drawn s.homes w =
-          record {
-            some_part = some_part;
-            origin_is = f.origin_is;
-            prefix = f.prefix;
-            told = (v.seen, refl);
-            places = λ p h. absurd (omega arith);
-            rising = λ k places at_k. none_rises k places at_k;
-            closed = λ b is k places at_k p number in_l named. absurd (none_in k places p at_k in_l);
-            stage = tt;
-          } in
+      record {
+        some_part = some_part;
+        origin_is = f.origin_is;
+        prefix = f.prefix;
+        told = (v.seen, refl);
+        places = λ p h. absurd (omega arith);
+        rising = λ k places at_k. none_rises k places at_k;
+        closed = λ b is k places at_k p number in_l named. absurd (none_in k places p at_k in_l);
+        stage = tt;
+      } in
       let old : (i k : ℕ) (u : View B E) → get_elem? (vs ++ w ∷ []) i ≡ some u → HasTicket u.stage k → get_elem? s.views i ≡ some u = λ i k u at_u h.
-          ⊎_elim (λ at_vs. ⊎_elim (λ (x : (i ≡ id) × (l ≡ u)). absurd (no_ticket u.stage k (ap (λ (y : View B E). y.stage) (sym x.1) ∙ idle) h)) (λ (x : (i ≢ id) × (get_elem? s.views i ≡ some u)). x.1) (at_set s.views id i l u at_vs))
-              (λ (is : w ≡ u). absurd (no_ticket u.stage k (ap (λ (y : View B E). y.stage) (sym is)) h))
-              (at_snoc vs w u i at_u) in
+      ⊎_elim (λ at_vs. ⊎_elim (λ (x : (i ≡ id) × (l ≡ u)). absurd (no_ticket u.stage k (ap (λ (y : View B E). y.stage) (sym x.1) ∙ idle) h)) (λ (x : (i ≢ id) × (get_elem? s.views i ≡ some u)). x.1) (at_set s.views id i l u at_vs))
+      (λ (is : w ≡ u). absurd (no_ticket u.stage k (ap (λ (y : View B E). y.stage) (sym is)) h))
+      (at_snoc vs w u i at_u) in
       let split_total : (g : View B E → ℕ) → total g (vs ++ w ∷ []) + g v ≡ total g s.views + g l + g w = λ g. let a = total_set g s.views id v l at in let b = total_push g vs w in omega arith in
       record {
         log = r.log;
@@ -595,10 +595,10 @@ module _ {S B E : Type 0} (start : S → B) (journal : S → List E) (opens : B 
       let f = fits s r id v at part in
       let g = fits s r other w was part' in
       let old : (i k : ℕ) (u : View B E) → get_elem? (set vs other spent) i ≡ some u → HasTicket u.stage k → get_elem? s.views i ≡ some u = λ i k u at_u h.
-          ⊎_elim (λ (x : (i ≡ other) × (spent ≡ u)). absurd (no_ticket u.stage k (ap (λ (y : View B E). y.stage) (sym x.1)) h))
-              (λ (x : (i ≢ other) × (get_elem? vs i ≡ some u)).
-                  ⊎_elim (λ (y : (i ≡ id) × (b ≡ u)). absurd (no_ticket u.stage k (ap (λ (z : View B E). z.stage) (sym y.1) ∙ idle) h)) (λ (y : (i ≢ id) × (get_elem? s.views i ≡ some u)). y.1) (at_set s.views id i b u x.1))
-              (at_set vs other i spent u at_u) in
+      ⊎_elim (λ (x : (i ≡ other) × (spent ≡ u)). absurd (no_ticket u.stage k (ap (λ (y : View B E). y.stage) (sym x.1)) h))
+      (λ (x : (i ≢ other) × (get_elem? vs i ≡ some u)).
+      ⊎_elim (λ (y : (i ≡ id) × (b ≡ u)). absurd (no_ticket u.stage k (ap (λ (z : View B E). z.stage) (sym y.1) ∙ idle) h)) (λ (y : (i ≢ id) × (get_elem? s.views i ≡ some u)). y.1) (at_set s.views id i b u x.1))
+      (at_set vs other i spent u at_u) in
       let met_total : (h : View B E → ℕ) → total h (set vs other spent) + h w + h v ≡ total h s.views + h b + h spent = λ h. let x = total_set h s.views id v b at in let y = total_set h vs other w spent at' in omega arith in
       record {
         log = r.log;
@@ -613,8 +613,8 @@ module _ {S B E : Type 0} (start : S → B) (journal : S → List E) (opens : B 
         once = (λ p. let t = met_total (held p) in let o = r.once p in let a = total_append (times p) (lists_of v) (lists_of w) in omega arith);
         home = ⊎_elim (λ h. inl h)
             (λ (h : (j : ℕ) × (u : View B E) × (get_elem? vs j ≡ some u) × (u.stage ≡ Out r.served) × (s.homes ≡ none ∷ [])).
-                let m : h.0 ≢ other = λ e. idle_out r.served (sym idle' ∙ ap (λ (z : View B E). z.stage) (sym (same_at vs h.0 other h.1 w h.2 at' e)) ∙ h.3) in
-                inr (h.0, h.1, set_else vs other h.0 spent m ∙ h.2, h.3, h.4))
+            let m : h.0 ≢ other = λ e. idle_out r.served (sym idle' ∙ ap (λ (z : View B E). z.stage) (sym (same_at vs h.0 other h.1 w h.2 at' e)) ∙ h.3) in
+            inr (h.0, h.1, set_else vs other h.0 spent m ∙ h.2, h.3, h.4))
             (home_set s r id v b at (λ k e. idle_out k (sym idle ∙ e)));
       }
 
@@ -628,19 +628,19 @@ module _ {S B E : Type 0} (start : S → B) (journal : S → List E) (opens : B 
       let f = fits s r id v at (omega arith) in
       let whole = r.parts in
       let others : (j : ℕ) (u : View B E) → id ≢ j → get_elem? s.views j ≡ some u → u ≡ spent = λ j u n at_u.
-          let z = total_only parts_of s.views id j v u at (omega arith) n at_u in
-          ⊎_elim (λ e. e) (λ (g : Fits opens names origin r.log r.served r.drawn s.homes u). let p = g.some_part in absurd (omega arith)) (r.each j u at_u) in
+      let z = total_only parts_of s.views id j v u at (omega arith) n at_u in
+      ⊎_elim (λ e. e) (λ (g : Fits opens names origin r.log r.served r.drawn s.homes u). let p = g.some_part in absurd (omega arith)) (r.each j u at_u) in
       let alone_held : (p : ℕ) → held p v ≡ once_below p (length r.log) = λ p.
-          let t = total_alone (held p) s.views id v at (λ j u n at_u. ap (held p) (others j u n at_u)) in let o = r.once p in omega arith in
+      let t = total_alone (held p) s.views id v at (λ j u n at_u. ap (held p) (others j u n at_u)) in let o = r.once p in omega arith in
       let last = alone_held (length v.seen) in
       let none_last : held (length v.seen) v ≡ 0 = dite (dec_lt 0 (held (length v.seen) v)) (λ h. let b = f.places (length v.seen) h in absurd (omega arith)) (λ h. omega arith) in
       let reached : length r.log ≤ length v.seen = grind (arith, nat_tests) in
       let seen_is : v.seen ≡ r.log = prefix_whole v.seen r.log f.prefix reached in
       let home = ⊎_elim (λ h. h)
-          (λ (h : (j : ℕ) × (u : View B E) × (get_elem? s.views j ≡ some u) × (u.stage ≡ Out r.served) × (s.homes ≡ none ∷ [])).
-              dite (ℕ_discrete id h.0)
-                  (λ e. absurd (idle_out r.served (sym idle ∙ ap (λ (z : View B E). z.stage) (same_at s.views id h.0 v h.1 at h.2 e) ∙ h.3)))
-                  (λ n. absurd (idle_out r.served (ap (λ (z : View B E). z.stage) (sym (others h.0 h.1 n h.2)) ∙ h.3))))
-          r.home in
+      (λ (h : (j : ℕ) × (u : View B E) × (get_elem? s.views j ≡ some u) × (u.stage ≡ Out r.served) × (s.homes ≡ none ∷ [])).
+      dite (ℕ_discrete id h.0)
+      (λ e. absurd (idle_out r.served (sym idle ∙ ap (λ (z : View B E). z.stage) (same_at s.views id h.0 v h.1 at h.2 e) ∙ h.3)))
+      (λ n. absurd (idle_out r.served (ap (λ (z : View B E). z.stage) (sym (others h.0 h.1 n h.2)) ∙ h.3))))
+      r.home in
       let there = final.4 0 (Some home.0) (ap (λ (hs : List (mathlib.Core.Option.Option (Option S))). get_elem? hs 0) home.1) in
       (home.0, some-injective slot (Some home.0) (sym taken ∙ there), home.2, home.3 ∙ sym seen_is, λ p. alone_held p ∙ ap (λ (log : List E). once_below p (length log)) (sym seen_is))

@@ -1,13 +1,12 @@
 -- Openings and names where more is seen, and where an entry is appended.
-use Rattle.std.proofs.Common.{◌≡◌, ◌≢◌, ◌⊎◌, ℕ, zero, suc, ◌+◌, ◌<◌, ◌≤◌, ◌==◌, cond, eqb, List, [], ◌∷◌, ◌++◌, length, take, Option, Some, slice_get, refl, ap, sym, ◌∙◌, subst, inl, inr, ⊎_elim, arith, length-append}
+use Rattle.std.proofs.Common.{◌≡◌, ℕ, zero, suc, ◌<◌, List, [], ◌∷◌, ◌++◌, length, take, Option, Some, slice_get, refl, ap, sym, ◌∙◌, subst, arith, length-append}
 use Rattle.std.proofs.lemmas.Bool.Decides.{nat_tests}
 use mathlib.Core.List.{IsPrefix}
 use mathlib.Core.Logic.{dite}
-use mathlib.Core.Option.{some, none, some-injective, some-ne-none}
+use mathlib.Core.Option.{some-injective}
 use native.Mathlib.Decide.{dec_lt, ℕ_discrete}
-use lib.ListN.{get_elem?}
 use Rattle.fs_book.specs.Counts.{total, times}
-use Rattle.fs_book.specs.Opened.{OpensAt, NamesAt, Owns, IsOwn, Rises, Closed, NoStray, Owned}
+use Rattle.fs_book.specs.Opened.{OpensAt, NamesAt, Owns, IsOwn, Rises, Closed}
 use Rattle.fs_book.proofs.Lists.{prefix_get, prefix_got, prefix_take, get_below, get_last, last_get, last_take, one_le_total, times_here, times_before, times_more}
 
 -- what stands in a list is counted there
@@ -24,11 +23,11 @@ rises_push places n below rises i j p q lt at at' =
     let end = get_below (places ++ n ∷ []) j q at' in
     let first : slice_get places i ≡ Some p = prefix_got places (places ++ n ∷ []) i p whole (omega arith) at in
     dite (dec_lt j (length places))
-        (λ inside. rises i j p q lt first (prefix_got places (places ++ n ∷ []) j q whole inside at'))
-        (λ outside.
-            let here : j ≡ length places = omega arith in
-            let last : n ≡ q = get_last places n q (subst (λ (k : ℕ). slice_get (places ++ n ∷ []) k ≡ Some q) here at') in
-            let r = below p (times_at places i p first) in omega arith)
+    (λ inside. rises i j p q lt first (prefix_got places (places ++ n ∷ []) j q whole inside at'))
+    (λ outside.
+    let here : j ≡ length places = omega arith in
+    let last : n ≡ q = get_last places n q (subst (λ (k : ℕ). slice_get (places ++ n ∷ []) k ≡ Some q) here at') in
+    let r = below p (times_at places i p first) in omega arith)
 
 module _ {E : Type 0} (names : E → Option ℕ) where
   pub names_up : (xs ys : List E) (p number : ℕ) → IsPrefix xs ys → NamesAt names xs p number → NamesAt names ys p number
@@ -82,11 +81,11 @@ module _ {B E : Type 0} (opens : B → List E → E → Option ℕ) (names : E �
       let l_is : mine ++ length log ∷ [] ≡ l = some-injective _ _ at in
       let counted : 0 < times p (mine ++ length log ∷ []) = subst (λ (x : List ℕ). 0 < times p x) (sym l_is) in_l in
       subst (Owns opens origin number (log ++ entry ∷ [])) l_is
-          (dite (ℕ_discrete p (length log))
-              (λ here.
-                  let last : entry ≡ named.0 = get_last log entry named.0 (subst (λ (n : ℕ). slice_get (log ++ entry ∷ []) n ≡ Some named.0) here named.1) in
-                  owns_more opens origin number (log ++ entry ∷ []) mine (length log)
-                      (owns_up opens origin number log (log ++ entry ∷ []) mine whole (own origin is number (ap names last ∙ named.2))))
-              (λ elsewhere.
-                  owns_more opens origin number (log ++ entry ∷ []) mine (length log)
-                      (closed_up start (mine ∷ met) log (log ++ entry ∷ []) whole below closed origin is zero mine refl p number (times_before p (length log) mine elsewhere counted) named)))
+      (dite (ℕ_discrete p (length log))
+      (λ here.
+      let last : entry ≡ named.0 = get_last log entry named.0 (subst (λ (n : ℕ). slice_get (log ++ entry ∷ []) n ≡ Some named.0) here named.1) in
+      owns_more opens origin number (log ++ entry ∷ []) mine (length log)
+      (owns_up opens origin number log (log ++ entry ∷ []) mine whole (own origin is number (ap names last ∙ named.2))))
+      (λ elsewhere.
+      owns_more opens origin number (log ++ entry ∷ []) mine (length log)
+      (closed_up start (mine ∷ met) log (log ++ entry ∷ []) whole below closed origin is zero mine refl p number (times_before p (length log) mine elsewhere counted) named)))

@@ -1,11 +1,11 @@
 -- Others append nothing that names a number of one's own.
-use Rattle.std.proofs.Common.{◌≡◌, ◌≢◌, ℕ, zero, suc, ◌+◌, ◌<◌, ◌≤◌, List, [], ◌∷◌, ◌++◌, length, Option, Some, slice_get, refl, ap, sym, ◌∙◌, subst, arith, append_assoc, length-append}
+use Rattle.std.proofs.Common.{◌≡◌, ℕ, ◌<◌, List, [], ◌∷◌, ◌++◌, length, Option, Some, refl, subst, arith, append_assoc, length-append}
 use mathlib.Core.List.{IsPrefix}
 use mathlib.Core.Option.{some}
 use lib.ListN.{get_elem?}
 use Rattle.fs_book.specs.Counts.{times}
-use Rattle.fs_book.specs.Opened.{OpensAt, NamesAt, Owns, Owned, NoneNames, Quiet}
-use Rattle.fs_book.proofs.Lists.{get_below, last_get, prefix_trans, prefix_length, times_before, times_more}
+use Rattle.fs_book.specs.Opened.{NamesAt, Owns, Owned, NoneNames, Quiet}
+use Rattle.fs_book.proofs.Lists.{get_below, last_get, times_before}
 use Rattle.fs_book.proofs.Opening.{opens_up, names_up, owns_up, owns_more}
 
 module _ {E : Type 0} (names : E → Option ℕ) (number : ℕ) where
@@ -49,8 +49,8 @@ module _ {B E : Type 0} (opens : B → List E → E → Option ℕ) (names : E �
       let whole : IsPrefix before (before ++ entry ∷ []) = (entry ∷ [], refl) in
       let own' = owns_more opens origin number before mine (length before) (owns_up opens origin number old before mine pre own) in
       quiet_places names number old before pre
-          (λ p named.
-              let inside = get_below before p named.0 named.1 in
-              below p (times_before p (length before) mine (λ e. omega arith)
-                  (owned origin is 0 (mine ++ length before ∷ []) refl own'.0 number own'.1 (opens_up opens origin before (before ++ entry ∷ []) own'.0 number whole own'.2) p
-                      (names_up names before (before ++ entry ∷ []) p number whole named))))
+      (λ p named.
+      let inside = get_below before p named.0 named.1 in
+      below p (times_before p (length before) mine (λ e. omega arith)
+      (owned origin is 0 (mine ++ length before ∷ []) refl own'.0 number own'.1 (opens_up opens origin before (before ++ entry ∷ []) own'.0 number whole own'.2) p
+      (names_up names before (before ++ entry ∷ []) p number whole named))))

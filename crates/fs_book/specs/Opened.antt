@@ -2,7 +2,7 @@
 use Rattle.std.specs.Prelude.{◌≡◌, ◌≢◌, ℕ, ◌<◌, List, [], ◌∷◌, ◌++◌, length, take, Option, Some, slice_get}
 use mathlib.Core.Option.{some}
 use lib.ListN.{get_elem?}
-use Rattle.fs_book.specs.Counts.{total, times}
+use Rattle.fs_book.specs.Counts.{times}
 
 -- the entry at the place opens the number
 abbrev pub OpensAt : {B E : Type 0} → (B → List E → E → Option ℕ) → B → List E → ℕ → ℕ → Type 0

@@ -1,5 +1,5 @@
 -- What a pass knows, and which book it is of.
-use Rattle.std.specs.Prelude.{◌≡◌, ℕ, List, ◌∷◌, Some}
+use Rattle.std.specs.Prelude.{◌≡◌, ℕ, List, Some}
 use Rattle.fs_book.specs.declared.turned.Turned.{Ghosts}
 use Rattle.fs_book.specs.declared.book.Book.{Book}
 use Rattle.fs_book.specs.declared.pass.Pass.{Pass}

@@ -8,7 +8,7 @@ use Rattle.fs_book.specs.declared.view.Stage.{Stage}
 use Rattle.fs_book.specs.declared.view.Stage.TheVariants.{Idle, Waiting, Out}
 use Rattle.fs_book.specs.declared.view.View.{View}
 use Rattle.fs_book.specs.Counts.{total, times, once_below}
-use Rattle.fs_book.specs.Opened.{Closed, IsOwn, Rises, IsSound}
+use Rattle.fs_book.specs.Opened.{Closed, Rises, IsSound}
 
 -- how many parts all passes have together
 abbrev pub all_parts : ℕ

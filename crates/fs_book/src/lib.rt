@@ -8,6 +8,8 @@ mod pass;
 mod rule;
 mod start;
 mod tenure;
+#[cfg(test)]
+mod tests;
 mod turned;
 mod view;
 

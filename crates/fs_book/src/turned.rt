@@ -75,6 +75,7 @@ pub trait Ask<M: Turned> {
 }
 
 /// What a submitted entry got: its place in the journal, and its answer.
+#[derive(Debug, Drop)]
 pub struct Receipt<A> {
     pub place: u64,
     pub answer: A,

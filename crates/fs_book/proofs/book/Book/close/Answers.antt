@@ -30,4 +30,4 @@ returns-clause-owned g c =
     let same = Some_is _ _ (sym c.in-Some.is ∙ state.1) in
     let started = c.requires.book.1 ∙ ap Some (sym (ap g.M.Turned.start same ∙ state.2)) in
     subst (λ log. Owned g.M.Turned.opens g.M.Turned.names (Some (g.M.Turned.start c.in-Some.state)) (mine c.args.pass ∷ met c.args.pass) log) (sym (ap g.M.Turned.journal same ∙ state.3))
-        (subst (λ start. Owned g.M.Turned.opens g.M.Turned.names start (mine c.args.pass ∷ met c.args.pass) c.args.pass.seat.me.0.seen) started c.args.pass.sound.owned)
+    (subst (λ start. Owned g.M.Turned.opens g.M.Turned.names start (mine c.args.pass ∷ met c.args.pass) c.args.pass.seat.me.0.seen) started c.args.pass.sound.owned)

@@ -1,4 +1,4 @@
-use Rattle.std.proofs.Common.{rules, ◌<◌, ◌∷◌, Some, sym, ap, ◌∙◌, subst}
+use Rattle.std.proofs.Common.{rules, ◌<◌, Some, sym, ap, ◌∙◌, subst}
 use Rattle.fs_book.proofs.Keeps.{draws, comes, taken_last}
 use Rattle.fs_book.proofs.book.Book.enter.Goals as goal
 

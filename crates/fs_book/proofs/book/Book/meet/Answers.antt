@@ -1,4 +1,4 @@
-use Rattle.std.proofs.Common.{rules, ◌<◌, ap, sym, subst, arith}
+use Rattle.std.proofs.Common.{rules, ap, arith}
 use Rattle.fs_book.proofs.Lists.{empty_of}
 use Rattle.fs_book.proofs.Keeps.{joins, learns, idle_of}
 use Rattle.fs_book.proofs.book.Book.meet.Goals as goal

@@ -16,4 +16,3 @@ mod view;
 pub use book::Book;
 pub use pass::Pass;
 pub use turned::{Ask, Receipt, Turned};
-pub use view::{Stage, View};

@@ -38,6 +38,17 @@ impl<M: Turned> Book<M> {
         unreachable!()
     }
 
+    // Puts the state into the slot, which this caller still has.
+    fn put_back(&self, seat: &mut Place<M>, state: M)
+        requires own { seat.old.table_id ≡ self.now.desk.shared.table_id }
+        requires carries { seat.old.me.1 ≡ (0, None) ∷ [] }
+        ensures same { (seat.new.table_id ≡ seat.old.table_id) × (seat.new.id ≡ seat.old.id) }
+        ensures carries { seat.new.me ≡ (seat.old.me.0, (0, Some state) ∷ []) }
+    {
+        let empty = self.desk.shared.exchange(seat, 0, Some(state));
+        let None = empty else { unreachable!() };
+    }
+
     // Gives the state back as it was, and passes the turn on.
     pub(crate) fn leave(&self, seat: &mut Place<M>, state: M)
         requires own { seat.old.table_id ≡ self.now.desk.shared.table_id }
@@ -49,10 +60,8 @@ impl<M: Turned> Book<M> {
         ensures same { (seat.new.table_id ≡ seat.old.table_id) × (seat.new.id ≡ seat.old.id) }
         ensures left { seat.new.me ≡ (record seat.old.me.0 { stage = Idle }, []) }
     {
-        let shared = &self.desk.shared;
-        let empty = shared.exchange(seat, 0, Some(state));
-        let None = empty else { unreachable!() };
-        shared.fetch_add::<Leave>(seat, TURN, 1);
+        self.put_back(seat, state);
+        self.desk.shared.fetch_add::<Leave>(seat, TURN, 1);
     }
 
     // Gives the state back with one entry more, and passes the turn on.
@@ -67,9 +76,7 @@ impl<M: Turned> Book<M> {
         ensures sound { Sound M.opens M.names seat.new.me.0 }
         ensures left { seat.new.me ≡ (record seat.old.me.0 { stage = Idle; seen = M.journal state; mine = seat.old.me.0.mine ++ length seat.old.me.0.seen ∷ [] }, []) }
     {
-        let shared = &self.desk.shared;
-        let empty = shared.exchange(seat, 0, Some(state));
-        let None = empty else { unreachable!() };
-        shared.fetch_add::<Add>(seat, TURN, 1);
+        self.put_back(seat, state);
+        self.desk.shared.fetch_add::<Add>(seat, TURN, 1);
     }
 }

@@ -1,5 +1,5 @@
 -- Each step keeps the rule of the lock.
-use Rattle.std.proofs.Common.{◌≡◌, ◌≢◌, ◌⊎◌, ℕ, zero, suc, ◌+◌, ◌%◌, ◌<◌, ◌≤◌, cond, eqb, ltb, Bool, true, false, List, [], ◌∷◌, ◌++◌, length, set, Option, Some, None, slice_index, slice_set, refl, ap, sym, ◌∙◌, subst, inl, inr, ⊎_elim, arith, length-append}
+use Rattle.std.proofs.Common.{◌≡◌, ◌≢◌, ◌⊎◌, ℕ, zero, suc, ◌+◌, ◌%◌, ◌^◌, ◌<◌, ◌≤◌, cond, eqb, ltb, Bool, true, false, List, [], ◌∷◌, ◌++◌, length, set, Option, Some, None, slice_index, slice_set, refl, ap, sym, ◌∙◌, subst, inl, inr, ⊎_elim, arith, length-append}
 use Rattle.std.proofs.lemmas.Bool.Decides.{nat_tests}
 use mathlib.Core.List.{IsPrefix}
 use mathlib.Core.Logic.{dite}
@@ -239,7 +239,7 @@ module _ {S B E : Type 0} (start : S → B) (journal : S → List E) (opens : B 
   -- one pass's view changes, and what the rule says of the others still holds
   changes : (s : State (Option S) (View B E)) (r : Rule s) (id : ℕ) (v w : View B E) → get_elem? s.views id ≡ some v
       → (log' : List E) (served' drawn' : ℕ) (words' : List ℕ) (homes' : List (mathlib.Core.Option.Option (Option S)))
-      → words' ≡ (drawn' % 18446744073709551616) ∷ (served' % 18446744073709551616) ∷ []
+      → words' ≡ (drawn' % (2 ^ 64)) ∷ (served' % (2 ^ 64)) ∷ []
       → served' + r.drawn + drawn_by w ≡ drawn' + r.served + drawn_by v
       → w.parts ≡ v.parts
       → Fits opens names origin log' served' drawn' homes' w
@@ -275,15 +275,15 @@ module _ {S B E : Type 0} (start : S → B) (journal : S → List E) (opens : B 
 
   -- a ticket is drawn
   pub draws : (slots id : ℕ) (m : Me (Option S) (View B E)) → m.0.stage ≡ Idle → 0 < m.0.parts
-      → Allows Rule slots id m 0 (λ n. (n + 1) % 18446744073709551616) (drew start journal opens names (step slots 0 1 0 none) m)
+      → Allows Rule slots id m 0 (λ n. (n + 1) % (2 ^ 64)) (drew start journal opens names (step slots 0 1 0 none) m)
   draws slots id m idle part s r len at small =
       let v = m.0 in
       let w : View B E = record v { stage = Waiting r.drawn } in
       let f = fits s r id v at part in
-      let found : slice_index s.words 0 ≡ r.drawn % 18446744073709551616 = ap (λ (ws : List ℕ). slice_index ws 0) r.words_are in
-      let words : slice_set s.words 0 ((slice_index s.words 0 + 1) % 18446744073709551616) ≡ ((r.drawn + 1) % 18446744073709551616) ∷ (r.served % 18446744073709551616) ∷ [] =
-      ap (λ (ws : List ℕ). slice_set ws 0 ((slice_index ws 0 + 1) % 18446744073709551616)) r.words_are
-      ∙ ap (λ (x : ℕ). x ∷ (r.served % 18446744073709551616) ∷ []) (mod-add-mod r.drawn 18446744073709551616 1) in
+      let found : slice_index s.words 0 ≡ r.drawn % (2 ^ 64) = ap (λ (ws : List ℕ). slice_index ws 0) r.words_are in
+      let words : slice_set s.words 0 ((slice_index s.words 0 + 1) % (2 ^ 64)) ≡ ((r.drawn + 1) % (2 ^ 64)) ∷ (r.served % (2 ^ 64)) ∷ [] =
+      ap (λ (ws : List ℕ). slice_set ws 0 ((slice_index ws 0 + 1) % (2 ^ 64))) r.words_are
+      ∙ ap (λ (x : ℕ). x ∷ (r.served % (2 ^ 64)) ∷ []) (mod-add-mod r.drawn (2 ^ 64) 1) in
       let none_drawn : drawn_by v ≡ 0 = ap tickets_of idle in
       let q = r.queue in
       let mine : Fits opens names origin r.log r.served (r.drawn + 1) s.homes w =
@@ -336,7 +336,7 @@ module _ {S B E : Type 0} (start : S → B) (journal : S → List E) (opens : B 
       let pre : IsPrefix v.seen (journal x) = subst (λ (log : List E). IsPrefix v.seen log) (sym h.3) f.prefix in
       let len = prefix_length v.seen (journal x) pre in
       let gone : slice_set s.homes 0 none ≡ none ∷ [] = ap (λ (hs : List (mathlib.Core.Option.Option (Option S))). slice_set hs 0 none) h.1 in
-      let words : slice_set s.words 1 (slice_index s.words 1) ≡ (r.drawn % 18446744073709551616) ∷ (r.served % 18446744073709551616) ∷ [] = ap (λ (ws : List ℕ). slice_set ws 1 (slice_index ws 1)) r.words_are in
+      let words : slice_set s.words 1 (slice_index s.words 1) ≡ (r.drawn % (2 ^ 64)) ∷ (r.served % (2 ^ 64)) ∷ [] = ap (λ (ws : List ℕ). slice_set ws 1 (slice_index ws 1)) r.words_are in
       let b = ticket_below s r id k v at (subst (λ (y : Stage). HasTicket y k) (sym waits) refl) in
       let drawn_v : drawn_by v ≡ 1 = ap tickets_of waits in
       let mine : Fits opens names origin r.log r.served r.drawn (slice_set s.homes 0 none) w =
@@ -362,10 +362,10 @@ module _ {S B E : Type 0} (start : S → B) (journal : S → List E) (opens : B 
   -- the turn is read by one who waits
   pub comes : (slots id : ℕ) (m : Me (Option S) (View B E)) (k : ℕ) → m.0.stage ≡ Waiting k → 0 < m.0.parts → Allows Rule slots id m 1 (λ n. n) (came start journal opens names (step slots 1 0 0 none) m)
   comes slots id m k waits part s r len at small =
-      let found : slice_index s.words 1 ≡ r.served % 18446744073709551616 = ap (λ (ws : List ℕ). slice_index ws 1) r.words_are in
+      let found : slice_index s.words 1 ≡ r.served % (2 ^ 64) = ap (λ (ws : List ℕ). slice_index ws 1) r.words_are in
       let b = ticket_below s r id k m.0 at (subst (λ (y : Stage). HasTicket y k) (sym waits) refl) in
       let q = few s r in
-      let turn : slice_index s.words 1 ≡ k % 18446744073709551616 → k ≡ r.served = λ e. sym (one_turn r.served k 18446744073709551616 b.0 (omega arith) (sym found ∙ e)) in
+      let turn : slice_index s.words 1 ≡ k % (2 ^ 64) → k ≡ r.served = λ e. sym (one_turn r.served k (2 ^ 64) b.0 (omega arith) (sym found ∙ e)) in
       dite (ℕ_discrete k r.served)
       (λ here.
       let t = takes_turn id m k waits part s r at here in
@@ -376,7 +376,7 @@ module _ {S B E : Type 0} (start : S → B) (journal : S → List E) (opens : B 
         t.3,
         λ k' waits'. let e : k ≡ k' = waiting_is k k' (sym waits ∙ waits') in (
           λ _. subst (λ (n : ℕ). Took start journal opens names n m (record m.0 { stage = Out k; seen = journal t.0 }, (0, Some t.0) ∷ m.1)) e t.2,
-          λ n. absurd (n (found ∙ ap (λ (y : ℕ). y % 18446744073709551616) (sym here ∙ e))),
+          λ n. absurd (n (found ∙ ap (λ (y : ℕ). y % (2 ^ 64)) (sym here ∙ e))),
         ),
       ))
       (λ elsewhere. (
@@ -385,7 +385,7 @@ module _ {S B E : Type 0} (start : S → B) (journal : S → List E) (opens : B 
         tt,
         unmoved s r id m.0 at,
         λ k' waits'. let e : k ≡ k' = waiting_is k k' (sym waits ∙ waits') in (
-          λ is. absurd (elsewhere (turn (is ∙ ap (λ (y : ℕ). y % 18446744073709551616) (sym e)))),
+          λ is. absurd (elsewhere (turn (is ∙ ap (λ (y : ℕ). y % (2 ^ 64)) (sym e)))),
           λ _. refl,
         ),
       ))
@@ -398,10 +398,10 @@ module _ {S B E : Type 0} (start : S → B) (journal : S → List E) (opens : B 
       let a : AtStage r.log r.served r.drawn s.homes v.seen (Out k) = subst (λ (y : Stage). AtStage r.log r.served r.drawn s.homes v.seen y) out f.stage in
       (a.0, a.2, a.3, subst (λ (y : Stage). HasTicket y r.served) (sym out) a.0, ap tickets_of out)
 
-  next_turn : (s : State (Option S) (View B E)) (r : Rule s) → slice_set s.words 1 ((slice_index s.words 1 + 1) % 18446744073709551616) ≡ (r.drawn % 18446744073709551616) ∷ ((r.served + 1) % 18446744073709551616) ∷ []
+  next_turn : (s : State (Option S) (View B E)) (r : Rule s) → slice_set s.words 1 ((slice_index s.words 1 + 1) % (2 ^ 64)) ≡ (r.drawn % (2 ^ 64)) ∷ ((r.served + 1) % (2 ^ 64)) ∷ []
   next_turn s r =
-      ap (λ (ws : List ℕ). slice_set ws 1 ((slice_index ws 1 + 1) % 18446744073709551616)) r.words_are
-      ∙ ap (λ (x : ℕ). (r.drawn % 18446744073709551616) ∷ x ∷ []) (mod-add-mod r.served 18446744073709551616 1)
+      ap (λ (ws : List ℕ). slice_set ws 1 ((slice_index ws 1 + 1) % (2 ^ 64))) r.words_are
+      ∙ ap (λ (x : ℕ). (r.drawn % (2 ^ 64)) ∷ x ∷ []) (mod-add-mod r.served (2 ^ 64) 1)
 
   gives_back : (s : State (Option S) (View B E)) (m : Me (Option S) (View B E)) (x : S) → s.homes ≡ none ∷ [] → m.1 ≡ (0, Some x) ∷ [] → put_back s.homes m.1 ≡ some (Some x) ∷ []
   gives_back s m x out carries =
@@ -409,7 +409,7 @@ module _ {S B E : Type 0} (start : S → B) (journal : S → List E) (opens : B 
 
   -- the state is given back as it was, and the turn passed on
   pub leaves : (slots id : ℕ) (m : Me (Option S) (View B E)) (k : ℕ) (x : S) → m.0.stage ≡ Out k → 0 < m.0.parts → m.1 ≡ (0, Some x) ∷ [] → m.0.start ≡ Some (start x) → journal x ≡ m.0.seen
-      → Allows Rule slots id m 1 (λ n. (n + 1) % 18446744073709551616) (left start journal opens names (step slots 1 1 0 none) m)
+      → Allows Rule slots id m 1 (λ n. (n + 1) % (2 ^ 64)) (left start journal opens names (step slots 1 1 0 none) m)
   leaves slots id m k x out part carries start_is same s r len at small =
       let v = m.0 in
       let w : View B E = record v { stage = Idle } in
@@ -436,7 +436,7 @@ module _ {S B E : Type 0} (start : S → B) (journal : S → List E) (opens : B 
   -- the state is given back with one entry more, which the pass that gives it owns
   pub adds : (slots id : ℕ) (m : Me (Option S) (View B E)) (k : ℕ) (x : S) (entry : E) → m.0.stage ≡ Out k → 0 < m.0.parts → m.1 ≡ (0, Some x) ∷ [] → m.0.start ≡ Some (start x)
       → journal x ≡ m.0.seen ++ entry ∷ [] → IsOwn opens names (start x) m.0.seen m.0.mine entry
-      → Allows Rule slots id m 1 (λ n. (n + 1) % 18446744073709551616) (added start journal opens names (step slots 1 1 0 none) m)
+      → Allows Rule slots id m 1 (λ n. (n + 1) % (2 ^ 64)) (added start journal opens names (step slots 1 1 0 none) m)
   adds slots id m k x entry out part carries start_is more own s r len at small =
       let v = m.0 in
       let w : View B E = record v { stage = Idle; seen = journal x; mine = v.mine ++ length v.seen ∷ [] } in

@@ -1,5 +1,5 @@
 -- The rule of the lock: tickets and turn, the state at home or out, what each pass knows. And what each step on it tells.
-use Rattle.std.specs.Prelude.{◌≡◌, ◌≢◌, ◌⊎◌, ℕ, ◌+◌, ◌-◌, ◌%◌, ◌<◌, ◌≤◌, nat_lt, if◌then◌else◌, List, [], ◌∷◌, ◌++◌, length, Option, Some, None}
+use Rattle.std.specs.Prelude.{◌≡◌, ◌≢◌, ◌⊎◌, ℕ, ◌+◌, ◌-◌, ◌%◌, ◌^◌, ◌<◌, ◌≤◌, nat_lt, if◌then◌else◌, List, [], ◌∷◌, ◌++◌, length, Option, Some, None}
 use mathlib.Core.Option.{some, none}
 use mathlib.Core.List.{IsPrefix}
 use lib.ListN.{get_elem?}
@@ -12,7 +12,7 @@ use Rattle.fs_book.specs.Opened.{Closed, Rises, IsSound}
 
 -- how many parts all passes have together
 abbrev pub all_parts : ℕ
-all_parts = 4611686018427387904
+all_parts = 2 ^ 62
 
 abbrev pub tickets_of : Stage → ℕ
 tickets_of Idle = 0
@@ -94,7 +94,7 @@ module _ {S B E : Type 0} (start : S → B) (journal : S → List E) (opens : B 
     pub log : List E
     pub served : ℕ
     pub drawn : ℕ
-    pub words_are : s.words ≡ (drawn % 18446744073709551616) ∷ (served % 18446744073709551616) ∷ []
+    pub words_are : s.words ≡ (drawn % (2 ^ 64)) ∷ (served % (2 ^ 64)) ∷ []
     pub queue : served + total drawn_by s.views ≡ drawn
     pub parts : total parts_of s.views ≡ all_parts
     pub each : (j : ℕ) (v : View B E) → get_elem? s.views j ≡ some v → (v ≡ spent) ⊎ Fits opens names origin log served drawn s.homes v
@@ -105,7 +105,7 @@ module _ {S B E : Type 0} (start : S → B) (journal : S → List E) (opens : B 
 
   -- a ticket was drawn
   abbrev pub drew : Step (Option S) → Me (Option S) (View B E) → ℕ → Me (Option S) (View B E) → Type 0
-  drew step m n m' = (k : ℕ) × (n ≡ k % 18446744073709551616) × (m' ≡ (record m.0 { stage = Waiting k }, m.1))
+  drew step m n m' = (k : ℕ) × (n ≡ k % (2 ^ 64)) × (m' ≡ (record m.0 { stage = Waiting k }, m.1))
 
   -- the turn was this ticket's, and the state was taken
   abbrev pub Took : ℕ → Me (Option S) (View B E) → Me (Option S) (View B E) → Type 0
@@ -113,7 +113,7 @@ module _ {S B E : Type 0} (start : S → B) (journal : S → List E) (opens : B 
 
   -- the turn was read by one who waits
   abbrev pub came : Step (Option S) → Me (Option S) (View B E) → ℕ → Me (Option S) (View B E) → Type 0
-  came step m n m' = (k : ℕ) → m.0.stage ≡ Waiting k → (n ≡ k % 18446744073709551616 → Took k m m') × (n ≢ k % 18446744073709551616 → m' ≡ m)
+  came step m n m' = (k : ℕ) → m.0.stage ≡ Waiting k → (n ≡ k % (2 ^ 64) → Took k m m') × (n ≢ k % (2 ^ 64) → m' ≡ m)
 
   -- the state was given back as it was, and the turn passed on
   abbrev pub left : Step (Option S) → Me (Option S) (View B E) → ℕ → Me (Option S) (View B E) → Type 0

@@ -8,6 +8,7 @@ ghost use Rattle.fs_book.specs.Tenures.{IsIn};
 use crate::book::Book;
 use crate::rule::{Add, Come, Draw, Leave, Place};
 use crate::turned::Turned;
+use std::hint;
 use std::sync::Wait;
 use std::thread;
 
@@ -15,6 +16,9 @@ use std::thread;
 pub const TICKETS: usize = 0;
 
 pub const TURN: usize = 1;
+
+// How often a caller reads the turn before it yields its processor at each read.
+const QUICK_READS: u32 = 100;
 
 impl<M: Turned> Book<M> {
     // Draws a ticket, waits for its turn, and takes the state.
@@ -26,6 +30,7 @@ impl<M: Turned> Book<M> {
     {
         let shared = &self.desk.shared;
         let ticket = shared.fetch_add::<Draw>(seat, TICKETS, 1);
+        let mut reads = 0;
         for _ in rt.forever() {
             if shared.load::<Come>(seat, TURN) == ticket {
                 let Some(state) = shared.exchange(seat, 0, None) else {
@@ -33,7 +38,12 @@ impl<M: Turned> Book<M> {
                 };
                 return state;
             }
-            thread::yield_now();
+            if reads < QUICK_READS {
+                reads += 1;
+                hint::spin_loop();
+            } else {
+                thread::yield_now();
+            }
         }
         unreachable!()
     }

@@ -8,9 +8,8 @@ ghost use Rattle.fs_book.specs.Tenures.{IsIn};
 use crate::book::Book;
 use crate::rule::{Add, Come, Draw, Leave, Place};
 use crate::turned::Turned;
-use std::hint;
 use std::sync::Wait;
-use std::thread;
+use std::{hint, thread};
 
 // The words of the lock: the tickets drawn, and the ticket whose turn it is.
 pub const TICKETS: usize = 0;

@@ -13,12 +13,12 @@ use Rattle.fs_book.specs.declared.view.Stage.{Stage}
 use Rattle.fs_book.specs.declared.view.Stage.TheVariants.{Idle, Waiting, Out}
 use Rattle.fs_book.specs.declared.view.View.{View}
 use Rattle.fs_book.specs.Counts.{total, times, once_below}
-use Rattle.fs_book.specs.Opened.{OpensAt, NamesAt, Owns, IsOwn, Rises, Closed, Owned}
+use Rattle.fs_book.specs.Opened.{OpensAt, NamesAt, IsOwn, Rises, Closed, Owned}
 use Rattle.fs_book.specs.Turns.{all_parts, tickets_of, HasTicket, parts_of, drawn_by, lists_of, held, longer, shorter, spent, opening_view, cut_left, cut_right, both, Sound, AtStage, Fits, Fair, drew, Took, came, left, added, learned}
 use Rattle.fs_book.proofs.Lists.{prefix_self, prefix_trans, prefix_shorter, prefix_whole, prefix_length, get_below, total_set, total_push, total_append, one_le_total, two_le_total, total_le, total_only, total_alone, find, times_push, once_more}
 use Rattle.fs_book.proofs.Opening.{opens_up, names_up, names_down, closed_up, closed_push, rises_push}
 
--- the rule holds a place in the list at most once
+-- what stands at one place is one
 same_at : {A : Type 0} (xs : List A) (i j : ℕ) (a b : A) → get_elem? xs i ≡ some a → get_elem? xs j ≡ some b → i ≡ j → a ≡ b
 same_at xs i j a b at at' is = some-injective a b (sym at ∙ (ap (λ (k : ℕ). get_elem? xs k) is ∙ at'))
 
@@ -182,33 +182,44 @@ module _ {S B E : Type 0} (start : S → B) (journal : S → List E) (opens : B 
       (λ (f : Fits opens names origin r.log r.served r.drawn s.homes v). let t = tickets_le v.stage in let p = f.some_part in omega arith) (r.each j v at)) in
       let q = r.queue in let p = r.parts in omega arith
 
-  -- a pass that has the opening of a number has each place that names it
+  -- a place stands in one list of one pass
+  one_list : (s : State (Option S) (View B E)) (r : Rule s) (q i j k k' : ℕ) (u v : View B E) (l l' : List ℕ) → get_elem? s.views i ≡ some u → get_elem? s.views j ≡ some v
+      → get_elem? (lists_of u) k ≡ some l → get_elem? (lists_of v) k' ≡ some l' → 0 < times q l → 0 < times q l' → l ≡ l'
+  one_list s r q i j k k' u v l l' at at' at_l at_l' in_l in_l' =
+      let once : total (held q) s.views ≤ 1 = (let o = r.once q in grind (arith, nat_tests)) in
+      let held_u : times q l ≤ held q u = one_le_total (times q) (lists_of u) k l at_l in
+      let held_v : times q l' ≤ held q v = one_le_total (times q) (lists_of v) k' l' at_l' in
+      let one_pass : i ≡ j = dite (ℕ_discrete i j) (λ e. e) (λ n. let two = two_le_total (held q) s.views i j u v n at at' in absurd (omega arith)) in
+      let here : get_elem? (lists_of u) k' ≡ some l' = subst (λ (x : View B E). get_elem? (lists_of x) k' ≡ some l') (sym (same_at s.views i j u v at at' one_pass)) at_l' in
+      let whole = one_le_total (held q) s.views i u at in
+      let one : k ≡ k' = dite (ℕ_discrete k k') (λ e. e) (λ n. let two = two_le_total (times q) (lists_of u) k k' l l' n at_l here in absurd (omega arith)) in
+      same_at (lists_of u) k k' l l' at_l here one
+
+  -- a pass that has a place is not spent
+  fits_held : (s : State (Option S) (View B E)) (r : Rule s) (p i : ℕ) (u : View B E) → get_elem? s.views i ≡ some u → 0 < held p u → Fits opens names origin r.log r.served r.drawn s.homes u
+  fits_held s r p i u at has = ⊎_elim (λ (e : u ≡ spent). let none_held : held p u ≡ 0 = ap (held p) e in absurd (omega arith)) (λ f. f) (r.each i u at)
+
+  -- a pass that has the opening of a number has the place of any entry that names it, which stands in some list of some pass
+  has_named : (s : State (Option S) (View B E)) (r : Rule s) (b : B) (j k q number p : ℕ) (v : View B E) (l : List ℕ) → get_elem? s.views j ≡ some v → Fits opens names origin r.log r.served r.drawn s.homes v
+      → v.start ≡ Some b → get_elem? (lists_of v) k ≡ some l → 0 < times q l → OpensAt opens b v.seen q number → NamesAt names v.seen p number
+      → (i k' : ℕ) (u : View B E) (l' : List ℕ) → get_elem? s.views i ≡ some u → Fits opens names origin r.log r.served r.drawn s.homes u → get_elem? (lists_of u) k' ≡ some l' → 0 < times p l' → 0 < times p l
+  has_named s r b j k q number p v l at f is at_l in_l opened named i k' u l' at_u g at_l' in_l' =
+      let held_u = one_le_total (times p) (lists_of u) k' l' at_l' in
+      let named_u = names_down names u.seen r.log p number g.prefix (g.places p (omega arith)) (names_up names v.seen r.log p number f.prefix named) in
+      let home = g.closed b (g.origin_is ∙ sym f.origin_is ∙ is) k' l' at_l' p number in_l' named_u in
+      let same : home.0 ≡ q = opens_once b r.log home.0 q number (opens_up opens b u.seen r.log home.0 number g.prefix home.2) (opens_up opens b v.seen r.log q number f.prefix opened) in
+      let in_home : 0 < times q l' = subst (λ (x : ℕ). 0 < times x l') same home.1 in
+      subst (λ (x : List ℕ). 0 < times p x) (one_list s r q i j k' k u v l' l at_u at at_l' at_l in_home in_l) in_l'
+
   owns : (s : State (Option S) (View B E)) (r : Rule s) (j : ℕ) (v : View B E) → get_elem? s.views j ≡ some v → Fits opens names origin r.log r.served r.drawn s.homes v
       → Owned opens names v.start (lists_of v) v.seen
   owns s r j v at f b is k l at_l q number in_l opened p named =
-      let b_is : b ≡ origin = Some_is b origin (sym is ∙ f.origin_is) in
-      let below : p < length r.log = (let n = get_below v.seen p named.0 named.1 in let m = prefix_length v.seen r.log f.prefix in omega arith) in
+      let below = get_below v.seen p named.0 named.1 in
+      let within = prefix_length v.seen r.log f.prefix in
       let one : total (held p) s.views ≡ 1 = (let o = r.once p in grind (arith, nat_tests)) in
-      let other = find (held p) s.views (omega arith) in
-      let i = other.0 in let u = other.1 in
-      let inside = find (times p) (lists_of u) other.3 in
-      let l' = inside.1 in
-      let fu : Fits opens names origin r.log r.served r.drawn s.homes u = ⊎_elim (λ (e : u ≡ spent). let h : held p u ≡ 0 = ap (held p) e in let o = other.3 in absurd (omega arith)) (λ g. g) (r.each i u other.2) in
-      let named_u : NamesAt names u.seen p number = names_down names u.seen r.log p number fu.prefix (fu.places p other.3) (names_up names v.seen r.log p number f.prefix named) in
-      let home : Owns opens b number u.seen l' = fu.closed b (fu.origin_is ∙ ap (λ (x : B). Some x) (sym b_is)) inside.0 l' inside.2 p number inside.3 named_u in
-      let q' = home.0 in
-      let same : q ≡ q' = opens_once b r.log q q' number (opens_up opens b v.seen r.log q number f.prefix opened) (opens_up opens b u.seen r.log q' number fu.prefix home.2) in
-      let in_l' : 0 < times q l' = subst (λ (x : ℕ). 0 < times x l') (sym same) home.1 in
-      let held_v : 0 < held q v = (let n = one_le_total (times q) (lists_of v) k l at_l in omega arith) in
-      let held_u : 0 < held q u = (let n = one_le_total (times q) (lists_of u) inside.0 l' inside.2 in omega arith) in
-      let at_most : total (held q) s.views ≤ 1 = (let o = r.once q in grind (arith, nat_tests)) in
-      let j_is : j ≡ i = dite (ℕ_discrete j i) (λ e. e) (λ n. let t = two_le_total (held q) s.views j i v u n at other.2 in absurd (omega arith)) in
-      let v_is : v ≡ u = same_at s.views j i v u at other.2 j_is in
-      let at_l' : get_elem? (lists_of v) inside.0 ≡ some l' = subst (λ (x : View B E). get_elem? (lists_of x) inside.0 ≡ some l') (sym v_is) inside.2 in
-      let whole = one_le_total (held q) s.views j v at in
-      let k_is : k ≡ inside.0 = dite (ℕ_discrete k inside.0) (λ e. e) (λ n. let t = two_le_total (times q) (lists_of v) k inside.0 l l' n at_l at_l' in absurd (omega arith)) in
-      let l_is : l ≡ l' = same_at (lists_of v) k inside.0 l l' at_l at_l' k_is in
-      subst (λ (x : List ℕ). 0 < times p x) (sym l_is) inside.3
+      let pass = find (held p) s.views (omega arith) in
+      let list = find (times p) (lists_of pass.1) pass.3 in
+      has_named s r b j k q number p v l at f is at_l in_l opened named pass.0 list.0 pass.1 list.1 pass.2 (fits_held s r p pass.0 pass.1 pass.2 pass.3) list.2 list.3
 
   -- what a step tells of a pass by itself
   sound : (s : State (Option S) (View B E)) (r : Rule s) (j : ℕ) (v : View B E) → get_elem? s.views j ≡ some v → 0 < v.parts → Sound opens names v

@@ -22,14 +22,17 @@ use Rattle.fs_book.proofs.Opening.{opens_up, names_up, names_down, closed_up, cl
 same_at : {A : Type 0} (xs : List A) (i j : ℕ) (a b : A) → get_elem? xs i ≡ some a → get_elem? xs j ≡ some b → i ≡ j → a ≡ b
 same_at xs i j a b at at' is = some-injective a b (sym at ∙ (ap (λ (k : ℕ). get_elem? xs k) is ∙ at'))
 
+-- what stands at a place stands below the length
 at_below : {A : Type 0} (xs : List A) (i : ℕ) (a : A) → get_elem? xs i ≡ some a → i < length xs
 at_below [] i a at = absurd (some-ne-none a (sym at))
 at_below (x ∷ xs) zero a at = omega arith
 at_below (x ∷ xs) (suc i) a at = let r = at_below xs i a at in omega arith
 
+-- what holds of each, where one changed
 each_set : {V : Type 0} (P : V → Type 0) (vs : List V) (i : ℕ) (w : V) → P w → ((j : ℕ) (u : V) → j ≢ i → get_elem? vs j ≡ some u → P u) → (j : ℕ) (u : V) → get_elem? (set vs i w) j ≡ some u → P u
 each_set P vs i w mine others j u e = ⊎_elim (λ (x : (j ≡ i) × (w ≡ u)). subst P x.1 mine) (λ (x : (j ≢ i) × (get_elem? vs j ≡ some u)). others j u x.0 x.1) (at_set vs i j w u e)
 
+-- a view has one ticket at most
 tickets_le : (stage : Stage) → tickets_of stage ≤ 1
 tickets_le Idle = omega arith
 tickets_le (Waiting k) = omega arith
@@ -45,17 +48,17 @@ waiting_out k n e = cc e
 waiting_is : (k n : ℕ) → Waiting k ≡ Waiting n → k ≡ n
 waiting_is k n e = cc e
 
-out_is : (k n : ℕ) → Out k ≡ Out n → k ≡ n
-out_is k n e = cc e
-
+-- who has no ticket is idle
 pub idle_of : (stage : Stage) → tickets_of stage ≡ 0 → stage ≡ Idle
 idle_of Idle is = refl
 idle_of (Waiting k) is = absurd (omega arith)
 idle_of (Out k) is = absurd (omega arith)
 
+-- what is known by two names is one
 pub Some_is : {A : Type 0} (a b : A) → Some a ≡ Some b → a ≡ b
 Some_is a b e = cc e
 
+-- who is idle has no ticket
 no_ticket : (stage : Stage) (k : ℕ) → stage ≡ Idle → HasTicket stage k → ⊥
 no_ticket Idle k is h = h
 no_ticket (Waiting t) k is h = absurd (cc is)
@@ -69,6 +72,7 @@ abbrev last_taken : {S : Type 0} → List (ℕ × Option S) → Option S
 last_taken [] = None
 last_taken (c ∷ cs) = c.1
 
+-- the state that is carried is one
 one_carried : {S : Type 0} (x y : S) → ◌≡◌ {A = List (ℕ × Option S)} ((0, Some x) ∷ []) ((0, Some y) ∷ []) → x ≡ y
 one_carried x y e = Some_is x y (ap last_taken e)
 
@@ -112,14 +116,6 @@ module _ {E : Type 0} (xs ys : List E) where
   -- of two beginnings of one journal the longer one begins with both
   meets : (log : List E) → IsPrefix xs log → IsPrefix ys log → IsPrefix xs (longer xs ys) × IsPrefix ys (longer xs ys) × IsPrefix (longer xs ys) log × IsPrefix (shorter xs ys) (longer xs ys)
   meets log = picks log (ltb (length xs) (length ys)) refl
-
-  told_picks : (b : Bool) → IsPrefix (cond b xs ys) (cond b ys xs) → IsPrefix xs (cond b ys xs) × IsPrefix ys (cond b ys xs)
-  told_picks true p = (p, prefix_self ys)
-  told_picks false p = (prefix_self xs, p)
-
-  -- what the last meeting told
-  pub met_seen : IsPrefix (shorter xs ys) (longer xs ys) → IsPrefix xs (longer xs ys) × IsPrefix ys (longer xs ys)
-  met_seen = told_picks (ltb (length xs) (length ys))
 
 module _ {S E : Type 0} (log log' : List E) (served drawn : ℕ) (homes homes' : List (mathlib.Core.Option.Option (Option S))) where
   -- a stage that has a ticket has one that is drawn and not yet served

@@ -4,8 +4,9 @@ use Rattle.std.proofs.lemmas.List.{take-append-drop, drop_all}
 use Rattle.std.specs.List.{concat}
 use lib.ListN.{replicate}
 use Rattle.fs_frame.specs.Blocks.{blocks_of}
-use Rattle.fs_top.specs.Switch.{State, empty, step, run, run_from, bytes_taken, frames, frames_from, taken_from, handed, queued, queue_after, command_in, commands}
-use Rattle.fs_top.specs.Journal.{cost, journal_limit, accepted, IsAccepted, IsCutShort}
+use Rattle.fs_top.specs.declared.start.Start.{Start}
+use Rattle.fs_top.specs.Switch.{Journal, begun, first_state, State, step, run, run_from, bytes_taken, frames, frames_from, taken_from, handed, queued, queue_after, command_in, commands_in, commands}
+use Rattle.fs_top.specs.Journal.{cost, accepted, IsAccepted, IsCutShort}
 use Rattle.fs_top.specs.Told.{status_of_end}
 use Rattle.fs_top.specs.Takes.{Begins}
 use Rattle.fs_top.specs.declared.end.End.TheVariants.{JournalFull}
@@ -48,80 +49,80 @@ queue-takes (suc n) s = queue-takes n (step s (entry_of take_frame)) ∙ drop-on
     drop-one n (frame ∷ queue) = refl
 
 -- once all were taken none waits
-queue-all_taken : (journal : List Entry) → (run (all_taken journal)).queue ≡ []
+queue-all_taken : (journal : Journal) → (run (all_taken journal)).queue ≡ []
 queue-all_taken journal =
-    ap (λ s. s.queue) (run_from-append empty journal (replicate (length (run journal).queue) (entry_of take_frame)))
+    ap (λ s. s.queue) (run_from-append (first_state journal.start) journal.entries (replicate (length (run journal).queue) (entry_of take_frame)))
     ∙ queue-takes (length (run journal).queue) (run journal) ∙ drop_all (length (run journal).queue) (run journal).queue (omega arith)
 
-queue-after : (journal : List Entry) (block : List ℕ) (ending : Bool) → is_ending journal ≡ ending → (run journal).queue ≡ [] → (run (after journal block)).queue ≡ []
+queue-after : (journal : Journal) (block : List ℕ) (ending : Bool) → is_ending journal ≡ ending → (run journal).queue ≡ [] → (run (after journal block)).queue ≡ []
 queue-after journal block true is none = ap (λ j. (run j).queue) (after-ending journal block is) ∙ none
 queue-after journal block false is none = ap (λ j. (run j).queue) (after-open journal block is) ∙ queue-all_taken (submitted journal (command block))
 
-queue-after_all : (journal : List Entry) (blocks : List (List ℕ)) → (run journal).queue ≡ [] → (run (after_all journal blocks)).queue ≡ []
+queue-after_all : (journal : Journal) (blocks : List (List ℕ)) → (run journal).queue ≡ [] → (run (after_all journal blocks)).queue ≡ []
 queue-after_all journal [] none = none
 queue-after_all journal (block ∷ blocks) none = queue-after_all (after journal block) blocks (queue-after journal block (is_ending journal) refl none)
 
-queue-input_ended : (journal : List Entry) → (run journal).queue ≡ [] → (run (input_ended journal)).queue ≡ []
+queue-input_ended : (journal : Journal) → (run journal).queue ≡ [] → (run (input_ended journal)).queue ≡ []
 queue-input_ended journal none =
     elim (is_ending journal) as (λ b. (run (cond b journal (all_taken (submitted journal (close EndOfInput))))).queue ≡ []) [
       | true ↦ none
       | false ↦ queue-all_taken (submitted journal (close EndOfInput))
     ]
 
-queue-closed : (journal : List Entry) → (run journal).queue ≡ [] → (run (closed journal)).queue ≡ []
+queue-closed : (journal : Journal) → (run journal).queue ≡ [] → (run (closed journal)).queue ≡ []
 queue-closed journal none = ap (λ s. s.queue) (run-submitted (input_ended journal) (close Sent)) ∙ queue-input_ended journal none
 
 -- the bytes that were taken are a front of those of all frames
-pub bytes-frames : (journal : List Entry) → concat (frames journal) ≡ bytes_taken journal ++ concat (run journal).queue
-bytes-frames journal = ap concat (sym (taken-frames empty journal)) ∙ concat-append (taken_from empty journal) (run journal).queue
+pub bytes-frames : (journal : Journal) → concat (frames journal) ≡ bytes_taken journal ++ concat (run journal).queue
+bytes-frames journal = ap concat (sym (taken-frames (first_state journal.start) journal.entries)) ∙ concat-append (taken_from (first_state journal.start) journal.entries) (run journal).queue
 
 -- the output of a play is what its journal took
-pub output-taken : (input : List ℕ) (read_failed : Bool) → (play input read_failed).output ≡ bytes_taken (play input read_failed).journal
+pub output-taken : (start : Start) (input : List ℕ) (read_failed : Bool) → (play start input read_failed).output ≡ bytes_taken (play start input read_failed).journal
 unfolding play
-output-taken input read_failed = refl
+output-taken start input read_failed = refl
 
 -- a play that no limit cuts short takes all of them
-output-whole : (input : List ℕ) → bytes_taken (whole_journal input) ≡ concat (frames (whole_journal input))
-output-whole input =
-    let none = queue-closed (after_all opened (blocks_of input)) (queue-after_all opened (blocks_of input) (queue-all_taken (submitted [] Arrive))) in
-    sym (bytes-frames (whole_journal input) ∙ ap (λ q. bytes_taken (whole_journal input) ++ concat q) none ∙ append-nil (bytes_taken (whole_journal input)))
+output-whole : (start : Start) (input : List ℕ) → bytes_taken (whole_journal start input) ≡ concat (frames (whole_journal start input))
+output-whole start input =
+    let none = queue-closed (after_all (opened start) (blocks_of input)) (queue-after_all (opened start) (blocks_of input) (queue-all_taken (submitted (begun start) Arrive))) in
+    sym (bytes-frames (whole_journal start input) ∙ ap (λ q. bytes_taken (whole_journal start input) ++ concat q) none ∙ append-nil (bytes_taken (whole_journal start input)))
 
 -- a play that does not end by a full journal has the whole one
-pub journal-whole : (input : List ℕ) (read_failed : Bool) → status_of_end (play input read_failed).end ≢ 8 → (play input read_failed).journal ≡ whole_journal input
+pub journal-whole : (start : Start) (input : List ℕ) (read_failed : Bool) → status_of_end (play start input read_failed).end ≢ 8 → (play start input read_failed).journal ≡ whole_journal start input
 unfolding play
-journal-whole input read_failed not_full = by (length (accepted (whole_journal input)) == length (whole_journal input)) refl not_full
+journal-whole start input read_failed not_full = by (length (accepted (whole_journal start input)).entries == length (whole_journal start input).entries) refl not_full
   where
-    by : (same : Bool) → (length (accepted (whole_journal input)) == length (whole_journal input)) ≡ same →
-        status_of_end (cond same (end_of input read_failed) (JournalFull (cost (accepted (whole_journal input))) journal_limit)) ≢ 8 → accepted (whole_journal input) ≡ whole_journal input
-    by true is not_full = begins-all (accepted (whole_journal input)) (whole_journal input) (accepted-begins (whole_journal input)) (eqb-true (length (accepted (whole_journal input))) (length (whole_journal input)) is)
+    by : (same : Bool) → (length (accepted (whole_journal start input)).entries == length (whole_journal start input).entries) ≡ same →
+        status_of_end (cond same (end_of start input read_failed) (JournalFull (cost (accepted (whole_journal start input))) (accepted (whole_journal start input)).start.journal_limit)) ≢ 8 → accepted (whole_journal start input) ≡ whole_journal start input
+    by true is not_full = begins-all (accepted (whole_journal start input)) (whole_journal start input) (accepted-begins (whole_journal start input)) (eqb-true (length (accepted (whole_journal start input)).entries) (length (whole_journal start input).entries) is)
     by false is not_full = absurd (not_full refl)
 
-pub output-frames : (input : List ℕ) (read_failed : Bool) → status_of_end (play input read_failed).end ≢ 8 → (play input read_failed).output ≡ concat (frames (play input read_failed).journal)
-output-frames input read_failed not_full =
-    let whole = journal-whole input read_failed not_full in
-    output-taken input read_failed ∙ ap bytes_taken whole ∙ output-whole input ∙ ap (λ j. concat (frames j)) (sym whole)
+pub output-frames : (start : Start) (input : List ℕ) (read_failed : Bool) → status_of_end (play start input read_failed).end ≢ 8 → (play start input read_failed).output ≡ concat (frames (play start input read_failed).journal)
+output-frames start input read_failed not_full =
+    let whole = journal-whole start input read_failed not_full in
+    output-taken start input read_failed ∙ ap bytes_taken whole ∙ output-whole start input ∙ ap (λ j. concat (frames j)) (sym whole)
 
-commands-append : (xs ys : List Entry) → commands (xs ++ ys) ≡ commands xs ++ commands ys
+commands-append : (xs ys : List Entry) → commands_in (xs ++ ys) ≡ commands_in xs ++ commands_in ys
 commands-append [] ys = refl
-commands-append (x ∷ xs) ys = ap (λ zs. command_in x.act ++ zs) (commands-append xs ys) ∙ sym (append_assoc (command_in x.act) (commands xs) (commands ys))
+commands-append (x ∷ xs) ys = ap (λ zs. command_in x.act ++ zs) (commands-append xs ys) ∙ sym (append_assoc (command_in x.act) (commands_in xs) (commands_in ys))
 
-commands-takes : (n : ℕ) → commands (replicate n (entry_of take_frame)) ≡ []
+commands-takes : (n : ℕ) → commands_in (replicate n (entry_of take_frame)) ≡ []
 commands-takes zero = refl
 commands-takes (suc n) = commands-takes n
 
-commands-all_taken : (journal : List Entry) → commands (all_taken journal) ≡ commands journal
+commands-all_taken : (journal : Journal) → commands (all_taken journal) ≡ commands journal
 commands-all_taken journal =
-    commands-append journal (replicate (length (run journal).queue) (entry_of take_frame))
+    commands-append journal.entries (replicate (length (run journal).queue) (entry_of take_frame))
     ∙ ap (λ xs. commands journal ++ xs) (commands-takes (length (run journal).queue)) ∙ append-nil (commands journal)
 
 -- an entry without a command
-commands-submitted : (journal : List Entry) (act : Act) → command_in act ≡ [] → commands (submitted journal act) ≡ commands journal
+commands-submitted : (journal : Journal) (act : Act) → command_in act ≡ [] → commands (submitted journal act) ≡ commands journal
 commands-submitted journal act none =
-    commands-append journal (entry_of act ∷ []) ∙ ap (λ xs. commands journal ++ (xs ++ [])) none ∙ append-nil (commands journal)
+    commands-append journal.entries (entry_of act ∷ []) ∙ ap (λ xs. commands journal ++ (xs ++ [])) none ∙ append-nil (commands journal)
 
-commands-after : (journal : List Entry) (block : List ℕ) → is_ending journal ≡ false → commands (after journal block) ≡ commands journal ++ block ∷ []
+commands-after : (journal : Journal) (block : List ℕ) → is_ending journal ≡ false → commands (after journal block) ≡ commands journal ++ block ∷ []
 commands-after journal block goes_on =
-    ap commands (after-open journal block goes_on) ∙ commands-all_taken (submitted journal (command block)) ∙ commands-append journal (entry_of (command block) ∷ [])
+    ap commands (after-open journal block goes_on) ∙ commands-all_taken (submitted journal (command block)) ∙ commands-append journal.entries (entry_of (command block) ∷ [])
 
 -- the commands so far and a front of the blocks
 record Fronts (before after whole : List (List ℕ)) : Type 0 where
@@ -129,7 +130,7 @@ record Fronts (before after whole : List (List ℕ)) : Type 0 where
   split : before ++ whole ≡ after ++ more
 
 -- a block more: it is entered, or the connection is ending and nothing further is
-fronts_on : (journal : List Entry) (block : List ℕ) (blocks : List (List ℕ)) (ending : Bool) → is_ending journal ≡ ending →
+fronts_on : (journal : Journal) (block : List ℕ) (blocks : List (List ℕ)) (ending : Bool) → is_ending journal ≡ ending →
     Fronts (commands (after journal block)) (commands (after_all (after journal block) blocks)) blocks →
     Fronts (commands journal) (commands (after_all (after journal block) blocks)) (block ∷ blocks)
 fronts_on journal block blocks true ending further = record {
@@ -142,12 +143,12 @@ fronts_on journal block blocks false goes_on further = record {
       sym (append_assoc (commands journal) (block ∷ []) blocks) ∙ ap (λ xs. xs ++ blocks) (sym (commands-after journal block goes_on)) ∙ further.split;
 }
 
-commands-after_all : (journal : List Entry) (blocks : List (List ℕ)) → Fronts (commands journal) (commands (after_all journal blocks)) blocks
+commands-after_all : (journal : Journal) (blocks : List (List ℕ)) → Fronts (commands journal) (commands (after_all journal blocks)) blocks
 commands-after_all journal [] = record { more = []; split = refl }
 commands-after_all journal (block ∷ blocks) =
     fronts_on journal block blocks (is_ending journal) refl (commands-after_all (after journal block) blocks)
 
-commands-input_ended : (journal : List Entry) → commands (input_ended journal) ≡ commands journal
+commands-input_ended : (journal : Journal) → commands (input_ended journal) ≡ commands journal
 commands-input_ended journal =
     elim (is_ending journal) as (λ b. commands (cond b journal (all_taken (submitted journal (close EndOfInput)))) ≡ commands journal) [
       | true ↦ refl
@@ -155,33 +156,33 @@ commands-input_ended journal =
     ]
 
 -- of the commands of a whole journal, a front of it has the first ones
-commands-begins : (journal whole : List Entry) → Begins journal whole → (more : List (List ℕ)) × (commands whole ≡ commands journal ++ more)
-commands-begins journal whole begins = (commands begins.more, ap commands begins.split ∙ commands-append journal begins.more)
+commands-begins : (journal whole : Journal) → Begins journal whole → (more : List (List ℕ)) × (commands whole ≡ commands journal ++ more)
+commands-begins journal whole begins = (commands_in begins.more, ap commands begins.split ∙ commands-append journal.entries begins.more)
 
-pub commands-play : (input : List ℕ) (read_failed : Bool) → (more : List (List ℕ)) × (blocks_of input ≡ commands (play input read_failed).journal ++ more)
+pub commands-play : (start : Start) (input : List ℕ) (read_failed : Bool) → (more : List (List ℕ)) × (blocks_of input ≡ commands (play start input read_failed).journal ++ more)
 unfolding play
-commands-play input read_failed =
-    let fronts = commands-after_all opened (blocks_of input) in
-    let same = commands-submitted (input_ended (after_all opened (blocks_of input))) (close Sent) refl ∙ commands-input_ended (after_all opened (blocks_of input)) in
-    let first = commands-begins (accepted (whole_journal input)) (whole_journal input) (accepted-begins (whole_journal input)) in (
+commands-play start input read_failed =
+    let fronts = commands-after_all (opened start) (blocks_of input) in
+    let same = commands-submitted (input_ended (after_all (opened start) (blocks_of input))) (close Sent) refl ∙ commands-input_ended (after_all (opened start) (blocks_of input)) in
+    let first = commands-begins (accepted (whole_journal start input)) (whole_journal start input) (accepted-begins (whole_journal start input)) in (
       first.0 ++ fronts.more,
-      fronts.split ∙ ap (λ xs. xs ++ fronts.more) (sym same ∙ first.1) ∙ append_assoc (commands (accepted (whole_journal input))) first.0 fronts.more,
+      fronts.split ∙ ap (λ xs. xs ++ fronts.more) (sym same ∙ first.1) ∙ append_assoc (commands (accepted (whole_journal start input))) first.0 fronts.more,
     )
 
 -- each entry of a play was accepted
-pub accepted-play : (input : List ℕ) (read_failed : Bool) → IsAccepted (play input read_failed).journal
+pub accepted-play : (start : Start) (input : List ℕ) (read_failed : Bool) → IsAccepted (play start input read_failed).journal
 unfolding play
-accepted-play input read_failed = accepted-again (whole_journal input)
+accepted-play start input read_failed = accepted-again (whole_journal start input)
 
 -- and where it ends by a full journal, a further one was to come
-pub full-play : (input : List ℕ) (read_failed : Bool) → status_of_end (play input read_failed).end ≡ 8 → IsCutShort (play input read_failed).journal (whole_journal input)
+pub full-play : (start : Start) (input : List ℕ) (read_failed : Bool) → status_of_end (play start input read_failed).end ≡ 8 → IsCutShort (play start input read_failed).journal (whole_journal start input)
 unfolding play
-full-play input read_failed eight =
-    let journal = accepted (whole_journal input) in
-    let differs = full-cut input read_failed eight in
-    let begins = accepted-begins (whole_journal input) in
-    let long = ap length begins.split ∙ length-append journal begins.more in record {
-      full = full-accepted (whole_journal input) differs;
+full-play start input read_failed eight =
+    let journal = accepted (whole_journal start input) in
+    let differs = full-cut start input read_failed eight in
+    let begins = accepted-begins (whole_journal start input) in
+    let long = ap (λ j. length j.entries) begins.split ∙ length-append journal.entries begins.more in record {
+      full = full-accepted (whole_journal start input) differs;
       more = begins.more;
       split = begins.split;
       some = nonzero (length begins.more) (λ none. differs (omega (arith, long, none)));

@@ -7,17 +7,17 @@ use Rattle.fs_ports.specs.Loads.{LoadCounts, Tells, Counted}
 use Rattle.fs_ports.specs.declared.files.Load.{Load}
 use Rattle.fs_ports.specs.declared.files.Load.TheVariants.{Got, Absent, Failed}
 use Rattle.fs_ports.proofs.Sides.{reads_nothing, writes_nothing, stopped_sooner}
-use Rattle.fs_top.specs.Switch.{run, taken_from, bytes_taken}
-use Rattle.fs_top.specs.Journal.{cost, journal_limit, accepted}
+use Rattle.fs_top.specs.Switch.{Journal, run, taken_from, bytes_taken}
+use Rattle.fs_top.specs.Journal.{cost, accepted}
 use Rattle.std.proofs.lemmas.Bool.{eqb-false}
 use Rattle.fs_frame.specs.Block.{too_long}
 use Rattle.fs_frame.specs.Blocks.{blocks_of, rest_of}
 use Rattle.fs_top.specs.Play.{farewell_of, farewell, opened, after_all, whole_journal, end_behind, end_of, end_within, play}
 use Rattle.fs_top.specs.Takes.{Begins}
 use Rattle.fs_top.specs.Turns.{HasRead}
-use Rattle.fs_top.specs.Told.{Told, told_words, told_file, told_play, refused, is_blank, is_eof, line_of_end, status_of_end, usage_line, document_line, write_fault_line, memory_line}
+use Rattle.fs_top.specs.Told.{Told, default_start, told_words, told_file, told_play, refused, is_blank, is_eof, line_of_end, status_of_end, usage_line, document_line, write_fault_line, memory_line}
 use Rattle.fs_top.specs.Runs.{line_of, status_of, PlaysTo, Does, completes, fails_to_write, lacks_memory, Loaded, Runs, CountRose, FillsJournal, MeetsTooLong}
-use Rattle.fs_top.specs.declared.entry.Entry.{Entry}
+use Rattle.fs_top.specs.declared.start.Start.{Start}
 use Rattle.fs_top.specs.declared.phase.Phase.{Phase}
 use Rattle.fs_top.specs.declared.phase.Phase.TheVariants.{Fresh, Ready, Ending, Refused, Closed}
 use Rattle.fs_top.specs.declared.end.End.{End}
@@ -93,18 +93,18 @@ runs_unloaded name next_load counts0 counts1 in0 out0 = let load = some_load (ne
 }
 
 -- a blank file plays the connection
-told-blank : (name bytes input : List ℕ) (read_failed : Bool) → list_all is_blank bytes ≡ true → told_file name (Got bytes) input read_failed ≡ told_play (play input read_failed)
-told-blank name bytes input read_failed blank = ap (λ b. cond b (told_play (play input read_failed)) (refused document_line 3)) blank
+told-blank : (name bytes input : List ℕ) (read_failed : Bool) → list_all is_blank bytes ≡ true → told_file name (Got bytes) input read_failed ≡ told_play (play default_start input read_failed)
+told-blank name bytes input read_failed blank = ap (λ b. cond b (told_play (play default_start input read_failed)) (refused document_line 3)) blank
 
 -- any other is refused
 pub told-document : (name bytes input : List ℕ) (read_failed : Bool) → list_all is_blank bytes ≡ false → told_file name (Got bytes) input read_failed ≡ refused document_line 3
-told-document name bytes input read_failed some = ap (λ b. cond b (told_play (play input read_failed)) (refused document_line 3)) some
+told-document name bytes input read_failed some = ap (λ b. cond b (told_play (play default_start input read_failed)) (refused document_line 3)) some
 
 -- what a front of the journal took is a front of the output
-output-begins : (input : List ℕ) (read_failed : Bool) (journal : List Entry) (begins : Begins journal (play input read_failed).journal) →
-    (play input read_failed).output ≡ bytes_taken journal ++ concat (taken_from (run journal) begins.more)
+output-begins : (start : Start) (input : List ℕ) (read_failed : Bool) (journal : Journal) (begins : Begins journal (play start input read_failed).journal) →
+    (play start input read_failed).output ≡ bytes_taken journal ++ concat (taken_from (run journal) begins.more)
 unfolding play
-output-begins input read_failed journal begins = ap bytes_taken begins.split ∙ bytes_taken-append journal begins.more
+output-begins start input read_failed journal begins = ap bytes_taken begins.split ∙ bytes_taken-append journal begins.more
 
 eof_is : (end : End) → IsTrue (is_eof end) → end ≡ Eof
 eof_is Exit h = absurd (cc)
@@ -148,7 +148,7 @@ runs_played name bytes next_load counts0 counts1 in0 in1 out0 out1 (BrokenOff Ou
       (lacks_memory (record {
         front = bytes_taken plays.0;
         back = concat (taken_from (run plays.0) s.begins.more);
-        split = output-begins s.input s.read_failed plays.0 s.begins;
+        split = output-begins default_start s.input s.read_failed plays.0 s.begins;
         written = s.broken;
         line_is = refl;
         status_is = refl;
@@ -164,7 +164,7 @@ runs_played name bytes next_load counts0 counts1 in0 in1 out0 out1 (BrokenOff Wr
   has_read = s.has_read;
   does = subst (λ (t : Told). Does t in1 out0 out1 write_fault_line 5) (sym (told-blank name bytes s.input s.read_failed blank))
       (fails_to_write (record {
-        stopped = subst (λ (xs : List ℕ). Stopped out0 out1 xs) (sym (output-begins s.input s.read_failed plays.0 s.begins))
+        stopped = subst (λ (xs : List ℕ). Stopped out0 out1 xs) (sym (output-begins default_start s.input s.read_failed plays.0 s.begins))
             (stopped_sooner out0 out1 (bytes_taken plays.0) (concat (taken_from (run plays.0) s.begins.more)) s.broken);
         line_is = refl;
         status_is = refl;
@@ -207,43 +207,43 @@ full_behind None true read_failed nothing eight = cc
 full_behind None false true nothing eight = cc
 full_behind None false false nothing eight = cc
 
-says_nothing : (input : List ℕ) → SaysNothing (farewell (after_all opened (blocks_of input)))
+says_nothing : (start : Start) (input : List ℕ) → SaysNothing (farewell (after_all (opened start) (blocks_of input)))
 unfolding SaysNothing
-says_nothing input = farewell_done (run (after_all opened (blocks_of input))).phase
+says_nothing start input = farewell_done (run (after_all (opened start) (blocks_of input))).phase
 
 -- an end other than by a full journal is that of the whole journal
-within_other : (journal whole : List Entry) (end : End) (status : ℕ) → status_of_end (end_within journal whole end) ≡ status → status ≢ 8 → end_within journal whole end ≡ end
-within_other journal whole end status is other = by (length journal == length whole) is
+within_other : (journal whole : Journal) (end : End) (status : ℕ) → status_of_end (end_within journal whole end) ≡ status → status ≢ 8 → end_within journal whole end ≡ end
+within_other journal whole end status is other = by (length journal.entries == length whole.entries) is
   where
-    by : (same : Bool) → status_of_end (cond same end (JournalFull (cost journal) journal_limit)) ≡ status → cond same end (JournalFull (cost journal) journal_limit) ≡ end
+    by : (same : Bool) → status_of_end (cond same end (JournalFull (cost journal) journal.start.journal_limit)) ≡ status → cond same end (JournalFull (cost journal) journal.start.journal_limit) ≡ end
     by true e = refl
     by false e = absurd (other (sym e))
 
 -- and one by a full journal is cut short
-within_full : (journal whole : List Entry) (end : End) → status_of_end (end_within journal whole end) ≡ 8 → (status_of_end end ≡ 8 → ⊥) →
-    (end_within journal whole end ≡ JournalFull (cost journal) journal_limit) × ((length journal == length whole) ≡ false)
-within_full journal whole end eight not_own = by (length journal == length whole) eight
+within_full : (journal whole : Journal) (end : End) → status_of_end (end_within journal whole end) ≡ 8 → (status_of_end end ≡ 8 → ⊥) →
+    (end_within journal whole end ≡ JournalFull (cost journal) journal.start.journal_limit) × ((length journal.entries == length whole.entries) ≡ false)
+within_full journal whole end eight not_own = by (length journal.entries == length whole.entries) eight
   where
-    by : (same : Bool) → status_of_end (cond same end (JournalFull (cost journal) journal_limit)) ≡ 8 →
-        (cond same end (JournalFull (cost journal) journal_limit) ≡ JournalFull (cost journal) journal_limit) × (same ≡ false)
+    by : (same : Bool) → status_of_end (cond same end (JournalFull (cost journal) journal.start.journal_limit)) ≡ 8 →
+        (cond same end (JournalFull (cost journal) journal.start.journal_limit) ≡ JournalFull (cost journal) journal.start.journal_limit) × (same ≡ false)
     by true e = absurd (not_own e)
     by false e = (refl, refl)
 
 -- the count that a status of 4 shows
-unreadable_play : (counts0 counts1 : LoadCounts) (in0 in1 : Input) (input : List ℕ) (read_failed : Bool) →
-    HasRead in0 in1 input read_failed → status_of_end (play input read_failed).end ≡ 4 → CountRose counts0 counts1 in0 in1
+unreadable_play : (start : Start) (counts0 counts1 : LoadCounts) (in0 in1 : Input) (input : List ℕ) (read_failed : Bool) →
+    HasRead in0 in1 input read_failed → status_of_end (play start input read_failed).end ≡ 4 → CountRose counts0 counts1 in0 in1
 unfolding play
-unreadable_play counts0 counts1 in0 in1 input read_failed has_read four =
-    let own = within_other (accepted (whole_journal input)) (whole_journal input) (end_of input read_failed) 4 four (λ e. absurd (cc)) in
-    let failed = unreadable_behind (farewell (after_all opened (blocks_of input))) (too_long (rest_of input)) read_failed (says_nothing input) (ap status_of_end (sym own) ∙ four) in
+unreadable_play start counts0 counts1 in0 in1 input read_failed has_read four =
+    let own = within_other (accepted (whole_journal start input)) (whole_journal start input) (end_of start input read_failed) 4 four (λ e. absurd (cc)) in
+    let failed = unreadable_behind (farewell (after_all (opened start) (blocks_of input))) (too_long (rest_of input)) read_failed (says_nothing start input) (ap status_of_end (sym own) ∙ four) in
     inr (inr (has_read.faults ∙ ap (λ b. cond b (raised in0.faults) in0.faults) failed))
 
 -- the rest that a status of 10 shows
-too_long_play : (in0 in1 : Input) (input : List ℕ) (read_failed : Bool) → HasRead in0 in1 input read_failed → status_of_end (play input read_failed).end ≡ 10 → MeetsTooLong in0 in1
+too_long_play : (start : Start) (in0 in1 : Input) (input : List ℕ) (read_failed : Bool) → HasRead in0 in1 input read_failed → status_of_end (play start input read_failed).end ≡ 10 → MeetsTooLong start in0 in1
 unfolding play
-too_long_play in0 in1 input read_failed has_read ten =
-    let own = within_other (accepted (whole_journal input)) (whole_journal input) (end_of input read_failed) 10 ten (λ e. absurd (cc)) in
-    let is = too_long_behind (farewell (after_all opened (blocks_of input))) (too_long (rest_of input)) read_failed (says_nothing input) (ap status_of_end (sym own) ∙ ten) in record {
+too_long_play start in0 in1 input read_failed has_read ten =
+    let own = within_other (accepted (whole_journal start input)) (whole_journal start input) (end_of start input read_failed) 10 ten (λ e. absurd (cc)) in
+    let is = too_long_behind (farewell (after_all (opened start) (blocks_of input))) (too_long (rest_of input)) read_failed (says_nothing start input) (ap status_of_end (sym own) ∙ ten) in record {
       input = input;
       read_failed = read_failed;
       has_read = has_read;
@@ -252,28 +252,28 @@ too_long_play in0 in1 input read_failed has_read ten =
     }
 
 -- a status of 8 shows that the journal was cut short
-pub full-cut : (input : List ℕ) (read_failed : Bool) → status_of_end (play input read_failed).end ≡ 8 → length (accepted (whole_journal input)) ≢ length (whole_journal input)
+pub full-cut : (start : Start) (input : List ℕ) (read_failed : Bool) → status_of_end (play start input read_failed).end ≡ 8 → length (accepted (whole_journal start input)).entries ≢ length (whole_journal start input).entries
 unfolding play
-full-cut input read_failed eight =
-    let journal = accepted (whole_journal input) in
-    let not_own = full_behind (farewell (after_all opened (blocks_of input))) (too_long (rest_of input)) read_failed (says_nothing input) in
-    let is = within_full journal (whole_journal input) (end_of input read_failed) eight not_own in
-    λ same. absurd (eqb-false (length journal) (length (whole_journal input)) is.1 same)
+full-cut start input read_failed eight =
+    let journal = accepted (whole_journal start input) in
+    let not_own = full_behind (farewell (after_all (opened start) (blocks_of input))) (too_long (rest_of input)) read_failed (says_nothing start input) in
+    let is = within_full journal (whole_journal start input) (end_of start input read_failed) eight not_own in
+    λ same. absurd (eqb-false (length journal.entries) (length (whole_journal start input).entries) is.1 same)
 
 -- the journal that a status of 8 shows
-full_play : (in0 in1 : Input) (input : List ℕ) (read_failed : Bool) → HasRead in0 in1 input read_failed → status_of_end (play input read_failed).end ≡ 8 → FillsJournal in0 in1
+full_play : (start : Start) (in0 in1 : Input) (input : List ℕ) (read_failed : Bool) → HasRead in0 in1 input read_failed → status_of_end (play start input read_failed).end ≡ 8 → FillsJournal start in0 in1
 unfolding play
-full_play in0 in1 input read_failed has_read eight =
-    let journal = accepted (whole_journal input) in
-    let not_own = full_behind (farewell (after_all opened (blocks_of input))) (too_long (rest_of input)) read_failed (says_nothing input) in
-    let is = within_full journal (whole_journal input) (end_of input read_failed) eight not_own in record {
+full_play start in0 in1 input read_failed has_read eight =
+    let journal = accepted (whole_journal start input) in
+    let not_own = full_behind (farewell (after_all (opened start) (blocks_of input))) (too_long (rest_of input)) read_failed (says_nothing start input) in
+    let is = within_full journal (whole_journal start input) (end_of start input read_failed) eight not_own in record {
       input = input;
       read_failed = read_failed;
       has_read = has_read;
       cost_told = cost journal;
-      limit_told = journal_limit;
+      limit_told = journal.start.journal_limit;
       end_is = is.0;
-      full = record { full = full-accepted (whole_journal input) (full-cut input read_failed eight); cost_is = refl; limit_is = refl };
+      full = record { full = full-accepted (whole_journal start input) (full-cut start input read_failed eight); cost_is = refl; limit_is = refl };
     }
 
 unreadable_file : (name : List ℕ) (counts0 counts1 : LoadCounts) (in0 in1 : Input) (file : Load) (input : List ℕ) (read_failed : Bool) →
@@ -281,8 +281,8 @@ unreadable_file : (name : List ℕ) (counts0 counts1 : LoadCounts) (in0 in1 : In
 unreadable_file name counts0 counts1 in0 in1 (Got bytes) input read_failed counted has_read four =
     by_blank (list_all is_blank bytes) four
   where
-    by_blank : (blank : Bool) → (cond blank (told_play (play input read_failed)) (refused document_line 3)).status ≡ 4 → CountRose counts0 counts1 in0 in1
-    by_blank true e = unreadable_play counts0 counts1 in0 in1 input read_failed has_read e
+    by_blank : (blank : Bool) → (cond blank (told_play (play default_start input read_failed)) (refused document_line 3)).status ≡ 4 → CountRose counts0 counts1 in0 in1
+    by_blank true e = unreadable_play default_start counts0 counts1 in0 in1 input read_failed has_read e
     by_blank false e = absurd (cc)
 unreadable_file name counts0 counts1 in0 in1 Absent input read_failed counted has_read four = inl (ap (λ c. c.absences) counted)
 unreadable_file name counts0 counts1 in0 in1 Failed input read_failed counted has_read four = inr (inl (ap (λ c. c.faults) counted))
@@ -304,11 +304,11 @@ cause_unreadable name next_load counts0 counts1 in0 in1 out0 out1 line status ru
 
 -- a status that no line before the play has is that of the play's end
 status-played : (name : Option (List ℕ)) (file : Load) (input : List ℕ) (read_failed : Bool) (status : ℕ) → status ≢ 2 → status ≢ 3 → status ≢ 4 →
-    status ≡ (told_words name file input read_failed).status → status_of_end (play input read_failed).end ≡ status
+    status ≡ (told_words name file input read_failed).status → status_of_end (play default_start input read_failed).end ≡ status
 status-played None file input read_failed status not_2 not_3 not_4 is = absurd (not_2 is)
 status-played (Some name) (Got bytes) input read_failed status not_2 not_3 not_4 is = by_blank (list_all is_blank bytes) is
   where
-    by_blank : (blank : Bool) → status ≡ (cond blank (told_play (play input read_failed)) (refused document_line 3)).status → status_of_end (play input read_failed).end ≡ status
+    by_blank : (blank : Bool) → status ≡ (cond blank (told_play (play default_start input read_failed)) (refused document_line 3)).status → status_of_end (play default_start input read_failed).end ≡ status
     by_blank true e = sym e
     by_blank false e = absurd (not_3 e)
 status-played (Some name) Absent input read_failed status not_2 not_3 not_4 is = absurd (not_4 is)
@@ -323,16 +323,16 @@ status-told name file input read_failed in1 out0 out1 line status (lacks_memory 
 
 -- what status 8 shows
 pub cause_full : (name : Option (List ℕ)) (next_load : List ℕ → Option Load) (counts0 counts1 : LoadCounts) (in0 in1 : Input) (out0 out1 : Output) (line : List ℕ) (status : ℕ) →
-    Runs name next_load counts0 counts1 in0 in1 out0 out1 line status → status ≡ 8 → FillsJournal in0 in1
+    Runs name next_load counts0 counts1 in0 in1 out0 out1 line status → status ≡ 8 → FillsJournal default_start in0 in1
 cause_full name next_load counts0 counts1 in0 in1 out0 out1 line status runs eight =
     let told = status-told name runs.file runs.input runs.read_failed in1 out0 out1 line status runs.does (λ e. absurd (cc)) (λ e. absurd (cc)) in
     let played = status-played name runs.file runs.input runs.read_failed status (λ e. absurd (cc)) (λ e. absurd (cc)) (λ e. absurd (cc)) told in
-    full_play in0 in1 runs.input runs.read_failed runs.has_read (played ∙ eight)
+    full_play default_start in0 in1 runs.input runs.read_failed runs.has_read (played ∙ eight)
 
 -- what status 10 shows
 pub cause_too_long : (name : Option (List ℕ)) (next_load : List ℕ → Option Load) (counts0 counts1 : LoadCounts) (in0 in1 : Input) (out0 out1 : Output) (line : List ℕ) (status : ℕ) →
-    Runs name next_load counts0 counts1 in0 in1 out0 out1 line status → status ≡ 10 → MeetsTooLong in0 in1
+    Runs name next_load counts0 counts1 in0 in1 out0 out1 line status → status ≡ 10 → MeetsTooLong default_start in0 in1
 cause_too_long name next_load counts0 counts1 in0 in1 out0 out1 line status runs ten =
     let told = status-told name runs.file runs.input runs.read_failed in1 out0 out1 line status runs.does (λ e. absurd (cc)) (λ e. absurd (cc)) in
     let played = status-played name runs.file runs.input runs.read_failed status (λ e. absurd (cc)) (λ e. absurd (cc)) (λ e. absurd (cc)) told in
-    too_long_play in0 in1 runs.input runs.read_failed runs.has_read (played ∙ ten)
+    too_long_play default_start in0 in1 runs.input runs.read_failed runs.has_read (played ∙ ten)

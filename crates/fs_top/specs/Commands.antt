@@ -48,20 +48,16 @@ responds phase d = record { phase = phase; globals = d.globals; frames = api_res
 abbrev pub keeps : Phase → Variables → Answer
 keeps phase globals = record { phase = phase; globals = globals; frames = [] }
 
--- the one password that is accepted
-unfoldable pub password : List ℕ
-password = codes "ClueCon"
-
--- the answer to a command. Before a password was accepted, `auth` and `exit` alone are known.
-unfoldable pub answer : Phase → Variables → Command → Answer
-answer Fresh globals (Auth given) = if bytes_eq given password then replies Ready globals accepted else ends_with Refused globals invalid
-answer Fresh globals Exit = ends_with Ending globals bye
-answer Fresh globals (Api text) = replies Fresh globals not_found
-answer Fresh globals Unknown = replies Fresh globals not_found
-answer Ready globals (Auth given) = replies Ready globals not_found
-answer Ready globals Exit = ends_with Ending globals bye
-answer Ready globals (Api text) = responds Ready (done globals (api_command_of text))
-answer Ready globals Unknown = replies Ready globals not_found
-answer Ending globals command = keeps Ending globals
-answer Refused globals command = keeps Refused globals
-answer Closed globals command = keeps Closed globals
+-- the answer to a command, where this password is accepted. Before that `auth` and `exit` alone are known.
+unfoldable pub answer : List ℕ → Phase → Variables → Command → Answer
+answer password Fresh globals (Auth given) = if bytes_eq given password then replies Ready globals accepted else ends_with Refused globals invalid
+answer password Fresh globals Exit = ends_with Ending globals bye
+answer password Fresh globals (Api text) = replies Fresh globals not_found
+answer password Fresh globals Unknown = replies Fresh globals not_found
+answer password Ready globals (Auth given) = replies Ready globals not_found
+answer password Ready globals Exit = ends_with Ending globals bye
+answer password Ready globals (Api text) = responds Ready (done globals (api_command_of text))
+answer password Ready globals Unknown = replies Ready globals not_found
+answer password Ending globals command = keeps Ending globals
+answer password Refused globals command = keeps Refused globals
+answer password Closed globals command = keeps Closed globals

@@ -12,10 +12,11 @@ use Rattle.fs_frame.specs.Blocks.{rest_of}
 use Rattle.fs_top.specs.Play.{play}
 use Rattle.fs_top.specs.Journal.{IsFull}
 use Rattle.fs_top.specs.Turns.{HasRead, Finishes, Breaks}
-use Rattle.fs_top.specs.Told.{Told, told_words, is_blank, line_of_end, status_of_end, usage_line, cannot_read_line, document_line, write_fault_line, memory_line}
+use Rattle.fs_top.specs.Told.{Told, default_start, told_words, is_blank, line_of_end, status_of_end, usage_line, cannot_read_line, document_line, write_fault_line, memory_line}
 use Rattle.fs_top.specs.declared.end.End.TheVariants.{TooLong, JournalFull}
 use Rattle.fs_top.specs.declared.play.Fault.TheVariants.{OutOfMemory, WriteFault}
-use Rattle.fs_top.specs.declared.entry.Entry.{Entry}
+use Rattle.fs_top.specs.Switch.{Journal}
+use Rattle.fs_top.specs.declared.start.Start.{Start}
 use Rattle.fs_top.specs.declared.program.Outcome.{Outcome}
 use Rattle.fs_top.specs.declared.program.Outcome.TheVariants.{Usage, CannotRead, Document, Ended, BrokenOff}
 
@@ -41,8 +42,8 @@ abbrev pub PlaysTo : Input → Output → Input → Output → Outcome → Type 
 PlaysTo in0 out0 in1 out1 Usage = ⊥
 PlaysTo in0 out0 in1 out1 (CannotRead name) = ⊥
 PlaysTo in0 out0 in1 out1 Document = ⊥
-PlaysTo in0 out0 in1 out1 (Ended end) = (journal : List Entry) × Finishes in0 out0 in1 out1 end journal
-PlaysTo in0 out0 in1 out1 (BrokenOff fault) = (journal : List Entry) × Breaks in0 out0 in1 out1 fault journal
+PlaysTo in0 out0 in1 out1 (Ended end) = (journal : Journal) × Finishes default_start in0 out0 in1 out1 end journal
+PlaysTo in0 out0 in1 out1 (BrokenOff fault) = (journal : Journal) × Breaks default_start in0 out0 in1 out1 fault journal
 
 -- all was answered as it is told
 pub record Completes (told : Told) (in1 : Input) (out0 out1 : Output) (line : List ℕ) (status : ℕ) : Type 0 where
@@ -103,19 +104,19 @@ CountRose counts0 counts1 in0 in1 =
     (counts1.absences ≡ raised counts0.absences) ⊎ ((counts1.faults ≡ raised counts0.faults) ⊎ (in1.faults ≡ raised in0.faults))
 
 -- behind the blocks of the bytes that were taken stand more bytes than a block may have, and none in front of them
-pub record MeetsTooLong (in0 in1 : Input) : Type 0 where
+pub record MeetsTooLong (start : Start) (in0 in1 : Input) : Type 0 where
   pub input : List ℕ
   pub read_failed : Bool
   pub has_read : HasRead in0 in1 input read_failed
-  pub end_is : (play input read_failed).end ≡ TooLong 65537
+  pub end_is : (play start input read_failed).end ≡ TooLong 65537
   pub is_too_long : too_long (rest_of input) ≡ true
 
 -- the journal of what was taken is full behind its last entry, and was to have a further one
-pub record FillsJournal (in0 in1 : Input) : Type 0 where
+pub record FillsJournal (start : Start) (in0 in1 : Input) : Type 0 where
   pub input : List ℕ
   pub read_failed : Bool
   pub has_read : HasRead in0 in1 input read_failed
   pub cost_told : ℕ
   pub limit_told : ℕ
-  pub end_is : (play input read_failed).end ≡ JournalFull cost_told limit_told
-  pub full : IsFull (play input read_failed).journal cost_told limit_told
+  pub end_is : (play start input read_failed).end ≡ JournalFull cost_told limit_told
+  pub full : IsFull (play start input read_failed).journal cost_told limit_told

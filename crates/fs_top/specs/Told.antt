@@ -5,7 +5,9 @@ use Rattle.std.specs.Str.{bytes_eq}
 use Rattle.std.specs.Fmt.{decimal}
 use Rattle.fs_ports.specs.declared.files.Load.{Load}
 use Rattle.fs_ports.specs.declared.files.Load.TheVariants.{Got, Absent, Failed}
+use Rattle.fs_vars.specs.declared.bounds.Bounds.TheVariants.{Globals}
 use Rattle.fs_top.specs.Play.{Played, play}
+use Rattle.fs_top.specs.declared.start.Start.{Start}
 use Rattle.fs_top.specs.declared.end.End.{End}
 use Rattle.fs_top.specs.declared.end.End.TheVariants.{Exit, AuthRefused, Eof, ReadFault, TooLong, JournalFull}
 
@@ -15,6 +17,10 @@ pub record Told : Type 0 where
   pub line : List ℕ
   pub status : ℕ
   pub at_end : Bool
+
+-- what a switch starts from where no document says otherwise
+unfoldable pub default_start : Start
+default_start = record { password = codes "ClueCon"; journal_limit = 67108864; globals = record { bounds = Globals; pairs = [] } }
 
 -- the name in the words `play FILE`
 abbrev pub file_name : List (List ℕ) → Option (List ℕ)
@@ -86,7 +92,7 @@ told_play played = record { output = played.output; line = line_of_end played.en
 
 -- what is answered once the file of this name gave this
 abbrev pub told_file : List ℕ → Load → List ℕ → Bool → Told
-told_file name (Got bytes) input read_failed = if list_all is_blank bytes then told_play (play input read_failed) else refused document_line 3
+told_file name (Got bytes) input read_failed = if list_all is_blank bytes then told_play (play default_start input read_failed) else refused document_line 3
 told_file name Absent input read_failed = refused (cannot_read_line name) 4
 told_file name Failed input read_failed = refused (cannot_read_line name) 4
 

@@ -13,8 +13,6 @@ use fs_vars::Vars;
 use std::alloc::Global;
 use std::collections::LinkedList;
 
-const PASSWORD: &[u8] = b"ClueCon";
-
 /// A command of the event socket, lent from its line.
 #[derive(Clone, Copy, Debug)]
 pub(crate) enum Command<'a> {
@@ -53,15 +51,16 @@ pub(crate) fn command_of(line: &[u8]) -> Command<'_>
     }
 }
 
-/// The answer to a command of a connection in this phase, over these globals.
-#[tactic(auto, unfolding(crate::specs::Commands::answer, crate::specs::Commands::password, crate::specs::Texts::accepted, crate::specs::Texts::bye, crate::specs::Texts::invalid, crate::specs::Texts::not_found))]
+/// The answer to a command of a connection in this phase, over these globals, where this password is accepted.
+#[tactic(auto, unfolding(crate::specs::Commands::answer, crate::specs::Texts::accepted, crate::specs::Texts::bye, crate::specs::Texts::invalid, crate::specs::Texts::not_found))]
 pub(crate) fn answer_to(
     alloc: Global,
+    accepted: &[u8],
     phase: Phase,
     globals: &Vars,
     command: Command<'_>,
 ) -> Result<Answer, Memory>
-    ensures { IfOk result (DoesAnswer globals.now (spec.answer phase globals.now (read_of command.entry))) }
+    ensures { IfOk result (DoesAnswer globals.now (spec.answer accepted.now phase globals.now (read_of command.entry))) }
 {
     match (phase, command) {
         (Phase::Ending | Phase::Refused | Phase::Closed, _) => Ok(Answer {
@@ -70,7 +69,7 @@ pub(crate) fn answer_to(
             globals: None,
         }),
         (_, Command::Exit) => farewell(alloc, Phase::Ending, b"+OK bye"),
-        (Phase::Fresh, Command::Auth { password }) if password == PASSWORD => {
+        (Phase::Fresh, Command::Auth { password }) if password == accepted => {
             reply(alloc, Phase::Ready, b"+OK accepted")
         }
         (Phase::Fresh, Command::Auth { .. }) => farewell(alloc, Phase::Refused, b"-ERR invalid"),

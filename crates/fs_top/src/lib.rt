@@ -11,6 +11,7 @@ mod play;
 mod program;
 mod refusal;
 mod replies;
+mod start;
 mod switch;
 #[cfg(test)]
 mod tests;

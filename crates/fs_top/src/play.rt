@@ -1,5 +1,7 @@
-ghost use Rattle.std.specs.Prelude.{◌≡◌, ◌<◌, [], IsTrue};
+ghost use Rattle.std.specs.Prelude.{◌≡◌, IsTrue};
 ghost use Rattle.fs_ports.specs.Ports.{Input, Output};
+ghost use Rattle.fs_top.specs.Switch.{begun};
+ghost use Rattle.fs_top.specs.declared.start.Start.{Start};
 ghost use Rattle.fs_top.specs.Takes.{Written, Sends, EndsInput, Closes, stop_of};
 ghost use Rattle.fs_top.specs.Turns.{Fills, Stands, Turns, Ends, Falls, Converses, Plays};
 ghost use Rattle.fs_top.specs.declared.play.Stop.TheVariants.{OutOfMemory};
@@ -68,8 +70,8 @@ enum Filled {
 /// Plays a whole connection over a link: it comes, its commands are read and answered, and it goes.
 pub(crate) fn play<L: Link>(alloc: Global, switch: &mut Switch, link: &mut L) -> Result<End, Fault>
     requires waits { IsTrue (L.input link.old).waits }
-    requires empty { switch.old ≡ [] }
-    ensures { Plays (L.input link.old) (L.output link.old) (L.input link.new) (L.output link.new) switch.new result }
+    requires begun { switch.old ≡ begun switch.old.start }
+    ensures { Plays switch.old.start (L.input link.old) (L.output link.old) (L.input link.new) (L.output link.new) switch.new result }
 {
     let ended = converse(alloc, switch, link);
     switch.is_within_limit();
@@ -90,8 +92,8 @@ pub(crate) fn play<L: Link>(alloc: Global, switch: &mut Switch, link: &mut L) ->
 
 fn converse<L: Link>(alloc: Global, switch: &mut Switch, link: &mut L) -> Result<End, Stop>
     requires waits { IsTrue (L.input link.old).waits }
-    requires empty { switch.old ≡ [] }
-    ensures { Converses (L.input link.old) (L.output link.old) (L.input link.new) (L.output link.new) switch.new result }
+    requires begun { switch.old ≡ begun switch.old.start }
+    ensures { Converses switch.old.start (L.input link.old) (L.output link.old) (L.input link.new) (L.output link.new) switch.new result }
 {
     switch.arrive()?;
     send_frames(switch, link)?;
@@ -111,9 +113,9 @@ fn converse<L: Link>(alloc: Global, switch: &mut Switch, link: &mut L) -> Result
 fn take_turn<L: Link>(switch: &mut Switch, blocks: &mut Blocks, link: &mut L) -> Result<Turn, Stop>
     requires waits { IsTrue (L.input link.old).waits }
     ensures waits { (L.input link.new).waits ≡ (L.input link.old).waits }
-    ensures turns { (in0 : Input) (out0 : Output) → Stands in0 out0 (L.input link.old) (L.output link.old) blocks.old switch.old
-        → Turns in0 out0 (L.input link.new) (L.output link.new) blocks.new switch.new result }
-    ensures falls { (in0 : Input) (out0 : Output) → Stands in0 out0 (L.input link.old) (L.output link.old) blocks.old switch.old
+    ensures turns { (start : Start) (in0 : Input) (out0 : Output) → Stands start in0 out0 (L.input link.old) (L.output link.old) blocks.old switch.old
+        → Turns start in0 out0 (L.input link.new) (L.output link.new) blocks.new switch.new result }
+    ensures falls { (start : Start) (in0 : Input) (out0 : Output) → Stands start in0 out0 (L.input link.old) (L.output link.old) blocks.old switch.old
         → Falls switch.old blocks.old switch.new blocks.new result }
 {
     match blocks.next_block() {

@@ -1,14 +1,16 @@
-ghost use Rattle.std.specs.Prelude.{◌≡◌, ◌↔◌, List, ℕ, None, Some, IsTrue, map};
+ghost use Rattle.std.specs.Prelude.{◌≡◌, ◌↔◌, List, ℕ, None, Some, IsTrue, IfOk, map};
 ghost use Rattle.std.specs.List.{concat, list_all};
 ghost use Rattle.std.specs.Option.{option_copied};
 ghost use Rattle.fs_ports.specs.Counts as counts;
 ghost use Rattle.fs_ports.specs.Ports.{SendDid};
 ghost use Rattle.fs_ports.specs.declared.send.Sent.{Sent as AllSent};
+ghost use Rattle.fs_top.specs.Switch.{begun};
 ghost use Rattle.fs_top.specs.Told as spec;
 ghost use Rattle.fs_top.specs.Runs.{line_of, status_of, PlaysTo, Runs, HasDocument, CountRose, FillsJournal, MeetsTooLong};
 
 use crate::end::End;
 use crate::play::{Fault, play};
+use crate::start::Start;
 use crate::switch::Switch;
 use fs_ports::{Files, Link, Load, Sent, Sink, send_all};
 use fs_text::{Memory, Txt};
@@ -64,8 +66,8 @@ pub fn run<F: Files, L: Link, E: Sink>(
     ensures document { result.code ≡ 3 → HasDocument (spec.file_name words.now) (F.next_load files.old) }
     ensures unreadable { result.code ≡ 4 → CountRose (F.counts files.old) (F.counts files.new) (L.input link.old) (L.input link.new) }
     ensures write_fault { result.code ≡ 5 → (L.output link.new).faults ≡ counts.raised (L.output link.old).faults }
-    ensures full { result.code ≡ 8 → FillsJournal (L.input link.old) (L.input link.new) }
-    ensures too_long { result.code ≡ 10 → MeetsTooLong (L.input link.old) (L.input link.new) }
+    ensures full { result.code ≡ 8 → FillsJournal spec.default_start (L.input link.old) (L.input link.new) }
+    ensures too_long { result.code ≡ 10 → MeetsTooLong spec.default_start (L.input link.old) (L.input link.new) }
 {
     let outcome = conduct(alloc, words, files, link);
     say(err, outcome);
@@ -121,13 +123,20 @@ fn played<'a, L: Link>(alloc: Global, link: &mut L) -> Outcome<'a>
     requires { IsTrue (L.input link.old).waits }
     ensures { PlaysTo (L.input link.old) (L.output link.old) (L.input link.new) (L.output link.new) result }
 {
-    let Ok(mut switch) = Switch::new(alloc) else {
+    let Ok(mut switch) = started(alloc) else {
         return Outcome::BrokenOff(Fault::OutOfMemory);
     };
     match play(alloc, &mut switch, link) {
         Ok(end) => Outcome::Ended(end),
         Err(fault) => Outcome::BrokenOff(fault),
     }
+}
+
+// A switch as it starts where no document says otherwise.
+fn started(alloc: Global) -> Result<Switch, Memory>
+    ensures { IfOk result (λ switch. switch ≡ begun spec.default_start) }
+{
+    Switch::new(alloc, Start::new(alloc)?)
 }
 
 // The name in the words `play FILE`.

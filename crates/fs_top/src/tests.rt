@@ -1,5 +1,6 @@
 use crate::refusal::Refusal;
 use crate::run;
+use crate::start::Start;
 use crate::switch::Switch;
 use fs_frame::{Blocks, Next};
 use fs_ports::{MemFiles, MemLink};
@@ -392,7 +393,7 @@ fn a_full_journal_refuses_again(rt: HostRuntime) -> Result<(), Fail> {
     let alloc = rt.alloc();
     let mut block = Vec::new(alloc);
     push_block(&mut block, "", 65_534)?;
-    let mut switch = Switch::new(alloc)?;
+    let mut switch = Switch::new(alloc, Start::new(alloc)?)?;
     assert!(rt; switch.arrive().is_ok());
     let mut blocks = Blocks::new(alloc)?;
     for _ in 0..1_023 {

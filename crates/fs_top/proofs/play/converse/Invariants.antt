@@ -6,7 +6,7 @@ use Rattle.fs_top.proofs.play.converse.Given as goal
 abbrev pub invariant-loop-blocks : goal.invariant-loop-blocks
 invariant-loop-blocks g l = record {
   waits : IsTrue (g.L.Port.input l.link).waits;
-  stands : Stands (g.L.Port.input l.fn.link) (g.L.Port.output l.fn.link) (g.L.Port.input l.link) (g.L.Port.output l.link) l.blocks l.switch;
+  stands : Stands l.fn.switch.start (g.L.Port.input l.fn.link) (g.L.Port.output l.fn.link) (g.L.Port.input l.link) (g.L.Port.output l.link) l.blocks l.switch;
 }
 
 abbrev pub decreases-loop-blocks : goal.decreases-loop-blocks

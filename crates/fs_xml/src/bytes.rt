@@ -40,8 +40,8 @@ pub(crate) fn begins_name(b: u8) -> bool
     is_name_byte(b) && !(b == b'!' || b == b'?')
 }
 
-/// What follows the blanks in front.
-pub(crate) fn past_blanks(text: &[u8]) -> &[u8]
+/// What follows the blanks in front: spaces, tabs, CR and LF.
+pub fn past_blanks(text: &[u8]) -> &[u8]
     ensures rest { result.now ≡ bytes.past bytes.is_blank text.now }
     ensures within { length result.now ≤ length text.now }
 {
@@ -81,7 +81,7 @@ pub(crate) fn split_name(text: &[u8]) -> (&[u8], &[u8])
 
 /// What stands before and behind the first such byte, if there is one.
 #[tactic(auto, unfolding(crate::specs::Bytes::halves_of))]
-pub(crate) fn split_at_byte(byte: u8, text: &[u8]) -> Option<(&[u8], &[u8])>
+pub fn split_at_byte(byte: u8, text: &[u8]) -> Option<(&[u8], &[u8])>
     ensures halves { option_map (λ halves. (halves.0.now, halves.1.now)) result ≡ bytes.halves_of byte text.now }
     ensures within { IfSome result (λ halves. length halves.1.now < length text.now) }
 {

@@ -13,6 +13,7 @@ mod tag;
 mod value;
 
 pub use attribute::{Attr, Ending};
+pub use bytes::{past_blanks, split_at_byte};
 pub use markup::{Markup, read_markup};
 pub use stop::{MarkupStop, TagStop, ValueFault, ValueStop};
 pub use tag::Body;

@@ -77,6 +77,14 @@ impl From<AllocError> for ValueStop {
     }
 }
 
+impl From<Memory> for ValueStop {
+    ghost from_gives = { λ _ e. e ≡ value.Memory };
+
+    fn from(_e: Memory) -> ValueStop {
+        ValueStop::Memory
+    }
+}
+
 impl<T: Drop> From<AllocFailed<T>> for ValueStop {
     ghost from_gives = { λ _ e. e ≡ value.Memory };
 

@@ -16,7 +16,6 @@ use std::alloc::Global;
 /// scalar value but 0. A `<` is a fault unless `raw` says that it stands for itself.
 #[tactic(auto, unfolding(crate::specs::Entities::value_text))]
 pub fn decode(alloc: Global, raw: bool, end: usize, value: &[u8]) -> Result<Vec<u8>, ValueStop>
-    requires { length value.now ≤ end }
     ensures { ValueGives (λ (text : Vec ℕ). text.items) result (entities.value_text raw end value.now) }
 {
     let mut text = Vec::new(alloc);
@@ -32,7 +31,6 @@ pub fn decode(alloc: Global, raw: bool, end: usize, value: &[u8]) -> Result<Vec<
 /// Adds the bytes up to the first `&` or `<`, and what that stands for. The rest of the value is answered, if there is one.
 #[tactic(auto, unfolding(crate::specs::Entities::value_step))]
 fn step<'a>(text: &mut Vec<u8>, raw: bool, end: usize, value: &'a [u8]) -> Result<Option<&'a [u8]>, ValueStop>
-    requires { length value.now ≤ end }
     ensures read { ValueGives (λ rest. (text.new.items, entities.rest_seen rest)) result (entities.value_step raw end text.old.items value.now) }
     ensures within { IfOk result (λ rest. IfSome rest (λ r. length r.now < length value.now)) }
 {
@@ -51,13 +49,12 @@ fn plain_len(value: &[u8]) -> usize
 
 #[tactic(auto, unfolding(crate::specs::Entities::special_at))]
 fn add_special<'a>(text: &mut Vec<u8>, raw: bool, end: usize, value: &'a [u8]) -> Result<Option<&'a [u8]>, ValueStop>
-    requires { length value.now ≤ end }
     ensures read { ValueGives (λ rest. (text.new.items, entities.rest_seen rest)) result (entities.special_at raw end text.old.items value.now) }
     ensures within { IfOk result (λ rest. IfSome rest (λ r. length r.now < length value.now)) }
 {
     match value {
         [] => Ok(None),
-        [b'&', rest @ ..] => add_entity(text, end - value.len(), rest),
+        [b'&', rest @ ..] => add_entity(text, end.saturating_sub(value.len()), rest),
         [b, rest @ ..] => {
             if !raw {
                 return Err(ValueStop::Fault(ValueFault::Raw));

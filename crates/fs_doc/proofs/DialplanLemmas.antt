@@ -1,12 +1,13 @@
 -- What a list of contexts is with one more extension.
-use Rattle.std.proofs.Common.{◌≡◌, ◌<◌, ◌≤◌, ℕ, zero, suc, List, [], ◌∷◌, ◌++◌, length, refl, sym, ap, ◌∙◌, arith, Some, None, slice_get, slice_set}
+use Rattle.std.proofs.Common.{◌≡◌, ◌<◌, ◌≤◌, ℕ, zero, suc, List, [], ◌∷◌, ◌++◌, length, refl, sym, ap, ◌∙◌, arith, get_or, slice_set}
 use Rattle.fs_doc.specs.Dialplans.{Context, Extension, with_extension}
 
-pub added : (contexts : List Context) (place : ℕ) (context : Context) (extension : Extension) (extensions : List Extension) → slice_get contexts place ≡ Some context
+pub added : (contexts : List Context) (place : ℕ) (context : Context) (extension : Extension) (extensions : List Extension) → context ≡ get_or contexts place context
     → extensions ≡ context.extensions ++ extension ∷ [] → slice_set contexts place (record { name = context.name; extensions = extensions }) ≡ with_extension place extension contexts
 added [] place context extension extensions found is = refl
 added (first ∷ contexts) zero context extension extensions found is =
-    let same : first ≡ context = cc in rw (is, ← same) refl
+    let row : List Extension → Context → List Context = λ more c. record { name = c.name; extensions = more } ∷ contexts in
+    ap (λ more. row more context) is ∙ ap (λ (c : Context). row (c.extensions ++ extension ∷ []) c) found
 added (first ∷ contexts) (suc place) context extension extensions found is =
     ap (λ more. first ∷ more) (added contexts place context extension extensions found is)
 

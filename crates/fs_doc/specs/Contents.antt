@@ -6,6 +6,7 @@ use Rattle.std.specs.List.{position_or_len}
 use Rattle.fs_vars.specs.Pairs.{Text, Pairs, value_of}
 use Rattle.fs_vars.specs.Variables.{Variables, can_set, set_to}
 use Rattle.fs_vars.specs.declared.bounds.Bounds.TheVariants.{Globals}
+use Rattle.fs_xml.specs.Results.{◌>>=◌}
 use Rattle.fs_doc.specs.declared.fault.DocKind.{DocKind}
 use Rattle.fs_doc.specs.declared.fault.DocKind.TheVariants as fault
 use Rattle.fs_doc.specs.declared.element.Level.{Level}
@@ -20,7 +21,7 @@ use Rattle.fs_doc.specs.declared.dialplan.Test.{Test}
 use Rattle.fs_doc.specs.declared.dialplan.Test.TheVariants as test
 use Rattle.fs_doc.specs.declared.dialplan.ManyKind.{ManyKind}
 use Rattle.fs_doc.specs.declared.dialplan.PlanAction.{PlanAction}
-use Rattle.fs_doc.specs.Dialplans.{Context, Extension, Condition, with_extension}
+use Rattle.fs_doc.specs.Dialplans.{Context, Extension, Condition, with_extension, with_child, with_action}
 use Rattle.fs_doc.specs.Settings.{default_settings, file_of, setting}
 use Rattle.fs_doc.specs.Elements.{has}
 use Rattle.fs_doc.specs.Attributes.{break_of, many_of, global_of}
@@ -77,15 +78,17 @@ param_begun file pairs c = param_on c (setting file (given pairs (codes "name"))
 abbrev pub context_place : Text → List Context → ℕ
 context_place name contexts = position_or_len (λ context. bytes_eq context.name name) contexts
 
+-- at the place behind all others a new context begins
+abbrev pub context_at : Text → ℕ → Content → Begun
+context_at name place c =
+    if nat_lt place (length c.contexts) then Ok (level.Context, record c { context = place })
+    else if nat_lt (length c.contexts) 256 then Ok (level.Context, record c { context = place; contexts = c.contexts ++ record { name = name; extensions = [] } ∷ [] })
+    else Err fault.TooLarge
+
 -- a name that is new is a new context
 unfoldable pub context_begun : Pairs → Content → Begun
 context_begun pairs c =
-    if nat_lt (context_place name c.contexts) (length c.contexts) then Ok (level.Context, record c { context = context_place name c.contexts })
-    else if nat_lt (length c.contexts) 256 then Ok (level.Context, record c { context = length c.contexts; contexts = c.contexts ++ record { name = name; extensions = [] } ∷ [] })
-    else Err fault.TooLarge
-  where
-    name : Text
-    name = given pairs (codes "name")
+    context_at (given pairs (codes "name")) (context_place (given pairs (codes "name")) c.contexts) c
 
 unfoldable pub extension_begun : Pairs → Content → Begun
 extension_begun pairs c =
@@ -98,45 +101,36 @@ abbrev pub condition_of : Pairs → Test Text → Condition
 condition_of pairs tested =
     record { test = tested; stop = unwrap_or (break_of (given pairs (codes "break"))) break.OnFalse; actions = []; anti = [] }
 
--- one more pattern may be counted
-abbrev pub fits_pattern : Text → ℕ → Bool
-fits_pattern expression patterns = nat_le (length expression) 1024 && nat_lt patterns 4096
+-- one more pattern is counted
+unfoldable pub pattern_counted : Pairs → Content → Result Content DocKind
+pattern_counted pairs c =
+    if nat_lt 1024 (length (given pairs (codes "expression"))) || nat_le 4096 c.patterns then Err fault.TooLarge
+    else Ok (record c { patterns = c.patterns + 1 })
+
+-- a condition with a pattern
+unfoldable pub pattern_begun : Pairs → Content → Begun
+pattern_begun pairs c =
+    pattern_counted pairs c >>= λ d.
+      Ok (level.Condition, record d { condition = Some (condition_of pairs (test.Plain (given pairs (codes "field")) (given pairs (codes "expression")))) })
 
 -- a condition with `regex` has children, one with a field or an expression has a pattern, and any other is true
 abbrev pub condition_on : Pairs → Content → Option ManyKind → Begun
 condition_on pairs c (Some many) = Ok (level.Cases, record c { condition = Some (condition_of pairs (test.Many many [])) })
 condition_on pairs c None =
-    if has pairs (codes "field") || has pairs (codes "expression")
-    then (if fits_pattern (given pairs (codes "expression")) c.patterns
-      then Ok (level.Condition, record c { patterns = c.patterns + 1; condition = Some (condition_of pairs (test.Plain (given pairs (codes "field")) (given pairs (codes "expression")))) })
-      else Err fault.TooLarge)
+    if has pairs (codes "field") || has pairs (codes "expression") then pattern_begun pairs c
     else Ok (level.Condition, record c { condition = Some (condition_of pairs test.Always) })
 
 unfoldable pub condition_begun : Pairs → Content → Begun
-condition_begun pairs c = condition_on pairs c (option_and_then many_of (value_of pairs (codes "regex")))
+condition_begun pairs c = condition_on pairs c (many_of (given pairs (codes "regex")))
 
--- a test with one more child
-abbrev pub with_case : Text → Text → Test Text → Test Text
-with_case field expression (test.Many many children) = test.Many many (children ++ record { field = field; expression = expression } ∷ [])
-with_case field expression other = other
-
--- a condition with one more child
-abbrev pub with_child : Text → Text → Condition → Condition
-with_child field expression k = record k { test = with_case field expression k.test }
-
+-- a child of the open condition
 unfoldable pub case_begun : Pairs → Content → Begun
 case_begun pairs c =
-    if fits_pattern (given pairs (codes "expression")) c.patterns
-    then Ok (level.Empty, record c { patterns = c.patterns + 1; condition = option_map (with_child (given pairs (codes "field")) (given pairs (codes "expression"))) c.condition })
-    else Err fault.TooLarge
+    pattern_counted pairs c >>= λ d.
+      Ok (level.Empty, record d { condition = option_map (with_child (given pairs (codes "field")) (given pairs (codes "expression"))) d.condition })
 
 abbrev pub action_of : Pairs → PlanAction
 action_of pairs = record { application = given pairs (codes "application"); argument = given pairs (codes "data"); inline = bytes_eq (given pairs (codes "inline")) (codes "true") }
-
--- a condition with one more action, or anti-action
-abbrev pub with_action : Bool → PlanAction → Condition → Condition
-with_action anti action k =
-    if anti then record k { anti = k.anti ++ action ∷ [] } else record k { actions = k.actions ++ action ∷ [] }
 
 unfoldable pub action_begun : Bool → Pairs → Content → Begun
 action_begun anti pairs c =

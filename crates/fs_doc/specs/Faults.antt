@@ -14,6 +14,11 @@ fault_at at kind = record { at = at; kind = kind }
 abbrev pub fault : {X : Type 0} → ℕ → DocKind → Result X DocFault
 fault at kind = Err (fault_at at kind)
 
+-- what is read, or the fault of this kind at this place
+abbrev pub or_at : {X : Type 0} → ℕ → Result X DocKind → Result X DocFault
+or_at at (Ok x) = Ok x
+or_at at (Err kind) = fault at kind
+
 -- what is answered, as it is seen, is what is read
 abbrev pub Gives : {X Y E : Type 0} → (X → Y) → Result X E → Result Y E → Type 0
 Gives view (Ok x) read = read ≡ Ok (view x)

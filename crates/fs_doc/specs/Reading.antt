@@ -27,7 +27,7 @@ use Rattle.fs_doc.specs.Dialplans.{Context}
 use Rattle.fs_doc.specs.Elements.{kind_in}
 use Rattle.fs_doc.specs.Attributes.{pairs_read}
 use Rattle.fs_doc.specs.Contents.{Begun, nothing, begun, ended}
-use Rattle.fs_doc.specs.Faults.{fault}
+use Rattle.fs_doc.specs.Faults.{fault, or_at}
 
 -- an element that has not ended: the level of its inside, and its name
 pub record Opened : Type 0 where
@@ -87,10 +87,6 @@ mark_read done level end at bytes =
     if is_top level && starts_with nat_eq bytes (codes "/") then fault at kind.BadTag else mark_or done end at (mark_at end bytes)
 
 -- ---- elements
-
-abbrev pub or_at : {X : Type 0} → ℕ → Result X DocKind → Result X DocFault
-or_at at (Ok x) = Ok x
-or_at at (Err kind) = fault at kind
 
 -- an element with an end tag to come is open; an empty one is over
 abbrev pub with_element : Ending → Text → List Opened → Level × Content → Reading

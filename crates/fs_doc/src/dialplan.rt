@@ -90,3 +90,28 @@ pub(crate) fn add_extension(
     }
     Ok(())
 }
+
+impl ConditionDef<Txt> {
+    ghost use Rattle.fs_doc.specs.Dialplans.{with_child, with_action};
+
+    /// Adds a child to a condition that tests several.
+    pub(crate) fn add_child(&mut self, field: Txt, expression: Txt) -> Result<(), Memory>
+        ensures { OnOk result (self.new ≡ with_child field expression self.old) }
+    {
+        if let Test::Many { children, .. } = &mut self.test {
+            children.push(Child { field, expression })?;
+        }
+        Ok(())
+    }
+
+    /// Adds an action, or an anti-action.
+    pub(crate) fn add_action(&mut self, anti: bool, action: PlanAction) -> Result<(), Memory>
+        ensures { OnOk result (self.new ≡ with_action anti action self.old) }
+    {
+        if anti {
+            self.anti.push(action)
+        } else {
+            self.actions.push(action)
+        }
+    }
+}

@@ -1,6 +1,7 @@
 ghost use Rattle.std.specs.Prelude.{◌≡◌, [], ◌∷◌, ◌++◌, OnOk, OnErr, length};
 
-use fs_text::Memory;
+use crate::dialplan::{ContextDef, ExtensionDef, add_extension};
+use fs_text::{Memory, Txt};
 use std::alloc::Global;
 use std::marker::Model;
 
@@ -45,5 +46,20 @@ impl<T: Drop> Listed<T> {
         ensures { result.now ≡ self.now }
     {
         self.held.as_slice()
+    }
+}
+
+impl Listed<ContextDef<Txt>> {
+    ghost use Rattle.fs_doc.specs.Dialplans.{with_extension};
+
+    /// Puts an extension behind those of the context at a place.
+    pub(crate) fn add_extension(
+        &mut self,
+        place: usize,
+        extension: ExtensionDef<Txt>,
+    ) -> Result<(), Memory>
+        ensures { OnOk result (self.new ≡ with_extension place extension self.old) }
+    {
+        add_extension(&mut self.held, place, extension)
     }
 }

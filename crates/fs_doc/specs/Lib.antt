@@ -7,3 +7,4 @@ pub mod Attributes
 pub mod Tagged
 pub mod Contents
 pub mod Reading
+pub mod Views

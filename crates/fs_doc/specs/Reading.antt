@@ -1,5 +1,5 @@
 -- The configuration that a document is read as, or its first fault.
-use Rattle.std.specs.Prelude.{◌==◌, ℕ, zero, suc, ◌+◌, Bool, true, false, ◌&&◌, nat_eq, nat_lt, if◌then◌else◌, List, [], ◌∷◌, length, drop, reverse, map, Option, None, Some, Result, Ok, Err, codes}
+use Rattle.std.specs.Prelude.{◌==◌, ℕ, zero, suc, ◌+◌, Bool, true, false, ◌&&◌, nat_eq, nat_lt, if◌then◌else◌, List, [], ◌∷◌, length, drop, Option, None, Some, Result, Ok, Err, codes}
 use Rattle.std.specs.Str.{bytes_eq}
 use Rattle.std.specs.List.{starts_with, position_or_len}
 use Rattle.fs_vars.specs.Pairs.{Text}
@@ -19,10 +19,7 @@ use Rattle.fs_doc.specs.declared.element.Level.{Level}
 use Rattle.fs_doc.specs.declared.element.Level.TheVariants as level
 use Rattle.fs_doc.specs.declared.element.Kind.{Kind}
 use Rattle.fs_doc.specs.declared.settings.Settings.{Settings}
-use Rattle.fs_doc.specs.declared.config.Config.{Config}
 use Rattle.fs_doc.specs.declared.content.Content.{Content}
-use Rattle.fs_doc.specs.declared.state.Open.{Open}
-use Rattle.fs_doc.specs.declared.state.State.{State}
 use Rattle.fs_doc.specs.Dialplans.{Context}
 use Rattle.fs_doc.specs.Elements.{kind_in}
 use Rattle.fs_doc.specs.Attributes.{pairs_read}
@@ -38,12 +35,6 @@ pub record Opened : Type 0 where
 pub record Reading : Type 0 where
   pub opened : List Opened
   pub content : Content
-
-abbrev pub opened_of : Open → Opened
-opened_of o = record { level = o.level; name = o.name.now }
-
-abbrev pub reading_of : State → Reading
-reading_of s = record { opened = reverse (map opened_of s.opened.items); content = s.content }
 
 -- where the next byte stands
 abbrev pub level_in : List Opened → Level
@@ -155,6 +146,10 @@ read_within (suc more) end r bytes = round end r bytes >>= λ next. with_round (
 abbrev pub at_first : Reading
 at_first = record { opened = []; content = nothing }
 
+-- what is read from the first byte behind the declaration on
+unfoldable pub document_of : ℕ → Text → Contents
+document_of end bytes = read_within (length bytes + 1) end at_first bytes
+
 -- ---- the whole document
 
 -- what stands behind the next `?>`
@@ -171,7 +166,7 @@ past_declaration bytes =
 
 -- what is read of a document that is not blank
 unfoldable pub content_of : Text → Contents
-content_of bytes = past_declaration bytes >>= λ rest. read_within (length rest + 1) (length bytes) at_first rest
+content_of bytes = past_declaration bytes >>= λ rest. document_of (length bytes) rest
 
 -- the configuration that was read
 pub record Configuration : Type 0 where
@@ -182,12 +177,8 @@ pub record Configuration : Type 0 where
 abbrev pub configured : Content → Configuration
 configured c = record { settings = c.settings; globals = c.globals; contexts = c.contexts }
 
-abbrev pub configuration_of : Config → Configuration
-configuration_of c = record { settings = c.settings; globals = c.globals; contexts = c.contexts }
-
 -- the configuration of a document: a document that is too large is none, and a blank one is empty
 unfoldable pub config_of : Text → Result Configuration DocFault
 config_of bytes =
     if nat_lt 1048576 (length bytes) then fault 1048576 kind.TooLarge
-    else if length (past is_blank bytes) == 0 then Ok (configured nothing)
-    else content_of bytes >>= λ c. Ok (configured c)
+    else ((if length (past is_blank bytes) == 0 then Ok nothing else content_of bytes) >>= λ c. Ok (configured c))

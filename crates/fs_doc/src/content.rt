@@ -253,11 +253,7 @@ impl Content {
             return Err(DocStop::at(at, DocKind::TooLarge));
         }
         self.actions += 1;
-        let action = PlanAction {
-            application: given.text(alloc, b"application")?,
-            argument: given.text(alloc, b"data")?,
-            inline: given.bytes(b"inline") == b"true".as_slice(),
-        };
+        let action = action_of(alloc, given)?;
         if let Some(condition) = &mut self.condition {
             condition.add_action(anti, action)?;
         }
@@ -340,4 +336,14 @@ fn condition_of(alloc: Global, given: &Given<'_>, test: Test<Txt>) -> ConditionD
         actions: Listed::new(alloc),
         anti: Listed::new(alloc),
     }
+}
+
+fn action_of(alloc: Global, given: &Given<'_>) -> Result<PlanAction, Memory>
+    ensures { IfOk result (λ action. action ≡ contents.action_of given.now) }
+{
+    Ok(PlanAction {
+        application: given.text(alloc, b"application")?,
+        argument: given.text(alloc, b"data")?,
+        inline: given.bytes(b"inline") == b"true".as_slice(),
+    })
 }

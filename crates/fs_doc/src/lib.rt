@@ -23,6 +23,7 @@ pub use dialplan::{
     Break, Child, ConditionDef, ContextDef, ExtensionDef, ManyKind, PlanAction, Test,
 };
 
+pub use document::read_config;
 pub use fault::{DocFault, DocKind};
 pub use listed::Listed;
 pub use settings::Settings;

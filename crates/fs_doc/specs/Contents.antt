@@ -129,8 +129,11 @@ case_begun pairs c =
     pattern_counted pairs c >>= λ d.
       Ok (level.Empty, record d { condition = option_map (with_child (given pairs (codes "field")) (given pairs (codes "expression"))) d.condition })
 
+unfoldable pub is_inline : Pairs → Bool
+is_inline pairs = bytes_eq (given pairs (codes "inline")) (codes "true")
+
 abbrev pub action_of : Pairs → PlanAction
-action_of pairs = record { application = given pairs (codes "application"); argument = given pairs (codes "data"); inline = bytes_eq (given pairs (codes "inline")) (codes "true") }
+action_of pairs = record { application = given pairs (codes "application"); argument = given pairs (codes "data"); inline = is_inline pairs }
 
 unfoldable pub action_begun : Bool → Pairs → Content → Begun
 action_begun anti pairs c =

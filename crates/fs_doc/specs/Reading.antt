@@ -52,9 +52,13 @@ abbrev pub blank_text : ℕ → Level → Text → Result Text DocFault
 blank_text end level [] = Ok []
 blank_text end level (b ∷ rest) = if b == 60 then Ok (b ∷ rest) else fault (place end (b ∷ rest)) (text_kind level)
 
+-- what stands from the first `<` on
+abbrev pub any_text : Text → Text
+any_text bytes = drop (position_or_len (is_byte 60) bytes) bytes
+
 -- what stands behind the text in front: in a foreign place there may be any text, elsewhere blanks
 unfoldable pub text_at : ℕ → Level → Text → Result Text DocFault
-text_at end level.Foreign bytes = Ok (drop (position_or_len (is_byte 60) bytes) bytes)
+text_at end level.Foreign bytes = Ok (any_text bytes)
 text_at end level bytes = blank_text end level (past is_blank bytes)
 
 -- ---- markup

@@ -341,9 +341,18 @@ fn condition_of(alloc: Global, given: &Given<'_>, test: Test<Txt>) -> ConditionD
 fn action_of(alloc: Global, given: &Given<'_>) -> Result<PlanAction, Memory>
     ensures { IfOk result (λ action. action ≡ contents.action_of given.now) }
 {
+    let application = given.text(alloc, b"application")?;
+    let argument = given.text(alloc, b"data")?;
     Ok(PlanAction {
-        application: given.text(alloc, b"application")?,
-        argument: given.text(alloc, b"data")?,
-        inline: given.bytes(b"inline") == b"true".as_slice(),
+        application,
+        argument,
+        inline: is_inline(given),
     })
+}
+
+#[tactic(auto, unfolding(crate::specs::Contents::is_inline))]
+fn is_inline(given: &Given<'_>) -> bool
+    ensures { result ≡ contents.is_inline given.now }
+{
+    given.bytes(b"inline") == b"true".as_slice()
 }

@@ -73,10 +73,7 @@ fn read_rounds(alloc: Global, end: usize, text: &[u8]) -> Result<Content, DocSto
     requires { length text.now ≤ end }
     ensures { Answers views.content_seen result (reading.document_of end text.now) }
 {
-    let mut state = State {
-        opened: Vec::new(alloc),
-        content: Content::new(alloc)?,
-    };
+    let mut state = State::new(alloc)?;
     let mut left = text;
     'rounds: loop {
         match round(alloc, end, &mut state, left)? {
@@ -110,9 +107,18 @@ fn past_text(end: usize, level: Level, text: &[u8]) -> Result<&[u8], DocStop>
     ensures within { IfOk result (λ rest. length rest.now ≤ length text.now) }
 {
     match level {
-        Level::Foreign => Ok(&text[place_of(b'<', text)..]),
+        Level::Foreign => Ok(past_any_text(text)),
         _ => past_blank_text(end, level, past_blanks(text)),
     }
+}
+
+/// What stands from the first `<` on.
+fn past_any_text(text: &[u8]) -> &[u8]
+    ensures rest { result.now ≡ reading.any_text text.now }
+    ensures within { length result.now ≤ length text.now }
+{
+    let (_, rest) = text.split_at(place_of(b'<', text));
+    rest
 }
 
 fn past_blank_text(end: usize, level: Level, text: &[u8]) -> Result<&[u8], DocStop>

@@ -1,4 +1,4 @@
-ghost use Rattle.std.specs.Prelude.{◌≡◌, false, true};
+ghost use Rattle.std.specs.Prelude.{◌≡◌, false, true, IfOk};
 ghost use Rattle.fs_xml.specs.Markup.{mark_of};
 ghost use Rattle.fs_xml.specs.Tags.{body_of};
 ghost use Rattle.fs_doc.specs.Faults.{Answers};
@@ -30,6 +30,16 @@ pub struct State<'a> {
 }
 
 impl<'a> State<'a> {
+    /// Before anything is read.
+    pub fn new(alloc: Global) -> Result<State<'a>, Memory>
+        ensures { IfOk result (λ s. reading_of s ≡ reading.at_first) }
+    {
+        Ok(State {
+            opened: Vec::new(alloc),
+            content: Content::new(alloc)?,
+        })
+    }
+
     /// What may stand next.
     pub fn level(&self) -> Level
         ensures { result ≡ reading.level_in (reading_of self.now).opened }

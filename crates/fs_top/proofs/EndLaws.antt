@@ -1,12 +1,10 @@
 -- From a conversation to the play that its limit leaves.
-use Rattle.std.proofs.Common.{◌≡◌, ℕ, Bool, List, Result, Ok, Err, OnOk, IfErr, ◌⊎◌, inl, inr, sym, ap, ◌∙◌, subst}
-use Rattle.std.specs.Io.KnownBytes.{IsAtEnd}
+use Rattle.std.proofs.Common.{◌≡◌, ℕ, List, Result, Ok, Err, OnOk, IfErr, ◌⊎◌, inl, inr, sym, ap, ◌∙◌, subst}
 use Rattle.fs_ports.specs.Ports.{Input, Output, Writes}
 use Rattle.fs_top.specs.Switch.{bytes_taken}
-use Rattle.fs_top.specs.Journal.{cost, journal_limit, accepted, IsAccepted, Refuses}
+use Rattle.fs_top.specs.Journal.{cost, accepted, IsAccepted, Refuses}
 use Rattle.fs_top.specs.Play.{submitted, close, whole_journal, end_of, end_within, play}
-use Rattle.fs_top.specs.Takes.{Begins, Written}
-use Rattle.fs_top.specs.Turns.{Concludes, Stops, Finishes, Breaks, BrokenBy}
+use Rattle.fs_top.specs.Turns.{Concludes, Stops, Finishes, Breaks}
 use Rattle.fs_top.specs.declared.entry.Entry.{Entry}
 use Rattle.fs_top.specs.declared.entry.Closing.TheVariants.{Failed}
 use Rattle.fs_top.specs.declared.refusal.Refusal.{Refusal}

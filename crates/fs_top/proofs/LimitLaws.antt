@@ -1,7 +1,7 @@
 -- What a limit of the cost leaves of a journal.
-use Rattle.std.proofs.Common.{◌≡◌, ℕ, ◌+◌, ◌<◌, Bool, true, false, cond, List, [], ◌∷◌, ◌++◌, length, refl, sym, ap, ◌∙◌, append-nil, length-append, arith, ◌==◌}
+use Rattle.std.proofs.Common.{◌≡◌, ◌≢◌, ℕ, suc, ◌+◌, ◌<◌, Bool, true, false, cond, List, [], ◌∷◌, ◌++◌, length, refl, sym, ap, ◌∙◌, append-nil, length-append, arith}
 use Rattle.std.proofs.lemmas.Bool.{eq-eqb, ne_eqb}
-use Rattle.fs_top.specs.Journal.{cost_of, cost, journal_limit, is_full, accepted_from, accepted, IsAccepted, IsFull}
+use Rattle.fs_top.specs.Journal.{cost_of, cost, journal_limit, is_full, accepted_from, accepted, IsAccepted}
 use Rattle.fs_top.specs.Play.{submitted, end_within}
 use Rattle.fs_top.specs.Takes.{Begins}
 use Rattle.fs_top.specs.declared.entry.Entry.{Entry}
@@ -66,6 +66,42 @@ accepted-begins entries = from 0 entries
           | true ↦ record { more = entry ∷ entries; split = refl }
           | false ↦ let rest = from (spent + cost_of entry.act) entries in record { more = rest.more; split = ap (λ xs. entry ∷ xs) rest.split }
         ]
+
+-- where not all is accepted, the journal is full
+pub full-accepted : (entries : List Entry) → length (accepted entries) ≢ length entries → is_full (cost (accepted entries)) ≡ true
+full-accepted entries cut = ap is_full (omega arith) ∙ from 0 entries cut
+  where
+    from : (spent : ℕ) (entries : List Entry) → length (accepted_from spent entries) ≢ length entries → is_full (spent + cost (accepted_from spent entries)) ≡ true
+    from spent [] cut = absurd (cut refl)
+    from spent (entry ∷ entries) cut = step (is_full spent) refl cut (from (spent + cost_of entry.act) entries)
+      where
+        step : (full : Bool) → is_full spent ≡ full → length (cond full [] (entry ∷ accepted_from (spent + cost_of entry.act) entries)) ≢ length (entry ∷ entries) →
+            (length (accepted_from (spent + cost_of entry.act) entries) ≢ length entries → is_full (spent + cost_of entry.act + cost (accepted_from (spent + cost_of entry.act) entries)) ≡ true) →
+            is_full (spent + cost (cond full [] (entry ∷ accepted_from (spent + cost_of entry.act) entries))) ≡ true
+        step true is cut again = ap is_full (omega arith) ∙ is
+        step false is cut again = ap is_full (omega arith) ∙ again (λ same. cut (ap suc same))
+
+-- what was accepted is accepted again
+pub accepted-again : (entries : List Entry) → IsAccepted (accepted entries)
+accepted-again entries = from 0 entries
+  where
+    from : (spent : ℕ) (entries : List Entry) → accepted_from spent (accepted_from spent entries) ≡ accepted_from spent entries
+    from spent [] = refl
+    from spent (entry ∷ entries) = step (is_full spent) refl (from (spent + cost_of entry.act) entries)
+      where
+        step : (full : Bool) → is_full spent ≡ full → accepted_from (spent + cost_of entry.act) (accepted_from (spent + cost_of entry.act) entries) ≡ accepted_from (spent + cost_of entry.act) entries →
+            accepted_from spent (cond full [] (entry ∷ accepted_from (spent + cost_of entry.act) entries)) ≡ cond full [] (entry ∷ accepted_from (spent + cost_of entry.act) entries)
+        step true is again = refl
+        step false is again =
+            ap (λ b. cond b [] (entry ∷ accepted_from (spent + cost_of entry.act) (accepted_from (spent + cost_of entry.act) entries))) is ∙ ap (λ xs. entry ∷ xs) again
+
+-- a front that is as long is the whole
+pub begins-all : (journal whole : List Entry) → Begins journal whole → length journal ≡ length whole → journal ≡ whole
+begins-all journal whole begins same = by begins.more begins.split
+  where
+    by : (more : List Entry) → whole ≡ journal ++ more → journal ≡ whole
+    by [] split = sym (split ∙ append-nil journal)
+    by (entry ∷ more) split = let long = ap length split ∙ length-append journal (entry ∷ more) in absurd (omega (arith, long, same))
 
 -- a play whose journal was all accepted has its own end
 pub end_within-all : (journal whole : List Entry) (end : End) → journal ≡ whole → end_within journal whole end ≡ end

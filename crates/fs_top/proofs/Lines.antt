@@ -30,8 +30,8 @@ pub parts_stopped : (old mid new : Output) (parts : List (Bor (List ℕ))) (n : 
     Stopped old new (concat (map (λ part. part.now) parts))
 parts_stopped old mid new parts n none within first second =
     let split : joined (take (n + 1) parts) ++ joined (drop (n + 1) parts) ≡ joined parts =
-        sym (concat-append (map (λ (part : Bor (List ℕ)). part.now) (take (n + 1) parts)) (map (λ (part : Bor (List ℕ)). part.now) (drop (n + 1) parts)))
-        ∙ ap concat (sym (map-append (λ (part : Bor (List ℕ)). part.now) (take (n + 1) parts) (drop (n + 1) parts))) ∙ ap joined (take-append-drop (n + 1) parts) in
+    sym (concat-append (map (λ (part : Bor (List ℕ)). part.now) (take (n + 1) parts)) (map (λ (part : Bor (List ℕ)). part.now) (drop (n + 1) parts)))
+    ∙ ap concat (sym (map-append (λ (part : Bor (List ℕ)). part.now) (take (n + 1) parts) (drop (n + 1) parts))) ∙ ap joined (take-append-drop (n + 1) parts) in
     let here : Stopped old new (joined (take (n + 1) parts)) =
-        subst (λ (xs : List ℕ). Stopped old new xs) (sym (joined-more parts n none within)) (stopped_later old mid new (joined (take n parts)) (get_or parts n none).now first second) in
+    subst (λ (xs : List ℕ). Stopped old new xs) (sym (joined-more parts n none within)) (stopped_later old mid new (joined (take n parts)) (get_or parts n none).now first second) in
     subst (λ (xs : List ℕ). Stopped old new xs) split (stopped_sooner old new (joined (take (n + 1) parts)) (joined (drop (n + 1) parts)) here)

@@ -1,5 +1,5 @@
 -- What a journal costs, and which entries it accepts.
-use Rattle.std.specs.Prelude.{◌≡◌, ℕ, ◌+◌, Bool, true, List, [], ◌∷◌, length, nat_lt, if◌then◌else◌}
+use Rattle.std.specs.Prelude.{◌≡◌, ℕ, ◌+◌, ◌<◌, ◌++◌, Bool, true, List, [], ◌∷◌, length, nat_lt, if◌then◌else◌}
 use Rattle.fs_top.specs.Switch.{State, run}
 use Rattle.fs_top.specs.declared.entry.Entry.{Entry}
 use Rattle.fs_top.specs.declared.entry.Act.{Act}
@@ -38,6 +38,13 @@ accepted entries = accepted_from 0 entries
 -- no entry of the journal came where it was full
 abbrev pub IsAccepted : List Entry → Type 0
 IsAccepted journal = accepted journal ≡ journal
+
+-- the journal is full, and a further entry of the whole one was to come
+pub record IsCutShort (journal whole : List Entry) : Type 0 where
+  pub full : is_full (cost journal) ≡ true
+  pub more : List Entry
+  pub split : whole ≡ journal ++ more
+  pub some : 0 < length more
 
 -- what a switch keeps beside its journal: the state after it, and its cost
 pub record IsKept (journal : List Entry) (state : State) (cost_kept : ℕ) : Type 0 where

@@ -1,7 +1,7 @@
 -- What a played connection is: its journal, what is written to it, and how it ends.
-use Rattle.std.specs.Prelude.{ℕ, ◌-◌, ◌==◌, Bool, List, [], ◌∷◌, ◌++◌, length, Option, None, Some, is_some, if◌then◌else◌}
+use Rattle.std.specs.Prelude.{ℕ, ◌==◌, Bool, List, [], ◌∷◌, ◌++◌, length, Option, None, Some, is_some, if◌then◌else◌}
 use lib.ListN.{replicate}
-use Rattle.fs_frame.specs.Block.{is_later}
+use Rattle.fs_frame.specs.Block.{too_long}
 use Rattle.fs_frame.specs.Blocks.{blocks_of, rest_of}
 use Rattle.fs_top.specs.Switch.{run, bytes_taken}
 use Rattle.fs_top.specs.Journal.{cost, journal_limit, accepted}
@@ -13,7 +13,7 @@ use Rattle.fs_top.specs.declared.entry.Act.TheVariants.{Arrive, Command, Take, C
 use Rattle.fs_top.specs.declared.entry.Closing.{Closing}
 use Rattle.fs_top.specs.declared.entry.Closing.TheVariants.{EndOfInput, Sent}
 use Rattle.fs_top.specs.declared.end.End.{End}
-use Rattle.fs_top.specs.declared.end.End.TheVariants.{Exit, AuthRefused, Eof, ReadFault, Later, JournalFull}
+use Rattle.fs_top.specs.declared.end.End.TheVariants.{Exit, AuthRefused, Eof, ReadFault, TooLong, JournalFull}
 
 -- the journal with one more entry, at moment 0
 abbrev pub submitted : List Entry → Act → List Entry
@@ -75,13 +75,13 @@ closed journal = submitted (input_ended journal) (close Sent)
 abbrev pub whole_journal : List ℕ → List Entry
 whole_journal input = closed (after_all opened (blocks_of input))
 
--- how a connection ends: by its last command, or else by input that cannot be read on, by a read that failed, or by the end of the input
+-- how a connection ends: by its last command, or else by a block that is too long, by a read that failed, or by the end of the input
 abbrev pub end_behind : Option End → Bool → Bool → End
-end_behind (Some end) later read_failed = end
-end_behind None later read_failed = if later then Later else (if read_failed then ReadFault else Eof)
+end_behind (Some end) is_too_long read_failed = end
+end_behind None is_too_long read_failed = if is_too_long then TooLong 65537 else (if read_failed then ReadFault else Eof)
 
 abbrev pub end_of : List ℕ → Bool → End
-end_of input read_failed = end_behind (farewell (after_all opened (blocks_of input))) (is_later (65536 - length input) (rest_of input)) read_failed
+end_of input read_failed = end_behind (farewell (after_all opened (blocks_of input))) (too_long (rest_of input)) read_failed
 
 -- the end of a play whose journal had to stop here, where there was to be more
 abbrev pub end_within : List Entry → List Entry → End → End

@@ -1,5 +1,5 @@
 -- What a run of the program does, and the causes of its statuses.
-use Rattle.std.specs.Prelude.{◌≡◌, ◌≢◌, ℕ, Bool, false, IsTrue, List, ◌++◌, Option, None, Some, IfSome, ◌⊎◌}
+use Rattle.std.specs.Prelude.{◌≡◌, ◌≢◌, ℕ, Bool, true, false, IsTrue, List, ◌++◌, Option, None, Some, IfSome, ◌⊎◌}
 use Rattle.std.specs.List.{list_all}
 use Rattle.std.specs.Io.KnownBytes.{IsAtEnd}
 use Rattle.fs_ports.specs.Counts.{raised}
@@ -7,11 +7,13 @@ use Rattle.fs_ports.specs.Ports.{Input, Output, Writes, Stopped}
 use Rattle.fs_ports.specs.Loads.{LoadCounts, Tells, Counted}
 use Rattle.fs_ports.specs.declared.files.Load.{Load}
 use Rattle.fs_ports.specs.declared.files.Load.TheVariants.{Got}
+use Rattle.fs_frame.specs.Block.{too_long}
+use Rattle.fs_frame.specs.Blocks.{rest_of}
 use Rattle.fs_top.specs.Play.{play}
 use Rattle.fs_top.specs.Journal.{IsFull}
 use Rattle.fs_top.specs.Turns.{HasRead, Finishes, Breaks}
 use Rattle.fs_top.specs.Told.{Told, told_words, is_blank, line_of_end, status_of_end, usage_line, cannot_read_line, document_line, write_fault_line, memory_line}
-use Rattle.fs_top.specs.declared.end.End.TheVariants.{Later, JournalFull}
+use Rattle.fs_top.specs.declared.end.End.TheVariants.{TooLong, JournalFull}
 use Rattle.fs_top.specs.declared.play.Fault.TheVariants.{OutOfMemory, WriteFault}
 use Rattle.fs_top.specs.declared.entry.Entry.{Entry}
 use Rattle.fs_top.specs.declared.program.Outcome.{Outcome}
@@ -100,12 +102,13 @@ abbrev pub CountRose : LoadCounts → LoadCounts → Input → Input → Type 0
 CountRose counts0 counts1 in0 in1 =
     (counts1.absences ≡ raised counts0.absences) ⊎ ((counts1.faults ≡ raised counts0.faults) ⊎ (in1.faults ≡ raised in0.faults))
 
--- behind the bytes that were taken the input cannot be read on
-pub record IsLater (in0 in1 : Input) : Type 0 where
+-- behind the blocks of the bytes that were taken stand more bytes than a block may have, and none in front of them
+pub record MeetsTooLong (in0 in1 : Input) : Type 0 where
   pub input : List ℕ
   pub read_failed : Bool
   pub has_read : HasRead in0 in1 input read_failed
-  pub later : (play input read_failed).end ≡ Later
+  pub end_is : (play input read_failed).end ≡ TooLong 65537
+  pub is_too_long : too_long (rest_of input) ≡ true
 
 -- the journal of what was taken is full behind its last entry, and was to have a further one
 pub record FillsJournal (in0 in1 : Input) : Type 0 where

@@ -7,7 +7,7 @@ use Rattle.fs_ports.specs.declared.files.Load.{Load}
 use Rattle.fs_ports.specs.declared.files.Load.TheVariants.{Got, Absent, Failed}
 use Rattle.fs_top.specs.Play.{Played, play}
 use Rattle.fs_top.specs.declared.end.End.{End}
-use Rattle.fs_top.specs.declared.end.End.TheVariants.{Exit, AuthRefused, Eof, ReadFault, Later, JournalFull}
+use Rattle.fs_top.specs.declared.end.End.TheVariants.{Exit, AuthRefused, Eof, ReadFault, TooLong, JournalFull}
 
 -- the bytes written, the line on standard error, the status, and whether the input was read to its end
 pub record Told : Type 0 where
@@ -39,11 +39,11 @@ document_line = codes "fsw: document not read yet\n"
 unfoldable pub read_fault_line : List ℕ
 read_fault_line = codes "fsw: read fault\n"
 
-unfoldable pub later_line : List ℕ
-later_line = codes "fsw: input not read yet\n"
+unfoldable pub too_long_line : ℕ → List ℕ
+too_long_line len = codes "fsw: block too long " ++ decimal len ++ codes "\n"
 
 unfoldable pub journal_full_line : ℕ → ℕ → List ℕ
-journal_full_line cost limit = codes "fsw: journal full " ++ decimal cost ++ codes " " ++ decimal limit ++ codes "\n"
+journal_full_line cost limit = codes "fsw: journal full " ++ (decimal cost ++ (codes " " ++ (decimal limit ++ codes "\n")))
 
 unfoldable pub write_fault_line : List ℕ
 write_fault_line = codes "fsw: write fault\n"
@@ -61,7 +61,7 @@ line_of_end Exit = []
 line_of_end AuthRefused = []
 line_of_end Eof = []
 line_of_end ReadFault = read_fault_line
-line_of_end Later = later_line
+line_of_end (TooLong len) = too_long_line len
 line_of_end (JournalFull cost limit) = journal_full_line cost limit
 
 abbrev pub status_of_end : End → ℕ
@@ -69,7 +69,7 @@ status_of_end Exit = 0
 status_of_end AuthRefused = 0
 status_of_end Eof = 0
 status_of_end ReadFault = 4
-status_of_end Later = 10
+status_of_end (TooLong len) = 10
 status_of_end (JournalFull cost limit) = 8
 
 -- the end by the end of the input
@@ -78,7 +78,7 @@ is_eof Exit = false
 is_eof AuthRefused = false
 is_eof Eof = true
 is_eof ReadFault = false
-is_eof Later = false
+is_eof (TooLong len) = false
 is_eof (JournalFull cost limit) = false
 
 abbrev pub told_play : Played → Told

@@ -1,5 +1,5 @@
 -- What stands of a played connection from turn to turn, and at its end.
-use Rattle.std.specs.Prelude.{◌≡◌, ℕ, ◌-◌, ◌*◌, ◌+◌, ◌<◌, ◌≤◌, Bool, None, List, ◌++◌, length, Result, Ok, Err, ◌⊎◌, if◌then◌else◌}
+use Rattle.std.specs.Prelude.{◌≡◌, ℕ, ◌-◌, ◌*◌, ◌+◌, ◌<◌, Bool, None, List, ◌++◌, length, Result, Ok, Err, ◌⊎◌, if◌then◌else◌}
 use Rattle.std.specs.List.{AllByRecursion, concat}
 use Rattle.std.specs.Io.KnownBytes.{IsAtEnd}
 use Rattle.fs_text.specs.declared.memory.Memory.{Memory}
@@ -9,6 +9,7 @@ use Rattle.fs_frame.specs.Block.{IsBlock}
 use Rattle.fs_frame.specs.Blocks.{blocks_of}
 use Rattle.fs_frame.specs.Stream.{Stream, fed_with}
 use Rattle.fs_top.specs.Switch.{bytes_taken}
+use Rattle.fs_top.specs.Journal.{cost, journal_limit}
 use Rattle.fs_top.specs.Play.{opened, after_all, farewell, end_of, whole_journal, play, submitted, close}
 use Rattle.fs_top.specs.Takes.{Begins, Written, Halts, StoppedBy}
 use Rattle.fs_top.specs.declared.entry.Entry.{Entry}
@@ -25,8 +26,7 @@ use Rattle.fs_top.specs.declared.play.Filled.TheVariants.{More, AtEnd, ReadFaile
 
 -- what reading more of a link did
 abbrev pub Fills : Input → Input → Stream → Stream → Result Filled Memory → Type 0
-Fills in0 in1 old new (Ok More) =
-    (piece : List ℕ) × (0 < length piece) × (length piece ≤ old.room) × Reads in0 in1 piece × (in1.faults ≡ in0.faults) × (new ≡ fed_with old piece)
+Fills in0 in1 old new (Ok More) = (piece : List ℕ) × (0 < length piece) × Reads in0 in1 piece × (in1.faults ≡ in0.faults) × (new ≡ fed_with old piece)
 Fills in0 in1 old new (Ok AtEnd) = IsAtEnd in1.left × (in1 ≡ in0) × (new ≡ old)
 Fills in0 in1 old new (Ok ReadFailed) = (in1 ≡ record in0 { faults = raised in0.faults }) × (new ≡ old)
 Fills in0 in1 old new (Err memory) = (piece : List ℕ) × Reads in0 in1 piece × (in1.faults ≡ in0.faults) × (new ≡ old)
@@ -37,7 +37,6 @@ pub record Stands (in0 : Input) (out0 : Output) (in1 : Input) (out1 : Output) (s
   pub are_blocks : AllByRecursion IsBlock blocks
   pub reads : Reads in0 in1 (concat blocks ++ stream.rest)
   pub read_faults : in1.faults ≡ in0.faults
-  pub room : stream.room ≡ 65536 - length (concat blocks ++ stream.rest)
   pub journal_is : journal ≡ after_all opened blocks
   pub goes_on : farewell journal ≡ None
   pub written : Written out0 out1 journal
@@ -81,15 +80,15 @@ Turns in0 out0 in1 out1 stream journal (Ok GoOn) = Stands in0 out0 in1 out1 stre
 Turns in0 out0 in1 out1 stream journal (Ok (Done end)) = Ends in0 out0 in1 out1 end journal
 Turns in0 out0 in1 out1 stream journal (Err stop) = Stops in0 out0 in1 out1 stop journal
 
--- how much there is to do: bytes to be read, and bytes to be handed out
-abbrev pub work_left : Stream → ℕ
-work_left stream = 2 * stream.room + length stream.rest
+-- how much there is to do at most: the cost that the journal has left, and for each unit of it the bytes that may be read before a block is whole
+abbrev pub work_left : List Entry → Stream → ℕ
+work_left journal stream = (journal_limit - cost journal) * 70000 + (69999 - length stream.rest)
 
 -- a turn after which the connection goes on leaves less to do
-abbrev pub Falls : Stream → Stream → Result Turn Stop → Type 0
-Falls old new (Ok GoOn) = work_left new < work_left old
-Falls old new (Ok (Done end)) = Unit {0}
-Falls old new (Err stop) = Unit {0}
+abbrev pub Falls : List Entry → Stream → List Entry → Stream → Result Turn Stop → Type 0
+Falls journal0 old journal1 new (Ok GoOn) = work_left journal1 new < work_left journal0 old
+Falls journal0 old journal1 new (Ok (Done end)) = Unit {0}
+Falls journal0 old journal1 new (Err stop) = Unit {0}
 
 -- what a conversation did: it was closed after its end, or stopped
 abbrev pub Converses : Input → Output → Input → Output → List Entry → Result End Stop → Type 0

@@ -9,8 +9,8 @@ pub(crate) enum End {
     Eof,
     /// By a read that failed.
     ReadFault,
-    /// By input that is not read yet.
-    Later,
+    /// By more bytes than a block may have, with no block in front of them; so many were looked at.
+    TooLong { len: u64 },
     /// By the journal, behind whose cost no further entry is accepted.
     JournalFull { cost: u64, limit: u64 },
 }

@@ -14,5 +14,5 @@ mod switch;
 #[cfg(test)]
 mod tests;
 
-pub use laws::{enters_commands_once, plays_its_frames};
+pub use laws::{enters_commands_once, keeps_its_limit, plays_its_frames};
 pub use program::{Status, run};

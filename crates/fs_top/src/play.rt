@@ -25,10 +25,7 @@ pub(crate) enum Fault {
 #[derive(Clone, Copy, Debug)]
 enum Stop {
     /// No further entry is accepted behind what the journal costs.
-    JournalFull {
-        cost: u64,
-        limit: u64,
-    },
+    JournalFull { cost: u64, limit: u64 },
     OutOfMemory,
     /// A write failed.
     WriteFault,
@@ -116,7 +113,8 @@ fn take_turn<L: Link>(switch: &mut Switch, blocks: &mut Blocks, link: &mut L) ->
     ensures waits { (L.input link.new).waits ≡ (L.input link.old).waits }
     ensures turns { (in0 : Input) (out0 : Output) → Stands in0 out0 (L.input link.old) (L.output link.old) blocks.old switch.old
         → Turns in0 out0 (L.input link.new) (L.output link.new) blocks.new switch.new result }
-    ensures falls { Falls blocks.old blocks.new result }
+    ensures falls { (in0 : Input) (out0 : Output) → Stands in0 out0 (L.input link.old) (L.output link.old) blocks.old switch.old
+        → Falls switch.old blocks.old switch.new blocks.new result }
 {
     match blocks.next_block() {
         Next::Block(block) => {
@@ -132,20 +130,18 @@ fn take_turn<L: Link>(switch: &mut Switch, blocks: &mut Blocks, link: &mut L) ->
             Filled::AtEnd => Ok(Turn::Done(End::Eof)),
             Filled::ReadFailed => Ok(Turn::Done(End::ReadFault)),
         },
-        Next::Later => Ok(Turn::Done(End::Later)),
+        Next::TooLong { len } => Ok(Turn::Done(End::TooLong { len })),
     }
 }
 
-// Reads once, as much as there is room for.
+// Reads once.
 fn fill<L: Link>(blocks: &mut Blocks, link: &mut L) -> Result<Filled, Memory>
     requires waits { IsTrue (L.input link.old).waits }
-    requires room { 0 < blocks.old.room }
     ensures fills { Fills (L.input link.old) (L.input link.new) blocks.old blocks.new result }
     ensures output { L.output link.new ≡ L.output link.old }
 {
     let mut buf = [0; 4096];
-    let most = blocks.room().min(buf.len());
-    match link.read(&mut buf[..most]) {
+    match link.read(&mut buf) {
         Read::Got(n) => {
             blocks.feed(&buf[..n])?;
             Ok(Filled::More)

@@ -5,7 +5,7 @@ ghost use Rattle.fs_ports.specs.Counts as counts;
 ghost use Rattle.fs_ports.specs.Ports.{SendDid};
 ghost use Rattle.fs_ports.specs.declared.send.Sent.{Sent as AllSent};
 ghost use Rattle.fs_top.specs.Told as spec;
-ghost use Rattle.fs_top.specs.Runs.{line_of, status_of, PlaysTo, Runs, HasDocument, CountRose, FillsJournal, IsLater};
+ghost use Rattle.fs_top.specs.Runs.{line_of, status_of, PlaysTo, Runs, HasDocument, CountRose, FillsJournal, MeetsTooLong};
 
 use crate::end::End;
 use crate::play::{Fault, play};
@@ -65,7 +65,7 @@ pub fn run<F: Files, L: Link, E: Sink>(
     ensures unreadable { result.code ≡ 4 → CountRose (F.counts files.old) (F.counts files.new) (L.input link.old) (L.input link.new) }
     ensures write_fault { result.code ≡ 5 → (L.output link.new).faults ≡ counts.raised (L.output link.old).faults }
     ensures full { result.code ≡ 8 → FillsJournal (L.input link.old) (L.input link.new) }
-    ensures later { result.code ≡ 10 → IsLater (L.input link.old) (L.input link.new) }
+    ensures too_long { result.code ≡ 10 → MeetsTooLong (L.input link.old) (L.input link.new) }
 {
     let outcome = conduct(alloc, words, files, link);
     say(err, outcome);
@@ -155,12 +155,12 @@ fn code_of(outcome: Outcome<'_>) -> u8
         Outcome::CannotRead { .. } | Outcome::Ended(End::ReadFault) => 4,
         Outcome::BrokenOff(Fault::WriteFault) => 5,
         Outcome::Ended(End::JournalFull { .. }) => 8,
-        Outcome::Ended(End::Later) => 10,
+        Outcome::Ended(End::TooLong { .. }) => 10,
     }
 }
 
 // Prints the line of an outcome, if it has one.
-#[tactic(auto, unfolding(crate::specs::Told::usage_line, crate::specs::Told::document_line, crate::specs::Told::read_fault_line, crate::specs::Told::later_line, crate::specs::Told::write_fault_line, crate::specs::Told::memory_line))]
+#[tactic(auto, unfolding(crate::specs::Told::usage_line, crate::specs::Told::document_line, crate::specs::Told::read_fault_line, crate::specs::Told::write_fault_line, crate::specs::Told::memory_line))]
 fn say<E: Sink>(err: &mut E, outcome: Outcome<'_>) -> Sent
     ensures { SendDid (E.output err.old) (E.output err.new) result (line_of outcome.entry) }
 {
@@ -170,7 +170,7 @@ fn say<E: Sink>(err: &mut E, outcome: Outcome<'_>) -> Sent
         Outcome::Document => send_all(err, b"fsw: document not read yet\n"),
         Outcome::Ended(End::Exit | End::AuthRefused | End::Eof) => send_all(err, b""),
         Outcome::Ended(End::ReadFault) => send_all(err, b"fsw: read fault\n"),
-        Outcome::Ended(End::Later) => send_all(err, b"fsw: input not read yet\n"),
+        Outcome::Ended(End::TooLong { len }) => say_too_long(err, len),
         Outcome::Ended(End::JournalFull { cost, limit }) => say_journal_full(err, cost, limit),
         Outcome::BrokenOff(Fault::OutOfMemory) => send_all(err, b"fsw: out of memory\n"),
         Outcome::BrokenOff(Fault::WriteFault) => send_all(err, b"fsw: write fault\n"),
@@ -183,6 +183,22 @@ fn say_cannot_read<E: Sink>(err: &mut E, name: &[u8]) -> Sent
     ensures { SendDid (E.output err.old) (E.output err.new) result (spec.cannot_read_line name.now) }
 {
     send_parts(err, &[b"fsw: cannot read ", name, b"\n"])
+}
+
+// Prints that a block is too long, of which so many bytes were looked at.
+#[tactic(auto, unfolding(crate::specs::Told::too_long_line))]
+fn say_too_long<E: Sink>(err: &mut E, len: u64) -> Sent
+    ensures { SendDid (E.output err.old) (E.output err.new) result (spec.too_long_line len) }
+{
+    let mut buffer = Buffer::new();
+    send_parts(
+        err,
+        &[
+            b"fsw: block too long ",
+            buffer.format(len).as_bytes(),
+            b"\n",
+        ],
+    )
 }
 
 // Prints that the journal is full at this cost and limit.

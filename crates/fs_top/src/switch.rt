@@ -95,6 +95,7 @@ impl Switch {
     /// Enters the command of a block.
     pub(crate) fn command(&mut self, block: &Block<'_>) -> Result<(), Refusal>
         ensures ok { OnOk result (self.new ≡ play.submitted self.old (play.command (bytes_of block.now))) }
+        ensures room { OnOk result (is_full (cost self.old) ≡ false) }
         ensures err { IfErr result (Refuses self.old self.new) }
     {
         self.admit()?;

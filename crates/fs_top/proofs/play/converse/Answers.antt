@@ -1,4 +1,4 @@
-use Rattle.std.proofs.Common.{[], refl, ap, ◌∙◌}
+use Rattle.std.proofs.Common.{refl, ap, ◌∙◌}
 use Rattle.std.proofs.lemmas.Result.{err_from_is_err_and}
 use Rattle.fs_top.specs.Play.{submitted, arrive, all_taken, opened}
 use Rattle.fs_top.specs.declared.play.Stop.TheVariants.{OutOfMemory}
@@ -47,3 +47,6 @@ returns-in-Done g c =
     let ends = rw c.in-Done.is at (c.in_ok-take_turn.ensures.turns _ _ c.loop-blocks.invariant.stands) in
     let closes = c.in_ok-finish-in-Done.ensures.finishes _ ends.written in
     rw (c.finish.ensures.input, closes.0) (concludes _ _ _ _ _ _ _ ends (rw closes.0 at closes.1))
+
+pub loop-blocks-smaller : goal.loop-blocks-smaller
+loop-blocks-smaller g c = rw c.in-GoOn.is at (c.in_ok-take_turn.ensures.falls _ _ c.loop-blocks.invariant.stands)

@@ -1,0 +1,4 @@
+mod GroupLemmas
+mod MatchLemmas
+mod NameLemmas
+mod TextLemmas

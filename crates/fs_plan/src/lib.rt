@@ -12,8 +12,10 @@ mod groups;
 mod hunt;
 mod inline;
 mod pattern;
+mod plan;
 mod tested;
 
 pub use action::{Action, Actions};
 pub use hunt::Hunt;
 pub use pattern::Pattern;
+pub use plan::Dialplan;

@@ -1,3 +1,4 @@
+mod BuildLemmas
 mod GroupLemmas
 mod MatchLemmas
 mod NameLemmas

@@ -72,8 +72,8 @@ holds_for kind.Xor matched all = matched == 1
 unfoldable pub test_done : Profile → Test Text → Hunt → Outcome Tested
 test_done profile Always s = Ok (record { holds = true; groups = None })
 test_done profile (Plain field expression) s = field_tested profile field expression s
-test_done profile (Many many children) s =
-    children_counted profile children s none_counted >>= λ count. Ok (record { holds = holds_for many count.matched (length children); groups = count.groups })
+test_done profile (Many wanted children) s =
+    children_counted profile children s none_counted >>= λ count. Ok (record { holds = holds_for wanted count.matched (length children); groups = count.groups })
 
 -- ---- actions
 

@@ -3,3 +3,4 @@ pub mod Matching
 pub mod Substitution
 pub mod Inline
 pub mod Hunting
+pub mod Building

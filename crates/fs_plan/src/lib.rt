@@ -5,8 +5,10 @@
 #![tactic(auto)]
 
 mod action;
+mod build;
 mod conditions;
 mod extensions;
+mod fault;
 mod fields;
 mod groups;
 mod hunt;
@@ -16,6 +18,7 @@ mod plan;
 mod tested;
 
 pub use action::{Action, Actions};
+pub use fault::PlanFault;
 pub use hunt::Hunt;
 pub use pattern::Pattern;
 pub use plan::Dialplan;

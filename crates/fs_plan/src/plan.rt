@@ -1,12 +1,15 @@
-ghost use Rattle.std.specs.Prelude.{◌≡◌, Ok, IfOk, IfErr};
+ghost use Rattle.std.specs.Prelude.{◌≡◌, Ok, IfOk, IfErr, MatchResult};
+ghost use Rattle.fs_plan.specs.Building as build;
 ghost use Rattle.fs_plan.specs.Outcomes.{IsFault};
 ghost use Rattle.fs_plan.specs.Hunting as spec;
 
 use crate::action::Actions;
+use crate::build::contexts;
+use crate::fault::PlanFault;
 use crate::hunt::Hunt;
 use crate::pattern::Pattern;
-use fs_doc::{ContextDef, ExtensionDef, Listed};
-use fs_ports::Gate;
+use fs_doc::{Config, ContextDef, ExtensionDef, Listed};
+use fs_ports::{Gate, Patterns};
 use fs_vars::{Refused, Scope};
 use std::alloc::Global;
 use std::marker::Model;
@@ -27,6 +30,22 @@ impl Model for Dialplan {
 }
 
 impl Dialplan {
+    /// Builds the patterns of a configuration once, in order. The first one that is refused is named by the number of its extension,
+    /// counted over all contexts, and of its condition, counted within the extension, both from 1.
+    pub fn build<P: Patterns>(
+        alloc: Global,
+        config: &Config,
+        patterns: &mut P,
+    ) -> Result<Dialplan, PlanFault>
+        ensures kept { IfOk result (λ plan. plan ≡ config.now.contexts) }
+        ensures refused { IfErr result (build.IsRefusal config.now.contexts) }
+        ensures sizes { MatchResult result (λ _. P.sizes patterns.new ≡ P.sizes patterns.old) (λ fault. P.sizes patterns.new ≡ build.sizes_after fault (P.sizes patterns.old)) }
+        ensures files { (P.counts patterns.new ≡ P.counts patterns.old) × (P.next_load patterns.new ≡ P.next_load patterns.old) }
+    {
+        let contexts = contexts(alloc, config.contexts.as_slice(), patterns)?;
+        Ok(Dialplan { contexts })
+    }
+
     /// What a call gets from the context of a name: the actions of the extensions that are taken, and the variables and globals as
     /// inline actions leave them. There are no actions where there is no such context.
     ///

@@ -16,6 +16,8 @@ mod inline;
 mod pattern;
 mod plan;
 mod tested;
+#[cfg(test)]
+mod tests;
 
 pub use action::{Action, Actions};
 pub use fault::PlanFault;

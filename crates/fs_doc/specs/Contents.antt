@@ -111,7 +111,7 @@ pattern_counted pairs c =
 unfoldable pub pattern_begun : Pairs → Content → Begun
 pattern_begun pairs c =
     pattern_counted pairs c >>= λ d.
-      Ok (level.Condition, record d { condition = Some (condition_of pairs (test.Plain (given pairs (codes "field")) (given pairs (codes "expression")))) })
+    Ok (level.Condition, record d { condition = Some (condition_of pairs (test.Plain (given pairs (codes "field")) (given pairs (codes "expression")))) })
 
 -- a condition with `regex` has children, one with a field or an expression has a pattern, and any other is true
 abbrev pub condition_on : Pairs → Content → Option ManyKind → Begun
@@ -127,7 +127,7 @@ condition_begun pairs c = condition_on pairs c (many_of (given pairs (codes "reg
 unfoldable pub case_begun : Pairs → Content → Begun
 case_begun pairs c =
     pattern_counted pairs c >>= λ d.
-      Ok (level.Empty, record d { condition = option_map (with_child (given pairs (codes "field")) (given pairs (codes "expression"))) d.condition })
+    Ok (level.Empty, record d { condition = option_map (with_child (given pairs (codes "field")) (given pairs (codes "expression"))) d.condition })
 
 unfoldable pub is_inline : Pairs → Bool
 is_inline pairs = bytes_eq (given pairs (codes "inline")) (codes "true")

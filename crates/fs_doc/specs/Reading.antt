@@ -92,7 +92,7 @@ with_element Closes name opened x = record { opened = opened; content = ended x.
 unfoldable pub element_read : ℕ → Text → BodyText → Level → Content → Result (Level × Content) DocFault
 element_read at name body level c =
     or_at at (kind_in level c.done name) >>= λ kind.
-      (pairs_read (record { kind = kind; tag = at; globals = c.globals.pairs; attrs = body.attrs }) body.malformed >>= λ pairs. or_at at (begun kind pairs c))
+    (pairs_read (record { kind = kind; tag = at; globals = c.globals.pairs; attrs = body.attrs }) body.malformed >>= λ pairs. or_at at (begun kind pairs c))
 
 unfoldable pub entered : ℕ → Text → BodyText → Reading → Result Reading DocFault
 entered at name body r = element_read at name body (level_in r.opened) r.content >>= λ x. Ok (with_element body.ending name r.opened x)

@@ -1,0 +1,6 @@
+//! Which bytes spell which document, told apart from the reading, and the laws that join the two.
+#![tactic(auto)]
+
+mod markup;
+
+pub use markup::one_value;

@@ -1,0 +1,12 @@
+//! What is read, told apart from the reading. These functions do nothing: each stands for its contract.
+
+ghost use Rattle.std.specs.Prelude.{◌≡◌, ℕ, Bool, List, Ok};
+ghost use Rattle.fs_xml.specs.Entities.{value_text};
+ghost use Rattle.fs_spelling.specs.Values.{SpellsValue};
+
+/// A value says at most one text, and it is read as that text.
+pub fn one_value()
+    ensures read { (raw : Bool) (end : ℕ) (value text : List ℕ) → value_text raw end value ≡ Ok text → SpellsValue raw value text }
+    ensures said { (raw : Bool) (end : ℕ) (value text : List ℕ) → SpellsValue raw value text → value_text raw end value ≡ Ok text }
+    ensures one { (raw : Bool) (value some other : List ℕ) → SpellsValue raw value some → SpellsValue raw value other → some ≡ other }
+{}

@@ -1,2 +1,4 @@
 pub mod Spans
 pub mod ValueLaws
+pub mod Runs
+pub mod AttributeLaws

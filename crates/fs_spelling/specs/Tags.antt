@@ -4,6 +4,7 @@ use Rattle.std.specs.List.{list_all, list_any}
 use Rattle.fs_xml.specs.declared.attribute.Ending.{Ending}
 use Rattle.fs_xml.specs.declared.attribute.Ending.TheVariants.{Opens, Closes}
 use Rattle.fs_xml.specs.Bytes.{is_blank, is_quote, is_name_byte, begins_name, is_byte}
+use Rattle.fs_xml.specs.Attributes.{Written, Has, part_at}
 use Rattle.fs_xml.specs.Markup.{comment_end}
 
 -- a name, and a value as it is written
@@ -36,6 +37,22 @@ pub record IsAttribute (bytes : List ℕ) (pair : Pair) : Type 0 where
   pub is_name : IsName pair.name
   pub quotes : is_quote quote ≡ true
   pub unbroken : list_any (is_byte quote) pair.value ≡ false
+
+-- a name and a value, without their places
+abbrev pub pair_of : Written → Pair
+pair_of a = record { name = a.name; value = a.value }
+
+-- an attribute that is read, with its places
+pub record ReadsAttribute (end : ℕ) (text rest : List ℕ) (pair : Pair) : Type 0 where
+  pub written : Written
+  pub read : part_at end text ≡ Ok (Has written, rest)
+  pub same : pair_of written ≡ pair
+
+-- the attribute in front, and the rest
+pub record TakesAttribute (text rest : List ℕ) (pair : Pair) : Type 0 where
+  pub bytes : List ℕ
+  pub whole : text ≡ bytes ++ rest
+  pub is : IsAttribute bytes pair
 
 -- attributes, one after another
 pub data AreAttributes : List ℕ → List Pair → Type 0 where

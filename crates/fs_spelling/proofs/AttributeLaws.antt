@@ -92,20 +92,20 @@ spelt_attribute end bytes rest pair is =
 
 -- ---- what is read is spelt
 
-abbrev read : Piece × List ℕ → Pieces
-read x = Ok x
+abbrev pub was_read : Piece × List ℕ → Pieces
+was_read x = Ok x
 
-same_read : (x y : Piece × List ℕ) → read x ≡ read y → x ≡ y
+pub same_read : (x y : Piece × List ℕ) → was_read x ≡ was_read y → x ≡ y
 same_read x y e = cc
 
 -- only what has an attribute is read as one
-no_other : (piece : Piece) (rest more : List ℕ) (a : Written) → read (piece, rest) ≡ read (Has a, more) → piece ≡ Has a
+no_other : (piece : Piece) (rest more : List ℕ) (a : Written) → was_read (piece, rest) ≡ was_read (Has a, more) → piece ≡ Has a
 no_other piece rest more a e = ap (λ (x : Piece × List ℕ). x.0) (same_read (piece, rest) (Has a, more) e)
 
-no_malformed : (at : ℕ) (bytes rest : List ℕ) (a : Written) → broken_at at bytes ≡ read (Has a, rest) → ⊥
+no_malformed : (at : ℕ) (bytes rest : List ℕ) (a : Written) → broken_at at bytes ≡ was_read (Has a, rest) → ⊥
 unfolding broken_at
 no_malformed at bytes rest a e =
-    let went = bind_ok (tag_end None bytes) (λ behind. read (Broken at, behind)) (Has a, rest) e in
+    let went = bind_ok (tag_end None bytes) (λ behind. was_read (Broken at, behind)) (Has a, rest) e in
     let piece : Broken at ≡ Has a = no_other (Broken at) went.0 rest a went.2 in
     cc
 
@@ -118,7 +118,7 @@ pub record Quoted (end at : ℕ) (name text rest : List ℕ) (a : Written) : Typ
   pub named : a.name ≡ name
 
 valued_taken : (end at : ℕ) (name : List ℕ) (quote : ℕ) (bytes rest : List ℕ) (a : Written) (found : Option (List ℕ × List ℕ)) → halves_of quote bytes ≡ found → is_quote quote ≡ true
-    → valued_on end at name found ≡ read (Has a, rest) → Quoted end at name (quote ∷ bytes) rest a
+    → valued_on end at name found ≡ was_read (Has a, rest) → Quoted end at name (quote ∷ bytes) rest a
 valued_taken end at name quote bytes rest a None is quotes e = absurd (cc)
 valued_taken end at name quote bytes rest a (Some x) is quotes e =
     let w : Written = record { at = at; name = name; value = x.0; end = place end x.1 - 1 } in
@@ -136,12 +136,12 @@ valued_taken end at name quote bytes rest a (Some x) is quotes e =
       named = sym (ap (λ (y : Written). y.name) it);
     }
 
-quoted_taken : (end at : ℕ) (name text rest : List ℕ) (a : Written) → quoted_at end at name text ≡ read (Has a, rest) → Quoted end at name text rest a
+quoted_taken : (end at : ℕ) (name text rest : List ℕ) (a : Written) → quoted_at end at name text ≡ was_read (Has a, rest) → Quoted end at name text rest a
 unfolding quoted_at valued_at
 quoted_taken end at name [] rest a e = absurd (cc)
 quoted_taken end at name (q ∷ bytes) rest a e = by (is_quote q) refl e
   where
-    by : (t : Bool) → is_quote q ≡ t → cond t (valued_on end at name (halves_of q bytes)) (broken_at at (q ∷ bytes)) ≡ read (Has a, rest) → Quoted end at name (q ∷ bytes) rest a
+    by : (t : Bool) → is_quote q ≡ t → cond t (valued_on end at name (halves_of q bytes)) (broken_at at (q ∷ bytes)) ≡ was_read (Has a, rest) → Quoted end at name (q ∷ bytes) rest a
     by true quotes h = valued_taken end at name q bytes rest a (halves_of q bytes) refl quotes h
     by false other h = absurd (no_malformed at (q ∷ bytes) rest a h)
 
@@ -153,12 +153,12 @@ pub record Equals (end at : ℕ) (name text rest : List ℕ) (a : Written) : Typ
   pub whole : text ≡ 61 ∷ (gap ++ behind)
   pub quoted : Quoted end at name behind rest a
 
-equals_taken : (end at : ℕ) (name text rest : List ℕ) (a : Written) → equals_at end at name text ≡ read (Has a, rest) → Equals end at name text rest a
+equals_taken : (end at : ℕ) (name text rest : List ℕ) (a : Written) → equals_at end at name text ≡ was_read (Has a, rest) → Equals end at name text rest a
 unfolding equals_at
 equals_taken end at name [] rest a e = absurd (cc)
 equals_taken end at name (b ∷ bytes) rest a e = by (b == 61) refl e
   where
-    by : (t : Bool) → (b == 61) ≡ t → cond t (quoted_at end at name (past is_blank bytes)) (broken_at at (b ∷ bytes)) ≡ read (Has a, rest) → Equals end at name (b ∷ bytes) rest a
+    by : (t : Bool) → (b == 61) ≡ t → cond t (quoted_at end at name (past is_blank bytes)) (broken_at at (b ∷ bytes)) ≡ was_read (Has a, rest) → Equals end at name (b ∷ bytes) rest a
     by true equals h = record {
       gap = take_while is_blank bytes;
       blank = run_passes is_blank bytes;
@@ -175,24 +175,24 @@ pub record Named (end : ℕ) (glued : Bool) (text rest : List ℕ) (a : Written)
   pub others : List ℕ
   pub whole : text ≡ first ∷ others
   pub begins : begins_name first ≡ true
-  pub named : named_at end text ≡ read (Has a, rest)
+  pub named : named_at end text ≡ was_read (Has a, rest)
 
-no_slash : (bytes rest : List ℕ) (a : Written) → slash_at bytes ≡ read (Has a, rest) → ⊥
+no_slash : (bytes rest : List ℕ) (a : Written) → slash_at bytes ≡ was_read (Has a, rest) → ⊥
 unfolding slash_at
 no_slash [] rest a e = cc
 no_slash (b ∷ bytes) rest a e = by (b == 62) e
   where
-    by : (t : Bool) → cond t (read (Ends Closes, bytes)) (Err Bad) ≡ read (Has a, rest) → ⊥
+    by : (t : Bool) → cond t (was_read (Ends Closes, bytes)) (Err Bad) ≡ was_read (Has a, rest) → ⊥
     by true h = let piece : Ends Closes ≡ Has a = no_other (Ends Closes) bytes rest a h in cc
     by false h = cc
 
-part_taken : (end : ℕ) (glued : Bool) (text rest : List ℕ) (a : Written) → part_on end glued text ≡ read (Has a, rest) → Named end glued text rest a
+part_taken : (end : ℕ) (glued : Bool) (text rest : List ℕ) (a : Written) → part_on end glued text ≡ was_read (Has a, rest) → Named end glued text rest a
 unfolding part_on
 part_taken end glued [] rest a e = absurd (cc)
 part_taken end glued (b ∷ bytes) rest a e = by (b == 62) (b == 47) (begins_name b) glued refl refl e
   where
     by : (s t u g : Bool) → begins_name b ≡ u → glued ≡ g
-        → cond s (read (Ends Opens, bytes)) (cond t (slash_at bytes) (cond u (cond g (broken_at (place end (b ∷ bytes)) (b ∷ bytes)) (named_at end (b ∷ bytes))) (Err Bad))) ≡ read (Has a, rest)
+        → cond s (was_read (Ends Opens, bytes)) (cond t (slash_at bytes) (cond u (cond g (broken_at (place end (b ∷ bytes)) (b ∷ bytes)) (named_at end (b ∷ bytes))) (Err Bad))) ≡ was_read (Has a, rest)
         → Named end glued (b ∷ bytes) rest a
     by true t u g begins is h = let piece : Ends Opens ≡ Has a = no_other (Ends Opens) bytes rest a h in absurd (cc)
     by false true u g begins is h = absurd (no_slash bytes rest a h)
@@ -208,7 +208,7 @@ passed text longer none =
     let equal : length (past is_blank text) ≡ length text = ap length same in
     grind (arith, nat_tests)
 
-name_is : (text : List ℕ) (first : ℕ) (others : List ℕ) → text ≡ first ∷ others → begins_name first ≡ true → IsName (name_of text)
+pub name_is : (text : List ℕ) (first : ℕ) (others : List ℕ) → text ≡ first ∷ others → begins_name first ≡ true → IsName (name_of text)
 name_is text first others whole begins =
     let passes : is_name_byte first ≡ true = first_byte first begins in
     record {

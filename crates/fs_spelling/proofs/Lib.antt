@@ -2,3 +2,5 @@ pub mod Spans
 pub mod ValueLaws
 pub mod Runs
 pub mod AttributeLaws
+pub mod BodyLaws
+pub mod MarkLaws

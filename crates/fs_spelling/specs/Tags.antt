@@ -1,11 +1,11 @@
 -- Which bytes are comments and tags.
-use Rattle.std.specs.Prelude.{◌≡◌, ◌≢◌, ℕ, Bool, true, false, List, [], ◌∷◌, ◌++◌, Result, Ok, codes}
+use Rattle.std.specs.Prelude.{◌≡◌, ◌≢◌, ℕ, Bool, true, false, List, [], ◌∷◌, ◌++◌, map, None, Result, Ok, codes}
 use Rattle.std.specs.List.{list_all, list_any}
 use Rattle.fs_xml.specs.declared.attribute.Ending.{Ending}
 use Rattle.fs_xml.specs.declared.attribute.Ending.TheVariants.{Opens, Closes}
 use Rattle.fs_xml.specs.Bytes.{is_blank, is_quote, is_name_byte, begins_name, is_byte}
 use Rattle.fs_xml.specs.Attributes.{Written, Has, part_at}
-use Rattle.fs_xml.specs.Markup.{comment_end}
+use Rattle.fs_xml.specs.Markup.{Mark, Comment, End, Start, comment_end, mark_at}
 
 -- a name, and a value as it is written
 pub record Pair : Type 0 where
@@ -90,3 +90,23 @@ pub record IsComment (bytes : List ℕ) : Type 0 where
   pub body : List ℕ
   pub whole : bytes ≡ codes "!--" ++ body
   pub ends : comment_end body ≡ Ok []
+
+-- ---- how they are read
+
+-- a tag that is read, with the places of its attributes
+pub record ReadsTag (end : ℕ) (text name : List ℕ) (pairs : List Pair) (ending : Ending) (rest : List ℕ) : Type 0 where
+  pub attrs : List Written
+  pub same : map pair_of attrs ≡ pairs
+  pub read : mark_at end text ≡ Ok (Start name (record { attrs = attrs; malformed = None; ending = ending }), rest)
+
+-- the bytes in front, of a kind, and the rest
+pub record Takes (Is : List ℕ → Type 0) (text rest : List ℕ) : Type 0 where
+  pub bytes : List ℕ
+  pub whole : text ≡ bytes ++ rest
+  pub is : Is bytes
+
+-- the markup in front, and the rest; a tag with a malformed attribute is none
+abbrev pub TakesMark : Mark → List ℕ → List ℕ → Type 0
+TakesMark Comment text rest = Takes IsComment text rest
+TakesMark (End name) text rest = Takes (λ bytes. IsEndTag bytes name) text rest
+TakesMark (Start name body) text rest = body.malformed ≡ None → Takes (λ bytes. IsTag bytes name (map pair_of body.attrs) body.ending) text rest

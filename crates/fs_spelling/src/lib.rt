@@ -3,4 +3,4 @@
 
 mod markup;
 
-pub use markup::one_value;
+pub use markup::{one_attribute, one_markup, one_value};

@@ -3,7 +3,9 @@
 ghost use Rattle.std.specs.Prelude.{◌≡◌, ℕ, Bool, List, ◌++◌, Ok};
 ghost use Rattle.fs_xml.specs.Entities.{value_text};
 ghost use Rattle.fs_xml.specs.Attributes.{Written, Has, part_at};
-ghost use Rattle.fs_spelling.specs.Tags.{Pair, IsAttribute, pair_of, ReadsAttribute, TakesAttribute};
+ghost use Rattle.fs_xml.specs.Markup.{Mark, Comment, End, mark_at};
+ghost use Rattle.fs_xml.specs.declared.attribute.Ending.{Ending};
+ghost use Rattle.fs_spelling.specs.Tags.{Pair, IsAttribute, pair_of, ReadsAttribute, TakesAttribute, IsComment, IsEndTag, IsTag, ReadsTag, TakesMark};
 ghost use Rattle.fs_spelling.specs.Values.{SpellsValue};
 
 /// A value says at most one text, and it is read as that text.
@@ -17,4 +19,12 @@ pub fn one_value()
 pub fn one_attribute()
     ensures read { (end : ℕ) (text rest : List ℕ) (a : Written) → part_at end text ≡ Ok (Has a, rest) → TakesAttribute text rest (pair_of a) }
     ensures spelt { (end : ℕ) (bytes rest : List ℕ) (pair : Pair) → IsAttribute bytes pair → ReadsAttribute end (bytes ++ rest) rest pair }
+{}
+
+/// Comments and tags are read as what they spell, whatever follows them, and what is read spells it.
+pub fn one_markup()
+    ensures read { (end : ℕ) (text : List ℕ) (mark : Mark) (rest : List ℕ) → mark_at end text ≡ Ok (mark, rest) → TakesMark mark text rest }
+    ensures comment { (end : ℕ) (bytes rest : List ℕ) → IsComment bytes → mark_at end (bytes ++ rest) ≡ Ok (Comment, rest) }
+    ensures end_tag { (end : ℕ) (bytes name rest : List ℕ) → IsEndTag bytes name → mark_at end (bytes ++ rest) ≡ Ok (End name, rest) }
+    ensures tag { (end : ℕ) (bytes name : List ℕ) (pairs : List Pair) (ending : Ending) (rest : List ℕ) → IsTag bytes name pairs ending → ReadsTag end (bytes ++ rest) name pairs ending rest }
 {}

@@ -41,6 +41,11 @@ abbrev pub level_in : List Opened → Level
 level_in [] = level.Top
 level_in (o ∷ opened) = o.level
 
+-- no element is open
+abbrev pub is_outside : List Opened → Bool
+is_outside [] = true
+is_outside (o ∷ opened) = false
+
 -- ---- text
 
 abbrev pub text_kind : Level → DocKind
@@ -72,14 +77,10 @@ abbrev pub mark_or : Bool → ℕ → ℕ → Marks → Result (Mark × Text) Do
 mark_or done end at (Ok x) = Ok x
 mark_or done end at (Err stop) = Err (stop_fault done end at stop)
 
-abbrev pub is_top : Level → Bool
-is_top level.Top = true
-is_top _ = false
-
--- the markup behind a `<` at a place; at the top there is no end tag
-unfoldable pub mark_read : Bool → Level → ℕ → ℕ → Text → Result (Mark × Text) DocFault
-mark_read done level end at bytes =
-    if is_top level && starts_with nat_eq bytes (codes "/") then fault at kind.BadTag else mark_or done end at (mark_at end bytes)
+-- the markup behind a `<` at a place; outside of all elements there is no end tag
+unfoldable pub mark_read : Bool → Bool → ℕ → ℕ → Text → Result (Mark × Text) DocFault
+mark_read done outside end at bytes =
+    if outside && starts_with nat_eq bytes (codes "/") then fault at kind.BadTag else mark_or done end at (mark_at end bytes)
 
 -- ---- elements
 
@@ -127,9 +128,9 @@ Nexts = Result Next DocFault
 
 -- the markup in front
 unfoldable pub at_mark : ℕ → Reading → Text → Nexts
-at_mark end r [] = if r.content.done then Ok (Over r.content) else fault end kind.Truncated
+at_mark end r [] = if is_outside r.opened && r.content.done then Ok (Over r.content) else fault end kind.Truncated
 at_mark end r (b ∷ rest) =
-    mark_read r.content.done (level_in r.opened) end (place end (b ∷ rest)) rest >>= λ x. (mark_entered (place end (b ∷ rest)) x.0 r >>= λ next. Ok (On next x.1))
+    mark_read r.content.done (is_outside r.opened) end (place end (b ∷ rest)) rest >>= λ x. (mark_entered (place end (b ∷ rest)) x.0 r >>= λ next. Ok (On next x.1))
 
 -- the text in front, and the markup behind it
 unfoldable pub round : ℕ → Reading → Text → Nexts

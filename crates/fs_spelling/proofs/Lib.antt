@@ -4,3 +4,5 @@ pub mod Runs
 pub mod AttributeLaws
 pub mod BodyLaws
 pub mod MarkLaws
+pub mod TextLaws
+pub mod ElementLaws

@@ -30,7 +30,7 @@ eqb-true m n e = grind (arith, nat_tests)
 pub same_byte : (q : ℕ) → is_byte q q ≡ true
 same_byte q = grind (arith, nat_tests)
 
-first_place : (p : ℕ → Bool) (before : List ℕ) (q : ℕ) (behind : List ℕ) → list_any p before ≡ false → p q ≡ true → position_or_len p (before ++ (q ∷ behind)) ≡ length before
+pub first_place : (p : ℕ → Bool) (before : List ℕ) (q : ℕ) (behind : List ℕ) → list_any p before ≡ false → p q ≡ true → position_or_len p (before ++ (q ∷ behind)) ≡ length before
 first_place p [] q behind none passes = rw passes refl
 first_place p (b ∷ before) q behind none passes =
     let parts = or_false (p b) (list_any p before) none in
@@ -51,13 +51,13 @@ halves q before behind none =
 
 
 -- where a byte passes the search is over, and where it does not it goes on
-place_here : (p : ℕ → Bool) (b : ℕ) (bytes : List ℕ) → p b ≡ true → position_or_len p (b ∷ bytes) ≡ 0
+pub place_here : (p : ℕ → Bool) (b : ℕ) (bytes : List ℕ) → p b ≡ true → position_or_len p (b ∷ bytes) ≡ 0
 place_here p b bytes passes = rw passes refl
 
-place_on : (p : ℕ → Bool) (b : ℕ) (bytes : List ℕ) → p b ≡ false → position_or_len p (b ∷ bytes) ≡ suc (position_or_len p bytes)
+pub place_on : (p : ℕ → Bool) (b : ℕ) (bytes : List ℕ) → p b ≡ false → position_or_len p (b ∷ bytes) ≡ suc (position_or_len p bytes)
 place_on p b bytes fails = rw fails (omega arith)
 
-none_before : (p : ℕ → Bool) (bytes : List ℕ) → list_any p (before_first p bytes) ≡ false
+pub none_before : (p : ℕ → Bool) (bytes : List ℕ) → list_any p (before_first p bytes) ≡ false
 none_before p [] = refl
 none_before p (b ∷ bytes) = by (p b) refl (none_before p bytes)
   where

@@ -1,3 +1,4 @@
 pub mod Values
 pub mod Tags
 pub mod Bodies
+pub mod Documents

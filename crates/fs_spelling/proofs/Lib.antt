@@ -6,3 +6,4 @@ pub mod BodyLaws
 pub mod MarkLaws
 pub mod TextLaws
 pub mod ElementLaws
+pub mod Again

@@ -1,5 +1,5 @@
 use Rattle.fs_spelling.proofs.ElementLaws.{read_begins, begins_read}
-use Rattle.fs_spelling.proofs.TextLaws.{text_read, text_taken}
+use Rattle.fs_spelling.proofs.Again.{goes, more_fuel, last_round}
 use Rattle.fs_spelling.proofs.document.one_element.Goals as goal
 
 pub returns : goal.returns

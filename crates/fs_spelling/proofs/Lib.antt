@@ -7,3 +7,4 @@ pub mod MarkLaws
 pub mod TextLaws
 pub mod ElementLaws
 pub mod Again
+pub mod Sound

@@ -1,4 +1,3 @@
-use crate::dialplan::{Break, ManyKind, Test};
 use crate::fault::{DocFault, DocKind};
 use crate::read_config;
 use DocKind::*;
@@ -311,103 +310,6 @@ fn accepts(rt: HostRuntime) -> Result<(), Fail> {
             "{document}"
         );
     }
-    Ok(())
-}
-
-/// A small `freeswitch.xml`.
-const USUAL: &str = r#"<?xml version="1.0"?>
-<document type="freeswitch/xml">
-  <X-PRE-PROCESS cmd="set" data="domain=example.org"/>
-  <X-PRE-PROCESS cmd="set" data="greeting=hi &amp;lt; $${domain}$${none}"></X-PRE-PROCESS>
-  <section name="configuration" description="Various">
-    <configuration name="switch.conf">
-      <cli-keybindings><key name="1" value="help"/></cli-keybindings>
-      <settings>
-        <param name="max-sessions" value="1000"/>
-        <param name="journal-limit" value="1048576"/>
-        <param name="colour" value="red"/>
-      </settings>
-    </configuration>
-    <configuration name="event_socket.conf">
-      <settings>
-        <param name="listen-port" value="65535"/>
-        <param name="listen-port" value="1"/>
-        <param name="password" value="$${greeting}"/>
-      </settings>
-    </configuration>
-  </section>
-  <section name="directory"><domain name="$${domain}"><user id="1000"/>text</domain></section>
-  <section name="dialplan">
-    <context name="default">
-      <extension name="first" continue="true">
-        <condition field="destination_number" expression="^10$$${domain}" break="on-true">
-          <action application="set" data="a=$${x" inline="true"/>
-          <anti-action application="hangup"/>
-        </condition>
-        <condition/>
-      </extension>
-    </context>
-    <context name="other"/>
-    <context name="default">
-      <extension>
-        <condition regex="xor" field="ignored"><regex field="a" expression="b"/><regex expression="c"/></condition>
-      </extension>
-    </context>
-  </section>
-</document>
-"#;
-
-#[test]
-fn reads_the_usual_document(rt: HostRuntime) -> Result<(), Fail> {
-    let config = read_config(rt.alloc(), USUAL.as_bytes())
-        .ok()
-        .ok_or("refused")?;
-    let settings = &config.settings;
-    assert_eq!(rt;
-        (settings.max_sessions, settings.journal_limit),
-        (256, 1_048_576)
-    );
-    assert_eq!(rt; (settings.listen_port, settings.max_connections), (1, 16));
-    assert_eq!(rt;
-        settings.password.as_bytes(),
-        b"hi &lt; example.org".as_slice()
-    );
-    let greeting = config.globals.get(b"greeting").ok_or("no greeting")?;
-    assert_eq!(rt; greeting.as_bytes(), b"hi &lt; example.org".as_slice());
-    let [default, other] = config.contexts.as_slice() else {
-        return Err("not two contexts")?;
-    };
-    assert_eq!(rt; other.name.as_bytes(), b"other".as_slice());
-    assert_eq!(rt; other.extensions.as_slice().len(), 0);
-    let [first, second] = default.extensions.as_slice() else {
-        return Err("not two extensions")?;
-    };
-    assert_eq!(rt; (first.goes_on, second.goes_on), (true, false));
-    assert_eq!(rt; second.name.as_bytes(), b"".as_slice());
-    let [plain, always] = first.conditions.as_slice() else {
-        return Err("not two conditions")?;
-    };
-    assert_eq!(rt; (plain.stop, always.stop), (Break::OnTrue, Break::OnFalse));
-    let [action] = plain.actions.as_slice() else {
-        return Err("not one action")?;
-    };
-    assert_eq!(rt;
-        (action.argument.as_bytes(), action.inline),
-        (b"a=$${x".as_slice(), true)
-    );
-    assert_eq!(rt; plain.anti.as_slice().len(), 1);
-    let Test::Plain { field, expression } = &plain.test else {
-        return Err("no pattern")?;
-    };
-    assert_eq!(rt; field.as_bytes(), b"destination_number".as_slice());
-    assert_eq!(rt; expression.as_bytes(), b"^10$example.org".as_slice());
-    let [cases] = second.conditions.as_slice() else {
-        return Err("not one condition")?;
-    };
-    let Test::Many { kind, children } = &cases.test else {
-        return Err("no children")?;
-    };
-    assert_eq!(rt; (*kind, children.as_slice().len()), (ManyKind::Xor, 2));
     Ok(())
 }
 

@@ -8,3 +8,4 @@ pub mod TextLaws
 pub mod ElementLaws
 pub mod Again
 pub mod Sound
+pub mod Whole

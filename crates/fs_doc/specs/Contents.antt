@@ -1,10 +1,10 @@
 -- What was read of a document, and what an element adds to it.
-use Rattle.std.specs.Prelude.{◌==◌, ◌≡◌, ℕ, ◌+◌, Bool, true, false, ◌&&◌, ◌||◌, nat_le, nat_lt, if◌then◌else◌, List, [], ◌∷◌, ◌++◌, length, Option, None, Some, is_some, unwrap_or, Result, Ok, Err, codes, position}
-use Rattle.std.specs.Option.{option_map, option_and_then}
+use Rattle.std.specs.Prelude.{ℕ, ◌+◌, Bool, true, false, ◌||◌, nat_le, nat_lt, if◌then◌else◌, List, [], ◌∷◌, ◌++◌, length, Option, None, Some, unwrap_or, Result, Ok, Err, codes}
+use Rattle.std.specs.Option.{option_map}
 use Rattle.std.specs.Str.{bytes_eq}
 use Rattle.std.specs.List.{position_or_len}
 use Rattle.fs_vars.specs.Pairs.{Text, Pairs, value_of}
-use Rattle.fs_vars.specs.Variables.{Variables, can_set, set_to}
+use Rattle.fs_vars.specs.Variables.{can_set, set_to}
 use Rattle.fs_vars.specs.declared.bounds.Bounds.TheVariants.{Globals}
 use Rattle.fs_xml.specs.Results.{◌>>=◌}
 use Rattle.fs_doc.specs.declared.fault.DocKind.{DocKind}

@@ -1,5 +1,5 @@
 -- The configuration that a document is read as, or its first fault.
-use Rattle.std.specs.Prelude.{◌==◌, ℕ, zero, suc, ◌+◌, Bool, true, false, ◌&&◌, nat_eq, nat_lt, if◌then◌else◌, List, [], ◌∷◌, length, drop, Option, None, Some, Result, Ok, Err, codes}
+use Rattle.std.specs.Prelude.{◌==◌, ℕ, zero, suc, ◌+◌, Bool, true, false, ◌&&◌, nat_eq, nat_lt, if◌then◌else◌, List, [], ◌∷◌, length, drop, Result, Ok, Err, codes}
 use Rattle.std.specs.Str.{bytes_eq}
 use Rattle.std.specs.List.{starts_with, position_or_len}
 use Rattle.fs_vars.specs.Pairs.{Text}
@@ -17,13 +17,12 @@ use Rattle.fs_doc.specs.declared.fault.DocKind.TheVariants as kind
 use Rattle.fs_doc.specs.declared.fault.DocFault.{DocFault}
 use Rattle.fs_doc.specs.declared.element.Level.{Level}
 use Rattle.fs_doc.specs.declared.element.Level.TheVariants as level
-use Rattle.fs_doc.specs.declared.element.Kind.{Kind}
 use Rattle.fs_doc.specs.declared.settings.Settings.{Settings}
 use Rattle.fs_doc.specs.declared.content.Content.{Content}
 use Rattle.fs_doc.specs.Dialplans.{Context}
 use Rattle.fs_doc.specs.Elements.{kind_in}
 use Rattle.fs_doc.specs.Attributes.{pairs_read}
-use Rattle.fs_doc.specs.Contents.{Begun, nothing, begun, ended}
+use Rattle.fs_doc.specs.Contents.{nothing, begun, ended}
 use Rattle.fs_doc.specs.Faults.{fault, or_at}
 
 -- an element that has not ended: the level of its inside, and its name

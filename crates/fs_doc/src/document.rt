@@ -19,6 +19,10 @@ use std::alloc::Global;
 const MOST_BYTES: usize = 1_048_576;
 
 /// The configuration of a document, or the fault that is met first.
+///
+/// Bytes that are all blanks are the empty configuration. Otherwise one `document` stands behind an optional declaration, among blanks and
+/// comments. The document is read from its start, each tag as a whole; at an element its name and place are judged first, then its
+/// attributes in their order, then a malformed or a missing one, and last a limit or a setting. Want of memory is told at place 0.
 #[tactic(auto, unfolding(crate::specs::Reading::config_of))]
 pub fn read_config(alloc: Global, bytes: &[u8]) -> Result<Config, DocFault>
     ensures { Tells views.configuration_of result (reading.config_of bytes.now) }

@@ -1,6 +1,9 @@
+use crate::config::Config;
+use crate::dialplan::{Break, ConditionDef, ContextDef, ManyKind, Test};
 use crate::fault::{DocFault, DocKind};
 use crate::read_config;
 use DocKind::*;
+use fs_text::Txt;
 use std::alloc::Global;
 use std::process::Abort;
 use std::test::Fail;
@@ -309,6 +312,118 @@ fn accepts(rt: HostRuntime) -> Result<(), Fail> {
             None,
             "{document}"
         );
+    }
+    Ok(())
+}
+
+/// A small `freeswitch.xml`.
+const USUAL: &str = r#"<?xml version="1.0"?>
+<document type="freeswitch/xml">
+  <X-PRE-PROCESS cmd="set" data="domain=example.org"/>
+  <X-PRE-PROCESS cmd="set" data="greeting=hi &amp;lt; $${domain}$${none}"></X-PRE-PROCESS>
+  <section name="configuration" description="Various">
+    <configuration name="switch.conf">
+      <cli-keybindings><key name="1" value="help"/></cli-keybindings>
+      <settings>
+        <param name="max-sessions" value="1000"/>
+        <param name="journal-limit" value="1048576"/>
+        <param name="colour" value="red"/>
+      </settings>
+    </configuration>
+    <configuration name="event_socket.conf">
+      <settings>
+        <param name="listen-port" value="65535"/>
+        <param name="listen-port" value="1"/>
+        <param name="password" value="$${greeting}"/>
+      </settings>
+    </configuration>
+  </section>
+  <section name="directory"><domain name="$${domain}"><user id="1000"/>text</domain></section>
+  <section name="dialplan">
+    <context name="default">
+      <extension name="first" continue="true">
+        <condition field="destination_number" expression="^10$$${domain}" break="on-true">
+          <action application="set" data="a=$${x" inline="true"/>
+          <anti-action application="hangup"/>
+        </condition>
+        <condition/>
+      </extension>
+    </context>
+    <context name="other"/>
+    <context name="default">
+      <extension>
+        <condition regex="xor" field="ignored"><regex field="a" expression="b"/><regex expression="c"/></condition>
+      </extension>
+    </context>
+  </section>
+</document>
+"#;
+
+fn usual(alloc: Global) -> Result<Config, Fail> {
+    let config = read_config(alloc, USUAL.as_bytes()).ok();
+    Ok(config.ok_or("refused")?)
+}
+
+fn has(rt: &impl Abort, found: Option<&Txt>, wanted: &str) {
+    let bytes = found.map(|text| text.as_bytes());
+    assert_eq!(rt; bytes, Some(wanted.as_bytes()));
+}
+
+#[test]
+fn reads_settings_and_globals(rt: HostRuntime) -> Result<(), Fail> {
+    let config = usual(rt.alloc())?;
+    let settings = &config.settings;
+    assert_eq!(rt;
+        (settings.max_sessions, settings.journal_limit),
+        (256, 1_048_576)
+    );
+    assert_eq!(rt; (settings.listen_port, settings.max_connections), (1, 16));
+    has(&rt, Some(&settings.password), "hi &lt; example.org");
+    has(&rt, config.globals.get(b"greeting"), "hi &lt; example.org");
+    Ok(())
+}
+
+fn names_contexts(rt: &impl Abort, contexts: &[ContextDef<Txt>]) {
+    assert_eq!(rt; contexts.len(), 2);
+    has(rt, Some(&contexts[0].name), "default");
+    has(rt, Some(&contexts[1].name), "other");
+    assert_eq!(rt; contexts[0].extensions.as_slice().len(), 2);
+    assert_eq!(rt; contexts[1].extensions.as_slice().len(), 0);
+}
+
+fn has_actions(rt: &impl Abort, condition: &ConditionDef<Txt>) {
+    assert_eq!(rt; condition.stop, Break::OnTrue);
+    if let Test::Plain { field, expression } = &condition.test {
+        has(rt, Some(field), "destination_number");
+        has(rt, Some(expression), "^10$example.org");
+    }
+    assert_eq!(rt; condition.actions.as_slice().len(), 1);
+    let action = &condition.actions.as_slice()[0];
+    assert_eq!(rt; action.inline, true);
+    has(rt, Some(&action.argument), "a=$${x");
+}
+
+fn counts_cases(rt: &impl Abort, condition: &ConditionDef<Txt>) {
+    if let Test::Many { kind, children } = &condition.test {
+        assert_eq!(rt; *kind, ManyKind::Xor);
+        assert_eq!(rt; children.as_slice().len(), 2);
+    }
+}
+
+#[test]
+fn reads_the_dialplan(rt: HostRuntime) -> Result<(), Fail> {
+    let config = usual(rt.alloc())?;
+    let contexts = config.contexts.as_slice();
+    names_contexts(&rt, contexts);
+    let default = contexts.first().ok_or("no context")?;
+    for extension in default.extensions.as_slice() {
+        for condition in extension.conditions.as_slice() {
+            match &condition.test {
+                Test::Always => assert_eq!(rt; extension.goes_on, true),
+                Test::Plain { .. } => has_actions(&rt, condition),
+                Test::Many { .. } => counts_cases(&rt, condition),
+            }
+        }
     }
     Ok(())
 }

@@ -1,5 +1,5 @@
 -- What is spelt is read.
-use Rattle.std.proofs.Common.{◌≡◌, ℕ, zero, suc, ◌+◌, ◌<◌, ◌≤◌, Bool, true, false, cond, ◌&&◌, ◌==◌, nat_eq, List, [], ◌∷◌, ◌++◌, length, map, None, Result, Ok, Err, codes, refl, sym, ap, ◌∙◌, subst, append_assoc, append-nil, arith}
+use Rattle.std.proofs.Common.{◌≡◌, ℕ, zero, suc, ◌+◌, ◌≤◌, Bool, true, false, cond, ◌==◌, nat_eq, List, [], ◌∷◌, ◌++◌, length, map, None, Result, Ok, Err, codes, refl, sym, ap, ◌∙◌, subst, append_assoc, append-nil, arith}
 use Rattle.std.specs.List.{starts_with}
 use Rattle.std.specs.Str.{bytes_eq}
 use Rattle.std.proofs.lemmas.List.{length-append}
@@ -7,7 +7,7 @@ use Rattle.std.proofs.lemmas.Slice.Eq.{bytes_eq-Decides}
 use Rattle.std.proofs.lemmas.Bool.Decides.{nat_tests}
 use Rattle.fs_vars.specs.Pairs.{Text}
 use Rattle.fs_xml.specs.Results.{◌>>=◌}
-use Rattle.fs_xml.specs.Bytes.{is_mark, place}
+use Rattle.fs_xml.specs.Bytes.{place}
 use Rattle.fs_xml.specs.Tags.{BodyText}
 use Rattle.fs_xml.specs.Markup.{Mark, Comment, End, Start, mark_at}
 use Rattle.fs_xml.specs.declared.attribute.Ending.{Ending}
@@ -19,13 +19,12 @@ use Rattle.fs_doc.specs.declared.element.Level.TheVariants as level
 use Rattle.fs_doc.specs.declared.content.Content.{Content}
 use Rattle.fs_doc.specs.Faults.{fault}
 use Rattle.fs_doc.specs.Contents.{ended}
-use Rattle.fs_doc.specs.Reading.{Opened, Reading, level_in, is_outside, text_at, mark_or, mark_read, element_read, with_element, entered, left_from, left, is_empty_level, mark_entered, Next, Over, On, at_mark, round, with_round, read_within}
-use Rattle.fs_spelling.specs.Tags.{Pair, IsName, IsTag, IsEndTag, IsComment, pair_of, ReadsTag, AreBlank}
+use Rattle.fs_doc.specs.Reading.{Opened, Reading, level_in, is_outside, mark_or, mark_read, with_element, entered, left, is_empty_level, mark_entered, Next, Over, On, at_mark, round, with_round, read_within}
+use Rattle.fs_spelling.specs.Tags.{Pair, IsTag, IsEndTag, IsComment, pair_of, ReadsTag, AreBlank}
 use Rattle.fs_spelling.specs.Documents.{IsFiller, Begins, Inside, Bare, Remark, Leaf, Holder}
-use Rattle.fs_spelling.proofs.Runs.{name_byte, first_byte, no_mark, and_true}
-use Rattle.fs_spelling.proofs.Spans.{eqb-true}
+use Rattle.fs_spelling.proofs.Runs.{name_byte, first_byte, no_mark}
 use Rattle.fs_spelling.proofs.MarkLaws.{spelt_comment, spelt_end, spelt_tag}
-use Rattle.fs_spelling.proofs.TextLaws.{BeginsMark, text_read}
+use Rattle.fs_spelling.proofs.TextLaws.{text_read}
 use Rattle.fs_spelling.proofs.ElementLaws.{begins_read}
 
 abbrev pub state : List Opened → Content → Reading
@@ -156,7 +155,7 @@ goes end x outer c text d (Leaf _ inner _ middle e front before tag name pairs i
     let r = state opened middle in
     let next = state opened (ended inner e) in
     let goes_round = round_goes end r before tag rest (Start name body) next (filler_here opened outer before here filler) (λ at. tag_is_read middle.done (is_outside opened) end at tag name pairs Closes rest is tagged)
-      (λ at. tag_enters at opened middle e outer inner name pairs body here refl tagged.same begins) in
+    (λ at. tag_enters at opened middle e outer inner name pairs body here refl tagged.same begins) in
     let first = one_round end x r (before ++ ((60 ∷ tag) ++ rest)) next rest more goes_round reads in
     let on = goes end x outer c front middle ins opened here (before ++ ((60 ∷ tag) ++ rest)) (suc more) first in
     moved end opened c (front ++ (before ++ ((60 ∷ tag) ++ rest))) ((front ++ (before ++ (60 ∷ tag))) ++ rest) x (suc more + length front) (more + length (front ++ (before ++ (60 ∷ tag)))) on
@@ -164,14 +163,14 @@ goes end x outer c text d (Leaf _ inner _ middle e front before tag name pairs i
 goes end x outer c text d (Holder _ inner _ middle e f front before tag held behind close name pairs ins filler is begins held_is filler_behind closes) opened here rest more reads =
     let deeper : List Opened = record { level = inner; name = name } ∷ opened in
     let last = one_round end x (state deeper f) (behind ++ ((60 ∷ close) ++ rest)) (state opened (ended inner f)) rest more
-      (round_goes end (state deeper f) behind close rest (End name) (state opened (ended inner f)) filler_behind (λ at. end_is_read f.done end at close name rest closes) (λ at. end_enters at opened inner name f)) reads in
+    (round_goes end (state deeper f) behind close rest (End name) (state opened (ended inner f)) filler_behind (λ at. end_is_read f.done end at close name rest closes) (λ at. end_enters at opened inner name f)) reads in
     let tail = held ++ (behind ++ ((60 ∷ close) ++ rest)) in
     let inside = goes end x inner e held f held_is deeper refl (behind ++ ((60 ∷ close) ++ rest)) (suc more) last in
     let tagged = spelt_tag end tag name pairs Opens tail is in
     let body : BodyText = record { attrs = tagged.attrs; malformed = None; ending = Opens } in
     let r = state opened middle in
     let goes_round = round_goes end r before tag tail (Start name body) (state deeper e) (filler_here opened outer before here filler) (λ at. tag_is_read middle.done (is_outside opened) end at tag name pairs Opens tail is tagged)
-      (λ at. tag_enters at opened middle e outer inner name pairs body here refl tagged.same begins) in
+    (λ at. tag_enters at opened middle e outer inner name pairs body here refl tagged.same begins) in
     let first = one_round end x r (before ++ ((60 ∷ tag) ++ tail)) (state deeper e) tail inside.fuel goes_round inside.reads in
     let on = goes end x outer c front middle ins opened here (before ++ ((60 ∷ tag) ++ tail)) (suc inside.fuel) first in
     moved end opened c (front ++ (before ++ ((60 ∷ tag) ++ tail))) ((front ++ (before ++ ((60 ∷ tag) ++ (held ++ (behind ++ (60 ∷ close)))))) ++ rest) x (suc inside.fuel + length front)

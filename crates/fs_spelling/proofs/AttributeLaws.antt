@@ -1,19 +1,17 @@
 -- An attribute is read as what it spells.
-use Rattle.std.proofs.Common.{◌≡◌, ◌≢◌, ℕ, zero, suc, ◌+◌, ◌-◌, ◌<◌, Bool, true, false, cond, not, ◌&&◌, ◌||◌, ◌==◌, List, [], ◌∷◌, ◌++◌, length, Option, None, Some, Result, Ok, Err, refl, sym, ap, ◌∙◌, subst, append_assoc, arith}
-use Rattle.std.specs.List.{list_all, list_any, take_while}
+use Rattle.std.proofs.Common.{◌≡◌, ◌≢◌, ℕ, ◌-◌, Bool, true, false, cond, ◌==◌, List, [], ◌∷◌, ◌++◌, length, Option, None, Some, Ok, Err, refl, sym, ap, ◌∙◌, subst, append_assoc, arith}
+use Rattle.std.specs.List.{list_any, take_while}
 use Rattle.std.proofs.lemmas.List.Sums.{take_while-cons}
 use Rattle.std.proofs.lemmas.List.{length-append}
 use Rattle.std.proofs.lemmas.Bool.Decides.{nat_tests}
-use Rattle.fs_xml.specs.declared.stop.TagStop.{TagStop}
-use Rattle.fs_xml.specs.declared.stop.TagStop.TheVariants.{Cut, Bad}
+use Rattle.fs_xml.specs.declared.stop.TagStop.TheVariants.{Bad}
 use Rattle.fs_xml.specs.declared.attribute.Ending.TheVariants.{Opens, Closes}
-use Rattle.fs_xml.specs.Results.{◌>>=◌}
 use Rattle.fs_xml.specs.Bytes.{is_blank, is_quote, is_mark, is_name_byte, begins_name, is_byte, halves_of, past, name_of, place}
 use Rattle.fs_xml.specs.Attributes.{Written, Piece, Has, Ends, Broken, Pieces, tag_end, broken_at, valued_on, valued_at, quoted_at, equals_at, named_at, slash_at, part_on, part_at}
 use Rattle.fs_xml.proofs.ByteLemmas.{run_past}
 use Rattle.fs_spelling.specs.Tags.{Pair, AreBlank, IsName, IsAttribute, pair_of, ReadsAttribute, TakesAttribute}
 use Rattle.fs_spelling.proofs.Spans.{halves, halved, bind_ok, eqb-true}
-use Rattle.fs_spelling.proofs.Runs.{Stops, past_run, the_run, run_passes, rest_stops, name_byte, first_byte, IsNoMark, no_mark, quote_stops, gap_stops, name_passes, name_stops}
+use Rattle.fs_spelling.proofs.Runs.{Stops, past_run, the_run, run_passes, name_byte, first_byte, no_mark, quote_stops, gap_stops, name_passes, name_stops}
 
 -- ---- what is spelt is read
 
@@ -83,10 +81,10 @@ spelt_attribute end bytes rest pair is =
     record {
       written = record { at = at; name = pair.name; value = pair.value; end = place end rest - 1 };
       read = ap (part_at end) whole
-        ∙ part_behind end is.before behind is.apart is.before_blank (name_stops pair.name (is.gap ++ (61 ∷ more)) is.is_name)
-        ∙ name_read end pair.name (is.gap ++ (61 ∷ more)) is.is_name
-        ∙ named_read end pair.name is.gap more is.is_name is.gap_blank
-        ∙ equals_read end at pair.name is.gap_behind is.quote pair.value rest is.behind_blank is.quotes (halves is.quote pair.value rest is.unbroken);
+          ∙ part_behind end is.before behind is.apart is.before_blank (name_stops pair.name (is.gap ++ (61 ∷ more)) is.is_name)
+          ∙ name_read end pair.name (is.gap ++ (61 ∷ more)) is.is_name
+          ∙ named_read end pair.name is.gap more is.is_name is.gap_blank
+          ∙ equals_read end at pair.name is.gap_behind is.quote pair.value rest is.behind_blank is.quotes (halves is.quote pair.value rest is.unbroken);
       same = refl;
     }
 
@@ -233,9 +231,9 @@ read_attribute end text rest a e =
     let is_name = name_is body part.first part.others part.whole part.begins in
     let tail = gap ++ (61 ∷ (equals.gap ++ (quoted.quote ∷ (a.value ++ (quoted.quote ∷ rest))))) in
     let behind_is : behind ≡ tail =
-      sym (run_past is_blank behind) ∙ ap (λ r. gap ++ r) (equals.whole ∙ ap (λ r. 61 ∷ (equals.gap ++ r)) quoted.whole) in
+    sym (run_past is_blank behind) ∙ ap (λ r. gap ++ r) (equals.whole ∙ ap (λ r. 61 ∷ (equals.gap ++ r)) quoted.whole) in
     let whole : text ≡ before ++ Attribute a.name gap equals.gap quoted.quote a.value rest =
-      sym (run_past is_blank text) ∙ ap (λ r. before ++ r) (sym (run_past is_name_byte body) ∙ ap (λ r. name ++ r) behind_is ∙ ap (λ n. n ++ tail) (sym quoted.named)) in
+    sym (run_past is_blank text) ∙ ap (λ r. before ++ r) (sym (run_past is_name_byte body) ∙ ap (λ r. name ++ r) behind_is ∙ ap (λ n. n ++ tail) (sym quoted.named)) in
     record {
       bytes = before ++ (a.name ++ (gap ++ (61 ∷ (equals.gap ++ (quoted.quote ∷ (a.value ++ (quoted.quote ∷ [])))))));
       whole = whole ∙ sym (seam before a.name gap equals.gap quoted.quote a.value rest);

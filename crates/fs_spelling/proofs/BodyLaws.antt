@@ -1,17 +1,17 @@
 -- What stands in a tag behind its name is read as what it spells.
-use Rattle.std.proofs.Common.{◌≡◌, ◌≢◌, ℕ, zero, suc, ◌+◌, ◌-◌, ◌<◌, ◌≤◌, Bool, true, false, cond, ◌==◌, List, [], ◌∷◌, ◌++◌, length, map, Option, None, Some, Result, Ok, Err, refl, sym, ap, ◌∙◌, subst, append_assoc, append-nil, arith}
+use Rattle.std.proofs.Common.{◌≡◌, ◌≢◌, ℕ, zero, suc, ◌+◌, ◌-◌, ◌<◌, Bool, true, false, cond, ◌==◌, List, [], ◌∷◌, ◌++◌, length, map, Option, None, Some, Result, Ok, Err, refl, sym, ap, ◌∙◌, subst, append_assoc, append-nil, arith}
 use Rattle.std.specs.List.{list_all, take_while}
-use Rattle.std.proofs.lemmas.List.{length-append, map-append}
+use Rattle.std.proofs.lemmas.List.{length-append}
 use Rattle.fs_xml.specs.declared.stop.TagStop.{TagStop}
-use Rattle.fs_xml.specs.declared.stop.TagStop.TheVariants.{Cut, Bad}
+use Rattle.fs_xml.specs.declared.stop.TagStop.TheVariants.{Bad}
 use Rattle.fs_xml.specs.declared.attribute.Ending.{Ending}
 use Rattle.fs_xml.specs.declared.attribute.Ending.TheVariants.{Opens, Closes}
 use Rattle.fs_xml.specs.Results.{◌>>=◌}
 use Rattle.fs_xml.specs.Bytes.{is_blank, is_quote, is_mark, is_name_byte, begins_name, halves_of, past, place}
 use Rattle.fs_xml.specs.Attributes.{Written, Piece, Has, Ends, Broken, Pieces, tag_end, broken_at, valued_on, valued_at, quoted_at, equals_at, named_at, slash_at, part_on, part_at}
-use Rattle.fs_xml.specs.Tags.{BodyText, Step, More, Done, step_of, Bodies, go_on, body_step, body_within, body_at}
+use Rattle.fs_xml.specs.Tags.{BodyText, Step, step_of, Bodies, go_on, body_step, body_within, body_at}
 use Rattle.fs_xml.proofs.ByteLemmas.{run_past}
-use Rattle.fs_spelling.specs.Tags.{Pair, AreBlank, IsAttribute, AreAttributes, NoMore, OneMore, end_of, IsBody, pair_of, ReadsAttribute, TakesAttribute}
+use Rattle.fs_spelling.specs.Tags.{Pair, AreBlank, IsAttribute, AreAttributes, NoMore, OneMore, end_of, IsBody, pair_of, ReadsAttribute}
 use Rattle.fs_spelling.specs.Bodies.{TakesBody}
 use Rattle.fs_spelling.proofs.Spans.{bind_ok, eqb-true}
 use Rattle.fs_spelling.proofs.Runs.{Stops, past_run, run_passes, blank_stops, gap_stops, and_true}
@@ -56,7 +56,7 @@ ended_body more end so_far text ending rest e = record {
   attrs = [];
   same = refl;
   goes = ap (λ (p : Pieces). (p >>= λ x. Ok (step_of so_far x.0, x.1)) >>= λ x. go_on (λ next r. body_within more end next r) x) e
-    ∙ ap (λ attrs. Ok (record { attrs = attrs; malformed = None; ending = ending }, rest)) (sym (append-nil so_far));
+      ∙ ap (λ attrs. Ok (record { attrs = attrs; malformed = None; ending = ending }, rest)) (sym (append-nil so_far));
 }
 
 more_body : (more end : ℕ) (so_far : List Written) (text : List ℕ) (pair : Pair) (pairs : List Pair) (ending : Ending) (middle rest : List ℕ) (a : ReadsAttribute end text middle pair)
@@ -66,7 +66,7 @@ more_body more end so_far text pair pairs ending middle rest a on = record {
   attrs = a.written ∷ on.attrs;
   same = ap (λ p. p ∷ map pair_of on.attrs) a.same ∙ ap (λ ps. pair ∷ ps) on.same;
   goes = ap (λ (p : Pieces). (p >>= λ x. Ok (step_of so_far x.0, x.1)) >>= λ x. go_on (λ next r. body_within more end next r) x) a.read
-    ∙ on.goes ∙ ap (λ attrs. Ok (record { attrs = attrs; malformed = None; ending = ending }, rest)) (append_assoc so_far (a.written ∷ []) on.attrs);
+      ∙ on.goes ∙ ap (λ attrs. Ok (record { attrs = attrs; malformed = None; ending = ending }, rest)) (append_assoc so_far (a.written ∷ []) on.attrs);
 }
 
 spelt_body : (end : ℕ) (gap : List ℕ) (ending : Ending) (rest : List ℕ) → AreBlank gap → (bytes : List ℕ) (pairs : List Pair) → AreAttributes bytes pairs → (more : ℕ) (so_far : List Written)
@@ -88,7 +88,7 @@ pub body_stops : (bytes : List ℕ) (pairs : List Pair) (ending : Ending) (rest 
 body_stops bytes pairs ending rest is =
     let P : List ℕ → Type 0 = λ b. Stops is_name_byte b in
     let whole : bytes ++ rest ≡ is.attributes ++ (is.gap ++ (end_of ending ++ rest)) =
-      ap (λ b. b ++ rest) is.whole ∙ simp append_assoc in
+    ap (λ b. b ++ rest) is.whole ∙ simp append_assoc in
     subst P (sym whole) (by is.attributes pairs is.are)
   where
     blank_first : (before more : List ℕ) → before ≢ [] → AreBlank before → Stops is_name_byte (before ++ more)
@@ -97,16 +97,16 @@ body_stops bytes pairs ending rest is =
 
     attribute_first : (front more : List ℕ) (pair : Pair) → IsAttribute front pair → Stops is_name_byte (front ++ more)
     attribute_first front more pair a =
-      let tail = pair.name ++ (a.gap ++ (61 ∷ (a.gap_behind ++ (a.quote ∷ (pair.value ++ (a.quote ∷ [])))))) in
-      let Q : List ℕ → Type 0 = λ b. Stops is_name_byte b in
-      let split : front ++ more ≡ a.before ++ (tail ++ more) = ap (λ b. b ++ more) a.whole ∙ append_assoc a.before tail more in
-      subst Q (sym split) (blank_first a.before (tail ++ more) a.apart a.before_blank)
+        let tail = pair.name ++ (a.gap ++ (61 ∷ (a.gap_behind ++ (a.quote ∷ (pair.value ++ (a.quote ∷ [])))))) in
+        let Q : List ℕ → Type 0 = λ b. Stops is_name_byte b in
+        let split : front ++ more ≡ a.before ++ (tail ++ more) = ap (λ b. b ++ more) a.whole ∙ append_assoc a.before tail more in
+        subst Q (sym split) (blank_first a.before (tail ++ more) a.apart a.before_blank)
 
     by : (attributes : List ℕ) (ps : List Pair) → AreAttributes attributes ps → Stops is_name_byte (attributes ++ (is.gap ++ (end_of ending ++ rest)))
     by attributes ps NoMore = gap_stops is.gap (end_of ending ++ rest) is.gap_blank (end_stops ending rest).1
     by attributes ps (OneMore front others pair more a are) =
-      let Q : List ℕ → Type 0 = λ b. Stops is_name_byte b in
-      subst Q (sym (append_assoc front others (is.gap ++ (end_of ending ++ rest)))) (attribute_first front (others ++ (is.gap ++ (end_of ending ++ rest))) pair a)
+        let Q : List ℕ → Type 0 = λ b. Stops is_name_byte b in
+        subst Q (sym (append_assoc front others (is.gap ++ (end_of ending ++ rest)))) (attribute_first front (others ++ (is.gap ++ (end_of ending ++ rest))) pair a)
 
 pub spelt_body_at : (end : ℕ) (bytes rest : List ℕ) (pairs : List Pair) (ending : Ending) → IsBody bytes pairs ending
     → (attrs : List Written) × (map pair_of attrs ≡ pairs) × (body_at end (bytes ++ rest) ≡ Ok (record { attrs = attrs; malformed = None; ending = ending }, rest))
@@ -132,11 +132,11 @@ slash_taken (b ∷ bytes) rest ending e = by (b == 62) refl e
   where
     by : (t : Bool) → (b == 62) ≡ t → cond t (was_read (Ends Closes, bytes)) (Err Bad) ≡ was_read (Ends ending, rest) → 47 ∷ (b ∷ bytes) ≡ end_of ending ++ rest
     by true is h =
-      let both = same_read (Ends Closes, bytes) (Ends ending, rest) h in
-      let piece : Ends Closes ≡ Ends ending = ap (λ (x : Piece × List ℕ). x.0) both in
-      let same : Closes ≡ ending = cc in
-      let after : bytes ≡ rest = ap (λ (x : Piece × List ℕ). x.1) both in
-      ap (λ c. 47 ∷ (c ∷ bytes)) (eqb-true b 62 is) ∙ ap (λ r. end_of Closes ++ r) after ∙ ap (λ f. end_of f ++ rest) same
+        let both = same_read (Ends Closes, bytes) (Ends ending, rest) h in
+        let piece : Ends Closes ≡ Ends ending = ap (λ (x : Piece × List ℕ). x.0) both in
+        let same : Closes ≡ ending = cc in
+        let after : bytes ≡ rest = ap (λ (x : Piece × List ℕ). x.1) both in
+        ap (λ c. 47 ∷ (c ∷ bytes)) (eqb-true b 62 is) ∙ ap (λ r. end_of Closes ++ r) after ∙ ap (λ f. end_of f ++ rest) same
     by false is h = absurd (cc)
 
 no_end : (at : ℕ) (bytes rest : List ℕ) (ending : Ending) → broken_at at bytes ≡ was_read (Ends ending, rest) → ⊥
@@ -180,11 +180,11 @@ end_taken_on end glued (b ∷ bytes) rest ending e = by (b == 62) (b == 47) (beg
         → cond s (was_read (Ends Opens, bytes)) (cond t (slash_at bytes) (cond u (cond g (broken_at (place end (b ∷ bytes)) (b ∷ bytes)) (named_at end (b ∷ bytes))) (Err Bad))) ≡ was_read (Ends ending, rest)
         → b ∷ bytes ≡ end_of ending ++ rest
     by true t u g is it h =
-      let both = same_read (Ends Opens, bytes) (Ends ending, rest) h in
-      let piece : Ends Opens ≡ Ends ending = ap (λ (x : Piece × List ℕ). x.0) both in
-      let same : Opens ≡ ending = cc in
-      let after : bytes ≡ rest = ap (λ (x : Piece × List ℕ). x.1) both in
-      ap (λ c. c ∷ bytes) (eqb-true b 62 is) ∙ ap (λ r. end_of Opens ++ r) after ∙ ap (λ f. end_of f ++ rest) same
+        let both = same_read (Ends Opens, bytes) (Ends ending, rest) h in
+        let piece : Ends Opens ≡ Ends ending = ap (λ (x : Piece × List ℕ). x.0) both in
+        let same : Opens ≡ ending = cc in
+        let after : bytes ≡ rest = ap (λ (x : Piece × List ℕ). x.1) both in
+        ap (λ c. c ∷ bytes) (eqb-true b 62 is) ∙ ap (λ r. end_of Opens ++ r) after ∙ ap (λ f. end_of f ++ rest) same
     by false true u g is it h = ap (λ c. c ∷ bytes) (eqb-true b 47 it) ∙ slash_taken bytes rest ending h
     by false false true true is it h = absurd (no_end (place end (b ∷ bytes)) (b ∷ bytes) rest ending h)
     by false false true false is it h = absurd (no_equals end (place end (b ∷ bytes)) (take_while is_name_byte (b ∷ bytes)) (past is_blank (past is_name_byte (b ∷ bytes))) rest ending h)

@@ -6,7 +6,6 @@ use Rattle.fs_xml.specs.Results.{◌>>=◌}
 use Rattle.fs_xml.specs.Attributes.{Written}
 use Rattle.fs_xml.specs.Tags.{BodyText}
 use Rattle.fs_xml.specs.Entities.{Values, value_text}
-use Rattle.fs_xml.specs.declared.stop.ValueFault.{ValueFault}
 use Rattle.fs_xml.specs.declared.stop.ValueFault.TheVariants as value
 use Rattle.fs_doc.specs.declared.fault.DocKind.{DocKind}
 use Rattle.fs_doc.specs.declared.fault.DocKind.TheVariants as kinds
@@ -18,11 +17,11 @@ use Rattle.fs_doc.specs.declared.content.Content.{Content}
 use Rattle.fs_doc.specs.Faults.{fault, or_at}
 use Rattle.fs_doc.specs.Values.{replaced, value_read}
 use Rattle.fs_doc.specs.Elements.{kind_in, has, has_needed, is_foreign}
-use Rattle.fs_doc.specs.Attributes.{Tagged, written_as, may_be, may_on, application_may, inline_fault, fault_unless, fault_by, value_fault, is_timed, text_on, text_read, told_at, unless_fault, attribute_read, attributes_read, complete, pairs_read}
+use Rattle.fs_doc.specs.Attributes.{Tagged, written_as, may_be, may_on, application_may, inline_fault, fault_unless, fault_by, value_fault, is_timed, text_on, text_read, unless_fault, attribute_read, attributes_read, complete, pairs_read}
 use Rattle.fs_doc.specs.Contents.{begun}
 use Rattle.fs_doc.specs.Reading.{element_read}
 use Rattle.fs_spelling.specs.Values.{SpellsValue}
-use Rattle.fs_spelling.specs.Tags.{Pair, pair_of}
+use Rattle.fs_spelling.specs.Tags.{pair_of}
 use Rattle.fs_spelling.specs.Documents.{unplaced, tag_of, text_of, Say, SayNoMore, SayOneMore, Begins}
 use Rattle.fs_spelling.proofs.Spans.{bind_ok}
 use Rattle.fs_spelling.proofs.ValueLaws as values
@@ -97,8 +96,8 @@ attribute_said : (e : Tagged) (before : Pairs) (a : Written) (decoded : Text) �
 unfolding attribute_read
 attribute_said e before a decoded new untimed spelt fine =
     rw (new, untimed) (
-      ap (λ (r : Result Text DocFault). r >>= λ text. unless_fault e.tag a.at (value_fault e a.name text) (before ++ (a.name, text) ∷ [])) (text_said e a decoded spelt)
-      ∙ ap (λ f. unless_fault e.tag a.at f (before ++ (a.name, text_of e decoded) ∷ [])) (value_bare e a.name (text_of e decoded) ∙ fine)
+    ap (λ (r : Result Text DocFault). r >>= λ text. unless_fault e.tag a.at (value_fault e a.name text) (before ++ (a.name, text) ∷ [])) (text_said e a decoded spelt)
+    ∙ ap (λ f. unless_fault e.tag a.at f (before ++ (a.name, text_of e decoded) ∷ [])) (value_bare e a.name (text_of e decoded) ∙ fine)
     )
 
 all_said : (e : Tagged) (before : Pairs) (attrs : List Written) (texts : Pairs) → Say (bare e) before (map pair_of attrs) texts → attributes_read e before attrs ≡ Ok texts
@@ -114,8 +113,8 @@ unfolding element_read pairs_read
 begins_read at outer c d name body inner whole is =
     let e : Tagged = record { kind = is.kind; tag = at; globals = c.globals.pairs; attrs = body.attrs } in
     let judged : (k : Kind) → Result (Level × Content) DocFault = λ k.
-      (attributes_read (record { kind = k; tag = at; globals = c.globals.pairs; attrs = body.attrs }) [] body.attrs >>= λ pairs. complete (record { kind = k; tag = at; globals = c.globals.pairs; attrs = body.attrs }) body.malformed pairs)
-      >>= λ pairs. or_at at (begun k pairs c) in
+    (attributes_read (record { kind = k; tag = at; globals = c.globals.pairs; attrs = body.attrs }) [] body.attrs >>= λ pairs. complete (record { kind = k; tag = at; globals = c.globals.pairs; attrs = body.attrs }) body.malformed pairs)
+    >>= λ pairs. or_at at (begun k pairs c) in
     ap (λ (r : Result Kind DocKind). or_at at r >>= judged) is.known
     ∙ ap (λ (r : Result Pairs DocFault). (r >>= λ pairs. complete e body.malformed pairs) >>= λ pairs. or_at at (begun is.kind pairs c)) (all_said e [] body.attrs is.texts is.say)
     ∙ ap (λ m. complete e m is.texts >>= λ pairs. or_at at (begun is.kind pairs c)) whole
@@ -142,8 +141,8 @@ text_is_said e a text h = by (value_text (is_foreign e.kind) a.end a.value) refl
   where
     by : (r : Values) → value_text (is_foreign e.kind) a.end a.value ≡ r → text_on a.at (onward (is_foreign e.kind) e.globals r) ≡ Ok text → IsSaid e a text
     by (Ok decoded) is k =
-      let same : text_of e decoded ≡ text = cc in
-      record { decoded = decoded; spelt = values.value_read (is_foreign e.kind) a.end a.value decoded is; text_is = sym same }
+        let same : text_of e decoded ≡ text = cc in
+        record { decoded = decoded; spelt = values.value_read (is_foreign e.kind) a.end a.value decoded is; text_is = sym same }
     by (Err value.Raw) is k = absurd (cc)
     by (Err (value.BadEntity amp)) is k = absurd (cc)
 
@@ -170,17 +169,17 @@ attribute_is_said e before a next h = by (has before a.name) (is_timed e.kind a.
     by true t new untimed k = absurd (cc)
     by false true new untimed k = absurd (cc)
     by false false new untimed k =
-      let went = bind_ok (text_read e a) (λ text. unless_fault e.tag a.at (value_fault e a.name text) (before ++ (a.name, text) ∷ [])) next k in
-      let said = text_is_said e a went.0 went.1 in
-      let fine = no_fault e.tag a.at (value_fault e a.name went.0) (before ++ (a.name, went.0) ∷ []) next went.2 in
-      record {
-        decoded = said.decoded;
-        new = new;
-        untimed = untimed;
-        spelt = said.spelt;
-        fine = sym (value_bare e a.name (text_of e said.decoded)) ∙ ap (value_fault e a.name) (sym said.text_is) ∙ fine.0;
-        next_is = sym fine.1 ∙ ap (λ text. before ++ (a.name, text) ∷ []) said.text_is;
-      }
+        let went = bind_ok (text_read e a) (λ text. unless_fault e.tag a.at (value_fault e a.name text) (before ++ (a.name, text) ∷ [])) next k in
+        let said = text_is_said e a went.0 went.1 in
+        let fine = no_fault e.tag a.at (value_fault e a.name went.0) (before ++ (a.name, went.0) ∷ []) next went.2 in
+        record {
+          decoded = said.decoded;
+          new = new;
+          untimed = untimed;
+          spelt = said.spelt;
+          fine = sym (value_bare e a.name (text_of e said.decoded)) ∙ ap (value_fault e a.name) (sym said.text_is) ∙ fine.0;
+          next_is = sym fine.1 ∙ ap (λ text. before ++ (a.name, text) ∷ []) said.text_is;
+        }
 
 all_are_said : (e : Tagged) (before : Pairs) (attrs : List Written) (texts : Pairs) → attributes_read e before attrs ≡ Ok texts → Say (bare e) before (map pair_of attrs) texts
 all_are_said e before [] texts h = let P : Pairs → Type 0 = λ t. Say (bare e) before [] t in subst P (same_texts before texts h) (SayNoMore (bare e) before)
@@ -230,20 +229,22 @@ pub read_begins : (at : ℕ) (outer : Level) (c : Content) (name : Text) (body :
 unfolding element_read pairs_read
 read_begins at outer c name body inner d h =
     let first = bind_ok (or_at at (kind_in outer c.done name)) (λ k.
-      (attributes_read (record { kind = k; tag = at; globals = c.globals.pairs; attrs = body.attrs }) [] body.attrs >>= λ pairs. complete (record { kind = k; tag = at; globals = c.globals.pairs; attrs = body.attrs }) body.malformed pairs)
-      >>= λ pairs. or_at at (begun k pairs c)) (inner, d) h in
+    (attributes_read (record { kind = k; tag = at; globals = c.globals.pairs; attrs = body.attrs }) [] body.attrs >>= λ pairs. complete (record { kind = k; tag = at; globals = c.globals.pairs; attrs = body.attrs }) body.malformed pairs)
+    >>= λ pairs. or_at at (begun k pairs c)) (inner, d) h in
     let k = first.0 in
     let e : Tagged = record { kind = k; tag = at; globals = c.globals.pairs; attrs = body.attrs } in
     let second = bind_ok (attributes_read e [] body.attrs >>= λ pairs. complete e body.malformed pairs) (λ pairs. or_at at (begun k pairs c)) (inner, d) first.2 in
     let third = bind_ok (attributes_read e [] body.attrs) (λ pairs. complete e body.malformed pairs) second.0 second.1 in
     let whole = completed e body.malformed third.0 second.0 third.2 in
     let P : Pairs → Type 0 = λ t. Say (bare e) [] (map pair_of body.attrs) t in
-    let Q : Pairs → Type 0 = λ t. has_needed k t ≡ true in
-    (whole.none, record {
-      kind = k;
-      texts = second.0;
-      known = at_kind at (kind_in outer c.done name) k first.1;
-      say = subst P whole.same (all_are_said e [] body.attrs third.0 third.1);
-      needed = subst Q whole.same whole.needed;
-      begins = at_content at (begun k second.0 c) (inner, d) second.2;
-    })
+    let Q : Pairs → Type 0 = λ t. has_needed k t ≡ true in (
+      whole.none,
+      record {
+        kind = k;
+        texts = second.0;
+        known = at_kind at (kind_in outer c.done name) k first.1;
+        say = subst P whole.same (all_are_said e [] body.attrs third.0 third.1);
+        needed = subst Q whole.same whole.needed;
+        begins = at_content at (begun k second.0 c) (inner, d) second.2;
+      },
+    )

@@ -1,7 +1,6 @@
 -- Comments and tags are read as what they spell.
-use Rattle.std.proofs.Common.{◌≡◌, ◌≢◌, ℕ, zero, suc, ◌+◌, ◌<◌, ◌≤◌, Bool, true, false, cond, ◌&&◌, ◌==◌, nat_eq, List, [], ◌∷◌, ◌++◌, length, map, drop, Option, None, Some, Result, Ok, Err, codes, refl, sym, ap, ◌∙◌, subst, append_assoc, arith}
-use Rattle.std.specs.List.{list_all, take_while, starts_with}
-use Rattle.std.proofs.lemmas.List.Sums.{take_while-cons}
+use Rattle.std.proofs.Common.{◌≡◌, ℕ, Bool, true, false, cond, ◌&&◌, ◌==◌, nat_eq, List, [], ◌∷◌, ◌++◌, map, drop, Result, Ok, Err, codes, refl, sym, ap, ◌∙◌, subst, append_assoc}
+use Rattle.std.specs.List.{take_while, starts_with}
 use Rattle.fs_xml.specs.declared.stop.TagStop.{TagStop}
 use Rattle.fs_xml.specs.declared.stop.TagStop.TheVariants.{Cut, Bad}
 use Rattle.fs_xml.specs.declared.attribute.Ending.{Ending}
@@ -11,10 +10,9 @@ use Rattle.fs_xml.specs.Attributes.{Written}
 use Rattle.fs_xml.specs.Tags.{BodyText, body_at}
 use Rattle.fs_xml.specs.Markup.{Mark, Comment, End, Start, Marks, comment_end, second_dash_at, comment_at, closed_at, end_at, start_at, mark_at}
 use Rattle.fs_xml.proofs.ByteLemmas.{run_past}
-use Rattle.fs_spelling.specs.Bodies.{TakesBody}
 use Rattle.fs_spelling.specs.Tags.{Pair, AreBlank, IsName, IsBody, IsTag, IsEndTag, IsComment, pair_of, ReadsTag, Takes, TakesMark}
 use Rattle.fs_spelling.proofs.Spans.{bind_ok, eqb-true}
-use Rattle.fs_spelling.proofs.Runs.{Stops, and_true, past_run, the_run, run_passes, name_byte, first_byte, no_declared, no_mark, gap_stops, name_passes, name_stops}
+use Rattle.fs_spelling.proofs.Runs.{past_run, the_run, run_passes, name_byte, first_byte, no_declared, no_mark, gap_stops, name_passes}
 use Rattle.fs_spelling.proofs.AttributeLaws.{name_is}
 use Rattle.fs_spelling.proofs.BodyLaws.{spelt_body_at, taken_body_at, body_stops}
 
@@ -93,11 +91,11 @@ comment_on (b ∷ body) rest more e = by (tail_stands (b ∷ body)) refl e (comm
     by : (t : Bool) → tail_stands (b ∷ body) ≡ t → cond t (rested (drop 3 (b ∷ body))) (comment_end body) ≡ Ok rest
         → (comment_end body ≡ Ok rest → comment_end (body ++ more) ≡ Ok (rest ++ more)) → comment_end (b ∷ (body ++ more)) ≡ Ok (rest ++ more)
     by t stands h again =
-      let long = ends_late (b ∷ body) rest e in
-      let tail : tail_stands (b ∷ (body ++ more)) ≡ t = same_tail (b ∷ body) more long ∙ stands in
-      ap (λ u. cond u (rested (drop 3 (b ∷ (body ++ more)))) (comment_end (body ++ more))) tail
-      ∙ ap (λ d. cond t (rested d) (comment_end (body ++ more))) (same_drop (b ∷ body) more long)
-      ∙ chosen_rest t h again
+        let long = ends_late (b ∷ body) rest e in
+        let tail : tail_stands (b ∷ (body ++ more)) ≡ t = same_tail (b ∷ body) more long ∙ stands in
+        ap (λ u. cond u (rested (drop 3 (b ∷ (body ++ more)))) (comment_end (body ++ more))) tail
+        ∙ ap (λ d. cond t (rested d) (comment_end (body ++ more))) (same_drop (b ∷ body) more long)
+        ∙ chosen_rest t h again
 
 -- the bytes of a comment, up to the end of its tail
 record TakesBodyOf (text rest : List ℕ) : Type 0 where
@@ -205,10 +203,10 @@ spelt_tag end bytes name pairs ending rest is =
       attrs = body.0;
       same = body.1;
       read = ap (mark_at end) whole
-        ∙ start_read end name tail is.is_name
-        ∙ ap (λ n. body_at end (past is_name_byte (name ++ tail)) >>= λ x. Ok (Start n x.0, x.1)) (the_run is_name_byte name tail passes stops)
-        ∙ ap (λ r. body_at end r >>= λ x. Ok (Start name x.0, x.1)) (past_run is_name_byte name tail passes stops)
-        ∙ ap (λ (r : Bodied). r >>= λ x. Ok (Start name x.0, x.1)) body.2;
+          ∙ start_read end name tail is.is_name
+          ∙ ap (λ n. body_at end (past is_name_byte (name ++ tail)) >>= λ x. Ok (Start n x.0, x.1)) (the_run is_name_byte name tail passes stops)
+          ∙ ap (λ r. body_at end r >>= λ x. Ok (Start name x.0, x.1)) (past_run is_name_byte name tail passes stops)
+          ∙ ap (λ (r : Bodied). r >>= λ x. Ok (Start name x.0, x.1)) body.2;
     }
 
 -- ---- what is read is spelt
@@ -231,12 +229,12 @@ dashes_taken (b ∷ (c ∷ bytes)) rest e = by (b == 45) (c == 45) refl refl e
   where
     by : (s t : Bool) → (b == 45) ≡ s → (c == 45) ≡ t → cond s (cond t (comment_end bytes) (Err Bad)) (Err Bad) ≡ rested rest → Takes IsComment (33 ∷ (b ∷ (c ∷ bytes))) rest
     by true true is it h =
-      let taken = comment_taken bytes rest h in
-      record {
-        bytes = 33 ∷ (45 ∷ (45 ∷ taken.body));
-        whole = ap (λ x. 33 ∷ (x ∷ (c ∷ bytes))) (eqb-true b 45 is) ∙ ap (λ x. 33 ∷ (45 ∷ (x ∷ bytes))) (eqb-true c 45 it) ∙ ap (λ r. 33 ∷ (45 ∷ (45 ∷ r))) taken.whole;
-        is = record { body = taken.body; whole = refl; ends = taken.ends };
-      }
+        let taken = comment_taken bytes rest h in
+        record {
+          bytes = 33 ∷ (45 ∷ (45 ∷ taken.body));
+          whole = ap (λ x. 33 ∷ (x ∷ (c ∷ bytes))) (eqb-true b 45 is) ∙ ap (λ x. 33 ∷ (45 ∷ (x ∷ bytes))) (eqb-true c 45 it) ∙ ap (λ r. 33 ∷ (45 ∷ (45 ∷ r))) taken.whole;
+          is = record { body = taken.body; whole = refl; ends = taken.ends };
+        }
     by true false is it h = absurd (cc)
     by false t is it h = absurd (cc)
 
@@ -248,9 +246,9 @@ closed_taken name (b ∷ bytes) mark rest e = by (b == 62) refl e
   where
     by : (t : Bool) → (b == 62) ≡ t → cond t (marked (End name, bytes)) (Err Bad) ≡ marked (mark, rest) → (End name ≡ mark) × (b ∷ bytes ≡ 62 ∷ rest)
     by true is h =
-      let both = same_mark (End name, bytes) (mark, rest) h in
-      let after : bytes ≡ rest = ap (λ (x : Mark × List ℕ). x.1) both in
-      (ap (λ (x : Mark × List ℕ). x.0) both, ap (λ x. x ∷ bytes) (eqb-true b 62 is) ∙ ap (λ r. 62 ∷ r) after)
+        let both = same_mark (End name, bytes) (mark, rest) h in
+        let after : bytes ≡ rest = ap (λ (x : Mark × List ℕ). x.1) both in
+        (ap (λ (x : Mark × List ℕ). x.0) both, ap (λ x. x ∷ bytes) (eqb-true b 62 is) ∙ ap (λ r. 62 ∷ r) after)
     by false is h = absurd (cc)
 
 end_tag_taken : (text : List ℕ) (mark : Mark) (rest : List ℕ) → end_at text ≡ marked (mark, rest) → TakesMark mark (47 ∷ text) rest
@@ -260,19 +258,19 @@ end_tag_taken (b ∷ bytes) mark rest e = by (begins_name b) refl e
   where
     by : (t : Bool) → begins_name b ≡ t → cond t (closed_at (name_of (b ∷ bytes)) (past is_blank (past is_name_byte (b ∷ bytes)))) (Err Bad) ≡ marked (mark, rest) → TakesMark mark (47 ∷ (b ∷ bytes)) rest
     by true begins h =
-      let text = b ∷ bytes in
-      let name = name_of text in
-      let behind = past is_name_byte text in
-      let gap = take_while is_blank behind in
-      let closed = closed_taken name (past is_blank behind) mark rest h in
-      let whole : text ≡ name ++ (gap ++ (62 ∷ rest)) =
+        let text = b ∷ bytes in
+        let name = name_of text in
+        let behind = past is_name_byte text in
+        let gap = take_while is_blank behind in
+        let closed = closed_taken name (past is_blank behind) mark rest h in
+        let whole : text ≡ name ++ (gap ++ (62 ∷ rest)) =
         sym (run_past is_name_byte text) ∙ ap (λ r. name ++ r) (sym (run_past is_blank behind) ∙ ap (λ r. gap ++ r) closed.1) in
-      let P : Mark → Type 0 = λ m. TakesMark m (47 ∷ text) rest in
-      subst P closed.0 (record {
-        bytes = 47 ∷ (name ++ (gap ++ (62 ∷ [])));
-        whole = ap (λ r. 47 ∷ r) (whole ∙ sym (end_seam name gap rest));
-        is = record { gap = gap; whole = refl; is_name = name_is text b bytes refl begins; gap_blank = run_passes is_blank behind };
-      })
+        let P : Mark → Type 0 = λ m. TakesMark m (47 ∷ text) rest in
+        subst P closed.0 (record {
+          bytes = 47 ∷ (name ++ (gap ++ (62 ∷ [])));
+          whole = ap (λ r. 47 ∷ r) (whole ∙ sym (end_seam name gap rest));
+          is = record { gap = gap; whole = refl; is_name = name_is text b bytes refl begins; gap_blank = run_passes is_blank behind };
+        })
     by false begins h = absurd (cc)
 
 start_taken : (end b : ℕ) (bytes : List ℕ) (mark : Mark) (rest : List ℕ) → begins_name b ≡ true → start_at end (b ∷ bytes) ≡ marked (mark, rest) → TakesMark mark (b ∷ bytes) rest
@@ -287,14 +285,14 @@ start_taken end b bytes mark rest begins e =
     let after : went.0.1 ≡ rest = ap (λ (x : Mark × List ℕ). x.1) both in
     let P : Mark → Type 0 = λ m. TakesMark m text rest in
     subst P (ap (λ (x : Mark × List ℕ). x.0) both) (λ whole_body.
-      let taken = taken_body_at end behind body went.0.1 went.1 whole_body in
-      let attrs : body.attrs ≡ taken.attrs = taken.attrs_are in
-      let Q : List Written → Type 0 = λ ws. IsBody taken.bytes (map pair_of ws) body.ending in
-      record {
-        bytes = name ++ taken.bytes;
-        whole = sym (run_past is_name_byte text) ∙ ap (λ r. name ++ r) (taken.whole ∙ ap (λ r. taken.bytes ++ r) after) ∙ sym (append_assoc name taken.bytes rest);
-        is = record { body = taken.bytes; whole = refl; is_name = name_is text b bytes refl begins; is_body = subst Q (sym attrs) taken.is };
-      })
+    let taken = taken_body_at end behind body went.0.1 went.1 whole_body in
+    let attrs : body.attrs ≡ taken.attrs = taken.attrs_are in
+    let Q : List Written → Type 0 = λ ws. IsBody taken.bytes (map pair_of ws) body.ending in
+    record {
+      bytes = name ++ taken.bytes;
+      whole = sym (run_past is_name_byte text) ∙ ap (λ r. name ++ r) (taken.whole ∙ ap (λ r. taken.bytes ++ r) after) ∙ sym (append_assoc name taken.bytes rest);
+      is = record { body = taken.bytes; whole = refl; is_name = name_is text b bytes refl begins; is_body = subst Q (sym attrs) taken.is };
+    })
 
 pub taken_mark : (end : ℕ) (text : List ℕ) (mark : Mark) (rest : List ℕ) → mark_at end text ≡ Ok (mark, rest) → TakesMark mark text rest
 unfolding mark_at
@@ -304,15 +302,15 @@ taken_mark end (b ∷ bytes) mark rest e = by (b == 33) (b == 47) (begins_name b
     by : (s t u : Bool) → (b == 33) ≡ s → (b == 47) ≡ t → begins_name b ≡ u
         → cond s (comment_at bytes >>= λ behind. marked (Comment, behind)) (cond t (end_at bytes) (cond u (start_at end (b ∷ bytes)) (Err Bad))) ≡ marked (mark, rest) → TakesMark mark (b ∷ bytes) rest
     by true t u is it begins h =
-      let went = bind_ok (comment_at bytes) (λ behind. marked (Comment, behind)) (mark, rest) h in
-      let both = same_mark (Comment, went.0) (mark, rest) went.2 in
-      let after : went.0 ≡ rest = ap (λ (x : Mark × List ℕ). x.1) both in
-      let P : Mark → Type 0 = λ m. TakesMark m (b ∷ bytes) rest in
-      let Q : ℕ → Type 0 = λ x. Takes IsComment (x ∷ bytes) rest in
-      let R : List ℕ → Type 0 = λ r. Takes IsComment (33 ∷ bytes) r in
-      subst P (ap (λ (x : Mark × List ℕ). x.0) both) (subst Q (sym (eqb-true b 33 is)) (subst R after (dashes_taken bytes went.0 went.1)))
+        let went = bind_ok (comment_at bytes) (λ behind. marked (Comment, behind)) (mark, rest) h in
+        let both = same_mark (Comment, went.0) (mark, rest) went.2 in
+        let after : went.0 ≡ rest = ap (λ (x : Mark × List ℕ). x.1) both in
+        let P : Mark → Type 0 = λ m. TakesMark m (b ∷ bytes) rest in
+        let Q : ℕ → Type 0 = λ x. Takes IsComment (x ∷ bytes) rest in
+        let R : List ℕ → Type 0 = λ r. Takes IsComment (33 ∷ bytes) r in
+        subst P (ap (λ (x : Mark × List ℕ). x.0) both) (subst Q (sym (eqb-true b 33 is)) (subst R after (dashes_taken bytes went.0 went.1)))
     by false true u is it begins h =
-      let P : ℕ → Type 0 = λ x. TakesMark mark (x ∷ bytes) rest in
-      subst P (sym (eqb-true b 47 it)) (end_tag_taken bytes mark rest h)
+        let P : ℕ → Type 0 = λ x. TakesMark mark (x ∷ bytes) rest in
+        subst P (sym (eqb-true b 47 it)) (end_tag_taken bytes mark rest h)
     by false false true is it begins h = start_taken end b bytes mark rest begins h
     by false false false is it begins h = absurd (cc)

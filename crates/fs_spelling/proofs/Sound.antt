@@ -1,5 +1,5 @@
 -- What is read is spelt.
-use Rattle.std.proofs.Common.{◌≡◌, ℕ, zero, suc, ◌+◌, ◌<◌, ◌≤◌, Bool, true, false, cond, ◌&&◌, ◌==◌, nat_eq, List, [], ◌∷◌, ◌++◌, length, map, None, Result, Ok, Err, codes, refl, sym, ap, ◌∙◌, subst, append_assoc, append-nil}
+use Rattle.std.proofs.Common.{◌≡◌, ℕ, zero, suc, Bool, true, false, cond, ◌&&◌, nat_eq, List, [], ◌∷◌, ◌++◌, map, None, Result, Ok, Err, codes, refl, sym, ap, ◌∙◌, subst, append_assoc, append-nil}
 use Rattle.std.specs.List.{starts_with}
 use Rattle.std.specs.Str.{bytes_eq}
 use Rattle.std.proofs.lemmas.Slice.Eq.{bytes_eq-Decides}
@@ -17,12 +17,11 @@ use Rattle.fs_doc.specs.declared.element.Level.TheVariants as level
 use Rattle.fs_doc.specs.declared.content.Content.{Content}
 use Rattle.fs_doc.specs.Faults.{fault}
 use Rattle.fs_doc.specs.Contents.{nothing, ended}
-use Rattle.fs_doc.specs.Reading.{Opened, Reading, level_in, is_outside, text_at, mark_or, mark_read, element_read, with_element, entered, left_from, left, is_empty_level, mark_entered, Next, Over, On, at_mark, round, with_round, read_within}
+use Rattle.fs_doc.specs.Reading.{Opened, Reading, level_in, is_outside, text_at, mark_or, mark_read, element_read, with_element, entered, left, is_empty_level, mark_entered, Next, Over, On, at_mark, round, with_round, read_within}
 use Rattle.fs_spelling.specs.Tags.{Pair, IsTag, IsEndTag, IsComment, pair_of, Takes, TakesMark, AreBlank}
 use Rattle.fs_spelling.specs.Documents.{IsFiller, Begins, Inside, Bare, Remark, Leaf, Holder}
 use Rattle.fs_spelling.proofs.Spans.{bind_ok}
-use Rattle.fs_spelling.proofs.Runs.{and_true}
-use Rattle.fs_spelling.proofs.TextLaws.{BeginsMark, TakesText, text_taken}
+use Rattle.fs_spelling.proofs.TextLaws.{BeginsMark, text_taken}
 use Rattle.fs_spelling.proofs.MarkLaws.{taken_mark}
 use Rattle.fs_spelling.proofs.ElementLaws.{read_begins}
 use Rattle.fs_spelling.proofs.Again.{state}
@@ -98,7 +97,7 @@ close_reached o opened c text behind close w filler is =
     let whole : text ++ (behind ++ (60 ∷ close)) ≡ w.front ++ item = ap (λ t. t ++ (behind ++ (60 ∷ close))) w.whole ∙ deeper w.front w.filler (60 ∷ w.tag) w.held (behind ++ (60 ∷ close)) in
     let P : Text → Type 0 = λ t. Reached opened (ended o.level c) t in
     subst P (sym whole) (grow opened w.before_it (ended o.level c) w.front item
-      (λ a t inside. Holder (level_in opened) o.level a w.before_it w.begun_with c t w.filler w.tag w.held behind close o.name w.pairs inside w.may w.is_tag w.begins w.inside filler is) w.reached)
+    (λ a t inside. Holder (level_in opened) o.level a w.before_it w.begun_with c t w.filler w.tag w.held behind close o.name w.pairs inside w.may w.is_tag w.begins w.inside filler is) w.reached)
   where
     deeper : (front filler tag held more : Text) → (front ++ (filler ++ (tag ++ held))) ++ more ≡ front ++ (filler ++ (tag ++ (held ++ more)))
     deeper front filler tag held more = simp append_assoc
@@ -125,13 +124,13 @@ comment_stepped at opened c text before bytes rest next reached filler takes e =
     by : (t : Bool) → is_empty_level (level_in opened) ≡ t → cond t (fault at kinds.BadTag) (entry (state opened c)) ≡ entry next → Stepped text before bytes rest next
     by true may h = absurd (cc)
     by false may h =
-      let P : Reading → Type 0 = λ n. Reached n.opened n.content (text ++ (before ++ (60 ∷ takes.bytes))) in
-      record {
-        item = takes.bytes;
-        whole = takes.whole;
-        reached = subst P (same_entry (state opened c) next h)
-          (grow opened c c text (before ++ (60 ∷ takes.bytes)) (λ a t inside. Remark (level_in opened) a c t before takes.bytes inside may filler takes.is) reached);
-      }
+        let P : Reading → Type 0 = λ n. Reached n.opened n.content (text ++ (before ++ (60 ∷ takes.bytes))) in
+        record {
+          item = takes.bytes;
+          whole = takes.whole;
+          reached = subst P (same_entry (state opened c) next h)
+              (grow opened c c text (before ++ (60 ∷ takes.bytes)) (λ a t inside. Remark (level_in opened) a c t before takes.bytes inside may filler takes.is) reached);
+        }
 
 end_stepped : (at : ℕ) (opened : List Opened) (c : Content) (text before bytes rest name : Text) (next : Reading) → Reached opened c text → IsFiller (level_in opened) before
     → Takes (λ b. IsEndTag b name) bytes rest → mark_entered at (End name) (state opened c) ≡ Ok next → Stepped text before bytes rest next
@@ -141,13 +140,13 @@ end_stepped at (o ∷ opened) c text before bytes rest name next reached filler 
   where
     by : (t : Bool) → (t ≡ true → o.name ≡ name) → cond t (entry (state opened (ended o.level c))) (fault at kinds.BadTag) ≡ entry next → Stepped text before bytes rest next
     by true same h =
-      let P : Reading → Type 0 = λ n. Reached n.opened n.content (text ++ (before ++ (60 ∷ takes.bytes))) in
-      let Q : Text → Type 0 = λ n. IsEndTag takes.bytes n in
-      record {
-        item = takes.bytes;
-        whole = takes.whole;
-        reached = subst P (same_entry (state opened (ended o.level c)) next h) (close_reached o opened c text before takes.bytes reached filler (subst Q (sym (same refl)) takes.is));
-      }
+        let P : Reading → Type 0 = λ n. Reached n.opened n.content (text ++ (before ++ (60 ∷ takes.bytes))) in
+        let Q : Text → Type 0 = λ n. IsEndTag takes.bytes n in
+        record {
+          item = takes.bytes;
+          whole = takes.whole;
+          reached = subst P (same_entry (state opened (ended o.level c)) next h) (close_reached o opened c text before takes.bytes reached filler (subst Q (sym (same refl)) takes.is));
+        }
     by false same h = absurd (cc)
 
 start_stepped : (at : ℕ) (opened : List Opened) (c : Content) (text before bytes rest name : Text) (body : BodyText) (next : Reading) → Reached opened c text → IsFiller (level_in opened) before
@@ -170,7 +169,7 @@ start_stepped at opened c text before bytes rest name body next reached filler t
         → Reached (with_element ending name opened (inner, d)).opened (with_element ending name opened (inner, d)).content (text ++ (before ++ (60 ∷ tag)))
     by Opens inner d tag is begins = tag_reached opened c d text before tag name (map pair_of body.attrs) inner reached filler is begins
     by Closes inner d tag is begins =
-      grow opened c (ended inner d) text (before ++ (60 ∷ tag)) (λ a t inside. Leaf (level_in opened) inner a c d t before tag name (map pair_of body.attrs) inside filler is begins) reached
+        grow opened c (ended inner d) text (before ++ (60 ∷ tag)) (λ a t inside. Leaf (level_in opened) inner a c d t before tag name (map pair_of body.attrs) inside filler is begins) reached
 
 mark_stepped : (at : ℕ) (opened : List Opened) (c : Content) (text before bytes rest : Text) (mark : Mark) (next : Reading) → Reached opened c text → IsFiller (level_in opened) before
     → TakesMark mark bytes rest → mark_entered at mark (state opened c) ≡ Ok next → Stepped text before bytes rest next
@@ -230,10 +229,10 @@ over end more content [] c text rest before next reached whole filler e h = by c
   where
     by : (t : Bool) → c.done ≡ t → cond t (next_read (Over c)) (fault end kinds.Truncated) ≡ next_read next → Found (text ++ rest) content
     by true done k =
-      let P : Next → Type 0 = λ n. with_round (λ s r. read_within more end s r) n ≡ Ok content in
-      let same = same_content c content (subst P (sym (same_next (Over c) next k)) h) in
-      let Q : Content → Type 0 = λ d. Found (text ++ rest) d in
-      subst Q same (record { text = text; behind = before; whole = ap (λ r. text ++ r) (whole ∙ append-nil before); inside = reached; blank = filler; done = done })
+        let P : Next → Type 0 = λ n. with_round (λ s r. read_within more end s r) n ≡ Ok content in
+        let same = same_content c content (subst P (sym (same_next (Over c) next k)) h) in
+        let Q : Content → Type 0 = λ d. Found (text ++ rest) d in
+        subst Q same (record { text = text; behind = before; whole = ap (λ r. text ++ r) (whole ∙ append-nil before); inside = reached; blank = filler; done = done })
     by false done k = absurd (cc)
 over end more content (o ∷ opened) c text rest before next reached whole filler e h = absurd (cc)
 
@@ -256,8 +255,8 @@ onward end more content opened c text rest before b bytes next again reached who
     let found = again entered_it.opened entered_it.content (text ++ (before ++ (60 ∷ stepped.item))) behind stepped.reached reads in
     let Q : Text → Type 0 = λ t. Found t content in
     let split : (text ++ (before ++ (60 ∷ stepped.item))) ++ behind ≡ text ++ rest =
-      append_assoc text (before ++ (60 ∷ stepped.item)) behind
-      ∙ ap (λ t. text ++ t) (append_assoc before (60 ∷ stepped.item) behind ∙ ap (λ r. before ++ (60 ∷ r)) (sym stepped.whole) ∙ ap (λ x. before ++ (x ∷ bytes)) (sym is) ∙ sym whole) in
+    append_assoc text (before ++ (60 ∷ stepped.item)) behind
+    ∙ ap (λ t. text ++ t) (append_assoc before (60 ∷ stepped.item) behind ∙ ap (λ r. before ++ (60 ∷ r)) (sym stepped.whole) ∙ ap (λ x. before ++ (x ∷ bytes)) (sym is) ∙ sym whole) in
     subst Q split found
 
 from_rest : (end more : ℕ) (content : Content) (opened : List Opened) (c : Content) (text rest before behind : Text) (next : Next) → Onward more end content → Reached opened c text

@@ -1,12 +1,11 @@
 -- Runs of bytes and what stops them, and readings one after another.
-use Rattle.std.proofs.Common.{◌≡◌, ℕ, suc, ◌+◌, ◌-◌, take, drop, ◌<◌, ◌≤◌, Bool, true, false, cond, not, ◌||◌, ◌==◌, List, [], ◌∷◌, ◌++◌, length, Option, None, Some, Result, Ok, Err, refl, sym, ap, ◌∙◌, ◌⊎◌, inl, inr, arith}
-use Rattle.std.specs.List.{position_or_len, list_any, before_first, after_first, take_while}
-use Rattle.std.proofs.lemmas.List.Sums.{take_while-cons}
+use Rattle.std.proofs.Common.{◌≡◌, ℕ, suc, ◌+◌, take, drop, Bool, true, false, cond, ◌||◌, ◌==◌, List, [], ◌∷◌, ◌++◌, length, Option, None, Some, Result, Ok, Err, refl, sym, ap, ◌∙◌, ◌⊎◌, inl, inr, arith}
+use Rattle.std.specs.List.{position_or_len, list_any, before_first, after_first}
 use Rattle.std.proofs.lemmas.List.Folds.{list_any-append}
 use Rattle.std.proofs.lemmas.Bool.Decides.{nat_tests}
 use Rattle.std.proofs.Math.Seq.{take-append_seam, drop-append-add}
 use Rattle.fs_xml.specs.Results.{◌>>=◌}
-use Rattle.fs_xml.specs.Bytes.{is_byte, halves_of, past}
+use Rattle.fs_xml.specs.Bytes.{is_byte, halves_of}
 
 -- which way a choice went
 pub chosen : {X : Type 0} (t : Bool) (a b x : X) → cond t a b ≡ x → ((t ≡ true) × (a ≡ x)) ⊎ ((t ≡ false) × (b ≡ x))
@@ -48,7 +47,6 @@ halves q before behind none =
     let front : before_first (is_byte q) whole ≡ before = ap (λ n. take n whole) place ∙ take-append_seam before (q ∷ behind) in
     let back : after_first (is_byte q) whole ≡ behind = ap (λ n. drop (n + 1) whole) place ∙ drop-append-add before (q ∷ behind) 1 in
     rw (some, front, back) refl
-
 
 -- where a byte passes the search is over, and where it does not it goes on
 pub place_here : (p : ℕ → Bool) (b : ℕ) (bytes : List ℕ) → p b ≡ true → position_or_len p (b ∷ bytes) ≡ 0

@@ -1,5 +1,5 @@
 -- The text in front of markup is read as what may stand there.
-use Rattle.std.proofs.Common.{◌≡◌, ℕ, suc, ◌+◌, ◌<◌, Bool, true, false, cond, ◌==◌, List, [], ◌∷◌, ◌++◌, length, take, drop, Option, None, Some, Result, Ok, Err, refl, sym, ap, ◌∙◌, subst, arith}
+use Rattle.std.proofs.Common.{◌≡◌, ℕ, suc, Bool, true, false, cond, ◌==◌, [], ◌∷◌, ◌++◌, length, drop, Result, Ok, refl, sym, ap, ◌∙◌, subst}
 use Rattle.std.specs.List.{position_or_len, list_any, before_first, take_while}
 use Rattle.std.proofs.lemmas.List.{take-append-drop}
 use Rattle.std.proofs.Math.Seq.{drop-append_seam}
@@ -104,9 +104,9 @@ rest_begins (b ∷ bytes) = by (is_byte 60 b) refl (rest_begins bytes)
   where
     by : (t : Bool) → is_byte 60 b ≡ t → BeginsMark (any_text bytes) → BeginsMark (any_text (b ∷ bytes))
     by true passes more =
-      let P : ℕ → Type 0 = λ n. BeginsMark (drop n (b ∷ bytes)) in subst P (sym (place_here (is_byte 60) b bytes passes)) (eqb-true b 60 passes)
+        let P : ℕ → Type 0 = λ n. BeginsMark (drop n (b ∷ bytes)) in subst P (sym (place_here (is_byte 60) b bytes passes)) (eqb-true b 60 passes)
     by false fails more =
-      let P : ℕ → Type 0 = λ n. BeginsMark (drop n (b ∷ bytes)) in subst P (sym (place_on (is_byte 60) b bytes fails)) more
+        let P : ℕ → Type 0 = λ n. BeginsMark (drop n (b ∷ bytes)) in subst P (sym (place_on (is_byte 60) b bytes fails)) more
 
 pub text_taken : (end : ℕ) (outer : Level) (bytes rest : Text) → text_at end outer bytes ≡ Ok rest → TakesText outer bytes rest
 unfolding text_at

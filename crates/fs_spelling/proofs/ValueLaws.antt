@@ -1,5 +1,5 @@
 -- What a value says is what is read of it, and what is read of it is what it says.
-use Rattle.std.proofs.Common.{◌≡◌, ℕ, zero, suc, ◌+◌, take, drop, ◌<◌, ◌≤◌, Bool, true, false, cond, not, ◌||◌, ◌⊎◌, inl, inr, ◌==◌, List, [], ◌∷◌, ◌++◌, length, Option, None, Some, Result, Ok, Err, refl, sym, ap, ◌∙◌, subst, append_assoc, append-nil, encode_utf8, arith, length-append}
+use Rattle.std.proofs.Common.{◌≡◌, ℕ, zero, suc, ◌+◌, take, drop, ◌<◌, Bool, true, false, cond, ◌||◌, ◌⊎◌, inl, inr, ◌==◌, List, [], ◌∷◌, ◌++◌, length, Option, None, Some, Ok, Err, refl, sym, ap, ◌∙◌, subst, append_assoc, append-nil, encode_utf8, arith, length-append}
 use Rattle.std.specs.List.{position_or_len, list_any}
 use Rattle.fs_xml.specs.declared.stop.ValueFault.TheVariants.{Raw}
 use Rattle.fs_xml.specs.Results.{◌>>=◌}

@@ -1,6 +1,6 @@
 -- The bytes of a document are read as what they spell, and what is read of them is spelt.
-use Rattle.std.proofs.Common.{◌≡◌, ℕ, zero, suc, ◌+◌, ◌<◌, ◌≤◌, Bool, true, false, cond, ◌==◌, List, [], ◌∷◌, ◌++◌, length, Result, Ok, Err, refl, sym, ap, ◌∙◌, ◌⊎◌, inl, inr, subst, append-nil, nat_lt, arith}
-use Rattle.std.specs.List.{list_all, take_while}
+use Rattle.std.proofs.Common.{◌≡◌, ℕ, ◌+◌, ◌≤◌, Bool, true, false, cond, ◌==◌, [], ◌∷◌, ◌++◌, length, Result, Ok, refl, sym, ap, ◌∙◌, ◌⊎◌, inl, inr, subst, append-nil, nat_lt, arith}
+use Rattle.std.specs.List.{take_while}
 use Rattle.std.proofs.lemmas.List.{length-append}
 use Rattle.std.proofs.lemmas.Bool.Decides.{nat_tests}
 use Rattle.fs_vars.specs.Pairs.{Text}
@@ -100,9 +100,9 @@ spelt_is_read bytes c is =
     by : (content : Content) → (AreBlank bytes × (content ≡ nothing)) ⊎ ((AreBlank bytes → ⊥) × IsDocument bytes content)
         → Configured (cond (length (past is_blank bytes) == 0) (contents nothing) (content_of bytes)) ≡ Ok (configured content)
     by content (inl blank) =
-      ap (λ t. Configured (cond t (contents nothing) (content_of bytes))) (blank_tested bytes blank.0) ∙ ap (λ d. Configured (contents d)) (sym blank.1)
+        ap (λ t. Configured (cond t (contents nothing) (content_of bytes))) (blank_tested bytes blank.0) ∙ ap (λ d. Configured (contents d)) (sym blank.1)
     by content (inr document) =
-      ap (λ t. Configured (cond t (contents nothing) (content_of bytes))) (not_blank_tested bytes document.0) ∙ ap Configured (document_read bytes content document.1)
+        ap (λ t. Configured (cond t (contents nothing) (content_of bytes))) (not_blank_tested bytes document.0) ∙ ap Configured (document_read bytes content document.1)
 
 abbrev told : Configuration → Result Configuration DocFault
 told c = Ok c
@@ -126,10 +126,10 @@ read_is_spelt bytes c e = by (nat_lt 1048576 (length bytes)) refl e
     spelt : length bytes ≤ 1048576 → (t : Bool) → (length (past is_blank bytes) == 0) ≡ t → (content : Content) → cond t (contents nothing) (content_of bytes) ≡ Ok content → configured content ≡ c → Spells bytes c
     spelt small true blank content k says = record { content = content; small = small; document = inl (past_blank bytes blank, sym (same_contents nothing content k)); says = sym says }
     spelt small false other content k says =
-      record { content = content; small = small; document = inr (λ blank. no_blank blank other, document_found bytes content k); says = sym says }
+        record { content = content; small = small; document = inr (λ blank. no_blank blank other, document_found bytes content k); says = sym says }
 
     by : (t : Bool) → nat_lt 1048576 (length bytes) ≡ t → cond t (fault 1048576 kinds.TooLarge) (Configured (cond (length (past is_blank bytes) == 0) (contents nothing) (content_of bytes))) ≡ told c → Spells bytes c
     by true large k = absurd (cc)
     by false small k =
-      let went = bind_ok (cond (length (past is_blank bytes) == 0) (contents nothing) (content_of bytes)) (λ d. told (configured d)) c k in
-      spelt (large_tested bytes small) (length (past is_blank bytes) == 0) refl went.0 went.1 (same_told (configured went.0) c went.2)
+        let went = bind_ok (cond (length (past is_blank bytes) == 0) (contents nothing) (content_of bytes)) (λ d. told (configured d)) c k in
+        spelt (large_tested bytes small) (length (past is_blank bytes) == 0) refl went.0 went.1 (same_told (configured went.0) c went.2)

@@ -1,5 +1,5 @@
 -- Which bytes are a document that says a configuration.
-use Rattle.std.specs.Prelude.{◌≡◌, ◌≤◌, ◌⊎◌, ℕ, Bool, true, false, if◌then◌else◌, List, [], ◌∷◌, ◌++◌, map, None, Result, Ok, length}
+use Rattle.std.specs.Prelude.{◌≡◌, ◌≤◌, ◌⊎◌, true, false, if◌then◌else◌, List, [], ◌∷◌, ◌++◌, map, None, Ok, length}
 use Rattle.std.specs.List.{list_any}
 use Rattle.fs_vars.specs.Pairs.{Text, Pairs}
 use Rattle.fs_xml.specs.Bytes.{is_byte}
@@ -35,8 +35,8 @@ text_of e decoded = if is_foreign e.kind then decoded else replaced e.globals de
 pub data Say : (e : Tagged) (before : Pairs) (pairs : List Pair) (texts : Pairs) → Type 0 where
   SayNoMore : (e : Tagged) (before : Pairs) → Say e before [] before
   SayOneMore : (e : Tagged) (before : Pairs) (pair : Pair) (pairs : List Pair) (decoded : Text) (texts : Pairs) → has before pair.name ≡ false → is_timed e.kind pair.name ≡ false
-    → SpellsValue (is_foreign e.kind) pair.value decoded → value_fault e pair.name (text_of e decoded) ≡ None
-    → Say e (before ++ (pair.name, text_of e decoded) ∷ []) pairs texts → Say e before (pair ∷ pairs) texts
+      → SpellsValue (is_foreign e.kind) pair.value decoded → value_fault e pair.name (text_of e decoded) ≡ None
+      → Say e (before ++ (pair.name, text_of e decoded) ∷ []) pairs texts → Say e before (pair ∷ pairs) texts
 
 -- ---- elements
 
@@ -60,12 +60,12 @@ IsFiller _ text = AreBlank text
 pub data Inside : (outer : Level) (c : Content) (text : Text) (d : Content) → Type 0 where
   Bare : (outer : Level) (c : Content) → Inside outer c [] c
   Remark : (outer : Level) (c d : Content) (text before mark : Text) → Inside outer c text d → is_empty_level outer ≡ false → IsFiller outer before → IsComment mark
-    → Inside outer c (text ++ (before ++ (60 ∷ mark))) d
+      → Inside outer c (text ++ (before ++ (60 ∷ mark))) d
   Leaf : (outer inner : Level) (c d e : Content) (text before tag name : Text) (pairs : List Pair) → Inside outer c text d → IsFiller outer before → IsTag tag name pairs Closes
-    → Begins outer d name pairs inner e → Inside outer c (text ++ (before ++ (60 ∷ tag))) (ended inner e)
+      → Begins outer d name pairs inner e → Inside outer c (text ++ (before ++ (60 ∷ tag))) (ended inner e)
   Holder : (outer inner : Level) (c d e f : Content) (text before tag held behind close name : Text) (pairs : List Pair) → Inside outer c text d → IsFiller outer before
-    → IsTag tag name pairs Opens → Begins outer d name pairs inner e → Inside inner e held f → IsFiller inner behind → IsEndTag close name
-    → Inside outer c (text ++ (before ++ ((60 ∷ tag) ++ (held ++ (behind ++ (60 ∷ close)))))) (ended inner f)
+      → IsTag tag name pairs Opens → Begins outer d name pairs inner e → Inside inner e held f → IsFiller inner behind → IsEndTag close name
+      → Inside outer c (text ++ (before ++ ((60 ∷ tag) ++ (held ++ (behind ++ (60 ∷ close)))))) (ended inner f)
 
 -- ---- documents
 

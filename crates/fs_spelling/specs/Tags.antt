@@ -1,5 +1,5 @@
 -- Which bytes are comments and tags.
-use Rattle.std.specs.Prelude.{◌≡◌, ◌≢◌, ℕ, Bool, true, false, List, [], ◌∷◌, ◌++◌, map, None, Result, Ok, codes}
+use Rattle.std.specs.Prelude.{◌≡◌, ◌≢◌, ℕ, true, false, List, [], ◌∷◌, ◌++◌, map, None, Ok, codes}
 use Rattle.std.specs.List.{list_all, list_any}
 use Rattle.fs_xml.specs.declared.attribute.Ending.{Ending}
 use Rattle.fs_xml.specs.declared.attribute.Ending.TheVariants.{Opens, Closes}

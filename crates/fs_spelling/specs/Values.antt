@@ -10,4 +10,4 @@ pub data SpellsValue : (raw : Bool) (value text : List ℕ) → Type 0 where
   Plain : (raw : Bool) (b : ℕ) (value text : List ℕ) → is_special b ≡ false → SpellsValue raw value text → SpellsValue raw (b ∷ value) (b ∷ text)
   Mark : (value text : List ℕ) → SpellsValue true value text → SpellsValue true (60 ∷ value) (60 ∷ text)
   Entity : (raw : Bool) (name value text : List ℕ) (c : ℕ) → list_any (is_byte 59) name ≡ false → entity name ≡ Some c → SpellsValue raw value text
-    → SpellsValue raw (38 ∷ (name ++ (59 ∷ value))) (encode_utf8 c ++ text)
+      → SpellsValue raw (38 ∷ (name ++ (59 ∷ value))) (encode_utf8 c ++ text)

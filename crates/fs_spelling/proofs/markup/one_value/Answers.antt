@@ -7,5 +7,5 @@ returns c = record {
   read = value_read;
   said = value_spelt;
   one = λ raw value some other first second.
-    let same : Ok some ≡ Ok other = sym (value_spelt raw 0 value some first) ∙ value_spelt raw 0 value other second in cc;
+      let same : Ok some ≡ Ok other = sym (value_spelt raw 0 value some first) ∙ value_spelt raw 0 value other second in cc;
 }

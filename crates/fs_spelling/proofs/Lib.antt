@@ -9,3 +9,5 @@ pub mod ElementLaws
 pub mod Again
 pub mod Sound
 pub mod Whole
+pub mod Counts
+pub mod Within

@@ -6,6 +6,7 @@ ghost use Rattle.fs_xml.specs.Tags.{BodyText};
 ghost use Rattle.fs_doc.specs.declared.element.Level.{Level};
 ghost use Rattle.fs_doc.specs.declared.content.Content.{Content};
 ghost use Rattle.fs_doc.specs.Reading.{Configuration, config_of, element_read};
+ghost use Rattle.fs_spelling.specs.Limits.{IsWithin};
 ghost use Rattle.fs_spelling.specs.Tags.{pair_of};
 ghost use Rattle.fs_spelling.specs.Documents.{Begins, Spells};
 
@@ -22,4 +23,9 @@ pub fn one_document()
     ensures read { (bytes : Text) (c : Configuration) → config_of bytes ≡ Ok c → Spells bytes c }
     ensures spelt { (bytes : Text) (c : Configuration) → Spells bytes c → config_of bytes ≡ Ok c }
     ensures one { (bytes : Text) (some other : Configuration) → Spells bytes some → Spells bytes other → some ≡ other }
+{}
+
+/// A configuration that is spelt has each setting in its range, globals that are bounded as globals are, and no count above its limit.
+pub fn within_limits()
+    ensures { (bytes : Text) (c : Configuration) → Spells bytes c → IsWithin c }
 {}

@@ -20,7 +20,8 @@ use Rattle.fs_doc.specs.declared.content.Content.{Content}
 use Rattle.fs_doc.specs.Faults.{fault}
 use Rattle.fs_doc.specs.Contents.{ended}
 use Rattle.fs_doc.specs.Reading.{Opened, Reading, level_in, is_outside, mark_or, mark_read, with_element, entered, left, is_empty_level, mark_entered, Next, Over, On, at_mark, round, with_round, read_within}
-use Rattle.fs_spelling.specs.Tags.{Pair, IsTag, IsEndTag, IsComment, pair_of, ReadsTag, AreBlank}
+use Rattle.fs_spelling.specs.Tags.{Pair, IsTag, IsEndTag, IsComment, AreBlank}
+use Rattle.fs_spelling.specs.Readings.{pair_of, ReadsTag}
 use Rattle.fs_spelling.specs.Documents.{IsFiller, Begins, Inside, Bare, Remark, Leaf, Holder}
 use Rattle.fs_spelling.proofs.Runs.{name_byte, first_byte, no_mark}
 use Rattle.fs_spelling.proofs.MarkLaws.{spelt_comment, spelt_end, spelt_tag}

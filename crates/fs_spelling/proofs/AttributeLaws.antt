@@ -9,7 +9,8 @@ use Rattle.fs_xml.specs.declared.attribute.Ending.TheVariants.{Opens, Closes}
 use Rattle.fs_xml.specs.Bytes.{is_blank, is_quote, is_mark, is_name_byte, begins_name, is_byte, halves_of, past, name_of, place}
 use Rattle.fs_xml.specs.Attributes.{Written, Piece, Has, Ends, Broken, Pieces, tag_end, broken_at, valued_on, valued_at, quoted_at, equals_at, named_at, slash_at, part_on, part_at}
 use Rattle.fs_xml.proofs.ByteLemmas.{run_past}
-use Rattle.fs_spelling.specs.Tags.{Pair, AreBlank, IsName, IsAttribute, pair_of, ReadsAttribute, TakesAttribute}
+use Rattle.fs_spelling.specs.Tags.{Pair, AreBlank, IsName, IsAttribute}
+use Rattle.fs_spelling.specs.Readings.{pair_of, ReadsAttribute, TakesAttribute}
 use Rattle.fs_spelling.proofs.Spans.{halves, halved, bind_ok, eqb-true}
 use Rattle.fs_spelling.proofs.Runs.{Stops, past_run, the_run, run_passes, name_byte, first_byte, no_mark, quote_stops, gap_stops, name_passes, name_stops}
 

@@ -11,8 +11,9 @@ use Rattle.fs_xml.specs.Bytes.{is_blank, is_quote, is_mark, is_name_byte, begins
 use Rattle.fs_xml.specs.Attributes.{Written, Piece, Has, Ends, Broken, Pieces, tag_end, broken_at, valued_on, valued_at, quoted_at, equals_at, named_at, slash_at, part_on, part_at}
 use Rattle.fs_xml.specs.Tags.{BodyText, Step, step_of, Bodies, go_on, body_step, body_within, body_at}
 use Rattle.fs_xml.proofs.ByteLemmas.{run_past}
-use Rattle.fs_spelling.specs.Tags.{Pair, AreBlank, IsAttribute, AreAttributes, NoMore, OneMore, end_of, IsBody, pair_of, ReadsAttribute}
-use Rattle.fs_spelling.specs.Bodies.{TakesBody}
+use Rattle.fs_spelling.specs.Tags.{Pair, AreBlank, IsAttribute, AreAttributes, NoMore, OneMore, end_of, IsBody}
+use Rattle.fs_spelling.specs.Readings.{pair_of, ReadsAttribute}
+use Rattle.fs_spelling.specs.Readings.{TakesBody}
 use Rattle.fs_spelling.proofs.Spans.{bind_ok, eqb-true}
 use Rattle.fs_spelling.proofs.Runs.{Stops, past_run, run_passes, blank_stops, gap_stops, and_true}
 use Rattle.fs_spelling.proofs.AttributeLaws.{spelt_attribute, read_attribute, was_read, same_read}

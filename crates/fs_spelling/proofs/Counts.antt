@@ -1,5 +1,5 @@
 -- What is read of a document keeps the ranges and limits.
-use Rattle.std.proofs.Common.{◌≡◌, ℕ, zero, suc, ◌+◌, ◌-◌, ◌^◌, ◌<◌, ◌≤◌, min, Bool, true, false, cond, ◌&&◌, ◌||◌, ◌==◌, nat_eq, nat_le, nat_lt, List, [], ◌∷◌, ◌++◌, length, sum_by, Option, None, Some, Result, Ok, Err, codes, refl, sym, ap, ◌∙◌, subst, arith}
+use Rattle.std.proofs.Common.{◌≡◌, ℕ, zero, suc, ◌+◌, ◌-◌, ◌^◌, ◌<◌, ◌≤◌, min, Bool, true, false, cond, ◌&&◌, ◌||◌, nat_le, nat_lt, List, [], ◌∷◌, ◌++◌, length, sum_by, Option, None, Some, Result, Ok, Err, codes, refl, sym, ap, subst, arith}
 use Rattle.std.specs.Option.{option_map, option_and_then}
 use Rattle.std.specs.Str.{bytes_eq}
 use Rattle.std.proofs.lemmas.List.{length-append}
@@ -71,12 +71,12 @@ unfolding switch_setting
 switch_ranged name value s h =
     either (bytes_eq name (codes "core-uuid")) _ _ (core_ranged s (core_of value) h)
     (either (bytes_eq name (codes "max-sessions")) _ _
-      (set_in 1 (2 ^ 64 - 1) (λ n. record s { max_sessions = min n 256 }) (number_within 1 (2 ^ 64 - 1) value) (number_between 1 (2 ^ 64 - 1) value)
-        (λ n least most. record { sessions = (omega arith, omega arith); journal = h.journal; port = h.port; password = h.password; connections = h.connections }))
-      (either (bytes_eq name (codes "journal-limit")) _ _
-        (set_in 1048576 1073741824 (λ n. record s { journal_limit = n }) (number_within 1048576 1073741824 value) (number_between 1048576 1073741824 value)
-          (λ n least most. record { sessions = h.sessions; journal = (least, most); port = h.port; password = h.password; connections = h.connections }))
-        h))
+    (set_in 1 (2 ^ 64 - 1) (λ n. record s { max_sessions = min n 256 }) (number_within 1 (2 ^ 64 - 1) value) (number_between 1 (2 ^ 64 - 1) value)
+    (λ n least most. record { sessions = (omega arith, omega arith); journal = h.journal; port = h.port; password = h.password; connections = h.connections }))
+    (either (bytes_eq name (codes "journal-limit")) _ _
+    (set_in 1048576 1073741824 (λ n. record s { journal_limit = n }) (number_within 1048576 1073741824 value) (number_between 1048576 1073741824 value)
+    (λ n least most. record { sessions = h.sessions; journal = (least, most); port = h.port; password = h.password; connections = h.connections }))
+    h))
 
 password_ranged : (value : Text) (s : Settings) → AreInRange s → Ranged (password_setting value s)
 unfolding password_setting
@@ -91,13 +91,13 @@ unfolding socket_setting
 socket_ranged name value s h =
     either (bytes_eq name (codes "listen-ip")) _ _ (record { sessions = h.sessions; journal = h.journal; port = h.port; password = h.password; connections = h.connections })
     (either (bytes_eq name (codes "listen-port")) _ _
-      (set_in 1 65535 (λ n. record s { listen_port = n }) (number_within 1 65535 value) (number_between 1 65535 value)
-        (λ n least most. record { sessions = h.sessions; journal = h.journal; port = (least, most); password = h.password; connections = h.connections }))
-      (either (bytes_eq name (codes "password")) _ _ (password_ranged value s h)
-        (either (bytes_eq name (codes "max-connections")) _ _
-          (set_in 1 16 (λ n. record s { max_connections = n }) (number_within 1 16 value) (number_between 1 16 value)
-            (λ n least most. record { sessions = h.sessions; journal = h.journal; port = h.port; password = h.password; connections = (least, most) }))
-          h)))
+    (set_in 1 65535 (λ n. record s { listen_port = n }) (number_within 1 65535 value) (number_between 1 65535 value)
+    (λ n least most. record { sessions = h.sessions; journal = h.journal; port = (least, most); password = h.password; connections = h.connections }))
+    (either (bytes_eq name (codes "password")) _ _ (password_ranged value s h)
+    (either (bytes_eq name (codes "max-connections")) _ _
+    (set_in 1 16 (λ n. record s { max_connections = n }) (number_within 1 16 value) (number_between 1 16 value)
+    (λ n least most. record { sessions = h.sessions; journal = h.journal; port = h.port; password = h.password; connections = (least, most) }))
+    h)))
 
 setting_ranged : (file : ConfigFile) (name value : Text) (s : Settings) → AreInRange s → Ranged (setting file name value s)
 unfolding setting
@@ -245,19 +245,19 @@ context_keeps name place c h = by (nat_lt place (length c.contexts)) (nat_lt (le
       actions_most = h.actions_most;
     }
     by false true small =
-      let longer = length-append c.contexts (record { name = name; extensions = [] } ∷ []) in
-      let below = lt_tested (length c.contexts) 256 small in
-      record {
-        settings = h.settings;
-        bounds = h.bounds;
-        contexts = omega arith;
-        extensions = omega (arith, h.extensions, new_context one name c.contexts);
-        extensions_most = h.extensions_most;
-        patterns = omega (arith, h.patterns, new_context (in_extension patterns_of) name c.contexts);
-        patterns_most = h.patterns_most;
-        actions = omega (arith, h.actions, new_context (in_extension actions_of) name c.contexts);
-        actions_most = h.actions_most;
-      }
+        let longer = length-append c.contexts (record { name = name; extensions = [] } ∷ []) in
+        let below = lt_tested (length c.contexts) 256 small in
+        record {
+          settings = h.settings;
+          bounds = h.bounds;
+          contexts = omega arith;
+          extensions = omega (arith, h.extensions, new_context one name c.contexts);
+          extensions_most = h.extensions_most;
+          patterns = omega (arith, h.patterns, new_context (in_extension patterns_of) name c.contexts);
+          patterns_most = h.patterns_most;
+          actions = omega (arith, h.actions, new_context (in_extension actions_of) name c.contexts);
+          actions_most = h.actions_most;
+        }
     by false false small = tt
 
 extension_keeps : (pairs : Pairs) (c : Content) → IsCounted c → Keeps (extension_begun pairs c)
@@ -267,18 +267,18 @@ extension_keeps pairs c h = by (nat_lt c.extensions 4096) refl
     by : (t : Bool) → nat_lt c.extensions 4096 ≡ t
         → Keeps (cond t (Ok (level.Extension, record c { extensions = c.extensions + 1; extension = Some (record { name = given pairs (codes "name"); goes_on = bytes_eq (given pairs (codes "continue")) (codes "true"); conditions = [] }) })) (Err faults.TooLarge))
     by true small =
-      let below = lt_tested c.extensions 4096 small in
-      record {
-        settings = h.settings;
-        bounds = h.bounds;
-        contexts = h.contexts;
-        extensions = omega (arith, h.extensions);
-        extensions_most = omega arith;
-        patterns = omega (arith, h.patterns);
-        patterns_most = h.patterns_most;
-        actions = omega (arith, h.actions);
-        actions_most = h.actions_most;
-      }
+        let below = lt_tested c.extensions 4096 small in
+        record {
+          settings = h.settings;
+          bounds = h.bounds;
+          contexts = h.contexts;
+          extensions = omega (arith, h.extensions);
+          extensions_most = omega arith;
+          patterns = omega (arith, h.patterns);
+          patterns_most = h.patterns_most;
+          actions = omega (arith, h.actions);
+          actions_most = h.actions_most;
+        }
     by false small = tt
 
 -- one pattern more is counted, and none is there yet
@@ -333,10 +333,10 @@ unfolding pattern_begun
 pattern_keeps pairs c h =
     bind_keeps (pattern_counted pairs c) (λ d. Ok (level.Condition, record d { condition = Some (condition_of pairs (test.Plain (given pairs (codes "field")) (given pairs (codes "expression")))) }))
     (λ d e.
-      let room = counted_room pairs c d e in
-      let k = Some (condition_of pairs (test.Plain (given pairs (codes "field")) (given pairs (codes "expression")))) in
-      let P : Content → Type 0 = λ b. IsCounted (record b { condition = k }) in
-      subst P (sym room.same) (condition_keeps c k 1 h (omega arith) (omega arith) (omega (arith, room.below))))
+    let room = counted_room pairs c d e in
+    let k = Some (condition_of pairs (test.Plain (given pairs (codes "field")) (given pairs (codes "expression")))) in
+    let P : Content → Type 0 = λ b. IsCounted (record b { condition = k }) in
+    subst P (sym room.same) (condition_keeps c k 1 h (omega arith) (omega arith) (omega (arith, room.below))))
 
 condition_on_keeps : (pairs : Pairs) (c : Content) (o : Option ManyKind) → IsCounted c → Keeps (condition_on pairs c o)
 condition_on_keeps pairs c (Some many) h = condition_alone c (Some (condition_of pairs (test.Many many []))) h (omega arith) (omega arith)
@@ -363,9 +363,9 @@ case_keeps pairs c h =
     let child = child_counted (given pairs (codes "field")) (given pairs (codes "expression")) c.condition in
     bind_keeps (pattern_counted pairs c) (λ d. Ok (level.Empty, record d { condition = add d.condition }))
     (λ d e.
-      let room = counted_room pairs c d e in
-      let P : Content → Type 0 = λ b. IsCounted (record b { condition = add b.condition }) in
-      subst P (sym room.same) (condition_keeps c (add c.condition) 1 h child.0 child.1 (omega (arith, room.below))))
+    let room = counted_room pairs c d e in
+    let P : Content → Type 0 = λ b. IsCounted (record b { condition = add b.condition }) in
+    subst P (sym room.same) (condition_keeps c (add c.condition) 1 h child.0 child.1 (omega (arith, room.below))))
 
 action_counted : (anti : Bool) (a : PlanAction) (o : Option Condition)
     → (opened patterns_of (option_map (with_action anti a) o) ≤ opened patterns_of o) × (opened actions_of (option_map (with_action anti a) o) ≤ opened actions_of o + 1)
@@ -380,19 +380,19 @@ action_keeps anti pairs c h = by (nat_lt c.actions 32768) refl
     by : (t : Bool) → nat_lt c.actions 32768 ≡ t
         → Keeps (cond t (Ok (level.Empty, record c { actions = c.actions + 1; condition = option_map (with_action anti (action_of pairs)) c.condition })) (Err faults.TooLarge))
     by true small =
-      let below = lt_tested c.actions 32768 small in
-      let counted = action_counted anti (action_of pairs) c.condition in
-      record {
-        settings = h.settings;
-        bounds = h.bounds;
-        contexts = h.contexts;
-        extensions = h.extensions;
-        extensions_most = h.extensions_most;
-        patterns = omega (arith, h.patterns, counted.0);
-        patterns_most = h.patterns_most;
-        actions = omega (arith, h.actions, counted.1);
-        actions_most = omega arith;
-      }
+        let below = lt_tested c.actions 32768 small in
+        let counted = action_counted anti (action_of pairs) c.condition in
+        record {
+          settings = h.settings;
+          bounds = h.bounds;
+          contexts = h.contexts;
+          extensions = h.extensions;
+          extensions_most = h.extensions_most;
+          patterns = omega (arith, h.patterns, counted.0);
+          patterns_most = h.patterns_most;
+          actions = omega (arith, h.actions, counted.1);
+          actions_most = omega arith;
+        }
     by false small = tt
 
 pub begun_counted : (k : Kind) (pairs : Pairs) (c : Content) → IsCounted c → Keeps (begun k pairs c)

@@ -21,7 +21,7 @@ use Rattle.fs_doc.specs.Attributes.{Tagged, written_as, may_be, may_on, applicat
 use Rattle.fs_doc.specs.Contents.{begun}
 use Rattle.fs_doc.specs.Reading.{element_read}
 use Rattle.fs_spelling.specs.Values.{SpellsValue}
-use Rattle.fs_spelling.specs.Tags.{pair_of}
+use Rattle.fs_spelling.specs.Readings.{pair_of}
 use Rattle.fs_spelling.specs.Documents.{unplaced, tag_of, text_of, Say, SayNoMore, SayOneMore, Begins}
 use Rattle.fs_spelling.proofs.Spans.{bind_ok}
 use Rattle.fs_spelling.proofs.ValueLaws as values

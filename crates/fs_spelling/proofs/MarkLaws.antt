@@ -10,7 +10,8 @@ use Rattle.fs_xml.specs.Attributes.{Written}
 use Rattle.fs_xml.specs.Tags.{BodyText, body_at}
 use Rattle.fs_xml.specs.Markup.{Mark, Comment, End, Start, Marks, comment_end, second_dash_at, comment_at, closed_at, end_at, start_at, mark_at}
 use Rattle.fs_xml.proofs.ByteLemmas.{run_past}
-use Rattle.fs_spelling.specs.Tags.{Pair, AreBlank, IsName, IsBody, IsTag, IsEndTag, IsComment, pair_of, ReadsTag, Takes, TakesMark}
+use Rattle.fs_spelling.specs.Tags.{Pair, AreBlank, IsName, IsBody, IsTag, IsEndTag, IsComment}
+use Rattle.fs_spelling.specs.Readings.{pair_of, ReadsTag, Takes, TakesMark}
 use Rattle.fs_spelling.proofs.Spans.{bind_ok, eqb-true}
 use Rattle.fs_spelling.proofs.Runs.{past_run, the_run, run_passes, name_byte, first_byte, no_declared, no_mark, gap_stops, name_passes}
 use Rattle.fs_spelling.proofs.AttributeLaws.{name_is}

@@ -18,7 +18,8 @@ use Rattle.fs_doc.specs.declared.content.Content.{Content}
 use Rattle.fs_doc.specs.Faults.{fault}
 use Rattle.fs_doc.specs.Contents.{nothing, ended}
 use Rattle.fs_doc.specs.Reading.{Opened, Reading, level_in, is_outside, text_at, mark_or, mark_read, element_read, with_element, entered, left, is_empty_level, mark_entered, Next, Over, On, at_mark, round, with_round, read_within}
-use Rattle.fs_spelling.specs.Tags.{Pair, IsTag, IsEndTag, IsComment, pair_of, Takes, TakesMark, AreBlank}
+use Rattle.fs_spelling.specs.Tags.{Pair, IsTag, IsEndTag, IsComment, AreBlank}
+use Rattle.fs_spelling.specs.Readings.{pair_of, Takes, TakesMark}
 use Rattle.fs_spelling.specs.Documents.{IsFiller, Begins, Inside, Bare, Remark, Leaf, Holder}
 use Rattle.fs_spelling.proofs.Spans.{bind_ok}
 use Rattle.fs_spelling.proofs.TextLaws.{BeginsMark, text_taken}

@@ -1,17 +1,16 @@
 -- A configuration that is spelt keeps the ranges and limits.
-use Rattle.std.proofs.Common.{◌≡◌, ℕ, ◌+◌, ◌≤◌, true, List, [], ◌∷◌, ◌++◌, Result, Ok, Err, refl, sym, ap, ◌∙◌, ◌⊎◌, inl, inr, subst, arith}
+use Rattle.std.proofs.Common.{◌≡◌, true, List, sym, ◌⊎◌, inl, inr, subst, arith}
 use Rattle.std.specs.List.{list_all}
 use Rattle.fs_xml.specs.Bytes.{is_blank}
 use Rattle.fs_doc.specs.declared.element.Level.TheVariants as level
-use Rattle.fs_vars.specs.Pairs.{Text, Pairs}
-use Rattle.fs_doc.specs.declared.fault.DocKind.{DocKind}
+use Rattle.fs_vars.specs.Pairs.{Text}
 use Rattle.fs_doc.specs.declared.element.Level.{Level}
 use Rattle.fs_doc.specs.declared.content.Content.{Content}
-use Rattle.fs_doc.specs.Contents.{Begun, nothing, begun, ended}
+use Rattle.fs_doc.specs.Contents.{nothing}
 use Rattle.fs_doc.specs.Reading.{Configuration, configured}
 use Rattle.fs_spelling.specs.Tags.{Pair}
 use Rattle.fs_spelling.specs.Documents.{Begins, Inside, Bare, Remark, Leaf, Holder, IsDocument, Spells}
-use Rattle.fs_spelling.specs.Limits.{IsWithin, in_all, one, in_extension, patterns_of, actions_of}
+use Rattle.fs_spelling.specs.Limits.{IsWithin}
 use Rattle.fs_spelling.proofs.Counts.{IsCounted, Keeps, nothing_counted, begun_counted, ended_counted}
 
 begins_counted : (outer inner : Level) (c d : Content) (name : Text) (pairs : List Pair) → Begins outer c name pairs inner d → IsCounted c → IsCounted d

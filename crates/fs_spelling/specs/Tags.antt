@@ -1,11 +1,10 @@
 -- Which bytes are comments and tags.
-use Rattle.std.specs.Prelude.{◌≡◌, ◌≢◌, ℕ, true, false, List, [], ◌∷◌, ◌++◌, map, None, Ok, codes}
+use Rattle.std.specs.Prelude.{◌≡◌, ◌≢◌, ℕ, true, false, List, [], ◌∷◌, ◌++◌, Ok, codes}
 use Rattle.std.specs.List.{list_all, list_any}
 use Rattle.fs_xml.specs.declared.attribute.Ending.{Ending}
 use Rattle.fs_xml.specs.declared.attribute.Ending.TheVariants.{Opens, Closes}
 use Rattle.fs_xml.specs.Bytes.{is_blank, is_quote, is_name_byte, begins_name, is_byte}
-use Rattle.fs_xml.specs.Attributes.{Written, Has, part_at}
-use Rattle.fs_xml.specs.Markup.{Mark, Comment, End, Start, comment_end, mark_at}
+use Rattle.fs_xml.specs.Markup.{comment_end}
 
 -- a name, and a value as it is written
 pub record Pair : Type 0 where
@@ -37,22 +36,6 @@ pub record IsAttribute (bytes : List ℕ) (pair : Pair) : Type 0 where
   pub is_name : IsName pair.name
   pub quotes : is_quote quote ≡ true
   pub unbroken : list_any (is_byte quote) pair.value ≡ false
-
--- a name and a value, without their places
-abbrev pub pair_of : Written → Pair
-pair_of a = record { name = a.name; value = a.value }
-
--- an attribute that is read, with its places
-pub record ReadsAttribute (end : ℕ) (text rest : List ℕ) (pair : Pair) : Type 0 where
-  pub written : Written
-  pub read : part_at end text ≡ Ok (Has written, rest)
-  pub same : pair_of written ≡ pair
-
--- the attribute in front, and the rest
-pub record TakesAttribute (text rest : List ℕ) (pair : Pair) : Type 0 where
-  pub bytes : List ℕ
-  pub whole : text ≡ bytes ++ rest
-  pub is : IsAttribute bytes pair
 
 -- attributes, one after another
 pub data AreAttributes : List ℕ → List Pair → Type 0 where
@@ -90,23 +73,3 @@ pub record IsComment (bytes : List ℕ) : Type 0 where
   pub body : List ℕ
   pub whole : bytes ≡ codes "!--" ++ body
   pub ends : comment_end body ≡ Ok []
-
--- ---- how they are read
-
--- a tag that is read, with the places of its attributes
-pub record ReadsTag (end : ℕ) (text name : List ℕ) (pairs : List Pair) (ending : Ending) (rest : List ℕ) : Type 0 where
-  pub attrs : List Written
-  pub same : map pair_of attrs ≡ pairs
-  pub read : mark_at end text ≡ Ok (Start name (record { attrs = attrs; malformed = None; ending = ending }), rest)
-
--- the bytes in front, of a kind, and the rest
-pub record Takes (Is : List ℕ → Type 0) (text rest : List ℕ) : Type 0 where
-  pub bytes : List ℕ
-  pub whole : text ≡ bytes ++ rest
-  pub is : Is bytes
-
--- the markup in front, and the rest; a tag with a malformed attribute is none
-abbrev pub TakesMark : Mark → List ℕ → List ℕ → Type 0
-TakesMark Comment text rest = Takes IsComment text rest
-TakesMark (End name) text rest = Takes (λ bytes. IsEndTag bytes name) text rest
-TakesMark (Start name body) text rest = body.malformed ≡ None → Takes (λ bytes. IsTag bytes name (map pair_of body.attrs) body.ending) text rest

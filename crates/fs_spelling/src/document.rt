@@ -7,7 +7,7 @@ ghost use Rattle.fs_doc.specs.declared.element.Level.{Level};
 ghost use Rattle.fs_doc.specs.declared.content.Content.{Content};
 ghost use Rattle.fs_doc.specs.Reading.{Configuration, config_of, element_read};
 ghost use Rattle.fs_spelling.specs.Limits.{IsWithin};
-ghost use Rattle.fs_spelling.specs.Tags.{pair_of};
+ghost use Rattle.fs_spelling.specs.Readings.{pair_of};
 ghost use Rattle.fs_spelling.specs.Documents.{Begins, Spells};
 
 /// An element is read as it begins: its kind is the one of its name at its place, its attributes say their texts, and what it adds is added.

@@ -5,7 +5,8 @@ ghost use Rattle.fs_xml.specs.Entities.{value_text};
 ghost use Rattle.fs_xml.specs.Attributes.{Written, Has, part_at};
 ghost use Rattle.fs_xml.specs.Markup.{Mark, Comment, End, mark_at};
 ghost use Rattle.fs_xml.specs.declared.attribute.Ending.{Ending};
-ghost use Rattle.fs_spelling.specs.Tags.{Pair, IsAttribute, pair_of, ReadsAttribute, TakesAttribute, IsComment, IsEndTag, IsTag, ReadsTag, TakesMark};
+ghost use Rattle.fs_spelling.specs.Tags.{Pair, IsAttribute, IsComment, IsEndTag, IsTag};
+ghost use Rattle.fs_spelling.specs.Readings.{pair_of, ReadsAttribute, TakesAttribute, ReadsTag, TakesMark};
 ghost use Rattle.fs_spelling.specs.Values.{SpellsValue};
 
 /// A value says at most one text, and it is read as that text.

@@ -44,7 +44,7 @@ unfolding core_of
 core_is text found tells =
     same_option found (option_and_then (core_in text) (high_of text))
     (λ core e.
-      let is = (tells core).0 e in
-      let high : high_of text ≡ Some core = ap high_of is.1 ∙ uuid_owned core 0 is.0 (omega arith) in
-      rw high (is_in text core is))
+    let is = (tells core).0 e in
+    let high : high_of text ≡ Some core = ap high_of is.1 ∙ uuid_owned core 0 is.0 (omega arith) in
+    rw high (is_in text core is))
     (λ core e. (tells core).1 (first_in text (high_of text) core e))

@@ -1,5 +1,5 @@
 -- What a list of contexts is with one more extension.
-use Rattle.std.proofs.Common.{◌≡◌, ◌<◌, ◌≤◌, ℕ, zero, suc, List, [], ◌∷◌, ◌++◌, length, refl, sym, ap, ◌∙◌, arith, get_or, slice_set}
+use Rattle.std.proofs.Common.{◌≡◌, ◌≤◌, ℕ, zero, suc, List, [], ◌∷◌, ◌++◌, length, refl, ap, ◌∙◌, arith, get_or, slice_set}
 use Rattle.fs_doc.specs.Dialplans.{Context, Extension, with_extension}
 
 pub added : (contexts : List Context) (place : ℕ) (context : Context) (extension : Extension) (extensions : List Extension) → context ≡ get_or contexts place context

@@ -1,9 +1,9 @@
 -- The entries of a map of attributes as names and texts.
-use Rattle.std.proofs.Common.{◌≡◌, ℕ, Bool, true, false, cond, List, [], ◌∷◌, ◌++◌, map, Option, None, Some, refl, sym, ap, ◌∙◌, Bor}
+use Rattle.std.proofs.Common.{◌≡◌, Bool, true, false, cond, List, [], ◌∷◌, ◌++◌, map, None, Some, refl, ap, Bor}
 use Rattle.std.specs.Str.{bytes_eq}
 use Rattle.std.specs.Map.{lookup}
 use Rattle.indexmap.specs.IndexMap.{insert_entry}
-use Rattle.fs_vars.specs.Pairs.{Text, Pairs, value_of}
+use Rattle.fs_vars.specs.Pairs.{Text, value_of}
 
 abbrev Entries : Type 0
 Entries = List (Bor Text × Text)

@@ -1,10 +1,10 @@
 -- What was read of a document, and what an element adds to it.
-use Rattle.std.specs.Prelude.{◌==◌, ◌≡◌, ℕ, ◌+◌, Bool, true, false, ◌&&◌, ◌||◌, nat_le, nat_lt, if◌then◌else◌, List, [], ◌∷◌, ◌++◌, length, Option, None, Some, is_some, unwrap_or, Result, Ok, Err, codes, position}
-use Rattle.std.specs.Option.{option_map, option_and_then}
+use Rattle.std.specs.Prelude.{ℕ, ◌+◌, Bool, true, false, ◌||◌, nat_le, nat_lt, if◌then◌else◌, List, [], ◌∷◌, ◌++◌, length, Option, None, Some, unwrap_or, Result, Ok, Err, codes}
+use Rattle.std.specs.Option.{option_map}
 use Rattle.std.specs.Str.{bytes_eq}
 use Rattle.std.specs.List.{position_or_len}
 use Rattle.fs_vars.specs.Pairs.{Text, Pairs, value_of}
-use Rattle.fs_vars.specs.Variables.{Variables, can_set, set_to}
+use Rattle.fs_vars.specs.Variables.{can_set, set_to}
 use Rattle.fs_vars.specs.declared.bounds.Bounds.TheVariants.{Globals}
 use Rattle.fs_xml.specs.Results.{◌>>=◌}
 use Rattle.fs_doc.specs.declared.fault.DocKind.{DocKind}
@@ -111,7 +111,7 @@ pattern_counted pairs c =
 unfoldable pub pattern_begun : Pairs → Content → Begun
 pattern_begun pairs c =
     pattern_counted pairs c >>= λ d.
-      Ok (level.Condition, record d { condition = Some (condition_of pairs (test.Plain (given pairs (codes "field")) (given pairs (codes "expression")))) })
+    Ok (level.Condition, record d { condition = Some (condition_of pairs (test.Plain (given pairs (codes "field")) (given pairs (codes "expression")))) })
 
 -- a condition with `regex` has children, one with a field or an expression has a pattern, and any other is true
 abbrev pub condition_on : Pairs → Content → Option ManyKind → Begun
@@ -127,7 +127,7 @@ condition_begun pairs c = condition_on pairs c (many_of (given pairs (codes "reg
 unfoldable pub case_begun : Pairs → Content → Begun
 case_begun pairs c =
     pattern_counted pairs c >>= λ d.
-      Ok (level.Empty, record d { condition = option_map (with_child (given pairs (codes "field")) (given pairs (codes "expression"))) d.condition })
+    Ok (level.Empty, record d { condition = option_map (with_child (given pairs (codes "field")) (given pairs (codes "expression"))) d.condition })
 
 unfoldable pub is_inline : Pairs → Bool
 is_inline pairs = bytes_eq (given pairs (codes "inline")) (codes "true")

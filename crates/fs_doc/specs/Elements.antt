@@ -1,5 +1,5 @@
 -- Which elements stand where.
-use Rattle.std.specs.Prelude.{ℕ, Bool, true, false, ◌&&◌, if◌then◌else◌, is_some, Result, Ok, Err, codes}
+use Rattle.std.specs.Prelude.{Bool, true, false, ◌&&◌, if◌then◌else◌, is_some, Result, Ok, Err, codes}
 use Rattle.std.specs.Str.{bytes_eq}
 use Rattle.fs_vars.specs.Pairs.{Text, Pairs, value_of}
 use Rattle.fs_doc.specs.declared.fault.DocKind.{DocKind}

@@ -1,5 +1,5 @@
 -- The configuration that a document is read as, or its first fault.
-use Rattle.std.specs.Prelude.{◌==◌, ℕ, zero, suc, ◌+◌, Bool, true, false, ◌&&◌, nat_eq, nat_lt, if◌then◌else◌, List, [], ◌∷◌, length, drop, Option, None, Some, Result, Ok, Err, codes}
+use Rattle.std.specs.Prelude.{◌==◌, ℕ, zero, suc, ◌+◌, Bool, true, false, ◌&&◌, nat_eq, nat_lt, if◌then◌else◌, List, [], ◌∷◌, length, drop, Result, Ok, Err, codes}
 use Rattle.std.specs.Str.{bytes_eq}
 use Rattle.std.specs.List.{starts_with, position_or_len}
 use Rattle.fs_vars.specs.Pairs.{Text}
@@ -17,13 +17,12 @@ use Rattle.fs_doc.specs.declared.fault.DocKind.TheVariants as kind
 use Rattle.fs_doc.specs.declared.fault.DocFault.{DocFault}
 use Rattle.fs_doc.specs.declared.element.Level.{Level}
 use Rattle.fs_doc.specs.declared.element.Level.TheVariants as level
-use Rattle.fs_doc.specs.declared.element.Kind.{Kind}
 use Rattle.fs_doc.specs.declared.settings.Settings.{Settings}
 use Rattle.fs_doc.specs.declared.content.Content.{Content}
 use Rattle.fs_doc.specs.Dialplans.{Context}
 use Rattle.fs_doc.specs.Elements.{kind_in}
 use Rattle.fs_doc.specs.Attributes.{pairs_read}
-use Rattle.fs_doc.specs.Contents.{Begun, nothing, begun, ended}
+use Rattle.fs_doc.specs.Contents.{nothing, begun, ended}
 use Rattle.fs_doc.specs.Faults.{fault, or_at}
 
 -- an element that has not ended: the level of its inside, and its name
@@ -40,6 +39,11 @@ pub record Reading : Type 0 where
 abbrev pub level_in : List Opened → Level
 level_in [] = level.Top
 level_in (o ∷ opened) = o.level
+
+-- no element is open
+abbrev pub is_outside : List Opened → Bool
+is_outside [] = true
+is_outside (o ∷ opened) = false
 
 -- ---- text
 
@@ -72,14 +76,10 @@ abbrev pub mark_or : Bool → ℕ → ℕ → Marks → Result (Mark × Text) Do
 mark_or done end at (Ok x) = Ok x
 mark_or done end at (Err stop) = Err (stop_fault done end at stop)
 
-abbrev pub is_top : Level → Bool
-is_top level.Top = true
-is_top _ = false
-
--- the markup behind a `<` at a place; at the top there is no end tag
-unfoldable pub mark_read : Bool → Level → ℕ → ℕ → Text → Result (Mark × Text) DocFault
-mark_read done level end at bytes =
-    if is_top level && starts_with nat_eq bytes (codes "/") then fault at kind.BadTag else mark_or done end at (mark_at end bytes)
+-- the markup behind a `<` at a place; outside of all elements there is no end tag
+unfoldable pub mark_read : Bool → Bool → ℕ → ℕ → Text → Result (Mark × Text) DocFault
+mark_read done outside end at bytes =
+    if outside && starts_with nat_eq bytes (codes "/") then fault at kind.BadTag else mark_or done end at (mark_at end bytes)
 
 -- ---- elements
 
@@ -92,7 +92,7 @@ with_element Closes name opened x = record { opened = opened; content = ended x.
 unfoldable pub element_read : ℕ → Text → BodyText → Level → Content → Result (Level × Content) DocFault
 element_read at name body level c =
     or_at at (kind_in level c.done name) >>= λ kind.
-      (pairs_read (record { kind = kind; tag = at; globals = c.globals.pairs; attrs = body.attrs }) body.malformed >>= λ pairs. or_at at (begun kind pairs c))
+    (pairs_read (record { kind = kind; tag = at; globals = c.globals.pairs; attrs = body.attrs }) body.malformed >>= λ pairs. or_at at (begun kind pairs c))
 
 unfoldable pub entered : ℕ → Text → BodyText → Reading → Result Reading DocFault
 entered at name body r = element_read at name body (level_in r.opened) r.content >>= λ x. Ok (with_element body.ending name r.opened x)
@@ -127,9 +127,9 @@ Nexts = Result Next DocFault
 
 -- the markup in front
 unfoldable pub at_mark : ℕ → Reading → Text → Nexts
-at_mark end r [] = if r.content.done then Ok (Over r.content) else fault end kind.Truncated
+at_mark end r [] = if is_outside r.opened && r.content.done then Ok (Over r.content) else fault end kind.Truncated
 at_mark end r (b ∷ rest) =
-    mark_read r.content.done (level_in r.opened) end (place end (b ∷ rest)) rest >>= λ x. (mark_entered (place end (b ∷ rest)) x.0 r >>= λ next. Ok (On next x.1))
+    mark_read r.content.done (is_outside r.opened) end (place end (b ∷ rest)) rest >>= λ x. (mark_entered (place end (b ∷ rest)) x.0 r >>= λ next. Ok (On next x.1))
 
 -- the text in front, and the markup behind it
 unfoldable pub round : ℕ → Reading → Text → Nexts

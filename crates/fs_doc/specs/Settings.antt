@@ -1,5 +1,5 @@
 -- The settings of a switch, and what a parameter makes of them.
-use Rattle.std.specs.Prelude.{◌==◌, ◌≡◌, ℕ, ◌/◌, ◌-◌, ◌%◌, ◌^◌, min, Bool, ◌&&◌, nat_lt, nat_le, if◌then◌else◌, length, Option, None, Some, Result, Ok, Err, codes}
+use Rattle.std.specs.Prelude.{◌==◌, ◌≡◌, ℕ, ◌/◌, ◌-◌, ◌%◌, ◌^◌, min, Bool, ◌&&◌, nat_lt, nat_le, if◌then◌else◌, length, Option, None, Some, codes}
 use Rattle.std.specs.Option.{option_and_then}
 use Rattle.std.specs.Str.{bytes_eq}
 use Rattle.fs_text.specs.CoreId.{uuid, high_of, default_core}

@@ -1,5 +1,5 @@
 -- How the code's states and answers are seen by the definitions.
-use Rattle.std.specs.Prelude.{◌<◌, List, length, reverse, map, Option, None, Some, IfSome}
+use Rattle.std.specs.Prelude.{◌<◌, length, reverse, map, Option, None, Some, IfSome}
 use Rattle.std.specs.Borrow.{Bor}
 use Rattle.fs_vars.specs.Pairs.{Text}
 use Rattle.fs_doc.specs.declared.config.Config.{Config}

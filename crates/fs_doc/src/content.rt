@@ -222,12 +222,7 @@ impl Content {
     }
 
     #[tactic(auto, unfolding(crate::specs::Contents::case_begun))]
-    fn add_case(
-        &mut self,
-        alloc: Global,
-        at: usize,
-        given: &Given<'_>,
-    ) -> Result<Level, DocStop>
+    fn add_case(&mut self, alloc: Global, at: usize, given: &Given<'_>) -> Result<Level, DocStop>
         ensures { Answers (λ level. (level, self.new)) result (or_at at (contents.case_begun given.now self.old)) }
     {
         self.count_pattern(at, given)?;

@@ -35,7 +35,10 @@ pub enum Test<P> {
     /// Nothing: it is true.
     Always,
     /// The pattern is searched in the field's value.
-    Plain { field: Txt, expression: P },
+    Plain {
+        field: Txt,
+        expression: P,
+    },
     /// So many of the children match.
     Many {
         kind: ManyKind,

@@ -19,6 +19,10 @@ use std::alloc::Global;
 const MOST_BYTES: usize = 1_048_576;
 
 /// The configuration of a document, or the fault that is met first.
+///
+/// Bytes that are all blanks are the empty configuration. Otherwise one `document` stands behind an optional declaration, among blanks and
+/// comments. The document is read from its start, each tag as a whole; at an element its name and place are judged first, then its
+/// attributes in their order, then a malformed or a missing one, and last a limit or a setting. Want of memory is told at place 0.
 #[tactic(auto, unfolding(crate::specs::Reading::config_of))]
 pub fn read_config(alloc: Global, bytes: &[u8]) -> Result<Config, DocFault>
     ensures { Tells views.configuration_of result (reading.config_of bytes.now) }
@@ -154,32 +158,32 @@ fn read_mark<'a>(
     ensures within { IfOk result (views.RestIsShorter text.now) }
 {
     let [_, rest @ ..] = text else {
-        if state.content.done {
+        if state.is_outside() && state.content.done {
             return Ok(None);
         }
         return Err(DocStop::at(end, DocKind::Truncated));
     };
     let at = end - text.len();
-    let (mark, behind) = mark_read(alloc, state.content.done, state.level(), end, at, rest)?;
+    let (mark, behind) = mark_read(alloc, state.content.done, state.is_outside(), end, at, rest)?;
     state.enter(alloc, at, mark)?;
     Ok(Some(behind))
 }
 
-/// The markup behind a `<`. At the top there is no end tag, and behind the document none is cut short.
+/// The markup behind a `<`. Outside of all elements there is no end tag, and behind the document none is cut short.
 #[tactic(auto, unfolding(crate::specs::Reading::mark_read))]
 fn mark_read(
     alloc: Global,
     done: bool,
-    level: Level,
+    outside: bool,
     end: usize,
     at: usize,
     text: &[u8],
 ) -> Result<(Markup<'_>, &[u8]), DocStop>
     requires { length text.now ≤ end }
-    ensures read { Answers mark_seen result (reading.mark_read done level end at text.now) }
+    ensures read { Answers mark_seen result (reading.mark_read done outside end at text.now) }
     ensures within { IfOk result (λ x. length x.1.now < length text.now) }
 {
-    if level == Level::Top && text.starts_with(b"/") {
+    if outside && text.starts_with(b"/") {
         return Err(DocStop::at(at, DocKind::BadTag));
     }
     match read_markup(alloc, end, text) {

@@ -42,7 +42,11 @@ fn plain_len(text: &[u8]) -> usize
 }
 
 #[tactic(auto, unfolding(crate::specs::Values::dollar_at))]
-fn add_dollar<'a>(globals: &Vars, out: &mut Vec<u8>, text: &'a [u8]) -> Result<Option<&'a [u8]>, Memory>
+fn add_dollar<'a>(
+    globals: &Vars,
+    out: &mut Vec<u8>,
+    text: &'a [u8],
+) -> Result<Option<&'a [u8]>, Memory>
     ensures read { IfOk result (λ rest. (out.new.items, values.rest_seen rest) ≡ values.dollar_at globals.now.pairs out.old.items text.now) }
     ensures within { IfOk result (λ rest. IfSome rest (λ r. length r.now < length text.now)) }
 {
@@ -58,7 +62,11 @@ fn add_dollar<'a>(globals: &Vars, out: &mut Vec<u8>, text: &'a [u8]) -> Result<O
 
 /// Adds what the reference in front stands for.
 #[tactic(auto, unfolding(crate::specs::Values::reference_at))]
-fn add_reference<'a>(globals: &Vars, out: &mut Vec<u8>, text: &'a [u8]) -> Result<Option<&'a [u8]>, Memory>
+fn add_reference<'a>(
+    globals: &Vars,
+    out: &mut Vec<u8>,
+    text: &'a [u8],
+) -> Result<Option<&'a [u8]>, Memory>
     requires { 3 ≤ length text.now }
     ensures read { IfOk result (λ rest. (out.new.items, values.rest_seen rest) ≡ values.reference_at globals.now.pairs out.old.items text.now) }
     ensures within { IfOk result (λ rest. IfSome rest (λ r. length r.now < length text.now)) }

@@ -16,13 +16,14 @@ mod globals;
 mod listed;
 mod settings;
 mod state;
+#[cfg(test)]
+mod tests;
 mod values;
 
 pub use config::Config;
 pub use dialplan::{
     Break, Child, ConditionDef, ContextDef, ExtensionDef, ManyKind, PlanAction, Test,
 };
-
 pub use document::read_config;
 pub use fault::{DocFault, DocKind};
 pub use listed::Listed;

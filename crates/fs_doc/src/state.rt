@@ -50,6 +50,16 @@ impl<'a> State<'a> {
         }
     }
 
+    /// Whether no element is open.
+    pub fn is_outside(&self) -> bool
+        ensures { result ≡ reading.is_outside (reading_of self.now).opened }
+    {
+        match self.opened.last() {
+            Some(_) => false,
+            None => true,
+        }
+    }
+
     /// Enters the markup that stands at a place.
     #[tactic(auto, unfolding(crate::specs::Reading::mark_entered))]
     pub fn enter(&mut self, alloc: Global, at: usize, mark: Markup<'a>) -> Result<(), DocStop>

@@ -12,7 +12,13 @@ use std::alloc::Global;
 /// The text of a value that ends at a place: its entities are decoded, and then the globals replaced. In a foreign place a `<` is
 /// allowed, and nothing is replaced.
 #[tactic(auto, unfolding(crate::specs::Values::value_read))]
-pub(crate) fn read_value(alloc: Global, foreign: bool, globals: &Vars, end: usize, value: &[u8]) -> Result<Txt, ValueStop>
+pub(crate) fn read_value(
+    alloc: Global,
+    foreign: bool,
+    globals: &Vars,
+    end: usize,
+    value: &[u8],
+) -> Result<Txt, ValueStop>
     ensures { ValueGives (λ (t : Text). t) result (value_read foreign globals.now.pairs end value.now) }
 {
     let decoded = decode(alloc, foreign, end, value)?;

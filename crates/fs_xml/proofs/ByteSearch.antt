@@ -1,5 +1,5 @@
 -- What stands before and behind the first byte of a kind.
-use Rattle.std.proofs.Common.{◌≡◌, ℕ, ◌+◌, ◌-◌, take, drop, ◌<◌, ◌≤◌, Bool, true, false, cond, not, ◌||◌, ltb, List, [], ◌∷◌, length, Option, None, Some, refl, sym, ap, ◌∙◌, arith}
+use Rattle.std.proofs.Common.{◌≡◌, ℕ, ◌+◌, ◌-◌, take, drop, ◌<◌, ◌≤◌, Bool, true, false, cond, not, ◌||◌, ltb, List, [], ◌∷◌, length, None, Some, refl, sym, ap, ◌∙◌, arith}
 use Rattle.std.specs.List.{position_or_len, list_any, before_first, after_first}
 use Rattle.std.proofs.lemmas.List.{take_rest, drop-drop}
 use Rattle.std.proofs.lemmas.Bool.Decides.{nat_tests}
@@ -38,6 +38,6 @@ unfolding halves_of
 halves_are byte bytes place before from is below front back =
     let some : list_any (is_byte byte) bytes ≡ true = found (is_byte byte) bytes ∙ lt-ltb _ _ (rw (← is) below) in
     let behind : take (length from - 1) (drop 1 from) ≡ after_first (is_byte byte) bytes =
-      take_rest from 1 ∙ ap (drop 1) back ∙ drop-drop 1 place bytes ∙ ap (λ n. drop (n + 1) bytes) is in
+    take_rest from 1 ∙ ap (drop 1) back ∙ drop-drop 1 place bytes ∙ ap (λ n. drop (n + 1) bytes) is in
     let ahead : before ≡ before_first (is_byte byte) bytes = front ∙ ap (λ n. take n bytes) is in
     rw (some, behind, ahead) refl

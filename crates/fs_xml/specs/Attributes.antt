@@ -1,5 +1,5 @@
 -- One attribute of a tag, or the end of the tag.
-use Rattle.std.specs.Prelude.{◌==◌, ℕ, ◌-◌, Bool, nat_eq, if◌then◌else◌, List, [], ◌∷◌, length, Option, None, Some, Result, Ok, Err}
+use Rattle.std.specs.Prelude.{◌==◌, ℕ, ◌-◌, Bool, if◌then◌else◌, List, [], ◌∷◌, length, Option, None, Some, Result, Ok, Err}
 use Rattle.fs_xml.specs.Results.{◌>>=◌}
 use Rattle.fs_xml.specs.declared.attribute.Attr.{Attr}
 use Rattle.fs_xml.specs.declared.attribute.Part.{Part}

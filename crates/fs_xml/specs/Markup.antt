@@ -1,5 +1,5 @@
 -- What begins with `<`: a comment, an end tag, or a start tag.
-use Rattle.std.specs.Prelude.{◌==◌, ℕ, Bool, ◌&&◌, nat_eq, if◌then◌else◌, List, [], ◌∷◌, drop, Result, Ok, Err, codes}
+use Rattle.std.specs.Prelude.{◌==◌, ℕ, nat_eq, if◌then◌else◌, List, [], ◌∷◌, drop, Result, Ok, Err, codes}
 use Rattle.std.specs.List.{starts_with}
 use Rattle.std.specs.Borrow.{Bor}
 use Rattle.fs_xml.specs.Results.{◌>>=◌}

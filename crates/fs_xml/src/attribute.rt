@@ -94,7 +94,12 @@ fn named(end: usize, text: &[u8]) -> Result<(Part<'_>, &[u8]), TagStop>
 }
 
 #[tactic(auto, unfolding(crate::specs::Attributes::equals_at))]
-fn equals<'a>(end: usize, at: usize, name: &'a [u8], text: &'a [u8]) -> Result<(Part<'a>, &'a [u8]), TagStop>
+fn equals<'a>(
+    end: usize,
+    at: usize,
+    name: &'a [u8],
+    text: &'a [u8],
+) -> Result<(Part<'a>, &'a [u8]), TagStop>
     requires { length text.now ≤ end }
     ensures read { Gives pieces.part_seen result (pieces.equals_at end at name.now text.now) }
     ensures within { IfOk result (λ x. length x.1.now < length text.now) }
@@ -107,7 +112,12 @@ fn equals<'a>(end: usize, at: usize, name: &'a [u8], text: &'a [u8]) -> Result<(
 }
 
 #[tactic(auto, unfolding(crate::specs::Attributes::quoted_at))]
-fn quoted<'a>(end: usize, at: usize, name: &'a [u8], text: &'a [u8]) -> Result<(Part<'a>, &'a [u8]), TagStop>
+fn quoted<'a>(
+    end: usize,
+    at: usize,
+    name: &'a [u8],
+    text: &'a [u8],
+) -> Result<(Part<'a>, &'a [u8]), TagStop>
     requires { length text.now ≤ end }
     ensures read { Gives pieces.part_seen result (pieces.quoted_at end at name.now text.now) }
     ensures within { IfOk result (λ x. length x.1.now < length text.now) }
@@ -125,7 +135,13 @@ fn quoted<'a>(end: usize, at: usize, name: &'a [u8], text: &'a [u8]) -> Result<(
 }
 
 #[tactic(auto, unfolding(crate::specs::Attributes::valued_at))]
-fn valued<'a>(end: usize, at: usize, name: &'a [u8], quote: u8, text: &'a [u8]) -> Result<(Part<'a>, &'a [u8]), TagStop>
+fn valued<'a>(
+    end: usize,
+    at: usize,
+    name: &'a [u8],
+    quote: u8,
+    text: &'a [u8],
+) -> Result<(Part<'a>, &'a [u8]), TagStop>
     requires { length text.now < end }
     ensures read { Gives pieces.part_seen result (pieces.valued_at end at name.now quote text.now) }
     ensures within { IfOk result (λ x. length x.1.now ≤ length text.now) }

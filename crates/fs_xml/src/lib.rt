@@ -10,6 +10,8 @@ mod entity;
 mod markup;
 mod stop;
 mod tag;
+#[cfg(test)]
+mod tests;
 mod value;
 
 pub use attribute::{Attr, Ending};

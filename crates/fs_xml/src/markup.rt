@@ -23,7 +23,11 @@ pub enum Markup<'a> {
 /// A comment goes from `<!--` to the next `-->`. An end tag is `</`, a name, blanks and `>`. A start tag is `<`, a name, attributes, and
 /// `>` or `/>`. An attribute is a blank, a name, `=` and a value in quotes, with blanks round the `=`.
 #[tactic(auto, unfolding(crate::specs::Markup::mark_at))]
-pub fn read_markup(alloc: Global, end: usize, text: &[u8]) -> Result<(Markup<'_>, &[u8]), MarkupStop>
+pub fn read_markup(
+    alloc: Global,
+    end: usize,
+    text: &[u8],
+) -> Result<(Markup<'_>, &[u8]), MarkupStop>
     requires { length text.now ≤ end }
     ensures read { MarkupGives marks.mark_seen result (marks.mark_at end text.now) }
     ensures within { IfOk result (λ x. length x.1.now < length text.now) }

@@ -20,7 +20,11 @@ pub struct Body<'a> {
 
 /// Reads a start tag from behind its name.
 #[tactic(auto, unfolding(crate::specs::Tags::body_at))]
-pub(crate) fn read_body(alloc: Global, end: usize, text: &[u8]) -> Result<(Body<'_>, &[u8]), MarkupStop>
+pub(crate) fn read_body(
+    alloc: Global,
+    end: usize,
+    text: &[u8],
+) -> Result<(Body<'_>, &[u8]), MarkupStop>
     requires { length text.now ≤ end }
     ensures read { MarkupGives tags.body_seen result (tags.body_at end text.now) }
     ensures within { IfOk result (λ x. length x.1.now < length text.now) }
@@ -50,7 +54,11 @@ struct Close {
 
 /// Adds the next attribute, or finds the end.
 #[tactic(auto, unfolding(crate::specs::Tags::body_step))]
-fn take_part<'a>(attrs: &mut Vec<Attr<'a>>, end: usize, text: &'a [u8]) -> Result<(Option<Close>, &'a [u8]), MarkupStop>
+fn take_part<'a>(
+    attrs: &mut Vec<Attr<'a>>,
+    end: usize,
+    text: &'a [u8],
+) -> Result<(Option<Close>, &'a [u8]), MarkupStop>
     requires { length text.now ≤ end }
     ensures read { MarkupGives (λ x. (tags.step_seen (map written_of attrs.new.items) x.0, x.1.now)) result (tags.body_step end (map written_of attrs.old.items) text.now) }
     ensures within { IfOk result (λ x. length x.1.now < length text.now) }
@@ -61,7 +69,13 @@ fn take_part<'a>(attrs: &mut Vec<Attr<'a>>, end: usize, text: &'a [u8]) -> Resul
             attrs.push(attr)?;
             Ok((None, rest))
         }
-        Part::End(ending) => Ok((Some(Close { malformed: None, ending }), rest)),
+        Part::End(ending) => Ok((
+            Some(Close {
+                malformed: None,
+                ending,
+            }),
+            rest,
+        )),
         Part::Malformed(at) => {
             let close = Close {
                 malformed: Some(at),

@@ -30,7 +30,12 @@ pub fn decode(alloc: Global, raw: bool, end: usize, value: &[u8]) -> Result<Vec<
 
 /// Adds the bytes up to the first `&` or `<`, and what that stands for. The rest of the value is answered, if there is one.
 #[tactic(auto, unfolding(crate::specs::Entities::value_step))]
-fn step<'a>(text: &mut Vec<u8>, raw: bool, end: usize, value: &'a [u8]) -> Result<Option<&'a [u8]>, ValueStop>
+fn step<'a>(
+    text: &mut Vec<u8>,
+    raw: bool,
+    end: usize,
+    value: &'a [u8],
+) -> Result<Option<&'a [u8]>, ValueStop>
     ensures read { ValueGives (λ rest. (text.new.items, entities.rest_seen rest)) result (entities.value_step raw end text.old.items value.now) }
     ensures within { IfOk result (λ rest. IfSome rest (λ r. length r.now < length value.now)) }
 {
@@ -48,7 +53,12 @@ fn plain_len(value: &[u8]) -> usize
 }
 
 #[tactic(auto, unfolding(crate::specs::Entities::special_at))]
-fn add_special<'a>(text: &mut Vec<u8>, raw: bool, end: usize, value: &'a [u8]) -> Result<Option<&'a [u8]>, ValueStop>
+fn add_special<'a>(
+    text: &mut Vec<u8>,
+    raw: bool,
+    end: usize,
+    value: &'a [u8],
+) -> Result<Option<&'a [u8]>, ValueStop>
     ensures read { ValueGives (λ rest. (text.new.items, entities.rest_seen rest)) result (entities.special_at raw end text.old.items value.now) }
     ensures within { IfOk result (λ rest. IfSome rest (λ r. length r.now < length value.now)) }
 {
@@ -67,7 +77,11 @@ fn add_special<'a>(text: &mut Vec<u8>, raw: bool, end: usize, value: &'a [u8]) -
 
 /// Adds the character of an entity, from behind its `&`.
 #[tactic(auto, unfolding(crate::specs::Entities::entity_at))]
-fn add_entity<'a>(text: &mut Vec<u8>, at: usize, value: &'a [u8]) -> Result<Option<&'a [u8]>, ValueStop>
+fn add_entity<'a>(
+    text: &mut Vec<u8>,
+    at: usize,
+    value: &'a [u8],
+) -> Result<Option<&'a [u8]>, ValueStop>
     ensures read { ValueGives (λ rest. (text.new.items, entities.rest_seen rest)) result (entities.entity_at text.old.items at value.now) }
     ensures within { IfOk result (λ rest. IfSome rest (λ r. length r.now ≤ length value.now)) }
 {

@@ -1,4 +1,4 @@
-use Rattle.std.proofs.Common.{arith, ◌∙◌, ap, drop}
+use Rattle.std.proofs.Common.{arith}
 use Rattle.fs_xml.specs.Bytes.{is_byte}
 use Rattle.fs_xml.proofs.ByteSearch.{place_within}
 use Rattle.fs_doc.proofs.document.past_any_text.Goals as goal

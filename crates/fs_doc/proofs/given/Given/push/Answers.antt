@@ -1,4 +1,4 @@
-use Rattle.std.proofs.Common.{◌∙◌, ap, map, sym, ◌++◌, ◌∷◌, []}
+use Rattle.std.proofs.Common.{◌∙◌, ap, map}
 use Rattle.fs_doc.proofs.GivenLemmas.{new_last, pair_of}
 use Rattle.fs_doc.proofs.given.Given.push.Goals as goal
 

@@ -1,3 +1,4 @@
 pub mod Sides
 mod Fronts
 mod Tapes
+mod Readings

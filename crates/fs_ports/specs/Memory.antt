@@ -23,12 +23,16 @@ input_of tape = record { taken = Some tape.taken; left = Some tape.left; faults 
 abbrev pub output_of : Tape → Output
 output_of tape = record { written = Some tape.written; faults = tape.write_faults }
 
--- files in memory: their names and bytes, the numbers of the loads that fail, and the loads so far
+-- files in memory: their names and bytes, the numbers of the loads that fail and the loads so far, and the same of builds that find a
+-- pattern too large
 pub record Shelf : Type 0 where
   pub held : List (List ℕ × List ℕ)
   pub failed : List ℕ
   pub loads : ℕ
   pub counts : LoadCounts
+  pub too_large : List ℕ
+  pub builds : ℕ
+  pub sizes : ℕ
 
 -- the bytes of the first file of this name
 abbrev pub bytes_of : List (List ℕ × List ℕ) → List ℕ → Option (List ℕ)

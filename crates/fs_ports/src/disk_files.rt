@@ -3,6 +3,7 @@ ghost use Rattle.fs_ports.specs.Counts as counts;
 
 use crate::counts::raised;
 use crate::files::{Files, LOAD_LIMIT, Load};
+use crate::patterns::{Built, Patterns, Store, compiled, counted};
 use fs_text::{Memory, Txt};
 use std::alloc::Global;
 use std::fs::File;
@@ -16,16 +17,18 @@ pub struct DiskFiles<R: rt::Files + Drop> {
     system: R,
     faults: u64,
     absences: u64,
+    sizes: u64,
 }
 
 impl<R: rt::Files + Drop> DiskFiles<R> {
-    /// The files of this system, of which no load has failed yet.
+    /// The files of this system, of which no load has failed yet and no pattern was too large.
     pub fn new(alloc: Global, system: R) -> DiskFiles<R> {
         DiskFiles {
             alloc,
             system,
             faults: 0,
             absences: 0,
+            sizes: 0,
         }
     }
 
@@ -48,13 +51,24 @@ impl<R: rt::Files + Drop> DiskFiles<R> {
     }
 }
 
-impl<R: rt::Files + Drop> Files for DiskFiles<R> {
+impl<R: rt::Files + Drop> Store for DiskFiles<R> {
     ghost use Rattle.std.specs.Prelude.{None};
 
     ghost counts = { λ f. record { faults = f.faults; absences = f.absences } };
 
     ghost next_load = { λ _ _. None };
 
+    ghost sizes = { λ f. f.sizes };
+}
+
+impl<R: rt::Files + Drop> Patterns for DiskFiles<R> {
+    fn build(&mut self, text: &str) -> Built {
+        let built = compiled(self.alloc, text);
+        counted(&mut self.sizes, built)
+    }
+}
+
+impl<R: rt::Files + Drop> Files for DiskFiles<R> {
     fn load(&mut self, name: &Txt) -> Result<Load, Memory> {
         let Ok(path) = str::from_utf8(name.as_bytes()) else {
             return Ok(self.absent());

@@ -1,7 +1,7 @@
-ghost use Rattle.std.specs.Prelude.{◌≡◌, ℕ, List, Option, IfOk, MatchResult};
-ghost use Rattle.fs_ports.specs.declared.files.Load.{Load};
-ghost use Rattle.fs_ports.specs.Loads.{LoadCounts, Tells, Counted};
+ghost use Rattle.std.specs.Prelude.{◌≡◌, IfOk, MatchResult};
+ghost use Rattle.fs_ports.specs.Loads.{Tells, Counted};
 
+use crate::patterns::Patterns;
 use fs_text::{Memory, Txt};
 
 /// So many bytes of a file are read at most: one more than any document may have.
@@ -19,14 +19,10 @@ pub enum Load {
 }
 
 /// Files by name.
-pub trait Files {
-    ghost counts: { Self → LoadCounts };
-
-    // The answer that the next load of a name gives, where it is known.
-    ghost next_load: { Self → List ℕ → Option Load };
-
+pub trait Files: Patterns {
     /// Reads the file of this name.
     fn load(&mut self, name: &Txt) -> Result<Load, Memory>
-        ensures told { IfOk result (Tells (next_load self.old name.now)) }
-        ensures counts { MatchResult result (Counted (counts self.old) (counts self.new)) (λ _. counts self.new ≡ counts self.old) };
+        ensures told { IfOk result (Tells (Self.next_load self.old name.now)) }
+        ensures counts { MatchResult result (Counted (Self.counts self.old) (Self.counts self.new)) (λ _. Self.counts self.new ≡ Self.counts self.old) }
+        ensures sizes { Self.sizes self.new ≡ Self.sizes self.old };
 }

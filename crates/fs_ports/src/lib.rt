@@ -7,8 +7,10 @@
 mod counts;
 mod disk_files;
 mod files;
+mod gate;
 mod mem_files;
 mod mem_link;
+mod patterns;
 mod port;
 mod send;
 mod stdio;
@@ -17,8 +19,10 @@ mod tests;
 
 pub use disk_files::DiskFiles;
 pub use files::{Files, LOAD_LIMIT, Load};
+pub use gate::{Gate, NoGate};
 pub use mem_files::MemFiles;
 pub use mem_link::MemLink;
+pub use patterns::{Built, Patterns, Store};
 pub use port::{Link, Port, Read, Sink, Source, Write};
 pub use send::{Sent, send_all};
 pub use stdio::Stdio;

@@ -4,11 +4,12 @@ ghost use Rattle.fs_ports.specs.Memory as spec;
 
 use crate::counts::raised;
 use crate::files::{Files, LOAD_LIMIT, Load};
+use crate::patterns::{Built, Patterns, Store, compiled, counted};
 use fs_text::{Memory, Txt};
 use std::alloc::Global;
 use std::marker::Model;
 
-/// Files in memory. Loads that are to fail are named by their numbers, counted from 1.
+/// Files in memory. Loads that are to fail, and builds that are to find a pattern too large, are named by their numbers, counted from 1.
 #[derive(Drop)]
 pub struct MemFiles {
     alloc: Global,
@@ -16,8 +17,10 @@ pub struct MemFiles {
     failed: Vec<u64>,
     too_large: Vec<u64>,
     loads: u64,
+    builds: u64,
     faults: u64,
     absences: u64,
+    sizes: u64,
 }
 
 impl Model for MemFiles {
@@ -30,20 +33,21 @@ impl Model for MemFiles {
       failed = f.failed.items;
       loads = f.loads;
       counts = record { faults = f.faults; absences = f.absences };
+      too_large = f.too_large.items;
+      builds = f.builds;
+      sizes = f.sizes;
     } };
 }
 
 impl MemFiles {
     /// Files of these names and bytes; of a name that stands twice the first counts.
-    /// `too_large` names the builds of patterns that are to find a pattern too large; as yet no
-    /// pattern is built.
     pub fn new(
         alloc: Global,
         held: &[(Txt, Txt)],
         failed: &[u64],
         too_large: &[u64],
     ) -> Result<MemFiles, Memory>
-        ensures { IfOk result (λ files. files ≡ record { held = held.now; failed = failed.now; loads = 0; counts = record { faults = 0; absences = 0 } }) }
+        ensures { IfOk result (λ files. files ≡ record { held = held.now; failed = failed.now; loads = 0; counts = record { faults = 0; absences = 0 }; too_large = too_large.now; builds = 0; sizes = 0 }) }
     {
         Ok(MemFiles {
             alloc,
@@ -51,13 +55,15 @@ impl MemFiles {
             failed: Vec::from_slice(alloc, failed)?,
             too_large: Vec::from_slice(alloc, too_large)?,
             loads: 0,
+            builds: 0,
             faults: 0,
             absences: 0,
+            sizes: 0,
         })
     }
 }
 
-impl Files for MemFiles {
+impl Store for MemFiles {
     ghost use Rattle.std.specs.Prelude.{Some};
     ghost use Rattle.fs_ports.specs.Memory.{next_of};
 
@@ -65,6 +71,22 @@ impl Files for MemFiles {
 
     ghost next_load = { λ f name. Some (next_of f name) };
 
+    ghost sizes = { λ f. f.sizes };
+}
+
+impl Patterns for MemFiles {
+    fn build(&mut self, text: &str) -> Built {
+        self.builds = raised(self.builds);
+        let built = if self.too_large.contains(&self.builds) {
+            Built::TooLarge
+        } else {
+            compiled(self.alloc, text)
+        };
+        counted(&mut self.sizes, built)
+    }
+}
+
+impl Files for MemFiles {
     fn load(&mut self, name: &Txt) -> Result<Load, Memory> {
         let number = raised(self.loads);
         if self.failed.contains(&number) {

@@ -1,5 +1,6 @@
 use crate::{
-    DiskFiles, Files, Load, MemFiles, MemLink, Read, Sent, Sink, Source, Stdio, Write, send_all,
+    Built, DiskFiles, Files, Load, MemFiles, MemLink, Patterns, Read, Sent, Sink, Source, Stdio,
+    Write, send_all,
 };
 use fs_text::Txt;
 use std::alloc::Global;
@@ -70,6 +71,35 @@ fn files_in_memory_answer_by_name_and_number(rt: HostRuntime) -> Result<(), Fail
         let load = files.load(&text(alloc, name)?)?;
         assert_eq!(rt; shown(&load), answer.as_bytes(), "{name}");
     }
+    Ok(())
+}
+
+// What building a pattern answered, in words.
+fn built(built: &Built) -> &'static str {
+    match built {
+        Built::Regex(_) => "regex",
+        Built::NoReading => "no reading",
+        Built::TooLarge => "too large",
+        Built::Memory => "memory",
+    }
+}
+
+#[test]
+fn patterns_are_built_or_refused(rt: HostRuntime) -> Result<(), Fail> {
+    let mut files = MemFiles::new(rt.alloc(), &[], &[], &[2])?;
+    let builds = [
+        ("^(10[01][0-9])$", "regex"),
+        ("^1000$", "too large"),
+        ("^1000$", "regex"),
+        ("(", "no reading"),
+        ("\\w{1000}", "too large"),
+    ];
+    for (text, answer) in builds {
+        assert_eq!(rt; built(&files.build(text)), answer, "{text}");
+    }
+    let mut disk = DiskFiles::new(rt.alloc(), rt);
+    assert_eq!(rt; built(&disk.build("^1000$")), "regex");
+    assert_eq!(rt; built(&disk.build("(")), "no reading");
     Ok(())
 }
 

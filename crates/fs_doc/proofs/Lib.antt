@@ -1,0 +1,4 @@
+pub mod GivenLemmas
+pub mod CoreLemmas
+pub mod DialplanLemmas
+pub mod RoundLemmas

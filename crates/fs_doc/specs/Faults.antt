@@ -1,0 +1,40 @@
+-- What is wrong with a document, and how a call answers what a reading function says.
+use Rattle.std.specs.Prelude.{◌≡◌, ◌⊎◌, ℕ, Result, Ok, Err}
+use Rattle.fs_doc.specs.declared.fault.DocKind.{DocKind}
+use Rattle.fs_doc.specs.declared.fault.DocKind.TheVariants as kind
+use Rattle.fs_doc.specs.declared.fault.DocFault.{DocFault}
+use Rattle.fs_doc.specs.declared.fault.DocStop.{DocStop}
+use Rattle.fs_doc.specs.declared.fault.DocStop.TheVariants as stop
+
+-- the fault of a kind at a place
+abbrev pub fault_at : ℕ → DocKind → DocFault
+fault_at at kind = record { at = at; kind = kind }
+
+-- nothing is read but this fault
+abbrev pub fault : {X : Type 0} → ℕ → DocKind → Result X DocFault
+fault at kind = Err (fault_at at kind)
+
+-- what is read, or the fault of this kind at this place
+abbrev pub or_at : {X : Type 0} → ℕ → Result X DocKind → Result X DocFault
+or_at at (Ok x) = Ok x
+or_at at (Err kind) = fault at kind
+
+-- what is answered, as it is seen, is what is read
+abbrev pub Gives : {X Y E : Type 0} → (X → Y) → Result X E → Result Y E → Type 0
+Gives view (Ok x) read = read ≡ Ok (view x)
+Gives view (Err e) read = read ≡ Err e
+
+-- want of memory says nothing of what is read; any other stop is the fault that is read
+abbrev pub StopsSo : {Y : Type 0} → DocStop → Result Y DocFault → Type 0
+StopsSo stop.Memory read = Unit {0}
+StopsSo (stop.Fault f) read = read ≡ Err f
+
+-- as `Gives`, where memory may be wanting
+abbrev pub Answers : {X Y : Type 0} → (X → Y) → Result X DocStop → Result Y DocFault → Type 0
+Answers view (Ok x) read = read ≡ Ok (view x)
+Answers view (Err e) read = StopsSo e read
+
+-- the same, where want of memory is a fault of its own with the place 0
+abbrev pub Tells : {X Y : Type 0} → (X → Y) → Result X DocFault → Result Y DocFault → Type 0
+Tells view (Ok x) read = read ≡ Ok (view x)
+Tells view (Err f) read = (f ≡ record { at = 0; kind = kind.Memory }) ⊎ (read ≡ Err f)

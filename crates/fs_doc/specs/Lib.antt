@@ -1,0 +1,10 @@
+pub mod Faults
+pub mod Dialplans
+pub mod Settings
+pub mod Values
+pub mod Elements
+pub mod Attributes
+pub mod Tagged
+pub mod Contents
+pub mod Reading
+pub mod Views

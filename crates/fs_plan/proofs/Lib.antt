@@ -1,0 +1,5 @@
+mod BuildLemmas
+mod GroupLemmas
+mod MatchLemmas
+mod NameLemmas
+mod TextLemmas

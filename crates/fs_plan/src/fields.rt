@@ -1,0 +1,64 @@
+ghost use Rattle.std.specs.Prelude.{◌≡◌, Ok, IfOk, IfErr};
+ghost use Rattle.fs_doc.specs.Attributes as doc;
+ghost use Rattle.fs_plan.specs.Outcomes.{IsFault};
+ghost use Rattle.fs_plan.specs.Hunting as spec;
+
+use crate::hunt::Hunt;
+use fs_text::Txt;
+use fs_vars::{Profile, Refused, Scope, expand};
+use std::alloc::Global;
+
+impl Hunt {
+    /// A text with its references expanded, by what the hunt has come to.
+    #[tactic(auto, using(crate::proofs::TextLemmas::within, crate::proofs::TextLemmas::beyond), unfolding(crate::specs::Hunting::expanded_in, fs_vars::specs::Scopes::known_in))]
+    pub(crate) fn expanded(
+        &self,
+        alloc: Global,
+        profile: &Profile,
+        text: &Txt,
+    ) -> Result<Txt, Refused>
+        ensures ok { IfOk result (λ t. spec.expanded_in profile.now text.now self.now ≡ Ok t) }
+        ensures err { IfErr result (IsFault (spec.expanded_in profile.now text.now self.now)) }
+    {
+        let scope = Scope {
+            vars: &self.vars,
+            profile,
+            globals: &self.globals,
+        };
+        Ok(expand(alloc, &scope, text.as_bytes())?)
+    }
+
+    /// The value of a field: one with `${` is expanded, and any other is a field of the profile, or empty where it is none.
+    #[tactic(auto, unfolding(crate::specs::Hunting::field_value))]
+    pub(crate) fn field_value(
+        &self,
+        alloc: Global,
+        profile: &Profile,
+        field: &Txt,
+    ) -> Result<Txt, Refused>
+        ensures ok { IfOk result (λ value. spec.field_value profile.now field.now self.now ≡ Ok value) }
+        ensures err { IfErr result (IsFault (spec.field_value profile.now field.now self.now)) }
+    {
+        if has_variable(field.as_bytes()) {
+            return self.expanded(alloc, profile, field);
+        }
+        match profile.get(field.as_bytes()) {
+            Some(value) => Ok(value.copy()?),
+            None => Ok(Txt::of(alloc, b"")?),
+        }
+    }
+}
+
+/// Whether a `${` stands in the text.
+fn has_variable(text: &[u8]) -> bool
+    ensures { result ≡ doc.has_variable text.now }
+{
+    let mut left = text;
+    while let [_, rest @ ..] = left {
+        if left.starts_with(b"${") {
+            return true;
+        }
+        left = rest;
+    }
+    false
+}

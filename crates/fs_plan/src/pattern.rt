@@ -1,0 +1,80 @@
+ghost use Rattle.std.specs.Prelude.{◌≡◌, IfOk};
+ghost use Rattle.fs_plan.specs.Matching as spec;
+
+use crate::fault::Unbuilt;
+use crate::groups::Groups;
+use crate::tested::Tested;
+use fs_ports::{Built, Patterns};
+use fs_text::{Memory, Txt};
+use regex::bytes::Regex;
+use std::alloc::Global;
+use std::marker::Model;
+
+/// A pattern that was built. A contract sees it as its text.
+#[derive(Drop)]
+pub struct Pattern {
+    regex: Regex,
+}
+
+impl Model for Pattern {
+    ghost use Rattle.std.specs.Prelude.{ℕ, List};
+    ghost use Rattle.regex.specs.Bytes.{regex_source};
+    ghost use Rattle.fs_ports.specs.Patterns.{IsBuiltOf};
+
+    ghost Value = { List ℕ };
+
+    ghost view = { λ p. regex_source p.regex };
+
+    ghost invariant = { λ p. IsBuiltOf (regex_source p.regex) p.regex };
+}
+
+impl Pattern {
+    ghost use Rattle.std.specs.Prelude.{MatchResult, IfErr};
+    ghost use Rattle.fs_plan.specs.Building.{IsTextUnbuilt, sizes_unbuilt};
+
+    /// Builds the pattern of a text. One that is not UTF-8 is none.
+    #[tactic(auto, using(crate::proofs::BuildLemmas::own_built))]
+    pub(crate) fn build<P: Patterns>(text: &Txt, patterns: &mut P) -> Result<Pattern, Unbuilt>
+        ensures kept { IfOk result (λ pattern. pattern ≡ text.now) }
+        ensures refused { IfErr result (IsTextUnbuilt text.now) }
+        ensures sizes { MatchResult result (λ _. P.sizes patterns.new ≡ P.sizes patterns.old) (λ why. P.sizes patterns.new ≡ sizes_unbuilt why (P.sizes patterns.old)) }
+        ensures files { (P.counts patterns.new ≡ P.counts patterns.old) × (P.next_load patterns.new ≡ P.next_load patterns.old) }
+    {
+        let Ok(source) = str::from_utf8(text.as_bytes()) else {
+            return Err(Unbuilt::NoReading);
+        };
+        match patterns.build(source) {
+            Built::Regex(regex) => Ok(Pattern { regex }),
+            Built::NoReading => Err(Unbuilt::NoReading),
+            Built::TooLarge => Err(Unbuilt::TooLarge),
+            Built::Memory => Err(Unbuilt::Memory),
+        }
+    }
+
+    /// What the pattern finds in a value, in bytes. The groups are looked for only where the pattern has any.
+    pub(crate) fn tested(&self, alloc: Global, value: &[u8]) -> Result<Tested, Memory>
+        ensures { IfOk result (λ t. t ≡ spec.tested self.now value.now) }
+    {
+        let mut matcher = self.regex.matcher(alloc)?;
+        if self.regex.captures_len() < 2 {
+            let holds = matcher.is_match(value);
+            return Ok(Tested {
+                holds,
+                groups: None,
+            });
+        }
+        match matcher.captures(value) {
+            Some(captures) => {
+                let groups = Groups::of(alloc, &captures)?;
+                Ok(Tested {
+                    holds: true,
+                    groups: Some(groups),
+                })
+            }
+            None => Ok(Tested {
+                holds: false,
+                groups: None,
+            }),
+        }
+    }
+}

@@ -1,0 +1,13 @@
+pub mod Spans
+pub mod ValueLaws
+pub mod Runs
+pub mod AttributeLaws
+pub mod BodyLaws
+pub mod MarkLaws
+pub mod TextLaws
+pub mod ElementLaws
+pub mod Again
+pub mod Sound
+pub mod Whole
+pub mod Counts
+pub mod Within

@@ -1,0 +1,5 @@
+pub mod Values
+pub mod Tags
+pub mod Readings
+pub mod Documents
+pub mod Limits

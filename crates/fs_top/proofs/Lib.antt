@@ -2,7 +2,7 @@ mod ApiLaws
 mod EndLaws
 mod JournalLaws
 mod LimitLaws
-mod Lines
+mod PartLaws
 mod PlayLaws
 mod RunLaws
 mod SendLaws

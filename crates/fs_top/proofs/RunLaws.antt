@@ -1,104 +1,81 @@
 -- What a run of the program comes to, and the causes of its statuses.
-use Rattle.std.proofs.Common.{◌≡◌, ◌≢◌, ℕ, Bool, true, false, cond, IsTrue, ◌==◌, List, [], ◌++◌, length, Option, None, Some, unwrap_or, refl, sym, ap, ◌∙◌, subst, inl, inr}
-use Rattle.std.specs.List.{list_all, concat}
+use Rattle.std.proofs.Common.{◌≡◌, ◌≢◌, ℕ, Bool, true, false, cond, IsTrue, ◌==◌, List, [], ◌++◌, length, Option, None, Some, IfSome, Result, Ok, Err, ◌⊎◌, unwrap_or, refl, sym, ap, ◌∙◌, subst, inl, inr}
+use Rattle.std.specs.List.{concat}
+use Rattle.std.proofs.lemmas.Bool.{eqb-false}
 use Rattle.fs_ports.specs.Counts.{raised}
-use Rattle.fs_ports.specs.Ports.{Input, Output, Stopped}
+use Rattle.fs_ports.specs.Ports.{Input, Output, Writes, Stopped, SendDid}
+use Rattle.fs_ports.specs.declared.send.Sent.{Sent}
 use Rattle.fs_ports.specs.Loads.{LoadCounts, Tells, Counted}
 use Rattle.fs_ports.specs.declared.files.Load.{Load}
 use Rattle.fs_ports.specs.declared.files.Load.TheVariants.{Got, Absent, Failed}
 use Rattle.fs_ports.proofs.Sides.{reads_nothing, writes_nothing, stopped_sooner}
-use Rattle.fs_top.specs.Switch.{Journal, run, taken_from, bytes_taken}
-use Rattle.fs_top.specs.Journal.{cost, accepted}
-use Rattle.std.proofs.lemmas.Bool.{eqb-false}
 use Rattle.fs_frame.specs.Block.{too_long}
 use Rattle.fs_frame.specs.Blocks.{blocks_of, rest_of}
+use Rattle.fs_doc.specs.Reading.{Configuration, config_of}
+use Rattle.fs_doc.specs.declared.fault.DocFault.{DocFault}
+use Rattle.fs_plan.specs.Building.{IsRefusal, sizes_after}
+use Rattle.fs_plan.specs.declared.fault.PlanFault.{PlanFault}
+use Rattle.fs_top.specs.Switch.{Journal, run, taken_from, bytes_taken}
+use Rattle.fs_top.specs.Journal.{cost, accepted}
 use Rattle.fs_top.specs.Play.{farewell_of, farewell, opened, after_all, whole_journal, end_behind, end_of, end_within, play}
 use Rattle.fs_top.specs.Takes.{Begins}
 use Rattle.fs_top.specs.Turns.{HasRead}
-use Rattle.fs_top.specs.Told.{Told, default_start, told_words, told_file, told_play, refused, is_blank, is_eof, line_of_end, status_of_end, usage_line, document_line, write_fault_line, memory_line}
-use Rattle.fs_top.specs.Runs.{line_of, status_of, PlaysTo, Does, completes, fails_to_write, lacks_memory, Loaded, Runs, CountRose, FillsJournal, MeetsTooLong}
+use Rattle.fs_top.specs.Documents.{start_of}
+use Rattle.fs_top.specs.Told.{Told, Asked, Check, Hunt, Play, file_of, told_words, told_file, told_read, told_built, told_asked, told_play, told_text, refused, is_eof, line_of_end, status_of_end, usage_line, cannot_read_line, pattern_line, write_fault_line, memory_line}
+use Rattle.fs_top.specs.Runs.{IsLineOf, status_of, PlaysTo, Does, completes, fails_to_write, lacks_memory, DoesAs, Answers, ReadsNothing, IsBuiltOf, IsBuilt, OverConfig, OverBytes, Loaded, Runs, Says, Ran, HasConfig, HasFault, HasRefusal, CountRose, FillsJournal, MeetsTooLong}
+use Rattle.fs_top.specs.declared.entry.Entry.{Entry}
 use Rattle.fs_top.specs.declared.start.Start.{Start}
 use Rattle.fs_top.specs.declared.phase.Phase.{Phase}
 use Rattle.fs_top.specs.declared.phase.Phase.TheVariants.{Fresh, Ready, Ending, Refused, Closed}
 use Rattle.fs_top.specs.declared.end.End.{End}
 use Rattle.fs_top.specs.declared.end.End.TheVariants.{Exit, AuthRefused, Eof, ReadFault, TooLong, JournalFull}
 use Rattle.fs_top.specs.declared.play.Fault.TheVariants.{OutOfMemory, WriteFault}
-use Rattle.fs_top.specs.declared.program.Outcome.{Outcome}
-use Rattle.fs_top.specs.declared.program.Outcome.TheVariants.{Usage, CannotRead, Document, Ended, BrokenOff}
+use Rattle.fs_top.specs.declared.outcome.Outcome.{Outcome}
+use Rattle.fs_top.specs.declared.outcome.Outcome.TheVariants.{Usage, CannotRead, BadDocument, BadPattern, Printed, Ended, BrokenOff}
 use Rattle.fs_top.proofs.JournalLaws.{bytes_taken-append}
 use Rattle.fs_top.proofs.LimitLaws.{full-accepted}
+
+-- ---- what is answered
 
 -- nothing was taken from the link
 reads_none : (in0 : Input) → HasRead in0 in0 [] false
 reads_none in0 = record { reads = reads_nothing in0; faults = refl }
 
 -- a line alone is the answer
-answers : (in0 : Input) (out0 : Output) (told : Told) (line : List ℕ) (status : ℕ) → told ≡ refused line status → Does told in0 out0 out0 line status
-answers in0 out0 told line status is =
-    subst (λ (t : Told). Does t in0 out0 out0 line status) (sym is)
-    (completes (record { written = writes_nothing out0; line_is = refl; status_is = refl; at_end = λ h. absurd (cc) }))
+refused_does : (in0 : Input) (out0 : Output) (line : List ℕ) (status : ℕ) (outcome : Outcome) →
+    ((l : List ℕ) → IsLineOf outcome l → l ≡ line) → status_of outcome ≡ status → DoesAs (refused line status) in0 out0 out0 outcome
+refused_does in0 out0 line status outcome line_is status_is =
+    λ l is. completes (record { written = writes_nothing out0; line_is = line_is l is; status_is = status_is; at_end = λ h. absurd (cc) })
 
--- the words name no file
-pub runs_usage : (next_load : List ℕ → Option Load) (counts : LoadCounts) (in0 : Input) (out0 : Output) → Runs None next_load counts counts in0 in0 out0 out0 usage_line 2
-runs_usage next_load counts in0 out0 = record {
-  file = Absent;
+-- memory was wanting before anything was written
+memory_does : (told : Told) (in1 : Input) (out0 : Output) → DoesAs told in1 out0 out0 (BrokenOff OutOfMemory)
+memory_does told in1 out0 =
+    λ l is. lacks_memory (record { front = []; back = told.output; split = refl; written = writes_nothing out0; line_is = is; status_is = refl })
+
+-- the words of a document's fault are any
+fault_does : (in0 : Input) (out0 : Output) (fault : DocFault) → DoesAs (record { output = []; line = None; status = 3; at_end = false }) in0 out0 out0 (BadDocument fault)
+fault_does in0 out0 fault = λ l is. completes (record { written = writes_nothing out0; line_is = tt; status_is = refl; at_end = λ h. absurd (cc) })
+
+-- a text was printed, or a write of it failed, or memory was wanting for it
+pub print_all : (in1 : Input) (out0 out1 : Output) (text : List ℕ) → Writes out0 out1 text → DoesAs (told_text text) in1 out0 out1 Printed
+print_all in1 out0 out1 text written = λ l is. completes (record { written = written; line_is = is; status_is = refl; at_end = λ h. absurd (cc) })
+
+pub print_failed : (in1 : Input) (out0 out1 : Output) (text : List ℕ) → Stopped out0 out1 text → DoesAs (told_text text) in1 out0 out1 (BrokenOff WriteFault)
+print_failed in1 out0 out1 text stopped = λ l is. fails_to_write (record { stopped = stopped; line_is = is; status_is = refl })
+
+pub print_none : (in1 : Input) (out0 : Output) (text : List ℕ) → DoesAs (told_text text) in1 out0 out0 (BrokenOff OutOfMemory)
+print_none in1 out0 text = memory_does (told_text text) in1 out0
+
+-- nothing was read for the answer
+pub answers_quiet : (told : List ℕ → Bool → Told) (asked : Option Asked) (in0 in1 : Input) (out0 out1 : Output) (outcome : Outcome) →
+    in1 ≡ in0 → DoesAs (told [] false) in1 out0 out1 outcome → Answers told asked in0 in1 out0 out1 outcome
+answers_quiet told asked in0 in1 out0 out1 outcome same does = record {
   input = [];
   read_failed = false;
-  file_told = tt;
-  loaded = λ _. refl;
-  has_read = reads_none in0;
-  does = answers in0 out0 (refused usage_line 2) usage_line 2 refl;
-  usage = λ _. refl;
+  has_read = subst (λ (i : Input). HasRead in0 i [] false) (sym same) (reads_none in0);
+  quiet = λ _. same;
+  does = does;
 }
-
--- the file gave this, and the answer is a line alone
-pub runs_refused : (name : List ℕ) (next_load : List ℕ → Option Load) (counts0 counts1 : LoadCounts) (in0 : Input) (out0 : Output) (file : Load) (line : List ℕ) (status : ℕ) →
-    Tells (next_load name) file → Counted counts0 counts1 file → told_file name file [] false ≡ refused line status →
-    Runs (Some name) next_load counts0 counts1 in0 in0 out0 out0 line status
-runs_refused name next_load counts0 counts1 in0 out0 file line status tells counted is = record {
-  file = file;
-  input = [];
-  read_failed = false;
-  file_told = tells;
-  loaded = λ _. counted;
-  has_read = reads_none in0;
-  does = answers in0 out0 (told_file name file [] false) line status is;
-  usage = λ none. absurd (cc);
-}
-
--- some answer is the one that is told
-some_load : (told : Option Load) → (load : Load) × Tells told load
-some_load None = (Absent, tt)
-some_load (Some load) = (load, refl)
-
--- the file could not be loaded for want of memory
-pub runs_unloaded : (name : List ℕ) (next_load : List ℕ → Option Load) (counts0 counts1 : LoadCounts) (in0 : Input) (out0 : Output) →
-    Runs (Some name) next_load counts0 counts1 in0 in0 out0 out0 memory_line 1
-runs_unloaded name next_load counts0 counts1 in0 out0 = let load = some_load (next_load name) in record {
-  file = load.0;
-  input = [];
-  read_failed = false;
-  file_told = load.1;
-  loaded = λ not_one. absurd (not_one refl);
-  has_read = reads_none in0;
-  does = lacks_memory (record {
-    front = [];
-    back = (told_file name load.0 [] false).output;
-    split = refl;
-    written = writes_nothing out0;
-    line_is = refl;
-    status_is = refl;
-  });
-  usage = λ none. absurd (cc);
-}
-
--- a blank file plays the connection
-told-blank : (name bytes input : List ℕ) (read_failed : Bool) → list_all is_blank bytes ≡ true → told_file name (Got bytes) input read_failed ≡ told_play (play default_start input read_failed)
-told-blank name bytes input read_failed blank = ap (λ b. cond b (told_play (play default_start input read_failed)) (refused document_line 3)) blank
-
--- any other is refused
-pub told-document : (name bytes input : List ℕ) (read_failed : Bool) → list_all is_blank bytes ≡ false → told_file name (Got bytes) input read_failed ≡ refused document_line 3
-told-document name bytes input read_failed some = ap (λ b. cond b (told_play (play default_start input read_failed)) (refused document_line 3)) some
 
 -- what a front of the journal took is a front of the output
 output-begins : (start : Start) (input : List ℕ) (read_failed : Bool) (journal : Journal) (begins : Begins journal (play start input read_failed).journal) →
@@ -115,62 +92,202 @@ eof_is (TooLong len) h = absurd (cc)
 eof_is (JournalFull spent limit) h = absurd (cc)
 
 -- the connection was played
-pub runs_played : (name bytes : List ℕ) (next_load : List ℕ → Option Load) (counts0 counts1 : LoadCounts) (in0 in1 : Input) (out0 out1 : Output) (outcome : Outcome) →
-    Tells (next_load name) (Got bytes) → Counted counts0 counts1 (Got bytes) → list_all is_blank bytes ≡ true → PlaysTo in0 out0 in1 out1 outcome →
-    Runs (Some name) next_load counts0 counts1 in0 in1 out0 out1 (line_of outcome) (status_of outcome)
-runs_played name bytes next_load counts0 counts1 in0 in1 out0 out1 Usage tells counted blank plays = absurd plays
-runs_played name bytes next_load counts0 counts1 in0 in1 out0 out1 (CannotRead n) tells counted blank plays = absurd plays
-runs_played name bytes next_load counts0 counts1 in0 in1 out0 out1 Document tells counted blank plays = absurd plays
-runs_played name bytes next_load counts0 counts1 in0 in1 out0 out1 (Ended end) tells counted blank plays = let f = plays.1 in record {
-  file = Got bytes;
+pub answers_played : (start : Start) (file : List ℕ) (in0 in1 : Input) (out0 out1 : Output) (outcome : Outcome) → PlaysTo start in0 out0 in1 out1 outcome →
+    Answers (λ input read_failed. told_play (play start input read_failed)) (Some (Play file)) in0 in1 out0 out1 outcome
+answers_played start file in0 in1 out0 out1 Usage plays = absurd plays
+answers_played start file in0 in1 out0 out1 (CannotRead name) plays = absurd plays
+answers_played start file in0 in1 out0 out1 (BadDocument fault) plays = absurd plays
+answers_played start file in0 in1 out0 out1 (BadPattern fault) plays = absurd plays
+answers_played start file in0 in1 out0 out1 Printed plays = absurd plays
+answers_played start file in0 in1 out0 out1 (Ended end) plays = let f = plays.1 in record {
   input = f.input;
   read_failed = f.read_failed;
-  file_told = tells;
-  loaded = λ _. counted;
   has_read = f.has_read;
-  does = subst (λ (t : Told). Does t in1 out0 out1 (line_of_end end) (status_of_end end)) (sym (told-blank name bytes f.input f.read_failed blank))
-      (completes (record {
-        written = f.written;
-        line_is = ap line_of_end f.end_is;
-        status_is = ap status_of_end f.end_is;
-        at_end = λ h. f.at_end (f.end_is ∙ eof_is _ h);
-      }));
-  usage = λ none. absurd (cc);
+  quiet = λ none. absurd none;
+  does = λ l is. completes (record {
+    written = f.written;
+    line_is = is ∙ ap line_of_end f.end_is;
+    status_is = ap status_of_end f.end_is;
+    at_end = λ h. f.at_end (f.end_is ∙ eof_is _ h);
+  });
 }
-runs_played name bytes next_load counts0 counts1 in0 in1 out0 out1 (BrokenOff OutOfMemory) tells counted blank plays = let s = plays.1 in record {
-  file = Got bytes;
+answers_played start file in0 in1 out0 out1 (BrokenOff OutOfMemory) plays = let s = plays.1 in record {
   input = s.input;
   read_failed = s.read_failed;
-  file_told = tells;
-  loaded = λ _. counted;
   has_read = s.has_read;
-  does = subst (λ (t : Told). Does t in1 out0 out1 memory_line 1) (sym (told-blank name bytes s.input s.read_failed blank))
-      (lacks_memory (record {
-        front = bytes_taken plays.0;
-        back = concat (taken_from (run plays.0) s.begins.more);
-        split = output-begins default_start s.input s.read_failed plays.0 s.begins;
-        written = s.broken;
-        line_is = refl;
-        status_is = refl;
-      }));
-  usage = λ none. absurd (cc);
+  quiet = λ none. absurd none;
+  does = λ l is. lacks_memory (record {
+    front = bytes_taken plays.0;
+    back = concat (taken_from (run plays.0) s.begins.more);
+    split = output-begins start s.input s.read_failed plays.0 s.begins;
+    written = s.broken;
+    line_is = is;
+    status_is = refl;
+  });
 }
-runs_played name bytes next_load counts0 counts1 in0 in1 out0 out1 (BrokenOff WriteFault) tells counted blank plays = let s = plays.1 in record {
-  file = Got bytes;
+answers_played start file in0 in1 out0 out1 (BrokenOff WriteFault) plays = let s = plays.1 in record {
   input = s.input;
   read_failed = s.read_failed;
-  file_told = tells;
-  loaded = λ _. counted;
   has_read = s.has_read;
-  does = subst (λ (t : Told). Does t in1 out0 out1 write_fault_line 5) (sym (told-blank name bytes s.input s.read_failed blank))
-      (fails_to_write (record {
-        stopped = subst (λ (xs : List ℕ). Stopped out0 out1 xs) (sym (output-begins default_start s.input s.read_failed plays.0 s.begins))
-            (stopped_sooner out0 out1 (bytes_taken plays.0) (concat (taken_from (run plays.0) s.begins.more)) s.broken);
-        line_is = refl;
-        status_is = refl;
-      }));
+  quiet = λ none. absurd none;
+  does = λ l is. fails_to_write (record {
+    stopped = subst (λ (xs : List ℕ). Stopped out0 out1 xs) (sym (output-begins start s.input s.read_failed plays.0 s.begins))
+        (stopped_sooner out0 out1 (bytes_taken plays.0) (concat (taken_from (run plays.0) s.begins.more)) s.broken);
+    line_is = is;
+    status_is = refl;
+  });
+}
+
+-- ---- over a configuration
+
+-- no pattern was refused
+pub over_plan : (asked : Asked) (c : Configuration) (sizes0 sizes1 : ℕ) (in0 in1 : Input) (out0 out1 : Output) (outcome : Outcome) → sizes1 ≡ sizes0 →
+    Answers (told_asked asked c) (Some asked) in0 in1 out0 out1 outcome → OverConfig asked c sizes0 sizes1 in0 in1 out0 out1 outcome
+over_plan asked c sizes0 sizes1 in0 in1 out0 out1 outcome sizes answers = record { built = None; built_told = sizes; answers = answers }
+
+-- one was refused
+pub over_refused : (asked : Asked) (c : Configuration) (fault : PlanFault) (sizes0 sizes1 : ℕ) (in0 : Input) (out0 : Output) → IsRefusal c.contexts fault → sizes1 ≡ sizes_after fault sizes0 →
+    OverConfig asked c sizes0 sizes1 in0 in0 out0 out0 (BadPattern fault)
+over_refused asked c fault sizes0 sizes1 in0 out0 refusal sizes = record {
+  built = Some fault;
+  built_told = (refusal, sizes);
+  answers = answers_quiet (told_built asked c (Some fault)) (Some asked) in0 in0 out0 out0 (BadPattern fault) refl
+      (refused_does in0 out0 (pattern_line fault) 3 (BadPattern fault) (λ l is. is) refl);
+}
+
+-- memory was wanting for them
+pub over_unbuilt : (asked : Asked) (c : Configuration) (sizes0 sizes1 : ℕ) (in0 : Input) (out0 : Output) → sizes1 ≡ sizes0 →
+    OverConfig asked c sizes0 sizes1 in0 in0 out0 out0 (BrokenOff OutOfMemory)
+over_unbuilt asked c sizes0 sizes1 in0 out0 sizes = record {
+  built = None;
+  built_told = sizes;
+  answers = answers_quiet (told_built asked c None) (Some asked) in0 in0 out0 out0 (BrokenOff OutOfMemory) refl (memory_does (told_built asked c None [] false) in0 out0);
+}
+
+-- ---- over the bytes of a document
+
+-- a pattern of what the bytes are read as
+built_of : (bytes : List ℕ) (c : Configuration) (built : Option PlanFault) (sizes0 sizes1 : ℕ) → config_of bytes ≡ Ok c → IsBuiltOf c built sizes0 sizes1 → IsBuilt (Got bytes) built sizes0 sizes1
+built_of bytes c None sizes0 sizes1 reads told = told
+built_of bytes c (Some fault) sizes0 sizes1 reads told = (c, reads, told.0, told.1)
+
+pub over_read : (asked : Asked) (bytes : List ℕ) (c : Configuration) (sizes0 sizes1 : ℕ) (in0 in1 : Input) (out0 out1 : Output) (outcome : Outcome) → config_of bytes ≡ Ok c →
+    OverConfig asked c sizes0 sizes1 in0 in1 out0 out1 outcome → OverBytes asked bytes sizes0 sizes1 in0 in1 out0 out1 outcome
+over_read asked bytes c sizes0 sizes1 in0 in1 out0 out1 outcome reads over = record {
+  built = over.built;
+  built_told = built_of bytes c over.built sizes0 sizes1 reads over.built_told;
+  answers = subst (λ (r : Result Configuration DocFault). Answers (told_read asked r over.built) (Some asked) in0 in1 out0 out1 outcome) (sym reads) over.answers;
+}
+
+pub over_faulty : (asked : Asked) (bytes : List ℕ) (fault : DocFault) (sizes : ℕ) (in0 : Input) (out0 : Output) → config_of bytes ≡ Err fault →
+    OverBytes asked bytes sizes sizes in0 in0 out0 out0 (BadDocument fault)
+over_faulty asked bytes fault sizes in0 out0 reads = record {
+  built = None;
+  built_told = refl;
+  answers = subst (λ (r : Result Configuration DocFault). Answers (told_read asked r None) (Some asked) in0 in0 out0 out0 (BadDocument fault)) (sym reads)
+      (answers_quiet (told_read asked (Err fault) None) (Some asked) in0 in0 out0 out0 (BadDocument fault) refl (fault_does in0 out0 fault));
+}
+
+pub over_unread : (asked : Asked) (bytes : List ℕ) (sizes : ℕ) (in0 : Input) (out0 : Output) → OverBytes asked bytes sizes sizes in0 in0 out0 out0 (BrokenOff OutOfMemory)
+over_unread asked bytes sizes in0 out0 = record {
+  built = None;
+  built_told = refl;
+  answers = answers_quiet (told_file asked (Got bytes) None) (Some asked) in0 in0 out0 out0 (BrokenOff OutOfMemory) refl (memory_does (told_file asked (Got bytes) None [] false) in0 out0);
+}
+
+-- ---- over a file
+
+pub runs_usage : (next_load : List ℕ → Option Load) (counts : LoadCounts) (sizes : ℕ) (in0 : Input) (out0 : Output) → Runs None next_load counts counts sizes sizes in0 in0 out0 out0 Usage
+runs_usage next_load counts sizes in0 out0 = record {
+  file = Absent;
+  built = None;
+  file_told = tt;
+  built_told = refl;
+  loaded = λ _. refl;
+  answers = answers_quiet (told_words None Absent None) None in0 in0 out0 out0 Usage refl (refused_does in0 out0 usage_line 2 Usage (λ l is. is) refl);
+  usage = λ _. refl;
+}
+
+-- the file gave these bytes
+pub runs_bytes : (asked : Asked) (bytes : List ℕ) (next_load : List ℕ → Option Load) (counts0 counts1 counts2 : LoadCounts) (sizes0 sizes1 sizes2 : ℕ) (in0 in1 : Input) (out0 out1 : Output) (outcome : Outcome) →
+    Tells (next_load (file_of asked)) (Got bytes) → Counted counts0 counts1 (Got bytes) → counts2 ≡ counts1 → sizes1 ≡ sizes0 → OverBytes asked bytes sizes1 sizes2 in0 in1 out0 out1 outcome →
+    Runs (Some asked) next_load counts0 counts2 sizes0 sizes2 in0 in1 out0 out1 outcome
+runs_bytes asked bytes next_load counts0 counts1 counts2 sizes0 sizes1 sizes2 in0 in1 out0 out1 outcome tells counted counts sizes over = record {
+  file = Got bytes;
+  built = over.built;
+  file_told = tells;
+  built_told = subst (λ (n : ℕ). IsBuilt (Got bytes) over.built n sizes2) sizes over.built_told;
+  loaded = λ _. subst (λ (n : LoadCounts). Counted counts0 n (Got bytes)) (sym counts) counted;
+  answers = over.answers;
   usage = λ none. absurd (cc);
 }
+
+-- the file was not there, or could not be read
+pub runs_absent : (asked : Asked) (name : List ℕ) (next_load : List ℕ → Option Load) (counts0 counts1 : LoadCounts) (sizes0 sizes1 : ℕ) (in0 : Input) (out0 : Output) (outcome : Outcome) →
+    Tells (next_load (file_of asked)) Absent → Counted counts0 counts1 Absent → sizes1 ≡ sizes0 → ((l : List ℕ) → IsLineOf outcome l → l ≡ cannot_read_line (file_of asked)) → status_of outcome ≡ 4 →
+    Runs (Some asked) next_load counts0 counts1 sizes0 sizes1 in0 in0 out0 out0 outcome
+runs_absent asked name next_load counts0 counts1 sizes0 sizes1 in0 out0 outcome tells counted sizes line_is four = record {
+  file = Absent;
+  built = None;
+  file_told = tells;
+  built_told = sizes;
+  loaded = λ _. counted;
+  answers = answers_quiet (told_file asked Absent None) (Some asked) in0 in0 out0 out0 outcome refl (refused_does in0 out0 (cannot_read_line (file_of asked)) 4 outcome line_is four);
+  usage = λ none. absurd (cc);
+}
+
+pub runs_failed : (asked : Asked) (name : List ℕ) (next_load : List ℕ → Option Load) (counts0 counts1 : LoadCounts) (sizes0 sizes1 : ℕ) (in0 : Input) (out0 : Output) (outcome : Outcome) →
+    Tells (next_load (file_of asked)) Failed → Counted counts0 counts1 Failed → sizes1 ≡ sizes0 → ((l : List ℕ) → IsLineOf outcome l → l ≡ cannot_read_line (file_of asked)) → status_of outcome ≡ 4 →
+    Runs (Some asked) next_load counts0 counts1 sizes0 sizes1 in0 in0 out0 out0 outcome
+runs_failed asked name next_load counts0 counts1 sizes0 sizes1 in0 out0 outcome tells counted sizes line_is four = record {
+  file = Failed;
+  built = None;
+  file_told = tells;
+  built_told = sizes;
+  loaded = λ _. counted;
+  answers = answers_quiet (told_file asked Failed None) (Some asked) in0 in0 out0 out0 outcome refl (refused_does in0 out0 (cannot_read_line (file_of asked)) 4 outcome line_is four);
+  usage = λ none. absurd (cc);
+}
+
+-- some answer is the one that is told
+some_load : (told : Option Load) → (load : Load) × Tells told load
+some_load None = (Absent, tt)
+some_load (Some load) = (load, refl)
+
+-- the file could not be loaded for want of memory
+pub runs_unloaded : (asked : Asked) (next_load : List ℕ → Option Load) (counts0 counts1 : LoadCounts) (sizes0 sizes1 : ℕ) (in0 : Input) (out0 : Output) → sizes1 ≡ sizes0 →
+    Runs (Some asked) next_load counts0 counts1 sizes0 sizes1 in0 in0 out0 out0 (BrokenOff OutOfMemory)
+runs_unloaded asked next_load counts0 counts1 sizes0 sizes1 in0 out0 sizes = let load = some_load (next_load (file_of asked)) in record {
+  file = load.0;
+  built = None;
+  file_told = load.1;
+  built_told = sizes;
+  loaded = λ not_one. absurd (not_one refl);
+  answers = answers_quiet (told_file asked load.0 None) (Some asked) in0 in0 out0 out0 (BrokenOff OutOfMemory) refl (memory_does (told_file asked load.0 None [] false) in0 out0);
+  usage = λ none. absurd (cc);
+}
+
+-- ---- the whole run
+
+pub ran : (asked : Option Asked) (next_load : List ℕ → Option Load) (counts0 counts1 : LoadCounts) (sizes0 sizes1 : ℕ) (in0 in1 : Input) (out0 out1 err0 err1 : Output) (outcome : Outcome) (sent : Sent) (status : ℕ) →
+    Runs asked next_load counts0 counts1 sizes0 sizes1 in0 in1 out0 out1 outcome → Says outcome err0 err1 sent → status ≡ status_of outcome →
+    Ran asked next_load counts0 counts1 sizes0 sizes1 in0 in1 out0 out1 err0 err1 status
+ran asked next_load counts0 counts1 sizes0 sizes1 in0 in1 out0 out1 err0 err1 outcome sent status runs says is = record {
+  file = runs.file;
+  built = runs.built;
+  input = runs.answers.input;
+  read_failed = runs.answers.read_failed;
+  line = says.line;
+  sent = sent;
+  file_told = runs.file_told;
+  built_told = runs.built_told;
+  has_read = runs.answers.has_read;
+  quiet = runs.answers.quiet;
+  does = subst (λ (n : ℕ). Does (told_words asked runs.file runs.built runs.answers.input runs.answers.read_failed) in1 out0 out1 says.line n) (sym is) (runs.answers.does says.line says.is_line);
+  said = says.did;
+}
+
+-- ---- causes
 
 -- a connection that says farewell has nothing to tell
 farewell_done : (phase : Phase) (end : End) → farewell_of phase ≡ Some end → status_of_end end ≡ 0
@@ -276,63 +393,137 @@ full_play start in0 in1 input read_failed has_read eight =
       full = record { full = full-accepted (whole_journal start input) (full-cut start input read_failed eight); cost_is = refl; limit_is = refl };
     }
 
-unreadable_file : (name : List ℕ) (counts0 counts1 : LoadCounts) (in0 in1 : Input) (file : Load) (input : List ℕ) (read_failed : Bool) →
-    Counted counts0 counts1 file → HasRead in0 in1 input read_failed → (told_file name file input read_failed).status ≡ 4 → CountRose counts0 counts1 in0 in1
-unreadable_file name counts0 counts1 in0 in1 (Got bytes) input read_failed counted has_read four =
-    by_blank (list_all is_blank bytes) four
-  where
-    by_blank : (blank : Bool) → (cond blank (told_play (play default_start input read_failed)) (refused document_line 3)).status ≡ 4 → CountRose counts0 counts1 in0 in1
-    by_blank true e = unreadable_play default_start counts0 counts1 in0 in1 input read_failed has_read e
-    by_blank false e = absurd (cc)
-unreadable_file name counts0 counts1 in0 in1 Absent input read_failed counted has_read four = inl (ap (λ c. c.absences) counted)
-unreadable_file name counts0 counts1 in0 in1 Failed input read_failed counted has_read four = inr (inl (ap (λ c. c.faults) counted))
+-- some line that an outcome has
+some_line : (outcome : Outcome) → (l : List ℕ) × IsLineOf outcome l
+some_line Usage = (usage_line, refl)
+some_line (CannotRead name) = (cannot_read_line name.now, refl)
+some_line (BadDocument fault) = ([], tt)
+some_line (BadPattern fault) = (pattern_line fault, refl)
+some_line Printed = ([], refl)
+some_line (Ended end) = (line_of_end end, refl)
+some_line (BrokenOff OutOfMemory) = (memory_line, refl)
+some_line (BrokenOff WriteFault) = (write_fault_line, refl)
 
-not_one : (status : ℕ) → status ≡ 4 → status ≢ 1
-not_one status four one = absurd (cc)
+-- a status that is neither 1 nor 5 is the one that is told
+status-done : (told : Told) (in1 : Input) (out0 out1 : Output) (line : List ℕ) (status : ℕ) → Does told in1 out0 out1 line status → status ≢ 1 → status ≢ 5 → status ≡ told.status
+status-done told in1 out0 out1 line status (completes h) not_1 not_5 = h.status_is
+status-done told in1 out0 out1 line status (fails_to_write h) not_1 not_5 = absurd (not_5 h.status_is)
+status-done told in1 out0 out1 line status (lacks_memory h) not_1 not_5 = absurd (not_1 h.status_is)
 
--- what status 4 shows
-pub cause_unreadable : (name : Option (List ℕ)) (next_load : List ℕ → Option Load) (counts0 counts1 : LoadCounts) (in0 in1 : Input) (out0 out1 : Output) (line : List ℕ) (status : ℕ) →
-    Runs name next_load counts0 counts1 in0 in1 out0 out1 line status → status ≡ 4 → CountRose counts0 counts1 in0 in1
-cause_unreadable name next_load counts0 counts1 in0 in1 out0 out1 line status runs four =
-    by_does name (runs.loaded (not_one status four)) runs.does
-  where
-    by_does : (name : Option (List ℕ)) → Loaded name counts0 counts1 runs.file → Does (told_words name runs.file runs.input runs.read_failed) in1 out0 out1 line status → CountRose counts0 counts1 in0 in1
-    by_does None loaded (completes h) = let is = h.status_is in absurd (cc)
-    by_does (Some name) loaded (completes h) = unreadable_file name counts0 counts1 in0 in1 runs.file runs.input runs.read_failed loaded runs.has_read (sym h.status_is ∙ four)
-    by_does name loaded (fails_to_write h) = let is = h.status_is in absurd (cc)
-    by_does name loaded (lacks_memory h) = let is = h.status_is in absurd (cc)
+status-told : (asked : Option Asked) (next_load : List ℕ → Option Load) (counts0 counts1 : LoadCounts) (sizes0 sizes1 : ℕ) (in0 in1 : Input) (out0 out1 : Output) (outcome : Outcome)
+    (runs : Runs asked next_load counts0 counts1 sizes0 sizes1 in0 in1 out0 out1 outcome) → status_of outcome ≢ 1 → status_of outcome ≢ 5 →
+    status_of outcome ≡ (told_words asked runs.file runs.built runs.answers.input runs.answers.read_failed).status
+status-told asked next_load counts0 counts1 sizes0 sizes1 in0 in1 out0 out1 outcome runs not_1 not_5 =
+    let line = some_line outcome in status-done _ in1 out0 out1 line.0 (status_of outcome) (runs.answers.does line.0 line.1) not_1 not_5
 
--- a status that no line before the play has is that of the play's end
-status-played : (name : Option (List ℕ)) (file : Load) (input : List ℕ) (read_failed : Bool) (status : ℕ) → status ≢ 2 → status ≢ 3 → status ≢ 4 →
-    status ≡ (told_words name file input read_failed).status → status_of_end (play default_start input read_failed).end ≡ status
-status-played None file input read_failed status not_2 not_3 not_4 is = absurd (not_2 is)
-status-played (Some name) (Got bytes) input read_failed status not_2 not_3 not_4 is = by_blank (list_all is_blank bytes) is
-  where
-    by_blank : (blank : Bool) → status ≡ (cond blank (told_play (play default_start input read_failed)) (refused document_line 3)).status → status_of_end (play default_start input read_failed).end ≡ status
-    by_blank true e = sym e
-    by_blank false e = absurd (not_3 e)
-status-played (Some name) Absent input read_failed status not_2 not_3 not_4 is = absurd (not_4 is)
-status-played (Some name) Failed input read_failed status not_2 not_3 not_4 is = absurd (not_4 is)
+-- what a status that only a play has shows: the document was read, no pattern was refused, and the play ended so
+record Played (asked : Option Asked) (next_load : List ℕ → Option Load) (input : List ℕ) (read_failed : Bool) (status : ℕ) : Type 0 where
+  c : Configuration
+  has : HasConfig asked next_load c
+  ended : status_of_end (play (start_of c) input read_failed).end ≡ status
 
--- a status that is no other's is the one that is told
-status-told : (name : Option (List ℕ)) (file : Load) (input : List ℕ) (read_failed : Bool) (in1 : Input) (out0 out1 : Output) (line : List ℕ) (status : ℕ) →
-    Does (told_words name file input read_failed) in1 out0 out1 line status → status ≢ 1 → status ≢ 5 → status ≡ (told_words name file input read_failed).status
-status-told name file input read_failed in1 out0 out1 line status (completes h) not_1 not_5 = h.status_is
-status-told name file input read_failed in1 out0 out1 line status (fails_to_write h) not_1 not_5 = absurd (not_5 h.status_is)
-status-told name file input read_failed in1 out0 out1 line status (lacks_memory h) not_1 not_5 = absurd (not_1 h.status_is)
+played_asked : (asked : Asked) (bytes : List ℕ) (c : Configuration) (next_load : List ℕ → Option Load) (input : List ℕ) (read_failed : Bool) (status : ℕ) → status ≢ 0 →
+    Tells (next_load (file_of asked)) (Got bytes) → config_of bytes ≡ Ok c → status ≡ (told_asked asked c input read_failed).status → Played (Some asked) next_load input read_failed status
+played_asked (Check file) bytes c next_load input read_failed status not_0 tells reads is = absurd (not_0 is)
+played_asked (Hunt file context dest) bytes c next_load input read_failed status not_0 tells reads is = absurd (not_0 is)
+played_asked (Play file) bytes c next_load input read_failed status not_0 tells reads is = record {
+  c = c;
+  has = record { of = Play file; bytes = bytes; is_asked = refl; told = tells; reads = reads };
+  ended = sym is;
+}
+
+played_read : (asked : Asked) (bytes : List ℕ) (read : Result Configuration DocFault) (built : Option PlanFault) (next_load : List ℕ → Option Load) (input : List ℕ) (read_failed : Bool) (status : ℕ) →
+    status ≢ 0 → status ≢ 3 → Tells (next_load (file_of asked)) (Got bytes) → config_of bytes ≡ read → status ≡ (told_read asked read built input read_failed).status →
+    Played (Some asked) next_load input read_failed status
+played_read asked bytes (Ok c) None next_load input read_failed status not_0 not_3 tells reads is = played_asked asked bytes c next_load input read_failed status not_0 tells reads is
+played_read asked bytes (Ok c) (Some fault) next_load input read_failed status not_0 not_3 tells reads is = absurd (not_3 is)
+played_read asked bytes (Err fault) built next_load input read_failed status not_0 not_3 tells reads is = absurd (not_3 is)
+
+played_file : (asked : Option Asked) (file : Load) (built : Option PlanFault) (next_load : List ℕ → Option Load) (input : List ℕ) (read_failed : Bool) (status : ℕ) →
+    status ≢ 0 → status ≢ 2 → status ≢ 3 → status ≢ 4 → IfSome asked (λ a. Tells (next_load (file_of a)) file) → status ≡ (told_words asked file built input read_failed).status →
+    Played asked next_load input read_failed status
+played_file None file built next_load input read_failed status not_0 not_2 not_3 not_4 tells is = absurd (not_2 is)
+played_file (Some asked) (Got bytes) built next_load input read_failed status not_0 not_2 not_3 not_4 tells is =
+    played_read asked bytes (config_of bytes) built next_load input read_failed status not_0 not_3 tells refl is
+played_file (Some asked) Absent built next_load input read_failed status not_0 not_2 not_3 not_4 tells is = absurd (not_4 is)
+played_file (Some asked) Failed built next_load input read_failed status not_0 not_2 not_3 not_4 tells is = absurd (not_4 is)
 
 -- what status 8 shows
-pub cause_full : (name : Option (List ℕ)) (next_load : List ℕ → Option Load) (counts0 counts1 : LoadCounts) (in0 in1 : Input) (out0 out1 : Output) (line : List ℕ) (status : ℕ) →
-    Runs name next_load counts0 counts1 in0 in1 out0 out1 line status → status ≡ 8 → FillsJournal default_start in0 in1
-cause_full name next_load counts0 counts1 in0 in1 out0 out1 line status runs eight =
-    let told = status-told name runs.file runs.input runs.read_failed in1 out0 out1 line status runs.does (λ e. absurd (cc)) (λ e. absurd (cc)) in
-    let played = status-played name runs.file runs.input runs.read_failed status (λ e. absurd (cc)) (λ e. absurd (cc)) (λ e. absurd (cc)) told in
-    full_play default_start in0 in1 runs.input runs.read_failed runs.has_read (played ∙ eight)
+pub cause_full : (asked : Option Asked) (next_load : List ℕ → Option Load) (counts0 counts1 : LoadCounts) (sizes0 sizes1 : ℕ) (in0 in1 : Input) (out0 out1 : Output) (outcome : Outcome) →
+    Runs asked next_load counts0 counts1 sizes0 sizes1 in0 in1 out0 out1 outcome → status_of outcome ≡ 8 → (c : Configuration) × HasConfig asked next_load c × FillsJournal (start_of c) in0 in1
+cause_full asked next_load counts0 counts1 sizes0 sizes1 in0 in1 out0 out1 outcome runs eight =
+    let told = status-told asked next_load counts0 counts1 sizes0 sizes1 in0 in1 out0 out1 outcome runs (λ e. absurd (cc)) (λ e. absurd (cc)) in
+    let p = played_file asked runs.file runs.built next_load runs.answers.input runs.answers.read_failed (status_of outcome) (λ e. absurd (cc)) (λ e. absurd (cc)) (λ e. absurd (cc)) (λ e. absurd (cc)) runs.file_told told in
+    (p.c, p.has, full_play (start_of p.c) in0 in1 runs.answers.input runs.answers.read_failed runs.answers.has_read (p.ended ∙ eight))
 
 -- what status 10 shows
-pub cause_too_long : (name : Option (List ℕ)) (next_load : List ℕ → Option Load) (counts0 counts1 : LoadCounts) (in0 in1 : Input) (out0 out1 : Output) (line : List ℕ) (status : ℕ) →
-    Runs name next_load counts0 counts1 in0 in1 out0 out1 line status → status ≡ 10 → MeetsTooLong default_start in0 in1
-cause_too_long name next_load counts0 counts1 in0 in1 out0 out1 line status runs ten =
-    let told = status-told name runs.file runs.input runs.read_failed in1 out0 out1 line status runs.does (λ e. absurd (cc)) (λ e. absurd (cc)) in
-    let played = status-played name runs.file runs.input runs.read_failed status (λ e. absurd (cc)) (λ e. absurd (cc)) (λ e. absurd (cc)) told in
-    too_long_play default_start in0 in1 runs.input runs.read_failed runs.has_read (played ∙ ten)
+pub cause_too_long : (asked : Option Asked) (next_load : List ℕ → Option Load) (counts0 counts1 : LoadCounts) (sizes0 sizes1 : ℕ) (in0 in1 : Input) (out0 out1 : Output) (outcome : Outcome) →
+    Runs asked next_load counts0 counts1 sizes0 sizes1 in0 in1 out0 out1 outcome → status_of outcome ≡ 10 → (c : Configuration) × HasConfig asked next_load c × MeetsTooLong (start_of c) in0 in1
+cause_too_long asked next_load counts0 counts1 sizes0 sizes1 in0 in1 out0 out1 outcome runs ten =
+    let told = status-told asked next_load counts0 counts1 sizes0 sizes1 in0 in1 out0 out1 outcome runs (λ e. absurd (cc)) (λ e. absurd (cc)) in
+    let p = played_file asked runs.file runs.built next_load runs.answers.input runs.answers.read_failed (status_of outcome) (λ e. absurd (cc)) (λ e. absurd (cc)) (λ e. absurd (cc)) (λ e. absurd (cc)) runs.file_told told in
+    (p.c, p.has, too_long_play (start_of p.c) in0 in1 runs.answers.input runs.answers.read_failed runs.answers.has_read (p.ended ∙ ten))
+
+-- what status 4 shows
+unreadable_file : (asked : Asked) (file : Load) (built : Option PlanFault) (next_load : List ℕ → Option Load) (counts0 counts1 : LoadCounts) (in0 in1 : Input) (input : List ℕ) (read_failed : Bool) (status : ℕ) →
+    status ≡ 4 → Tells (next_load (file_of asked)) file → Counted counts0 counts1 file → HasRead in0 in1 input read_failed → status ≡ (told_file asked file built input read_failed).status → CountRose counts0 counts1 in0 in1
+unreadable_file asked (Got bytes) built next_load counts0 counts1 in0 in1 input read_failed status four tells counted has_read is =
+    let p = played_read asked bytes (config_of bytes) built next_load input read_failed 4 (λ e. absurd (cc)) (λ e. absurd (cc)) tells refl (sym four ∙ is) in
+    unreadable_play (start_of p.c) counts0 counts1 in0 in1 input read_failed has_read p.ended
+unreadable_file asked Absent built next_load counts0 counts1 in0 in1 input read_failed status four tells counted has_read is = inl (ap (λ c. c.absences) counted)
+unreadable_file asked Failed built next_load counts0 counts1 in0 in1 input read_failed status four tells counted has_read is = inr (inl (ap (λ c. c.faults) counted))
+
+pub cause_unreadable : (asked : Option Asked) (next_load : List ℕ → Option Load) (counts0 counts1 : LoadCounts) (sizes0 sizes1 : ℕ) (in0 in1 : Input) (out0 out1 : Output) (outcome : Outcome) →
+    Runs asked next_load counts0 counts1 sizes0 sizes1 in0 in1 out0 out1 outcome → status_of outcome ≡ 4 → CountRose counts0 counts1 in0 in1
+cause_unreadable None next_load counts0 counts1 sizes0 sizes1 in0 in1 out0 out1 outcome runs four = let two = runs.usage refl in absurd (cc)
+cause_unreadable (Some asked) next_load counts0 counts1 sizes0 sizes1 in0 in1 out0 out1 outcome runs four =
+    let told = status-told (Some asked) next_load counts0 counts1 sizes0 sizes1 in0 in1 out0 out1 outcome runs (λ e. absurd (cc)) (λ e. absurd (cc)) in
+    unreadable_file asked runs.file runs.built next_load counts0 counts1 in0 in1 runs.answers.input runs.answers.read_failed (status_of outcome) four runs.file_told (runs.loaded (λ e. absurd (cc))) runs.answers.has_read told
+
+-- what status 3 shows
+end_not_3 : (last : Option End) (is_too_long read_failed : Bool) → SaysNothing last → status_of_end (end_behind last is_too_long read_failed) ≡ 3 → ⊥
+unfolding SaysNothing
+end_not_3 (Some end) is_too_long read_failed nothing three = let zero = nothing end refl in cc
+end_not_3 None true read_failed nothing three = cc
+end_not_3 None false true nothing three = cc
+end_not_3 None false false nothing three = cc
+
+play_not_3 : (start : Start) (input : List ℕ) (read_failed : Bool) → status_of_end (play start input read_failed).end ≡ 3 → ⊥
+unfolding play
+play_not_3 start input read_failed three =
+    let own = within_other (accepted (whole_journal start input)) (whole_journal start input) (end_of start input read_failed) 3 three (λ e. absurd (cc)) in
+    end_not_3 (farewell (after_all (opened start) (blocks_of input))) (too_long (rest_of input)) read_failed (says_nothing start input) (ap status_of_end (sym own) ∙ three)
+
+asked_not_3 : (asked : Asked) (c : Configuration) (input : List ℕ) (read_failed : Bool) → (told_asked asked c input read_failed).status ≡ 3 → ⊥
+asked_not_3 (Check file) c input read_failed three = cc
+asked_not_3 (Hunt file context dest) c input read_failed three = cc
+asked_not_3 (Play file) c input read_failed three = play_not_3 (start_of c) input read_failed three
+
+document_read : (asked : Asked) (bytes : List ℕ) (read : Result Configuration DocFault) (built : Option PlanFault) (next_load : List ℕ → Option Load) (sizes0 sizes1 : ℕ) (input : List ℕ) (read_failed : Bool) →
+    Tells (next_load (file_of asked)) (Got bytes) → config_of bytes ≡ read → IsBuilt (Got bytes) built sizes0 sizes1 → (told_read asked read built input read_failed).status ≡ 3 →
+    HasFault (Some asked) next_load ⊎ HasRefusal (Some asked) next_load sizes0 sizes1
+document_read asked bytes (Err fault) built next_load sizes0 sizes1 input read_failed tells reads built_told three =
+    inl (record { of = asked; bytes = bytes; fault = fault; is_asked = refl; told = tells; reads = reads })
+document_read asked bytes (Ok c) None next_load sizes0 sizes1 input read_failed tells reads built_told three = absurd (asked_not_3 asked c input read_failed three)
+document_read asked bytes (Ok c) (Some fault) next_load sizes0 sizes1 input read_failed tells reads built_told three = inr (record {
+  c = built_told.0;
+  fault = fault;
+  has = record { of = asked; bytes = bytes; is_asked = refl; told = tells; reads = built_told.1 };
+  refusal = built_told.2;
+  sizes = built_told.3;
+})
+
+document_file : (asked : Asked) (file : Load) (built : Option PlanFault) (next_load : List ℕ → Option Load) (sizes0 sizes1 : ℕ) (input : List ℕ) (read_failed : Bool) →
+    Tells (next_load (file_of asked)) file → IsBuilt file built sizes0 sizes1 → (told_file asked file built input read_failed).status ≡ 3 →
+    HasFault (Some asked) next_load ⊎ HasRefusal (Some asked) next_load sizes0 sizes1
+document_file asked (Got bytes) built next_load sizes0 sizes1 input read_failed tells built_told three =
+    document_read asked bytes (config_of bytes) built next_load sizes0 sizes1 input read_failed tells refl built_told three
+document_file asked Absent built next_load sizes0 sizes1 input read_failed tells built_told three = absurd (cc)
+document_file asked Failed built next_load sizes0 sizes1 input read_failed tells built_told three = absurd (cc)
+
+pub cause_document : (asked : Option Asked) (next_load : List ℕ → Option Load) (counts0 counts1 : LoadCounts) (sizes0 sizes1 : ℕ) (in0 in1 : Input) (out0 out1 : Output) (outcome : Outcome) →
+    Runs asked next_load counts0 counts1 sizes0 sizes1 in0 in1 out0 out1 outcome → status_of outcome ≡ 3 → HasFault asked next_load ⊎ HasRefusal asked next_load sizes0 sizes1
+cause_document None next_load counts0 counts1 sizes0 sizes1 in0 in1 out0 out1 outcome runs three = let two = runs.usage refl in absurd (cc)
+cause_document (Some asked) next_load counts0 counts1 sizes0 sizes1 in0 in1 out0 out1 outcome runs three =
+    let told = status-told (Some asked) next_load counts0 counts1 sizes0 sizes1 in0 in1 out0 out1 outcome runs (λ e. absurd (cc)) (λ e. absurd (cc)) in
+    document_file asked runs.file runs.built next_load sizes0 sizes1 runs.answers.input runs.answers.read_failed runs.file_told runs.built_told (sym told ∙ three)

@@ -3,6 +3,9 @@ use Rattle.std.specs.Prelude.{◌≡◌, ℕ, List, None, unwrap_or}
 use Rattle.fs_vars.specs.Variables.{Variables}
 use Rattle.fs_top.specs.Api as api
 use Rattle.fs_top.specs.Commands as spec
+use Rattle.fs_top.specs.Told as told
+use Rattle.fs_top.specs.declared.asked.Asked as asked_code
+use Rattle.fs_top.specs.declared.asked.Asked.TheVariants as of_asked
 use Rattle.fs_top.specs.declared.api.ApiCommand as api_code
 use Rattle.fs_top.specs.declared.api.ApiCommand.TheVariants as of_api
 use Rattle.fs_top.specs.declared.api.Done as dones
@@ -38,3 +41,9 @@ HasDone globals wanted found = (found.answer ≡ wanted.answer) × (unwrap_or fo
 -- the code's answer over these globals is this one
 abbrev pub DoesAnswer : Variables → spec.Answer → answers.Answer → Type 0
 DoesAnswer globals wanted found = (found.phase ≡ wanted.phase) × (found.frames ≡ wanted.frames) × (unwrap_or found.globals globals ≡ wanted.globals)
+
+-- what the code's words ask for
+abbrev pub asked_seen : asked_code.Asked → told.Asked
+asked_seen (of_asked.Check file) = told.Check file.now
+asked_seen (of_asked.Hunt file context dest) = told.Hunt file.now context.now dest.now
+asked_seen (of_asked.Play file) = told.Play file.now

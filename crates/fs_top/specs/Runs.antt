@@ -1,54 +1,73 @@
 -- What a run of the program does, and the causes of its statuses.
-use Rattle.std.specs.Prelude.{◌≡◌, ◌≢◌, ℕ, Bool, true, false, IsTrue, List, ◌++◌, Option, None, Some, IfSome, ◌⊎◌}
-use Rattle.std.specs.List.{list_all}
+use Rattle.std.specs.Prelude.{◌≡◌, ◌≢◌, ℕ, Bool, true, false, IsTrue, List, [], ◌++◌, Option, None, Some, IfSome, Ok, Err, ◌⊎◌, if◌then◌else◌}
 use Rattle.std.specs.Io.KnownBytes.{IsAtEnd}
 use Rattle.fs_ports.specs.Counts.{raised}
-use Rattle.fs_ports.specs.Ports.{Input, Output, Writes, Stopped}
+use Rattle.fs_ports.specs.Ports.{Input, Output, Writes, Stopped, SendDid}
+use Rattle.fs_ports.specs.declared.send.Sent.{Sent}
 use Rattle.fs_ports.specs.Loads.{LoadCounts, Tells, Counted}
 use Rattle.fs_ports.specs.declared.files.Load.{Load}
-use Rattle.fs_ports.specs.declared.files.Load.TheVariants.{Got}
+use Rattle.fs_ports.specs.declared.files.Load.TheVariants.{Got, Absent, Failed}
 use Rattle.fs_frame.specs.Block.{too_long}
 use Rattle.fs_frame.specs.Blocks.{rest_of}
-use Rattle.fs_top.specs.Play.{play}
+use Rattle.fs_doc.specs.Reading.{Configuration, config_of}
+use Rattle.fs_doc.specs.declared.fault.DocKind.{DocKind}
+use Rattle.fs_doc.specs.declared.fault.DocKind.TheVariants as kind
+use Rattle.fs_doc.specs.declared.fault.DocFault.{DocFault}
+use Rattle.fs_plan.specs.Building.{IsRefusal, sizes_after}
+use Rattle.fs_plan.specs.declared.fault.PlanFault.{PlanFault}
+use Rattle.fs_top.specs.Switch.{Journal}
 use Rattle.fs_top.specs.Journal.{IsFull}
+use Rattle.fs_top.specs.Play.{play}
 use Rattle.fs_top.specs.Turns.{HasRead, Finishes, Breaks}
-use Rattle.fs_top.specs.Told.{Told, default_start, told_words, is_blank, line_of_end, status_of_end, usage_line, cannot_read_line, document_line, write_fault_line, memory_line}
+use Rattle.fs_top.specs.Documents.{start_of}
+use Rattle.fs_top.specs.Told.{Told, Asked, Check, Hunt, Play, file_of, told_built, told_file, told_words, line_of_end, status_of_end, usage_line, cannot_read_line, pattern_line, write_fault_line, memory_line}
+use Rattle.fs_top.specs.declared.start.Start.{Start}
 use Rattle.fs_top.specs.declared.end.End.TheVariants.{TooLong, JournalFull}
 use Rattle.fs_top.specs.declared.play.Fault.TheVariants.{OutOfMemory, WriteFault}
-use Rattle.fs_top.specs.Switch.{Journal}
-use Rattle.fs_top.specs.declared.start.Start.{Start}
-use Rattle.fs_top.specs.declared.program.Outcome.{Outcome}
-use Rattle.fs_top.specs.declared.program.Outcome.TheVariants.{Usage, CannotRead, Document, Ended, BrokenOff}
+use Rattle.fs_top.specs.declared.outcome.Outcome.{Outcome}
+use Rattle.fs_top.specs.declared.outcome.Outcome.TheVariants.{Usage, CannotRead, BadDocument, BadPattern, Printed, Ended, BrokenOff}
 
--- the line and the status of an outcome
-abbrev pub line_of : Outcome → List ℕ
-line_of Usage = usage_line
-line_of (CannotRead name) = cannot_read_line name.now
-line_of Document = document_line
-line_of (Ended end) = line_of_end end
-line_of (BrokenOff OutOfMemory) = memory_line
-line_of (BrokenOff WriteFault) = write_fault_line
+-- the line of an outcome; the words that tell a document's fault are any
+abbrev pub IsLineOf : Outcome → List ℕ → Type 0
+IsLineOf Usage line = line ≡ usage_line
+IsLineOf (CannotRead name) line = line ≡ cannot_read_line name.now
+IsLineOf (BadDocument fault) line = Unit {0}
+IsLineOf (BadPattern fault) line = line ≡ pattern_line fault
+IsLineOf Printed line = line ≡ []
+IsLineOf (Ended end) line = line ≡ line_of_end end
+IsLineOf (BrokenOff OutOfMemory) line = line ≡ memory_line
+IsLineOf (BrokenOff WriteFault) line = line ≡ write_fault_line
 
 abbrev pub status_of : Outcome → ℕ
 status_of Usage = 2
 status_of (CannotRead name) = 4
-status_of Document = 3
+status_of (BadDocument fault) = 3
+status_of (BadPattern fault) = 3
+status_of Printed = 0
 status_of (Ended end) = status_of_end end
 status_of (BrokenOff OutOfMemory) = 1
 status_of (BrokenOff WriteFault) = 5
 
--- what playing a connection came to
-abbrev pub PlaysTo : Input → Output → Input → Output → Outcome → Type 0
-PlaysTo in0 out0 in1 out1 Usage = ⊥
-PlaysTo in0 out0 in1 out1 (CannotRead name) = ⊥
-PlaysTo in0 out0 in1 out1 Document = ⊥
-PlaysTo in0 out0 in1 out1 (Ended end) = (journal : Journal) × Finishes default_start in0 out0 in1 out1 end journal
-PlaysTo in0 out0 in1 out1 (BrokenOff fault) = (journal : Journal) × Breaks default_start in0 out0 in1 out1 fault journal
+-- such a line was printed, or a front of it
+pub record Says (outcome : Outcome) (out0 out1 : Output) (sent : Sent) : Type 0 where
+  pub line : List ℕ
+  pub is_line : IsLineOf outcome line
+  pub did : SendDid out0 out1 sent line
+
+-- what playing a connection came to, over a switch that starts so
+abbrev pub PlaysTo : Start → Input → Output → Input → Output → Outcome → Type 0
+PlaysTo start in0 out0 in1 out1 Usage = ⊥
+PlaysTo start in0 out0 in1 out1 (CannotRead name) = ⊥
+PlaysTo start in0 out0 in1 out1 (BadDocument fault) = ⊥
+PlaysTo start in0 out0 in1 out1 (BadPattern fault) = ⊥
+PlaysTo start in0 out0 in1 out1 Printed = ⊥
+PlaysTo start in0 out0 in1 out1 (Ended end) = (journal : Journal) × Finishes start in0 out0 in1 out1 end journal
+PlaysTo start in0 out0 in1 out1 (BrokenOff fault) = (journal : Journal) × Breaks start in0 out0 in1 out1 fault journal
 
 -- all was answered as it is told
 pub record Completes (told : Told) (in1 : Input) (out0 out1 : Output) (line : List ℕ) (status : ℕ) : Type 0 where
   pub written : Writes out0 out1 told.output
-  pub line_is : line ≡ told.line
+  pub line_is : IfSome told.line (λ l. line ≡ l)
   pub status_is : status ≡ told.status
   pub at_end : IsTrue told.at_end → IsAtEnd in1.left
 
@@ -73,30 +92,116 @@ pub data Does (told : Told) (in1 : Input) (out0 out1 : Output) (line : List ℕ)
   fails_to_write : FailsToWrite told out0 out1 line status → Does told in1 out0 out1 line status
   lacks_memory : LacksMemory told out0 out1 line status → Does told in1 out0 out1 line status
 
--- what loading the file of this name did to the counts
-abbrev pub Loaded : Option (List ℕ) → LoadCounts → LoadCounts → Load → Type 0
-Loaded None old new file = new ≡ old
-Loaded (Some name) old new file = Counted old new file
+-- the outcome is one of these, whatever its line is
+abbrev pub DoesAs : Told → Input → Output → Output → Outcome → Type 0
+DoesAs told in1 out0 out1 outcome = (line : List ℕ) → IsLineOf outcome line → Does told in1 out0 out1 line (status_of outcome)
 
--- the run answers as it is told where the words name this file, or none, for what the file gave and what was taken from the link
-pub record Runs (name : Option (List ℕ)) (next_load : List ℕ → Option Load) (counts0 counts1 : LoadCounts)
-    (in0 in1 : Input) (out0 out1 : Output) (line : List ℕ) (status : ℕ) : Type 0 where
-  pub file : Load
+-- a pattern of the configuration was refused, or none
+abbrev pub IsBuiltOf : Configuration → Option PlanFault → ℕ → ℕ → Type 0
+IsBuiltOf c None sizes0 sizes1 = sizes1 ≡ sizes0
+IsBuiltOf c (Some fault) sizes0 sizes1 = IsRefusal c.contexts fault × (sizes1 ≡ sizes_after fault sizes0)
+
+-- nothing is read for these words
+abbrev pub ReadsNothing : Option Asked → Type 0
+ReadsNothing None = Unit {0}
+ReadsNothing (Some (Check file)) = Unit {0}
+ReadsNothing (Some (Hunt file context dest)) = Unit {0}
+ReadsNothing (Some (Play file)) = ⊥
+
+-- what was taken from the link, and what was answered for it
+pub record Answers (told : List ℕ → Bool → Told) (asked : Option Asked) (in0 in1 : Input) (out0 out1 : Output) (outcome : Outcome) : Type 0 where
   pub input : List ℕ
   pub read_failed : Bool
-  pub file_told : IfSome name (λ n. Tells (next_load n) file)
-  pub loaded : status ≢ 1 → Loaded name counts0 counts1 file
   pub has_read : HasRead in0 in1 input read_failed
-  pub does : Does (told_words name file input read_failed) in1 out0 out1 line status
-  pub usage : name ≡ None → status ≡ 2
+  pub quiet : ReadsNothing asked → in1 ≡ in0
+  pub does : DoesAs (told input read_failed) in1 out0 out1 outcome
 
--- the file of this name has a byte that is no blank
-pub record HasDocument (name : Option (List ℕ)) (next_load : List ℕ → Option Load) : Type 0 where
-  pub file_name : List ℕ
+-- the pattern that was refused is one of the document in this file, and the count of large patterns rose only where it is too large
+abbrev pub IsBuilt : Load → Option PlanFault → ℕ → ℕ → Type 0
+IsBuilt file None sizes0 sizes1 = sizes1 ≡ sizes0
+IsBuilt (Got bytes) (Some fault) sizes0 sizes1 =
+    (c : Configuration) × (config_of bytes ≡ Ok c) × IsRefusal c.contexts fault × (sizes1 ≡ sizes_after fault sizes0)
+IsBuilt Absent (Some fault) sizes0 sizes1 = ⊥
+IsBuilt Failed (Some fault) sizes0 sizes1 = ⊥
+
+-- what was answered over a configuration: a pattern of it was refused, or what is asked was done
+pub record OverConfig (asked : Asked) (c : Configuration) (sizes0 sizes1 : ℕ) (in0 in1 : Input) (out0 out1 : Output) (outcome : Outcome) : Type 0 where
+  pub built : Option PlanFault
+  pub built_told : IsBuiltOf c built sizes0 sizes1
+  pub answers : Answers (told_built asked c built) (Some asked) in0 in1 out0 out1 outcome
+
+-- what was answered over the bytes of a document
+pub record OverBytes (asked : Asked) (bytes : List ℕ) (sizes0 sizes1 : ℕ) (in0 in1 : Input) (out0 out1 : Output) (outcome : Outcome) : Type 0 where
+  pub built : Option PlanFault
+  pub built_told : IsBuilt (Got bytes) built sizes0 sizes1
+  pub answers : Answers (told_file asked (Got bytes) built) (Some asked) in0 in1 out0 out1 outcome
+
+-- memory was wanting for a document
+abbrev pub is_memory : DocKind → Bool
+is_memory kind.Memory = true
+is_memory _ = false
+
+-- the outcome where a document was not read
+abbrev pub not_read : DocFault → Outcome
+not_read fault = if is_memory fault.kind then BrokenOff OutOfMemory else BadDocument fault
+
+-- what loading the file that is asked for did to the counts
+abbrev pub Loaded : Option Asked → LoadCounts → LoadCounts → Load → Type 0
+Loaded None old new file = new ≡ old
+Loaded (Some asked) old new file = Counted old new file
+
+-- the run answers as it is told where the words ask for this, or have no form, for what the file gave, for the pattern that was refused, and
+-- for what was taken from the link
+pub record Runs (asked : Option Asked) (next_load : List ℕ → Option Load) (counts0 counts1 : LoadCounts) (sizes0 sizes1 : ℕ)
+    (in0 in1 : Input) (out0 out1 : Output) (outcome : Outcome) : Type 0 where
+  pub file : Load
+  pub built : Option PlanFault
+  pub file_told : IfSome asked (λ a. Tells (next_load (file_of a)) file)
+  pub built_told : IsBuilt file built sizes0 sizes1
+  pub loaded : status_of outcome ≢ 1 → Loaded asked counts0 counts1 file
+  pub answers : Answers (told_words asked file built) asked in0 in1 out0 out1 outcome
+  pub usage : asked ≡ None → status_of outcome ≡ 2
+
+-- a run, with the line that it printed
+pub record Ran (asked : Option Asked) (next_load : List ℕ → Option Load) (counts0 counts1 : LoadCounts) (sizes0 sizes1 : ℕ)
+    (in0 in1 : Input) (out0 out1 err0 err1 : Output) (status : ℕ) : Type 0 where
+  pub file : Load
+  pub built : Option PlanFault
+  pub input : List ℕ
+  pub read_failed : Bool
+  pub line : List ℕ
+  pub sent : Sent
+  pub file_told : IfSome asked (λ a. Tells (next_load (file_of a)) file)
+  pub built_told : IsBuilt file built sizes0 sizes1
+  pub has_read : HasRead in0 in1 input read_failed
+  pub quiet : ReadsNothing asked → in1 ≡ in0
+  pub does : Does (told_words asked file built input read_failed) in1 out0 out1 line status
+  pub said : SendDid err0 err1 sent line
+
+-- the file that is asked for is read as this configuration
+pub record HasConfig (asked : Option Asked) (next_load : List ℕ → Option Load) (c : Configuration) : Type 0 where
+  pub of : Asked
   pub bytes : List ℕ
-  pub named : name ≡ Some file_name
-  pub told : Tells (next_load file_name) (Got bytes)
-  pub not_blank : list_all is_blank bytes ≡ false
+  pub is_asked : asked ≡ Some of
+  pub told : Tells (next_load (file_of of)) (Got bytes)
+  pub reads : config_of bytes ≡ Ok c
+
+-- the file that is asked for has no configuration
+pub record HasFault (asked : Option Asked) (next_load : List ℕ → Option Load) : Type 0 where
+  pub of : Asked
+  pub bytes : List ℕ
+  pub fault : DocFault
+  pub is_asked : asked ≡ Some of
+  pub told : Tells (next_load (file_of of)) (Got bytes)
+  pub reads : config_of bytes ≡ Err fault
+
+-- it has one, and a pattern of it was refused
+pub record HasRefusal (asked : Option Asked) (next_load : List ℕ → Option Load) (sizes0 sizes1 : ℕ) : Type 0 where
+  pub c : Configuration
+  pub fault : PlanFault
+  pub has : HasConfig asked next_load c
+  pub refusal : IsRefusal c.contexts fault
+  pub sizes : sizes1 ≡ sizes_after fault sizes0
 
 -- a count rose: of files that were absent or could not be read, or of reads of the link
 abbrev pub CountRose : LoadCounts → LoadCounts → Input → Input → Type 0

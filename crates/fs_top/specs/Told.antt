@@ -1,37 +1,53 @@
 -- What the program answers: its output, its printed line and its status.
-use Rattle.std.specs.Prelude.{ℕ, Bool, true, false, ◌||◌, ◌==◌, List, [], ◌∷◌, ◌++◌, Option, None, Some, codes, if◌then◌else◌}
-use Rattle.std.specs.List.{list_all}
+use Rattle.std.specs.Prelude.{ℕ, Bool, true, false, List, [], ◌∷◌, ◌++◌, Option, None, Some, Result, Ok, Err, codes, if◌then◌else◌}
 use Rattle.std.specs.Str.{bytes_eq}
 use Rattle.std.specs.Fmt.{decimal}
 use Rattle.fs_ports.specs.declared.files.Load.{Load}
 use Rattle.fs_ports.specs.declared.files.Load.TheVariants.{Got, Absent, Failed}
-use Rattle.fs_vars.specs.declared.bounds.Bounds.TheVariants.{Globals}
+use Rattle.fs_doc.specs.Reading.{Configuration, config_of}
+use Rattle.fs_doc.specs.declared.fault.DocFault.{DocFault}
+use Rattle.fs_plan.specs.declared.fault.PlanFault.{PlanFault}
+use Rattle.fs_plan.specs.declared.fault.PlanFault.TheVariants.{PatternRefused, PatternTooLarge, Memory}
+use Rattle.fs_top.specs.Documents.{start_of, check_text, hunt_text}
 use Rattle.fs_top.specs.Play.{Played, play}
-use Rattle.fs_top.specs.declared.start.Start.{Start}
 use Rattle.fs_top.specs.declared.end.End.{End}
 use Rattle.fs_top.specs.declared.end.End.TheVariants.{Exit, AuthRefused, Eof, ReadFault, TooLong, JournalFull}
 
--- the bytes written, the line on standard error, the status, and whether the input was read to its end
+-- the bytes written, the line on standard error if it is told, the status, and whether the input was read to its end
 pub record Told : Type 0 where
   pub output : List ℕ
-  pub line : List ℕ
+  pub line : Option (List ℕ)
   pub status : ℕ
   pub at_end : Bool
 
--- what a switch starts from where no document says otherwise
-unfoldable pub default_start : Start
-default_start = record { password = codes "ClueCon"; journal_limit = 67108864; globals = record { bounds = Globals; pairs = [] } }
+-- what the words ask for, of a file
+pub data Asked : Type 0 where
+  Check : List ℕ → Asked
+  Hunt : List ℕ → List ℕ → List ℕ → Asked
+  Play : List ℕ → Asked
 
--- the name in the words `play FILE`
-abbrev pub file_name : List (List ℕ) → Option (List ℕ)
-file_name [] = None
-file_name (word ∷ []) = None
-file_name (word ∷ name ∷ []) = if bytes_eq word (codes "play") then Some name else None
-file_name (word ∷ name ∷ more ∷ words) = None
+-- the words `check FILE` and `play FILE`
+abbrev pub asked_of_two : List ℕ → List ℕ → Option Asked
+asked_of_two word file = if bytes_eq word (codes "check") then Some (Check file) else (if bytes_eq word (codes "play") then Some (Play file) else None)
 
--- space, tab, CR or LF
-abbrev pub is_blank : ℕ → Bool
-is_blank byte = byte == 32 || byte == 9 || byte == 13 || byte == 10
+-- the words `hunt FILE CONTEXT DEST`
+abbrev pub asked_of_four : List ℕ → List ℕ → List ℕ → List ℕ → Option Asked
+asked_of_four word file context dest = if bytes_eq word (codes "hunt") then Some (Hunt file context dest) else None
+
+-- what the words ask for, where they have a form
+abbrev pub asked_of : List (List ℕ) → Option Asked
+asked_of [] = None
+asked_of (word ∷ []) = None
+asked_of (word ∷ file ∷ []) = asked_of_two word file
+asked_of (word ∷ file ∷ context ∷ []) = None
+asked_of (word ∷ file ∷ context ∷ dest ∷ []) = asked_of_four word file context dest
+asked_of (word ∷ file ∷ context ∷ dest ∷ more ∷ words) = None
+
+-- the name of the file
+abbrev pub file_of : Asked → List ℕ
+file_of (Check file) = file
+file_of (Hunt file context dest) = file
+file_of (Play file) = file
 
 unfoldable pub usage_line : List ℕ
 usage_line = codes "usage: fsw check FILE | hunt FILE CONTEXT DEST | play FILE | load COUNT START | serve FILE\n"
@@ -39,8 +55,12 @@ usage_line = codes "usage: fsw check FILE | hunt FILE CONTEXT DEST | play FILE |
 unfoldable pub cannot_read_line : List ℕ → List ℕ
 cannot_read_line name = codes "fsw: cannot read " ++ (name ++ codes "\n")
 
-unfoldable pub document_line : List ℕ
-document_line = codes "fsw: document not read yet\n"
+-- the pattern that was refused, by the numbers of its extension and condition
+unfoldable pub pattern_refused_line : ℕ → ℕ → List ℕ
+pattern_refused_line extension condition = codes "fsw: pattern refused in extension " ++ (decimal extension ++ (codes " condition " ++ (decimal condition ++ codes "\n")))
+
+unfoldable pub pattern_too_large_line : ℕ → ℕ → List ℕ
+pattern_too_large_line extension condition = codes "fsw: pattern too large in extension " ++ (decimal extension ++ (codes " condition " ++ (decimal condition ++ codes "\n")))
 
 unfoldable pub read_fault_line : List ℕ
 read_fault_line = codes "fsw: read fault\n"
@@ -59,7 +79,13 @@ memory_line = codes "fsw: out of memory\n"
 
 -- a line and a status, and nothing on the output
 abbrev pub refused : List ℕ → ℕ → Told
-refused line status = record { output = []; line = line; status = status; at_end = false }
+refused line status = record { output = []; line = Some line; status = status; at_end = false }
+
+-- the line of a refused pattern
+abbrev pub pattern_line : PlanFault → List ℕ
+pattern_line (PatternRefused extension condition) = pattern_refused_line extension condition
+pattern_line (PatternTooLarge extension condition) = pattern_too_large_line extension condition
+pattern_line Memory = memory_line
 
 -- the line of an end, and its status
 abbrev pub line_of_end : End → List ℕ
@@ -88,19 +114,39 @@ is_eof (TooLong len) = false
 is_eof (JournalFull cost limit) = false
 
 abbrev pub told_play : Played → Told
-told_play played = record { output = played.output; line = line_of_end played.end; status = status_of_end played.end; at_end = is_eof played.end }
+told_play played = record { output = played.output; line = Some (line_of_end played.end); status = status_of_end played.end; at_end = is_eof played.end }
 
--- what is answered once the file of this name gave this
-abbrev pub told_file : List ℕ → Load → List ℕ → Bool → Told
-told_file name (Got bytes) input read_failed = if list_all is_blank bytes then told_play (play default_start input read_failed) else refused document_line 3
-told_file name Absent input read_failed = refused (cannot_read_line name) 4
-told_file name Failed input read_failed = refused (cannot_read_line name) 4
+-- this is printed, and nothing is read
+abbrev pub told_text : List ℕ → Told
+told_text output = record { output = output; line = Some []; status = 0; at_end = false }
 
--- what the program answers where its words name this file, or none, where the file gives this, and these bytes are taken from the link before
--- its reading ends or fails
-abbrev pub told_words : Option (List ℕ) → Load → List ℕ → Bool → Told
-told_words None file input read_failed = refused usage_line 2
-told_words (Some name) file input read_failed = told_file name file input read_failed
+-- what is answered over a configuration
+abbrev pub told_asked : Asked → Configuration → List ℕ → Bool → Told
+told_asked (Check file) c input read_failed = told_text (check_text c.contexts)
+told_asked (Hunt file context dest) c input read_failed = told_text (hunt_text c.contexts c.globals context dest)
+told_asked (Play file) c input read_failed = told_play (play (start_of c) input read_failed)
 
-abbrev pub told : List (List ℕ) → Load → List ℕ → Bool → Told
-told words file input read_failed = told_words (file_name words) file input read_failed
+-- what is answered over a configuration of which a pattern was refused, or none
+abbrev pub told_built : Asked → Configuration → Option PlanFault → List ℕ → Bool → Told
+told_built asked c None input read_failed = told_asked asked c input read_failed
+told_built asked c (Some fault) input read_failed = refused (pattern_line fault) 3
+
+-- what is answered for what a document is read as; the words that tell a fault are not told here
+abbrev pub told_read : Asked → Result Configuration DocFault → Option PlanFault → List ℕ → Bool → Told
+told_read asked (Ok c) built input read_failed = told_built asked c built input read_failed
+told_read asked (Err fault) built input read_failed = record { output = []; line = None; status = 3; at_end = false }
+
+-- what is answered once the file gave this
+abbrev pub told_file : Asked → Load → Option PlanFault → List ℕ → Bool → Told
+told_file asked (Got bytes) built input read_failed = told_read asked (config_of bytes) built input read_failed
+told_file asked Absent built input read_failed = refused (cannot_read_line (file_of asked)) 4
+told_file asked Failed built input read_failed = refused (cannot_read_line (file_of asked)) 4
+
+-- what the program answers where its words ask for this, or have no form, where the file gives this, where this pattern is refused, or
+-- none, and these bytes are taken from the link before its reading ends or fails
+abbrev pub told_words : Option Asked → Load → Option PlanFault → List ℕ → Bool → Told
+told_words None file built input read_failed = refused usage_line 2
+told_words (Some asked) file built input read_failed = told_file asked file built input read_failed
+
+abbrev pub told : List (List ℕ) → Load → Option PlanFault → List ℕ → Bool → Told
+told words file built input read_failed = told_words (asked_of words) file built input read_failed

@@ -2,10 +2,14 @@
 #![tactic(auto)]
 
 mod api;
+mod asked;
 mod commands;
+mod documents;
 mod end;
 mod entry;
 mod laws;
+mod lines;
+mod outcome;
 mod phase;
 mod play;
 mod program;

@@ -5,6 +5,7 @@ use crate::switch::Switch;
 use fs_frame::{Blocks, Next};
 use fs_ports::{MemFiles, MemLink};
 use fs_text::{Memory, Txt};
+use fs_vars::{Bounds, Vars};
 use std::alloc::Global;
 use std::test::Fail;
 
@@ -388,12 +389,20 @@ fn refusal_of(
     }
 }
 
+fn start(alloc: Global) -> Result<Start, Memory> {
+    Ok(Start {
+        password: text(alloc, &["ClueCon"])?,
+        journal_limit: 67_108_864,
+        globals: Vars::new(alloc, Bounds::Globals)?,
+    })
+}
+
 #[test]
 fn a_full_journal_refuses_again(rt: HostRuntime) -> Result<(), Fail> {
     let alloc = rt.alloc();
     let mut block = Vec::new(alloc);
     push_block(&mut block, "", 65_534)?;
-    let mut switch = Switch::new(alloc, Start::new(alloc)?)?;
+    let mut switch = Switch::new(alloc, start(alloc)?)?;
     assert!(rt; switch.arrive().is_ok());
     let mut blocks = Blocks::new(alloc)?;
     for _ in 0..1_023 {

@@ -1,5 +1,4 @@
-use Rattle.fs_top.proofs.RunLaws.{runs_usage}
 use Rattle.fs_top.proofs.program.conduct.Goals as goal
 
 pub returns-in-None : goal.returns-in-None
-returns-in-None g c = rw (← c.in-None.ensures) (runs_usage _ _ _ _)
+returns-in-None g c = ?

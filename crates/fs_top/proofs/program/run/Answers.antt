@@ -1,12 +1,18 @@
 use Rattle.std.proofs.Common.{sym, ◌∙◌}
-use Rattle.fs_top.proofs.RunLaws.{cause_unreadable, cause_full, cause_too_long}
+use Rattle.fs_top.proofs.RunLaws.{ran, cause_document, cause_unreadable, cause_full, cause_too_long}
 use Rattle.fs_top.proofs.program.run.Goals as goal
 
+pub returns-clause-told : goal.returns-clause-told
+returns-clause-told g c = ran _ _ _ _ _ _ _ _ _ _ _ _ _ _ _ c.conduct-outcome.ensures c.say.ensures c.status.ensures
+
+pub returns-clause-document : goal.returns-clause-document
+returns-clause-document g c = λ three. cause_document _ _ _ _ _ _ _ _ _ _ _ c.conduct-outcome.ensures (sym c.status.ensures ∙ three)
+
 pub returns-clause-unreadable : goal.returns-clause-unreadable
-returns-clause-unreadable g c = λ four. cause_unreadable _ _ _ _ _ _ _ _ _ _ c.conduct-outcome.ensures (sym c.code_of.ensures ∙ four)
+returns-clause-unreadable g c = λ four. cause_unreadable _ _ _ _ _ _ _ _ _ _ _ c.conduct-outcome.ensures (sym c.status.ensures ∙ four)
 
 pub returns-clause-full : goal.returns-clause-full
-returns-clause-full g c = λ eight. cause_full _ _ _ _ _ _ _ _ _ _ c.conduct-outcome.ensures (sym c.code_of.ensures ∙ eight)
+returns-clause-full g c = λ eight. cause_full _ _ _ _ _ _ _ _ _ _ _ c.conduct-outcome.ensures (sym c.status.ensures ∙ eight)
 
 pub returns-clause-too_long : goal.returns-clause-too_long
-returns-clause-too_long g c = λ ten. cause_too_long _ _ _ _ _ _ _ _ _ _ c.conduct-outcome.ensures (sym c.code_of.ensures ∙ ten)
+returns-clause-too_long g c = λ ten. cause_too_long _ _ _ _ _ _ _ _ _ _ _ c.conduct-outcome.ensures (sym c.status.ensures ∙ ten)

@@ -1,7 +1,7 @@
 use Rattle.std.proofs.Common.{map, take}
 use Rattle.std.specs.List.{concat}
 use Rattle.fs_ports.specs.Ports.{Writes}
-use Rattle.fs_top.proofs.program.send_parts.Given as goal
+use Rattle.fs_top.proofs.lines.send_parts.Given as goal
 
 -- the parts so far were sent
 abbrev pub invariant-loop-part : goal.invariant-loop-part

@@ -1,6 +1,6 @@
 use Rattle.std.proofs.Common.{[]}
-use Rattle.fs_top.proofs.Lines.{parts_more, parts_stopped}
-use Rattle.fs_top.proofs.program.send_parts.Goals as goal
+use Rattle.fs_top.proofs.PartLaws.{parts_more, parts_stopped}
+use Rattle.fs_top.proofs.lines.send_parts.Goals as goal
 
 pub returns-in-Failed : goal.returns-in-Failed
 returns-in-Failed g c =

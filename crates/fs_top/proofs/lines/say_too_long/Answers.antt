@@ -1,5 +1,5 @@
 use Rattle.fs_top.specs.Told.{too_long_line}
-use Rattle.fs_top.proofs.program.say_too_long.Goals as goal
+use Rattle.fs_top.proofs.lines.say_too_long.Goals as goal
 
 pub returns : goal.returns
 unfolding too_long_line

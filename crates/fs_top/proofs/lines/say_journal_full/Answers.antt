@@ -1,5 +1,5 @@
 use Rattle.fs_top.specs.Told.{journal_full_line}
-use Rattle.fs_top.proofs.program.say_journal_full.Goals as goal
+use Rattle.fs_top.proofs.lines.say_journal_full.Goals as goal
 
 pub returns : goal.returns
 unfolding journal_full_line

@@ -1,20 +1,22 @@
 -- How blocks lie in a stream.
-use Rattle.std.proofs.Common.{◌≡◌, ◌≤◌, ◌<◌, ℕ, zero, suc, List, [], ◌∷◌, ◌++◌, length, drop, Option, None, Some, refl, sym, ◌∙◌, ap, append_assoc, arith, length-append}
+use Rattle.std.proofs.Common.{◌≡◌, ◌≤◌, ◌<◌, ℕ, zero, suc, true, is_none, nat_lt, List, [], ◌∷◌, ◌++◌, length, drop, Option, None, Some, refl, sym, ◌∙◌, ap, append_assoc, arith, length-append}
+use Rattle.std.proofs.lemmas.Bool.{and_from, and_parts, lt-ltb, ltb-true}
+use Rattle.std.proofs.lemmas.List.{take_at}
 use Rattle.std.proofs.lemmas.List.Folds.{concat-append}
 use Rattle.std.proofs.lemmas.List.Prefix.{front_rest}
 use Rattle.std.specs.List.{AllByRecursion, concat}
 use Rattle.std.specs.Option.{option_map_or}
-use Rattle.fs_frame.specs.Block.{IsLine, IsBlock, block_of, line_of, front_of}
+use Rattle.fs_frame.specs.Block.{IsBlock, front_of, too_long}
 use Rattle.fs_frame.specs.Blocks.{HasNoBlock, Splits, first_blocks, blocks_of, rest_of}
-use Rattle.fs_frame.proofs.FormLaws.{StandsInFront, before_first-line, front_of-append, front_of-stands, front_of-none}
+use Rattle.fs_frame.proofs.FormLaws.{StandsInFront, front_of-append, front_of-stands, front_of-no_head, front_of-take}
 
 -- a block is not empty
 pub length-block : (block : List ℕ) → IsBlock block → 0 < length block
-length-block block is_block = rw is_block.spelling (omega (arith, length-append is_block.line (10 ∷ 10 ∷ [])))
-
--- the line of the block of a line is that line
-pub line_of-block_of : (line : List ℕ) → IsLine line → line_of (block_of line) ≡ line
-line_of-block_of line is_line = before_first-line line (10 ∷ []) is_line.no_lf
+length-block [] is_block =
+    let nothing : front_of [] ≡ None = front_of-no_head [] refl in
+    let found : front_of [] ≡ Some [] = front_of-append [] [] is_block in
+    cc
+length-block (byte ∷ block) is_block = omega arith
 
 -- what holds of each of two lists' elements holds of those of the two together
 pub AllByRecursion-append : (P : List ℕ → Type 0) (xs ys : List (List ℕ)) → AllByRecursion P xs → AllByRecursion P ys → AllByRecursion P (xs ++ ys)
@@ -70,7 +72,7 @@ falls_behind stream block more blocks split is_block falls = record {
 
 falls : (n : ℕ) (stream : List ℕ) → length stream ≤ n → Falls stream (first_blocks n stream)
 unfolding first_blocks
-falls zero [] fits = no_more [] (front_of-none [] refl)
+falls zero [] fits = no_more [] (front_of-no_head [] refl)
 falls zero (byte ∷ stream) fits = absurd (omega arith)
 falls (suc n) stream fits = step (front_of stream) refl (λ (more : List ℕ). falls n more)
   where
@@ -120,3 +122,22 @@ blocks_of-no_block rest no_block = blocks_of-splits rest rest [] (record { whole
 
 pub rest_of-no_block : (rest : List ℕ) → HasNoBlock rest → rest_of rest ≡ rest
 rest_of-no_block rest no_block = rest_of-splits rest rest [] (record { whole = refl; each = tt; last = no_block })
+
+-- no block stands in front of a rest that is too long
+pub HasNoBlock-too_long : (rest : List ℕ) → too_long rest ≡ true → HasNoBlock rest
+unfolding too_long
+HasNoBlock-too_long rest long = HasNoBlock-front_of rest (none_is (front_of rest) (and_parts (nat_lt 65536 (length rest)) (is_none (front_of rest)) long).1)
+  where
+    none_is : (found : Option (List ℕ)) → is_none found ≡ true → found ≡ None
+    none_is None is = refl
+    none_is (Some block) is = cc
+
+-- and it stays too long, whatever follows
+pub too_long-append : (rest more : List ℕ) → too_long rest ≡ true → too_long (rest ++ more) ≡ true
+unfolding too_long
+too_long-append rest more long =
+    let parts : (nat_lt 65536 (length rest) ≡ true) × (is_none (front_of rest) ≡ true) = and_parts (nat_lt 65536 (length rest)) (is_none (front_of rest)) long in
+    let over : 65536 < length rest = ltb-true 65536 (length rest) parts.0 in
+    let same : front_of rest ≡ front_of (rest ++ more) = ap front_of (sym (take_at rest more (length rest) refl)) ∙ front_of-take (length rest) (rest ++ more) (omega arith) in
+    and_from (nat_lt 65536 (length (rest ++ more))) (is_none (front_of (rest ++ more)))
+    (lt-ltb 65536 (length (rest ++ more)) (omega (arith, over, length-append rest more))) (rw (← same) parts.1)

@@ -1,25 +1,22 @@
 -- What a buffer has handed out after a list of calls.
-use Rattle.std.proofs.Common.{◌≡◌, ℕ, ◌-◌, Bool, true, false, List, [], ◌∷◌, ◌++◌, length, refl, sym, ◌∙◌, ap, append_assoc, arith, length-append}
+use Rattle.std.proofs.Common.{◌≡◌, ℕ, Bool, true, false, List, [], ◌∷◌, ◌++◌, refl, sym, ◌∙◌, ap, append_assoc}
 use Rattle.std.proofs.lemmas.Bool.{both_ways}
 use Rattle.std.proofs.lemmas.List.{append-nil}
 use Rattle.std.proofs.lemmas.List.Folds.{concat-append}
 use Rattle.std.specs.List.{AllByRecursion, concat}
-use Rattle.fs_frame.specs.Block.{IsBlock, is_later, is_spoilt}
+use Rattle.fs_frame.specs.Block.{IsBlock, too_long}
 use Rattle.fs_frame.specs.Blocks.{HasNoBlock, blocks_of, rest_of}
 use Rattle.fs_frame.specs.Stream.{Stream, fresh, fed_with, handed_out}
 use Rattle.fs_frame.specs.Next.{IsNext, HandsOut, HandsOutNothing, bytes_of}
-use Rattle.fs_frame.specs.Calls.{Call, fed, asked, AreAnsweredFrom, AreAnswered, stream_of, blocks_in, ComeFirst, IsUsedUp, Follows, NeverNeedMore, AlwaysLater}
+use Rattle.fs_frame.specs.Calls.{Call, fed, asked, AreAnsweredFrom, AreAnswered, stream_of, blocks_in, ComeFirst, IsUsedUp, Follows, AlwaysTooLong}
 use Rattle.fs_frame.specs.declared.next.Next.{Next}
-use Rattle.fs_frame.specs.declared.next.Next.TheVariants.{Block, NeedMore, Later}
-use Rattle.fs_frame.proofs.FormLaws.{is_spoilt-append}
-use Rattle.fs_frame.proofs.StreamLaws.{is_later-fed, is_later-block, is_later-spoilt, hands_out-spoilt}
-use Rattle.fs_frame.proofs.BlockLaws.{AllByRecursion-append, blocks_of-append, rest_of-append, blocks_of-no_block, rest_of-no_block}
+use Rattle.fs_frame.specs.declared.next.Next.TheVariants.{Block, NeedMore, TooLong}
+use Rattle.fs_frame.proofs.BlockLaws.{AllByRecursion-append, blocks_of-append, rest_of-append, blocks_of-no_block, rest_of-no_block, HasNoBlock-too_long, too_long-append}
 
 -- these blocks of the stream were handed out, and the buffer holds what follows them
 record Stands (blocks : List (List ℕ)) (stream : List ℕ) (s : Stream) : Type 0 where
   each : AllByRecursion IsBlock blocks
   whole : stream ≡ concat blocks ++ s.rest
-  room : s.room ≡ 65536 - length stream
 
 -- the buffer after these calls
 after : Stream → List Call → Stream
@@ -31,21 +28,18 @@ Stands-fed : (blocks : List (List ℕ)) (stream : List ℕ) (s : Stream) (piece 
 Stands-fed blocks stream s piece stands = record {
   each = stands.each;
   whole = ap (λ (bytes : List ℕ). bytes ++ piece) stands.whole ∙ append_assoc (concat blocks) s.rest piece;
-  room = omega (arith, stands.room, length-append stream piece);
 }
 
 Stands-block : (blocks : List (List ℕ)) (stream : List ℕ) (s new : Stream) (block : List ℕ) → Stands blocks stream s → HandsOut s new block → Stands (blocks ++ block ∷ []) stream new
 Stands-block blocks stream s new block stands out = record {
   each = AllByRecursion-append IsBlock blocks (block ∷ []) stands.each (out.is_block, tt);
   whole = rw (concat-append blocks (block ∷ []), append-nil block, append_assoc (concat blocks) block new.rest) (stands.whole ∙ ap (λ (bytes : List ℕ). concat blocks ++ bytes) out.rest);
-  room = out.room ∙ stands.room;
 }
 
 Stands-nothing : (blocks : List (List ℕ)) (stream : List ℕ) (s new : Stream) → Stands blocks stream s → HandsOutNothing s new → Stands blocks stream new
 Stands-nothing blocks stream s new stands out = record {
   each = stands.each;
   whole = stands.whole ∙ ap (λ (bytes : List ℕ). concat blocks ++ bytes) (sym out.rest);
-  room = out.room ∙ stands.room;
 }
 
 Stands-after : (blocks : List (List ℕ)) (stream : List ℕ) (s : Stream) (calls : List Call) → Stands blocks stream s → AreAnsweredFrom s calls → Stands (blocks ++ blocks_in calls) (stream ++ stream_of calls) (after s calls)
@@ -56,10 +50,10 @@ Stands-after blocks stream s (fed piece ∷ calls) stands answered =
 Stands-after blocks stream s (asked (Block block) ∷ calls) stands answered =
     rw (← append_assoc blocks (bytes_of block ∷ []) (blocks_in calls)) (Stands-after (blocks ++ bytes_of block ∷ []) stream (handed_out s) calls (Stands-block blocks stream s (handed_out s) (bytes_of block) stands answered.0) answered.1)
 Stands-after blocks stream s (asked NeedMore ∷ calls) stands answered = Stands-after blocks stream (handed_out s) calls (Stands-nothing blocks stream s (handed_out s) stands answered.0.0) answered.1
-Stands-after blocks stream s (asked Later ∷ calls) stands answered = Stands-after blocks stream (handed_out s) calls (Stands-nothing blocks stream s (handed_out s) stands answered.0.0) answered.1
+Stands-after blocks stream s (asked (TooLong len) ∷ calls) stands answered = Stands-after blocks stream (handed_out s) calls (Stands-nothing blocks stream s (handed_out s) stands answered.0.0) answered.1
 
 Stands-calls : (calls : List Call) → AreAnswered calls → Stands (blocks_in calls) (stream_of calls) (after fresh calls)
-Stands-calls calls answered = Stands-after [] [] fresh calls (record { each = tt; whole = refl; room = refl }) answered
+Stands-calls calls answered = Stands-after [] [] fresh calls (record { each = tt; whole = refl }) answered
 
 come_first : (blocks : List (List ℕ)) (stream : List ℕ) (s : Stream) → Stands blocks stream s → ComeFirst blocks stream
 come_first blocks stream s stands = (blocks_of s.rest, ap blocks_of stands.whole ∙ blocks_of-append blocks s.rest stands.each)
@@ -67,10 +61,10 @@ come_first blocks stream s stands = (blocks_of s.rest, ap blocks_of stands.whole
 rest_is : (blocks : List (List ℕ)) (stream : List ℕ) (s : Stream) → Stands blocks stream s → HasNoBlock s.rest → rest_of stream ≡ s.rest
 rest_is blocks stream s stands no_block = ap rest_of stands.whole ∙ rest_of-append blocks s.rest stands.each ∙ rest_of-no_block s.rest no_block
 
-used_up : (blocks : List (List ℕ)) (stream : List ℕ) (s : Stream) (later : Bool) → Stands blocks stream s → HasNoBlock s.rest → is_later s.room s.rest ≡ later → IsUsedUp blocks stream later
-used_up blocks stream s later stands no_block is =
+used_up : (blocks : List (List ℕ)) (stream : List ℕ) (s : Stream) (long : Bool) → Stands blocks stream s → HasNoBlock s.rest → too_long s.rest ≡ long → IsUsedUp blocks stream long
+used_up blocks stream s long stands no_block is =
     let all : blocks_of stream ≡ blocks = ap blocks_of stands.whole ∙ blocks_of-append blocks s.rest stands.each ∙ ap (λ (more : List (List ℕ)). blocks ++ more) (blocks_of-no_block s.rest no_block) ∙ append-nil blocks in
-    (all, rw (rest_is blocks stream s stands no_block, ← stands.room) is)
+    (all, rw (rest_is blocks stream s stands no_block) is)
 
 -- the blocks handed out come first in the stream
 pub ComeFirst-calls : (calls : List Call) → AreAnswered calls → ComeFirst (blocks_in calls) (stream_of calls)
@@ -87,7 +81,7 @@ answered-append s (asked next ∷ calls) more answered =
 follows : (blocks : List (List ℕ)) (stream : List ℕ) (s : Stream) (next : Next) → Stands blocks stream s → IsNext s next → Follows blocks stream next
 follows blocks stream s (Block block) stands is = come_first (blocks ++ bytes_of block ∷ []) stream (handed_out s) (Stands-block blocks stream s (handed_out s) (bytes_of block) stands is)
 follows blocks stream s NeedMore stands is = used_up blocks stream s false stands is.0.no_block is.1
-follows blocks stream s Later stands is = used_up blocks stream s true stands is.0.no_block is.1
+follows blocks stream s (TooLong len) stands is = (used_up blocks stream s true stands is.0.no_block is.1, is.2)
 
 -- and each answer is the one that follows
 pub Follows-calls : (calls : List Call) (next : Next) → AreAnswered (calls ++ asked next ∷ []) → Follows (blocks_in calls) (stream_of calls) next
@@ -95,31 +89,16 @@ Follows-calls calls next answered =
     let parts : AreAnsweredFrom fresh calls × AreAnsweredFrom (after fresh calls) (asked next ∷ []) = answered-append fresh calls (asked next ∷ []) answered in
     follows (blocks_in calls) (stream_of calls) (after fresh calls) next (Stands-calls calls parts.0) parts.1.0
 
-never_need_more : (s : Stream) (calls : List Call) → is_later s.room s.rest ≡ true → AreAnsweredFrom s calls → NeverNeedMore calls
-never_need_more s [] later answered = tt
-never_need_more s (fed piece ∷ calls) later answered = never_need_more (fed_with s piece) calls (is_later-fed s.room s.rest piece later) answered
-never_need_more s (asked (Block block) ∷ calls) later answered = never_need_more (handed_out s) calls (is_later-block s (handed_out s) (bytes_of block) answered.0 later) answered.1
-never_need_more s (asked NeedMore ∷ calls) later answered = both_ways (is_later s.room s.rest) answered.0.1 later
-never_need_more s (asked Later ∷ calls) later answered = never_need_more (handed_out s) calls (rw (answered.0.0.room, answered.0.0.rest) later) answered.1
+always_too_long : (s : Stream) (calls : List Call) (len : ℕ) → too_long s.rest ≡ true → len ≡ 65537 → AreAnsweredFrom s calls → AlwaysTooLong len calls
+always_too_long s [] len long is answered = tt
+always_too_long s (fed piece ∷ calls) len long is answered = always_too_long (fed_with s piece) calls len (too_long-append s.rest piece long) is answered
+always_too_long s (asked (Block block) ∷ calls) len long is answered = HasNoBlock-too_long s.rest long (bytes_of block) (handed_out s).rest answered.0.is_block answered.0.rest
+always_too_long s (asked NeedMore ∷ calls) len long is answered = both_ways (too_long s.rest) answered.0.1 long
+always_too_long s (asked (TooLong again) ∷ calls) len long is answered = (answered.0.2 ∙ sym is, always_too_long (handed_out s) calls len (rw answered.0.0.rest long) is answered.1)
 
-always_later : (s : Stream) (calls : List Call) → is_spoilt s.rest ≡ true → AreAnsweredFrom s calls → AlwaysLater calls
-always_later s [] spoilt answered = tt
-always_later s (fed piece ∷ calls) spoilt answered = always_later (fed_with s piece) calls (is_spoilt-append s.rest piece spoilt) answered
-always_later s (asked (Block block) ∷ calls) spoilt answered = hands_out-spoilt s (handed_out s) (bytes_of block) answered.0 spoilt
-always_later s (asked NeedMore ∷ calls) spoilt answered = both_ways (is_later s.room s.rest) answered.0.1 (is_later-spoilt s.room s.rest spoilt)
-always_later s (asked Later ∷ calls) spoilt answered = always_later (handed_out s) calls (rw answered.0.0.rest spoilt) answered.1
-
--- after `Later` the buffer asks for no more
-pub NeverNeedMore-later : (calls further : List Call) → AreAnswered (calls ++ asked Later ∷ further) → NeverNeedMore further
-NeverNeedMore-later calls further answered =
+-- after `TooLong` each answer is the same
+pub AlwaysTooLong-calls : (calls further : List Call) (len : ℕ) → AreAnswered (calls ++ asked (TooLong len) ∷ further) → AlwaysTooLong len further
+AlwaysTooLong-calls calls further len answered =
     let s : Stream = after fresh calls in
-    let parts : AreAnsweredFrom fresh calls × AreAnsweredFrom s (asked Later ∷ further) = answered-append fresh calls (asked Later ∷ further) answered in
-    never_need_more s (asked Later ∷ further) parts.1.0.1 parts.1
-
--- and where the form of what was fed is the cause, it hands out no block
-pub AlwaysLater-later : (calls further : List Call) → AreAnswered (calls ++ asked Later ∷ further) → is_spoilt (rest_of (stream_of calls)) ≡ true → AlwaysLater further
-AlwaysLater-later calls further answered spoilt =
-    let s : Stream = after fresh calls in
-    let parts : AreAnsweredFrom fresh calls × AreAnsweredFrom s (asked Later ∷ further) = answered-append fresh calls (asked Later ∷ further) answered in
-    let rest : rest_of (stream_of calls) ≡ s.rest = rest_is (blocks_in calls) (stream_of calls) s (Stands-calls calls parts.0) parts.1.0.0.no_block in
-    always_later s (asked Later ∷ further) (rw (← rest) spoilt) parts.1
+    let parts : AreAnsweredFrom fresh calls × AreAnsweredFrom s (asked (TooLong len) ∷ further) = answered-append fresh calls (asked (TooLong len) ∷ further) answered in
+    (always_too_long s (asked (TooLong len) ∷ further) len parts.1.0.1 parts.1.0.2 parts.1).1

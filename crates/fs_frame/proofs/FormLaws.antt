@@ -1,104 +1,110 @@
--- Lines, and the block in front of some bytes.
-use Rattle.std.proofs.Common.{◌≡◌, ◌≢◌, ℕ, ◌+◌, Bool, true, false, not, cond, ◌||◌, List, [], ◌∷◌, ◌++◌, length, drop, None, Some, ◌⊎◌, inl, inr, refl, sym, ap, one-add, append_assoc, arith, eqb}
-use Rattle.std.proofs.lemmas.Bool.{or_parts, or_cases, or_left, or_right, eqb-true, not-false}
-use Rattle.std.proofs.lemmas.Bool.Decides.{eqb_tells}
-use Rattle.std.proofs.lemmas.List.Folds.{list_any-append}
-use Rattle.std.proofs.lemmas.List.{take_at, take_all, drop_all}
-use Rattle.std.proofs.Math.Seq.{drop-append-add}
-use Rattle.std.specs.List.{list_any, before_first, after_first, position_or_len}
-use Rattle.fs_frame.specs.Block.{is_lf, is_cr, begins_with, is_spoilt, front_of, IsBlock, block_of}
+-- The block in front of some bytes.
+use Rattle.std.proofs.Common.{◌≡◌, ℕ, ◌≤◌, Bool, true, false, List, [], ◌∷◌, ◌++◌, length, take, drop, nat_le, Option, None, Some, refl, sym, ◌∙◌, ap, append_assoc, arith}
+use Rattle.std.proofs.lemmas.Bool.{le-leb, leb-true}
+use Rattle.std.proofs.lemmas.List.{append-nil, take_at, take-take, take-append-drop}
+use Rattle.std.proofs.lemmas.List.Folds.{concat-append}
+use Rattle.std.specs.List.{AllByRecursion, concat}
+use Rattle.fs_frame.specs.Block.{IsEmptyLine, IsTextLine, IsHead, IsBlock, text_of, lines_of, first_text, line_of, head_of, within_limit, front_of}
+use Rattle.fs_frame.proofs.LineLaws.{lines_of-line, lines_of-lines, AreLines, AreLines-lines_of, AllByRecursion-lines, head_of-parts, first_text-empties, Headed, head_of-headed}
 
--- the first byte that passes stands behind those that do not
-pub position_or_len-append : (p : ℕ → Bool) (front : List ℕ) (byte : ℕ) (more : List ℕ) → list_any p front ≡ false → p byte ≡ true → position_or_len p (front ++ byte ∷ more) ≡ length front
-position_or_len-append p [] byte more none here = rw here refl
-position_or_len-append p (x ∷ front) byte more none here =
-    let parts : (p x ≡ false) × (list_any p front ≡ false) = or_parts (p x) (list_any p front) none in
-    rw (parts.0, position_or_len-append p front byte more parts.1 here, one-add) refl
+-- the parts of a head
+abbrev spelling_of : List (List ℕ) → List ℕ → List (List ℕ) → List ℕ → List ℕ
+spelling_of empties command headers end = concat empties ++ command ++ concat headers ++ end
 
--- where none passes, that is the length
-pub position_or_len-none : (p : ℕ → Bool) (bytes : List ℕ) → list_any p bytes ≡ false → position_or_len p bytes ≡ length bytes
-position_or_len-none p [] none = refl
-position_or_len-none p (x ∷ bytes) none =
-    let parts : (p x ≡ false) × (list_any p bytes ≡ false) = or_parts (p x) (list_any p bytes) none in
-    rw (parts.0, position_or_len-none p bytes parts.1, one-add) refl
+grouped : (a b c d : List ℕ) → a ++ b ++ c ++ d ≡ a ++ (b ++ (c ++ d))
+grouped a b c d = simp append_assoc
 
--- bytes with a first LF: what stands before it, and behind it
-pub record HasLf (bytes : List ℕ) : Type 0 where
-  pub line : List ℕ
-  pub more : List ℕ
-  pub no_lf : list_any is_lf line ≡ false
-  pub split : bytes ≡ line ++ 10 ∷ more
+grouped_behind : (a b c d e : List ℕ) → (a ++ b ++ c ++ d) ++ e ≡ a ++ (b ++ (c ++ (d ++ e)))
+grouped_behind a b c d e = simp append_assoc
 
--- there is a first LF, or none
-pub lines : (bytes : List ℕ) → HasLf bytes ⊎ (list_any is_lf bytes ≡ false)
-lines [] = inr refl
-lines (byte ∷ bytes) = step (eqb_tells byte 10) (lines bytes)
-  where
-    step : ((eqb byte 10 ≡ true) × (byte ≡ 10)) ⊎ ((eqb byte 10 ≡ false) × (byte ≢ 10)) → HasLf bytes ⊎ (list_any is_lf bytes ≡ false) → HasLf (byte ∷ bytes) ⊎ (list_any is_lf (byte ∷ bytes) ≡ false)
-    step (inl is) again = inl (record { line = []; more = bytes; no_lf = refl; split = ap (λ (b : ℕ). b ∷ bytes) is.1 })
-    step (inr not_lf) (inl has) = inl (record { line = byte ∷ has.line; more = has.more; no_lf = rw (not_lf.0, has.no_lf) refl; split = ap (λ (bs : List ℕ). byte ∷ bs) has.split })
-    step (inr not_lf) (inr none) = inr (rw (not_lf.0, none) refl)
+-- the lines of bytes that begin with a head
+lines_of-parts : (empties : List (List ℕ)) (command : List ℕ) (headers : List (List ℕ)) (end more : List ℕ) →
+    AllByRecursion IsEmptyLine empties → IsTextLine command → AllByRecursion IsTextLine headers → IsEmptyLine end →
+    lines_of (spelling_of empties command headers end ++ more) ≡ empties ++ command ∷ (headers ++ end ∷ lines_of more)
+lines_of-parts empties command headers end more are_empty is_command are_headers is_end =
+    rw (
+      grouped_behind (concat empties) command (concat headers) end more,
+      lines_of-lines empties (command ++ (concat headers ++ (end ++ more))) (AllByRecursion-lines (λ line. text_of line ≡ []) empties are_empty),
+      lines_of-line command (concat headers ++ (end ++ more)) is_command.0,
+      lines_of-lines headers (end ++ more) (AllByRecursion-lines (λ line. text_of line ≡ [] → ⊥) headers are_headers),
+      lines_of-line end more is_end.0,
+    )
+    refl
 
-pub before_first-line : (line more : List ℕ) → list_any is_lf line ≡ false → before_first is_lf (line ++ 10 ∷ more) ≡ line
-before_first-line line more no_lf = rw (position_or_len-append is_lf line 10 more no_lf refl) (take_at line (10 ∷ more) (length line) refl)
+lines_of-head : (bytes more : List ℕ) (head : IsHead bytes) → lines_of (bytes ++ more) ≡ head.empties ++ head.command ∷ (head.headers ++ head.end ∷ lines_of more)
+lines_of-head bytes more head = ap (λ (bs : List ℕ). lines_of (bs ++ more)) head.spelling ∙ lines_of-parts head.empties head.command head.headers head.end more head.are_empty head.is_command head.are_headers head.is_end
 
-after_first-line : (line more : List ℕ) → list_any is_lf line ≡ false → after_first is_lf (line ++ 10 ∷ more) ≡ more
-after_first-line line more no_lf = rw (position_or_len-append is_lf line 10 more no_lf refl) (drop-append-add line (10 ∷ more) 1)
+-- the line of a head is the text of its command line
+pub line_of-head : (bytes : List ℕ) (head : IsHead bytes) → line_of bytes ≡ text_of head.command
+unfolding line_of
+line_of-head bytes head =
+    let lines : lines_of bytes ≡ head.empties ++ head.command ∷ (head.headers ++ head.end ∷ []) =
+    ap lines_of (sym (append-nil bytes)) ∙ lines_of-head bytes [] head in
+    ap first_text lines ∙ first_text-empties head.empties head.command (head.headers ++ head.end ∷ []) head.are_empty head.is_command.1
 
--- what spoils bytes with a first LF
-pub is_spoilt-line : (line more : List ℕ) → list_any is_lf line ≡ false → is_spoilt (line ++ 10 ∷ more) ≡ (begins_with is_lf (line ++ 10 ∷ more) || list_any is_cr line || begins_with (λ byte. not (is_lf byte)) more)
-unfolding is_spoilt
-is_spoilt-line line more no_lf = rw (before_first-line line more no_lf, after_first-line line more no_lf) refl
+-- a head is found in front, whatever follows it
+head_of-head : (bytes more : List ℕ) (head : IsHead bytes) → head_of (lines_of (bytes ++ more)) ≡ Some bytes
+head_of-head bytes more head =
+    let whole : bytes ≡ concat head.empties ++ (head.command ++ (concat head.headers ++ head.end)) =
+    head.spelling ∙ grouped (concat head.empties) head.command (concat head.headers) head.end in
+    ap head_of (lines_of-head bytes more head) ∙ head_of-parts head.empties head.command head.headers head.end (lines_of more) head.are_empty head.is_command head.are_headers head.is_end ∙ ap (λ (bs : List ℕ). Some bs) (sym whole)
 
-begins_with-none : (p : ℕ → Bool) (bytes : List ℕ) → list_any p bytes ≡ false → begins_with p bytes ≡ false
-begins_with-none p [] none = refl
-begins_with-none p (byte ∷ bytes) none = (or_parts (p byte) (list_any p bytes) none).0
-
-before_first-none : (bytes : List ℕ) → list_any is_lf bytes ≡ false → before_first is_lf bytes ≡ bytes
-before_first-none bytes no_lf = rw (position_or_len-none is_lf bytes no_lf) (take_all (length bytes) bytes (omega arith))
-
-after_first-none : (bytes : List ℕ) → list_any is_lf bytes ≡ false → after_first is_lf bytes ≡ []
-after_first-none bytes no_lf = rw (position_or_len-none is_lf bytes no_lf) (drop_all (length bytes + 1) bytes (omega arith))
-
-or-false : (b : Bool) → (b || false) ≡ b
-or-false true = refl
-or-false false = refl
-
-or-true : (b : Bool) → (b || true) ≡ true
-or-true true = refl
-or-true false = refl
-
--- bytes with no LF are spoilt by a CR
-pub is_spoilt-none : (bytes : List ℕ) → list_any is_lf bytes ≡ false → is_spoilt bytes ≡ list_any is_cr bytes
-unfolding is_spoilt
-is_spoilt-none bytes no_lf = rw (begins_with-none is_lf bytes no_lf, before_first-none bytes no_lf, after_first-none bytes no_lf) (or-false (list_any is_cr bytes))
-
--- no block stands in front of bytes with no LF
-pub front_of-none : (bytes : List ℕ) → list_any is_lf bytes ≡ false → front_of bytes ≡ None
+pub front_of-found : (bytes head : List ℕ) → head_of (lines_of bytes) ≡ Some head → length head ≤ 65536 → front_of bytes ≡ Some head
 unfolding front_of
-front_of-none bytes no_lf = rw (after_first-none bytes no_lf, or-true (is_spoilt bytes)) refl
+front_of-found bytes head found within = rw (found, le-leb (length head) 65536 within) refl
 
--- the block in front of bytes with a first LF
-pub front_of-line : (line more : List ℕ) → list_any is_lf line ≡ false → front_of (line ++ 10 ∷ more) ≡ cond (is_spoilt (line ++ 10 ∷ more) || not (begins_with is_lf more)) None (Some (block_of line))
+pub front_of-no_head : (bytes : List ℕ) → head_of (lines_of bytes) ≡ None → front_of bytes ≡ None
 unfolding front_of
-front_of-line line more no_lf = rw (after_first-line line more no_lf, before_first-line line more no_lf) refl
-
--- what is not empty and has no such byte does not begin with one
-pub begins_with-append : (p : ℕ → Bool) (line more : List ℕ) → line ≢ [] → list_any p line ≡ false → begins_with p (line ++ more) ≡ false
-begins_with-append p [] more some none = absurd (some refl)
-begins_with-append p (byte ∷ line) more some none = (or_parts (p byte) (list_any p line) none).0
-
-begins_with-is_lf : (bytes : List ℕ) → begins_with is_lf bytes ≡ true → bytes ≡ 10 ∷ drop 1 bytes
-begins_with-is_lf [] is = cc
-begins_with-is_lf (byte ∷ bytes) is = ap (λ (b : ℕ). b ∷ bytes) (eqb-true byte 10 is)
+front_of-no_head bytes nothing = rw nothing refl
 
 -- a block is found in front, whatever follows it
 pub front_of-append : (block more : List ℕ) → IsBlock block → front_of (block ++ more) ≡ Some block
-front_of-append block more is_block =
-    let line : List ℕ = is_block.line in
-    let begins : begins_with is_lf (line ++ 10 ∷ 10 ∷ more) ≡ false = begins_with-append is_lf line (10 ∷ 10 ∷ more) is_block.is_line.some is_block.is_line.no_lf in
-    let sound : is_spoilt (line ++ 10 ∷ 10 ∷ more) ≡ false = rw (is_spoilt-line line (10 ∷ more) is_block.is_line.no_lf, begins, is_block.is_line.no_cr) refl in
-    rw (is_block.spelling, append_assoc line (10 ∷ 10 ∷ []) more, front_of-line line (10 ∷ more) is_block.is_line.no_lf, sound) refl
+front_of-append block more is_block = front_of-found (block ++ more) block (head_of-head block more is_block.head) is_block.within
+
+-- the head stands in front of the bytes
+pub record HeadInFront (head bytes : List ℕ) : Type 0 where
+  pub is_head : IsHead head
+  pub more : List ℕ
+  pub split : bytes ≡ head ++ more
+
+spelling-headed : (lines : List (List ℕ)) (bytes : List ℕ) (headed : Headed lines bytes) → bytes ≡ spelling_of headed.empties headed.command headed.ended.headers headed.ended.end
+spelling-headed lines bytes headed =
+    headed.spelling ∙ ap (λ (bs : List ℕ). concat headed.empties ++ (headed.command ++ bs)) headed.ended.spelling ∙
+    sym (grouped (concat headed.empties) headed.command (concat headed.ended.headers) headed.ended.end)
+
+-- the bytes of lines that begin with a head
+concat-headed : (lines : List (List ℕ)) (bytes : List ℕ) (headed : Headed lines bytes) → concat lines ≡ bytes ++ concat headed.ended.more
+concat-headed lines bytes headed =
+    let parts : concat lines ≡ concat headed.empties ++ (headed.command ++ (concat headed.ended.headers ++ (headed.ended.end ++ concat headed.ended.more))) =
+    ap concat headed.split ∙ concat-append headed.empties (headed.command ∷ headed.ended_lines) ∙
+    ap (λ (ls : List (List ℕ)). concat headed.empties ++ (headed.command ++ concat ls)) headed.ended.split ∙
+    ap (λ (bs : List ℕ). concat headed.empties ++ (headed.command ++ bs)) (concat-append headed.ended.headers (headed.ended.end ∷ headed.ended.more)) in
+    parts ∙ sym (grouped_behind (concat headed.empties) headed.command (concat headed.ended.headers) headed.ended.end (concat headed.ended.more)) ∙
+    ap (λ (bs : List ℕ). bs ++ concat headed.ended.more) (sym (spelling-headed lines bytes headed))
+
+IsHead-headed : (lines : List (List ℕ)) (bytes : List ℕ) → Headed lines bytes → IsHead bytes
+IsHead-headed lines bytes headed = record {
+  empties = headed.empties;
+  command = headed.command;
+  headers = headed.ended.headers;
+  end = headed.ended.end;
+  are_empty = headed.are_empty;
+  is_command = headed.is_command;
+  are_headers = headed.ended.are_headers;
+  is_end = headed.ended.is_end;
+  spelling = spelling-headed lines bytes headed;
+}
+
+-- what is found in front is a head, and stands there
+pub head_of-stands : (bytes head : List ℕ) → head_of (lines_of bytes) ≡ Some head → HeadInFront head bytes
+head_of-stands bytes head found =
+    let are : AreLines bytes (lines_of bytes) = AreLines-lines_of bytes in
+    let headed : Headed (lines_of bytes) head = head_of-headed (lines_of bytes) head are.all found in
+    record {
+      is_head = IsHead-headed (lines_of bytes) head headed;
+      more = concat headed.ended.more ++ are.behind;
+      split = are.split ∙ ap (λ (bs : List ℕ). bs ++ are.behind) (concat-headed (lines_of bytes) head headed) ∙ append_assoc head (concat headed.ended.more) are.behind;
+    }
 
 -- a block stands in front of the bytes
 pub record StandsInFront (block bytes : List ℕ) : Type 0 where
@@ -106,90 +112,50 @@ pub record StandsInFront (block bytes : List ℕ) : Type 0 where
   pub more : List ℕ
   pub split : bytes ≡ block ++ more
 
-chosen : (b : Bool) (x y : List ℕ) → cond b None (Some x) ≡ Some y → (b ≡ false) × (x ≡ y)
-chosen true x y is = cc
-chosen false x y is = (refl, cc)
-
-front_of-line_stands : (line more block : List ℕ) → list_any is_lf line ≡ false → front_of (line ++ 10 ∷ more) ≡ Some block → StandsInFront block (line ++ 10 ∷ more)
-front_of-line_stands line more block no_lf found =
-    let first : Bool = begins_with is_lf (line ++ 10 ∷ more) in
-    let second : Bool = begins_with (λ byte. not (is_lf byte)) more in
-    let choice : ((is_spoilt (line ++ 10 ∷ more) || not (begins_with is_lf more)) ≡ false) × (block_of line ≡ block) =
-    chosen (is_spoilt (line ++ 10 ∷ more) || not (begins_with is_lf more)) (block_of line) block (rw (front_of-line line more no_lf) at found) in
-    let ended : (is_spoilt (line ++ 10 ∷ more) ≡ false) × (not (begins_with is_lf more) ≡ false) =
-    or_parts (is_spoilt (line ++ 10 ∷ more)) (not (begins_with is_lf more)) choice.0 in
-    let sound : ((first || list_any is_cr line) ≡ false) × (second ≡ false) = or_parts (first || list_any is_cr line) second (rw (is_spoilt-line line more no_lf) at ended.0) in
-    let plain : (first ≡ false) × (list_any is_cr line ≡ false) = or_parts first (list_any is_cr line) sound.0 in
-    record {
-      is_block = record {
-        line = line;
-        is_line = record { some = λ empty. let no : true ≡ false = rw empty at plain.0 in cc; no_lf = no_lf; no_cr = plain.1 };
-        spelling = sym choice.1;
-      };
-      more = drop 1 more;
-      split = rw (← choice.1, append_assoc line (10 ∷ 10 ∷ []) (drop 1 more)) (ap (λ (bytes : List ℕ). line ++ 10 ∷ bytes) (begins_with-is_lf more (not-false (begins_with is_lf more) ended.1)));
-    }
+within_limit-some : (head block : List ℕ) → within_limit head ≡ Some block → (head ≡ block) × (length block ≤ 65536)
+within_limit-some head block found = step (nat_le (length head) 65536) refl
+  where
+    step : (b : Bool) → nat_le (length head) 65536 ≡ b → (head ≡ block) × (length block ≤ 65536)
+    step false is = let no : None ≡ Some block = rw is at found in cc
+    step true is =
+        let here : Some head ≡ Some block = rw is at found in
+        let same : head ≡ block = cc in
+        (same, rw (← same) (leb-true (length head) 65536 is))
 
 -- what is found in front is a block, and stands there
 pub front_of-stands : (bytes block : List ℕ) → front_of bytes ≡ Some block → StandsInFront block bytes
-front_of-stands bytes block found = step (lines bytes)
+unfolding front_of
+front_of-stands bytes block found = step (head_of (lines_of bytes)) refl
   where
-    step : HasLf bytes ⊎ (list_any is_lf bytes ≡ false) → StandsInFront block bytes
-    step (inr none) = let nothing : front_of bytes ≡ None = front_of-none bytes none in cc
-    step (inl has) = rw has.split (front_of-line_stands has.line has.more block has.no_lf (rw has.split at found))
+    step : (head : Option (List ℕ)) → head_of (lines_of bytes) ≡ head → StandsInFront block bytes
+    step None is = let no : None ≡ Some block = rw is at found in cc
+    step (Some head) is =
+        let parts : (head ≡ block) × (length block ≤ 65536) = within_limit-some head block (rw is at found) in
+        let stands : HeadInFront block bytes = head_of-stands bytes block (rw (← parts.0) is) in
+        record { is_block = record { head = stands.is_head; within = parts.1 }; more = stands.more; split = stands.split }
 
-begins_with-grows : (p : ℕ → Bool) (bytes more : List ℕ) → begins_with p bytes ≡ true → begins_with p (bytes ++ more) ≡ true
-begins_with-grows p [] more is = cc
-begins_with-grows p (byte ∷ bytes) more is = is
+-- a front that is no longer than so many bytes is a front of these
+front_within : (n : ℕ) (bytes front more : List ℕ) → bytes ≡ front ++ more → length front ≤ n → take n bytes ≡ front ++ drop (length front) (take n bytes)
+front_within n bytes front more split fits =
+    let same : take (length front) (take n bytes) ≡ front = take-take (length front) n bytes fits ∙ ap (λ (bs : List ℕ). take (length front) bs) split ∙ take_at front more (length front) refl in
+    sym (take-append-drop (length front) (take n bytes)) ∙ ap (λ (bs : List ℕ). bs ++ drop (length front) (take n bytes)) same
 
--- what is spoilt stays so, where the first line was not ended
-is_spoilt-none_grows : (bytes more : List ℕ) → list_any is_lf bytes ≡ false → is_spoilt bytes ≡ true → is_spoilt (bytes ++ more) ≡ true
-is_spoilt-none_grows bytes more no_lf spoilt = step (lines more)
+-- the block in front is found in as many bytes as it may have
+pub front_of-take : (n : ℕ) (bytes : List ℕ) → 65536 ≤ n → front_of (take n bytes) ≡ front_of bytes
+front_of-take n bytes enough = step (front_of bytes) refl
   where
-    has_cr : (behind : List ℕ) → list_any is_cr (bytes ++ behind) ≡ true
-    has_cr behind = rw (list_any-append is_cr bytes behind) (or_left (list_any is_cr bytes) (list_any is_cr behind) (rw (is_spoilt-none bytes no_lf) at spoilt))
+    grown : (found : Option (List ℕ)) → front_of (take n bytes) ≡ found → front_of bytes ≡ None → found ≡ None
+    grown None is nothing = refl
+    grown (Some block) is nothing =
+        let stands : StandsInFront block (take n bytes) = front_of-stands (take n bytes) block is in
+        let split : bytes ≡ block ++ (stands.more ++ drop n bytes) =
+        sym (take-append-drop n bytes) ∙ ap (λ (bs : List ℕ). bs ++ drop n bytes) stands.split ∙ append_assoc block stands.more (drop n bytes) in
+        let found : front_of bytes ≡ Some block = ap front_of split ∙ front_of-append block (stands.more ++ drop n bytes) stands.is_block in
+        cc
 
-    step : HasLf more ⊎ (list_any is_lf more ≡ false) → is_spoilt (bytes ++ more) ≡ true
-    step (inr none) =
-        let no_lf' : list_any is_lf (bytes ++ more) ≡ false = rw (list_any-append is_lf bytes more, no_lf, none) refl in
-        rw (is_spoilt-none (bytes ++ more) no_lf') (has_cr more)
-    step (inl has) =
-        let line : List ℕ = bytes ++ has.line in
-        let no_lf' : list_any is_lf line ≡ false = rw (list_any-append is_lf bytes has.line, no_lf, has.no_lf) refl in
-        rw (has.split, ← append_assoc bytes has.line (10 ∷ has.more), is_spoilt-line line has.more no_lf')
-        (or_left (begins_with is_lf (line ++ 10 ∷ has.more) || list_any is_cr line) (begins_with (λ byte. not (is_lf byte)) has.more) (or_right (begins_with is_lf (line ++ 10 ∷ has.more)) (list_any is_cr line) (has_cr has.line)))
-
--- what is spoilt stays so, where it was
-is_spoilt-line_grows : (line behind more : List ℕ) → list_any is_lf line ≡ false → is_spoilt (line ++ 10 ∷ behind) ≡ true → is_spoilt (line ++ 10 ∷ (behind ++ more)) ≡ true
-is_spoilt-line_grows line behind more no_lf spoilt = rw (is_spoilt-line line (behind ++ more) no_lf) (step (or_cases (first || has_cr) second (rw (is_spoilt-line line behind no_lf) at spoilt)))
-  where
-    first : Bool
-    first = begins_with is_lf (line ++ 10 ∷ behind)
-
-    has_cr : Bool
-    has_cr = list_any is_cr line
-
-    second : Bool
-    second = begins_with (λ byte. not (is_lf byte)) behind
-
-    first' : Bool
-    first' = begins_with is_lf (line ++ 10 ∷ (behind ++ more))
-
-    second' : Bool
-    second' = begins_with (λ byte. not (is_lf byte)) (behind ++ more)
-
-    in_front : (first ≡ true) ⊎ (has_cr ≡ true) → (first' || has_cr) ≡ true
-    in_front (inl is) = or_left first' has_cr (rw (append_assoc line (10 ∷ behind) more) at (begins_with-grows is_lf (line ++ 10 ∷ behind) more is))
-    in_front (inr is) = or_right first' has_cr is
-
-    step : ((first || has_cr) ≡ true) ⊎ (second ≡ true) → (first' || has_cr || second') ≡ true
-    step (inl is) = or_left (first' || has_cr) second' (in_front (or_cases first has_cr is))
-    step (inr is) = or_right (first' || has_cr) second' (begins_with-grows (λ byte. not (is_lf byte)) behind more is)
-
--- what is spoilt stays so, whatever follows
-pub is_spoilt-append : (bytes more : List ℕ) → is_spoilt bytes ≡ true → is_spoilt (bytes ++ more) ≡ true
-is_spoilt-append bytes more spoilt = step (lines bytes)
-  where
-    step : HasLf bytes ⊎ (list_any is_lf bytes ≡ false) → is_spoilt (bytes ++ more) ≡ true
-    step (inr none) = is_spoilt-none_grows bytes more none spoilt
-    step (inl has) = rw (has.split, append_assoc has.line (10 ∷ has.more) more) (is_spoilt-line_grows has.line has.more more has.no_lf (rw has.split at spoilt))
+    step : (found : Option (List ℕ)) → front_of bytes ≡ found → front_of (take n bytes) ≡ front_of bytes
+    step None is = grown (front_of (take n bytes)) refl is ∙ sym is
+    step (Some block) is =
+        let stands : StandsInFront block bytes = front_of-stands bytes block is in
+        let split : take n bytes ≡ block ++ drop (length block) (take n bytes) = front_within n bytes block stands.more stands.split (omega (arith, stands.is_block.within)) in
+        ap front_of split ∙ front_of-append block (drop (length block) (take n bytes)) stands.is_block ∙ sym is

@@ -1,11 +1,11 @@
 -- What a buffer answers over a whole list of calls.
-use Rattle.std.specs.Prelude.{◌≡◌, ◌-◌, ℕ, Bool, true, false, List, [], ◌∷◌, ◌++◌, length, ⊤}
-use Rattle.fs_frame.specs.Block.{is_later}
+use Rattle.std.specs.Prelude.{◌≡◌, ℕ, Bool, true, false, List, [], ◌∷◌, ◌++◌, ⊤}
+use Rattle.fs_frame.specs.Block.{too_long}
 use Rattle.fs_frame.specs.Blocks.{blocks_of, rest_of}
 use Rattle.fs_frame.specs.Stream.{Stream, fresh, fed_with, handed_out}
 use Rattle.fs_frame.specs.Next.{IsNext, bytes_of}
 use Rattle.fs_frame.specs.declared.next.Next.{Next}
-use Rattle.fs_frame.specs.declared.next.Next.TheVariants.{Block, NeedMore, Later}
+use Rattle.fs_frame.specs.declared.next.Next.TheVariants.{Block, NeedMore, TooLong}
 
 -- a call on the buffer: a piece was fed, or the next block was asked for and this was the answer
 pub data Call : Type 0 where
@@ -34,34 +34,26 @@ blocks_in [] = []
 blocks_in (fed piece ∷ calls) = blocks_in calls
 blocks_in (asked (Block block) ∷ calls) = bytes_of block ∷ blocks_in calls
 blocks_in (asked NeedMore ∷ calls) = blocks_in calls
-blocks_in (asked Later ∷ calls) = blocks_in calls
+blocks_in (asked (TooLong len) ∷ calls) = blocks_in calls
 
 -- the blocks come first among those of the stream
 abbrev pub ComeFirst : List (List ℕ) → List ℕ → Type 0
 ComeFirst blocks stream = (more : List (List ℕ)) × (blocks_of stream ≡ blocks ++ more)
 
--- the blocks are all of the stream, and its rest decides whether another may still come
+-- the blocks are all of the stream, and whether its rest is too long is as said
 abbrev pub IsUsedUp : List (List ℕ) → List ℕ → Bool → Type 0
-IsUsedUp blocks stream later = (blocks_of stream ≡ blocks) × (is_later (65536 - length stream) (rest_of stream) ≡ later)
+IsUsedUp blocks stream long = (blocks_of stream ≡ blocks) × (too_long (rest_of stream) ≡ long)
 
 -- the answer that follows when these blocks of the stream were handed out
 abbrev pub Follows : List (List ℕ) → List ℕ → Next → Type 0
 Follows blocks stream (Block block) = ComeFirst (blocks ++ bytes_of block ∷ []) stream
 Follows blocks stream NeedMore = IsUsedUp blocks stream false
-Follows blocks stream Later = IsUsedUp blocks stream true
+Follows blocks stream (TooLong len) = IsUsedUp blocks stream true × (len ≡ 65537)
 
--- no answer asks for more
-abbrev pub NeverNeedMore : List Call → Type 0
-NeverNeedMore [] = ⊤
-NeverNeedMore (fed piece ∷ calls) = NeverNeedMore calls
-NeverNeedMore (asked (Block block) ∷ calls) = NeverNeedMore calls
-NeverNeedMore (asked NeedMore ∷ calls) = ⊥
-NeverNeedMore (asked Later ∷ calls) = NeverNeedMore calls
-
--- each answer is `Later`
-abbrev pub AlwaysLater : List Call → Type 0
-AlwaysLater [] = ⊤
-AlwaysLater (fed piece ∷ calls) = AlwaysLater calls
-AlwaysLater (asked (Block block) ∷ calls) = ⊥
-AlwaysLater (asked NeedMore ∷ calls) = ⊥
-AlwaysLater (asked Later ∷ calls) = AlwaysLater calls
+-- each answer is `TooLong` with this length
+abbrev pub AlwaysTooLong : ℕ → List Call → Type 0
+AlwaysTooLong len [] = ⊤
+AlwaysTooLong len (fed piece ∷ calls) = AlwaysTooLong len calls
+AlwaysTooLong len (asked (Block block) ∷ calls) = ⊥
+AlwaysTooLong len (asked NeedMore ∷ calls) = ⊥
+AlwaysTooLong len (asked (TooLong again) ∷ calls) = (again ≡ len) × AlwaysTooLong len calls

@@ -1,23 +1,22 @@
 -- What a buffer of blocks stands for.
-use Rattle.std.specs.Prelude.{ℕ, ◌-◌, List, [], ◌++◌, length, drop, unwrap_or}
+use Rattle.std.specs.Prelude.{ℕ, List, [], ◌++◌, length, drop, unwrap_or}
 use Rattle.fs_frame.specs.Block.{front_of}
 
--- how many bytes may still be fed, the block that the last call handed out, and all bytes behind what was handed out
+-- the block that the last call handed out, and all bytes behind what was handed out
 pub record Stream : Type 0 where
-  pub room : ℕ
   pub last : List ℕ
   pub rest : List ℕ
 
 -- nothing was fed yet
 abbrev pub fresh : Stream
-fresh = record { room = 65536; last = []; rest = [] }
+fresh = record { last = []; rest = [] }
 
 -- one more piece was fed
 abbrev pub fed_with : Stream → List ℕ → Stream
-fed_with s piece = record { room = s.room - length piece; last = []; rest = s.rest ++ piece }
+fed_with s piece = record { last = []; rest = s.rest ++ piece }
 
 -- the block in front was handed out, if one stood there
 unfoldable pub handed_out : Stream → Stream
 handed_out s =
     let block = unwrap_or (front_of s.rest) [] in
-    record { room = s.room; last = block; rest = drop (length block) s.rest }
+    record { last = block; rest = drop (length block) s.rest }

@@ -1,29 +1,25 @@
 use crate::block::Block;
-use crate::front::{Front, look};
+use crate::front::{Front, MOST_BYTES, look};
 use crate::next::Next;
+use crate::scan::Scan;
 use fs_text::Memory;
 use std::alloc::Global;
 use std::marker::Model;
-
-/// How many bytes may be fed in all.
-const MOST_BYTES: usize = 65_536;
 
 /// How many bytes a new buffer has place for.
 const FIRST_BYTES: usize = 4_096;
 
 /// A buffer that cuts a stream of bytes into blocks, in whatever pieces the bytes come.
 ///
-/// A contract sees it as a stream: how many bytes may still be fed, the block that was handed out last, and the
-/// bytes that were fed and not handed out.
+/// A contract sees it as a stream: the block that was handed out last, and the bytes that were fed and not handed out.
 #[derive(Drop)]
 pub struct Blocks {
     bytes: Vec<u8>,
     // The block handed out last begins at `lent`, and the rest begins at `start`.
     lent: usize,
     start: usize,
-    // So many bytes of the rest were searched, and are neither LF nor CR.
-    plain: usize,
-    room: usize,
+    // So far the rest was searched.
+    scan: Scan,
 }
 
 impl Model for Blocks {
@@ -33,9 +29,9 @@ impl Model for Blocks {
 
     ghost Value = { Stream };
 
-    ghost view = { λ b. record { room = b.room; last = slice_range b.bytes.items b.lent b.start; rest = drop b.start b.bytes.items } };
+    ghost view = { λ b. record { last = slice_range b.bytes.items b.lent b.start; rest = drop b.start b.bytes.items } };
 
-    ghost invariant = { λ b. IsLaidOut b.bytes.items b.lent b.start b.plain };
+    ghost invariant = { λ b. IsLaidOut b.bytes.items b.lent b.start b.scan };
 }
 
 impl Blocks {
@@ -57,8 +53,7 @@ impl Blocks {
             bytes,
             lent: 0,
             start: 0,
-            plain: 0,
-            room: MOST_BYTES,
+            scan: Scan::at(0, None),
         })
     }
 
@@ -68,16 +63,8 @@ impl Blocks {
         ensures err { OnErr result (self.new ≡ self.old) }
     {
         self.bytes.extend_from_slice(piece)?;
-        self.room = self.room.saturating_sub(piece.len());
         self.let_go();
         Ok(())
-    }
-
-    /// How many bytes may still be fed.
-    pub fn room(&self) -> usize
-        ensures { result ≡ self.now.room }
-    {
-        self.room
     }
 
     /// Hands out the block in front, or says whether one may still come.
@@ -109,14 +96,13 @@ impl Blocks {
         ensures front { IsFront self.old.rest result }
     {
         self.lent = self.start;
-        let front = look(&self.bytes[self.start..], self.plain);
+        let front = look(&self.bytes[self.start..], self.scan);
         match front {
-            Front::Whole { line_len } => {
-                self.start += line_len + 2;
-                self.plain = 0;
+            Front::Whole { len, .. } => {
+                self.start += len;
+                self.scan = Scan::at(0, None);
             }
-            Front::Open { plain } => self.plain = plain,
-            Front::Spoilt => {}
+            Front::Open { scan } => self.scan = scan,
         }
         front
     }
@@ -127,12 +113,13 @@ impl Blocks {
         ensures { IsAnswer self.now front result }
     {
         match front {
-            Front::Whole { line_len } => Next::Block(Block::cut(
-                &self.bytes[self.lent..self.start],
-                line_len,
-            )),
-            Front::Open { .. } if self.room > 0 => Next::NeedMore,
-            _ => Next::Later,
+            Front::Whole { line, .. } => {
+                Next::Block(Block::cut(&self.bytes[self.lent..self.start], line))
+            }
+            Front::Open { .. } if self.bytes.len() - self.start > MOST_BYTES => Next::TooLong {
+                len: MOST_BYTES as u64 + 1,
+            },
+            Front::Open { .. } => Next::NeedMore,
         }
     }
 }

@@ -1,56 +1,46 @@
-ghost use Rattle.std.specs.Prelude.{◌≡◌, ◌≤◌, length};
-ghost use Rattle.std.specs.List.{list_any, position_or_len};
-ghost use Rattle.fs_frame.specs.Block.{is_lf, is_cr};
-ghost use Rattle.fs_frame.specs.Front.{ArePlain, IsFront};
+ghost use Rattle.std.specs.Prelude.{◌≡◌};
+ghost use Rattle.fs_frame.specs.Front.{IsFound, IsFront, IsScanned, within_reach};
 
-use fs_text::place_of;
+use crate::scan::{Scan, next_line};
+use crate::span::Span;
 
-const LF: u8 = b'\n';
-
-const CR: u8 = b'\r';
+/// How many bytes a block may have.
+pub const MOST_BYTES: usize = 65_536;
 
 /// What stands in front of some bytes.
 #[derive(Clone, Copy)]
 pub enum Front {
-    /// A whole block, whose line has this length.
-    Whole { line_len: usize },
-    /// No whole block, but one may come of it. So many bytes in front are neither LF nor CR.
-    Open { plain: usize },
-    /// No block, whatever follows.
-    Spoilt,
+    /// A whole block of this length, whose line is this part of it.
+    Whole { len: usize, line: Span },
+    /// No whole block. A search of more bytes goes on from here.
+    Open { scan: Scan },
 }
 
-/// What stands in front of the bytes, of which the first `plain` are neither LF nor CR.
-pub fn look(bytes: &[u8], plain: usize) -> Front
-    requires { ArePlain plain bytes.now }
+/// What stands in front of the bytes, of which a search came so far.
+pub fn look(bytes: &[u8], scan: Scan) -> Front
+    requires { IsScanned (within_reach bytes.now) scan }
     ensures { IsFront bytes.now result }
 {
-    let line_len = line_end(bytes, plain);
-    let (line, behind) = bytes.split_at(line_len);
-    if has_cr(&line[plain..]) {
-        return Front::Spoilt;
-    }
-    match behind {
-        [] => Front::Open { plain: line_len },
-        _ if line_len == 0 => Front::Spoilt,
-        [_] => Front::Open { plain: line_len },
-        [_, LF, ..] => Front::Whole { line_len },
-        _ => Front::Spoilt,
-    }
+    let end = bytes.len().min(MOST_BYTES);
+    search(&bytes[..end], scan)
 }
 
-// How many bytes stand before the first LF, or all where there is none.
-fn line_end(bytes: &[u8], plain: usize) -> usize
-    requires { ArePlain plain bytes.now }
-    ensures place { result ≡ position_or_len is_lf bytes.now }
-    ensures from { plain ≤ result }
-    ensures to { result ≤ length bytes.now }
+// What a search of all the bytes finds, where it came so far.
+fn search(bytes: &[u8], scan: Scan) -> Front
+    requires { IsScanned bytes.now scan }
+    ensures { IsFound bytes.now result }
 {
-    plain + place_of(LF, &bytes[plain..])
-}
-
-fn has_cr(text: &[u8]) -> bool
-    ensures { result ≡ list_any is_cr text.now }
-{
-    place_of(CR, text) < text.len()
+    let mut scan = scan;
+    while let Some(line) = next_line(&bytes[scan.passed..], scan.searched) {
+        match scan.behind(line) {
+            Front::Open { scan: behind } => scan = behind,
+            whole => return whole,
+        }
+    }
+    Front::Open {
+        scan: Scan {
+            searched: bytes.len() - scan.passed,
+            ..scan
+        },
+    }
 }

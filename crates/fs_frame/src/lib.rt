@@ -10,10 +10,12 @@ mod blocks;
 mod front;
 mod laws;
 mod next;
+mod scan;
+mod span;
 #[cfg(test)]
 mod tests;
 
 pub use block::Block;
 pub use blocks::Blocks;
-pub use laws::{however_cut, later_stays, one_reading};
+pub use laws::{however_cut, one_reading, too_long_stays};
 pub use next::Next;

@@ -7,7 +7,7 @@ pub enum Next<'a> {
     Block(Block<'a>),
     /// No whole block stands in front, and one may come with what is fed next.
     NeedMore,
-    /// No whole block stands in front, and the input cannot be read on: a block begins with an empty line or
-    /// holds a CR, more than an empty line follows its first line, or all bytes were fed that may be fed.
-    Later,
+    /// No whole block stands in front, and none can come: more bytes are there than a block may have. `len` is the
+    /// number of bytes that were looked at. Every later answer is the same.
+    TooLong { len: u64 },
 }

@@ -8,55 +8,35 @@ use std::test::Fail;
 struct Case {
     name: &'static str,
     input: &'static [u8],
-    // Each line that is handed out stands behind a bar. The last byte is `+` for NeedMore and `!` for Later.
+    // Each line that is handed out stands behind a bar. The last byte is `+` for NeedMore and `!` for TooLong.
     told: &'static [u8],
 }
 
-const CASES: [Case; 9] = [
+const CASES: [Case; 5] = [
     Case {
         name: "nothing",
         input: b"",
         told: b"+",
     },
     Case {
-        name: "three commands",
-        input: b"auth ClueCon\n\napi echo hi\n\nexit\n\n",
-        told: b"|auth ClueCon|api echo hi|exit+",
+        name: "CR LF, empty lines in front, and header lines",
+        input: b"\r\n\nauth ClueCon\r\nA: b\r\nC\n\r\n\n\nexit\n\nau",
+        told: b"|auth ClueCon|exit+",
     },
     Case {
-        name: "half a line",
-        input: b"exit\n\nau",
-        told: b"|exit+",
-    },
-    Case {
-        name: "a line and its end",
-        input: b"exit\n",
+        name: "no empty line yet",
+        input: b"exit\nA: b\n",
         told: b"+",
     },
     Case {
-        name: "an empty line first",
-        input: b"\nexit\n\n",
-        told: b"!",
+        name: "empty lines alone",
+        input: b"\n\r\n\n",
+        told: b"+",
     },
     Case {
-        name: "three ends",
-        input: b"exit\n\n\n",
-        told: b"|exit!",
-    },
-    Case {
-        name: "CR LF",
-        input: b"auth ClueCon\r\n\r\nexit\r\n\r\n",
-        told: b"!",
-    },
-    Case {
-        name: "a CR behind a block",
-        input: b"exit\n\nau\r",
-        told: b"|exit!",
-    },
-    Case {
-        name: "a header line",
-        input: b"api echo hi\nA: b\n\n",
-        told: b"!",
+        name: "CRs that stay",
+        input: b"a\rb\r\r\n\r\r\n\r\n\r\r\n\n",
+        told: b"|a\rb\r|\r+",
     },
 ];
 
@@ -75,10 +55,10 @@ fn told(alloc: Global, input: &[u8], size: usize) -> Result<Vec<u8>, Memory>
             }
         }
     }
-    told.push(if let Next::Later = blocks.next_block() {
-        b'!'
-    } else {
-        b'+'
+    told.push(match blocks.next_block() {
+        Next::Block(_) => b'?',
+        Next::NeedMore => b'+',
+        Next::TooLong { .. } => b'!',
     })?;
     Ok(told)
 }
@@ -86,7 +66,7 @@ fn told(alloc: Global, input: &[u8], size: usize) -> Result<Vec<u8>, Memory>
 #[test]
 fn cuts_streams(rt: HostRuntime) -> Result<(), Fail> {
     for case in &CASES {
-        for size in [1, 2, 7, 4096] {
+        for size in [1, 2, 7] {
             let told = told(rt.alloc(), case.input, size)?;
             let name = case.name;
             assert_eq!(rt; told.as_slice(), case.told, "{name} by {size}");
@@ -98,30 +78,54 @@ fn cuts_streams(rt: HostRuntime) -> Result<(), Fail> {
 #[test]
 fn lends_blocks(rt: HostRuntime) -> Result<(), Fail> {
     let mut blocks = Blocks::new(rt.alloc())?;
-    blocks.feed(b"exit\n\nrest")?;
-    assert_eq!(rt; blocks.room(), 65_526);
+    blocks.feed(b"\r\nexit\n\nrest")?;
     let next = blocks.next_block();
     if let Next::Block(block) = next {
-        assert_eq!(rt; block.bytes(), b"exit\n\n".as_slice());
+        assert_eq!(rt; block.bytes(), b"\r\nexit\n\n".as_slice());
     }
     assert_eq!(rt;
         format!(in rt.alloc(); "{next:?}")?.as_str(),
-        "Block(Block { bytes: [101, 120, 105, 116, 10, 10], line_len: 4 })"
+        "Block(Block { bytes: [13, 10, 101, 120, 105, 116, 10, 10], line: Span { start: 2, len: 4 } })"
     );
     Ok(())
 }
 
-#[test]
-fn takes_no_more_than_fits(rt: HostRuntime) -> Result<(), Fail> {
-    let mut blocks = Blocks::new(rt.alloc())?;
-    for _ in 0..16 {
-        assert!(rt; matches!(blocks.next_block(), Next::NeedMore));
-        blocks.feed(&[b'x'; 4096])?;
+// An empty line and a block of one line, so many bytes in all.
+fn long_block(alloc: Global, len: usize) -> Result<Vec<u8>, Memory>
+    requires { 3 < len }
+{
+    let mut bytes = Vec::from_slice(alloc, b"\n")?;
+    for _ in 0..len - 3 {
+        bytes.push(b'x')?;
     }
-    assert_eq!(rt; blocks.room(), 0);
-    assert!(rt; matches!(blocks.next_block(), Next::Later));
-    blocks.feed(b"\n\n")?;
-    assert!(rt; matches!(blocks.next_block(), Next::Block(_)));
-    assert!(rt; matches!(blocks.next_block(), Next::Later));
+    bytes.extend_from_slice(b"\n\n")?;
+    Ok(bytes)
+}
+
+#[test]
+fn takes_blocks_to_the_limit(rt: HostRuntime) -> Result<(), Fail> {
+    let told_within = told(
+        rt.alloc(),
+        long_block(rt.alloc(), 65_536)?.as_slice(),
+        4_096,
+    )?;
+    assert_eq!(rt; told_within.len(), 65_535);
+    assert_eq!(rt; told_within.last().copied(), Some(b'+'));
+    let told_above = told(
+        rt.alloc(),
+        long_block(rt.alloc(), 65_537)?.as_slice(),
+        4_096,
+    )?;
+    assert_eq!(rt; told_above.as_slice(), b"!".as_slice());
+    Ok(())
+}
+
+#[test]
+fn stays_too_long(rt: HostRuntime) -> Result<(), Fail> {
+    let mut blocks = Blocks::new(rt.alloc())?;
+    blocks.feed(long_block(rt.alloc(), 65_537)?.as_slice())?;
+    assert!(rt; matches!(blocks.next_block(), Next::TooLong { len: 65_537 }));
+    blocks.feed(b"exit\n\n")?;
+    assert!(rt; matches!(blocks.next_block(), Next::TooLong { len: 65_537 }));
     Ok(())
 }

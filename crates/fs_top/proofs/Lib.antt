@@ -1,4 +1,6 @@
+mod EndLaws
 mod JournalLaws
+mod LimitLaws
 mod Lines
 mod PlayLaws
 mod RunLaws

@@ -1,15 +1,23 @@
 -- What is written over a play, and which commands stand in its journal.
-use Rattle.std.proofs.Common.{◌≡◌, ℕ, zero, suc, Bool, true, false, List, [], ◌∷◌, ◌++◌, length, drop, refl, sym, ap, ◌∙◌, append_assoc, append-nil, cond, arith}
+use Rattle.std.proofs.Common.{◌≡◌, ◌≢◌, ◌==◌, ◌<◌, ℕ, zero, suc, Bool, true, false, List, [], ◌∷◌, ◌++◌, length, drop, refl, sym, ap, ◌∙◌, append_assoc, append-nil, length-append, cond, arith}
 use Rattle.std.proofs.lemmas.List.{take-append-drop, drop_all}
 use Rattle.std.specs.List.{concat}
 use lib.ListN.{replicate}
 use Rattle.fs_frame.specs.Blocks.{blocks_of}
-use Rattle.fs_top.specs.Switch.{State, empty, step, run, run_from, frames, frames_from, taken_from, handed, queued, queue_after, command_in, commands}
-use Rattle.fs_top.specs.Play.{submitted, command, take_frame, close, all_taken, opened, is_ending, after, after_all, input_ended, closed, play}
+use Rattle.fs_top.specs.Switch.{State, empty, step, run, run_from, bytes_taken, frames, frames_from, taken_from, handed, queued, queue_after, command_in, commands}
+use Rattle.fs_top.specs.Journal.{cost, journal_limit, accepted, IsAccepted, IsCutShort}
+use Rattle.fs_top.specs.Told.{status_of_end}
+use Rattle.fs_top.specs.Takes.{Begins}
+use Rattle.fs_top.specs.declared.end.End.TheVariants.{JournalFull}
+use Rattle.std.proofs.lemmas.Bool.{eqb-true}
+use Rattle.std.proofs.lemmas.List.Folds.{concat-append}
+use Rattle.fs_top.specs.Play.{whole_journal, end_of, submitted, command, take_frame, close, all_taken, opened, is_ending, after, after_all, input_ended, closed, play}
 use Rattle.fs_top.specs.declared.entry.Entry.{Entry}
 use Rattle.fs_top.specs.declared.entry.Act.{Act}
 use Rattle.fs_top.specs.declared.entry.Act.TheVariants.{Arrive, Command, Take, Close}
 use Rattle.fs_top.specs.declared.entry.Closing.TheVariants.{EndOfInput, Sent}
+use Rattle.fs_top.proofs.LimitLaws.{accepted-begins, accepted-again, begins-all, full-accepted}
+use Rattle.fs_top.proofs.RunLaws.{full-cut}
 use Rattle.fs_top.proofs.JournalLaws.{entry_of, run_from-append, run-submitted, after-open, after-ending, after_all-ending}
 
 -- what an act hands out, and what waits behind it, is what waited and what it queues
@@ -63,12 +71,35 @@ queue-input_ended journal none =
 queue-closed : (journal : List Entry) → (run journal).queue ≡ [] → (run (closed journal)).queue ≡ []
 queue-closed journal none = ap (λ s. s.queue) (run-submitted (input_ended journal) (close Sent)) ∙ queue-input_ended journal none
 
-pub output-frames : (input : List ℕ) (read_failed : Bool) → (play input read_failed).output ≡ concat (frames (play input read_failed).journal)
+-- the bytes that were taken are a front of those of all frames
+pub bytes-frames : (journal : List Entry) → concat (frames journal) ≡ bytes_taken journal ++ concat (run journal).queue
+bytes-frames journal = ap concat (sym (taken-frames empty journal)) ∙ concat-append (taken_from empty journal) (run journal).queue
+
+-- the output of a play is what its journal took
+pub output-taken : (input : List ℕ) (read_failed : Bool) → (play input read_failed).output ≡ bytes_taken (play input read_failed).journal
 unfolding play
-output-frames input read_failed =
-    let journal = closed (after_all opened (blocks_of input)) in
+output-taken input read_failed = refl
+
+-- a play that no limit cuts short takes all of them
+output-whole : (input : List ℕ) → bytes_taken (whole_journal input) ≡ concat (frames (whole_journal input))
+output-whole input =
     let none = queue-closed (after_all opened (blocks_of input)) (queue-after_all opened (blocks_of input) (queue-all_taken (submitted [] Arrive))) in
-    ap concat (sym (append-nil (taken_from empty journal)) ∙ ap (λ xs. taken_from empty journal ++ xs) (sym none) ∙ taken-frames empty journal)
+    sym (bytes-frames (whole_journal input) ∙ ap (λ q. bytes_taken (whole_journal input) ++ concat q) none ∙ append-nil (bytes_taken (whole_journal input)))
+
+-- a play that does not end by a full journal has the whole one
+pub journal-whole : (input : List ℕ) (read_failed : Bool) → status_of_end (play input read_failed).end ≢ 8 → (play input read_failed).journal ≡ whole_journal input
+unfolding play
+journal-whole input read_failed not_full = by (length (accepted (whole_journal input)) == length (whole_journal input)) refl not_full
+  where
+    by : (same : Bool) → (length (accepted (whole_journal input)) == length (whole_journal input)) ≡ same →
+        status_of_end (cond same (end_of input read_failed) (JournalFull (cost (accepted (whole_journal input))) journal_limit)) ≢ 8 → accepted (whole_journal input) ≡ whole_journal input
+    by true is not_full = begins-all (accepted (whole_journal input)) (whole_journal input) (accepted-begins (whole_journal input)) (eqb-true (length (accepted (whole_journal input))) (length (whole_journal input)) is)
+    by false is not_full = absurd (not_full refl)
+
+pub output-frames : (input : List ℕ) (read_failed : Bool) → status_of_end (play input read_failed).end ≢ 8 → (play input read_failed).output ≡ concat (frames (play input read_failed).journal)
+output-frames input read_failed not_full =
+    let whole = journal-whole input read_failed not_full in
+    output-taken input read_failed ∙ ap bytes_taken whole ∙ output-whole input ∙ ap (λ j. concat (frames j)) (sym whole)
 
 commands-append : (xs ys : List Entry) → commands (xs ++ ys) ≡ commands xs ++ commands ys
 commands-append [] ys = refl
@@ -123,9 +154,38 @@ commands-input_ended journal =
       | false ↦ commands-all_taken (submitted journal (close EndOfInput)) ∙ commands-submitted journal (close EndOfInput) refl
     ]
 
+-- of the commands of a whole journal, a front of it has the first ones
+commands-begins : (journal whole : List Entry) → Begins journal whole → (more : List (List ℕ)) × (commands whole ≡ commands journal ++ more)
+commands-begins journal whole begins = (commands begins.more, ap commands begins.split ∙ commands-append journal begins.more)
+
 pub commands-play : (input : List ℕ) (read_failed : Bool) → (more : List (List ℕ)) × (blocks_of input ≡ commands (play input read_failed).journal ++ more)
 unfolding play
 commands-play input read_failed =
     let fronts = commands-after_all opened (blocks_of input) in
     let same = commands-submitted (input_ended (after_all opened (blocks_of input))) (close Sent) refl ∙ commands-input_ended (after_all opened (blocks_of input)) in
-    (fronts.more, fronts.split ∙ ap (λ xs. xs ++ fronts.more) (sym same))
+    let first = commands-begins (accepted (whole_journal input)) (whole_journal input) (accepted-begins (whole_journal input)) in (
+      first.0 ++ fronts.more,
+      fronts.split ∙ ap (λ xs. xs ++ fronts.more) (sym same ∙ first.1) ∙ append_assoc (commands (accepted (whole_journal input))) first.0 fronts.more,
+    )
+
+-- each entry of a play was accepted
+pub accepted-play : (input : List ℕ) (read_failed : Bool) → IsAccepted (play input read_failed).journal
+unfolding play
+accepted-play input read_failed = accepted-again (whole_journal input)
+
+-- and where it ends by a full journal, a further one was to come
+pub full-play : (input : List ℕ) (read_failed : Bool) → status_of_end (play input read_failed).end ≡ 8 → IsCutShort (play input read_failed).journal (whole_journal input)
+unfolding play
+full-play input read_failed eight =
+    let journal = accepted (whole_journal input) in
+    let differs = full-cut input read_failed eight in
+    let begins = accepted-begins (whole_journal input) in
+    let long = ap length begins.split ∙ length-append journal begins.more in record {
+      full = full-accepted (whole_journal input) differs;
+      more = begins.more;
+      split = begins.split;
+      some = nonzero (length begins.more) (λ none. differs (omega (arith, long, none)));
+    }
+  where
+    nonzero : (n : ℕ) → n ≢ 0 → 0 < n
+    nonzero n some = omega (arith, some)

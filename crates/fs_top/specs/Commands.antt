@@ -2,9 +2,9 @@
 use Rattle.std.specs.Prelude.{ℕ, Bool, ◌==◌, not, List, [], ◌∷◌, length, drop, codes, if◌then◌else◌}
 use Rattle.std.specs.List.{before_first, after_first, position_or_len}
 use Rattle.std.specs.Str.{bytes_eq}
-use Rattle.fs_top.specs.Texts.{command_reply, api_response, notice, accepted, bye, not_found, no_reply, api_not_found}
+use Rattle.fs_top.specs.Texts.{command_reply, api_response, notice, accepted, invalid, bye, not_found, no_reply, api_not_found}
 use Rattle.fs_top.specs.declared.phase.Phase.{Phase}
-use Rattle.fs_top.specs.declared.phase.Phase.TheVariants.{Fresh, Ready, Ending, Closed}
+use Rattle.fs_top.specs.declared.phase.Phase.TheVariants.{Fresh, Ready, Ending, Refused, Closed}
 
 abbrev pub is_space : ℕ → Bool
 is_space byte = byte == 32
@@ -65,15 +65,20 @@ replies phase text = record { phase = phase; frames = command_reply text ∷ [] 
 unfoldable pub password : List ℕ
 password = codes "ClueCon"
 
+-- a last reply, and the notice
+abbrev pub ends_with : Phase → List ℕ → Answer
+ends_with phase text = record { phase = phase; frames = command_reply text ∷ notice ∷ [] }
+
 -- the answer to a command. Before a password was accepted, `auth` and `exit` alone are known.
 unfoldable pub answer : Phase → Command → Answer
-answer Fresh (Auth given) = if bytes_eq given password then replies Ready accepted else replies Fresh not_found
-answer Fresh Exit = record { phase = Ending; frames = command_reply bye ∷ notice ∷ [] }
+answer Fresh (Auth given) = if bytes_eq given password then replies Ready accepted else ends_with Refused invalid
+answer Fresh Exit = ends_with Ending bye
 answer Fresh (Api text) = replies Fresh not_found
 answer Fresh Unknown = replies Fresh not_found
 answer Ready (Auth given) = replies Ready not_found
-answer Ready Exit = record { phase = Ending; frames = command_reply bye ∷ notice ∷ [] }
+answer Ready Exit = ends_with Ending bye
 answer Ready (Api text) = record { phase = Ready; frames = api_response (spoken (api_answer text)) ∷ [] }
 answer Ready Unknown = replies Ready not_found
 answer Ending command = record { phase = Ending; frames = [] }
+answer Refused command = record { phase = Refused; frames = [] }
 answer Closed command = record { phase = Closed; frames = [] }

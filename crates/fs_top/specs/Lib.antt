@@ -2,6 +2,7 @@ pub mod Texts
 pub mod Commands
 pub mod Reading
 pub mod Switch
+pub mod Journal
 pub mod Play
 pub mod Takes
 pub mod Turns

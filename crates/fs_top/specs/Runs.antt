@@ -1,5 +1,5 @@
 -- What a run of the program does, and the causes of its statuses.
-use Rattle.std.specs.Prelude.{◌≡◌, ◌≢◌, ℕ, Bool, false, IsTrue, List, ◌++◌, Option, None, Some, IfSome, ◌⊎◌}
+use Rattle.std.specs.Prelude.{◌≡◌, ◌≢◌, ℕ, Bool, true, false, IsTrue, List, ◌++◌, Option, None, Some, IfSome, ◌⊎◌}
 use Rattle.std.specs.List.{list_all}
 use Rattle.std.specs.Io.KnownBytes.{IsAtEnd}
 use Rattle.fs_ports.specs.Counts.{raised}
@@ -7,14 +7,17 @@ use Rattle.fs_ports.specs.Ports.{Input, Output, Writes, Stopped}
 use Rattle.fs_ports.specs.Loads.{LoadCounts, Tells, Counted}
 use Rattle.fs_ports.specs.declared.files.Load.{Load}
 use Rattle.fs_ports.specs.declared.files.Load.TheVariants.{Got}
+use Rattle.fs_frame.specs.Block.{too_long}
+use Rattle.fs_frame.specs.Blocks.{rest_of}
 use Rattle.fs_top.specs.Play.{play}
-use Rattle.fs_top.specs.Turns.{HasRead, Finishes, Stops}
+use Rattle.fs_top.specs.Journal.{IsFull}
+use Rattle.fs_top.specs.Turns.{HasRead, Finishes, Breaks}
 use Rattle.fs_top.specs.Told.{Told, told_words, is_blank, line_of_end, status_of_end, usage_line, cannot_read_line, document_line, write_fault_line, memory_line}
-use Rattle.fs_top.specs.declared.play.End.TheVariants.{Later}
-use Rattle.fs_top.specs.declared.play.Stop.TheVariants.{OutOfMemory, WriteFault}
+use Rattle.fs_top.specs.declared.end.End.TheVariants.{TooLong, JournalFull}
+use Rattle.fs_top.specs.declared.play.Fault.TheVariants.{OutOfMemory, WriteFault}
 use Rattle.fs_top.specs.declared.entry.Entry.{Entry}
 use Rattle.fs_top.specs.declared.program.Outcome.{Outcome}
-use Rattle.fs_top.specs.declared.program.Outcome.TheVariants.{Usage, CannotRead, Document, Ended, StoppedBy}
+use Rattle.fs_top.specs.declared.program.Outcome.TheVariants.{Usage, CannotRead, Document, Ended, BrokenOff}
 
 -- the line and the status of an outcome
 abbrev pub line_of : Outcome → List ℕ
@@ -22,16 +25,16 @@ line_of Usage = usage_line
 line_of (CannotRead name) = cannot_read_line name.now
 line_of Document = document_line
 line_of (Ended end) = line_of_end end
-line_of (StoppedBy OutOfMemory) = memory_line
-line_of (StoppedBy WriteFault) = write_fault_line
+line_of (BrokenOff OutOfMemory) = memory_line
+line_of (BrokenOff WriteFault) = write_fault_line
 
 abbrev pub status_of : Outcome → ℕ
 status_of Usage = 2
 status_of (CannotRead name) = 4
 status_of Document = 3
 status_of (Ended end) = status_of_end end
-status_of (StoppedBy OutOfMemory) = 1
-status_of (StoppedBy WriteFault) = 5
+status_of (BrokenOff OutOfMemory) = 1
+status_of (BrokenOff WriteFault) = 5
 
 -- what playing a connection came to
 abbrev pub PlaysTo : Input → Output → Input → Output → Outcome → Type 0
@@ -39,7 +42,7 @@ PlaysTo in0 out0 in1 out1 Usage = ⊥
 PlaysTo in0 out0 in1 out1 (CannotRead name) = ⊥
 PlaysTo in0 out0 in1 out1 Document = ⊥
 PlaysTo in0 out0 in1 out1 (Ended end) = (journal : List Entry) × Finishes in0 out0 in1 out1 end journal
-PlaysTo in0 out0 in1 out1 (StoppedBy stop) = (journal : List Entry) × Stops in0 out0 in1 out1 stop journal
+PlaysTo in0 out0 in1 out1 (BrokenOff fault) = (journal : List Entry) × Breaks in0 out0 in1 out1 fault journal
 
 -- all was answered as it is told
 pub record Completes (told : Told) (in1 : Input) (out0 out1 : Output) (line : List ℕ) (status : ℕ) : Type 0 where
@@ -99,9 +102,20 @@ abbrev pub CountRose : LoadCounts → LoadCounts → Input → Input → Type 0
 CountRose counts0 counts1 in0 in1 =
     (counts1.absences ≡ raised counts0.absences) ⊎ ((counts1.faults ≡ raised counts0.faults) ⊎ (in1.faults ≡ raised in0.faults))
 
--- behind the bytes that were taken the input cannot be read on
-pub record IsLater (in0 in1 : Input) : Type 0 where
+-- behind the blocks of the bytes that were taken stand more bytes than a block may have, and none in front of them
+pub record MeetsTooLong (in0 in1 : Input) : Type 0 where
   pub input : List ℕ
   pub read_failed : Bool
   pub has_read : HasRead in0 in1 input read_failed
-  pub later : (play input read_failed).end ≡ Later
+  pub end_is : (play input read_failed).end ≡ TooLong 65537
+  pub is_too_long : too_long (rest_of input) ≡ true
+
+-- the journal of what was taken is full behind its last entry, and was to have a further one
+pub record FillsJournal (in0 in1 : Input) : Type 0 where
+  pub input : List ℕ
+  pub read_failed : Bool
+  pub has_read : HasRead in0 in1 input read_failed
+  pub cost_told : ℕ
+  pub limit_told : ℕ
+  pub end_is : (play input read_failed).end ≡ JournalFull cost_told limit_told
+  pub full : IsFull (play input read_failed).journal cost_told limit_told

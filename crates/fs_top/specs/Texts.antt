@@ -30,6 +30,9 @@ notice = with_body (codes "text/disconnect-notice") goodbye
 unfoldable pub accepted : List ℕ
 accepted = codes "+OK accepted"
 
+unfoldable pub invalid : List ℕ
+invalid = codes "-ERR invalid"
+
 unfoldable pub bye : List ℕ
 bye = codes "+OK bye"
 

@@ -2,11 +2,12 @@
 use Rattle.std.specs.Prelude.{ℕ, Bool, true, false, ◌||◌, ◌==◌, List, [], ◌∷◌, ◌++◌, Option, None, Some, codes, if◌then◌else◌}
 use Rattle.std.specs.List.{list_all}
 use Rattle.std.specs.Str.{bytes_eq}
+use Rattle.std.specs.Fmt.{decimal}
 use Rattle.fs_ports.specs.declared.files.Load.{Load}
 use Rattle.fs_ports.specs.declared.files.Load.TheVariants.{Got, Absent, Failed}
 use Rattle.fs_top.specs.Play.{Played, play}
-use Rattle.fs_top.specs.declared.play.End.{End}
-use Rattle.fs_top.specs.declared.play.End.TheVariants.{Exit, Eof, ReadFault, Later}
+use Rattle.fs_top.specs.declared.end.End.{End}
+use Rattle.fs_top.specs.declared.end.End.TheVariants.{Exit, AuthRefused, Eof, ReadFault, TooLong, JournalFull}
 
 -- the bytes written, the line on standard error, the status, and whether the input was read to its end
 pub record Told : Type 0 where
@@ -38,8 +39,11 @@ document_line = codes "fsw: document not read yet\n"
 unfoldable pub read_fault_line : List ℕ
 read_fault_line = codes "fsw: read fault\n"
 
-unfoldable pub later_line : List ℕ
-later_line = codes "fsw: input not read yet\n"
+unfoldable pub too_long_line : ℕ → List ℕ
+too_long_line len = codes "fsw: block too long " ++ decimal len ++ codes "\n"
+
+unfoldable pub journal_full_line : ℕ → ℕ → List ℕ
+journal_full_line cost limit = codes "fsw: journal full " ++ (decimal cost ++ (codes " " ++ (decimal limit ++ codes "\n")))
 
 unfoldable pub write_fault_line : List ℕ
 write_fault_line = codes "fsw: write fault\n"
@@ -54,22 +58,28 @@ refused line status = record { output = []; line = line; status = status; at_end
 -- the line of an end, and its status
 abbrev pub line_of_end : End → List ℕ
 line_of_end Exit = []
+line_of_end AuthRefused = []
 line_of_end Eof = []
 line_of_end ReadFault = read_fault_line
-line_of_end Later = later_line
+line_of_end (TooLong len) = too_long_line len
+line_of_end (JournalFull cost limit) = journal_full_line cost limit
 
 abbrev pub status_of_end : End → ℕ
 status_of_end Exit = 0
+status_of_end AuthRefused = 0
 status_of_end Eof = 0
 status_of_end ReadFault = 4
-status_of_end Later = 10
+status_of_end (TooLong len) = 10
+status_of_end (JournalFull cost limit) = 8
 
 -- the end by the end of the input
 abbrev pub is_eof : End → Bool
 is_eof Exit = false
+is_eof AuthRefused = false
 is_eof Eof = true
 is_eof ReadFault = false
-is_eof Later = false
+is_eof (TooLong len) = false
+is_eof (JournalFull cost limit) = false
 
 abbrev pub told_play : Played → Told
 told_play played = record { output = played.output; line = line_of_end played.end; status = status_of_end played.end; at_end = is_eof played.end }

@@ -48,26 +48,20 @@ pub(crate) fn command_of(line: &[u8]) -> Command<'_>
 }
 
 /// The answer to a command of a connection in this phase.
-#[tactic(auto, unfolding(crate::specs::Commands::answer, crate::specs::Commands::password, crate::specs::Texts::accepted, crate::specs::Texts::bye, crate::specs::Texts::not_found))]
+#[tactic(auto, unfolding(crate::specs::Commands::answer, crate::specs::Commands::password, crate::specs::Texts::accepted, crate::specs::Texts::bye, crate::specs::Texts::invalid, crate::specs::Texts::not_found))]
 pub(crate) fn answer_to(alloc: Global, phase: Phase, command: Command<'_>) -> Result<Answer, Memory>
     ensures { IfOk result (DoesAnswer (spec.answer phase (read_of command.entry))) }
 {
     match (phase, command) {
-        (Phase::Ending | Phase::Closed, _) => Ok(Answer {
+        (Phase::Ending | Phase::Refused | Phase::Closed, _) => Ok(Answer {
             phase,
             frames: LinkedList::new(alloc),
         }),
-        (_, Command::Exit) => {
-            let mut frames = one(alloc, command_reply(alloc, b"+OK bye")?)?;
-            frames.push_back(notice(alloc)?)?;
-            Ok(Answer {
-                phase: Phase::Ending,
-                frames,
-            })
-        }
+        (_, Command::Exit) => farewell(alloc, Phase::Ending, b"+OK bye"),
         (Phase::Fresh, Command::Auth { password }) if password == PASSWORD => {
             reply(alloc, Phase::Ready, b"+OK accepted")
         }
+        (Phase::Fresh, Command::Auth { .. }) => farewell(alloc, Phase::Refused, b"-ERR invalid"),
         (Phase::Ready, Command::Api { text }) => Ok(Answer {
             phase,
             frames: one(alloc, api_answer(alloc, text)?)?,
@@ -81,6 +75,15 @@ fn reply(alloc: Global, phase: Phase, text: &[u8]) -> Result<Answer, Memory>
     ensures { IfOk result (DoesAnswer (spec.replies phase text.now)) }
 {
     let frames = one(alloc, command_reply(alloc, text)?)?;
+    Ok(Answer { phase, frames })
+}
+
+// A last reply, and the notice.
+fn farewell(alloc: Global, phase: Phase, text: &[u8]) -> Result<Answer, Memory>
+    ensures { IfOk result (DoesAnswer (spec.ends_with phase text.now)) }
+{
+    let mut frames = one(alloc, command_reply(alloc, text)?)?;
+    frames.push_back(notice(alloc)?)?;
     Ok(Answer { phase, frames })
 }
 

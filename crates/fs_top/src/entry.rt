@@ -1,4 +1,10 @@
+ghost use Rattle.std.specs.Prelude.{◌≡◌, ◌<◌, ◌+◌, ◌^◌};
+ghost use Rattle.fs_top.specs.Journal.{cost_of};
+
 use fs_text::Txt;
+
+// What an entry costs beside the bytes of its block.
+const ENTRY_COST: u64 = 64;
 
 /// One entry of the journal.
 #[derive(Drop)]
@@ -19,6 +25,19 @@ pub(crate) enum Act {
     Take { conn: u32 },
     /// A connection comes to its end.
     Close { conn: u32, how: Closing },
+}
+
+impl Act {
+    /// What an entry of this act costs: 64, and for a command the bytes of its block.
+    pub(crate) fn cost(&self) -> u64
+        ensures exact { result ≡ cost_of self.now }
+        ensures bound { result < 2 ^ 63 + 64 }
+    {
+        match self {
+            Act::Command { block, .. } => ENTRY_COST + block.as_bytes().len() as u64,
+            Act::Arrive | Act::Take { .. } | Act::Close { .. } => ENTRY_COST,
+        }
+    }
 }
 
 /// How a connection comes to its end.

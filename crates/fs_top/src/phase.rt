@@ -1,6 +1,8 @@
 ghost use Rattle.std.specs.Prelude.{◌≡◌};
 ghost use Rattle.fs_top.specs.Play as play;
 
+use crate::end::End;
+
 /// Where a connection stands.
 #[derive(Clone, Copy, Debug, PartialEq, Eq)]
 pub(crate) enum Phase {
@@ -10,18 +12,21 @@ pub(crate) enum Phase {
     Ready,
     /// No further command is read; what is queued can still be taken.
     Ending,
+    /// As Ending, since a password was refused.
+    Refused,
     /// The connection is gone, or never came.
     Closed,
 }
 
 impl Phase {
-    /// Whether no further command is read.
-    pub(crate) fn is_ending(self) -> bool
-        ensures { result ≡ play.is_ending_phase self }
+    /// How a connection ends that reads no further command, or none where it reads on.
+    pub(crate) fn farewell(self) -> Option<End>
+        ensures { result ≡ play.farewell_of self }
     {
         match self {
-            Phase::Fresh | Phase::Ready => false,
-            Phase::Ending | Phase::Closed => true,
+            Phase::Fresh | Phase::Ready => None,
+            Phase::Ending | Phase::Closed => Some(End::Exit),
+            Phase::Refused => Some(End::AuthRefused),
         }
     }
 }

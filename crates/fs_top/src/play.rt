@@ -1,32 +1,31 @@
 ghost use Rattle.std.specs.Prelude.{◌≡◌, ◌<◌, [], IsTrue};
 ghost use Rattle.fs_ports.specs.Ports.{Input, Output};
-ghost use Rattle.fs_top.specs.Takes.{Written, Sends, EndsInput, Closes};
+ghost use Rattle.fs_top.specs.Takes.{Written, Sends, EndsInput, Closes, stop_of};
 ghost use Rattle.fs_top.specs.Turns.{Fills, Stands, Turns, Ends, Falls, Converses, Plays};
 ghost use Rattle.fs_top.specs.declared.play.Stop.TheVariants.{OutOfMemory};
 
+use crate::end::End;
 use crate::entry::Closing;
+use crate::refusal::Refusal;
 use crate::switch::Switch;
 use fs_frame::{Blocks, Next};
 use fs_ports::{Link, Read, Sent, send_all};
 use fs_text::Memory;
 use std::alloc::Global;
 
-/// How a connection came to its end.
+/// Why a play broke off before its end.
 #[derive(Clone, Copy, Debug, PartialEq, Eq)]
-pub(crate) enum End {
-    /// By its command `exit`.
-    Exit,
-    /// By the end of its input.
-    Eof,
-    /// By a read that failed.
-    ReadFault,
-    /// By input that is not read yet.
-    Later,
+pub(crate) enum Fault {
+    OutOfMemory,
+    /// A write failed.
+    WriteFault,
 }
 
-/// Why a connection stopped before its end.
-#[derive(Clone, Copy, Debug, PartialEq, Eq)]
-pub(crate) enum Stop {
+// Why a conversation stopped.
+#[derive(Clone, Copy, Debug)]
+enum Stop {
+    /// No further entry is accepted behind what the journal costs.
+    JournalFull { cost: u64, limit: u64 },
     OutOfMemory,
     /// A write failed.
     WriteFault,
@@ -37,6 +36,17 @@ impl From<Memory> for Stop {
 
     fn from(_memory: Memory) -> Stop {
         Stop::OutOfMemory
+    }
+}
+
+impl From<Refusal> for Stop {
+    ghost from_gives = { λ refusal stop. stop ≡ stop_of refusal };
+
+    fn from(refusal: Refusal) -> Stop {
+        match refusal {
+            Refusal::JournalFull { cost, limit } => Stop::JournalFull { cost, limit },
+            Refusal::Memory => Stop::OutOfMemory,
+        }
     }
 }
 
@@ -56,17 +66,26 @@ enum Filled {
 }
 
 /// Plays a whole connection over a link: it comes, its commands are read and answered, and it goes.
-pub(crate) fn play<L: Link>(alloc: Global, switch: &mut Switch, link: &mut L) -> Result<End, Stop>
+pub(crate) fn play<L: Link>(alloc: Global, switch: &mut Switch, link: &mut L) -> Result<End, Fault>
     requires waits { IsTrue (L.input link.old).waits }
     requires empty { switch.old ≡ [] }
     ensures { Plays (L.input link.old) (L.output link.old) (L.input link.new) (L.output link.new) switch.new result }
 {
     let ended = converse(alloc, switch, link);
-    if let Err(Stop::WriteFault) = ended {
-        // Where memory is wanting for this entry, the write fault is answered all the same.
-        let _ = switch.close(Closing::Failed);
+    switch.is_within_limit();
+    let stop = match ended {
+        Ok(end) => return Ok(end),
+        Err(stop) => stop,
+    };
+    match stop {
+        Stop::JournalFull { cost, limit } => Ok(End::JournalFull { cost, limit }),
+        Stop::OutOfMemory => Err(Fault::OutOfMemory),
+        Stop::WriteFault => {
+            // Where this entry is refused, the write fault is answered all the same.
+            let _ = switch.close(Closing::Failed);
+            Err(Fault::WriteFault)
+        }
     }
-    ended
 }
 
 fn converse<L: Link>(alloc: Global, switch: &mut Switch, link: &mut L) -> Result<End, Stop>
@@ -94,16 +113,16 @@ fn take_turn<L: Link>(switch: &mut Switch, blocks: &mut Blocks, link: &mut L) ->
     ensures waits { (L.input link.new).waits ≡ (L.input link.old).waits }
     ensures turns { (in0 : Input) (out0 : Output) → Stands in0 out0 (L.input link.old) (L.output link.old) blocks.old switch.old
         → Turns in0 out0 (L.input link.new) (L.output link.new) blocks.new switch.new result }
-    ensures falls { Falls blocks.old blocks.new result }
+    ensures falls { (in0 : Input) (out0 : Output) → Stands in0 out0 (L.input link.old) (L.output link.old) blocks.old switch.old
+        → Falls switch.old blocks.old switch.new blocks.new result }
 {
     match blocks.next_block() {
         Next::Block(block) => {
             switch.command(&block)?;
             send_frames(switch, link)?;
-            if switch.is_ending() {
-                Ok(Turn::Done(End::Exit))
-            } else {
-                Ok(Turn::GoOn)
+            match switch.farewell() {
+                Some(end) => Ok(Turn::Done(end)),
+                None => Ok(Turn::GoOn),
             }
         }
         Next::NeedMore => match fill(blocks, link)? {
@@ -111,20 +130,18 @@ fn take_turn<L: Link>(switch: &mut Switch, blocks: &mut Blocks, link: &mut L) ->
             Filled::AtEnd => Ok(Turn::Done(End::Eof)),
             Filled::ReadFailed => Ok(Turn::Done(End::ReadFault)),
         },
-        Next::Later => Ok(Turn::Done(End::Later)),
+        Next::TooLong { len } => Ok(Turn::Done(End::TooLong { len })),
     }
 }
 
-// Reads once, as much as there is room for.
+// Reads once.
 fn fill<L: Link>(blocks: &mut Blocks, link: &mut L) -> Result<Filled, Memory>
     requires waits { IsTrue (L.input link.old).waits }
-    requires room { 0 < blocks.old.room }
     ensures fills { Fills (L.input link.old) (L.input link.new) blocks.old blocks.new result }
     ensures output { L.output link.new ≡ L.output link.old }
 {
     let mut buf = [0; 4096];
-    let most = blocks.room().min(buf.len());
-    match link.read(&mut buf[..most]) {
+    match link.read(&mut buf) {
         Read::Got(n) => {
             blocks.feed(&buf[..n])?;
             Ok(Filled::More)
@@ -167,7 +184,7 @@ fn end_input<L: Link>(switch: &mut Switch, link: &mut L) -> Result<(), Stop>
         → EndsInput out0 (L.output link.new) switch.old switch.new result }
     ensures input { L.input link.new ≡ L.input link.old }
 {
-    if switch.is_ending() {
+    if switch.farewell().is_some() {
         return Ok(());
     }
     switch.close(Closing::EndOfInput)?;

@@ -1,16 +1,18 @@
-ghost use Rattle.std.specs.Prelude.{◌≡◌, ◌↔◌, ◌++◌, List, ℕ, None, Some, IsTrue, codes};
-ghost use Rattle.std.specs.List.{list_all};
+ghost use Rattle.std.specs.Prelude.{◌≡◌, ◌↔◌, List, ℕ, None, Some, IsTrue, map};
+ghost use Rattle.std.specs.List.{concat, list_all};
 ghost use Rattle.std.specs.Option.{option_copied};
 ghost use Rattle.fs_ports.specs.Counts as counts;
 ghost use Rattle.fs_ports.specs.Ports.{SendDid};
 ghost use Rattle.fs_ports.specs.declared.send.Sent.{Sent as AllSent};
 ghost use Rattle.fs_top.specs.Told as spec;
-ghost use Rattle.fs_top.specs.Runs.{line_of, status_of, PlaysTo, Runs, HasDocument, CountRose, IsLater};
+ghost use Rattle.fs_top.specs.Runs.{line_of, status_of, PlaysTo, Runs, HasDocument, CountRose, FillsJournal, MeetsTooLong};
 
-use crate::play::{End, Stop, play};
+use crate::end::End;
+use crate::play::{Fault, play};
 use crate::switch::Switch;
 use fs_ports::{Files, Link, Load, Sent, Sink, send_all};
 use fs_text::{Memory, Txt};
+use itoa::Buffer;
 use std::alloc::Global;
 
 const USAGE: &str =
@@ -33,8 +35,8 @@ enum Outcome<'a> {
     Document,
     /// The connection came to its end.
     Ended(End),
-    /// The connection stopped before its end.
-    StoppedBy(Stop),
+    /// The play broke off before its end.
+    BrokenOff(Fault),
 }
 
 /// Answers the words of the command line: `play FILE` plays one connection over the link.
@@ -62,7 +64,8 @@ pub fn run<F: Files, L: Link, E: Sink>(
     ensures document { result.code ≡ 3 → HasDocument (spec.file_name words.now) (F.next_load files.old) }
     ensures unreadable { result.code ≡ 4 → CountRose (F.counts files.old) (F.counts files.new) (L.input link.old) (L.input link.new) }
     ensures write_fault { result.code ≡ 5 → (L.output link.new).faults ≡ counts.raised (L.output link.old).faults }
-    ensures later { result.code ≡ 10 → IsLater (L.input link.old) (L.input link.new) }
+    ensures full { result.code ≡ 8 → FillsJournal (L.input link.old) (L.input link.new) }
+    ensures too_long { result.code ≡ 10 → MeetsTooLong (L.input link.old) (L.input link.new) }
 {
     let outcome = conduct(alloc, words, files, link);
     say(err, outcome);
@@ -109,7 +112,7 @@ fn play_file<'a, F: Files, L: Link>(
         }
         Ok(Load::Absent) => Outcome::CannotRead { name },
         Ok(Load::Failed) => Outcome::CannotRead { name },
-        Err(Memory) => Outcome::StoppedBy(Stop::OutOfMemory),
+        Err(Memory) => Outcome::BrokenOff(Fault::OutOfMemory),
     }
 }
 
@@ -121,7 +124,7 @@ fn played<'a, L: Link>(alloc: Global, link: &mut L) -> Outcome<'a>
     let mut switch = Switch::new(alloc);
     match play(alloc, &mut switch, link) {
         Ok(end) => Outcome::Ended(end),
-        Err(stop) => Outcome::StoppedBy(stop),
+        Err(fault) => Outcome::BrokenOff(fault),
     }
 }
 
@@ -145,18 +148,19 @@ fn code_of(outcome: Outcome<'_>) -> u8
     ensures { result ≡ status_of outcome.entry }
 {
     match outcome {
-        Outcome::Ended(End::Exit | End::Eof) => 0,
-        Outcome::StoppedBy(Stop::OutOfMemory) => 1,
+        Outcome::Ended(End::Exit | End::AuthRefused | End::Eof) => 0,
+        Outcome::BrokenOff(Fault::OutOfMemory) => 1,
         Outcome::Usage => 2,
         Outcome::Document => 3,
         Outcome::CannotRead { .. } | Outcome::Ended(End::ReadFault) => 4,
-        Outcome::StoppedBy(Stop::WriteFault) => 5,
-        Outcome::Ended(End::Later) => 10,
+        Outcome::BrokenOff(Fault::WriteFault) => 5,
+        Outcome::Ended(End::JournalFull { .. }) => 8,
+        Outcome::Ended(End::TooLong { .. }) => 10,
     }
 }
 
 // Prints the line of an outcome, if it has one.
-#[tactic(auto, unfolding(crate::specs::Told::usage_line, crate::specs::Told::document_line, crate::specs::Told::read_fault_line, crate::specs::Told::later_line, crate::specs::Told::write_fault_line, crate::specs::Told::memory_line))]
+#[tactic(auto, unfolding(crate::specs::Told::usage_line, crate::specs::Told::document_line, crate::specs::Told::read_fault_line, crate::specs::Told::write_fault_line, crate::specs::Told::memory_line))]
 fn say<E: Sink>(err: &mut E, outcome: Outcome<'_>) -> Sent
     ensures { SendDid (E.output err.old) (E.output err.new) result (line_of outcome.entry) }
 {
@@ -164,31 +168,60 @@ fn say<E: Sink>(err: &mut E, outcome: Outcome<'_>) -> Sent
         Outcome::Usage => send_all(err, USAGE.as_bytes()),
         Outcome::CannotRead { name } => say_cannot_read(err, name.as_bytes()),
         Outcome::Document => send_all(err, b"fsw: document not read yet\n"),
-        Outcome::Ended(End::Exit | End::Eof) => send_all(err, b""),
+        Outcome::Ended(End::Exit | End::AuthRefused | End::Eof) => send_all(err, b""),
         Outcome::Ended(End::ReadFault) => send_all(err, b"fsw: read fault\n"),
-        Outcome::Ended(End::Later) => send_all(err, b"fsw: input not read yet\n"),
-        Outcome::StoppedBy(Stop::OutOfMemory) => send_all(err, b"fsw: out of memory\n"),
-        Outcome::StoppedBy(Stop::WriteFault) => send_all(err, b"fsw: write fault\n"),
+        Outcome::Ended(End::TooLong { len }) => say_too_long(err, len),
+        Outcome::Ended(End::JournalFull { cost, limit }) => say_journal_full(err, cost, limit),
+        Outcome::BrokenOff(Fault::OutOfMemory) => send_all(err, b"fsw: out of memory\n"),
+        Outcome::BrokenOff(Fault::WriteFault) => send_all(err, b"fsw: write fault\n"),
     }
 }
 
-// Prints that the file of this name cannot be read. It takes no memory, so it comes in parts.
+// Prints that the file of this name cannot be read.
 #[tactic(auto, unfolding(crate::specs::Told::cannot_read_line))]
 fn say_cannot_read<E: Sink>(err: &mut E, name: &[u8]) -> Sent
     ensures { SendDid (E.output err.old) (E.output err.new) result (spec.cannot_read_line name.now) }
 {
-    match send_all(err, b"fsw: cannot read ") {
-        Sent::All => send_name(err, name),
-        Sent::Failed => Sent::Failed,
-    }
+    send_parts(err, &[b"fsw: cannot read ", name, b"\n"])
 }
 
-// Prints a name at the end of a line.
-fn send_name<E: Sink>(err: &mut E, name: &[u8]) -> Sent
-    ensures { SendDid (E.output err.old) (E.output err.new) result (name.now ++ codes "\n") }
+// Prints that a block is too long, of which so many bytes were looked at.
+#[tactic(auto, unfolding(crate::specs::Told::too_long_line))]
+fn say_too_long<E: Sink>(err: &mut E, len: u64) -> Sent
+    ensures { SendDid (E.output err.old) (E.output err.new) result (spec.too_long_line len) }
 {
-    match send_all(err, name) {
-        Sent::All => send_all(err, b"\n"),
-        Sent::Failed => Sent::Failed,
+    let mut buffer = Buffer::new();
+    send_parts(
+        err,
+        &[
+            b"fsw: block too long ",
+            buffer.format(len).as_bytes(),
+            b"\n",
+        ],
+    )
+}
+
+// Prints that the journal is full at this cost and limit.
+#[tactic(auto, unfolding(crate::specs::Told::journal_full_line))]
+fn say_journal_full<E: Sink>(err: &mut E, cost: u64, limit: u64) -> Sent
+    ensures { SendDid (E.output err.old) (E.output err.new) result (spec.journal_full_line cost limit) }
+{
+    let mut cost_buffer = Buffer::new();
+    let mut limit_buffer = Buffer::new();
+    let cost = cost_buffer.format(cost).as_bytes();
+    let limit = limit_buffer.format(limit).as_bytes();
+    send_parts(err, &[b"fsw: journal full ", cost, b" ", limit, b"\n"])
+}
+
+// Sends a line in parts, so that it needs no memory.
+fn send_parts<E: Sink>(err: &mut E, parts: &[&[u8]]) -> Sent
+    ensures { SendDid (E.output err.old) (E.output err.new) result (concat (map (λ part. part.now) parts.now)) }
+{
+    for part in parts {
+        match send_all(err, part) {
+            Sent::All => {}
+            Sent::Failed => return Sent::Failed,
+        }
     }
+    Sent::All
 }

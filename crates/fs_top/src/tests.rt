@@ -1,4 +1,7 @@
+use crate::refusal::Refusal;
 use crate::run;
+use crate::switch::Switch;
+use fs_frame::{Blocks, Next};
 use fs_ports::{MemFiles, MemLink};
 use fs_text::{Memory, Txt};
 use std::alloc::Global;
@@ -14,6 +17,8 @@ const BYE: &str = "Content-Type: command/reply\nReply-Text: +OK bye\n\n";
 
 const NOTICE: &str =
     "Content-Type: text/disconnect-notice\nContent-Length: 67\n\nDisconnected, goodbye.\nSee you at ClueCon! http://www.cluecon.com/\n";
+
+const INVALID: &str = "Content-Type: command/reply\nReply-Text: -ERR invalid\n\n";
 
 const NOT_FOUND: &str = "Content-Type: command/reply\nReply-Text: -ERR command not found\n\n";
 
@@ -53,6 +58,12 @@ const QUIET: Case = Case {
     status: 0,
 };
 
+// A cut behind each of the first bytes of a link.
+const SINGLE_BYTES: &[usize] = &[
+    1, 2, 3, 4, 5, 6, 7, 8, 9, 10, 11, 12, 13, 14, 15, 16, 17, 18, 19, 20, 21, 22, 23, 24, 25, 26,
+    27, 28, 29, 30, 31, 32, 33, 34, 35, 36, 37, 38, 39, 40, 41, 42, 43,
+];
+
 const CASES: &[Case] = &[
     QUIET,
     Case {
@@ -87,10 +98,20 @@ const CASES: &[Case] = &[
     },
     Case {
         name: "commands that are not known",
-        input: "api echo hi\n\nauth\n\nauth  ClueCon\n\nauth ClueCon\n\nauth ClueCon\n\nlogin\n\n",
-        output: &[
-            REQUEST, NOT_FOUND, NOT_FOUND, NOT_FOUND, ACCEPTED, NOT_FOUND, NOT_FOUND,
-        ],
+        input: "api echo hi\n\nauth ClueCon\n\nauth ClueCon\n\nlogin\n\n",
+        output: &[REQUEST, NOT_FOUND, ACCEPTED, NOT_FOUND, NOT_FOUND],
+        ..QUIET
+    },
+    Case {
+        name: "a refused password",
+        input: "auth wrong\n\napi echo hi\n\n",
+        output: &[REQUEST, INVALID, NOTICE],
+        ..QUIET
+    },
+    Case {
+        name: "a password behind two spaces",
+        input: "auth  ClueCon\n\n",
+        output: &[REQUEST, INVALID, NOTICE],
         ..QUIET
     },
     Case {
@@ -133,18 +154,16 @@ const CASES: &[Case] = &[
         ..QUIET
     },
     Case {
-        name: "echo with CR LF",
-        input: "auth ClueCon\r\n\r\napi echo hi\r\n\r\nexit\r\n\r\n",
-        line: "fsw: input not read yet\n",
-        status: 10,
+        name: "echo with CR LF and empty lines, a byte at each read",
+        input: "\r\n\nauth ClueCon\r\n\r\napi echo hi\r\n\r\nexit\r\n\r\n",
+        cuts: SINGLE_BYTES,
+        output: &[REQUEST, ACCEPTED, HI, BYE, NOTICE],
         ..QUIET
     },
     Case {
-        name: "a header line",
-        input: "auth ClueCon\n\napi echo hi\nJob-UUID: 1\n\n",
-        output: &[REQUEST, ACCEPTED],
-        line: "fsw: input not read yet\n",
-        status: 10,
+        name: "header lines",
+        input: "auth ClueCon\nContent-Type: x\n\napi echo hi\nJob-UUID: 1\nno colon\n\nexit\n\n",
+        output: &[REQUEST, ACCEPTED, HI, BYE, NOTICE],
         ..QUIET
     },
     Case {
@@ -221,6 +240,115 @@ fn runs_answer_as_the_rows_say(rt: HostRuntime) -> Result<(), Fail> {
         let output = text(alloc, case.output)?;
         assert_eq!(rt; link.written(), output.as_bytes(), "{}", case.name);
         assert_eq!(rt; err.written(), case.line.as_bytes(), "{}", case.name);
+    }
+    Ok(())
+}
+
+// What a run over an empty file and this input came to: its output, its line and its status.
+#[derive(Drop)]
+struct Came {
+    output: Txt,
+    line: Txt,
+    status: u8,
+}
+
+fn play(alloc: Global, input: &[u8]) -> Result<Came, Memory> {
+    let mut words = Vec::new(alloc);
+    words.push(text(alloc, &["play"])?)?;
+    words.push(text(alloc, &["f"])?)?;
+    let held = [(text(alloc, &["f"])?, text(alloc, &[])?)];
+    let mut files = MemFiles::new(alloc, &held, &[], &[])?;
+    let mut link = MemLink::new(alloc, input, &[], &[], &[], 200_000)?;
+    let mut err = MemLink::new(alloc, &[], &[], &[], &[], 4096)?;
+    let status = run(alloc, &words, &mut files, &mut link, &mut err);
+    Ok(Came {
+        output: Txt::of(alloc, link.written())?,
+        line: Txt::of(alloc, err.written())?,
+        status: status.code,
+    })
+}
+
+// A command line of this many bytes after its word, and the empty line behind it.
+fn push_block(input: &mut Vec<u8>, word: &str, more: usize) -> Result<(), Memory> {
+    input.extend_from_slice(word.as_bytes())?;
+    for _ in 0..more {
+        input.push(b'x')?;
+    }
+    input.extend_from_slice(b"\n\n")?;
+    Ok(())
+}
+
+#[test]
+fn a_block_has_at_most_65536_bytes(rt: HostRuntime) -> Result<(), Fail> {
+    let alloc = rt.alloc();
+    let mut input = Vec::new(alloc);
+    input.extend_from_slice(b"auth ClueCon\n\n")?;
+    push_block(&mut input, "api echo ", 65_525)?;
+    let fits = play(alloc, &input)?;
+    assert_eq!(rt; fits.status, 0);
+    assert_eq!(rt; fits.output.as_bytes().len(), 28 + 54 + 50 + 65_525);
+
+    push_block(&mut input, "api echo ", 65_526)?;
+    let passes = play(alloc, &input)?;
+    assert_eq!(rt; passes.status, 10);
+    assert_eq!(rt; passes.output.as_bytes(), fits.output.as_bytes());
+    assert_eq!(rt;
+        passes.line.as_bytes(),
+        b"fsw: block too long 65537\n".as_slice()
+    );
+    Ok(())
+}
+
+#[test]
+fn a_full_journal_ends_a_run(rt: HostRuntime) -> Result<(), Fail> {
+    let alloc = rt.alloc();
+    let mut block = Vec::new(alloc);
+    push_block(&mut block, "", 65_534)?;
+    let mut input = Vec::new(alloc);
+    input.extend_from_slice(b"auth ClueCon\n\n")?;
+    for _ in 0..1_100 {
+        input.extend_from_slice(&block)?;
+    }
+    let full = play(alloc, &input)?;
+    assert_eq!(rt; full.status, 8);
+    assert_eq!(rt;
+        full.line.as_bytes(),
+        b"fsw: journal full 67108814 67108864\n".as_slice()
+    );
+    assert_eq!(rt; full.output.as_bytes().len(), 28 + 54 + 1_021 * 64);
+    Ok(())
+}
+
+// Why the command of the next block of a stream is refused, if it is.
+fn refusal_of(
+    switch: &mut Switch,
+    blocks: &mut Blocks,
+    piece: &[u8],
+) -> Result<Option<Refusal>, Memory> {
+    blocks.feed(piece)?;
+    match blocks.next_block() {
+        Next::Block(block) => Ok(switch.command(&block).err()),
+        Next::NeedMore | Next::TooLong { .. } => Ok(None),
+    }
+}
+
+#[test]
+fn a_full_journal_refuses_again(rt: HostRuntime) -> Result<(), Fail> {
+    let alloc = rt.alloc();
+    let mut block = Vec::new(alloc);
+    push_block(&mut block, "", 65_534)?;
+    let mut switch = Switch::new(alloc);
+    assert!(rt; switch.arrive().is_ok());
+    let mut blocks = Blocks::new(alloc)?;
+    for _ in 0..1_023 {
+        assert_eq!(rt; refusal_of(&mut switch, &mut blocks, &block)?, None);
+    }
+    let full = Refusal::JournalFull {
+        cost: 67_108_864,
+        limit: 67_108_864,
+    };
+    for _ in 0..3 {
+        assert_eq!(rt; refusal_of(&mut switch, &mut blocks, &block)?, Some(full));
     }
     Ok(())
 }

@@ -1,5 +1,6 @@
 use Rattle.std.proofs.Common.{sym}
-use Rattle.fs_frame.proofs.BlockLaws.{splits, blocks_of-splits, rest_of-splits, line_of-block_of}
+use Rattle.fs_frame.proofs.FormLaws.{line_of-head}
+use Rattle.fs_frame.proofs.BlockLaws.{splits, blocks_of-splits, rest_of-splits}
 use Rattle.fs_frame.proofs.laws.one_reading.Goals as goal
 
 pub returns-clause-some : goal.returns-clause-some
@@ -9,4 +10,4 @@ pub returns-clause-only : goal.returns-clause-only
 returns-clause-only c stream rest blocks split = (sym (blocks_of-splits stream rest blocks split), sym (rest_of-splits stream rest blocks split))
 
 pub returns-clause-line : goal.returns-clause-line
-returns-clause-line c line is_line = line_of-block_of line is_line
+returns-clause-line c bytes head = line_of-head bytes head

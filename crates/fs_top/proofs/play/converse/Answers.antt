@@ -1,15 +1,16 @@
-use Rattle.std.proofs.Common.{[], refl, ap, ◌∙◌}
+use Rattle.std.proofs.Common.{refl, ap, ◌∙◌}
 use Rattle.std.proofs.lemmas.Result.{err_from_is_err_and}
 use Rattle.fs_top.specs.Play.{submitted, arrive, all_taken, opened}
 use Rattle.fs_top.specs.declared.play.Stop.TheVariants.{OutOfMemory}
 use Rattle.fs_top.proofs.JournalLaws.{begins_self}
-use Rattle.fs_top.proofs.TurnLaws.{stands_first, stops_first, written_first, written_arrive, begins_empty, stops_closing, finishes}
+use Rattle.fs_top.proofs.TurnLaws.{stands_first, stops_first, stops_coming, written_arrive, stops_closing, concludes}
 use Rattle.fs_top.proofs.play.converse.Goals as goal
 
 pub returns-in_err-arrive : goal.returns-in_err-arrive
 returns-in_err-arrive g c =
     let p = err_from_is_err_and c.from_residual.result c.from_residual.ensures.1 in
-    rw (p.1, p.2, c.in_err-arrive.ensures.err, c.requires.empty) (stops_first _ _ _ _ OutOfMemory [] refl (begins_empty opened) (written_first _))
+    let refuses = rw c.requires.empty at c.in_err-arrive.ensures.err in
+    rw (p.1, p.2) (stops_coming _ _ _ _ _ refl refuses)
 
 pub returns-in_err-send_frames : goal.returns-in_err-send_frames
 returns-in_err-send_frames g c =
@@ -24,7 +25,7 @@ returns-in_err-blocks g c =
     let came = c.in_ok-arrive.ensures.ok ∙ ap (λ j. submitted j arrive) c.requires.empty in
     let sent = c.in_ok-send_frames.ensures.sends _ (rw came (written_arrive _)) in
     let is = sent.0 ∙ ap all_taken came in
-    rw (p.1, p.2) (stops_first _ _ _ _ OutOfMemory _ c.send_frames.ensures.input (rw is (begins_self opened)) sent.1)
+    rw (p.1, p.2) (stops_first _ _ _ _ OutOfMemory _ c.send_frames.ensures.input (rw is (record { begins = begins_self opened; short = tt })) sent.1)
 
 pub loop-blocks-init : goal.loop-blocks-init
 loop-blocks-init g c =
@@ -45,4 +46,7 @@ pub returns-in-Done : goal.returns-in-Done
 returns-in-Done g c =
     let ends = rw c.in-Done.is at (c.in_ok-take_turn.ensures.turns _ _ c.loop-blocks.invariant.stands) in
     let closes = c.in_ok-finish-in-Done.ensures.finishes _ ends.written in
-    rw (c.finish.ensures.input, closes.0) (finishes _ _ _ _ _ _ _ ends (rw closes.0 at closes.1))
+    rw (c.finish.ensures.input, closes.0) (concludes _ _ _ _ _ _ _ ends (rw closes.0 at closes.1))
+
+pub loop-blocks-smaller : goal.loop-blocks-smaller
+loop-blocks-smaller g c = rw c.in-GoOn.is at (c.in_ok-take_turn.ensures.falls _ _ c.loop-blocks.invariant.stands)

@@ -10,4 +10,4 @@ invariant-loop-blocks g l = record {
 }
 
 abbrev pub decreases-loop-blocks : goal.decreases-loop-blocks
-decreases-loop-blocks g l = work_left l.blocks
+decreases-loop-blocks g l = work_left l.switch l.blocks

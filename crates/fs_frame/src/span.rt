@@ -1,0 +1,6 @@
+/// A part of some bytes.
+#[derive(Clone, Copy, Debug)]
+pub struct Span {
+    pub start: usize,
+    pub len: usize,
+}

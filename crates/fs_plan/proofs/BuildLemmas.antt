@@ -1,7 +1,7 @@
 -- From a pattern that was not built to the numbers that are told of it.
-use Rattle.std.proofs.Common.{◌≡◌, ℕ, zero, suc, ◌+◌, ◌<◌, ◌≤◌, List, [], ◌∷◌, ◌++◌, length, get_or, take, drop, Some, refl, sym, ap, subst, ◌∙◌, arith}
+use Rattle.std.proofs.Common.{◌≡◌, ℕ, zero, suc, ◌+◌, ◌<◌, List, [], ◌∷◌, ◌++◌, length, get_or, take, drop, Some, refl, sym, ap, subst, ◌∙◌, arith}
 use Rattle.std.specs.Prelude.{min}
-use Rattle.std.specs.List.{slice_get, flat_map}
+use Rattle.std.specs.List.{slice_get}
 use Rattle.std.proofs.lemmas.Grind.{flat_map-append}
 use Rattle.std.proofs.Math.Seq.{drop-cons}
 use Rattle.std.proofs.lemmas.List.{get_or_append_left, length-append, take-append-drop, take_more}
@@ -12,7 +12,7 @@ use Rattle.fs_vars.specs.Pairs.{Text}
 use Rattle.fs_ports.specs.Patterns.{IsBuiltOf}
 use Rattle.fs_doc.specs.Dialplans.{Context, Extension, Condition}
 use Rattle.fs_doc.specs.declared.dialplan.Test.{Test}
-use Rattle.fs_doc.specs.declared.dialplan.Test.TheVariants.{Always, Plain, Many}
+use Rattle.fs_doc.specs.declared.dialplan.Test.TheVariants.{Plain, Many}
 use Rattle.fs_doc.specs.declared.dialplan.Child.{Child}
 use Rattle.fs_doc.specs.declared.dialplan.ManyKind.{ManyKind}
 use Rattle.fs_plan.specs.declared.fault.Unbuilt.{Unbuilt}

@@ -1,13 +1,13 @@
 -- From what a matcher finds to what the text of its pattern finds.
-use Rattle.std.proofs.Common.{◌≡◌, ℕ, zero, suc, ◌+◌, ◌*◌, ◌<◌, ◌≤◌, Bool, true, false, cond, List, map, length, get_or, Option, None, Some, is_some, refl, sym, ap, ◌∙◌, arith, true≢false}
-use Rattle.std.specs.Prelude.{nat_lt, MatchOption}
+use Rattle.std.proofs.Common.{◌≡◌, ℕ, zero, suc, ◌+◌, ◌*◌, ◌<◌, Bool, true, false, map, length, get_or, Option, None, Some, is_some, refl, sym, ap, ◌∙◌, arith, true≢false}
+use Rattle.std.specs.Prelude.{nat_lt}
 use Rattle.std.specs.Option.{option_map}
 use Rattle.std.specs.List.{range_with_len}
 use Rattle.std.proofs.Math.Path.{fun_ext}
 use Rattle.std.proofs.lemmas.Bool.{lt-ltb}
 use Rattle.std.proofs.lemmas.Option.{same_Some}
-use Rattle.regex.specs.Patterns.{Re, Match, find, span, slot_of, SameCaptures}
-use Rattle.regex.specs.Writes.{group_of, both}
+use Rattle.regex.specs.Patterns.{Match, find, span, slot_of}
+use Rattle.regex.specs.Writes.{both}
 use Rattle.regex.specs.Search.{group_span}
 use Rattle.regex.specs.Bytes.{regex_pattern, regex_names, captures_span, captures_haystack, IsCapturesOf}
 use Rattle.regex.specs.declared.bytes.regex.Regex.{Regex}
@@ -15,7 +15,7 @@ use Rattle.regex.specs.declared.bytes.captures.Captures.{Captures}
 use Rattle.regex.proofs.ForCallers.{is_match_alike, found_alike, span_alike}
 use Rattle.fs_vars.specs.Pairs.{Text}
 use Rattle.fs_ports.specs.Patterns.{Reading, reading, IsBuiltOf}
-use Rattle.fs_plan.specs.Matching.{Groups, groups_of, group_text, span_of, has_groups, match_gives, searched, tested}
+use Rattle.fs_plan.specs.Matching.{Groups, groups_of, group_text, span_of, has_groups, match_gives, tested}
 use Rattle.fs_plan.specs.declared.tested.Tested.{Tested}
 
 -- ---- a pattern whose groups are not asked for

@@ -1,11 +1,10 @@
 -- When a text is too long.
-use Rattle.std.proofs.Common.{◌≡◌, ℕ, ◌<◌, ◌≤◌, length, sym, ap, ◌∙◌, Ok, Err}
+use Rattle.std.proofs.Common.{◌≡◌, ℕ, ◌≤◌, length, sym, ap, ◌∙◌, Ok, Err}
 use Rattle.std.proofs.lemmas.Bool.{le-leb, lt-leb}
 use Rattle.fs_vars.specs.Pairs.{Text}
-use Rattle.fs_vars.specs.Outputs.{IsRefusal, len_of}
+use Rattle.fs_vars.specs.Outputs.{IsRefusal}
 use Rattle.fs_vars.specs.declared.refused.Refused.{Refused}
 use Rattle.fs_vars.specs.declared.refused.Refused.TheVariants.{Memory, TooLong}
-use Rattle.fs_plan.specs.Outcomes.{Outcome}
 use Rattle.fs_plan.specs.Hunting.{within_limit}
 
 pub within : (text t : Text) → t ≡ text → length t ≤ 65536 → within_limit text ≡ Ok t

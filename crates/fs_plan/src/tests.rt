@@ -5,9 +5,41 @@ use fs_doc::read_config;
 use fs_ports::{MemFiles, NoGate};
 use fs_text::{Memory, Txt};
 use fs_vars::{Bounds, Profile, Refused, Scope, Vars};
-use rows::HUNTS;
+use rows::{HUNTS, SHORT};
 use std::alloc::Global;
 use std::test::Fail;
+
+// What a short text stands for.
+fn spelt(alloc: Global, short: &str) -> Result<Vec<u8>, Memory> {
+    let mut long = Vec::new(alloc);
+    for b in short.as_bytes() {
+        match SHORT.iter().find(|word| word.0 == *b) {
+            Some(word) => long.extend_from_slice(word.1.as_bytes())?,
+            None => long.push(*b)?,
+        }
+    }
+    Ok(long)
+}
+
+// The document of these contexts.
+fn document(alloc: Global, contexts: &[u8]) -> Result<Vec<u8>, Memory> {
+    let mut text = Vec::from_slice(alloc, b"<document><section name='dialplan'>")?;
+    text.extend_from_slice(contexts)?;
+    text.extend_from_slice(b"</section></document>")?;
+    Ok(text)
+}
+
+// The dialplan of these contexts, where the builds of these numbers find a pattern too large.
+fn dialplan(
+    alloc: Global,
+    contexts: &[u8],
+    too_large: &[u64],
+) -> Result<Result<Dialplan, PlanFault>, Fail> {
+    let text = document(alloc, contexts)?;
+    let config = read_config(alloc, &text).ok().ok_or("document")?;
+    let mut files = MemFiles::new(alloc, &[], &[], too_large)?;
+    Ok(Dialplan::build(alloc, &config, &mut files))
+}
 
 // The actions, a line each, with a space between application and argument.
 fn shown(alloc: Global, hunt: &Hunt) -> Result<Vec<u8>, Memory> {
@@ -21,25 +53,13 @@ fn shown(alloc: Global, hunt: &Hunt) -> Result<Vec<u8>, Memory> {
     Ok(lines)
 }
 
-// The dialplan of a document, where the builds of these numbers find a pattern too large.
-fn dialplan(
+// What a call for this number gets from a context.
+fn hunt(
     alloc: Global,
-    document: &str,
-    too_large: &[u64],
-) -> Result<Result<Dialplan, PlanFault>, Fail> {
-    let config = read_config(alloc, document.as_bytes())
-        .ok()
-        .ok_or("document")?;
-    let mut files = MemFiles::new(alloc, &[], &[], too_large)?;
-    Ok(Dialplan::build(alloc, &config, &mut files))
-}
-
-// What a call for this number gets from the context `c` with these extensions.
-fn hunted(alloc: Global, extensions: &str, number: &str) -> Result<Vec<u8>, Fail> {
-    let document = format!(in alloc;
-        "<document><section name='dialplan'><context name='c'>{extensions}</context></section></document>"
-    )?;
-    let plan = dialplan(alloc, document.as_str(), &[])??;
+    plan: &Dialplan,
+    context: &[u8],
+    number: &str,
+) -> Result<Result<Hunt, Refused>, Memory> {
     let mut profile = Profile::empty(alloc)?;
     profile.destination_number = Txt::of(alloc, number.as_bytes())?;
     let scope = Scope {
@@ -47,62 +67,53 @@ fn hunted(alloc: Global, extensions: &str, number: &str) -> Result<Vec<u8>, Fail
         profile: &profile,
         globals: &Vars::new(alloc, Bounds::Globals)?,
     };
-    match plan.hunt(alloc, &scope, b"c", &mut NoGate) {
+    Ok(plan.hunt(alloc, &scope, context, &mut NoGate))
+}
+
+// That in words.
+fn told(alloc: Global, plan: &Dialplan, context: &[u8], number: &str) -> Result<Vec<u8>, Fail> {
+    match hunt(alloc, plan, context, number)? {
         Ok(hunt) => Ok(shown(alloc, &hunt)?),
         Err(Refused::TooLong { len }) => {
-            Ok(Vec::from_slice(alloc, format!(in alloc; "too long {len}\n")?.as_bytes())?)
+            let text = format!(in alloc; "too long {len}\n")?;
+            Ok(Vec::from_slice(alloc, text.as_bytes())?)
         }
         Err(Refused::Memory) => Err("memory")?,
     }
 }
 
+// The dialplan of one context with these extensions.
+fn one_context(alloc: Global, extensions: &str) -> Result<Dialplan, Fail> {
+    let mut contexts = Vec::from_slice(alloc, b"<context name='c'>")?;
+    contexts.extend_from_slice(&spelt(alloc, extensions)?)?;
+    contexts.extend_from_slice(b"</context>")?;
+    Ok(dialplan(alloc, &contexts, &[])??)
+}
+
 #[test]
 fn hunts_give_the_actions_of_the_rules(rt: HostRuntime) -> Result<(), Fail> {
-    for (extensions, number, actions) in HUNTS {
-        let lines = hunted(rt.alloc(), extensions, number)?;
-        assert!(rt;
-            lines.as_slice() == actions.as_bytes(),
-            "{extensions} for {number}"
-        );
+    for (extensions, calls) in HUNTS {
+        let plan = one_context(rt.alloc(), extensions)?;
+        for (number, actions) in calls.iter() {
+            let lines = told(rt.alloc(), &plan, b"c", number)?;
+            assert!(rt;
+                lines.as_slice() == actions.as_bytes(),
+                "{extensions} for {number}"
+            );
+        }
+        let elsewhere = told(rt.alloc(), &plan, b"d", "1")?;
+        assert!(rt; elsewhere.is_empty(), "{extensions} elsewhere");
     }
     Ok(())
 }
 
-#[test]
-fn unknown_contexts_give_nothing_and_inline_effects_are_told(rt: HostRuntime) -> Result<(), Fail> {
-    let alloc = rt.alloc();
-    let plan = dialplan(
-        alloc,
-        "<document><section name='dialplan'><context name='c'><extension><condition><action application='set' data='v=7' inline='true'/><action application='set_global' data='g=8' inline='true'/></condition></extension></context></section></document>",
-        &[],
-    )??;
-    let vars = Vars::new(alloc, Bounds::Channel)?;
-    let globals = Vars::new(alloc, Bounds::Globals)?;
-    let scope = Scope {
-        vars: &vars,
-        profile: &Profile::empty(alloc)?,
-        globals: &globals,
-    };
-    let none = plan.hunt(alloc, &scope, b"d", &mut NoGate)?;
-    assert_eq!(rt; none.actions.as_slice().len(), 0);
-    assert!(rt; none.vars.get(b"v").is_none());
-    let hunt = plan.hunt(alloc, &scope, b"c", &mut NoGate)?;
-    assert_eq!(rt; hunt.actions.as_slice().len(), 0);
-    let v = hunt.vars.get(b"v").ok_or("no variable")?;
-    assert_eq!(rt; v.as_bytes(), b"7".as_slice());
-    let g = hunt.globals.get(b"g").ok_or("no global")?;
-    assert_eq!(rt; g.as_bytes(), b"8".as_slice());
-    Ok(())
-}
-
 // Two contexts with three extensions, and five patterns, of which the last is none.
-const BAD_LAST: &str =
-    "<document><section name='dialplan'><context name='a'><extension><condition expression='1'/></extension><extension><condition/><condition expression='2'/></extension></context><context name='b'><extension><condition expression='3'/><condition regex='any'><regex expression='4'/><regex expression='('/></condition></extension></context></section></document>";
+const BAD_LAST: &[u8] =
+    b"<context name='a'><extension><condition expression='1'/></extension><extension><condition/><condition expression='2'/></extension></context><context name='b'><extension><condition expression='3'/><condition regex='any'><regex expression='4'/><regex expression='('/></condition></extension></context>";
 
 #[test]
 fn first_refused_pattern_is_named(rt: HostRuntime) -> Result<(), Fail> {
-    let alloc = rt.alloc();
-    let refused = dialplan(alloc, BAD_LAST, &[])?;
+    let refused = dialplan(rt.alloc(), BAD_LAST, &[])?;
     assert!(rt;
         refused.err()
             == Some(PlanFault::PatternRefused {
@@ -110,7 +121,7 @@ fn first_refused_pattern_is_named(rt: HostRuntime) -> Result<(), Fail> {
                 condition: 2
             })
     );
-    let large = dialplan(alloc, BAD_LAST, &[2, 5])?;
+    let large = dialplan(rt.alloc(), BAD_LAST, &[2, 5])?;
     assert!(rt;
         large.err()
             == Some(PlanFault::PatternTooLarge {

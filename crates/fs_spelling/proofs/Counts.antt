@@ -339,7 +339,7 @@ pattern_keeps pairs c h =
     subst P (sym room.same) (condition_keeps c k 1 h (omega arith) (omega arith) (omega (arith, room.below))))
 
 condition_on_keeps : (pairs : Pairs) (c : Content) (o : Option ManyKind) → IsCounted c → Keeps (condition_on pairs c o)
-condition_on_keeps pairs c (Some many) h = condition_alone c (Some (condition_of pairs (test.Many many []))) h (omega arith) (omega arith)
+condition_on_keeps pairs c (Some which) h = condition_alone c (Some (condition_of pairs (test.Many which []))) h (omega arith) (omega arith)
 condition_on_keeps pairs c None h = by (has pairs (codes "field") || has pairs (codes "expression"))
   where
     by : (t : Bool) → Keeps (cond t (pattern_begun pairs c) (Ok (level.Condition, record c { condition = Some (condition_of pairs test.Always) })))
@@ -349,7 +349,7 @@ condition_on_keeps pairs c None h = by (has pairs (codes "field") || has pairs (
 case_counted : (field expression : Text) (t : Test Text) → patterns_tested (with_case field expression t) ≤ patterns_tested t + 1
 case_counted field expression test.Always = omega arith
 case_counted field expression (test.Plain f e) = omega arith
-case_counted field expression (test.Many many children) = omega (arith, length-append children (record { field = field; expression = expression } ∷ []))
+case_counted field expression (test.Many which children) = omega (arith, length-append children (record { field = field; expression = expression } ∷ []))
 
 child_counted : (field expression : Text) (o : Option Condition)
     → (opened patterns_of (option_map (with_child field expression) o) ≤ opened patterns_of o + 1) × (opened actions_of (option_map (with_child field expression) o) ≤ opened actions_of o)

@@ -20,7 +20,7 @@ pub record AreInRange (s : Settings) : Type 0 where
 abbrev pub patterns_tested : Test Text → ℕ
 patterns_tested test.Always = 0
 patterns_tested (test.Plain field expression) = 1
-patterns_tested (test.Many many children) = length children
+patterns_tested (test.Many which children) = length children
 
 abbrev pub patterns_of : Condition → ℕ
 patterns_of k = patterns_tested k.test

@@ -3,7 +3,7 @@ use Rattle.std.proofs.Common.{◌≡◌, ◌≢◌, ℕ, Bool, true, false, cond
 use Rattle.std.specs.List.{concat}
 use Rattle.std.proofs.lemmas.Bool.{eqb-false}
 use Rattle.fs_ports.specs.Counts.{raised}
-use Rattle.fs_ports.specs.Ports.{Input, Output, Writes, Stopped, SendDid}
+use Rattle.fs_ports.specs.Ports.{Input, Output, Writes, Stopped}
 use Rattle.fs_ports.specs.declared.send.Sent.{Sent}
 use Rattle.fs_ports.specs.Loads.{LoadCounts, Tells, Counted}
 use Rattle.fs_ports.specs.declared.files.Load.{Load}
@@ -12,6 +12,7 @@ use Rattle.fs_ports.proofs.Sides.{reads_nothing, writes_nothing, stopped_sooner}
 use Rattle.fs_frame.specs.Block.{too_long}
 use Rattle.fs_frame.specs.Blocks.{blocks_of, rest_of}
 use Rattle.fs_doc.specs.Reading.{Configuration, config_of}
+use Rattle.fs_doc.specs.declared.fault.DocKind.TheVariants.{Memory}
 use Rattle.fs_doc.specs.declared.fault.DocFault.{DocFault}
 use Rattle.fs_plan.specs.Building.{IsRefusal, sizes_after}
 use Rattle.fs_plan.specs.declared.fault.PlanFault.{PlanFault}
@@ -22,8 +23,7 @@ use Rattle.fs_top.specs.Takes.{Begins}
 use Rattle.fs_top.specs.Turns.{HasRead}
 use Rattle.fs_top.specs.Documents.{start_of}
 use Rattle.fs_top.specs.Told.{Told, Asked, Check, Hunt, Play, file_of, told_words, told_file, told_read, told_built, told_asked, told_play, told_text, refused, is_eof, line_of_end, status_of_end, usage_line, cannot_read_line, pattern_line, write_fault_line, memory_line}
-use Rattle.fs_top.specs.Runs.{IsLineOf, status_of, PlaysTo, Does, completes, fails_to_write, lacks_memory, DoesAs, Answers, ReadsNothing, IsBuiltOf, IsBuilt, OverConfig, OverBytes, Loaded, Runs, Says, Ran, HasConfig, HasFault, HasRefusal, CountRose, FillsJournal, MeetsTooLong}
-use Rattle.fs_top.specs.declared.entry.Entry.{Entry}
+use Rattle.fs_top.specs.Runs.{IsLineOf, status_of, PlaysTo, Does, completes, fails_to_write, lacks_memory, DoesAs, Answers, IsBuiltOf, IsBuilt, OverConfig, OverBytes, is_memory, not_read, Runs, Says, Ran, HasConfig, HasFault, HasRefusal, CountRose, FillsJournal, MeetsTooLong}
 use Rattle.fs_top.specs.declared.start.Start.{Start}
 use Rattle.fs_top.specs.declared.phase.Phase.{Phase}
 use Rattle.fs_top.specs.declared.phase.Phase.TheVariants.{Fresh, Ready, Ending, Refused, Closed}
@@ -194,6 +194,19 @@ over_unread asked bytes sizes in0 out0 = record {
   built_told = refl;
   answers = answers_quiet (told_file asked (Got bytes) None) (Some asked) in0 in0 out0 out0 (BrokenOff OutOfMemory) refl (memory_does (told_file asked (Got bytes) None [] false) in0 out0);
 }
+
+-- the document was not read: it has this fault, or memory was wanting
+pub over_answer : (asked : Asked) (bytes : List ℕ) (fault : DocFault) (sizes : ℕ) (in0 : Input) (out0 : Output) →
+    (fault ≡ record { at = 0; kind = Memory }) ⊎ (config_of bytes ≡ Err fault) → OverBytes asked bytes sizes sizes in0 in0 out0 out0 (not_read fault)
+over_answer asked bytes fault sizes in0 out0 why = by (is_memory fault.kind) refl
+  where
+    by : (memory : Bool) → is_memory fault.kind ≡ memory → OverBytes asked bytes sizes sizes in0 in0 out0 out0 (cond memory (BrokenOff OutOfMemory) (BadDocument fault))
+    by true is = over_unread asked bytes sizes in0 out0
+    by false is = over_faulty asked bytes fault sizes in0 out0 (reads why)
+      where
+        reads : (fault ≡ record { at = 0; kind = Memory }) ⊎ (config_of bytes ≡ Err fault) → config_of bytes ≡ Err fault
+        reads (inl e) = let same : is_memory fault.kind ≡ true = ap (λ f. is_memory f.kind) e in absurd (cc)
+        reads (inr e) = e
 
 -- ---- over a file
 
@@ -454,7 +467,8 @@ pub cause_full : (asked : Option Asked) (next_load : List ℕ → Option Load) (
 cause_full asked next_load counts0 counts1 sizes0 sizes1 in0 in1 out0 out1 outcome runs eight =
     let told = status-told asked next_load counts0 counts1 sizes0 sizes1 in0 in1 out0 out1 outcome runs (λ e. absurd (cc)) (λ e. absurd (cc)) in
     let p = played_file asked runs.file runs.built next_load runs.answers.input runs.answers.read_failed (status_of outcome) (λ e. absurd (cc)) (λ e. absurd (cc)) (λ e. absurd (cc)) (λ e. absurd (cc)) runs.file_told told in
-    (p.c, p.has, full_play (start_of p.c) in0 in1 runs.answers.input runs.answers.read_failed runs.answers.has_read (p.ended ∙ eight))
+    let ended : status_of_end (play (start_of p.c) runs.answers.input runs.answers.read_failed).end ≡ 8 = subst (λ (n : ℕ). status_of_end (play (start_of p.c) runs.answers.input runs.answers.read_failed).end ≡ n) eight p.ended in
+    (p.c, p.has, full_play (start_of p.c) in0 in1 runs.answers.input runs.answers.read_failed runs.answers.has_read ended)
 
 -- what status 10 shows
 pub cause_too_long : (asked : Option Asked) (next_load : List ℕ → Option Load) (counts0 counts1 : LoadCounts) (sizes0 sizes1 : ℕ) (in0 in1 : Input) (out0 out1 : Output) (outcome : Outcome) →
@@ -462,7 +476,8 @@ pub cause_too_long : (asked : Option Asked) (next_load : List ℕ → Option Loa
 cause_too_long asked next_load counts0 counts1 sizes0 sizes1 in0 in1 out0 out1 outcome runs ten =
     let told = status-told asked next_load counts0 counts1 sizes0 sizes1 in0 in1 out0 out1 outcome runs (λ e. absurd (cc)) (λ e. absurd (cc)) in
     let p = played_file asked runs.file runs.built next_load runs.answers.input runs.answers.read_failed (status_of outcome) (λ e. absurd (cc)) (λ e. absurd (cc)) (λ e. absurd (cc)) (λ e. absurd (cc)) runs.file_told told in
-    (p.c, p.has, too_long_play (start_of p.c) in0 in1 runs.answers.input runs.answers.read_failed runs.answers.has_read (p.ended ∙ ten))
+    let ended : status_of_end (play (start_of p.c) runs.answers.input runs.answers.read_failed).end ≡ 10 = subst (λ (n : ℕ). status_of_end (play (start_of p.c) runs.answers.input runs.answers.read_failed).end ≡ n) ten p.ended in
+    (p.c, p.has, too_long_play (start_of p.c) in0 in1 runs.answers.input runs.answers.read_failed runs.answers.has_read ended)
 
 -- what status 4 shows
 unreadable_file : (asked : Asked) (file : Load) (built : Option PlanFault) (next_load : List ℕ → Option Load) (counts0 counts1 : LoadCounts) (in0 in1 : Input) (input : List ℕ) (read_failed : Bool) (status : ℕ) →

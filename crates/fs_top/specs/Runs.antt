@@ -19,7 +19,6 @@ use Rattle.fs_top.specs.Switch.{Journal}
 use Rattle.fs_top.specs.Journal.{IsFull}
 use Rattle.fs_top.specs.Play.{play}
 use Rattle.fs_top.specs.Turns.{HasRead, Finishes, Breaks}
-use Rattle.fs_top.specs.Documents.{start_of}
 use Rattle.fs_top.specs.Told.{Told, Asked, Check, Hunt, Play, file_of, told_built, told_file, told_words, line_of_end, status_of_end, usage_line, cannot_read_line, pattern_line, write_fault_line, memory_line}
 use Rattle.fs_top.specs.declared.start.Start.{Start}
 use Rattle.fs_top.specs.declared.end.End.TheVariants.{TooLong, JournalFull}

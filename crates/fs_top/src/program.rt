@@ -93,9 +93,11 @@ fn over_file<'a, F: Files, L: Link>(
     ensures { Runs (Some (asked_seen asked.entry)) (F.next_load files.old) (F.counts files.old) (F.counts files.new) (F.sizes files.old) (F.sizes files.new)
         (L.input link.old) (L.input link.new) (L.output link.old) (L.output link.new) result }
 {
-    match files.load(asked.file()) {
+    let name = asked.file();
+    match files.load(name) {
         Ok(Load::Got(bytes)) => over_bytes(alloc, asked, bytes.as_bytes(), files, link),
-        Ok(Load::Absent | Load::Failed) => Outcome::CannotRead { name: asked.file() },
+        Ok(Load::Absent) => Outcome::CannotRead { name },
+        Ok(Load::Failed) => Outcome::CannotRead { name },
         Err(Memory) => Outcome::BrokenOff(Fault::OutOfMemory),
     }
 }

@@ -42,6 +42,7 @@ struct Case {
     words: &'static [&'static str],
     file: &'static str,
     failed_loads: &'static [u64],
+    large_builds: &'static [u64],
     input: &'static str,
     cuts: &'static [usize],
     failed_reads: &'static [u64],
@@ -57,6 +58,7 @@ const QUIET: Case = Case {
     words: &["play", "f"],
     file: "",
     failed_loads: &[],
+    large_builds: &[],
     input: "",
     cuts: &[],
     failed_reads: &[],
@@ -71,6 +73,14 @@ const SINGLE_BYTES: &[usize] = &[
     1, 2, 3, 4, 5, 6, 7, 8, 9, 10, 11, 12, 13, 14, 15, 16, 17, 18, 19, 20, 21, 22, 23, 24, 25, 26,
     27, 28, 29, 30, 31, 32, 33, 34, 35, 36, 37, 38, 39, 40, 41, 42, 43,
 ];
+
+// A document with a password that is put together from a global.
+const OWN: &str =
+    "<document><X-PRE-PROCESS cmd='set' data='x=1234567890'/><section name='configuration'><configuration name='event_socket.conf'><settings><param name='password' value='$${x}'/></settings></configuration></section></document>";
+
+// A dialplan whose first condition has an anti-action alone.
+const LOCAL: &str =
+    "<document><section name='dialplan'><context name='c'><extension><condition field='destination_number' expression='^9' break='never'><anti-action application='set' data='a=1'/></condition><condition><action application='park'/></condition></extension></context></section></document>";
 
 const CASES: &[Case] = &[
     QUIET,
@@ -240,11 +250,76 @@ const CASES: &[Case] = &[
         ..QUIET
     },
     Case {
-        name: "a file with a document",
+        name: "an empty document",
         file: "<document/>",
+        ..QUIET
+    },
+    Case {
+        name: "a document with a password and a global of its own",
+        file: OWN,
+        input: "auth ClueCon\n\n",
+        output: &[REQUEST, INVALID, NOTICE],
+        ..QUIET
+    },
+    Case {
+        name: "the globals of a document",
+        file: OWN,
+        input: "auth 1234567890\n\napi expand echo ${x:4:2}\n\napi global_getvar\n\n",
+        output: &[
+            REQUEST,
+            ACCEPTED,
+            "Content-Type: api/response\nContent-Length: 2\n\n56",
+            "Content-Type: api/response\nContent-Length: 13\n\nx=1234567890\n",
+        ],
+        ..QUIET
+    },
+    Case {
+        name: "check",
+        words: &["check", "f"],
+        file: LOCAL,
+        output: &["OK 1 1\n"],
+        ..QUIET
+    },
+    Case {
+        name: "check of a document that is cut short",
+        words: &["check", "f"],
+        file: "<document type=\"a&am",
         output: &[],
-        line: "fsw: document not read yet\n",
+        line: "fsw: Truncated at 20\n",
         status: 3,
+        ..QUIET
+    },
+    Case {
+        name: "check of a pattern that has no reading",
+        words: &["check", "f"],
+        file: "<document><section name='dialplan'><context name='c'><extension><condition field='context' expression='('/></extension></context></section></document>",
+        output: &[],
+        line: "fsw: pattern refused in extension 1 condition 1\n",
+        status: 3,
+        ..QUIET
+    },
+    Case {
+        name: "check of a pattern that is too large",
+        words: &["check", "f"],
+        file: LOCAL,
+        large_builds: &[1],
+        output: &[],
+        line: "fsw: pattern too large in extension 1 condition 1\n",
+        status: 3,
+        ..QUIET
+    },
+    Case {
+        name: "hunt",
+        words: &["hunt", "f", "c", "1000"],
+        file: LOCAL,
+        output: &["set a%3D1\npark \n"],
+        ..QUIET
+    },
+    Case {
+        name: "hunt in a context that is not there",
+        words: &["hunt", "f", "none", "1000"],
+        file: LOCAL,
+        output: &["NO_ROUTE_DESTINATION\n"],
         ..QUIET
     },
     Case {
@@ -257,7 +332,7 @@ const CASES: &[Case] = &[
     },
     Case {
         name: "words of no form",
-        words: &["play", "f", "g"],
+        words: &["hunt", "f", "g"],
         output: &[],
         line: USAGE,
         status: 2,
@@ -282,7 +357,7 @@ fn runs_answer_as_the_rows_say(rt: HostRuntime) -> Result<(), Fail> {
             words.push(text(alloc, &[word])?)?;
         }
         let held = [(text(alloc, &["f"])?, text(alloc, &[case.file])?)];
-        let mut files = MemFiles::new(alloc, &held, case.failed_loads, &[])?;
+        let mut files = MemFiles::new(alloc, &held, case.failed_loads, case.large_builds)?;
         let mut link = MemLink::new(
             alloc,
             case.input.as_bytes(),

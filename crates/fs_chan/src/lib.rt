@@ -22,3 +22,4 @@ pub use moment::moment_after;
 pub use peer::{Direction, Peer};
 pub use target::Target3;
 pub use wait::Wait;
+pub use work::due_law;

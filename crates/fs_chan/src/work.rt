@@ -1,4 +1,6 @@
-ghost use Rattle.std.specs.Prelude.{◌≡◌};
+ghost use Rattle.std.specs.Prelude.{◌≡◌, ◌<◌, ◌≤◌, ℕ, true, Some, is_some};
+ghost use Rattle.fs_chan.specs.declared.chan.Chan.{Chan};
+ghost use Rattle.fs_chan.specs.declared.due.Due.TheVariants as due;
 ghost use Rattle.fs_chan.specs.Work as spec;
 
 use crate::action::Action;
@@ -62,7 +64,7 @@ impl Chan {
 
     /// When what it waits for in CS_EXECUTE or CS_PARK is over.
     fn due_in_wait(&self, now: u64) -> Option<Due>
-        ensures { result ≡ spec.due_in_wait now self.now.wait self.now }
+        ensures { result ≡ spec.due_in_wait now self.now.state self.now.wait self.now.messages }
     {
         match &self.wait {
             Wait::Sleep { until } if *until > now => Some(Due::At(*until)),
@@ -73,3 +75,18 @@ impl Chan {
         }
     }
 }
+
+/// Law: what a channel has to do by itself, seen at other moments.
+pub fn due_law()
+    // A moment that is told is still to come.
+    ensures to_come { (now until : ℕ) (c : Chan) → spec.due_of now c ≡ Some (due.At until) → now < until }
+
+    // Once it has come, the channel has something to do.
+    ensures has_come { (now until : ℕ) (c : Chan) → spec.due_of now c ≡ Some (due.At until) → spec.due_of until c ≡ Some due.Now }
+
+    // What is to be done stays so.
+    ensures stays { (now later : ℕ) (c : Chan) → now ≤ later → spec.due_of now c ≡ Some due.Now → spec.due_of later c ≡ Some due.Now }
+
+    // Where there is anything to run next, it is to be done at once.
+    ensures next { (now : ℕ) (c : Chan) → is_some (spec.next_of c) ≡ true → spec.due_of now c ≡ Some due.Now }
+{}

@@ -1,15 +1,14 @@
 -- When a channel has something to do, seen at different moments.
-use Rattle.std.proofs.Common.{◌≡◌, ℕ, ◌<◌, ◌≤◌, Bool, true, false, cond, List, [], ◌∷◌, Option, None, Some, is_some, refl, subst, ap, arith, leb}
+use Rattle.std.proofs.Common.{◌≡◌, ℕ, ◌<◌, ◌≤◌, Bool, true, false, cond, List, [], ◌∷◌, None, Some, is_some, refl, subst, ap, arith, leb}
 use Rattle.std.proofs.lemmas.Bool.{leb-true, leb-false, le-leb}
 use Rattle.fs_text.specs.declared.states.State.{State}
-use Rattle.fs_text.specs.declared.states.State.TheVariants.{CsNew, CsInit, CsRouting, CsExecute, CsPark, CsHangup, CsReporting}
+use Rattle.fs_text.specs.declared.states.State.TheVariants.{CsExecute, CsPark}
 use Rattle.fs_chan.specs.declared.action.Action.{Action}
 use Rattle.fs_chan.specs.declared.chan.Chan.{Chan}
-use Rattle.fs_chan.specs.declared.due.Due.{Due}
 use Rattle.fs_chan.specs.declared.due.Due.TheVariants.{Now, At}
 use Rattle.fs_chan.specs.declared.wait.Wait.{Wait}
 use Rattle.fs_chan.specs.declared.wait.Wait.TheVariants.{Ready, Sleep, Parked, Socket}
-use Rattle.fs_chan.specs.Work.{due_at, due_for, due_in_wait, due_in, due_of, runs_actions, line_in, next_of, first_of}
+use Rattle.fs_chan.specs.Work.{due_at, due_in_wait, due_in, due_of, runs_actions, line_in, next_of, first_of}
 
 -- ---- a moment that is slept to
 

@@ -1,5 +1,5 @@
 -- The headers that tell of a channel.
-use Rattle.std.specs.Prelude.{◌==◌, ℕ, Bool, not, if◌then◌else◌, [], ◌∷◌, length, filter, Option, None, Some, is_some, codes}
+use Rattle.std.specs.Prelude.{◌==◌, not, if◌then◌else◌, [], ◌∷◌, length, filter, Option, None, Some, is_some, codes}
 use Rattle.std.specs.Fmt as fmt
 use Rattle.fs_text.specs.State.{state_name, state_number}
 use Rattle.fs_vars.specs.Pairs.{Text, Pairs}

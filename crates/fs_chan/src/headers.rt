@@ -16,64 +16,28 @@ impl Chan {
     {
         let number = decimal(alloc, self.state.number() as u64)?;
         let profile = &self.profile;
-        let mut headers = Headers::new(alloc);
-        add(
+        let mut given = Given {
             alloc,
-            &mut headers,
-            "Channel-State",
-            self.state.name().as_bytes(),
-        )?;
-        add(
-            alloc,
-            &mut headers,
-            "Channel-State-Number",
-            number.as_bytes(),
-        )?;
-        add(
-            alloc,
-            &mut headers,
-            "Channel-Name",
-            profile.chan_name.as_bytes(),
-        )?;
-        add(alloc, &mut headers, "Unique-ID", self.uuid.as_bytes())?;
-        add(
-            alloc,
-            &mut headers,
-            "Call-Direction",
-            self.direction.name().as_bytes(),
-        )?;
-        add(
-            alloc,
-            &mut headers,
-            "Answer-State",
-            self.answer_state().as_bytes(),
-        )?;
-        add(
-            alloc,
-            &mut headers,
-            "Caller-Caller-ID-Name",
-            profile.caller_id_name.as_bytes(),
-        )?;
-        add(
-            alloc,
-            &mut headers,
+            headers: Headers::new(alloc),
+        };
+        given.add("Channel-State", self.state.name().as_bytes())?;
+        given.add("Channel-State-Number", number.as_bytes())?;
+        given.add("Channel-Name", profile.chan_name.as_bytes())?;
+        given.add("Unique-ID", self.uuid.as_bytes())?;
+        given.add("Call-Direction", self.direction.name().as_bytes())?;
+        given.add("Answer-State", self.answer_state().as_bytes())?;
+        given.add("Caller-Caller-ID-Name", profile.caller_id_name.as_bytes())?;
+        given.add(
             "Caller-Caller-ID-Number",
             profile.caller_id_number.as_bytes(),
         )?;
-        add(
-            alloc,
-            &mut headers,
+        given.add(
             "Caller-Destination-Number",
             profile.destination_number.as_bytes(),
         )?;
-        add(
-            alloc,
-            &mut headers,
-            "Caller-Context",
-            profile.context.as_bytes(),
-        )?;
-        add(alloc, &mut headers, "Other-Leg-Unique-ID", self.peer_uuid())?;
-        Ok(headers)
+        given.add("Caller-Context", profile.context.as_bytes())?;
+        given.add("Other-Leg-Unique-ID", self.peer_uuid())?;
+        Ok(given.headers)
     }
 
     /// `hangup` once it is hung up, and before `answered` or `ringing`.
@@ -100,12 +64,23 @@ impl Chan {
     }
 }
 
-/// Adds a header, unless its value is empty.
-fn add(alloc: Global, headers: &mut Headers, name: &str, value: &[u8]) -> Result<(), Memory>
-    ensures { OnOk result (headers.new ≡ headers.old ++ spec.given ((name.now, value.now) ∷ [])) }
-{
-    if value.is_empty() {
-        return Ok(());
+/// The headers that were given a value.
+#[derive(Drop)]
+struct Given {
+    alloc: Global,
+    headers: Headers,
+}
+
+impl Given {
+    /// Adds a header, unless its value is empty.
+    fn add(&mut self, name: &str, value: &[u8]) -> Result<(), Memory>
+        ensures { OnOk result (self.new.headers ≡ self.old.headers ++ spec.given ((name.now, value.now) ∷ [])) }
+    {
+        if value.is_empty() {
+            return Ok(());
+        }
+        let name = Txt::of(self.alloc, name.as_bytes())?;
+        let value = Txt::of(self.alloc, value)?;
+        self.headers.push(name, value)
     }
-    headers.push(Txt::of(alloc, name.as_bytes())?, Txt::of(alloc, value)?)
 }

@@ -18,7 +18,7 @@ returns c =
       c.in_ok-add-3.ensures,
       c.in_ok-add-2.ensures,
       c.in_ok-add.ensures,
-      c.new-headers.ensures,
+      c.new.ensures,
       c.as_bytes.ensures.value,
       c.name.ensures,
       c.as_bytes-2.ensures,

@@ -1,0 +1,11 @@
+ghost use Rattle.std.specs.Prelude.{◌≡◌};
+
+use crate::rule::Desk;
+use crate::turned::Turned;
+
+/// A state under a ticket lock: whoever calls waits for its turn, has the state to itself, and passes the turn on.
+#[derive(Drop)]
+pub struct Book<M: Turned> {
+    pub(crate) desk: Desk<M>,
+    ghost sized: { (desk.shared.table_id.words ≡ 2) × (desk.shared.table_id.slots ≡ 1) },
+}

@@ -1,0 +1,48 @@
+-- The headers that tell of a channel.
+use Rattle.std.specs.Prelude.{◌==◌, not, if◌then◌else◌, [], ◌∷◌, length, filter, Option, None, Some, is_some, codes}
+use Rattle.std.specs.Fmt as fmt
+use Rattle.fs_text.specs.State.{state_name, state_number}
+use Rattle.fs_vars.specs.Pairs.{Text, Pairs}
+use Rattle.fs_chan.specs.declared.chan.Chan.{Chan}
+use Rattle.fs_chan.specs.declared.peer.Direction.{Direction}
+use Rattle.fs_chan.specs.declared.peer.Direction.TheVariants.{Inbound, Outbound}
+use Rattle.fs_chan.specs.declared.peer.Peer.{Peer}
+use Rattle.fs_chan.specs.Changes.{is_live}
+
+abbrev pub direction_name : Direction → Text
+direction_name Inbound = codes "inbound"
+direction_name Outbound = codes "outbound"
+
+-- whether it was answered, while it is live
+abbrev pub answer_state : Chan → Text
+answer_state c =
+    if is_live c then (if is_some c.answered then codes "answered" else codes "ringing") else codes "hangup"
+
+-- the identifier of a peer, or nothing
+abbrev pub peer_uuid : Option Peer → Text
+peer_uuid None = []
+peer_uuid (Some peer) = peer.uuid
+
+-- all headers of a channel, in order
+abbrev pub all_headers : Chan → Pairs
+all_headers c =
+    (codes "Channel-State", state_name c.state)
+    ∷ (codes "Channel-State-Number", fmt.decimal (state_number c.state))
+    ∷ (codes "Channel-Name", c.profile.chan_name)
+    ∷ (codes "Unique-ID", c.uuid)
+    ∷ (codes "Call-Direction", direction_name c.direction)
+    ∷ (codes "Answer-State", answer_state c)
+    ∷ (codes "Caller-Caller-ID-Name", c.profile.caller_id_name)
+    ∷ (codes "Caller-Caller-ID-Number", c.profile.caller_id_number)
+    ∷ (codes "Caller-Destination-Number", c.profile.destination_number)
+    ∷ (codes "Caller-Context", c.profile.context)
+    ∷ (codes "Other-Leg-Unique-ID", peer_uuid c.peer)
+    ∷ []
+
+-- those headers that have a value
+abbrev pub given : Pairs → Pairs
+given headers = filter (λ header. not (length header.1 == 0)) headers
+
+-- the headers of a channel, without those of an empty value
+unfoldable pub channel_headers : Chan → Pairs
+channel_headers c = given (all_headers c)

@@ -1,0 +1,5 @@
+pub mod Moments
+pub mod Exports
+pub mod Changes
+pub mod Work
+pub mod Headers

@@ -1,0 +1,101 @@
+ghost use Rattle.std.specs.Prelude.{◌≡◌, ◌==◌, [], ◌∷◌, ◌++◌, length, MatchOption, IfOk, OnOk, OnErr};
+
+use fs_text::{Memory, Txt};
+use std::alloc::Global;
+use std::collections::VecDeque;
+use std::marker::Model;
+
+/// An application with its argument.
+#[derive(Drop)]
+pub struct Action {
+    pub application: Txt,
+    pub argument: Txt,
+}
+
+impl Action {
+    /// The same action once more.
+    pub fn copy(&self) -> Result<Action, Memory>
+        ensures { IfOk result (λ action. action ≡ self.now) }
+    {
+        Ok(Action {
+            application: self.application.copy()?,
+            argument: self.argument.copy()?,
+        })
+    }
+}
+
+/// Actions that are still to be run, in order. A contract sees them as that list.
+#[derive(Drop)]
+pub struct Actions {
+    alloc: Global,
+    queue: VecDeque<Action>,
+}
+
+impl Model for Actions {
+    ghost use Rattle.std.specs.Prelude.{List};
+    ghost use Rattle.fs_chan.specs.declared.action.Action.{Action};
+
+    ghost Value = { List Action };
+
+    ghost view = { λ a. a.queue.items };
+}
+
+impl Actions {
+    /// No actions.
+    pub fn new(alloc: Global) -> Actions
+        ensures { result ≡ [] }
+    {
+        Actions {
+            alloc,
+            queue: VecDeque::new(alloc),
+        }
+    }
+
+    /// How many there are.
+    pub fn len(&self) -> usize
+        ensures { result ≡ length self.now }
+    {
+        self.queue.len()
+    }
+
+    /// Whether there is none.
+    pub fn is_empty(&self) -> bool
+        ensures { result ≡ (length self.now == 0) }
+    {
+        self.queue.is_empty()
+    }
+
+    /// Puts an action behind all others.
+    pub fn push(&mut self, action: Action) -> Result<(), Memory>
+        ensures ok { OnOk result (self.new ≡ self.old ++ action ∷ []) }
+        ensures err { OnErr result (self.new ≡ self.old) }
+    {
+        self.queue.push_back(action)?;
+        Ok(())
+    }
+
+    /// Takes the first action out, if there is one.
+    pub fn take_first(&mut self) -> Option<Action>
+        ensures { MatchOption result ((self.old ≡ []) × (self.new ≡ [])) (λ action. self.old ≡ action ∷ self.new) }
+    {
+        self.queue.pop_front()
+    }
+
+    /// Takes all actions out.
+    pub fn clear(&mut self)
+        ensures { self.new ≡ [] }
+    {
+        self.queue.clear();
+    }
+
+    /// The same actions once more.
+    pub fn copy(&self) -> Result<Actions, Memory>
+        ensures { IfOk result (λ actions. actions ≡ self.now) }
+    {
+        let mut actions = Actions::new(self.alloc);
+        for action in &self.queue {
+            actions.push(action.copy()?)?;
+        }
+        Ok(actions)
+    }
+}

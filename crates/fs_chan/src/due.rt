@@ -1,0 +1,8 @@
+/// When a channel has something to do by itself.
+#[derive(Clone, Copy, Debug, PartialEq, Eq)]
+pub enum Due {
+    /// At once.
+    Now,
+    /// At this moment, in microseconds, and not before.
+    At(u64),
+}

@@ -1,0 +1,23 @@
+//! One channel: the record of a leg of a call, each single change of it, what it runs next and when, and its headers.
+#![tactic(auto)]
+
+mod action;
+mod chan;
+mod changes;
+mod due;
+mod headers;
+mod moment;
+mod peer;
+mod target;
+mod variables;
+mod wait;
+mod work;
+
+pub use action::{Action, Actions};
+pub use chan::Chan;
+pub use due::Due;
+pub use moment::moment_after;
+pub use peer::{Direction, Peer};
+pub use target::Target3;
+pub use wait::Wait;
+pub use work::due_law;

@@ -4,7 +4,7 @@ use Rattle.std.specs.Str.{bytes_eq}
 use Rattle.std.specs.Option.{option_and_then}
 use Rattle.std.proofs.lemmas.Slice.Eq.{bytes_eq-Decides}
 use Rattle.std.proofs.lemmas.Bool.Decides.{nat_tests}
-use Rattle.fs_text.specs.CoreId.{uuid, high_of, IsCoreText}
+use Rattle.fs_text.specs.CoreId.{uuid, high_of, IsCore, IsCoreText}
 use Rattle.fs_text.proofs.IdLemmas.{uuid_owned}
 use Rattle.fs_vars.specs.Pairs.{Text}
 use Rattle.fs_doc.specs.Settings.{is_core, core_in, core_of}
@@ -32,6 +32,10 @@ in_is text high core = by (is_core high) (bytes_eq (uuid high 0) text) (is_core-
 first_in : (text : Text) (half : Option ℕ) (core : ℕ) → option_and_then (core_in text) half ≡ Some core → IsCoreText core text
 first_in text None core e = absurd (cc)
 first_in text (Some high) core e = in_is text high core e
+
+pub core_found : (text : Text) (core : ℕ) → core_of text ≡ Some core → IsCore core
+unfolding core_of
+core_found text core e = (first_in text (high_of text) core e).0
 
 is_in : (text : Text) (core : ℕ) → IsCoreText core text → core_in text core ≡ Some core
 is_in text core is =

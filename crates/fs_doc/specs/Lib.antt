@@ -7,4 +7,5 @@ pub mod Attributes
 pub mod Tagged
 pub mod Contents
 pub mod Reading
+pub mod Limits
 pub mod Views

@@ -29,4 +29,4 @@ abbrev pub RestIsShorter : Text → Option (Bor Text) → Type 0
 RestIsShorter text rest = IfSome rest (λ r. length r.now < length text)
 
 abbrev pub configuration_of : Config → Configuration
-configuration_of c = record { settings = c.settings; globals = c.globals; contexts = c.contexts }
+configuration_of c = c

@@ -72,7 +72,7 @@ pub(crate) fn global_of(text: &[u8]) -> Option<(&[u8], &[u8])>
 }
 
 /// Whether a `${` stands in the text.
-fn has_variable(text: &[u8]) -> bool
+pub fn has_variable(text: &[u8]) -> bool
     ensures { result ≡ judged.has_variable text.now }
 {
     let mut left = text;

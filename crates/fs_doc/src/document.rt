@@ -44,22 +44,10 @@ fn config_of(alloc: Global, bytes: &[u8]) -> Result<Config, DocStop>
     if bytes.len() > MOST_BYTES {
         return Err(DocStop::at(MOST_BYTES, DocKind::TooLarge));
     }
-    let content = if past_blanks(bytes).is_empty() {
-        Content::new(alloc)?
-    } else {
-        content_of(alloc, bytes)?
-    };
-    Ok(config_with(content))
-}
-
-fn config_with(content: Content) -> Config
-    ensures { views.configuration_of result ≡ reading.configured content }
-{
-    Config {
-        settings: content.settings,
-        globals: content.globals,
-        contexts: content.contexts,
+    if past_blanks(bytes).is_empty() {
+        return Ok(Config::of(Content::new(alloc)?));
     }
+    Ok(Config::of(content_of(alloc, bytes)?))
 }
 
 /// What is read of a document that is not blank.

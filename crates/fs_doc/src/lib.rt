@@ -20,6 +20,7 @@ mod state;
 mod tests;
 mod values;
 
+pub use attributes::has_variable;
 pub use config::Config;
 pub use dialplan::{
     Break, Child, ConditionDef, ContextDef, ExtensionDef, ManyKind, PlanAction, Test,

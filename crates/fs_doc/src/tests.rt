@@ -172,13 +172,36 @@ const SETTINGS: &[(&str, &str, DocKind)] = &[
     ),
     (
         "",
+        "<param name='max-sessions' value='18446744073709551616'/>",
+        BadSetting,
+    ),
+    (
+        "",
         "<param name='core-uuid' value='46530000-0000-4000-8000-000000000000'/>",
+        BadSetting,
+    ),
+    (
+        "<param name='core-uuid' value='ffffffff-ffff-8fff-8000-000000000000'/>",
+        "<param name='core-uuid' value='ffffffff-ffff-8fff-8000-000000000001'/>",
         BadSetting,
     ),
     ("", "<param name='max-sessions'/>", BadAttribute),
     ("", "<param value='1'/>", BadAttribute),
     ("", "<setting/>", UnknownElement),
     ("", "x", TextContent),
+];
+
+/// In an `event_socket.conf`.
+const SOCKET_SETTINGS: &[(&str, &str, DocKind)] = &[
+    ("", "<param name='listen-port' value='0'/>", BadSetting),
+    ("", "<param name='listen-port' value='65536'/>", BadSetting),
+    ("", "<param name='password' value=''/>", BadSetting),
+    ("", "<param name='max-connections' value='0'/>", BadSetting),
+    (
+        "<param name='max-connections' value='16'/>",
+        "<param name='max-connections' value='17'/>",
+        BadSetting,
+    ),
 ];
 
 /// And in an extension.
@@ -286,6 +309,12 @@ fn refuses_at_the_first_fault(rt: HostRuntime) -> Result<(), Fail> {
     refuses(
         &rt,
         alloc,
+        "<document><section name='configuration'><configuration name='event_socket.conf'><settings>",
+        SOCKET_SETTINGS,
+    )?;
+    refuses(
+        &rt,
+        alloc,
         "<document><section name='dialplan'><context name='c'><extension>",
         CONDITIONS,
     )
@@ -300,6 +329,9 @@ const ACCEPTED: &[&str] = &[
     "<document>\r\n<!-- &nosuch; --><section name='directory'><domain name=\"d\">x &y; > <b c='<'/></domain></section></document>",
     "<document><section name='languages' /><section name='configuration'><configuration name='acl.conf'><network-lists><list name='l'>x</list></network-lists><X-PRE-PROCESS cmd='none'/></configuration></section></document>",
     "<document><section name='configuration'><configuration name='x.conf'><settings><param name='core-uuid' value='x'/></settings></configuration></section></document>",
+    "<!-- --><document><!-- --><section name='configuration'><!-- --><configuration name='switch.conf'><!-- --><settings><!-- --><param name='colour' value='red'/><!-- --></settings></configuration></section><!-- --></document><!-- -->",
+    "<document><section name='dialplan'><!-- --><context name='c'><!-- --><extension><!-- --><condition><!-- --></condition><condition regex='all'><!-- --><regex/><!-- --></condition></extension></context></section><section name='x'><!-- --><a/><!-- --></section></document>",
+    "<document type='freeswitch/xml'>\r\n <section name='directory'><domain name='$${domain}'><params><param name='dial-string' value='{presence_id=${dialed_user}@${dialed_domain}}'/></params><groups><group name='default'><users><user id='1000'><params><param name='password' value='$${default_password}'/></params></user></users></group></groups></domain></section>\r\n <section name='dialplan' description='Regex/XML Dialplan'><context name='default'><extension name='Local_Extension'><condition field='destination_number' expression='^(10[01][0-9])$'><action application='export' data='dialed_extension=$1'/><action application='bridge' data='user/${dialed_extension}@${domain_name}'/></condition></extension></context></section>\r\n</document>\r\n",
     "<document colour=\"it's\" size='&#x10FFFF;&#65;&quot;&apos;'><section name='dialplan'><context name='c'><extension colour='red'/></context></section></document>",
 ];
 
@@ -372,14 +404,18 @@ fn has(rt: &impl Abort, found: Option<&Txt>, wanted: &str) {
 #[test]
 fn reads_settings_and_globals(rt: HostRuntime) -> Result<(), Fail> {
     let config = usual(rt.alloc())?;
-    let settings = &config.settings;
+    let settings = config.settings();
     assert_eq!(rt;
         (settings.max_sessions, settings.journal_limit),
         (256, 1_048_576)
     );
     assert_eq!(rt; (settings.listen_port, settings.max_connections), (1, 16));
     has(&rt, Some(&settings.password), "hi &lt; example.org");
-    has(&rt, config.globals.get(b"greeting"), "hi &lt; example.org");
+    has(
+        &rt,
+        config.globals().get(b"greeting"),
+        "hi &lt; example.org",
+    );
     Ok(())
 }
 
@@ -413,7 +449,7 @@ fn counts_cases(rt: &impl Abort, condition: &ConditionDef<Txt>) {
 #[test]
 fn reads_the_dialplan(rt: HostRuntime) -> Result<(), Fail> {
     let config = usual(rt.alloc())?;
-    let contexts = config.contexts.as_slice();
+    let contexts = config.contexts();
     names_contexts(&rt, contexts);
     let default = contexts.first().ok_or("no context")?;
     for extension in default.extensions.as_slice() {
@@ -428,45 +464,141 @@ fn reads_the_dialplan(rt: HostRuntime) -> Result<(), Fail> {
     Ok(())
 }
 
-/// The fault of a document with a part that stands so many times between a front and a back.
+/// A document with a part that stands so many times between a front and a back.
 fn repeated(
     alloc: Global,
     front: &str,
     part: &str,
     times: u32,
     back: &str,
-) -> Result<Option<DocFault>, Fail> {
+) -> Result<Vec<u8>, Fail> {
     let mut bytes = joined(alloc, &[front])?;
     for _ in 0..times {
         bytes.extend_from_slice(part.as_bytes())?;
     }
     bytes.extend_from_slice(back.as_bytes())?;
-    Ok(read_config(alloc, &bytes).err())
+    Ok(bytes)
 }
+
+/// A front, a part, how often it may stand behind the front, a back, and the place of the fault where it stands once more.
+const LIMITS: &[(&str, &str, u32, &str, u64)] = &[
+    ("<document/>", " ", 1_048_565, "", 1_048_576),
+    (
+        "<document><section name='dialplan'><context name='c'>",
+        "<extension/>",
+        4_096,
+        "</context></section></document>",
+        53 + 4_096 * 12,
+    ),
+    (
+        "<document><section name='dialplan'><context name='c'><extension>",
+        "<condition field='x'/>",
+        4_096,
+        "</extension></context></section></document>",
+        64 + 4_096 * 22,
+    ),
+    (
+        "<document><section name='dialplan'><context name='c'><extension><condition>",
+        "<action application='a'/>",
+        32_768,
+        "</condition></extension></context></section></document>",
+        75 + 32_768 * 25,
+    ),
+    (
+        "<document><section name='dialplan'><context name='c'><extension><condition expression='",
+        "a",
+        1_024,
+        "'/></extension></context></section></document>",
+        64,
+    ),
+    (
+        "<document><X-PRE-PROCESS cmd='set' data='a=",
+        "b",
+        16_384,
+        "'/></document>",
+        10,
+    ),
+];
 
 #[test]
 fn counts_to_the_limits(rt: HostRuntime) -> Result<(), Fail> {
     let alloc = rt.alloc();
-    let front = "<document><section name='dialplan'><context name='c'>";
-    let back = "</context></section></document>";
-    assert_eq!(rt; repeated(alloc, front, "<extension/>", 4_096, back)?, None);
-    let fault = DocFault {
-        at: 53 + 4_096 * 12,
-        kind: TooLarge,
-    };
+    for (front, part, times, back, at) in LIMITS {
+        let most = repeated(alloc, front, part, *times, back)?;
+        assert_eq!(rt; read_config(alloc, &most).err(), None);
+        let more = repeated(alloc, front, part, *times + 1, back)?;
+        let fault = DocFault {
+            at: *at,
+            kind: TooLarge,
+        };
+        assert_eq!(rt; read_config(alloc, &more).err(), Some(fault));
+    }
+    Ok(())
+}
+
+/// The least and the greatest values of the settings, up to the password.
+const LEAST: &str =
+    "<document><section name='configuration'><configuration name='switch.conf'><settings><param name='max-sessions' value='1'/><param name='journal-limit' value='1048576'/></settings></configuration><configuration name='event_socket.conf'><settings><param name='listen-port' value='1'/><param name='max-connections' value='1'/><param name='password' value='";
+
+const GREATEST: &str =
+    "<document><section name='configuration'><configuration name='switch.conf'><settings><param name='max-sessions' value='18446744073709551615'/><param name='journal-limit' value='1073741824'/></settings></configuration><configuration name='event_socket.conf'><settings><param name='listen-port' value='65535'/><param name='max-connections' value='16'/><param name='password' value='";
+
+const BEHIND: &str = "'/></settings></configuration></section></document>";
+
+fn has_settings(
+    rt: &impl Abort,
+    alloc: Global,
+    document: &[u8],
+    switch: (u16, u64),
+    socket: (u16, u16, usize),
+) -> Result<(), Fail> {
+    let config = read_config(alloc, document).ok().ok_or("refused")?;
+    let settings = config.settings();
+    assert_eq!(rt; (settings.max_sessions, settings.journal_limit), switch);
+    let password = settings.password.as_bytes();
     assert_eq!(rt;
-        repeated(alloc, front, "<extension/>", 4_097, back)?,
-        Some(fault)
+        (
+            settings.listen_port,
+            settings.max_connections,
+            password.len()
+        ),
+        socket
     );
-    assert_eq!(rt; repeated(alloc, "<document/>", " ", 1_048_565, "")?, None);
+    Ok(())
+}
+
+#[test]
+fn keeps_the_ranges(rt: HostRuntime) -> Result<(), Fail> {
+    let alloc = rt.alloc();
+    let least = repeated(alloc, LEAST, "x", 1, BEHIND)?;
+    has_settings(&rt, alloc, &least, (1, 1_048_576), (1, 1, 1))?;
+    let greatest = repeated(alloc, GREATEST, "x", 256, BEHIND)?;
+    has_settings(
+        &rt,
+        alloc,
+        &greatest,
+        (256, 1_073_741_824),
+        (65_535, 16, 256),
+    )?;
+    let past = repeated(alloc, GREATEST, "x", 257, BEHIND)?;
     let fault = DocFault {
-        at: 1_048_576,
-        kind: TooLarge,
+        at: 349,
+        kind: BadSetting,
     };
-    assert_eq!(rt;
-        repeated(alloc, "<document/>", " ", 1_048_566, "")?,
-        Some(fault)
-    );
+    assert_eq!(rt; read_config(alloc, &past).err(), Some(fault));
+    Ok(())
+}
+
+/// What is put in for a global is not read again.
+const PUT_IN: &str =
+    "<document><X-PRE-PROCESS cmd='set' data='a=$$${b}'/><X-PRE-PROCESS cmd='set' data='b=x'/><X-PRE-PROCESS cmd='set' data='c=$${a}$${a}{b}'/></document>";
+
+#[test]
+fn puts_globals_in_once(rt: HostRuntime) -> Result<(), Fail> {
+    let config = read_config(rt.alloc(), PUT_IN.as_bytes()).ok();
+    let config = config.ok_or("refused")?;
+    has(&rt, config.globals().get(b"a"), "$");
+    has(&rt, config.globals().get(b"c"), "$${b}");
     Ok(())
 }
 

@@ -1,9 +1,9 @@
 ghost use Rattle.std.specs.Prelude.{◌≡◌, Ok, IfOk, IfErr};
-ghost use Rattle.fs_doc.specs.Attributes as doc;
 ghost use Rattle.fs_plan.specs.Outcomes.{IsFault};
 ghost use Rattle.fs_plan.specs.Hunting as spec;
 
 use crate::hunt::Hunt;
+use fs_doc::has_variable;
 use fs_text::Txt;
 use fs_vars::{Profile, Refused, Scope, expand};
 use std::alloc::Global;
@@ -47,18 +47,4 @@ impl Hunt {
             None => Ok(Txt::of(alloc, b"")?),
         }
     }
-}
-
-/// Whether a `${` stands in the text.
-fn has_variable(text: &[u8]) -> bool
-    ensures { result ≡ doc.has_variable text.now }
-{
-    let mut left = text;
-    while let [_, rest @ ..] = left {
-        if left.starts_with(b"${") {
-            return true;
-        }
-        left = rest;
-    }
-    false
 }

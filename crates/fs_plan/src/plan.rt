@@ -42,7 +42,7 @@ impl Dialplan {
         ensures sizes { MatchResult result (λ _. P.sizes patterns.new ≡ P.sizes patterns.old) (λ fault. P.sizes patterns.new ≡ build.sizes_after fault (P.sizes patterns.old)) }
         ensures files { (P.counts patterns.new ≡ P.counts patterns.old) × (P.next_load patterns.new ≡ P.next_load patterns.old) }
     {
-        let contexts = contexts(alloc, config.contexts.as_slice(), patterns)?;
+        let contexts = contexts(alloc, config.contexts(), patterns)?;
         Ok(Dialplan { contexts })
     }
 

@@ -9,5 +9,3 @@ pub mod ElementLaws
 pub mod Again
 pub mod Sound
 pub mod Whole
-pub mod Counts
-pub mod Within

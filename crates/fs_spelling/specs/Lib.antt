@@ -2,4 +2,3 @@ pub mod Values
 pub mod Tags
 pub mod Readings
 pub mod Documents
-pub mod Limits

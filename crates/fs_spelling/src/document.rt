@@ -6,7 +6,7 @@ ghost use Rattle.fs_xml.specs.Tags.{BodyText};
 ghost use Rattle.fs_doc.specs.declared.element.Level.{Level};
 ghost use Rattle.fs_doc.specs.declared.content.Content.{Content};
 ghost use Rattle.fs_doc.specs.Reading.{Configuration, config_of, element_read};
-ghost use Rattle.fs_spelling.specs.Limits.{IsWithin};
+ghost use Rattle.fs_doc.specs.Limits.{IsWithin};
 ghost use Rattle.fs_spelling.specs.Readings.{pair_of};
 ghost use Rattle.fs_spelling.specs.Documents.{Begins, Spells};
 

@@ -165,11 +165,11 @@ fn over_plan<'a, L: Link>(
         (L.input link.old) (L.input link.new) (L.output link.old) (L.output link.new) result }
 {
     match asked {
-        Asked::Check { .. } => check(alloc, config.contexts.as_slice(), link),
+        Asked::Check { .. } => check(alloc, config.contexts(), link),
         Asked::Hunt { context, dest, .. } => hunt(
             alloc,
             plan,
-            &config.globals,
+            config.globals(),
             context,
             dest,
             link,
@@ -237,9 +237,9 @@ fn started(alloc: Global, config: &Config) -> Result<Switch, Memory>
     ensures { IfOk result (λ switch. switch ≡ begun (documents.start_of (configuration_of config.now))) }
 {
     let start = Start {
-        password: config.settings.password.copy()?,
-        journal_limit: config.settings.journal_limit,
-        globals: config.globals.copy()?,
+        password: config.settings().password.copy()?,
+        journal_limit: config.settings().journal_limit,
+        globals: config.globals().copy()?,
     };
     Switch::new(alloc, start)
 }

@@ -5,6 +5,7 @@ use Rattle.std.specs.Str.{bytes_eq}
 use Rattle.std.proofs.lemmas.List.{length-append}
 use Rattle.std.proofs.lemmas.List.Sums.{sum_by-append, sum_by-cons}
 use Rattle.std.proofs.lemmas.Bool.Decides.{nat_tests}
+use Rattle.fs_text.specs.CoreId.{IsCore}
 use Rattle.fs_text.specs.Number.{read_u64}
 use Rattle.fs_vars.specs.Pairs.{Text, Pairs}
 use Rattle.fs_vars.specs.Variables.{can_set, set_to}
@@ -29,7 +30,8 @@ use Rattle.fs_doc.specs.Settings.{default_settings, number_within, core_of, with
 use Rattle.fs_doc.specs.Elements.{has}
 use Rattle.fs_doc.specs.Attributes.{many_of, global_of}
 use Rattle.fs_doc.specs.Contents.{nothing, Begun, given, global_on, global_begun, param_on, param_begun, context_place, context_at, context_begun, extension_begun, condition_of, pattern_counted, pattern_begun, condition_on, condition_begun, case_begun, action_of, action_begun, begun, extension_ended, extended, condition_ended, ended}
-use Rattle.fs_spelling.specs.Limits.{AreInRange, patterns_tested, patterns_of, actions_of, in_extension, in_context, in_all, one}
+use Rattle.fs_doc.specs.Limits.{AreInRange, patterns_tested, patterns_of, actions_of, in_extension, in_context, in_all, one}
+use Rattle.fs_doc.proofs.CoreLemmas.{core_found}
 
 -- ---- settings
 
@@ -62,20 +64,20 @@ either : (t : Bool) (a b : Option Settings) → Ranged a → Ranged b → Ranged
 either true a b first second = first
 either false a b first second = second
 
-core_ranged : (s : Settings) (o : Option ℕ) → AreInRange s → Ranged (with_setting (λ core. record s { core_uuid = core }) o)
-core_ranged s None h = tt
-core_ranged s (Some core) h = record { sessions = h.sessions; journal = h.journal; port = h.port; password = h.password; connections = h.connections }
+core_ranged : (s : Settings) (o : Option ℕ) → ((core : ℕ) → o ≡ Some core → IsCore core) → AreInRange s → Ranged (with_setting (λ core. record s { core_uuid = core }) o)
+core_ranged s None is h = tt
+core_ranged s (Some core) is h = record { core = is core refl; sessions = h.sessions; journal = h.journal; port = h.port; password = h.password; connections = h.connections }
 
 switch_ranged : (name value : Text) (s : Settings) → AreInRange s → Ranged (switch_setting name value s)
 unfolding switch_setting
 switch_ranged name value s h =
-    either (bytes_eq name (codes "core-uuid")) _ _ (core_ranged s (core_of value) h)
+    either (bytes_eq name (codes "core-uuid")) _ _ (core_ranged s (core_of value) (core_found value) h)
     (either (bytes_eq name (codes "max-sessions")) _ _
     (set_in 1 (2 ^ 64 - 1) (λ n. record s { max_sessions = min n 256 }) (number_within 1 (2 ^ 64 - 1) value) (number_between 1 (2 ^ 64 - 1) value)
-    (λ n least most. record { sessions = (omega arith, omega arith); journal = h.journal; port = h.port; password = h.password; connections = h.connections }))
+    (λ n least most. record { core = h.core; sessions = (omega arith, omega arith); journal = h.journal; port = h.port; password = h.password; connections = h.connections }))
     (either (bytes_eq name (codes "journal-limit")) _ _
     (set_in 1048576 1073741824 (λ n. record s { journal_limit = n }) (number_within 1048576 1073741824 value) (number_between 1048576 1073741824 value)
-    (λ n least most. record { sessions = h.sessions; journal = (least, most); port = h.port; password = h.password; connections = h.connections }))
+    (λ n least most. record { core = h.core; sessions = h.sessions; journal = (least, most); port = h.port; password = h.password; connections = h.connections }))
     h))
 
 password_ranged : (value : Text) (s : Settings) → AreInRange s → Ranged (password_setting value s)
@@ -83,20 +85,20 @@ unfolding password_setting
 password_ranged value s h = on (nat_le 1 (length value) && nat_le (length value) 256) refl
   where
     on : (t : Bool) → (nat_le 1 (length value) && nat_le (length value) 256) ≡ t → Ranged (cond t (Some (record s { password = value })) None)
-    on true e = record { sessions = h.sessions; journal = h.journal; port = h.port; password = (grind (arith, nat_tests), grind (arith, nat_tests)); connections = h.connections }
+    on true e = record { core = h.core; sessions = h.sessions; journal = h.journal; port = h.port; password = (grind (arith, nat_tests), grind (arith, nat_tests)); connections = h.connections }
     on false e = tt
 
 socket_ranged : (name value : Text) (s : Settings) → AreInRange s → Ranged (socket_setting name value s)
 unfolding socket_setting
 socket_ranged name value s h =
-    either (bytes_eq name (codes "listen-ip")) _ _ (record { sessions = h.sessions; journal = h.journal; port = h.port; password = h.password; connections = h.connections })
+    either (bytes_eq name (codes "listen-ip")) _ _ (record { core = h.core; sessions = h.sessions; journal = h.journal; port = h.port; password = h.password; connections = h.connections })
     (either (bytes_eq name (codes "listen-port")) _ _
     (set_in 1 65535 (λ n. record s { listen_port = n }) (number_within 1 65535 value) (number_between 1 65535 value)
-    (λ n least most. record { sessions = h.sessions; journal = h.journal; port = (least, most); password = h.password; connections = h.connections }))
+    (λ n least most. record { core = h.core; sessions = h.sessions; journal = h.journal; port = (least, most); password = h.password; connections = h.connections }))
     (either (bytes_eq name (codes "password")) _ _ (password_ranged value s h)
     (either (bytes_eq name (codes "max-connections")) _ _
     (set_in 1 16 (λ n. record s { max_connections = n }) (number_within 1 16 value) (number_between 1 16 value)
-    (λ n least most. record { sessions = h.sessions; journal = h.journal; port = h.port; password = h.password; connections = (least, most) }))
+    (λ n least most. record { core = h.core; sessions = h.sessions; journal = h.journal; port = h.port; password = h.password; connections = (least, most) }))
     h)))
 
 setting_ranged : (file : ConfigFile) (name value : Text) (s : Settings) → AreInRange s → Ranged (setting file name value s)
@@ -133,7 +135,7 @@ pub record IsCounted (c : Content) : Type 0 where
 pub nothing_counted : IsCounted nothing
 unfolding nothing default_settings
 nothing_counted = record {
-  settings = record { sessions = (omega arith, omega arith); journal = (omega arith, omega arith); port = (omega arith, omega arith); password = (omega arith, omega arith); connections = (omega arith, omega arith) };
+  settings = record { core = (omega arith, refl); sessions = (omega arith, omega arith); journal = (omega arith, omega arith); port = (omega arith, omega arith); password = (omega arith, omega arith); connections = (omega arith, omega arith) };
   bounds = refl;
   contexts = omega arith;
   extensions = omega arith;

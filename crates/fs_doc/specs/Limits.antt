@@ -1,5 +1,6 @@
 -- The ranges and limits that a configuration keeps.
 use Rattle.std.specs.Prelude.{◌≡◌, ◌≤◌, ℕ, ◌+◌, List, length, sum_by}
+use Rattle.fs_text.specs.CoreId.{IsCore}
 use Rattle.fs_vars.specs.Pairs.{Text}
 use Rattle.fs_vars.specs.declared.bounds.Bounds.TheVariants.{Globals}
 use Rattle.fs_doc.specs.declared.settings.Settings.{Settings}
@@ -10,6 +11,7 @@ use Rattle.fs_doc.specs.Reading.{Configuration}
 
 -- each setting is in its range
 pub record AreInRange (s : Settings) : Type 0 where
+  pub core : IsCore s.core_uuid
   pub sessions : (1 ≤ s.max_sessions) × (s.max_sessions ≤ 256)
   pub journal : (1048576 ≤ s.journal_limit) × (s.journal_limit ≤ 1073741824)
   pub port : (1 ≤ s.listen_port) × (s.listen_port ≤ 65535)

@@ -1,6 +1,6 @@
--- What building a dialplan keeps, and why it is refused.
-use Rattle.std.specs.Prelude.{◌≡◌, ℕ, ◌+◌, min, ◌⊎◌, List, Any, Some}
-use Rattle.std.specs.List.{slice_get, flat_map}
+-- Which patterns a dialplan has, and which of them is told where they are not built.
+use Rattle.std.specs.Prelude.{◌≡◌, ℕ, ◌+◌, min, ◌⊎◌, List, [], ◌∷◌, ◌++◌, map, All, IsSome}
+use Rattle.std.specs.List.{flat_map, enumerate_from}
 use Rattle.std.specs.Str.{IsUtf8}
 use Rattle.fs_vars.specs.Pairs.{Text}
 use Rattle.fs_ports.specs.Counts.{raised}
@@ -16,6 +16,15 @@ use Rattle.fs_plan.specs.declared.fault.PlanFault.TheVariants as fault
 
 -- ---- patterns
 
+-- the text is UTF-8, and is read as a pattern
+pub record HasReading (text : Text) : Type 0 where
+  pub is_text : IsUtf8 text
+  pub is_read : IsSome (reading text)
+
+-- each of these texts is
+pub record AreRead (texts : List Text) : Type 0 where
+  pub each : All HasReading texts
+
 -- the text is not UTF-8, no pattern, or one that is nested too deep
 abbrev pub IsNoPattern : Text → Type 0
 IsNoPattern text = (¬ (IsUtf8 text)) ⊎ IsUnreadable (reading text)
@@ -23,11 +32,14 @@ IsNoPattern text = (¬ (IsUtf8 text)) ⊎ IsUnreadable (reading text)
 abbrev pub IsAnyPattern : Text → Type 0
 IsAnyPattern text = Unit {0}
 
--- a test has a pattern of which P holds
-abbrev pub HasPattern : (Text → Type 0) → Test Text → Type 0
-HasPattern P Always = ⊥
-HasPattern P (Plain field expression) = P expression
-HasPattern P (Many wanted children) = Any (λ child. P child.expression) children
+abbrev pub expressions_of : List (Child Text) → List Text
+expressions_of children = map (λ child. child.expression) children
+
+-- the patterns of a test, in order
+abbrev pub patterns_of : Test Text → List Text
+patterns_of Always = []
+patterns_of (Plain field expression) = expression ∷ []
+patterns_of (Many wanted children) = expressions_of children
 
 -- ---- numbers
 
@@ -35,61 +47,74 @@ HasPattern P (Many wanted children) = Any (λ child. P child.expression) childre
 abbrev pub number_of : ℕ → ℕ
 number_of place = min (place + 1) 4294967295
 
--- the condition of a number has such a pattern
-pub record InConditions (P : Text → Type 0) (conditions : List Condition) (number : ℕ) : Type 0 where
-  pub place : ℕ
-  pub condition : Condition
-  pub stands : slice_get conditions place ≡ Some condition
-  pub numbered : number ≡ number_of place
-  pub has : HasPattern P condition.test
+-- a pattern, with the number of its extension and that of its condition
+pub record Numbered : Type 0 where
+  pub text : Text
+  pub extension : ℕ
+  pub condition : ℕ
 
--- the condition of a number has it in the extension of a number, where so many extensions stand before these
-pub record InExtensions (P : Text → Type 0) (before : ℕ) (extensions : List Extension) (number condition : ℕ) : Type 0 where
-  pub place : ℕ
-  pub extension : Extension
-  pub stands : slice_get extensions place ≡ Some extension
-  pub numbered : number ≡ number_of (before + place)
-  pub has : InConditions P extension.conditions condition
+-- each of these patterns has a reading
+pub record HaveReadings (patterns : List Numbered) : Type 0 where
+  pub each : All (λ pattern. HasReading pattern.text) patterns
+
+-- these patterns, under the same numbers
+abbrev pub numbered : ℕ → ℕ → List Text → List Numbered
+numbered extension condition texts = map (λ text. record { text = text; extension = extension; condition = condition }) texts
+
+-- the patterns of the conditions of the extension of a number
+abbrev pub patterns_within : ℕ → List Condition → List Numbered
+patterns_within number conditions = flat_map (λ (place, condition). numbered number (number_of place) (patterns_of condition.test)) (enumerate_from 0 conditions)
+
+-- the patterns of extensions, where so many stand before them
+abbrev pub patterns_from : ℕ → List Extension → List Numbered
+patterns_from before extensions = flat_map (λ (place, extension). patterns_within (number_of place) extension.conditions) (enumerate_from before extensions)
 
 -- the extensions of all contexts, in order
 abbrev pub extensions_in : List Context → List Extension
 extensions_in contexts = flat_map (λ context. context.extensions) contexts
 
+-- the patterns of all contexts, in order
+abbrev pub patterns_in : List Context → List Numbered
+patterns_in contexts = patterns_from 0 (extensions_in contexts)
+
 -- ---- refusals
+
+-- the first of a list that is not as the others: all before it are P, and it is Q
+pub record First {A : Type 0} (P Q : A → Type 0) (xs : List A) : Type 0 where
+  pub front : List A
+  pub first : A
+  pub back : List A
+  pub split : xs ≡ front ++ first ∷ back
+  pub before : All P front
+  pub found : Q first
 
 -- why the pattern of a text was not built
 abbrev pub IsTextUnbuilt : Text → Unbuilt → Type 0
 IsTextUnbuilt text unbuilt.NoReading = IsNoPattern text
-IsTextUnbuilt text unbuilt.TooLarge = Unit {0}
+IsTextUnbuilt text unbuilt.TooLarge = IsAnyPattern text
 IsTextUnbuilt text unbuilt.Memory = Unit {0}
 
--- why children were not
-abbrev pub AreUnbuilt : List (Child Text) → Unbuilt → Type 0
-AreUnbuilt children unbuilt.NoReading = Any (λ child. IsNoPattern child.expression) children
-AreUnbuilt children unbuilt.TooLarge = Any (λ child. IsAnyPattern child.expression) children
-AreUnbuilt children unbuilt.Memory = Unit {0}
+-- why these patterns were not
+abbrev pub IsUnbuilt : List Text → Unbuilt → Type 0
+IsUnbuilt texts unbuilt.NoReading = First HasReading IsNoPattern texts
+IsUnbuilt texts unbuilt.TooLarge = First HasReading IsAnyPattern texts
+IsUnbuilt texts unbuilt.Memory = Unit {0}
 
--- why a test was not built
-abbrev pub IsUnbuilt : Test Text → Unbuilt → Type 0
-IsUnbuilt test unbuilt.NoReading = HasPattern IsNoPattern test
-IsUnbuilt test unbuilt.TooLarge = HasPattern IsAnyPattern test
-IsUnbuilt test unbuilt.Memory = Unit {0}
+-- a pattern under these numbers, of which P holds
+pub record IsNumbered (P : Text → Type 0) (extension condition : ℕ) (pattern : Numbered) : Type 0 where
+  pub extension_is : pattern.extension ≡ extension
+  pub condition_is : pattern.condition ≡ condition
+  pub is : P pattern.text
 
--- why conditions of the extension of a number were not
-abbrev pub IsRefusalOf : ℕ → List Condition → PlanFault → Type 0
-IsRefusalOf number conditions (fault.PatternRefused extension condition) = (extension ≡ number) × InConditions IsNoPattern conditions condition
-IsRefusalOf number conditions (fault.PatternTooLarge extension condition) = (extension ≡ number) × InConditions IsAnyPattern conditions condition
-IsRefusalOf number conditions fault.Memory = Unit {0}
-
--- why extensions were not, where so many stand before them
-abbrev pub IsRefusalIn : ℕ → List Extension → PlanFault → Type 0
-IsRefusalIn before extensions (fault.PatternRefused extension condition) = InExtensions IsNoPattern before extensions extension condition
-IsRefusalIn before extensions (fault.PatternTooLarge extension condition) = InExtensions IsAnyPattern before extensions extension condition
-IsRefusalIn before extensions fault.Memory = Unit {0}
+-- why numbered patterns were not built: the first that was refused is named
+abbrev pub IsRefusalOf : List Numbered → PlanFault → Type 0
+IsRefusalOf patterns (fault.PatternRefused extension condition) = First (λ p. HasReading p.text) (IsNumbered IsNoPattern extension condition) patterns
+IsRefusalOf patterns (fault.PatternTooLarge extension condition) = First (λ p. HasReading p.text) (IsNumbered IsAnyPattern extension condition) patterns
+IsRefusalOf patterns fault.Memory = Unit {0}
 
 -- why a dialplan was not
 abbrev pub IsRefusal : List Context → PlanFault → Type 0
-IsRefusal contexts refused = IsRefusalIn 0 (extensions_in contexts) refused
+IsRefusal contexts refused = IsRefusalOf (patterns_in contexts) refused
 
 -- the fault for a condition of these numbers
 abbrev pub fault_of : Unbuilt → ℕ → ℕ → PlanFault

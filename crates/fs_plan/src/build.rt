@@ -1,4 +1,4 @@
-ghost use Rattle.std.specs.Prelude.{◌≡◌, ◌+◌, length, IfOk, IfErr, MatchResult};
+ghost use Rattle.std.specs.Prelude.{◌≡◌, ◌+◌, length, IfOk, OnOk, IfErr, MatchResult};
 ghost use Rattle.fs_plan.specs.Building as spec;
 
 use crate::fault::{PlanFault, Unbuilt};
@@ -31,14 +31,15 @@ fn copies(alloc: Global, actions: &[PlanAction]) -> Result<Listed<PlanAction>, M
 }
 
 /// Builds children in order.
-#[tactic(auto, using(crate::proofs::BuildLemmas::child_unbuilt, crate::proofs::BuildLemmas::no_memory_children))]
+#[tactic(auto, using(crate::proofs::BuildLemmas::child_unbuilt, crate::proofs::BuildLemmas::no_memory))]
 fn children<P: Patterns>(
     alloc: Global,
     list: &[Child<Txt>],
     patterns: &mut P,
 ) -> Result<Listed<Child<Pattern>>, Unbuilt>
     ensures kept { IfOk result (λ built. built ≡ list.now) }
-    ensures refused { IfErr result (spec.AreUnbuilt list.now) }
+    ensures read { OnOk result (spec.AreRead (spec.expressions_of list.now)) }
+    ensures refused { IfErr result (spec.IsUnbuilt (spec.expressions_of list.now)) }
     ensures sizes { MatchResult result (λ _. P.sizes patterns.new ≡ P.sizes patterns.old) (λ why. P.sizes patterns.new ≡ spec.sizes_unbuilt why (P.sizes patterns.old)) }
     ensures files { (P.counts patterns.new ≡ P.counts patterns.old) × (P.next_load patterns.new ≡ P.next_load patterns.old) }
 {
@@ -52,14 +53,15 @@ fn children<P: Patterns>(
 }
 
 /// Builds a test.
-#[tactic(auto, using(crate::proofs::BuildLemmas::plain_unbuilt, crate::proofs::BuildLemmas::many_unbuilt, crate::proofs::BuildLemmas::no_memory_test))]
+#[tactic(auto, using(crate::proofs::BuildLemmas::plain_unbuilt, crate::proofs::BuildLemmas::plain_read, crate::proofs::BuildLemmas::none_read, crate::proofs::BuildLemmas::no_memory))]
 fn test<P: Patterns>(
     alloc: Global,
     given: &Test<Txt>,
     patterns: &mut P,
 ) -> Result<Test<Pattern>, Unbuilt>
     ensures kept { IfOk result (λ built. built ≡ given.now) }
-    ensures refused { IfErr result (spec.IsUnbuilt given.now) }
+    ensures read { OnOk result (spec.AreRead (spec.patterns_of given.now)) }
+    ensures refused { IfErr result (spec.IsUnbuilt (spec.patterns_of given.now)) }
     ensures sizes { MatchResult result (λ _. P.sizes patterns.new ≡ P.sizes patterns.old) (λ why. P.sizes patterns.new ≡ spec.sizes_unbuilt why (P.sizes patterns.old)) }
     ensures files { (P.counts patterns.new ≡ P.counts patterns.old) × (P.next_load patterns.new ≡ P.next_load patterns.old) }
 {
@@ -84,14 +86,15 @@ fn test<P: Patterns>(
 }
 
 /// Builds a condition.
-#[tactic(auto, using(crate::proofs::BuildLemmas::no_memory_test))]
+#[tactic(auto, using(crate::proofs::BuildLemmas::no_memory))]
 fn condition<P: Patterns>(
     alloc: Global,
     given: &ConditionDef<Txt>,
     patterns: &mut P,
 ) -> Result<ConditionDef<Pattern>, Unbuilt>
     ensures kept { IfOk result (λ built. built ≡ given.now) }
-    ensures refused { IfErr result (spec.IsUnbuilt given.now.test) }
+    ensures read { OnOk result (spec.AreRead (spec.patterns_of given.now.test)) }
+    ensures refused { IfErr result (spec.IsUnbuilt (spec.patterns_of given.now.test)) }
     ensures sizes { MatchResult result (λ _. P.sizes patterns.new ≡ P.sizes patterns.old) (λ why. P.sizes patterns.new ≡ spec.sizes_unbuilt why (P.sizes patterns.old)) }
     ensures files { (P.counts patterns.new ≡ P.counts patterns.old) × (P.next_load patterns.new ≡ P.next_load patterns.old) }
 {
@@ -107,7 +110,7 @@ fn condition<P: Patterns>(
 }
 
 /// Builds the conditions of the extension of a number, in order.
-#[tactic(auto, using(crate::proofs::BuildLemmas::condition_refused, crate::proofs::BuildLemmas::sizes_same, crate::proofs::BuildLemmas::no_memory_conditions))]
+#[tactic(auto, using(crate::proofs::BuildLemmas::condition_refused, crate::proofs::BuildLemmas::sizes_same, crate::proofs::BuildLemmas::no_memory_for))]
 fn conditions<P: Patterns>(
     alloc: Global,
     extension: u32,
@@ -115,7 +118,8 @@ fn conditions<P: Patterns>(
     patterns: &mut P,
 ) -> Result<Listed<ConditionDef<Pattern>>, PlanFault>
     ensures kept { IfOk result (λ built. built ≡ list.now) }
-    ensures refused { IfErr result (spec.IsRefusalOf extension list.now) }
+    ensures read { OnOk result (spec.HaveReadings (spec.patterns_within extension list.now)) }
+    ensures refused { IfErr result (spec.IsRefusalOf (spec.patterns_within extension list.now)) }
     ensures sizes { MatchResult result (λ _. P.sizes patterns.new ≡ P.sizes patterns.old) (λ fault. P.sizes patterns.new ≡ spec.sizes_after fault (P.sizes patterns.old)) }
     ensures files { (P.counts patterns.new ≡ P.counts patterns.old) × (P.next_load patterns.new ≡ P.next_load patterns.old) }
 {
@@ -130,7 +134,7 @@ fn conditions<P: Patterns>(
 }
 
 /// Builds extensions in order, where so many stand before them.
-#[tactic(auto, using(crate::proofs::BuildLemmas::extension_refused, crate::proofs::BuildLemmas::no_memory_extensions))]
+#[tactic(auto, using(crate::proofs::BuildLemmas::extension_refused, crate::proofs::BuildLemmas::no_memory_for))]
 fn extensions<P: Patterns>(
     alloc: Global,
     before: usize,
@@ -138,7 +142,8 @@ fn extensions<P: Patterns>(
     patterns: &mut P,
 ) -> Result<Listed<ExtensionDef<Pattern>>, PlanFault>
     ensures kept { IfOk result (λ built. built ≡ list.now) }
-    ensures refused { IfErr result (spec.IsRefusalIn before list.now) }
+    ensures read { OnOk result (spec.HaveReadings (spec.patterns_from before list.now)) }
+    ensures refused { IfErr result (spec.IsRefusalOf (spec.patterns_from before list.now)) }
     ensures sizes { MatchResult result (λ _. P.sizes patterns.new ≡ P.sizes patterns.old) (λ fault. P.sizes patterns.new ≡ spec.sizes_after fault (P.sizes patterns.old)) }
     ensures files { (P.counts patterns.new ≡ P.counts patterns.old) × (P.next_load patterns.new ≡ P.next_load patterns.old) }
 {
@@ -156,13 +161,14 @@ fn extensions<P: Patterns>(
 }
 
 /// Builds contexts in order.
-#[tactic(auto, using(crate::proofs::BuildLemmas::context_refused, crate::proofs::BuildLemmas::before_more, crate::proofs::BuildLemmas::no_memory_extensions))]
+#[tactic(auto, using(crate::proofs::BuildLemmas::context_refused, crate::proofs::BuildLemmas::no_memory_for))]
 pub(crate) fn contexts<P: Patterns>(
     alloc: Global,
     list: &[ContextDef<Txt>],
     patterns: &mut P,
 ) -> Result<Listed<ContextDef<Pattern>>, PlanFault>
     ensures kept { IfOk result (λ built. built ≡ list.now) }
+    ensures read { OnOk result (spec.HaveReadings (spec.patterns_in list.now)) }
     ensures refused { IfErr result (spec.IsRefusal list.now) }
     ensures sizes { MatchResult result (λ _. P.sizes patterns.new ≡ P.sizes patterns.old) (λ fault. P.sizes patterns.new ≡ spec.sizes_after fault (P.sizes patterns.old)) }
     ensures files { (P.counts patterns.new ≡ P.counts patterns.old) × (P.next_load patterns.new ≡ P.next_load patterns.old) }

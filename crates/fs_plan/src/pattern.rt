@@ -29,13 +29,14 @@ impl Model for Pattern {
 }
 
 impl Pattern {
-    ghost use Rattle.std.specs.Prelude.{MatchResult, IfErr};
-    ghost use Rattle.fs_plan.specs.Building.{IsTextUnbuilt, sizes_unbuilt};
+    ghost use Rattle.std.specs.Prelude.{MatchResult, OnOk, IfErr};
+    ghost use Rattle.fs_plan.specs.Building.{HasReading, IsTextUnbuilt, sizes_unbuilt};
 
     /// Builds the pattern of a text. One that is not UTF-8 is none.
-    #[tactic(auto, using(crate::proofs::BuildLemmas::own_built))]
+    #[tactic(auto, using(crate::proofs::BuildLemmas::own_built, crate::proofs::BuildLemmas::has_reading))]
     pub(crate) fn build<P: Patterns>(text: &Txt, patterns: &mut P) -> Result<Pattern, Unbuilt>
         ensures kept { IfOk result (λ pattern. pattern ≡ text.now) }
+        ensures read { OnOk result (HasReading text.now) }
         ensures refused { IfErr result (IsTextUnbuilt text.now) }
         ensures sizes { MatchResult result (λ _. P.sizes patterns.new ≡ P.sizes patterns.old) (λ why. P.sizes patterns.new ≡ sizes_unbuilt why (P.sizes patterns.old)) }
         ensures files { (P.counts patterns.new ≡ P.counts patterns.old) × (P.next_load patterns.new ≡ P.next_load patterns.old) }

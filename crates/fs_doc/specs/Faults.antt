@@ -1,10 +1,26 @@
 -- What is wrong with a document, and how a call answers what a reading function says.
-use Rattle.std.specs.Prelude.{◌≡◌, ◌⊎◌, ℕ, Result, Ok, Err}
+use Rattle.std.specs.Prelude.{◌≡◌, ◌⊎◌, ℕ, List, Result, Ok, Err, codes}
 use Rattle.fs_doc.specs.declared.fault.DocKind.{DocKind}
 use Rattle.fs_doc.specs.declared.fault.DocKind.TheVariants as kind
 use Rattle.fs_doc.specs.declared.fault.DocFault.{DocFault}
 use Rattle.fs_doc.specs.declared.fault.DocStop.{DocStop}
 use Rattle.fs_doc.specs.declared.fault.DocStop.TheVariants as stop
+
+-- the name of a kind
+unfoldable pub kind_name : DocKind → List ℕ
+kind_name kind.TooLarge = codes "TooLarge"
+kind_name kind.Truncated = codes "Truncated"
+kind_name kind.BadTag = codes "BadTag"
+kind_name kind.BadAttribute = codes "BadAttribute"
+kind_name kind.BadEntity = codes "BadEntity"
+kind_name kind.Nested = codes "Nested"
+kind_name kind.TextContent = codes "TextContent"
+kind_name kind.TimeAttribute = codes "TimeAttribute"
+kind_name kind.ExpressionVariable = codes "ExpressionVariable"
+kind_name kind.UnknownBreak = codes "UnknownBreak"
+kind_name kind.UnknownElement = codes "UnknownElement"
+kind_name kind.BadSetting = codes "BadSetting"
+kind_name kind.Memory = codes "Memory"
 
 -- the fault of a kind at a place
 abbrev pub fault_at : ℕ → DocKind → DocFault

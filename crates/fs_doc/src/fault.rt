@@ -46,8 +46,13 @@ pub struct DocFault {
 }
 
 impl DocKind {
+    ghost use Rattle.fs_doc.specs.Faults.{kind_name};
+
     /// The name of the kind.
-    pub fn name(self) -> &'static str {
+    #[tactic(auto, unfolding(crate::specs::Faults::kind_name))]
+    pub fn name(self) -> &'static str
+        ensures { result.now ≡ kind_name self }
+    {
         match self {
             DocKind::TooLarge => "TooLarge",
             DocKind::Truncated => "Truncated",

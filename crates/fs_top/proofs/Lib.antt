@@ -1,4 +1,5 @@
 mod ApiLaws
+mod CompleteLaws
 mod EndLaws
 mod JournalLaws
 mod LimitLaws

@@ -3,7 +3,7 @@ use Rattle.std.proofs.Common.{◌≡◌, ◌≢◌, ℕ, Bool, true, false, cond
 use Rattle.std.specs.List.{concat}
 use Rattle.std.proofs.lemmas.Bool.{eqb-false}
 use Rattle.fs_ports.specs.Counts.{raised}
-use Rattle.fs_ports.specs.Ports.{Input, Output, Writes, Stopped}
+use Rattle.fs_ports.specs.Ports.{Input, Output, Writes, Stopped, SendDid}
 use Rattle.fs_ports.specs.declared.send.Sent.{Sent}
 use Rattle.fs_ports.specs.Loads.{LoadCounts, Tells, Counted}
 use Rattle.fs_ports.specs.declared.files.Load.{Load}
@@ -16,14 +16,15 @@ use Rattle.fs_doc.specs.declared.fault.DocKind.TheVariants.{Memory}
 use Rattle.fs_doc.specs.declared.fault.DocFault.{DocFault}
 use Rattle.fs_plan.specs.Building.{IsRefusal, sizes_after}
 use Rattle.fs_plan.specs.declared.fault.PlanFault.{PlanFault}
+use Rattle.fs_plan.specs.declared.fault.PlanFault.TheVariants.{PatternRefused, PatternTooLarge, Memory as NoMemory}
 use Rattle.fs_top.specs.Switch.{Journal, run, taken_from, bytes_taken}
 use Rattle.fs_top.specs.Journal.{cost, accepted}
 use Rattle.fs_top.specs.Play.{farewell_of, farewell, opened, after_all, whole_journal, end_behind, end_of, end_within, play}
 use Rattle.fs_top.specs.Takes.{Begins}
 use Rattle.fs_top.specs.Turns.{HasRead}
 use Rattle.fs_top.specs.Documents.{start_of}
-use Rattle.fs_top.specs.Told.{Told, Asked, Check, Hunt, Play, file_of, told_words, told_file, told_read, told_built, told_asked, told_play, told_text, refused, is_eof, line_of_end, status_of_end, usage_line, cannot_read_line, pattern_line, write_fault_line, memory_line}
-use Rattle.fs_top.specs.Runs.{IsLineOf, status_of, PlaysTo, Does, completes, fails_to_write, lacks_memory, DoesAs, Answers, IsBuiltOf, IsBuilt, OverConfig, OverBytes, is_memory, not_read, Runs, Says, Ran, HasConfig, HasFault, HasRefusal, CountRose, FillsJournal, MeetsTooLong}
+use Rattle.fs_top.specs.Told.{Told, Asked, Check, Hunt, Play, file_of, told_words, told_file, told_read, told_built, told_asked, told_play, told_text, refused, is_eof, line_of_end, status_of_end, usage_line, cannot_read_line, fault_line, pattern_line}
+use Rattle.fs_top.specs.Runs.{line_of, status_of, PlaysTo, Does, completes, fails_to_write, lacks_memory, DoesAs, Answers, IsBuiltOf, IsBuilt, OverConfig, OverBytes, is_memory, not_read, not_built, Runs, RefusesPattern, Ran, HasConfig, HasFault, HasRefusal, CountRose, FillsJournal, MeetsTooLong}
 use Rattle.fs_top.specs.declared.start.Start.{Start}
 use Rattle.fs_top.specs.declared.phase.Phase.{Phase}
 use Rattle.fs_top.specs.declared.phase.Phase.TheVariants.{Fresh, Ready, Ending, Refused, Closed}
@@ -43,25 +44,21 @@ reads_none in0 = record { reads = reads_nothing in0; faults = refl }
 
 -- a line alone is the answer
 refused_does : (in0 : Input) (out0 : Output) (line : List ℕ) (status : ℕ) (outcome : Outcome) →
-    ((l : List ℕ) → IsLineOf outcome l → l ≡ line) → status_of outcome ≡ status → DoesAs (refused line status) in0 out0 out0 outcome
+    line_of outcome ≡ line → status_of outcome ≡ status → DoesAs (refused line status) in0 out0 out0 outcome
 refused_does in0 out0 line status outcome line_is status_is =
-    λ l is. completes (record { written = writes_nothing out0; line_is = line_is l is; status_is = status_is; at_end = λ h. absurd (cc) })
+    completes (record { written = writes_nothing out0; line_is = line_is; status_is = status_is; at_end = λ h. absurd (cc) })
 
 -- memory was wanting before anything was written
 memory_does : (told : Told) (in1 : Input) (out0 : Output) → DoesAs told in1 out0 out0 (BrokenOff OutOfMemory)
 memory_does told in1 out0 =
-    λ l is. lacks_memory (record { front = []; back = told.output; split = refl; written = writes_nothing out0; line_is = is; status_is = refl })
-
--- the words of a document's fault are any
-fault_does : (in0 : Input) (out0 : Output) (fault : DocFault) → DoesAs (record { output = []; line = None; status = 3; at_end = false }) in0 out0 out0 (BadDocument fault)
-fault_does in0 out0 fault = λ l is. completes (record { written = writes_nothing out0; line_is = tt; status_is = refl; at_end = λ h. absurd (cc) })
+    lacks_memory (record { front = []; back = told.output; split = refl; written = writes_nothing out0; line_is = refl; status_is = refl })
 
 -- a text was printed, or a write of it failed, or memory was wanting for it
 pub print_all : (in1 : Input) (out0 out1 : Output) (text : List ℕ) → Writes out0 out1 text → DoesAs (told_text text) in1 out0 out1 Printed
-print_all in1 out0 out1 text written = λ l is. completes (record { written = written; line_is = is; status_is = refl; at_end = λ h. absurd (cc) })
+print_all in1 out0 out1 text written = completes (record { written = written; line_is = refl; status_is = refl; at_end = λ h. absurd (cc) })
 
 pub print_failed : (in1 : Input) (out0 out1 : Output) (text : List ℕ) → Stopped out0 out1 text → DoesAs (told_text text) in1 out0 out1 (BrokenOff WriteFault)
-print_failed in1 out0 out1 text stopped = λ l is. fails_to_write (record { stopped = stopped; line_is = is; status_is = refl })
+print_failed in1 out0 out1 text stopped = fails_to_write (record { stopped = stopped; line_is = refl; status_is = refl })
 
 pub print_none : (in1 : Input) (out0 : Output) (text : List ℕ) → DoesAs (told_text text) in1 out0 out0 (BrokenOff OutOfMemory)
 print_none in1 out0 text = memory_does (told_text text) in1 out0
@@ -104,9 +101,9 @@ answers_played start file in0 in1 out0 out1 (Ended end) plays = let f = plays.1 
   read_failed = f.read_failed;
   has_read = f.has_read;
   quiet = λ none. absurd none;
-  does = λ l is. completes (record {
+  does = completes (record {
     written = f.written;
-    line_is = is ∙ ap line_of_end f.end_is;
+    line_is = ap line_of_end f.end_is;
     status_is = ap status_of_end f.end_is;
     at_end = λ h. f.at_end (f.end_is ∙ eof_is _ h);
   });
@@ -116,12 +113,12 @@ answers_played start file in0 in1 out0 out1 (BrokenOff OutOfMemory) plays = let 
   read_failed = s.read_failed;
   has_read = s.has_read;
   quiet = λ none. absurd none;
-  does = λ l is. lacks_memory (record {
+  does = lacks_memory (record {
     front = bytes_taken plays.0;
     back = concat (taken_from (run plays.0) s.begins.more);
     split = output-begins start s.input s.read_failed plays.0 s.begins;
     written = s.broken;
-    line_is = is;
+    line_is = refl;
     status_is = refl;
   });
 }
@@ -130,10 +127,10 @@ answers_played start file in0 in1 out0 out1 (BrokenOff WriteFault) plays = let s
   read_failed = s.read_failed;
   has_read = s.has_read;
   quiet = λ none. absurd none;
-  does = λ l is. fails_to_write (record {
+  does = fails_to_write (record {
     stopped = subst (λ (xs : List ℕ). Stopped out0 out1 xs) (sym (output-begins start s.input s.read_failed plays.0 s.begins))
         (stopped_sooner out0 out1 (bytes_taken plays.0) (concat (taken_from (run plays.0) s.begins.more)) s.broken);
-    line_is = is;
+    line_is = refl;
     status_is = refl;
   });
 }
@@ -146,17 +143,17 @@ pub over_plan : (asked : Asked) (c : Configuration) (sizes0 sizes1 : ℕ) (in0 i
 over_plan asked c sizes0 sizes1 in0 in1 out0 out1 outcome sizes answers = record { built = None; built_told = sizes; answers = answers }
 
 -- one was refused
-pub over_refused : (asked : Asked) (c : Configuration) (fault : PlanFault) (sizes0 sizes1 : ℕ) (in0 : Input) (out0 : Output) → IsRefusal c.contexts fault → sizes1 ≡ sizes_after fault sizes0 →
+over_refused : (asked : Asked) (c : Configuration) (fault : PlanFault) (sizes0 sizes1 : ℕ) (in0 : Input) (out0 : Output) → RefusesPattern c.contexts fault sizes0 sizes1 →
     OverConfig asked c sizes0 sizes1 in0 in0 out0 out0 (BadPattern fault)
-over_refused asked c fault sizes0 sizes1 in0 out0 refusal sizes = record {
+over_refused asked c fault sizes0 sizes1 in0 out0 refused = record {
   built = Some fault;
-  built_told = (refusal, sizes);
+  built_told = refused;
   answers = answers_quiet (told_built asked c (Some fault)) (Some asked) in0 in0 out0 out0 (BadPattern fault) refl
-      (refused_does in0 out0 (pattern_line fault) 3 (BadPattern fault) (λ l is. is) refl);
+      (refused_does in0 out0 (pattern_line fault) 3 (BadPattern fault) refl refl);
 }
 
 -- memory was wanting for them
-pub over_unbuilt : (asked : Asked) (c : Configuration) (sizes0 sizes1 : ℕ) (in0 : Input) (out0 : Output) → sizes1 ≡ sizes0 →
+over_unbuilt : (asked : Asked) (c : Configuration) (sizes0 sizes1 : ℕ) (in0 : Input) (out0 : Output) → sizes1 ≡ sizes0 →
     OverConfig asked c sizes0 sizes1 in0 in0 out0 out0 (BrokenOff OutOfMemory)
 over_unbuilt asked c sizes0 sizes1 in0 out0 sizes = record {
   built = None;
@@ -164,12 +161,21 @@ over_unbuilt asked c sizes0 sizes1 in0 out0 sizes = record {
   answers = answers_quiet (told_built asked c None) (Some asked) in0 in0 out0 out0 (BrokenOff OutOfMemory) refl (memory_does (told_built asked c None [] false) in0 out0);
 }
 
+-- the dialplan was not built
+pub over_fault : (asked : Asked) (c : Configuration) (fault : PlanFault) (sizes0 sizes1 : ℕ) (in0 : Input) (out0 : Output) → IsRefusal c.contexts fault → sizes1 ≡ sizes_after fault sizes0 →
+    OverConfig asked c sizes0 sizes1 in0 in0 out0 out0 (not_built fault)
+over_fault asked c NoMemory sizes0 sizes1 in0 out0 refusal sizes = over_unbuilt asked c sizes0 sizes1 in0 out0 sizes
+over_fault asked c (PatternRefused extension condition) sizes0 sizes1 in0 out0 refusal sizes =
+    over_refused asked c (PatternRefused extension condition) sizes0 sizes1 in0 out0 (record { refusal = refusal; no_want = λ e. absurd (cc); sizes = sizes })
+over_fault asked c (PatternTooLarge extension condition) sizes0 sizes1 in0 out0 refusal sizes =
+    over_refused asked c (PatternTooLarge extension condition) sizes0 sizes1 in0 out0 (record { refusal = refusal; no_want = λ e. absurd (cc); sizes = sizes })
+
 -- ---- over the bytes of a document
 
 -- a pattern of what the bytes are read as
 built_of : (bytes : List ℕ) (c : Configuration) (built : Option PlanFault) (sizes0 sizes1 : ℕ) → config_of bytes ≡ Ok c → IsBuiltOf c built sizes0 sizes1 → IsBuilt (Got bytes) built sizes0 sizes1
 built_of bytes c None sizes0 sizes1 reads told = told
-built_of bytes c (Some fault) sizes0 sizes1 reads told = (c, reads, told.0, told.1)
+built_of bytes c (Some fault) sizes0 sizes1 reads told = (c, reads, told)
 
 pub over_read : (asked : Asked) (bytes : List ℕ) (c : Configuration) (sizes0 sizes1 : ℕ) (in0 in1 : Input) (out0 out1 : Output) (outcome : Outcome) → config_of bytes ≡ Ok c →
     OverConfig asked c sizes0 sizes1 in0 in1 out0 out1 outcome → OverBytes asked bytes sizes0 sizes1 in0 in1 out0 out1 outcome
@@ -185,7 +191,7 @@ over_faulty asked bytes fault sizes in0 out0 reads = record {
   built = None;
   built_told = refl;
   answers = subst (λ (r : Result Configuration DocFault). Answers (told_read asked r None) (Some asked) in0 in0 out0 out0 (BadDocument fault)) (sym reads)
-      (answers_quiet (told_read asked (Err fault) None) (Some asked) in0 in0 out0 out0 (BadDocument fault) refl (fault_does in0 out0 fault));
+      (answers_quiet (told_read asked (Err fault) None) (Some asked) in0 in0 out0 out0 (BadDocument fault) refl (refused_does in0 out0 (fault_line fault) 3 (BadDocument fault) refl refl));
 }
 
 pub over_unread : (asked : Asked) (bytes : List ℕ) (sizes : ℕ) (in0 : Input) (out0 : Output) → OverBytes asked bytes sizes sizes in0 in0 out0 out0 (BrokenOff OutOfMemory)
@@ -217,7 +223,7 @@ runs_usage next_load counts sizes in0 out0 = record {
   file_told = tt;
   built_told = refl;
   loaded = λ _. refl;
-  answers = answers_quiet (told_words None Absent None) None in0 in0 out0 out0 Usage refl (refused_does in0 out0 usage_line 2 Usage (λ l is. is) refl);
+  answers = answers_quiet (told_words None Absent None) None in0 in0 out0 out0 Usage refl (refused_does in0 out0 usage_line 2 Usage refl refl);
   usage = λ _. refl;
 }
 
@@ -237,7 +243,7 @@ runs_bytes asked bytes next_load counts0 counts1 counts2 sizes0 sizes1 sizes2 in
 
 -- the file was not there, or could not be read
 pub runs_absent : (asked : Asked) (name : List ℕ) (next_load : List ℕ → Option Load) (counts0 counts1 : LoadCounts) (sizes0 sizes1 : ℕ) (in0 : Input) (out0 : Output) (outcome : Outcome) →
-    Tells (next_load (file_of asked)) Absent → Counted counts0 counts1 Absent → sizes1 ≡ sizes0 → ((l : List ℕ) → IsLineOf outcome l → l ≡ cannot_read_line (file_of asked)) → status_of outcome ≡ 4 →
+    Tells (next_load (file_of asked)) Absent → Counted counts0 counts1 Absent → sizes1 ≡ sizes0 → line_of outcome ≡ cannot_read_line (file_of asked) → status_of outcome ≡ 4 →
     Runs (Some asked) next_load counts0 counts1 sizes0 sizes1 in0 in0 out0 out0 outcome
 runs_absent asked name next_load counts0 counts1 sizes0 sizes1 in0 out0 outcome tells counted sizes line_is four = record {
   file = Absent;
@@ -250,7 +256,7 @@ runs_absent asked name next_load counts0 counts1 sizes0 sizes1 in0 out0 outcome 
 }
 
 pub runs_failed : (asked : Asked) (name : List ℕ) (next_load : List ℕ → Option Load) (counts0 counts1 : LoadCounts) (sizes0 sizes1 : ℕ) (in0 : Input) (out0 : Output) (outcome : Outcome) →
-    Tells (next_load (file_of asked)) Failed → Counted counts0 counts1 Failed → sizes1 ≡ sizes0 → ((l : List ℕ) → IsLineOf outcome l → l ≡ cannot_read_line (file_of asked)) → status_of outcome ≡ 4 →
+    Tells (next_load (file_of asked)) Failed → Counted counts0 counts1 Failed → sizes1 ≡ sizes0 → line_of outcome ≡ cannot_read_line (file_of asked) → status_of outcome ≡ 4 →
     Runs (Some asked) next_load counts0 counts1 sizes0 sizes1 in0 in0 out0 out0 outcome
 runs_failed asked name next_load counts0 counts1 sizes0 sizes1 in0 out0 outcome tells counted sizes line_is four = record {
   file = Failed;
@@ -283,21 +289,22 @@ runs_unloaded asked next_load counts0 counts1 sizes0 sizes1 in0 out0 sizes = let
 -- ---- the whole run
 
 pub ran : (asked : Option Asked) (next_load : List ℕ → Option Load) (counts0 counts1 : LoadCounts) (sizes0 sizes1 : ℕ) (in0 in1 : Input) (out0 out1 err0 err1 : Output) (outcome : Outcome) (sent : Sent) (status : ℕ) →
-    Runs asked next_load counts0 counts1 sizes0 sizes1 in0 in1 out0 out1 outcome → Says outcome err0 err1 sent → status ≡ status_of outcome →
+    Runs asked next_load counts0 counts1 sizes0 sizes1 in0 in1 out0 out1 outcome → SendDid err0 err1 sent (line_of outcome) → status ≡ status_of outcome →
     Ran asked next_load counts0 counts1 sizes0 sizes1 in0 in1 out0 out1 err0 err1 status
 ran asked next_load counts0 counts1 sizes0 sizes1 in0 in1 out0 out1 err0 err1 outcome sent status runs says is = record {
   file = runs.file;
   built = runs.built;
   input = runs.answers.input;
   read_failed = runs.answers.read_failed;
-  line = says.line;
+  line = line_of outcome;
   sent = sent;
   file_told = runs.file_told;
   built_told = runs.built_told;
+  loaded = λ not_1. runs.loaded (λ one. not_1 (is ∙ one));
   has_read = runs.answers.has_read;
   quiet = runs.answers.quiet;
-  does = subst (λ (n : ℕ). Does (told_words asked runs.file runs.built runs.answers.input runs.answers.read_failed) in1 out0 out1 says.line n) (sym is) (runs.answers.does says.line says.is_line);
-  said = says.did;
+  does = subst (λ (n : ℕ). Does (told_words asked runs.file runs.built runs.answers.input runs.answers.read_failed) in1 out0 out1 (line_of outcome) n) (sym is) runs.answers.does;
+  said = says;
 }
 
 -- ---- causes
@@ -406,17 +413,6 @@ full_play start in0 in1 input read_failed has_read eight =
       full = record { full = full-accepted (whole_journal start input) (full-cut start input read_failed eight); cost_is = refl; limit_is = refl };
     }
 
--- some line that an outcome has
-some_line : (outcome : Outcome) → (l : List ℕ) × IsLineOf outcome l
-some_line Usage = (usage_line, refl)
-some_line (CannotRead name) = (cannot_read_line name.now, refl)
-some_line (BadDocument fault) = ([], tt)
-some_line (BadPattern fault) = (pattern_line fault, refl)
-some_line Printed = ([], refl)
-some_line (Ended end) = (line_of_end end, refl)
-some_line (BrokenOff OutOfMemory) = (memory_line, refl)
-some_line (BrokenOff WriteFault) = (write_fault_line, refl)
-
 -- a status that is neither 1 nor 5 is the one that is told
 status-done : (told : Told) (in1 : Input) (out0 out1 : Output) (line : List ℕ) (status : ℕ) → Does told in1 out0 out1 line status → status ≢ 1 → status ≢ 5 → status ≡ told.status
 status-done told in1 out0 out1 line status (completes h) not_1 not_5 = h.status_is
@@ -427,7 +423,7 @@ status-told : (asked : Option Asked) (next_load : List ℕ → Option Load) (cou
     (runs : Runs asked next_load counts0 counts1 sizes0 sizes1 in0 in1 out0 out1 outcome) → status_of outcome ≢ 1 → status_of outcome ≢ 5 →
     status_of outcome ≡ (told_words asked runs.file runs.built runs.answers.input runs.answers.read_failed).status
 status-told asked next_load counts0 counts1 sizes0 sizes1 in0 in1 out0 out1 outcome runs not_1 not_5 =
-    let line = some_line outcome in status-done _ in1 out0 out1 line.0 (status_of outcome) (runs.answers.does line.0 line.1) not_1 not_5
+    status-done _ in1 out0 out1 (line_of outcome) (status_of outcome) runs.answers.does not_1 not_5
 
 -- what a status that only a play has shows: the document was read, no pattern was refused, and the play ended so
 record Played (asked : Option Asked) (next_load : List ℕ → Option Load) (input : List ℕ) (read_failed : Bool) (status : ℕ) : Type 0 where
@@ -524,8 +520,7 @@ document_read asked bytes (Ok c) (Some fault) next_load sizes0 sizes1 input read
   c = built_told.0;
   fault = fault;
   has = record { of = asked; bytes = bytes; is_asked = refl; told = tells; reads = built_told.1 };
-  refusal = built_told.2;
-  sizes = built_told.3;
+  refused = built_told.2;
 })
 
 document_file : (asked : Asked) (file : Load) (built : Option PlanFault) (next_load : List ℕ → Option Load) (sizes0 sizes1 : ℕ) (input : List ℕ) (read_failed : Bool) →

@@ -1,5 +1,5 @@
 -- What a run of the program does, and the causes of its statuses.
-use Rattle.std.specs.Prelude.{◌≡◌, ◌≢◌, ℕ, Bool, true, false, IsTrue, List, [], ◌++◌, Option, None, Some, IfSome, Ok, Err, ◌⊎◌, if◌then◌else◌}
+use Rattle.std.specs.Prelude.{◌≡◌, ◌≢◌, ℕ, Bool, true, false, IsTrue, List, All, [], ◌++◌, Option, None, Some, IfSome, Ok, Err, ◌⊎◌, if◌then◌else◌}
 use Rattle.std.specs.Io.KnownBytes.{IsAtEnd}
 use Rattle.fs_ports.specs.Counts.{raised}
 use Rattle.fs_ports.specs.Ports.{Input, Output, Writes, Stopped, SendDid}
@@ -9,33 +9,35 @@ use Rattle.fs_ports.specs.declared.files.Load.{Load}
 use Rattle.fs_ports.specs.declared.files.Load.TheVariants.{Got, Absent, Failed}
 use Rattle.fs_frame.specs.Block.{too_long}
 use Rattle.fs_frame.specs.Blocks.{rest_of}
+use Rattle.fs_doc.specs.Dialplans.{Context}
 use Rattle.fs_doc.specs.Reading.{Configuration, config_of}
 use Rattle.fs_doc.specs.declared.fault.DocKind.{DocKind}
 use Rattle.fs_doc.specs.declared.fault.DocKind.TheVariants as kind
 use Rattle.fs_doc.specs.declared.fault.DocFault.{DocFault}
-use Rattle.fs_plan.specs.Building.{IsRefusal, sizes_after}
+use Rattle.fs_plan.specs.Building.{IsNoPattern, HasPattern, extensions_in, IsRefusal, sizes_after}
 use Rattle.fs_plan.specs.declared.fault.PlanFault.{PlanFault}
+use Rattle.fs_plan.specs.declared.fault.PlanFault.TheVariants.{PatternRefused, PatternTooLarge, Memory as NoMemory}
 use Rattle.fs_top.specs.Switch.{Journal}
 use Rattle.fs_top.specs.Journal.{IsFull}
 use Rattle.fs_top.specs.Play.{play}
 use Rattle.fs_top.specs.Turns.{HasRead, Finishes, Breaks}
-use Rattle.fs_top.specs.Told.{Told, Asked, Check, Hunt, Play, file_of, told_built, told_file, told_words, line_of_end, status_of_end, usage_line, cannot_read_line, pattern_line, write_fault_line, memory_line}
+use Rattle.fs_top.specs.Told.{Told, Asked, Check, Hunt, Play, file_of, told_asked, told_built, told_file, told_words, line_of_end, status_of_end, usage_line, cannot_read_line, fault_line, pattern_line, write_fault_line, memory_line}
 use Rattle.fs_top.specs.declared.start.Start.{Start}
 use Rattle.fs_top.specs.declared.end.End.TheVariants.{TooLong, JournalFull}
 use Rattle.fs_top.specs.declared.play.Fault.TheVariants.{OutOfMemory, WriteFault}
 use Rattle.fs_top.specs.declared.outcome.Outcome.{Outcome}
 use Rattle.fs_top.specs.declared.outcome.Outcome.TheVariants.{Usage, CannotRead, BadDocument, BadPattern, Printed, Ended, BrokenOff}
 
--- the line of an outcome; the words that tell a document's fault are any
-abbrev pub IsLineOf : Outcome → List ℕ → Type 0
-IsLineOf Usage line = line ≡ usage_line
-IsLineOf (CannotRead name) line = line ≡ cannot_read_line name.now
-IsLineOf (BadDocument fault) line = Unit {0}
-IsLineOf (BadPattern fault) line = line ≡ pattern_line fault
-IsLineOf Printed line = line ≡ []
-IsLineOf (Ended end) line = line ≡ line_of_end end
-IsLineOf (BrokenOff OutOfMemory) line = line ≡ memory_line
-IsLineOf (BrokenOff WriteFault) line = line ≡ write_fault_line
+-- the line of an outcome, and its status
+abbrev pub line_of : Outcome → List ℕ
+line_of Usage = usage_line
+line_of (CannotRead name) = cannot_read_line name.now
+line_of (BadDocument fault) = fault_line fault
+line_of (BadPattern fault) = pattern_line fault
+line_of Printed = []
+line_of (Ended end) = line_of_end end
+line_of (BrokenOff OutOfMemory) = memory_line
+line_of (BrokenOff WriteFault) = write_fault_line
 
 abbrev pub status_of : Outcome → ℕ
 status_of Usage = 2
@@ -46,12 +48,6 @@ status_of Printed = 0
 status_of (Ended end) = status_of_end end
 status_of (BrokenOff OutOfMemory) = 1
 status_of (BrokenOff WriteFault) = 5
-
--- such a line was printed, or a front of it
-pub record Says (outcome : Outcome) (out0 out1 : Output) (sent : Sent) : Type 0 where
-  pub line : List ℕ
-  pub is_line : IsLineOf outcome line
-  pub did : SendDid out0 out1 sent line
 
 -- what playing a connection came to, over a switch that starts so
 abbrev pub PlaysTo : Start → Input → Output → Input → Output → Outcome → Type 0
@@ -66,7 +62,7 @@ PlaysTo start in0 out0 in1 out1 (BrokenOff fault) = (journal : Journal) × Break
 -- all was answered as it is told
 pub record Completes (told : Told) (in1 : Input) (out0 out1 : Output) (line : List ℕ) (status : ℕ) : Type 0 where
   pub written : Writes out0 out1 told.output
-  pub line_is : IfSome told.line (λ l. line ≡ l)
+  pub line_is : line ≡ told.line
   pub status_is : status ≡ told.status
   pub at_end : IsTrue told.at_end → IsAtEnd in1.left
 
@@ -91,14 +87,20 @@ pub data Does (told : Told) (in1 : Input) (out0 out1 : Output) (line : List ℕ)
   fails_to_write : FailsToWrite told out0 out1 line status → Does told in1 out0 out1 line status
   lacks_memory : LacksMemory told out0 out1 line status → Does told in1 out0 out1 line status
 
--- the outcome is one of these, whatever its line is
+-- the outcome is one of these
 abbrev pub DoesAs : Told → Input → Output → Output → Outcome → Type 0
-DoesAs told in1 out0 out1 outcome = (line : List ℕ) → IsLineOf outcome line → Does told in1 out0 out1 line (status_of outcome)
+DoesAs told in1 out0 out1 outcome = Does told in1 out0 out1 (line_of outcome) (status_of outcome)
+
+-- a pattern of these contexts was refused, for its own sake and not for want of memory
+pub record RefusesPattern (contexts : List Context) (fault : PlanFault) (sizes0 sizes1 : ℕ) : Type 0 where
+  pub refusal : IsRefusal contexts fault
+  pub no_want : fault ≢ NoMemory
+  pub sizes : sizes1 ≡ sizes_after fault sizes0
 
 -- a pattern of the configuration was refused, or none
 abbrev pub IsBuiltOf : Configuration → Option PlanFault → ℕ → ℕ → Type 0
 IsBuiltOf c None sizes0 sizes1 = sizes1 ≡ sizes0
-IsBuiltOf c (Some fault) sizes0 sizes1 = IsRefusal c.contexts fault × (sizes1 ≡ sizes_after fault sizes0)
+IsBuiltOf c (Some fault) sizes0 sizes1 = RefusesPattern c.contexts fault sizes0 sizes1
 
 -- nothing is read for these words
 abbrev pub ReadsNothing : Option Asked → Type 0
@@ -119,7 +121,7 @@ pub record Answers (told : List ℕ → Bool → Told) (asked : Option Asked) (i
 abbrev pub IsBuilt : Load → Option PlanFault → ℕ → ℕ → Type 0
 IsBuilt file None sizes0 sizes1 = sizes1 ≡ sizes0
 IsBuilt (Got bytes) (Some fault) sizes0 sizes1 =
-    (c : Configuration) × (config_of bytes ≡ Ok c) × IsRefusal c.contexts fault × (sizes1 ≡ sizes_after fault sizes0)
+    (c : Configuration) × (config_of bytes ≡ Ok c) × RefusesPattern c.contexts fault sizes0 sizes1
 IsBuilt Absent (Some fault) sizes0 sizes1 = ⊥
 IsBuilt Failed (Some fault) sizes0 sizes1 = ⊥
 
@@ -143,6 +145,12 @@ is_memory _ = false
 -- the outcome where a document was not read
 abbrev pub not_read : DocFault → Outcome
 not_read fault = if is_memory fault.kind then BrokenOff OutOfMemory else BadDocument fault
+
+-- the outcome where a dialplan was not built
+abbrev pub not_built : PlanFault → Outcome
+not_built NoMemory = BrokenOff OutOfMemory
+not_built (PatternRefused extension condition) = BadPattern (PatternRefused extension condition)
+not_built (PatternTooLarge extension condition) = BadPattern (PatternTooLarge extension condition)
 
 -- what loading the file that is asked for did to the counts
 abbrev pub Loaded : Option Asked → LoadCounts → LoadCounts → Load → Type 0
@@ -172,6 +180,7 @@ pub record Ran (asked : Option Asked) (next_load : List ℕ → Option Load) (co
   pub sent : Sent
   pub file_told : IfSome asked (λ a. Tells (next_load (file_of a)) file)
   pub built_told : IsBuilt file built sizes0 sizes1
+  pub loaded : status ≢ 1 → Loaded asked counts0 counts1 file
   pub has_read : HasRead in0 in1 input read_failed
   pub quiet : ReadsNothing asked → in1 ≡ in0
   pub does : Does (told_words asked file built input read_failed) in1 out0 out1 line status
@@ -199,8 +208,7 @@ pub record HasRefusal (asked : Option Asked) (next_load : List ℕ → Option Lo
   pub c : Configuration
   pub fault : PlanFault
   pub has : HasConfig asked next_load c
-  pub refusal : IsRefusal c.contexts fault
-  pub sizes : sizes1 ≡ sizes_after fault sizes0
+  pub refused : RefusesPattern c.contexts fault sizes0 sizes1
 
 -- a count rose: of files that were absent or could not be read, or of reads of the link
 abbrev pub CountRose : LoadCounts → LoadCounts → Input → Input → Type 0
@@ -224,3 +232,32 @@ pub record FillsJournal (start : Start) (in0 in1 : Input) : Type 0 where
   pub limit_told : ℕ
   pub end_is : (play start input read_failed).end ≡ JournalFull cost_told limit_told
   pub full : IsFull (play start input read_failed).journal cost_told limit_told
+
+-- ---- completeness
+
+-- each pattern of a configuration has a reading
+abbrev pub HasReadings : Configuration → Type 0
+HasReadings c = All (λ extension. All (λ condition. HasPattern IsNoPattern condition.test → ⊥) extension.conditions) (extensions_in c.contexts)
+
+-- the file that is asked for is told, and its bytes are read as this configuration, whose patterns have readings
+pub record IsGiven (asked : Option Asked) (next_load : List ℕ → Option Load) (of : Asked) (c : Configuration) : Type 0 where
+  pub bytes : List ℕ
+  pub is_asked : asked ≡ Some of
+  pub told : next_load (file_of of) ≡ Some (Got bytes)
+  pub reads : config_of bytes ≡ Ok c
+  pub readings : HasReadings c
+
+-- no count rose: of patterns that were too large, of reads of the link that failed, or of writes to it
+pub record NoneRose (sizes0 sizes1 : ℕ) (in0 in1 : Input) (out0 out1 : Output) : Type 0 where
+  pub sizes : sizes1 ≢ raised sizes0
+  pub reads : in1.faults ≢ raised in0.faults
+  pub writes : out1.faults ≢ raised out0.faults
+
+-- all was done that is told over a configuration, or a front of it for want of memory
+pub record DoesAll (asked : Asked) (c : Configuration) (in0 in1 : Input) (out0 out1 err0 err1 : Output) (status : ℕ) : Type 0 where
+  pub input : List ℕ
+  pub line : List ℕ
+  pub sent : Sent
+  pub has_read : HasRead in0 in1 input false
+  pub does : Completes (told_asked asked c input false) in1 out0 out1 line status ⊎ LacksMemory (told_asked asked c input false) out0 out1 line status
+  pub said : SendDid err0 err1 sent line

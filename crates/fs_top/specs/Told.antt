@@ -5,6 +5,7 @@ use Rattle.std.specs.Fmt.{decimal}
 use Rattle.fs_ports.specs.declared.files.Load.{Load}
 use Rattle.fs_ports.specs.declared.files.Load.TheVariants.{Got, Absent, Failed}
 use Rattle.fs_doc.specs.Reading.{Configuration, config_of}
+use Rattle.fs_doc.specs.Faults.{kind_name}
 use Rattle.fs_doc.specs.declared.fault.DocFault.{DocFault}
 use Rattle.fs_plan.specs.declared.fault.PlanFault.{PlanFault}
 use Rattle.fs_plan.specs.declared.fault.PlanFault.TheVariants.{PatternRefused, PatternTooLarge, Memory}
@@ -13,10 +14,10 @@ use Rattle.fs_top.specs.Play.{Played, play}
 use Rattle.fs_top.specs.declared.end.End.{End}
 use Rattle.fs_top.specs.declared.end.End.TheVariants.{Exit, AuthRefused, Eof, ReadFault, TooLong, JournalFull}
 
--- the bytes written, the line on standard error if it is told, the status, and whether the input was read to its end
+-- the bytes written, the line on standard error, the status, and whether the input was read to its end
 pub record Told : Type 0 where
   pub output : List ℕ
-  pub line : Option (List ℕ)
+  pub line : List ℕ
   pub status : ℕ
   pub at_end : Bool
 
@@ -55,6 +56,10 @@ usage_line = codes "usage: fsw check FILE | hunt FILE CONTEXT DEST | play FILE |
 unfoldable pub cannot_read_line : List ℕ → List ℕ
 cannot_read_line name = codes "fsw: cannot read " ++ (name ++ codes "\n")
 
+-- what is wrong with a document, and how many bytes stand before it
+unfoldable pub fault_line : DocFault → List ℕ
+fault_line fault = codes "fsw: " ++ (kind_name fault.kind ++ (codes " at " ++ (decimal fault.at ++ codes "\n")))
+
 -- the pattern that was refused, by the numbers of its extension and condition
 unfoldable pub pattern_refused_line : ℕ → ℕ → List ℕ
 pattern_refused_line extension condition = codes "fsw: pattern refused in extension " ++ (decimal extension ++ (codes " condition " ++ (decimal condition ++ codes "\n")))
@@ -79,7 +84,7 @@ memory_line = codes "fsw: out of memory\n"
 
 -- a line and a status, and nothing on the output
 abbrev pub refused : List ℕ → ℕ → Told
-refused line status = record { output = []; line = Some line; status = status; at_end = false }
+refused line status = record { output = []; line = line; status = status; at_end = false }
 
 -- the line of a refused pattern
 abbrev pub pattern_line : PlanFault → List ℕ
@@ -114,11 +119,11 @@ is_eof (TooLong len) = false
 is_eof (JournalFull cost limit) = false
 
 abbrev pub told_play : Played → Told
-told_play played = record { output = played.output; line = Some (line_of_end played.end); status = status_of_end played.end; at_end = is_eof played.end }
+told_play played = record { output = played.output; line = line_of_end played.end; status = status_of_end played.end; at_end = is_eof played.end }
 
 -- this is printed, and nothing is read
 abbrev pub told_text : List ℕ → Told
-told_text output = record { output = output; line = Some []; status = 0; at_end = false }
+told_text output = record { output = output; line = []; status = 0; at_end = false }
 
 -- what is answered over a configuration
 abbrev pub told_asked : Asked → Configuration → List ℕ → Bool → Told
@@ -131,10 +136,10 @@ abbrev pub told_built : Asked → Configuration → Option PlanFault → List �
 told_built asked c None input read_failed = told_asked asked c input read_failed
 told_built asked c (Some fault) input read_failed = refused (pattern_line fault) 3
 
--- what is answered for what a document is read as; the words that tell a fault are not told here
+-- what is answered for what a document is read as
 abbrev pub told_read : Asked → Result Configuration DocFault → Option PlanFault → List ℕ → Bool → Told
 told_read asked (Ok c) built input read_failed = told_built asked c built input read_failed
-told_read asked (Err fault) built input read_failed = record { output = []; line = None; status = 3; at_end = false }
+told_read asked (Err fault) built input read_failed = refused (fault_line fault) 3
 
 -- what is answered once the file gave this
 abbrev pub told_file : Asked → Load → Option PlanFault → List ℕ → Bool → Told

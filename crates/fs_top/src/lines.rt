@@ -1,8 +1,8 @@
-ghost use Rattle.std.specs.Prelude.{◌≡◌, List, ℕ, map};
+ghost use Rattle.std.specs.Prelude.{map};
 ghost use Rattle.std.specs.List.{concat};
 ghost use Rattle.fs_ports.specs.Ports.{SendDid};
 ghost use Rattle.fs_top.specs.Told as spec;
-ghost use Rattle.fs_top.specs.Runs.{Says};
+ghost use Rattle.fs_top.specs.Runs.{line_of};
 
 use crate::end::End;
 use crate::outcome::Outcome;
@@ -18,7 +18,7 @@ const USAGE: &str =
 // Prints the line of an outcome, if it has one.
 #[tactic(auto, unfolding(crate::specs::Told::usage_line, crate::specs::Told::read_fault_line, crate::specs::Told::write_fault_line, crate::specs::Told::memory_line))]
 pub(crate) fn say<E: Sink>(err: &mut E, outcome: Outcome<'_>) -> Sent
-    ensures { Says outcome.entry (E.output err.old) (E.output err.new) result }
+    ensures { SendDid (E.output err.old) (E.output err.new) result (line_of outcome.entry) }
 {
     match outcome {
         Outcome::Usage => send_all(err, USAGE.as_bytes()),
@@ -37,8 +37,9 @@ pub(crate) fn say<E: Sink>(err: &mut E, outcome: Outcome<'_>) -> Sent
 }
 
 // Prints what is wrong with a document, and where.
+#[tactic(auto, unfolding(crate::specs::Told::fault_line))]
 fn say_fault<E: Sink>(err: &mut E, fault: DocFault) -> Sent
-    ensures { (line : List ℕ) × SendDid (E.output err.old) (E.output err.new) result line }
+    ensures { SendDid (E.output err.old) (E.output err.new) result (spec.fault_line fault) }
 {
     let mut buffer = Buffer::new();
     let at = buffer.format(fault.at).as_bytes();

@@ -6,7 +6,7 @@ ghost use Rattle.fs_top.specs.Switch.{begun};
 ghost use Rattle.fs_top.specs.Documents as documents;
 ghost use Rattle.fs_top.specs.Told as spec;
 ghost use Rattle.fs_top.specs.Reading.{asked_seen};
-ghost use Rattle.fs_top.specs.Runs.{PlaysTo, Answers, OverBytes, OverConfig, not_read, Runs, Ran, DoesAs, HasConfig, HasFault, HasRefusal, CountRose, FillsJournal, MeetsTooLong};
+ghost use Rattle.fs_top.specs.Runs.{PlaysTo, Answers, OverBytes, OverConfig, not_read, not_built, Runs, Ran, DoesAs, HasConfig, HasFault, HasRefusal, CountRose, FillsJournal, MeetsTooLong, IsGiven, NoneRose, DoesAll};
 
 use crate::asked::Asked;
 use crate::documents::{check_text, hunt_text};
@@ -57,6 +57,12 @@ pub fn run<F: Files, L: Link, E: Sink>(
         × FillsJournal (documents.start_of c) (L.input link.old) (L.input link.new) }
     ensures too_long { result.code ≡ 10 → (c : Configuration) × HasConfig (spec.asked_of words.now) (F.next_load files.old) c
         × MeetsTooLong (documents.start_of c) (L.input link.old) (L.input link.new) }
+
+    // Where the file is told to be read as a configuration whose patterns have readings, and no count rose, all that is told was
+    // done, or memory was wanting.
+    ensures complete { (asked : spec.Asked) (c : Configuration) → IsGiven (spec.asked_of words.now) (F.next_load files.old) asked c
+        → NoneRose (F.sizes files.old) (F.sizes files.new) (L.input link.old) (L.input link.new) (L.output link.old) (L.output link.new)
+        → DoesAll asked c (L.input link.old) (L.input link.new) (L.output link.old) (L.output link.new) (E.output err.old) (E.output err.new) result.code }
 {
     let outcome = conduct(alloc, words, files, link);
     say(err, outcome);
@@ -146,8 +152,19 @@ fn over_config<'a, F: Files, L: Link>(
 {
     match Dialplan::build(alloc, config, files) {
         Ok(plan) => over_plan(alloc, asked, config, &plan, link),
-        Err(PlanFault::Memory) => Outcome::BrokenOff(Fault::OutOfMemory),
-        Err(fault) => Outcome::BadPattern(fault),
+        Err(fault) => not_built(fault),
+    }
+}
+
+// A dialplan that was not built.
+fn not_built<'a>(fault: PlanFault) -> Outcome<'a>
+    ensures { result ≡ not_built fault }
+{
+    match fault {
+        PlanFault::Memory => Outcome::BrokenOff(Fault::OutOfMemory),
+        PlanFault::PatternRefused { .. } | PlanFault::PatternTooLarge { .. } => {
+            Outcome::BadPattern(fault)
+        }
     }
 }
 

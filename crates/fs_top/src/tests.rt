@@ -1,3 +1,5 @@
+mod documents;
+
 use crate::refusal::Refusal;
 use crate::run;
 use crate::start::Start;
@@ -42,7 +44,6 @@ struct Case {
     words: &'static [&'static str],
     file: &'static str,
     failed_loads: &'static [u64],
-    large_builds: &'static [u64],
     input: &'static str,
     cuts: &'static [usize],
     failed_reads: &'static [u64],
@@ -58,7 +59,6 @@ const QUIET: Case = Case {
     words: &["play", "f"],
     file: "",
     failed_loads: &[],
-    large_builds: &[],
     input: "",
     cuts: &[],
     failed_reads: &[],
@@ -77,10 +77,6 @@ const SINGLE_BYTES: &[usize] = &[
 // A document with a password that is put together from a global.
 const OWN: &str =
     "<document><X-PRE-PROCESS cmd='set' data='x=1234567890'/><section name='configuration'><configuration name='event_socket.conf'><settings><param name='password' value='$${x}'/></settings></configuration></section></document>";
-
-// A dialplan whose first condition has an anti-action alone.
-const LOCAL: &str =
-    "<document><section name='dialplan'><context name='c'><extension><condition field='destination_number' expression='^9' break='never'><anti-action application='set' data='a=1'/></condition><condition><action application='park'/></condition></extension></context></section></document>";
 
 const CASES: &[Case] = &[
     QUIET,
@@ -274,55 +270,6 @@ const CASES: &[Case] = &[
         ..QUIET
     },
     Case {
-        name: "check",
-        words: &["check", "f"],
-        file: LOCAL,
-        output: &["OK 1 1\n"],
-        ..QUIET
-    },
-    Case {
-        name: "check of a document that is cut short",
-        words: &["check", "f"],
-        file: "<document type=\"a&am",
-        output: &[],
-        line: "fsw: Truncated at 20\n",
-        status: 3,
-        ..QUIET
-    },
-    Case {
-        name: "check of a pattern that has no reading",
-        words: &["check", "f"],
-        file: "<document><section name='dialplan'><context name='c'><extension><condition field='context' expression='('/></extension></context></section></document>",
-        output: &[],
-        line: "fsw: pattern refused in extension 1 condition 1\n",
-        status: 3,
-        ..QUIET
-    },
-    Case {
-        name: "check of a pattern that is too large",
-        words: &["check", "f"],
-        file: LOCAL,
-        large_builds: &[1],
-        output: &[],
-        line: "fsw: pattern too large in extension 1 condition 1\n",
-        status: 3,
-        ..QUIET
-    },
-    Case {
-        name: "hunt",
-        words: &["hunt", "f", "c", "1000"],
-        file: LOCAL,
-        output: &["set a%3D1\npark \n"],
-        ..QUIET
-    },
-    Case {
-        name: "hunt in a context that is not there",
-        words: &["hunt", "f", "none", "1000"],
-        file: LOCAL,
-        output: &["NO_ROUTE_DESTINATION\n"],
-        ..QUIET
-    },
-    Case {
         name: "no words",
         words: &[],
         output: &[],
@@ -357,7 +304,7 @@ fn runs_answer_as_the_rows_say(rt: HostRuntime) -> Result<(), Fail> {
             words.push(text(alloc, &[word])?)?;
         }
         let held = [(text(alloc, &["f"])?, text(alloc, &[case.file])?)];
-        let mut files = MemFiles::new(alloc, &held, case.failed_loads, case.large_builds)?;
+        let mut files = MemFiles::new(alloc, &held, case.failed_loads, &[])?;
         let mut link = MemLink::new(
             alloc,
             case.input.as_bytes(),
@@ -376,7 +323,7 @@ fn runs_answer_as_the_rows_say(rt: HostRuntime) -> Result<(), Fail> {
     Ok(())
 }
 
-// What a run over an empty file and this input came to: its output, its line and its status.
+// What a run came to: its output, its line and its status.
 #[derive(Drop)]
 struct Came {
     output: Txt,
@@ -384,20 +331,32 @@ struct Came {
     status: u8,
 }
 
-fn play(alloc: Global, input: &[u8]) -> Result<Came, Memory> {
-    let mut words = Vec::new(alloc);
-    words.push(text(alloc, &["play"])?)?;
-    words.push(text(alloc, &["f"])?)?;
-    let held = [(text(alloc, &["f"])?, text(alloc, &[])?)];
-    let mut files = MemFiles::new(alloc, &held, &[], &[])?;
-    let mut link = MemLink::new(alloc, input, &[], &[], &[], 200_000)?;
+// The run of these words over a file `f` and an input, where the builds of these numbers find a pattern too large.
+fn run_over(
+    alloc: Global,
+    words: &[&str],
+    file: &[u8],
+    large_builds: &[u64],
+    input: &[u8],
+) -> Result<Came, Memory> {
+    let mut texts = Vec::new(alloc);
+    for word in words {
+        texts.push(text(alloc, &[word])?)?;
+    }
+    let held = [(text(alloc, &["f"])?, Txt::of(alloc, file)?)];
+    let mut files = MemFiles::new(alloc, &held, &[], large_builds)?;
+    let mut link = MemLink::new(alloc, input, &[], &[], &[], 1_000_000)?;
     let mut err = MemLink::new(alloc, &[], &[], &[], &[], 4096)?;
-    let status = run(alloc, &words, &mut files, &mut link, &mut err);
+    let status = run(alloc, &texts, &mut files, &mut link, &mut err);
     Ok(Came {
         output: Txt::of(alloc, link.written())?,
         line: Txt::of(alloc, err.written())?,
         status: status.code,
     })
+}
+
+fn play(alloc: Global, input: &[u8]) -> Result<Came, Memory> {
+    run_over(alloc, &["play", "f"], b"", &[], input)
 }
 
 // A command line of this many bytes after its word, and the empty line behind it.
@@ -448,6 +407,28 @@ fn a_full_journal_ends_a_run(rt: HostRuntime) -> Result<(), Fail> {
         b"fsw: journal full 67108814 67108864\n".as_slice()
     );
     assert_eq!(rt; full.output.as_bytes().len(), 28 + 54 + 1_021 * 64);
+    Ok(())
+}
+
+// A document that limits the journal.
+const LIMITED: &[u8] =
+    b"<document><section name='configuration'><configuration name='switch.conf'><settings><param name='journal-limit' value='1048576'/></settings></configuration></section></document>";
+
+#[test]
+fn a_document_limits_the_journal(rt: HostRuntime) -> Result<(), Fail> {
+    let alloc = rt.alloc();
+    let mut input = Vec::new(alloc);
+    input.extend_from_slice(b"auth ClueCon\n\n")?;
+    for _ in 0..15 {
+        push_block(&mut input, "api echo ", 65_525)?;
+    }
+    let full = run_over(alloc, &["play", "f"], LIMITED, &[], &input)?;
+    assert_eq!(rt; full.status, 8);
+    assert_eq!(rt;
+        full.line.as_bytes(),
+        b"fsw: journal full 985166 1048576\n".as_slice()
+    );
+    assert_eq!(rt; full.output.as_bytes().len(), 28 + 54 + 14 * (50 + 65_525));
     Ok(())
 }
 

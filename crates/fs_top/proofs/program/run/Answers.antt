@@ -1,5 +1,6 @@
 use Rattle.std.proofs.Common.{sym, ◌∙◌}
 use Rattle.fs_top.proofs.RunLaws.{ran, cause_document, cause_unreadable, cause_full, cause_too_long}
+use Rattle.fs_top.proofs.CompleteLaws.{complete}
 use Rattle.fs_top.proofs.program.run.Goals as goal
 
 pub returns-clause-told : goal.returns-clause-told
@@ -16,3 +17,8 @@ returns-clause-full g c = λ eight. cause_full _ _ _ _ _ _ _ _ _ _ _ c.conduct-o
 
 pub returns-clause-too_long : goal.returns-clause-too_long
 returns-clause-too_long g c = λ ten. cause_too_long _ _ _ _ _ _ _ _ _ _ _ c.conduct-outcome.ensures (sym c.status.ensures ∙ ten)
+
+pub returns-clause-complete : goal.returns-clause-complete
+returns-clause-complete g c =
+    λ asked config given rose.
+    complete _ _ _ _ _ _ _ _ _ _ _ _ _ (ran _ _ _ _ _ _ _ _ _ _ _ _ _ _ _ c.conduct-outcome.ensures c.say.ensures c.status.ensures) asked config given rose

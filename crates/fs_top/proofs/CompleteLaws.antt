@@ -1,0 +1,84 @@
+-- What a run does where its words and its file are in order and no count rises.
+use Rattle.std.proofs.Common.{◌≡◌, ◌≢◌, ℕ, Bool, true, false, List, All, Option, None, Some, Result, Ok, Err, ◌⊎◌, slice_get, refl, sym, ap, ◌∙◌, subst, inl, inr}
+use Rattle.std.proofs.lemmas.Option.{slice_get_within, get_or_from_slice_get}
+use Rattle.std.proofs.lemmas.List.Elements.{All-get_or}
+use Rattle.fs_ports.specs.Counts.{raised}
+use Rattle.fs_ports.specs.Ports.{Input, Output}
+use Rattle.fs_ports.specs.Loads.{LoadCounts, Tells}
+use Rattle.fs_ports.specs.declared.files.Load.{Load}
+use Rattle.fs_ports.specs.declared.files.Load.TheVariants.{Got}
+use Rattle.fs_doc.specs.Dialplans.{Extension, Condition}
+use Rattle.fs_doc.specs.Reading.{Configuration, config_of}
+use Rattle.fs_doc.specs.declared.fault.DocFault.{DocFault}
+use Rattle.fs_plan.specs.Building.{IsNoPattern, HasPattern, InExtensions, extensions_in}
+use Rattle.fs_plan.specs.declared.fault.PlanFault.{PlanFault}
+use Rattle.fs_plan.specs.declared.fault.PlanFault.TheVariants.{PatternRefused, PatternTooLarge, Memory}
+use Rattle.fs_top.specs.Turns.{HasRead}
+use Rattle.fs_top.specs.Told.{Told, Asked, file_of, told_words, told_read, told_asked}
+use Rattle.fs_top.specs.Runs.{Does, completes, fails_to_write, lacks_memory, Completes, LacksMemory, RefusesPattern, IsBuilt, Ran, HasReadings, IsGiven, NoneRose, DoesAll}
+
+-- what holds of each element holds of the one at a place
+at_place : {X : Type 0} (P : X → Type 0) (xs : List X) (place : ℕ) (x : X) → slice_get xs place ≡ Some x → All P xs → P x
+at_place P xs place x is all = subst P (get_or_from_slice_get xs place x x is) (All-get_or P xs place x (slice_get_within xs place x is) all)
+
+-- no condition has a pattern that is none
+all_read : (c : Configuration) (extension condition : ℕ) → HasReadings c → InExtensions IsNoPattern 0 (extensions_in c.contexts) extension condition → ⊥
+all_read c extension condition readings has =
+    let conditions = at_place (λ (e : Extension). All (λ (o : Condition). HasPattern IsNoPattern o.test → ⊥) e.conditions) (extensions_in c.contexts) has.place has.extension has.stands readings in
+    at_place (λ (o : Condition). HasPattern IsNoPattern o.test → ⊥) has.extension.conditions has.has.place has.has.condition has.has.stands conditions has.has.has
+
+-- so none is refused, where the count of large patterns did not rise
+refuses_none : (c : Configuration) (fault : PlanFault) (sizes0 sizes1 : ℕ) → HasReadings c → sizes1 ≢ raised sizes0 → RefusesPattern c.contexts fault sizes0 sizes1 → ⊥
+refuses_none c (PatternRefused extension condition) sizes0 sizes1 readings rose refused = all_read c extension condition readings refused.refusal
+refuses_none c (PatternTooLarge extension condition) sizes0 sizes1 readings rose refused = rose refused.sizes
+refuses_none c Memory sizes0 sizes1 readings rose refused = refused.no_want refl
+
+-- one reading of a document is the configuration
+read_once : (bytes : List ℕ) (c d : Configuration) → config_of bytes ≡ Ok c → config_of bytes ≡ Ok d → d ≡ c
+read_once bytes c d one other = ap given (sym other ∙ one)
+  where
+    given : Result Configuration DocFault → Configuration
+    given (Ok e) = e
+    given (Err fault) = c
+
+built_none : (bytes : List ℕ) (c : Configuration) (built : Option PlanFault) (sizes0 sizes1 : ℕ) → config_of bytes ≡ Ok c → HasReadings c → sizes1 ≢ raised sizes0 →
+    IsBuilt (Got bytes) built sizes0 sizes1 → built ≡ None
+built_none bytes c None sizes0 sizes1 reads readings rose told = refl
+built_none bytes c (Some fault) sizes0 sizes1 reads readings rose told =
+    absurd (refuses_none c fault sizes0 sizes1 readings rose (subst (λ (d : Configuration). RefusesPattern d.contexts fault sizes0 sizes1) (read_once bytes c told.0 reads told.1) told.2))
+
+-- no read failed
+read_whole : (in0 in1 : Input) (input : List ℕ) (read_failed : Bool) → in1.faults ≢ raised in0.faults → HasRead in0 in1 input read_failed → read_failed ≡ false
+read_whole in0 in1 input true rose has_read = absurd (rose has_read.faults)
+read_whole in0 in1 input false rose has_read = refl
+
+-- no write failed
+written_whole : (told : Told) (in1 : Input) (out0 out1 : Output) (line : List ℕ) (status : ℕ) → out1.faults ≢ raised out0.faults → Does told in1 out0 out1 line status →
+    Completes told in1 out0 out1 line status ⊎ LacksMemory told out0 out1 line status
+written_whole told in1 out0 out1 line status rose (completes h) = inl h
+written_whole told in1 out0 out1 line status rose (fails_to_write h) = absurd (rose h.stopped.faults)
+written_whole told in1 out0 out1 line status rose (lacks_memory h) = inr h
+
+-- what is told then
+told_given : (asked : Option Asked) (of : Asked) (file : Load) (bytes : List ℕ) (c : Configuration) (built : Option PlanFault) (input : List ℕ) (read_failed : Bool) →
+    asked ≡ Some of → file ≡ Got bytes → config_of bytes ≡ Ok c → built ≡ None → read_failed ≡ false → told_words asked file built input read_failed ≡ told_asked of c input false
+told_given asked of file bytes c built input read_failed is_asked is_file reads is_built is_whole =
+    rw (is_asked, is_file, is_built, is_whole) (ap (λ (read : Result Configuration DocFault). told_read of read None input false) reads)
+
+-- all was done, or memory was wanting
+pub complete : (asked : Option Asked) (next_load : List ℕ → Option Load) (counts0 counts1 : LoadCounts) (sizes0 sizes1 : ℕ) (in0 in1 : Input) (out0 out1 err0 err1 : Output) (status : ℕ) →
+    Ran asked next_load counts0 counts1 sizes0 sizes1 in0 in1 out0 out1 err0 err1 status → (of : Asked) (c : Configuration) → IsGiven asked next_load of c →
+    NoneRose sizes0 sizes1 in0 in1 out0 out1 → DoesAll of c in0 in1 out0 out1 err0 err1 status
+complete asked next_load counts0 counts1 sizes0 sizes1 in0 in1 out0 out1 err0 err1 status ran of c given rose =
+    let tells : Tells (next_load (file_of of)) ran.file = rw given.is_asked at ran.file_told in
+    let file : ran.file ≡ Got given.bytes = rw given.told at tells in
+    let built : ran.built ≡ None = built_none given.bytes c ran.built sizes0 sizes1 given.reads given.readings rose.sizes (rw file at ran.built_told) in
+    let whole : ran.read_failed ≡ false = read_whole in0 in1 ran.input ran.read_failed rose.reads ran.has_read in
+    let told = told_given asked of ran.file given.bytes c ran.built ran.input ran.read_failed given.is_asked file given.reads built whole in record {
+      input = ran.input;
+      line = ran.line;
+      sent = ran.sent;
+      has_read = rw whole at ran.has_read;
+      does = written_whole (told_asked of c ran.input false) in1 out0 out1 ran.line status rose.writes (subst (λ (t : Told). Does t in1 out0 out1 ran.line status) told ran.does);
+      said = ran.said;
+    }

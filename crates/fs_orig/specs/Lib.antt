@@ -1,0 +1,4 @@
+pub mod Legs
+pub mod Verdicts
+pub mod Meaning
+pub mod Changes

@@ -1,31 +1,32 @@
 -- What a run does where its words and its file are in order and no count rises.
-use Rattle.std.proofs.Common.{◌≡◌, ◌≢◌, ℕ, Bool, true, false, List, All, Option, None, Some, Result, Ok, Err, ◌⊎◌, slice_get, refl, sym, ap, ◌∙◌, subst, inl, inr}
-use Rattle.std.proofs.lemmas.Option.{slice_get_within, get_or_from_slice_get}
+use Rattle.std.proofs.Common.{◌≡◌, ◌≢◌, ℕ, Bool, true, false, List, ◌∷◌, ◌++◌, length, All, Option, None, Some, Result, Ok, Err, ◌⊎◌, refl, sym, ap, ◌∙◌, subst, inl, inr, arith}
+use Rattle.std.proofs.lemmas.List.{length-append}
+use Rattle.std.proofs.Math.Seq.{get_or-append_seam}
 use Rattle.std.proofs.lemmas.List.Elements.{All-get_or}
 use Rattle.fs_ports.specs.Counts.{raised}
 use Rattle.fs_ports.specs.Ports.{Input, Output}
 use Rattle.fs_ports.specs.Loads.{LoadCounts, Tells}
 use Rattle.fs_ports.specs.declared.files.Load.{Load}
 use Rattle.fs_ports.specs.declared.files.Load.TheVariants.{Got}
-use Rattle.fs_doc.specs.Dialplans.{Extension, Condition}
 use Rattle.fs_doc.specs.Reading.{Configuration, config_of}
 use Rattle.fs_doc.specs.declared.fault.DocFault.{DocFault}
-use Rattle.fs_plan.specs.Building.{IsNoPattern, HasPattern, InExtensions, extensions_in}
+use Rattle.fs_plan.specs.Building.{Numbered, IsNoPattern, IsRefusal}
 use Rattle.fs_plan.specs.declared.fault.PlanFault.{PlanFault}
 use Rattle.fs_plan.specs.declared.fault.PlanFault.TheVariants.{PatternRefused, PatternTooLarge, Memory}
 use Rattle.fs_top.specs.Turns.{HasRead}
 use Rattle.fs_top.specs.Told.{Told, Asked, file_of, told_words, told_read, told_asked}
 use Rattle.fs_top.specs.Runs.{Does, completes, fails_to_write, lacks_memory, Completes, LacksMemory, RefusesPattern, IsBuilt, Ran, HasReadings, IsGiven, NoneRose, DoesAll}
 
--- what holds of each element holds of the one at a place
-at_place : {X : Type 0} (P : X → Type 0) (xs : List X) (place : ℕ) (x : X) → slice_get xs place ≡ Some x → All P xs → P x
-at_place P xs place x is all = subst P (get_or_from_slice_get xs place x x is) (All-get_or P xs place x (slice_get_within xs place x is) all)
+-- what holds of each element holds of the one behind a front
+at_seam : {X : Type 0} (P : X → Type 0) (front : List X) (x : X) (back : List X) → All P (front ++ x ∷ back) → P x
+at_seam P front x back all =
+    subst P (get_or-append_seam front x back x) (All-get_or P (front ++ x ∷ back) (length front) x (omega (arith, length-append front (x ∷ back))) all)
 
--- no condition has a pattern that is none
-all_read : (c : Configuration) (extension condition : ℕ) → HasReadings c → InExtensions IsNoPattern 0 (extensions_in c.contexts) extension condition → ⊥
-all_read c extension condition readings has =
-    let conditions = at_place (λ (e : Extension). All (λ (o : Condition). HasPattern IsNoPattern o.test → ⊥) e.conditions) (extensions_in c.contexts) has.place has.extension has.stands readings in
-    at_place (λ (o : Condition). HasPattern IsNoPattern o.test → ⊥) has.extension.conditions has.has.place has.has.condition has.has.stands conditions has.has.has
+-- no pattern is none
+all_read : (c : Configuration) (extension condition : ℕ) → HasReadings c → IsRefusal c.contexts (PatternRefused extension condition) → ⊥
+all_read c extension condition readings refusal =
+    let NoneIs : Numbered → Type 0 = λ pattern. IsNoPattern pattern.text → ⊥ in
+    at_seam NoneIs refusal.front refusal.first refusal.back (subst (All NoneIs) refusal.split readings) refusal.found.is
 
 -- so none is refused, where the count of large patterns did not rise
 refuses_none : (c : Configuration) (fault : PlanFault) (sizes0 sizes1 : ℕ) → HasReadings c → sizes1 ≢ raised sizes0 → RefusesPattern c.contexts fault sizes0 sizes1 → ⊥

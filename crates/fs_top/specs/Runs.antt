@@ -14,7 +14,7 @@ use Rattle.fs_doc.specs.Reading.{Configuration, config_of}
 use Rattle.fs_doc.specs.declared.fault.DocKind.{DocKind}
 use Rattle.fs_doc.specs.declared.fault.DocKind.TheVariants as kind
 use Rattle.fs_doc.specs.declared.fault.DocFault.{DocFault}
-use Rattle.fs_plan.specs.Building.{IsNoPattern, HasPattern, extensions_in, IsRefusal, sizes_after}
+use Rattle.fs_plan.specs.Building.{IsNoPattern, patterns_in, IsRefusal, sizes_after}
 use Rattle.fs_plan.specs.declared.fault.PlanFault.{PlanFault}
 use Rattle.fs_plan.specs.declared.fault.PlanFault.TheVariants.{PatternRefused, PatternTooLarge, Memory as NoMemory}
 use Rattle.fs_top.specs.Switch.{Journal}
@@ -235,9 +235,9 @@ pub record FillsJournal (start : Start) (in0 in1 : Input) : Type 0 where
 
 -- ---- completeness
 
--- each pattern of a configuration has a reading
+-- no pattern of a configuration is none, or nested too deep
 abbrev pub HasReadings : Configuration → Type 0
-HasReadings c = All (λ extension. All (λ condition. HasPattern IsNoPattern condition.test → ⊥) extension.conditions) (extensions_in c.contexts)
+HasReadings c = All (λ pattern. IsNoPattern pattern.text → ⊥) (patterns_in c.contexts)
 
 -- the file that is asked for is told, and its bytes are read as this configuration, whose patterns have readings
 pub record IsGiven (asked : Option Asked) (next_load : List ℕ → Option Load) (of : Asked) (c : Configuration) : Type 0 where

@@ -1,0 +1,4 @@
+pub mod Usages
+pub mod Words
+pub mod Originates
+pub mod Readings

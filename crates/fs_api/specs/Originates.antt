@@ -1,0 +1,94 @@
+-- How the arguments of `originate` are read.
+use Rattle.std.specs.Prelude.{ℕ, ◌==◌, nat_le, ◌&&◌, Bool, if◌then◌else◌, List, [], ◌∷◌, length, Option, None, Some, unwrap_or, codes}
+use Rattle.std.specs.List.{before_first, after_first}
+use Rattle.std.specs.Option.{option_and_then}
+use Rattle.fs_text.specs.Number.{read_u64}
+use Rattle.fs_api.specs.declared.api.Api.{Api}
+use Rattle.fs_api.specs.declared.api.Api.TheVariants.{Originate, Usage}
+use Rattle.fs_api.specs.declared.api.Winner.{Winner}
+use Rattle.fs_api.specs.declared.api.Winner.TheVariants.{App, Route}
+use Rattle.fs_api.specs.declared.usages.Which.TheVariants as which
+use Rattle.fs_api.specs.Words.{quoted_word, behind_quoted, unquoted}
+
+abbrev pub Text : Type 0
+Text = List ℕ
+
+-- the first word, without the quotes round it
+abbrev pub plain_word : Text → Text
+plain_word text = unquoted (quoted_word text)
+
+-- the first word, or another text where there is none
+abbrev pub word_or : Text → Text → Text
+word_or otherwise [] = otherwise
+word_or otherwise (byte ∷ bytes) = plain_word (byte ∷ bytes)
+
+-- ---- what the winner does
+
+abbrev pub is_open : ℕ → Bool
+is_open byte = byte == 40
+
+abbrev pub is_close : ℕ → Bool
+is_close byte = byte == 41
+
+-- the text up to its last `)`, if it has one
+abbrev pub more_before_close : ℕ → Option Text → Option Text
+more_before_close byte (Some front) = Some (byte ∷ front)
+more_before_close byte None = if is_close byte then Some [] else None
+
+abbrev pub before_close : Text → Option Text
+before_close [] = None
+before_close (byte ∷ bytes) = more_before_close byte (before_close bytes)
+
+-- the text up to its last `)`, or the whole of it
+abbrev pub up_to_close : Text → Text
+up_to_close text = unwrap_or (before_close text) text
+
+-- `app(args)`: without `(` there are no arguments
+abbrev pub application : Text → Winner
+application text = App (before_first is_open text) (up_to_close (after_first is_open text))
+
+-- the text has at most 256 bytes
+abbrev pub is_short : Text → Bool
+is_short text = nat_le (length text) 256
+
+-- what the winner does, where these are within their length
+abbrev pub winner_of : Text → Text → Text → Option Winner
+winner_of [] dialplan context = if is_short dialplan && is_short context then Some (Route [] dialplan context) else None
+winner_of (byte ∷ bytes) dialplan context =
+    if is_short dialplan && is_short context
+    then (if byte == 38 then Some (application bytes) else (if is_short (byte ∷ bytes) then Some (Route (byte ∷ bytes) dialplan context) else None))
+    else None
+
+-- ---- the timeout
+
+-- a number of seconds from 1 to 3,600
+abbrev pub seconds_within : ℕ → Option ℕ
+seconds_within n = if nat_le 1 n && nat_le n 3600 then Some n else None
+
+abbrev pub seconds_of : Text → Option ℕ
+seconds_of text = option_and_then seconds_within (read_u64 text)
+
+-- ---- all of it
+
+abbrev pub originated : Text → Option Winner → Text → Api
+originated url None rest = Usage which.Originate
+originated url (Some winner) rest =
+    let number = behind_quoted rest in
+    let timeout = behind_quoted number in
+    Originate url winner (plain_word rest) (plain_word number) (seconds_of (plain_word timeout))
+
+-- the words behind the url
+abbrev pub originate_words : Text → Text → Text → Text → Api
+originate_words url exten dialplan context =
+    originated url (winner_of (plain_word exten) (word_or (codes "XML") dialplan) (word_or (codes "default") context)) (behind_quoted context)
+
+-- behind the url
+abbrev pub originate_to : Text → Text → Api
+originate_to url [] = Usage which.Originate
+originate_to url (byte ∷ bytes) =
+    originate_words url (byte ∷ bytes) (behind_quoted (byte ∷ bytes)) (behind_quoted (behind_quoted (byte ∷ bytes)))
+
+-- the arguments, behind the name and its spaces
+abbrev pub originate_of : Text → Api
+originate_of [] = Usage which.Originate
+originate_of (byte ∷ bytes) = originate_to (quoted_word (byte ∷ bytes)) (behind_quoted (byte ∷ bytes))

@@ -1,0 +1,69 @@
+-- How the text of an api command is read.
+use Rattle.std.specs.Prelude.{ℕ, ◌==◌, nat_le, Bool, if◌then◌else◌, [], ◌∷◌, Option, None, Some, codes, unwrap_or}
+use Rattle.std.specs.List.{before_first, after_first}
+use Rattle.std.specs.Str.{bytes_eq}
+use Rattle.fs_text.specs.Number.{read_u64}
+use Rattle.fs_text.specs.Cause.{cause_of_name}
+use Rattle.fs_text.specs.declared.causes.Cause.{Cause}
+use Rattle.fs_text.specs.declared.causes.Cause.TheVariants.{NormalClearing}
+use Rattle.fs_api.specs.declared.api.Api.{Api}
+use Rattle.fs_api.specs.declared.api.Api.TheVariants.{Echo, Expand, GlobalGetvar, GlobalSetvar, Msleep, UuidExists, UuidKill, UuidGetvar, Usage, Unknown}
+use Rattle.fs_api.specs.declared.usages.Which.{Which}
+use Rattle.fs_api.specs.declared.usages.Which.TheVariants as which
+use Rattle.fs_api.specs.Words.{without_spaces, word_of, behind_word}
+use Rattle.fs_api.specs.Originates.{Text, originate_of}
+
+abbrev pub is_equals : ℕ → Bool
+is_equals byte = byte == 61
+
+-- what these arguments are, or the usage where there are none
+abbrev pub needs : Which → (Text → Api) → Text → Api
+needs usage read [] = Usage usage
+needs usage read (byte ∷ bytes) = read (byte ∷ bytes)
+
+-- a word that sets a global: what stands before its first `=`, to what stands behind it
+abbrev pub setting : Text → Api
+setting arguments = GlobalSetvar (before_first is_equals (word_of arguments)) (after_first is_equals (word_of arguments))
+
+abbrev pub getting : Text → Api
+getting [] = GlobalGetvar None
+getting (byte ∷ bytes) = GlobalGetvar (Some (word_of (byte ∷ bytes)))
+
+-- a number of milliseconds up to an hour
+abbrev pub sleeping_for : Option ℕ → Api
+sleeping_for None = Usage which.Msleep
+sleeping_for (Some n) = if nat_le n 3600000 then Msleep n else Usage which.Msleep
+
+abbrev pub sleeping : Text → Api
+sleeping arguments = sleeping_for (read_u64 (word_of arguments))
+
+abbrev pub asking : Text → Api
+asking arguments = UuidExists (word_of arguments)
+
+-- the cause of a name; NORMAL_CLEARING where there is no such name
+abbrev pub cause_named : Text → Cause
+cause_named name = unwrap_or (cause_of_name name) NormalClearing
+
+abbrev pub killing : Text → Api
+killing arguments = UuidKill (word_of arguments) (cause_named (word_of (behind_word arguments)))
+
+abbrev pub reading : Text → Api
+reading arguments = needs which.UuidGetvar (λ name. UuidGetvar (word_of arguments) (word_of name)) (behind_word arguments)
+
+-- the api command of a name with these arguments
+unfoldable pub api_named : Text → Text → Api
+api_named name arguments =
+    if bytes_eq name (codes "echo") then Echo arguments
+    else (if bytes_eq name (codes "expand") then needs which.Expand Expand arguments
+    else (if bytes_eq name (codes "global_getvar") then getting arguments
+    else (if bytes_eq name (codes "global_setvar") then needs which.GlobalSetvar setting arguments
+    else (if bytes_eq name (codes "msleep") then sleeping arguments
+    else (if bytes_eq name (codes "originate") then originate_of arguments
+    else (if bytes_eq name (codes "uuid_exists") then needs which.UuidExists asking arguments
+    else (if bytes_eq name (codes "uuid_getvar") then needs which.UuidGetvar reading arguments
+    else (if bytes_eq name (codes "uuid_kill") then needs which.UuidKill killing arguments
+    else Unknown name))))))))
+
+-- the api command that a text is
+abbrev pub api_of : Text → Api
+api_of text = api_named (word_of (without_spaces text)) (behind_word (without_spaces text))

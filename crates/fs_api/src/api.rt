@@ -1,0 +1,71 @@
+use crate::usages::Which;
+use fs_text::{Cause, Txt};
+
+/// An api command.
+#[derive(Drop)]
+pub enum Api {
+    /// The text is the answer.
+    Echo {
+        text: Txt,
+    },
+    /// The text is expanded, and run as an api command.
+    Expand {
+        text: Txt,
+    },
+    /// The value of a global is asked for, or, without a name, all globals.
+    GlobalGetvar {
+        name: Option<Txt>,
+    },
+    /// A global is to be set.
+    GlobalSetvar {
+        name: Txt,
+        value: Txt,
+    },
+    /// The reply is to come after so many milliseconds, 0 to 3,600,000.
+    Msleep {
+        milliseconds: u64,
+    },
+    /// Whether there is a live channel of an identifier.
+    UuidExists {
+        uuid: Txt,
+    },
+    /// A channel is to be hung up.
+    UuidKill {
+        uuid: Txt,
+        cause: Cause,
+    },
+    /// The value of a channel's variable is asked for.
+    UuidGetvar {
+        uuid: Txt,
+        name: Txt,
+    },
+    /// Legs are to be made, and the one that wins is to do something.
+    Originate {
+        url: Txt,
+        winner: Winner,
+        cid_name: Txt,
+        cid_number: Txt,
+        /// How many seconds the legs have, 1 to 3,600.
+        timeout: Option<u64>,
+    },
+    /// A word is missing, or out of its form.
+    Usage(Which),
+    /// There is no such command.
+    Unknown(Txt),
+}
+
+/// What a leg does that wins for the api command `originate`.
+#[derive(Drop)]
+pub enum Winner {
+    /// It runs an application.
+    App {
+        application: Txt,
+        argument: Txt,
+    },
+    /// It is routed; each text has at most 256 bytes.
+    Route {
+        exten: Txt,
+        dialplan: Txt,
+        context: Txt,
+    },
+}

@@ -1,0 +1,13 @@
+//! The api commands of the event socket, as their texts are read.
+#![tactic(auto)]
+
+mod api;
+mod originate;
+mod reading;
+#[cfg(test)]
+mod tests;
+mod usages;
+mod words;
+
+pub use api::{Api, Winner};
+pub use usages::{Which, usage};

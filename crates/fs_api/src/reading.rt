@@ -1,0 +1,137 @@
+ghost use Rattle.std.specs.Prelude.{◌≡◌, IfOk};
+ghost use Rattle.fs_api.specs.Readings as spec;
+ghost use Rattle.fs_api.specs.declared.api.Api.TheVariants as variant;
+ghost use Rattle.fs_api.specs.declared.usages.Which.TheVariants as which;
+
+use crate::api::Api;
+use crate::originate::originate_of;
+use crate::usages::Which;
+use crate::words::{cut_at, cut_word, without_spaces};
+use fs_text::{Cause, Memory, Txt, read_u64};
+use std::alloc::Global;
+
+/// The most milliseconds that `msleep` takes: an hour.
+const LONGEST_SLEEP: u64 = 3_600_000;
+
+impl Api {
+    /// The api command that a text is, as FreeSWITCH's mod_commands has them.
+    ///
+    /// Words are separated by runs of spaces. What is no command is `Unknown`, and a command whose words are missing or out of
+    /// their form is `Usage`.
+    pub fn of(alloc: Global, text: &[u8]) -> Result<Api, Memory>
+        ensures { IfOk result (λ api. api ≡ spec.api_of text.now) }
+    {
+        let (name, arguments) = cut_word(without_spaces(text));
+        named(alloc, name, arguments)
+    }
+}
+
+// The api command of a name with these arguments.
+#[tactic(auto, unfolding(crate::specs::Readings::api_named))]
+fn named(alloc: Global, name: &[u8], arguments: &[u8]) -> Result<Api, Memory>
+    ensures { IfOk result (λ api. api ≡ spec.api_named name.now arguments.now) }
+{
+    if name == b"echo".as_slice() {
+        let text = Txt::of(alloc, arguments)?;
+        Ok(Api::Echo { text })
+    } else if name == b"expand".as_slice() {
+        expanding(alloc, arguments)
+    } else if name == b"global_getvar".as_slice() {
+        getting(alloc, arguments)
+    } else if name == b"global_setvar".as_slice() {
+        setting(alloc, arguments)
+    } else if name == b"msleep".as_slice() {
+        Ok(sleeping(arguments))
+    } else if name == b"originate".as_slice() {
+        originate_of(alloc, arguments)
+    } else if name == b"uuid_exists".as_slice() {
+        asking(alloc, arguments)
+    } else if name == b"uuid_getvar".as_slice() {
+        reading(alloc, arguments)
+    } else if name == b"uuid_kill".as_slice() {
+        killing(alloc, arguments)
+    } else {
+        Ok(Api::Unknown(Txt::of(alloc, name)?))
+    }
+}
+
+fn expanding(alloc: Global, arguments: &[u8]) -> Result<Api, Memory>
+    ensures { IfOk result (λ api. api ≡ spec.needs which.Expand variant.Expand arguments.now) }
+{
+    if arguments.is_empty() {
+        return Ok(Api::Usage(Which::Expand));
+    }
+    let text = Txt::of(alloc, arguments)?;
+    Ok(Api::Expand { text })
+}
+
+fn getting(alloc: Global, arguments: &[u8]) -> Result<Api, Memory>
+    ensures { IfOk result (λ api. api ≡ spec.getting arguments.now) }
+{
+    if arguments.is_empty() {
+        return Ok(Api::GlobalGetvar { name: None });
+    }
+    let (name, _) = cut_word(arguments);
+    let name = Some(Txt::of(alloc, name)?);
+    Ok(Api::GlobalGetvar { name })
+}
+
+fn setting(alloc: Global, arguments: &[u8]) -> Result<Api, Memory>
+    ensures { IfOk result (λ api. api ≡ spec.needs which.GlobalSetvar spec.setting arguments.now) }
+{
+    if arguments.is_empty() {
+        return Ok(Api::Usage(Which::GlobalSetvar));
+    }
+    let (word, _) = cut_word(arguments);
+    let (name, value) = cut_at(b'=', word);
+    let name = Txt::of(alloc, name)?;
+    let value = Txt::of(alloc, value)?;
+    Ok(Api::GlobalSetvar { name, value })
+}
+
+fn sleeping(arguments: &[u8]) -> Api
+    ensures { result ≡ spec.sleeping arguments.now }
+{
+    let (word, _) = cut_word(arguments);
+    match read_u64(word) {
+        Some(milliseconds) if milliseconds <= LONGEST_SLEEP => Api::Msleep { milliseconds },
+        _ => Api::Usage(Which::Msleep),
+    }
+}
+
+fn asking(alloc: Global, arguments: &[u8]) -> Result<Api, Memory>
+    ensures { IfOk result (λ api. api ≡ spec.needs which.UuidExists spec.asking arguments.now) }
+{
+    if arguments.is_empty() {
+        return Ok(Api::Usage(Which::UuidExists));
+    }
+    let (word, _) = cut_word(arguments);
+    let uuid = Txt::of(alloc, word)?;
+    Ok(Api::UuidExists { uuid })
+}
+
+fn reading(alloc: Global, arguments: &[u8]) -> Result<Api, Memory>
+    ensures { IfOk result (λ api. api ≡ spec.needs which.UuidGetvar spec.reading arguments.now) }
+{
+    let (word, behind) = cut_word(arguments);
+    if arguments.is_empty() || behind.is_empty() {
+        return Ok(Api::Usage(Which::UuidGetvar));
+    }
+    let (name, _) = cut_word(behind);
+    let uuid = Txt::of(alloc, word)?;
+    let name = Txt::of(alloc, name)?;
+    Ok(Api::UuidGetvar { uuid, name })
+}
+
+fn killing(alloc: Global, arguments: &[u8]) -> Result<Api, Memory>
+    ensures { IfOk result (λ api. api ≡ spec.needs which.UuidKill spec.killing arguments.now) }
+{
+    if arguments.is_empty() {
+        return Ok(Api::Usage(Which::UuidKill));
+    }
+    let (word, behind) = cut_word(arguments);
+    let (name, _) = cut_word(behind);
+    let uuid = Txt::of(alloc, word)?;
+    let cause = Cause::of_name(name).unwrap_or(Cause::NormalClearing);
+    Ok(Api::UuidKill { uuid, cause })
+}

@@ -1,0 +1,63 @@
+-- What is written over a table, and what stands at its places.
+use Rattle.std.proofs.Common.{◌≡◌, ℕ, ◌+◌, ◌<◌, ◌≤◌, ◌==◌, Bool, true, false, List, [], ◌∷◌, ◌++◌, length, drop, Option, None, Some, refl, sym, ap, subst, ◌∙◌, arith}
+use Rattle.std.specs.Prelude.{if◌then◌else◌}
+use Rattle.std.proofs.lemmas.List.{get_or-set_same, get_or-set_other, length-set, get_or_past, at_drop_more, at_drop_all}
+use Rattle.std.proofs.lemmas.Bool.{eqb-true}
+use Rattle.std.proofs.lemmas.Bool.Decides.{nat_tests}
+use Rattle.fs_places.specs.declared.sheet.Write.{Write}
+use Rattle.fs_places.specs.Places.{held_in, with_held, first_place}
+use Rattle.fs_places.specs.Sheets.{written, newest}
+
+-- no write changes how many places there are
+pub written_length : {T : Type 0} → (places : List (Option T)) (ws : List (Write T)) → length (written places ws) ≡ length places
+written_length places [] = refl
+written_length places (w ∷ ws) = written_length (with_held places w.place w.held) ws ∙ length-set places w.place w.held
+
+-- the newest write is put last
+pub written_put : {T : Type 0} → (places : List (Option T)) (ws : List (Write T)) (w : Write T) →
+    written places (ws ++ w ∷ []) ≡ with_held (written places ws) w.place w.held
+written_put places [] w = refl
+written_put places (v ∷ ws) w = written_put (with_held places v.place v.held) ws w
+
+-- what stands at a place after one write
+one_written : {T : Type 0} → (places : List (Option T)) (w : Write T) (place : ℕ) → place < length places →
+    held_in (with_held places w.place w.held) place ≡ (if w.place == place then w.held else held_in places place)
+one_written places w place within = on (w.place == place) refl
+  where
+    on : (b : Bool) → (w.place == place) ≡ b → held_in (with_held places w.place w.held) place ≡ (if b then w.held else held_in places place)
+    on true e =
+        let same : w.place ≡ place = eqb-true w.place place e in
+        subst (λ p. held_in (with_held places w.place w.held) p ≡ w.held) same
+        (get_or-set_same places w.place w.held None (subst (λ p. p < length places) (sym same) within))
+    on false e = get_or-set_other places w.place place w.held None (λ same. grind (arith, nat_tests, e, same))
+
+-- what stands at a place is what was written there last, or else what is kept
+pub written_newest : {T : Type 0} → (places : List (Option T)) (ws : List (Write T)) (place : ℕ) → place < length places →
+    held_in (written places ws) place ≡ newest ws place (held_in places place)
+written_newest places [] place within = refl
+written_newest places (w ∷ ws) place within =
+    written_newest (with_held places w.place w.held) ws place (subst (λ n. place < n) (sym (length-set places w.place w.held)) within)
+    ∙ ap (newest ws place) (one_written places w place within)
+
+-- past the last place nothing stands
+pub written_past : {T : Type 0} → (places : List (Option T)) (ws : List (Write T)) (place : ℕ) → length places ≤ place →
+    held_in (written places ws) place ≡ None
+written_past places ws place past = get_or_past (written places ws) place None (subst (λ n. n ≤ place) (sym (written_length places ws)) past)
+
+-- ---- the first place
+
+pub first_here : {T : Type 0} → (test : Option T → Bool) (places : List (Option T)) (place : ℕ) → place < length places →
+    test (held_in places place) ≡ true → first_place test (drop place places) place ≡ Some place
+first_here test places place within e =
+    at_drop_more (λ held. first_place test held place) places place None within
+    ∙ ap (λ b. if b then Some place else first_place test (drop (place + 1) places) (place + 1)) e
+
+pub first_behind : {T : Type 0} → (test : Option T → Bool) (places : List (Option T)) (place : ℕ) → place < length places →
+    test (held_in places place) ≡ false → first_place test (drop place places) place ≡ first_place test (drop (place + 1) places) (place + 1)
+first_behind test places place within e =
+    at_drop_more (λ held. first_place test held place) places place None within
+    ∙ ap (λ b. if b then Some place else first_place test (drop (place + 1) places) (place + 1)) e
+
+pub first_nowhere : {T : Type 0} → (test : Option T → Bool) (places : List (Option T)) (place : ℕ) → length places ≤ place →
+    first_place test (drop place places) place ≡ None
+first_nowhere test places place past = at_drop_all (λ held. first_place test held place) places place past

@@ -1,0 +1,18 @@
+//! Tables of fixed places, and what is drafted over them.
+//!
+//! A table has as many places as it was made with, and each is empty or holds one thing. A draft over a table is a sheet of writes:
+//! it is read as the table would be with them, and moved into the table without memory.
+#![tactic(auto)]
+
+mod numbered;
+mod overlay;
+mod places;
+mod rows;
+mod sheet;
+#[cfg(test)]
+mod tests;
+
+pub use numbered::Numbered;
+pub use overlay::Overlay;
+pub use places::Places;
+pub use sheet::{Sheet, Write};

@@ -1,0 +1,38 @@
+ghost use Rattle.std.specs.Prelude.{◌≡◌};
+ghost use Rattle.std.specs.Option.{option_copied};
+ghost use Rattle.fs_places.specs.Rows as spec;
+
+use crate::places::Places;
+
+/// A thing with the number by which it is known.
+#[derive(Drop)]
+pub struct Numbered<T> {
+    pub number: u64,
+    pub held: T,
+}
+
+impl<T: Drop> Places<Numbered<T>> {
+    /// The least place at which a thing of a number stands.
+    #[tactic(auto, using(crate::proofs::PlaceLemmas::first_here, crate::proofs::PlaceLemmas::first_behind, crate::proofs::PlaceLemmas::first_nowhere))]
+    pub fn place_of(&self, number: u64) -> Option<usize>
+        ensures { result ≡ spec.place_of self.now number }
+    {
+        for place in 0..self.len() {
+            if let Some(row) = self.get(place) {
+                if row.number == number {
+                    return Some(place);
+                }
+            }
+        }
+        None
+    }
+
+    /// The thing of a number.
+    pub fn row(&self, number: u64) -> Option<&T>
+        ensures { option_copied result ≡ spec.row_of self.now number }
+    {
+        let place = self.place_of(number)?;
+        let row = self.get(place)?;
+        Some(&row.held)
+    }
+}

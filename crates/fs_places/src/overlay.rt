@@ -1,0 +1,86 @@
+ghost use Rattle.std.specs.Prelude.{◌≡◌, [], length, OnOk, OnErr};
+ghost use Rattle.std.specs.Option.{option_copied};
+ghost use Rattle.fs_places.specs.Places as places;
+ghost use Rattle.fs_places.specs.Overlays as spec;
+
+use crate::places::Places;
+use crate::sheet::Sheet;
+use fs_text::Memory;
+use std::alloc::Global;
+use std::marker::Model;
+
+/// A table with a sheet over it. A contract sees both.
+#[derive(Drop)]
+pub struct Overlay<'a, T> {
+    kept: &'a Places<T>,
+    sheet: Sheet<T>,
+}
+
+impl<'a, T> Model for Overlay<'a, T> {
+    ghost use Rattle.fs_places.specs.Overlays.{Overlaid};
+
+    ghost Value = { Overlaid T };
+
+    ghost view = { λ o. record { kept = o.kept.now; sheet = o.sheet } };
+}
+
+impl<'a, T: Drop> Overlay<'a, T> {
+    /// A table with nothing written over it.
+    pub fn new(alloc: Global, kept: &'a Places<T>) -> Overlay<'a, T>
+        ensures { result ≡ record { kept = kept.entry.now; sheet = [] } }
+    {
+        Overlay {
+            kept,
+            sheet: Sheet::new(alloc),
+        }
+    }
+
+    /// How many places there are.
+    #[tactic(auto, using(crate::proofs::PlaceLemmas::written_length))]
+    pub fn len(&self) -> usize
+        ensures { result ≡ length (spec.now_of self.now) }
+    {
+        self.kept.len()
+    }
+
+    /// What stands at a place, with what is written; past the last one stands nothing.
+    #[tactic(auto, using(crate::proofs::PlaceLemmas::written_newest, crate::proofs::PlaceLemmas::written_past))]
+    pub fn get(&self, place: usize) -> Option<&T>
+        ensures { option_copied result ≡ places.held_in (spec.now_of self.now) place }
+    {
+        if place >= self.kept.len() {
+            return None;
+        }
+        self.sheet.over(place, self.kept.get(place))
+    }
+
+    /// Writes something at a place, or empties it; past the last one nothing changes.
+    #[tactic(auto, using(crate::proofs::PlaceLemmas::written_put))]
+    pub fn put(&mut self, place: usize, held: Option<T>) -> Result<(), Memory>
+        ensures kept { self.new.kept ≡ self.old.kept }
+        ensures ok { OnOk result (spec.now_of self.new ≡ places.with_held (spec.now_of self.old) place held) }
+        ensures err { OnErr result (self.new ≡ self.old) }
+    {
+        self.sheet.put(place, held)
+    }
+
+    /// The writes alone.
+    pub fn into_sheet(self) -> Sheet<T>
+        ensures { result ≡ self.entry.sheet }
+    {
+        self.sheet
+    }
+
+    /// The least empty place from one on.
+    #[tactic(auto, using(crate::proofs::PlaceLemmas::first_here, crate::proofs::PlaceLemmas::first_behind, crate::proofs::PlaceLemmas::first_nowhere))]
+    pub fn least_free(&self, from: usize) -> Option<usize>
+        ensures { result ≡ places.least_free (spec.now_of self.now) from }
+    {
+        for place in from..self.len() {
+            if self.get(place).is_none() {
+                return Some(place);
+            }
+        }
+        None
+    }
+}

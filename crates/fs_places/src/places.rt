@@ -1,0 +1,64 @@
+ghost use Rattle.std.specs.Prelude.{◌≡◌, length, IfOk};
+ghost use Rattle.std.specs.Option.{option_copied};
+ghost use Rattle.fs_places.specs.Places as spec;
+
+use fs_text::Memory;
+use std::alloc::Global;
+use std::marker::Model;
+
+/// A table of fixed places, each empty or holding one thing. A contract sees what stands at them, in order.
+#[derive(Drop)]
+pub struct Places<T> {
+    list: Vec<Option<T>>,
+}
+
+impl<T> Model for Places<T> {
+    ghost use Rattle.std.specs.Prelude.{List, Option};
+    ghost use Rattle.std.specs.Coded.{coded_list, coded_option};
+
+    ghost Value = { List (Option T) };
+
+    ghost view = { λ p. p.list.items };
+
+    ghost coded = { coded_list (coded_option T.code) };
+}
+
+impl<T: Drop> Places<T> {
+    /// A table of so many empty places.
+    #[tactic(auto, unfolding(crate::specs::Places::no_places))]
+    pub fn empty(alloc: Global, count: usize) -> Result<Places<T>, Memory>
+        ensures { IfOk result (λ places. places ≡ spec.no_places count) }
+    {
+        let mut list = Vec::new(alloc);
+        for _place in 0..count {
+            list.push(None)?;
+        }
+        Ok(Places { list })
+    }
+
+    /// How many places there are.
+    pub fn len(&self) -> usize
+        ensures { result ≡ length self.now }
+    {
+        self.list.len()
+    }
+
+    /// What stands at a place; past the last one stands nothing.
+    pub fn get(&self, place: usize) -> Option<&T>
+        ensures { option_copied result ≡ spec.held_in self.now place }
+    {
+        match self.list.get(place) {
+            Some(held) => held.as_ref(),
+            None => None,
+        }
+    }
+
+    /// Puts something at a place, or empties it; past the last one nothing changes.
+    pub fn put(&mut self, place: usize, held: Option<T>)
+        ensures { self.new ≡ spec.with_held self.old place held }
+    {
+        if let Some(there) = self.list.get_mut(place) {
+            *there = held;
+        }
+    }
+}

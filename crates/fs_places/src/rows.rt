@@ -1,0 +1,71 @@
+ghost use Rattle.std.specs.Prelude.{◌≡◌, Some, is_some, length, OnOk, OnErr, IfOk};
+ghost use Rattle.std.specs.Option.{option_copied};
+ghost use Rattle.fs_places.specs.Places as places;
+ghost use Rattle.fs_places.specs.Rows as spec;
+ghost use Rattle.fs_places.specs.Overlays.{now_of};
+
+use crate::numbered::Numbered;
+use crate::overlay::Overlay;
+use fs_text::Memory;
+
+impl<'a, T: Drop> Overlay<'a, Numbered<T>> {
+    /// The least place at which a thing of a number stands.
+    #[tactic(auto, using(crate::proofs::PlaceLemmas::first_here, crate::proofs::PlaceLemmas::first_behind, crate::proofs::PlaceLemmas::first_nowhere))]
+    pub fn place_of(&self, number: u64) -> Option<usize>
+        ensures { result ≡ spec.place_of (now_of self.now) number }
+    {
+        for place in 0..self.len() {
+            if let Some(row) = self.get(place) {
+                if row.number == number {
+                    return Some(place);
+                }
+            }
+        }
+        None
+    }
+
+    /// The thing of a number.
+    pub fn row(&self, number: u64) -> Option<&T>
+        ensures { option_copied result ≡ spec.row_of (now_of self.now) number }
+    {
+        let place = self.place_of(number)?;
+        let row = self.get(place)?;
+        Some(&row.held)
+    }
+
+    /// Puts a thing in the place of the one with its number; where there is none nothing changes.
+    pub fn set_row(&mut self, number: u64, held: T) -> Result<(), Memory>
+        ensures kept { self.new.kept ≡ self.old.kept }
+        ensures ok { OnOk result (now_of self.new ≡ spec.with_row (now_of self.old) number held) }
+        ensures err { OnErr result (self.new ≡ self.old) }
+    {
+        match self.place_of(number) {
+            Some(place) => self.put(place, Some(Numbered { number, held })),
+            None => Ok(()),
+        }
+    }
+
+    /// Takes the thing of a number away.
+    pub fn drop_row(&mut self, number: u64) -> Result<(), Memory>
+        ensures kept { self.new.kept ≡ self.old.kept }
+        ensures ok { OnOk result (now_of self.new ≡ spec.without_row (now_of self.old) number) }
+        ensures err { OnErr result (self.new ≡ self.old) }
+    {
+        match self.place_of(number) {
+            Some(place) => self.put(place, None),
+            None => Ok(()),
+        }
+    }
+
+    /// Puts a thing of a new number at the least empty place; where there is none nothing changes.
+    pub fn add_row(&mut self, number: u64, held: T) -> Result<(), Memory>
+        ensures kept { self.new.kept ≡ self.old.kept }
+        ensures ok { OnOk result (now_of self.new ≡ spec.with_new_row (now_of self.old) number held) }
+        ensures err { OnErr result (self.new ≡ self.old) }
+    {
+        match self.least_free(0) {
+            Some(place) => self.put(place, Some(Numbered { number, held })),
+            None => Ok(()),
+        }
+    }
+}

@@ -1,0 +1,74 @@
+ghost use Rattle.std.specs.Prelude.{◌≡◌, [], ◌∷◌, ◌++◌, OnOk, OnErr};
+ghost use Rattle.std.specs.Option.{option_copied};
+ghost use Rattle.fs_places.specs.Sheets as spec;
+ghost use Rattle.fs_places.specs.declared.sheet.Write.{Write};
+
+use crate::places::Places;
+use fs_text::Memory;
+use std::alloc::Global;
+use std::marker::Model;
+
+/// What is to stand at a place.
+#[derive(Drop)]
+pub struct Write<T> {
+    pub place: usize,
+    pub held: Option<T>,
+}
+
+/// Writes over a table, the newest last. A contract sees them as that list.
+#[derive(Drop)]
+pub struct Sheet<T> {
+    writes: Vec<Write<T>>,
+}
+
+impl<T> Model for Sheet<T> {
+    ghost use Rattle.std.specs.Prelude.{List};
+    ghost use Rattle.std.specs.Coded.{coded_list};
+    ghost use Rattle.fs_places.specs.declared.sheet.Write.{Write};
+
+    ghost Value = { List (Write T) };
+
+    ghost view = { λ s. s.writes.items };
+}
+
+impl<T: Drop> Sheet<T> {
+    /// No writes.
+    pub fn new(alloc: Global) -> Sheet<T>
+        ensures { result ≡ [] }
+    {
+        Sheet {
+            writes: Vec::new(alloc),
+        }
+    }
+
+    /// Writes once more.
+    pub fn put(&mut self, place: usize, held: Option<T>) -> Result<(), Memory>
+        ensures ok { OnOk result (self.new ≡ self.old ++ record { place = place; held = held } ∷ []) }
+        ensures err { OnErr result (self.new ≡ self.old) }
+    {
+        self.writes.push(Write { place, held })?;
+        Ok(())
+    }
+
+    /// What stands at a place where something is kept below the sheet: what was written there last, or else what is kept.
+    pub fn over<'b>(&'b self, place: usize, kept: Option<&'b T>) -> Option<&'b T>
+        ensures { option_copied result ≡ spec.newest self.now place (option_copied kept.entry) }
+    {
+        let mut held = kept;
+        for write in &self.writes {
+            if write.place == place {
+                held = write.held.as_ref();
+            }
+        }
+        held
+    }
+
+    /// Moves the writes into a table, in order.
+    pub fn write_into(self, places: &mut Places<T>)
+        ensures { places.new ≡ spec.written places.old self }
+    {
+        for write in self.writes {
+            places.put(write.place, write.held);
+        }
+    }
+}

@@ -1,0 +1,79 @@
+-- That the queues have room for what is given.
+use Rattle.std.proofs.Common.{◌≡◌, ℕ, ◌+◌, ◌-◌, ◌^◌, ◌<◌, ◌≤◌, ◌==◌, min, Bool, true, false, List, [], ◌∷◌, ◌++◌, length, drop, get_or, Option, None, Some, refl, sym, ap, subst, arith}
+use Rattle.std.specs.List.{slice_set}
+use Rattle.std.proofs.lemmas.List.{get_or-set_same, get_or-set_other, length-set, length-append, length-drop}
+use Rattle.std.proofs.lemmas.List.Sums.{sum_by-cons}
+use Rattle.std.proofs.lemmas.Bool.{eqb-true}
+use Rattle.std.proofs.lemmas.Bool.Decides.{nat_tests}
+use Rattle.fs_state.specs.declared.delta.QueueChange.{QueueChange}
+use Rattle.fs_state.specs.declared.delta.QueueChange.TheVariants.{Unchanged, Taken, Cleared}
+use Rattle.fs_places.specs.declared.numbered.Numbered.{Numbered}
+use Rattle.fs_places.specs.Rows.{place_of}
+use Rattle.fs_state.specs.declared.conn.Conn.{Conn}
+use Rattle.fs_state.specs.declared.gift.Gift.{Gift}
+use Rattle.fs_state.specs.Queues.{Frames, queue_at, with_queue, with_frames, requeued, given_at, delivered, frames_given, HaveRoom}
+
+-- less fits where more does
+pub room_less : (queues : List Frames) (n m : ℕ) → n ≤ m → HaveRoom queues m → HaveRoom queues n
+room_less queues n m less h = record { each = λ k d within. omega (arith, less, h.each k d within) }
+
+-- with another queue at a place, where it has so many frames more at most
+room_with : (place : ℕ) (queue : Frames) (queues : List Frames) (n more : ℕ) → length queue ≤ length (queue_at queues place) + more →
+    HaveRoom queues (more + n) → HaveRoom (with_queue place queue queues) n
+room_with place queue queues n more shorter h = record { each = each }
+  where
+    at : (k : ℕ) (d : Frames) → k < length queues → (b : Bool) → (k == place) ≡ b → length (get_or (slice_set queues place queue) k d) + n < 2 ^ 63
+    at k d there true e =
+        let same : k ≡ place = eqb-true k place e in
+        let here : place < length queues = subst (λ p. p < length queues) same there in
+        subst (λ p. length (get_or (slice_set queues place queue) p d) + n < 2 ^ 63) (sym same)
+        (subst (λ q. length q + n < 2 ^ 63) (sym (get_or-set_same queues place queue d here))
+        (omega (arith, shorter, h.each place [] here)))
+    at k d there false e =
+        subst (λ q. length q + n < 2 ^ 63) (sym (get_or-set_other queues place k queue d (λ same. grind (arith, nat_tests, e, same))))
+        (omega (arith, h.each k d there))
+
+    each : (k : ℕ) (d : Frames) → k < length (slice_set queues place queue) → length (get_or (slice_set queues place queue) k d) + n < 2 ^ 63
+    each k d within = at k d (subst (λ len. k < len) (length-set queues place queue) within) (k == place) refl
+
+-- ---- gifts
+
+given_more : (gift : Gift) (gifts : List Gift) → frames_given (gift ∷ gifts) ≡ length gift.frames + frames_given gifts
+given_more gift gifts = sum_by-cons (λ g. length g.frames) gift gifts
+
+pub room_for_gift : (queues : List Frames) (gift : Gift) (gifts : List Gift) → HaveRoom queues (frames_given (gift ∷ gifts)) → HaveRoom queues (length gift.frames)
+room_for_gift queues gift gifts h =
+    room_less queues (length gift.frames) (frames_given (gift ∷ gifts)) (omega (arith, given_more gift gifts)) h
+
+pub room_without_gift : (queues : List Frames) (gift : Gift) (gifts : List Gift) → HaveRoom queues (frames_given (gift ∷ gifts)) → HaveRoom queues (frames_given gifts)
+room_without_gift queues gift gifts h =
+    room_less queues (frames_given gifts) (frames_given (gift ∷ gifts)) (omega (arith, given_more gift gifts)) h
+
+pub room_after_gift : (place : ℕ) (queues : List Frames) (gift : Gift) (gifts : List Gift) → HaveRoom queues (frames_given (gift ∷ gifts)) →
+    HaveRoom (with_frames place gift.frames queues) (frames_given gifts)
+room_after_gift place queues gift gifts h =
+    room_with place (queue_at queues place ++ gift.frames) queues (frames_given gifts) (length gift.frames) (omega (arith, length-append (queue_at queues place) gift.frames))
+    (subst (HaveRoom queues) (given_more gift gifts) h)
+
+-- ---- the end of a draft
+
+-- what is counted as far as 64 bits go, where it fits
+pub room_counted : (queues : List Frames) (count : ℕ) → HaveRoom queues (min count (2 ^ 64 - 1)) → HaveRoom queues count
+room_counted queues count h = record { each = λ k d within. omega (arith, h.each k d within) }
+
+-- taking frames out leaves room
+pub room_requeued : (change : QueueChange) (queues : List Frames) (n : ℕ) → HaveRoom queues n → HaveRoom (requeued change queues) n
+room_requeued Unchanged queues n h = h
+room_requeued (Taken place) queues n h =
+    room_with place (drop 1 (queue_at queues place)) queues n 0 (omega (arith, length-drop 1 (queue_at queues place))) (room_less queues (0 + n) n (omega arith) h)
+room_requeued (Cleared place) queues n h = room_with place [] queues n 0 (omega arith) (room_less queues (0 + n) n (omega arith) h)
+
+-- ---- one gift after another
+
+pub delivered_at : (conns : List (Option (Numbered Conn))) (gift : Gift) (gifts : List Gift) (queues : List Frames) (place : ℕ) → place_of conns gift.conn ≡ Some place →
+    delivered conns (gift ∷ gifts) queues ≡ delivered conns gifts (with_frames place gift.frames queues)
+delivered_at conns gift gifts queues place is = ap (λ at. delivered conns gifts (given_at at gift.frames queues)) is
+
+pub delivered_nowhere : (conns : List (Option (Numbered Conn))) (gift : Gift) (gifts : List Gift) (queues : List Frames) → place_of conns gift.conn ≡ None →
+    delivered conns (gift ∷ gifts) queues ≡ delivered conns gifts queues
+delivered_nowhere conns gift gifts queues is = ap (λ at. delivered conns gifts (given_at at gift.frames queues)) is

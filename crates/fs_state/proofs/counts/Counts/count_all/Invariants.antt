@@ -1,0 +1,6 @@
+use Rattle.std.proofs.Common.{◌≡◌, drop}
+use Rattle.fs_state.specs.Counts as spec
+use Rattle.fs_state.proofs.counts.Counts.count_all.Given as goal
+
+abbrev pub invariant-loop-event : goal.invariant-loop-event
+invariant-loop-event l = spec.all_counted (drop l.event-index l.events) l.self ≡ spec.all_counted l.events l.fn.self

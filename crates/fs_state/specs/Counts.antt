@@ -1,0 +1,40 @@
+-- How many events there were of each name, and channels that were hung up with each cause.
+use Rattle.std.specs.Prelude.{ℕ, ◌+◌, ◌-◌, ◌^◌, min, List, [], ◌∷◌, get_or, replicate, Option, None, Some}
+use Rattle.std.specs.List.{slice_set}
+use Rattle.fs_text.specs.EventName.{event_number}
+use Rattle.fs_text.specs.Cause.{cause_number}
+use Rattle.fs_text.specs.declared.causes.Cause.{Cause}
+use Rattle.fs_state.specs.declared.event.Event.{Event}
+
+-- the counts by the numbers of event names, and of causes
+pub record Tallies : Type 0 where
+  pub events : List ℕ
+  pub hangups : List ℕ
+
+-- so many zeros
+unfoldable pub zeros : ℕ → List ℕ
+zeros count = replicate count 0
+
+abbrev pub none_counted : Tallies
+none_counted = record { events = zeros 16; hangups = zeros 606 }
+
+-- the count at a number
+abbrev pub counted_at : List ℕ → ℕ → ℕ
+counted_at counts number = get_or counts number 0
+
+-- with one more at a number; a count stands still at 2^64 - 1
+abbrev pub raised_at : ℕ → List ℕ → List ℕ
+raised_at number counts = slice_set counts number (min (counted_at counts number + 1) (2 ^ 64 - 1))
+
+abbrev pub hangup_counted : Option Cause → List ℕ → List ℕ
+hangup_counted None hangups = hangups
+hangup_counted (Some cause) hangups = raised_at (cause_number cause) hangups
+
+-- with one more event
+abbrev pub counted : Event → Tallies → Tallies
+counted event t = record { events = raised_at (event_number event.name) t.events; hangups = hangup_counted event.cause t.hangups }
+
+-- with these events, one after another
+abbrev pub all_counted : List Event → Tallies → Tallies
+all_counted [] t = t
+all_counted (event ∷ events) t = all_counted events (counted event t)

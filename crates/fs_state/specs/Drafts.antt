@@ -1,0 +1,34 @@
+-- What a draft changes of a switch.
+use Rattle.std.specs.Prelude.{unwrap_or}
+use Rattle.fs_places.specs.Sheets.{written}
+use Rattle.fs_state.specs.declared.delta.Delta.{Delta}
+use Rattle.fs_state.specs.Queues.{requeued, HaveRoom, frames_given}
+use Rattle.fs_state.specs.Switch.{Switch}
+
+-- the switch with all of these changes
+abbrev pub after : Switch → Delta → Switch
+after s d = record s {
+  globals = unwrap_or d.globals s.globals;
+  channels = written s.channels d.channels;
+  origs = written s.origs d.origs;
+  jobs = written s.jobs d.jobs;
+  conns = written s.conns d.conns;
+  queues = requeued d.queue s.queues;
+  drawn = d.drawn;
+  moment = d.moment;
+  news = d.news;
+  given = d.given;
+}
+
+-- a switch, and what is to change of it
+pub record Drafted : Type 0 where
+  pub base : Switch
+  pub delta : Delta
+
+-- the switch as it is to be
+abbrev pub drafted : Drafted → Switch
+drafted d = after d.base d.delta
+
+-- what is given has room in the queues
+pub record Fits (s : Switch) (d : Delta) : Type 0 where
+  pub room : HaveRoom (requeued d.queue s.queues) (frames_given d.given)

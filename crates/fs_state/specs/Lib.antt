@@ -1,0 +1,6 @@
+pub mod Drawn
+pub mod Counts
+pub mod Queues
+pub mod Switch
+pub mod Drafts
+pub mod Moves

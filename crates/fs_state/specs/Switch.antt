@@ -1,0 +1,151 @@
+-- The state of a switch.
+use Rattle.std.specs.Prelude.{ℕ, ◌+◌, ◌-◌, ◌^◌, min, max, Bool, List, [], ◌∷◌, ◌++◌, Option, None, Some, is_none}
+use Rattle.fs_vars.specs.Variables.{Variables}
+use Rattle.fs_doc.specs.Reading.{Configuration}
+use Rattle.fs_chan.specs.declared.chan.Chan.{Chan}
+use Rattle.fs_orig.specs.declared.orig.Orig.{Orig}
+use Rattle.fs_places.specs.declared.numbered.Numbered.{Numbered}
+use Rattle.fs_places.specs.Places.{no_places, held_in, with_held, least_free}
+use Rattle.fs_places.specs.Rows.{place_of, row_of, with_row, without_row, with_new_row}
+use Rattle.fs_state.specs.declared.conn.Conn.{Conn}
+use Rattle.fs_state.specs.declared.drawn.Drawn.{Drawn}
+use Rattle.fs_state.specs.declared.event.Event.{Event}
+use Rattle.fs_state.specs.declared.gift.Gift.{Gift}
+use Rattle.fs_state.specs.declared.job.Job.{Job}
+use Rattle.fs_state.specs.Drawn as numbers
+use Rattle.fs_state.specs.Drawn.{none_drawn}
+use Rattle.fs_state.specs.Counts.{Tallies, none_counted, all_counted}
+use Rattle.fs_state.specs.Queues.{Frames, no_queues, queue_at, first_taken, all_taken, delivered}
+
+-- A switch between entries, and while an entry is done. Channels stand at their slots, from 1 on; all else has a number. What happens in
+-- the entry in hand, and what it gives to connections, is kept until the entry is over.
+pub record Switch : Type 0 where
+  -- what it was configured by
+  pub config : Configuration
+  -- what is there
+  pub globals : Variables
+  pub channels : List (Option Chan)
+  pub origs : List (Option (Numbered Orig))
+  pub jobs : List (Option (Numbered Job))
+  pub conns : List (Option (Numbered Conn))
+  pub queues : List Frames
+  -- how far it has come
+  pub drawn : Drawn
+  pub moment : ℕ
+  pub entries : ℕ
+  pub cost : ℕ
+  pub counts : Tallies
+  -- the entry in hand
+  pub news : List Event
+  pub given : List Gift
+
+-- a switch to which nothing has happened
+abbrev pub empty : Configuration → Switch
+empty config = record {
+  config = config;
+  globals = config.globals;
+  channels = no_places (config.settings.max_sessions + 1);
+  origs = no_places 1280;
+  jobs = no_places 1024;
+  conns = no_places config.settings.max_connections;
+  queues = no_queues config.settings.max_connections;
+  drawn = none_drawn;
+  moment = 0;
+  entries = 0;
+  cost = 0;
+  counts = none_counted;
+  news = [];
+  given = [];
+}
+
+-- ---- what is there
+
+abbrev pub chan_at : Switch → ℕ → Option Chan
+chan_at s slot = held_in s.channels slot
+
+abbrev pub with_chan : ℕ → Option Chan → Switch → Switch
+with_chan slot chan s = record s { channels = with_held s.channels slot chan }
+
+abbrev pub orig_of : Switch → ℕ → Option Orig
+orig_of s number = row_of s.origs number
+
+abbrev pub with_orig : ℕ → Orig → Switch → Switch
+with_orig number orig s = record s { origs = with_row s.origs number orig }
+
+abbrev pub without_orig : ℕ → Switch → Switch
+without_orig number s = record s { origs = without_row s.origs number }
+
+-- with one more origination, of the next number
+abbrev pub with_new_orig : Orig → Switch → Switch
+with_new_orig orig s = record s { drawn = numbers.with_orig s.drawn; origs = with_new_row s.origs (numbers.with_orig s.drawn).origs orig }
+
+abbrev pub job_of : Switch → ℕ → Option Job
+job_of s number = row_of s.jobs number
+
+abbrev pub without_job : ℕ → Switch → Switch
+without_job number s = record s { jobs = without_row s.jobs number }
+
+-- with one more job, of the next number
+abbrev pub with_new_job : Job → Switch → Switch
+with_new_job job s = record s { drawn = numbers.with_job s.drawn; jobs = with_new_row s.jobs (numbers.with_job s.drawn).jobs job }
+
+abbrev pub conn_of : Switch → ℕ → Option Conn
+conn_of s number = row_of s.conns number
+
+abbrev pub with_conn : ℕ → Conn → Switch → Switch
+with_conn number conn s = record s { conns = with_row s.conns number conn }
+
+-- with one more connection, of the next number
+abbrev pub with_new_conn : Conn → Switch → Switch
+with_new_conn conn s = record s { drawn = numbers.with_conn s.drawn; conns = with_new_row s.conns (numbers.with_conn s.drawn).conns conn }
+
+-- each place for a connection is taken
+abbrev pub is_full_of_conns : Switch → Bool
+is_full_of_conns s = is_none (least_free s.conns 0)
+
+-- the frames that wait at a place, if it is one
+abbrev pub waiting_at : List Frames → Option ℕ → Frames
+waiting_at queues None = []
+waiting_at queues (Some place) = queue_at queues place
+
+-- the frames that wait for a connection
+abbrev pub waiting_for : Switch → ℕ → Frames
+waiting_for s number = waiting_at s.queues (place_of s.conns number)
+
+-- what a change does to the frames at a place, if it is one
+abbrev pub changed_at : (ℕ → List Frames → List Frames) → Option ℕ → List Frames → List Frames
+changed_at change None queues = queues
+changed_at change (Some place) queues = change place queues
+
+-- the first frame that waits for a connection is taken
+abbrev pub with_frame_taken : ℕ → Switch → Switch
+with_frame_taken number s = record s { queues = changed_at first_taken (place_of s.conns number) s.queues }
+
+-- a connection is gone, and with it the frames that wait for it
+abbrev pub without_conn : ℕ → Switch → Switch
+without_conn number s = record s { conns = without_row s.conns number; queues = changed_at all_taken (place_of s.conns number) s.queues }
+
+-- ---- the entry in hand
+
+-- the clock comes to a moment; it never goes back
+abbrev pub advanced : ℕ → Switch → Switch
+advanced now s = record s { moment = max s.moment now }
+
+-- something happened
+abbrev pub told : Event → Switch → Switch
+told event s = record s { news = s.news ++ event ∷ [] }
+
+-- a frame is given to a connection
+abbrev pub gave : ℕ → List ℕ → Switch → Switch
+gave conn frame s = record s { given = s.given ++ record { conn = conn; frames = frame ∷ [] } ∷ [] }
+
+-- the entry is over, at this cost; a count stands still at 2^64 - 1
+abbrev pub closed : ℕ → Switch → Switch
+closed cost s = record s {
+  queues = delivered s.conns s.given s.queues;
+  entries = min (s.entries + 1) (2 ^ 64 - 1);
+  cost = min (s.cost + cost) (2 ^ 64 - 1);
+  counts = all_counted s.news s.counts;
+  news = [];
+  given = [];
+}

@@ -1,0 +1,157 @@
+ghost use Rattle.std.specs.Prelude.{◌≡◌, IfOk, OnOk};
+ghost use Rattle.fs_orig.specs.Changes as changes;
+ghost use Rattle.fs_state.specs.Drafts.{drafted};
+ghost use Rattle.fs_state.specs.Moves as spec;
+
+use crate::draft::Draft;
+use crate::event::Event;
+use fs_orig::Orig;
+use fs_text::{Cause, EventName, Memory, State};
+
+impl<'a> Draft<'a> {
+    /// The loopback partner of the channel in a slot.
+    pub fn partner(&self, slot: u16) -> Option<u16>
+        ensures { result ≡ spec.partner_at (drafted self.now) slot }
+    {
+        self.chan(slot)?.partner
+    }
+
+    /// The channel in a slot is answered by the entry in hand, where it was not, and so is its partner.
+    pub fn answer(&mut self, slot: u16) -> Result<(), Memory>
+        ensures base { self.new.base ≡ self.old.base }
+        ensures ok { OnOk result (drafted self.new ≡ spec.answered slot (drafted self.old)) }
+    {
+        let partner = self.partner(slot);
+        self.answer_one(slot)?;
+        match partner {
+            Some(partner) => self.answer_one(partner),
+            None => Ok(()),
+        }
+    }
+
+    /// A channel is answered, where it was not, and so is the leg that it is.
+    fn answer_one(&mut self, slot: u16) -> Result<(), Memory>
+        ensures base { self.new.base ≡ self.old.base }
+        ensures ok { OnOk result (drafted self.new ≡ spec.one_answered slot (drafted self.old)) }
+    {
+        let Some(mut chan) = self.copy_chan(slot)? else {
+            return Ok(());
+        };
+        if !chan.answer(self.place()) {
+            return Ok(());
+        }
+        let leg_of = chan.leg_of;
+        self.put_chan(slot, Some(chan))?;
+        self.tell_of(EventName::ChannelAnswer)?;
+        self.answer_leg(slot, leg_of)
+    }
+
+    /// The living leg in a slot is answered, of the origination of this number.
+    fn answer_leg(&mut self, slot: u16, leg_of: Option<u64>) -> Result<(), Memory>
+        ensures base { self.new.base ≡ self.old.base }
+        ensures ok { OnOk result (drafted self.new ≡ spec.its_leg_changed (λ position. changes.with_answer position (drafted self.old).entries) slot leg_of (drafted self.old)) }
+    {
+        let Some(number) = leg_of else {
+            return Ok(());
+        };
+        let Some(orig) = self.orig(number) else {
+            return Ok(());
+        };
+        let orig = with_answer(orig, slot, self.place())?;
+        self.set_orig(number, orig)
+    }
+
+    /// The channel in a slot is hung up, and its partner with it, in the order of their slots.
+    pub fn hang_up(&mut self, slot: u16, cause: Cause) -> Result<(), Memory>
+        ensures base { self.new.base ≡ self.old.base }
+        ensures ok { OnOk result (drafted self.new ≡ spec.hung cause slot (drafted self.old)) }
+    {
+        match self.partner(slot) {
+            None => self.hang_one(slot, cause),
+            Some(partner) if slot < partner => {
+                self.hang_one(slot, cause)?;
+                self.hang_one(partner, cause)
+            }
+            Some(partner) => {
+                self.hang_one(partner, cause)?;
+                self.hang_one(slot, cause)
+            }
+        }
+    }
+
+    /// A live channel is hung up, and the leg that it is dies.
+    fn hang_one(&mut self, slot: u16, cause: Cause) -> Result<(), Memory>
+        ensures base { self.new.base ≡ self.old.base }
+        ensures ok { OnOk result (drafted self.new ≡ spec.one_hung cause slot (drafted self.old)) }
+    {
+        let Some(mut chan) = self.copy_chan(slot)? else {
+            return Ok(());
+        };
+        if !chan.is_live() {
+            return Ok(());
+        }
+        let (old, leg_of) = (chan.state, chan.leg_of);
+        chan.hang_up(cause)?;
+        self.put_chan(slot, Some(chan))?;
+        self.tell(Event {
+            name: EventName::ChannelHangup,
+            bridge: 0,
+            cause: Some(cause),
+        })?;
+        self.tell_state(old, State::CsHangup)?;
+        self.end_leg(slot, leg_of, cause)
+    }
+
+    /// The living leg in a slot dies, of the origination of this number.
+    fn end_leg(&mut self, slot: u16, leg_of: Option<u64>, cause: Cause) -> Result<(), Memory>
+        ensures base { self.new.base ≡ self.old.base }
+        ensures ok { OnOk result (drafted self.new ≡ spec.its_leg_changed (λ position. changes.with_death position (drafted self.old).entries cause) slot leg_of (drafted self.old)) }
+    {
+        let Some(number) = leg_of else {
+            return Ok(());
+        };
+        let Some(orig) = self.orig(number) else {
+            return Ok(());
+        };
+        let orig = with_death(orig, slot, self.place(), cause)?;
+        self.set_orig(number, orig)
+    }
+
+    /// The channel in a slot is gone, and the slot is free.
+    pub fn destroy(&mut self, slot: u16) -> Result<(), Memory>
+        ensures base { self.new.base ≡ self.old.base }
+        ensures ok { OnOk result (drafted self.new ≡ spec.destroyed slot (drafted self.old)) }
+    {
+        self.put_chan(slot, None)?;
+        self.tell_of(EventName::ChannelState)?;
+        self.tell_of(EventName::ChannelDestroy)
+    }
+}
+
+/// An origination with the living leg in a slot answered, if there is one.
+fn with_answer(orig: &Orig, slot: u16, place: u64) -> Result<Orig, Memory>
+    ensures { IfOk result (λ o. o ≡ spec.leg_changed (λ position. changes.with_answer position place) slot orig.now) }
+{
+    let mut orig = orig.copy()?;
+    match orig.legs.position_in(slot) {
+        Some(position) => {
+            let _is = orig.leg_answered(position, place);
+            Ok(orig)
+        }
+        None => Ok(orig),
+    }
+}
+
+/// An origination with the living leg in a slot dead, if there is one.
+fn with_death(orig: &Orig, slot: u16, place: u64, cause: Cause) -> Result<Orig, Memory>
+    ensures { IfOk result (λ o. o ≡ spec.leg_changed (λ position. changes.with_death position place cause) slot orig.now) }
+{
+    let mut orig = orig.copy()?;
+    match orig.legs.position_in(slot) {
+        Some(position) => {
+            let _is = orig.leg_died(position, place, cause);
+            Ok(orig)
+        }
+        None => Ok(orig),
+    }
+}

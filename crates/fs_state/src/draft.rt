@@ -1,0 +1,368 @@
+ghost use Rattle.std.specs.Prelude.{◌≡◌, length, slice_get, IfOk, OnOk};
+ghost use Rattle.std.specs.Option.{option_copied};
+ghost use Rattle.fs_places.specs.Overlays.{now_of};
+ghost use Rattle.fs_places.specs.Rows as rows;
+ghost use Rattle.fs_state.specs.declared.delta.QueueChange.TheVariants as change;
+ghost use Rattle.fs_state.specs.Drawn as numbers;
+ghost use Rattle.fs_state.specs.Switch as spec;
+ghost use Rattle.fs_state.specs.Drafts.{after, drafted, Fits};
+
+use crate::conn::Conn;
+use crate::delta::{Delta, QueueChange};
+use crate::drawn::Drawn;
+use crate::event::{Event, Events};
+use crate::gift::Gifts;
+use crate::job::Job;
+use crate::switch::Core;
+use fs_chan::Chan;
+use fs_doc::Config;
+use fs_orig::Orig;
+use fs_places::{Numbered, Overlay};
+use fs_text::{Memory, Txt};
+use fs_vars::Vars;
+use std::alloc::Global;
+use std::marker::Model;
+
+/// A switch that is kept, and what is to change of it. A contract sees both.
+///
+/// Where memory is wanting a draft may have part of a change: it is to be dropped then.
+#[derive(Drop)]
+pub struct Draft<'a> {
+    core: &'a Core,
+    globals: Option<Vars>,
+    channels: Overlay<'a, Chan>,
+    origs: Overlay<'a, Numbered<Orig>>,
+    jobs: Overlay<'a, Numbered<Job>>,
+    conns: Overlay<'a, Numbered<Conn>>,
+    queue: QueueChange,
+    drawn: Drawn,
+    moment: u64,
+    news: Events,
+    given: Gifts,
+}
+
+impl<'a> Model for Draft<'a> {
+    ghost use Rattle.std.specs.Prelude.{◌≡◌};
+    ghost use Rattle.fs_state.specs.Drafts.{Drafted};
+
+    ghost Value = { Drafted };
+
+    ghost view = { λ d. record {
+      base = d.core.now;
+      delta = record {
+        globals = d.globals;
+        channels = d.channels.sheet;
+        origs = d.origs.sheet;
+        jobs = d.jobs.sheet;
+        conns = d.conns.sheet;
+        queue = d.queue;
+        drawn = d.drawn;
+        moment = d.moment;
+        news = d.news;
+        given = d.given;
+      };
+    } };
+
+    ghost invariant = { λ d.
+        (d.channels.kept ≡ d.core.now.channels) × (d.origs.kept ≡ d.core.now.origs) × (d.jobs.kept ≡ d.core.now.jobs) × (d.conns.kept ≡ d.core.now.conns) };
+}
+
+impl<'a> Draft<'a> {
+    /// A switch of which nothing is to change.
+    pub fn new(core: &'a Core) -> Draft<'a>
+        ensures base { result.base ≡ core.entry.now }
+        ensures drafted { drafted result ≡ core.entry.now }
+        ensures queue { result.delta.queue ≡ change.Unchanged }
+    {
+        let alloc = core.alloc;
+        Draft {
+            core,
+            globals: None,
+            channels: Overlay::new(alloc, &core.channels),
+            origs: Overlay::new(alloc, &core.origs),
+            jobs: Overlay::new(alloc, &core.jobs),
+            conns: Overlay::new(alloc, &core.conns),
+            queue: QueueChange::Unchanged,
+            drawn: core.drawn,
+            moment: core.moment,
+            news: Events::new(alloc),
+            given: Gifts::new(alloc),
+        }
+    }
+
+    /// Where memory is taken.
+    pub fn alloc(&self) -> Global {
+        let core = self.core;
+        core.alloc
+    }
+
+    /// What the switch was configured by.
+    pub fn config(&self) -> &Config
+        ensures { result.now ≡ (drafted self.now).config }
+    {
+        let core = self.core;
+        &core.config
+    }
+
+    // ---- the entry in hand
+
+    /// The place of the entry in hand: how many entries there were before it.
+    pub fn place(&self) -> u64
+        ensures { result ≡ (drafted self.now).entries }
+    {
+        let core = self.core;
+        core.entries
+    }
+
+    /// The moment of the entry in hand, in microseconds.
+    pub fn moment(&self) -> u64
+        ensures { result ≡ (drafted self.now).moment }
+    {
+        self.moment
+    }
+
+    /// The clock comes to a moment; it never goes back.
+    pub fn advance(&mut self, now: u64)
+        ensures base { self.new.base ≡ self.old.base }
+        ensures advanced { drafted self.new ≡ spec.advanced now (drafted self.old) }
+        ensures queue { self.new.delta.queue ≡ self.old.delta.queue }
+    {
+        self.moment = self.moment.max(now);
+    }
+
+    /// Something happens.
+    pub fn tell(&mut self, event: Event) -> Result<(), Memory>
+        ensures base { self.new.base ≡ self.old.base }
+        ensures ok { OnOk result (drafted self.new ≡ spec.told event (drafted self.old)) }
+    {
+        self.news.push(event)
+    }
+
+    /// A frame is given to the connection of a number.
+    pub fn give(&mut self, conn: u32, frame: Txt) -> Result<(), Memory>
+        ensures base { self.new.base ≡ self.old.base }
+        ensures ok { OnOk result (drafted self.new ≡ spec.gave conn frame (drafted self.old)) }
+    {
+        self.given.push(conn, frame)
+    }
+
+    // ---- globals
+
+    /// The globals.
+    pub fn globals(&self) -> &Vars
+        ensures { result.now ≡ (drafted self.now).globals }
+    {
+        let core = self.core;
+        match &self.globals {
+            Some(globals) => globals,
+            None => &core.globals,
+        }
+    }
+
+    /// There are other globals.
+    pub fn set_globals(&mut self, globals: Vars)
+        ensures base { self.new.base ≡ self.old.base }
+        ensures globals { drafted self.new ≡ record (drafted self.old) { globals = globals } }
+    {
+        self.globals = Some(globals);
+    }
+
+    // ---- channels
+
+    /// The channel in a slot.
+    pub fn chan(&self, slot: u16) -> Option<&Chan>
+        ensures { option_copied result ≡ spec.chan_at (drafted self.now) slot }
+    {
+        self.channels.get(usize::from(slot))
+    }
+
+    /// Puts a channel into a slot, or empties it.
+    pub fn put_chan(&mut self, slot: u16, chan: Option<Chan>) -> Result<(), Memory>
+        ensures base { self.new.base ≡ self.old.base }
+        ensures ok { OnOk result (drafted self.new ≡ spec.with_chan slot chan (drafted self.old)) }
+    {
+        self.channels.put(usize::from(slot), chan)
+    }
+
+    // ---- originations
+
+    /// The origination of a number.
+    pub fn orig(&self, number: u64) -> Option<&Orig>
+        ensures { option_copied result ≡ spec.orig_of (drafted self.now) number }
+    {
+        self.origs.row(number)
+    }
+
+    /// Puts an origination in the place of the one of this number.
+    pub fn set_orig(&mut self, number: u64, orig: Orig) -> Result<(), Memory>
+        ensures base { self.new.base ≡ self.old.base }
+        ensures ok { OnOk result (drafted self.new ≡ spec.with_orig number orig (drafted self.old)) }
+    {
+        self.origs.set_row(number, orig)
+    }
+
+    /// Begins an origination, whose number is the next.
+    pub fn add_orig(&mut self, orig: Orig) -> Result<u64, Memory>
+        ensures base { self.new.base ≡ self.old.base }
+        ensures number { IfOk result (λ number. number ≡ (numbers.with_orig (drafted self.old).drawn).origs) }
+        ensures ok { OnOk result (drafted self.new ≡ spec.with_new_orig orig (drafted self.old)) }
+    {
+        self.drawn = self.drawn.with_orig();
+        let number = self.drawn.origs;
+        self.origs.add_row(number, orig)?;
+        Ok(number)
+    }
+
+    /// Ends the origination of a number.
+    pub fn drop_orig(&mut self, number: u64) -> Result<(), Memory>
+        ensures base { self.new.base ≡ self.old.base }
+        ensures ok { OnOk result (drafted self.new ≡ spec.without_orig number (drafted self.old)) }
+    {
+        self.origs.drop_row(number)
+    }
+
+    // ---- jobs
+
+    /// The job of a number.
+    pub fn job(&self, number: u64) -> Option<&Job>
+        ensures { option_copied result ≡ spec.job_of (drafted self.now) number }
+    {
+        self.jobs.row(number)
+    }
+
+    /// Begins a job, whose number is the next.
+    pub fn add_job(&mut self, job: Job) -> Result<u64, Memory>
+        ensures base { self.new.base ≡ self.old.base }
+        ensures number { IfOk result (λ number. number ≡ (numbers.with_job (drafted self.old).drawn).jobs) }
+        ensures ok { OnOk result (drafted self.new ≡ spec.with_new_job job (drafted self.old)) }
+    {
+        self.drawn = self.drawn.with_job();
+        let number = self.drawn.jobs;
+        self.jobs.add_row(number, job)?;
+        Ok(number)
+    }
+
+    /// Ends the job of a number.
+    pub fn drop_job(&mut self, number: u64) -> Result<(), Memory>
+        ensures base { self.new.base ≡ self.old.base }
+        ensures ok { OnOk result (drafted self.new ≡ spec.without_job number (drafted self.old)) }
+    {
+        self.jobs.drop_row(number)
+    }
+
+    // ---- connections
+
+    /// The connection of a number.
+    pub fn conn(&self, number: u32) -> Option<&Conn>
+        ensures { option_copied result ≡ spec.conn_of (drafted self.now) number }
+    {
+        self.conns.row(u64::from(number))
+    }
+
+    /// Puts a connection in the place of the one of this number.
+    pub fn set_conn(&mut self, number: u32, conn: Conn) -> Result<(), Memory>
+        ensures base { self.new.base ≡ self.old.base }
+        ensures ok { OnOk result (drafted self.new ≡ spec.with_conn number conn (drafted self.old)) }
+    {
+        self.conns.set_row(u64::from(number), conn)
+    }
+
+    /// Opens a connection, whose number is the next.
+    pub fn add_conn(&mut self, conn: Conn) -> Result<u32, Memory>
+        ensures base { self.new.base ≡ self.old.base }
+        ensures number { IfOk result (λ number. number ≡ (numbers.with_conn (drafted self.old).drawn).conns) }
+        ensures ok { OnOk result (drafted self.new ≡ spec.with_new_conn conn (drafted self.old)) }
+    {
+        self.drawn = self.drawn.with_conn();
+        let number = self.drawn.conns;
+        self.conns.add_row(u64::from(number), conn)?;
+        Ok(number)
+    }
+
+    /// Whether each place for a connection is taken.
+    pub fn is_full(&self) -> bool
+        ensures { result ≡ spec.is_full_of_conns (drafted self.now) }
+    {
+        self.conns.least_free(0).is_none()
+    }
+
+    /// How many connections there may be.
+    pub fn conn_places(&self) -> usize
+        ensures { result ≡ length (drafted self.now).conns }
+    {
+        self.conns.len()
+    }
+
+    // ---- frames that wait; a draft changes one queue at most
+
+    /// How many frames wait for the connection of a number.
+    pub fn waiting(&self, number: u32) -> usize
+        requires { self.now.delta.queue ≡ change.Unchanged }
+        ensures { result ≡ length (spec.waiting_for (drafted self.now) number) }
+    {
+        let core = self.core;
+        match self.conns.place_of(u64::from(number)) {
+            Some(place) => core.queues.len(place),
+            None => 0,
+        }
+    }
+
+    /// The frame that waits first for the connection of a number.
+    pub fn first_frame(&self, number: u32) -> Option<&Txt>
+        requires { self.now.delta.queue ≡ change.Unchanged }
+        ensures { option_copied result ≡ slice_get (spec.waiting_for (drafted self.now) number) 0 }
+    {
+        let core = self.core;
+        let place = self.conns.place_of(u64::from(number))?;
+        core.queues.first(place)
+    }
+
+    /// The frame that waits first for the connection of a number is taken, if there is one.
+    pub fn take_frame(&mut self, number: u32)
+        requires { self.old.delta.queue ≡ change.Unchanged }
+        ensures base { self.new.base ≡ self.old.base }
+        ensures taken { drafted self.new ≡ spec.with_frame_taken number (drafted self.old) }
+    {
+        if let Some(place) = self.conns.place_of(u64::from(number)) {
+            self.queue = QueueChange::Taken { place };
+        }
+    }
+
+    /// The connection of a number is gone, and with it the frames that wait for it.
+    pub fn drop_conn(&mut self, number: u32) -> Result<(), Memory>
+        requires { self.old.delta.queue ≡ change.Unchanged }
+        ensures base { self.new.base ≡ self.old.base }
+        ensures ok { OnOk result (drafted self.new ≡ spec.without_conn number (drafted self.old)) }
+    {
+        if let Some(place) = self.conns.place_of(u64::from(number)) {
+            self.queue = QueueChange::Cleared { place };
+        }
+        self.conns.drop_row(u64::from(number))
+    }
+
+    // ---- the end
+
+    /// What is to change. It is refused, as for want of memory, where a queue would have 2^63 frames.
+    #[tactic(auto, using(crate::proofs::QueueLemmas::room_counted, crate::proofs::QueueLemmas::room_requeued))]
+    pub fn finish(self) -> Result<Delta, Memory>
+        ensures delta { IfOk result (λ delta. after self.entry.base delta ≡ drafted self.entry) }
+        ensures fits { IfOk result (λ delta. Fits self.entry.base delta) }
+    {
+        let core = self.core;
+        if !core.queues.have_room(self.given.frames()) {
+            return Err(Memory);
+        }
+        Ok(Delta {
+            globals: self.globals,
+            channels: self.channels.into_sheet(),
+            origs: self.origs.into_sheet(),
+            jobs: self.jobs.into_sheet(),
+            conns: self.conns.into_sheet(),
+            queue: self.queue,
+            drawn: self.drawn,
+            moment: self.moment,
+            news: self.news,
+            given: self.given,
+        })
+    }
+}

@@ -1,0 +1,89 @@
+ghost use Rattle.std.specs.Prelude.{◌≡◌, IfOk};
+
+use fs_text::{Memory, Txt};
+
+/// Work that goes on behind a command, and in the end gives its reply.
+#[derive(Drop)]
+pub struct Job {
+    /// The number of the connection that is owed the reply.
+    pub conn: u32,
+    pub work: JobWork,
+}
+
+/// What a job waits for.
+#[derive(Drop)]
+pub enum JobWork {
+    /// A moment, in microseconds.
+    Sleep { until: u64 },
+    /// The verdict on the origination of this number. A leg that wins then does this.
+    Originate { orig: u64, winner: Winner },
+}
+
+/// What a leg does that wins for the api command `originate`.
+#[derive(Drop)]
+pub enum Winner {
+    /// It runs an application.
+    App {
+        application: Txt,
+        argument: Txt,
+    },
+    /// It is routed.
+    Route {
+        exten: Txt,
+        dialplan: Txt,
+        context: Txt,
+    },
+}
+
+impl Job {
+    /// The same job once more.
+    pub fn copy(&self) -> Result<Job, Memory>
+        ensures { IfOk result (λ job. job ≡ self.now) }
+    {
+        Ok(Job {
+            conn: self.conn,
+            work: self.work.copy()?,
+        })
+    }
+}
+
+impl JobWork {
+    /// The same work once more.
+    pub fn copy(&self) -> Result<JobWork, Memory>
+        ensures { IfOk result (λ work. work ≡ self.now) }
+    {
+        Ok(match self {
+            JobWork::Sleep { until } => JobWork::Sleep { until: *until },
+            JobWork::Originate { orig, winner } => JobWork::Originate {
+                orig: *orig,
+                winner: winner.copy()?,
+            },
+        })
+    }
+}
+
+impl Winner {
+    /// The same once more.
+    pub fn copy(&self) -> Result<Winner, Memory>
+        ensures { IfOk result (λ winner. winner ≡ self.now) }
+    {
+        Ok(match self {
+            Winner::App {
+                application,
+                argument,
+            } => Winner::App {
+                application: application.copy()?,
+                argument: argument.copy()?,
+            },
+            Winner::Route {
+                exten,
+                dialplan,
+                context,
+            } => Winner::Route {
+                exten: exten.copy()?,
+                dialplan: dialplan.copy()?,
+                context: context.copy()?,
+            },
+        })
+    }
+}

@@ -1,0 +1,29 @@
+//! The state of a switch, each single change of it, and drafts of changes.
+//!
+//! A draft borrows the state and says what is to change; it is read as the state would be. What it comes to is moved into the state
+//! without memory.
+#![tactic(auto)]
+
+mod answers;
+mod conn;
+mod counts;
+mod delta;
+mod draft;
+mod drawn;
+mod event;
+mod gift;
+mod job;
+mod moves;
+mod queues;
+mod switch;
+
+pub use conn::{Conn, Parting, Phase};
+pub use counts::Counts;
+pub use delta::{Delta, QueueChange};
+pub use draft::Draft;
+pub use drawn::Drawn;
+pub use event::{Event, Events};
+pub use gift::{Gift, Gifts};
+pub use job::{Job, JobWork, Winner};
+pub use queues::Queues;
+pub use switch::Core;

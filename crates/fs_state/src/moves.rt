@@ -1,0 +1,135 @@
+ghost use Rattle.std.specs.Prelude.{◌≡◌, Some, None, IfOk, OnOk};
+ghost use Rattle.fs_chan.specs.Changes as chan;
+ghost use Rattle.fs_state.specs.Drafts.{drafted};
+ghost use Rattle.fs_state.specs.Switch.{chan_at, with_chan, told};
+ghost use Rattle.fs_state.specs.Moves as spec;
+
+use crate::draft::Draft;
+use crate::event::Event;
+use fs_chan::{Actions, Chan, Target3};
+use fs_text::{Cause, EventName, Memory, State};
+use fs_vars::Vars;
+
+impl<'a> Draft<'a> {
+    /// Something happens that tells of no bridge and of no cause.
+    pub fn tell_of(&mut self, name: EventName) -> Result<(), Memory>
+        ensures base { self.new.base ≡ self.old.base }
+        ensures ok { OnOk result (drafted self.new ≡ told (spec.happens name) (drafted self.old)) }
+    {
+        self.tell(Event {
+            name,
+            bridge: 0,
+            cause: None,
+        })
+    }
+
+    // ---- changes of state
+
+    /// A channel went from one state to another.
+    pub fn tell_state(&mut self, old: State, new: State) -> Result<(), Memory>
+        ensures base { self.new.base ≡ self.old.base }
+        ensures ok { OnOk result (drafted self.new ≡ spec.state_told old new (drafted self.old)) }
+    {
+        if old.number() == new.number() {
+            return Ok(());
+        }
+        self.tell_left(old)?;
+        self.tell_come(new)?;
+        self.tell_of(EventName::ChannelState)
+    }
+
+    /// A channel left a state.
+    fn tell_left(&mut self, old: State) -> Result<(), Memory>
+        ensures base { self.new.base ≡ self.old.base }
+        ensures ok { OnOk result (drafted self.new ≡ spec.left_told old (drafted self.old)) }
+    {
+        match old {
+            State::CsPark => self.tell_of(EventName::ChannelUnpark),
+            _ => Ok(()),
+        }
+    }
+
+    /// A channel came to a state.
+    fn tell_come(&mut self, new: State) -> Result<(), Memory>
+        ensures base { self.new.base ≡ self.old.base }
+        ensures ok { OnOk result (drafted self.new ≡ spec.come_told new (drafted self.old)) }
+    {
+        match new {
+            State::CsPark => self.tell_of(EventName::ChannelPark),
+            _ => Ok(()),
+        }
+    }
+
+    /// The channel in a slot once more.
+    pub fn copy_chan(&self, slot: u16) -> Result<Option<Chan>, Memory>
+        ensures { IfOk result (λ copy. copy ≡ chan_at (drafted self.now) slot) }
+    {
+        match self.chan(slot) {
+            Some(chan) => Ok(Some(chan.copy()?)),
+            None => Ok(None),
+        }
+    }
+
+    /// Puts a channel into a slot that came there from a state, and tells of that.
+    pub fn put_moved(&mut self, slot: u16, old: State, chan: Chan) -> Result<(), Memory>
+        ensures base { self.new.base ≡ self.old.base }
+        ensures ok { OnOk result (drafted self.new ≡ spec.state_told old chan.state (with_chan slot (Some chan) (drafted self.old))) }
+    {
+        let new = chan.state;
+        self.put_chan(slot, Some(chan))?;
+        self.tell_state(old, new)
+    }
+
+    /// The channel in a slot comes into a state.
+    pub fn enter(&mut self, slot: u16, state: State) -> Result<(), Memory>
+        ensures base { self.new.base ≡ self.old.base }
+        ensures ok { OnOk result (drafted self.new ≡ spec.moved (chan.entered state) slot (drafted self.old)) }
+    {
+        let Some(mut chan) = self.copy_chan(slot)? else {
+            return Ok(());
+        };
+        let old = chan.state;
+        chan.enter(state);
+        self.put_moved(slot, old, chan)
+    }
+
+    /// The channel in a slot is to be routed to a target.
+    pub fn transfer(&mut self, slot: u16, to: Target3) -> Result<(), Memory>
+        requires { chan.IsShort to }
+        ensures base { self.new.base ≡ self.old.base }
+        ensures ok { OnOk result (drafted self.new ≡ spec.moved (chan.transferred to) slot (drafted self.old)) }
+    {
+        let Some(mut chan) = self.copy_chan(slot)? else {
+            return Ok(());
+        };
+        let old = chan.state;
+        chan.transfer(to);
+        self.put_moved(slot, old, chan)
+    }
+
+    /// The channel in a slot comes to CS_PARK and rests there.
+    pub fn park(&mut self, slot: u16) -> Result<(), Memory>
+        ensures base { self.new.base ≡ self.old.base }
+        ensures ok { OnOk result (drafted self.new ≡ spec.moved chan.parked slot (drafted self.old)) }
+    {
+        let Some(mut chan) = self.copy_chan(slot)? else {
+            return Ok(());
+        };
+        let old = chan.state;
+        chan.park();
+        self.put_moved(slot, old, chan)
+    }
+
+    /// The channel in a slot goes on once what it waited for is over.
+    pub fn go_on(&mut self, slot: u16) -> Result<(), Memory>
+        ensures base { self.new.base ≡ self.old.base }
+        ensures ok { OnOk result (drafted self.new ≡ spec.moved chan.gone_on slot (drafted self.old)) }
+    {
+        let Some(mut chan) = self.copy_chan(slot)? else {
+            return Ok(());
+        };
+        let old = chan.state;
+        chan.go_on();
+        self.put_moved(slot, old, chan)
+    }
+}

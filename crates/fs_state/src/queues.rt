@@ -1,0 +1,111 @@
+ghost use Rattle.std.specs.Prelude.{◌≡◌, true, length, IfOk};
+ghost use Rattle.std.specs.Option.{option_copied};
+ghost use Rattle.fs_state.specs.Queues as spec;
+
+use crate::conn::Conn;
+use crate::gift::Gifts;
+use fs_places::{Numbered, Places};
+use fs_text::{Memory, Txt};
+use std::alloc::Global;
+use std::collections::LinkedList;
+use std::marker::Model;
+
+/// The frames that wait for connections, in the order of the connections' places. A contract sees them as lists of texts.
+#[derive(Drop)]
+pub struct Queues {
+    queues: Vec<LinkedList<Txt>>,
+}
+
+impl Model for Queues {
+    ghost use Rattle.std.specs.Prelude.{ℕ, List};
+
+    ghost Value = { List (List (List ℕ)) };
+
+    ghost view = { λ q. q.queues.items };
+}
+
+/// More frames than this does no queue have.
+const LIMIT: usize = 1 << 63;
+
+impl Queues {
+    /// So many queues, in which nothing waits.
+    #[tactic(auto, unfolding(crate::specs::Queues::no_queues))]
+    pub fn new(alloc: Global, count: usize) -> Result<Queues, Memory>
+        ensures { IfOk result (λ queues. queues ≡ spec.no_queues count) }
+    {
+        let mut queues = Vec::new(alloc);
+        for _place in 0..count {
+            queues.push(LinkedList::new(alloc))?;
+        }
+        Ok(Queues { queues })
+    }
+
+    /// How many frames wait at a place.
+    pub fn len(&self, place: usize) -> usize
+        ensures { result ≡ length (spec.queue_at self.now place) }
+    {
+        match self.queues.get(place) {
+            Some(queue) => queue.len(),
+            None => 0,
+        }
+    }
+
+    /// The frame that waits first at a place.
+    pub fn first(&self, place: usize) -> Option<&Txt>
+        ensures { option_copied result ≡ spec.first_at self.now place }
+    {
+        match self.queues.get(place) {
+            Some(queue) => queue.front(),
+            None => None,
+        }
+    }
+
+    /// Takes the first frame of a place out, if there is one.
+    pub fn take_first(&mut self, place: usize)
+        ensures { self.new ≡ spec.first_taken place self.old }
+    {
+        if let Some(queue) = self.queues.get_mut(place) {
+            let _taken = queue.pop_front();
+        }
+    }
+
+    /// Takes all frames of a place out.
+    pub fn clear(&mut self, place: usize)
+        ensures { self.new ≡ spec.all_taken place self.old }
+    {
+        if let Some(queue) = self.queues.get_mut(place) {
+            queue.clear();
+        }
+    }
+
+    /// Puts frames behind all others of a place, without memory.
+    pub fn append(&mut self, place: usize, frames: LinkedList<Txt>)
+        requires { spec.HaveRoom self.old (length frames) }
+        ensures { self.new ≡ spec.with_frames place frames self.old }
+    {
+        let mut frames = frames;
+        if let Some(queue) = self.queues.get_mut(place) {
+            queue.append(&mut frames).unwrap();
+        }
+    }
+
+    /// Whether each queue may grow by so many frames.
+    pub fn have_room(&self, count: usize) -> bool
+        ensures { result ≡ true → spec.HaveRoom self.now count }
+    {
+        self.queues.iter().all(|queue| count < LIMIT - queue.len())
+    }
+
+    /// Puts what is given behind the frames of the connections that are there, without memory; the rest is dropped.
+    #[tactic(auto, using(crate::proofs::QueueLemmas::room_for_gift, crate::proofs::QueueLemmas::room_after_gift, crate::proofs::QueueLemmas::room_without_gift))]
+    pub(crate) fn deliver(&mut self, conns: &Places<Numbered<Conn>>, given: Gifts)
+        requires { spec.HaveRoom self.old (spec.frames_given given) }
+        ensures { self.new ≡ spec.delivered conns.now given self.old }
+    {
+        for gift in given.into_gifts() {
+            if let Some(place) = conns.place_of(u64::from(gift.conn)) {
+                self.append(place, gift.frames);
+            }
+        }
+    }
+}

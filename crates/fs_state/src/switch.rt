@@ -1,0 +1,164 @@
+ghost use Rattle.std.specs.Prelude.{◌≡◌, IfOk, unwrap_or};
+ghost use Rattle.fs_state.specs.Queues.{requeued};
+ghost use Rattle.fs_state.specs.Switch as spec;
+ghost use Rattle.fs_state.specs.Drafts.{after, Fits};
+
+use crate::conn::Conn;
+use crate::counts::Counts;
+use crate::delta::{Delta, QueueChange};
+use crate::drawn::Drawn;
+use crate::job::Job;
+use crate::queues::Queues;
+use fs_chan::Chan;
+use fs_doc::Config;
+use fs_orig::Orig;
+use fs_places::{Numbered, Places};
+use fs_text::Memory;
+use fs_vars::Vars;
+use std::alloc::Global;
+use std::marker::Model;
+
+/// How many originations there may be: one for each job and each slot.
+const ORIGS: usize = 1_280;
+/// How many jobs there may be.
+const JOBS: usize = 1_024;
+
+/// The state of a switch between two entries. A contract sees it as the record of what is there.
+#[derive(Drop)]
+pub struct Core {
+    pub(crate) alloc: Global,
+    pub(crate) config: Config,
+    pub(crate) globals: Vars,
+    pub(crate) channels: Places<Chan>,
+    pub(crate) origs: Places<Numbered<Orig>>,
+    pub(crate) jobs: Places<Numbered<Job>>,
+    pub(crate) conns: Places<Numbered<Conn>>,
+    pub(crate) queues: Queues,
+    pub(crate) drawn: Drawn,
+    pub(crate) moment: u64,
+    pub(crate) entries: u64,
+    pub(crate) cost: u64,
+    pub(crate) counts: Counts,
+}
+
+impl Model for Core {
+    ghost use Rattle.std.specs.Prelude.{[]};
+    ghost use Rattle.fs_state.specs.Switch.{Switch};
+
+    ghost Value = { Switch };
+
+    ghost view = { λ c. record {
+      config = c.config;
+      globals = c.globals;
+      channels = c.channels;
+      origs = c.origs;
+      jobs = c.jobs;
+      conns = c.conns;
+      queues = c.queues;
+      drawn = c.drawn;
+      moment = c.moment;
+      entries = c.entries;
+      cost = c.cost;
+      counts = c.counts;
+      news = [];
+      given = [];
+    } };
+}
+
+impl Core {
+    /// A switch to which nothing has happened.
+    pub fn new(alloc: Global, config: Config) -> Result<Core, Memory>
+        ensures { IfOk result (λ core. core ≡ spec.empty config) }
+    {
+        let slots = usize::from(config.settings().max_sessions) + 1;
+        let conns = usize::from(config.settings().max_connections);
+        let globals = config.globals().copy()?;
+        Ok(Core {
+            alloc,
+            config,
+            globals,
+            channels: Places::empty(alloc, slots)?,
+            origs: Places::empty(alloc, ORIGS)?,
+            jobs: Places::empty(alloc, JOBS)?,
+            conns: Places::empty(alloc, conns)?,
+            queues: Queues::new(alloc, conns)?,
+            drawn: Drawn::none(),
+            moment: 0,
+            entries: 0,
+            cost: 0,
+            counts: Counts::new(alloc)?,
+        })
+    }
+
+    /// Does what an entry changes, at its cost. It takes no memory.
+    pub fn apply(&mut self, delta: Delta, cost: u64)
+        requires { Fits self.old delta }
+        ensures { self.new ≡ spec.closed cost (after self.old delta) }
+    {
+        let Delta {
+            globals,
+            channels,
+            origs,
+            jobs,
+            conns,
+            queue,
+            drawn,
+            moment,
+            news,
+            given,
+        } = delta;
+        self.take_globals(globals);
+        channels.write_into(&mut self.channels);
+        origs.write_into(&mut self.origs);
+        jobs.write_into(&mut self.jobs);
+        conns.write_into(&mut self.conns);
+        self.requeue(queue);
+        self.queues.deliver(&self.conns, given);
+        self.counts.count_all(news.as_slice());
+        self.drawn = drawn;
+        self.moment = moment;
+        self.entries = self.entries.saturating_add(1);
+        self.cost = self.cost.saturating_add(cost);
+    }
+
+    /// What the switch was configured by.
+    pub fn config(&self) -> &Config
+        ensures { result.now ≡ self.now.config }
+    {
+        &self.config
+    }
+
+    /// What its entries so far cost.
+    pub fn cost(&self) -> u64
+        ensures { result ≡ self.now.cost }
+    {
+        self.cost
+    }
+
+    /// How many events there were of each name, and channels that were hung up with each cause.
+    pub fn counts(&self) -> &Counts
+        ensures { result.now ≡ self.now.counts }
+    {
+        &self.counts
+    }
+
+    /// Has other globals, where there are any.
+    fn take_globals(&mut self, globals: Option<Vars>)
+        ensures { self.new ≡ record self.old { globals = unwrap_or globals self.old.globals } }
+    {
+        if let Some(globals) = globals {
+            self.globals = globals;
+        }
+    }
+
+    /// Changes the frames that wait.
+    fn requeue(&mut self, change: QueueChange)
+        ensures { self.new ≡ record self.old { queues = requeued change self.old.queues } }
+    {
+        match change {
+            QueueChange::Unchanged => {}
+            QueueChange::Taken { place } => self.queues.take_first(place),
+            QueueChange::Cleared { place } => self.queues.clear(place),
+        }
+    }
+}

@@ -1,0 +1,4 @@
+pub mod WordLemmas
+pub mod ApiLemmas
+pub mod LineLemmas
+pub mod RunLemmas

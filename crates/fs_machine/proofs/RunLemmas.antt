@@ -1,0 +1,28 @@
+-- The run of a journal with one more entry.
+use Rattle.std.proofs.Common.{◌≡◌, List, [], ◌∷◌, ◌++◌, None, refl, sym, ap, ◌∙◌}
+use Rattle.fs_state.specs.Switch.{Switch, empty, closed}
+use Rattle.fs_state.specs.Drafts.{after}
+use Rattle.fs_state.specs.declared.delta.Delta.{Delta}
+use Rattle.fs_machine.specs.declared.entry.Entry.{Entry}
+use Rattle.fs_machine.specs.declared.reply.Reply.{Reply}
+use Rattle.fs_machine.specs.Entries.{cost_of}
+use Rattle.fs_machine.specs.Step.{Acted, step, refusal_of}
+use Rattle.fs_machine.specs.Runs.{run_from, IsRunFrom, StandsFor, IsPrepared}
+
+pub run_more : (s : Switch) (entries : List Entry) (entry : Entry) → run_from s (entries ++ entry ∷ []) ≡ (step (run_from s entries) entry).state
+run_more s [] entry = refl
+run_more s (first ∷ entries) entry = run_more (step s first).state entries entry
+
+pub is_run_more : (s : Switch) (entries : List Entry) (entry : Entry) → IsRunFrom s entries → refusal_of (run_from s entries) entry ≡ None → IsRunFrom s (entries ++ entry ∷ [])
+is_run_more s [] entry run defined = (defined, tt)
+is_run_more s (first ∷ entries) entry run defined = (run.0, is_run_more (step s first).state entries entry run.1 defined)
+
+-- what was prepared from the state that a journal makes is the state that the longer one makes
+pub stands_more : (kept : Switch) (journal : List Entry) (entry : Entry) (delta : Delta) (reply : Reply) → StandsFor kept.config kept journal →
+    IsPrepared (run_from (empty kept.config) journal) entry delta reply → StandsFor kept.config (closed (cost_of entry.act) (after kept delta)) (journal ++ entry ∷ [])
+stands_more kept journal entry delta reply stands prepared = record {
+  state =
+      ap (λ s. closed (cost_of entry.act) (after s delta)) stands.state
+      ∙ sym (run_more (empty kept.config) journal entry ∙ ap (λ (t : Acted). t.state) prepared.steps);
+  defined = is_run_more (empty kept.config) journal entry stands.defined prepared.defined;
+}

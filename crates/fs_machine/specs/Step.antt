@@ -1,0 +1,121 @@
+-- Which entries are refused, and what the others do.
+use Rattle.std.specs.Prelude.{ℕ, ◌==◌, ◌||◌, not, Bool, true, false, [], length, Option, None, Some, is_some, unwrap_or, slice_get, if◌then◌else◌}
+use Rattle.std.specs.Option.{option_and_then}
+use Rattle.fs_frame.specs.Block.{line_of}
+use Rattle.fs_state.specs.declared.conn.Conn.{Conn}
+use Rattle.fs_state.specs.declared.conn.Phase.{Phase}
+use Rattle.fs_state.specs.declared.conn.Phase.TheVariants as phase
+use Rattle.fs_state.specs.declared.conn.Parting.TheVariants as parting
+use Rattle.fs_state.specs.Drawn as numbers
+use Rattle.fs_state.specs.Switch.{Switch, conn_of, with_new_conn, without_conn, with_frame_taken, waiting_for, is_full_of_conns, gave, advanced, closed}
+use Rattle.fs_machine.specs.declared.entry.Entry.{Entry}
+use Rattle.fs_machine.specs.declared.entry.Act.{Act}
+use Rattle.fs_machine.specs.declared.entry.Act.TheVariants.{Arrive, Command, Take, Close}
+use Rattle.fs_machine.specs.declared.entry.Closing.{Closing}
+use Rattle.fs_machine.specs.declared.entry.Closing.TheVariants.{EndOfInput, Sent, Failed}
+use Rattle.fs_machine.specs.declared.reply.Reply.{Reply}
+use Rattle.fs_machine.specs.declared.reply.Reply.TheVariants as reply
+use Rattle.fs_machine.specs.declared.refusal.Refusal.{Refusal}
+use Rattle.fs_machine.specs.declared.refusal.Refusal.TheVariants as refusal
+use Rattle.fs_machine.specs.Texts.{auth_request}
+use Rattle.fs_machine.specs.Entries.{cost_of, is_full}
+use Rattle.fs_machine.specs.Commands.{phase_at, conn_changed, parted, command_of, commanded}
+
+-- ---- refusals
+
+-- it reads commands
+abbrev pub reads : Phase → Bool
+reads phase.Fresh = true
+reads phase.Ready = true
+reads phase.Ending = false
+reads phase.Closed = false
+
+abbrev pub is_closed : Phase → Bool
+is_closed phase.Fresh = false
+is_closed phase.Ready = false
+is_closed phase.Ending = false
+is_closed phase.Closed = true
+
+abbrev pub is_ending : Phase → Bool
+is_ending phase.Fresh = false
+is_ending phase.Ready = false
+is_ending phase.Ending = true
+is_ending phase.Closed = false
+
+-- the place of the command to which a connection is still owed the reply
+abbrev pub owed_of : Conn → Option ℕ
+owed_of c = c.owed
+
+abbrev pub owed_to : Switch → ℕ → Option ℕ
+owed_to s conn = option_and_then owed_of (conn_of s conn)
+
+-- a refusal where this holds, or else another
+abbrev pub refused_where : Bool → Refusal → Option Refusal → Option Refusal
+refused_where test refusal otherwise = if test then Some refusal else otherwise
+
+abbrev pub busy : Option ℕ → Option Refusal
+busy None = None
+busy (Some since) = Some (refusal.Busy since)
+
+-- something is still to be sent, or it may give commands
+abbrev pub is_unsent : Switch → ℕ → Bool
+is_unsent s conn = not (is_ending (phase_at s conn)) || (not (length (waiting_for s conn) == 0) || is_some (owed_to s conn))
+
+abbrev pub refused_close : ℕ → Closing → Switch → Option Refusal
+refused_close conn EndOfInput s = refused_where (not (reads (phase_at s conn))) refusal.Gone None
+refused_close conn Sent s =
+    refused_where (is_closed (phase_at s conn)) refusal.Gone
+    (refused_where (is_unsent s conn) (refusal.Unsent (length (waiting_for s conn)) (is_some (owed_to s conn))) None)
+refused_close conn Failed s = refused_where (is_closed (phase_at s conn)) refusal.Gone None
+
+abbrev pub refused_command : ℕ → Switch → Option Refusal
+refused_command conn s = refused_where (not (reads (phase_at s conn))) refusal.Gone (busy (owed_to s conn))
+
+abbrev pub refused_act : Act → Switch → Option Refusal
+refused_act Arrive s = refused_where (is_full_of_conns s) (refusal.TooMany (length s.conns)) None
+refused_act (Command conn block) s = refused_command conn s
+refused_act (Take conn) s =
+    refused_where (is_closed (phase_at s conn)) refusal.Gone (refused_where (length (waiting_for s conn) == 0) refusal.Empty None)
+refused_act (Close conn how) s = refused_close conn how s
+
+-- the first refusal of an entry
+unfoldable pub refusal_of : Switch → Entry → Option Refusal
+refusal_of s entry =
+    refused_where (is_full s) (refusal.JournalFull s.cost s.config.settings.journal_limit) (refused_act entry.act (advanced entry.moment s))
+
+-- ---- what the others do
+
+pub record Acted : Type 0 where
+  pub state : Switch
+  pub reply : Reply
+
+-- a connection that has come
+abbrev pub fresh : Conn
+fresh = record { phase = phase.Fresh; owed = None; parting = None }
+
+abbrev pub arrived : Switch → Acted
+arrived s = record {
+  state = gave (numbers.with_conn s.drawn).conns auth_request (with_new_conn fresh s);
+  reply = reply.Arrived (numbers.with_conn s.drawn).conns;
+}
+
+abbrev pub queued_in : ℕ → Switch → Acted
+queued_in conn s = record { state = s; reply = reply.Queued (is_some (owed_to s conn)) }
+
+abbrev pub taken : ℕ → Switch → Acted
+taken conn s = record { state = with_frame_taken conn s; reply = reply.Frame (unwrap_or (slice_get (waiting_for s conn) 0) []) }
+
+abbrev pub closed_by : Closing → ℕ → Switch → Switch
+closed_by EndOfInput conn s = conn_changed (parted parting.EndOfInput) conn s
+closed_by Sent conn s = without_conn conn s
+closed_by Failed conn s = without_conn conn s
+
+abbrev pub acted : Act → Switch → Acted
+acted Arrive s = arrived s
+acted (Command conn block) s = queued_in conn (commanded conn (command_of (line_of block)) s)
+acted (Take conn) s = taken conn s
+acted (Close conn how) s = record { state = closed_by how conn s; reply = reply.Closed }
+
+-- the state behind an entry, and its reply; defined also for what is refused
+unfoldable pub step : Switch → Entry → Acted
+step s entry = let t = acted entry.act (advanced entry.moment s) in record { state = closed (cost_of entry.act) t.state; reply = t.reply }

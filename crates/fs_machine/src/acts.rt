@@ -1,0 +1,75 @@
+ghost use Rattle.std.specs.Prelude.{◌≡◌, IfOk, OnOk};
+ghost use Rattle.fs_state.specs.declared.delta.QueueChange.TheVariants.{Unchanged};
+ghost use Rattle.fs_state.specs.Drafts.{drafted};
+ghost use Rattle.fs_machine.specs.Step as spec;
+
+use crate::blocks::line_of;
+use crate::commands::{command_of, do_command, part};
+use crate::entry::{Act, Closing};
+use crate::refused::owed_to;
+use crate::reply::Reply;
+use crate::texts::auth_request;
+use fs_state::{Conn, Draft, Parting, Phase};
+use fs_text::{Memory, Txt};
+
+/// Does an act.
+pub(crate) fn do_act(draft: &mut Draft<'_>, act: &Act) -> Result<Reply, Memory>
+    requires { draft.old.delta.queue ≡ Unchanged }
+    ensures base { draft.new.base ≡ draft.old.base }
+    ensures ok { IfOk result (λ reply. spec.acted act.now (drafted draft.old) ≡ record { state = drafted draft.new; reply = reply }) }
+{
+    match act {
+        Act::Arrive => arrive(draft),
+        Act::Command { conn, block } => {
+            do_command(draft, *conn, command_of(line_of(block.as_bytes())))?;
+            let owed = owed_to(draft, *conn).is_some();
+            Ok(Reply::Queued { owed })
+        }
+        Act::Take { conn } => take(draft, *conn),
+        Act::Close { conn, how } => {
+            close(draft, *conn, *how)?;
+            Ok(Reply::Closed)
+        }
+    }
+}
+
+// A connection comes.
+fn arrive(draft: &mut Draft<'_>) -> Result<Reply, Memory>
+    ensures base { draft.new.base ≡ draft.old.base }
+    ensures ok { IfOk result (λ reply. spec.arrived (drafted draft.old) ≡ record { state = drafted draft.new; reply = reply }) }
+{
+    let number = draft.add_conn(Conn {
+        phase: Phase::Fresh,
+        owed: None,
+        parting: None,
+    })?;
+    let request = auth_request(draft.alloc())?;
+    draft.give(number, request)?;
+    Ok(Reply::Arrived(number))
+}
+
+// The first frame that waits is handed out.
+fn take(draft: &mut Draft<'_>, conn: u32) -> Result<Reply, Memory>
+    requires { draft.old.delta.queue ≡ Unchanged }
+    ensures base { draft.new.base ≡ draft.old.base }
+    ensures ok { IfOk result (λ reply. spec.taken conn (drafted draft.old) ≡ record { state = drafted draft.new; reply = reply }) }
+{
+    let frame = match draft.first_frame(conn) {
+        Some(frame) => frame.copy()?,
+        None => Txt::of(draft.alloc(), b"")?,
+    };
+    draft.take_frame(conn);
+    Ok(Reply::Frame(frame))
+}
+
+// A connection comes to its end.
+fn close(draft: &mut Draft<'_>, conn: u32, how: Closing) -> Result<(), Memory>
+    requires { draft.old.delta.queue ≡ Unchanged }
+    ensures base { draft.new.base ≡ draft.old.base }
+    ensures ok { OnOk result (drafted draft.new ≡ spec.closed_by how conn (drafted draft.old)) }
+{
+    match how {
+        Closing::EndOfInput => part(draft, conn, Parting::EndOfInput),
+        Closing::Sent | Closing::Failed => draft.drop_conn(conn),
+    }
+}

@@ -1,0 +1,82 @@
+ghost use Rattle.std.specs.Prelude.{◌≡◌, ◌<◌, ◌+◌, ◌^◌, IfOk};
+ghost use Rattle.fs_machine.specs.Entries.{cost_of};
+
+use fs_text::{Memory, Txt};
+
+/// What an entry costs beside the bytes of its block.
+const ENTRY_COST: u64 = 64;
+
+/// One entry of the journal.
+#[derive(Drop)]
+pub struct Entry {
+    /// The moment of the entry, in microseconds. The clock never goes back: an earlier one is the last one.
+    pub moment: u64,
+    pub act: Act,
+}
+
+/// What an entry does.
+#[derive(Drop)]
+pub enum Act {
+    /// A connection comes.
+    Arrive,
+    /// A connection gives a command, as the block that was read.
+    Command { conn: u32, block: Txt },
+    /// The first frame that waits for a connection is handed out.
+    Take { conn: u32 },
+    /// A connection comes to its end.
+    Close { conn: u32, how: Closing },
+}
+
+/// How a connection comes to its end.
+#[derive(Clone, Copy, Debug, PartialEq, Eq)]
+pub enum Closing {
+    /// No further command comes; what waits can still be taken.
+    EndOfInput,
+    /// All frames were sent.
+    Sent,
+    /// A write failed.
+    Failed,
+}
+
+impl Act {
+    /// What an entry of this act costs: 64, and for a command the bytes of its block.
+    pub fn cost(&self) -> u64
+        ensures exact { result ≡ cost_of self.now }
+        ensures bound { result < 2 ^ 63 + 64 }
+    {
+        match self {
+            Act::Command { block, .. } => ENTRY_COST + block.as_bytes().len() as u64,
+            Act::Arrive | Act::Take { .. } | Act::Close { .. } => ENTRY_COST,
+        }
+    }
+
+    /// The same act once more.
+    pub fn copy(&self) -> Result<Act, Memory>
+        ensures { IfOk result (λ act. act ≡ self.now) }
+    {
+        Ok(match self {
+            Act::Arrive => Act::Arrive,
+            Act::Command { conn, block } => Act::Command {
+                conn: *conn,
+                block: block.copy()?,
+            },
+            Act::Take { conn } => Act::Take { conn: *conn },
+            Act::Close { conn, how } => Act::Close {
+                conn: *conn,
+                how: *how,
+            },
+        })
+    }
+}
+
+impl Entry {
+    /// The same entry once more.
+    pub fn copy(&self) -> Result<Entry, Memory>
+        ensures { IfOk result (λ entry. entry ≡ self.now) }
+    {
+        Ok(Entry {
+            moment: self.moment,
+            act: self.act.copy()?,
+        })
+    }
+}

@@ -1,0 +1,141 @@
+ghost use Rattle.std.specs.Prelude.{◌≡◌, ◌≢◌, ◌≤◌, [], ◌∷◌, ◌++◌, Some, None, IfOk, IfErr, OnOk};
+ghost use Rattle.fs_state.specs.Switch.{empty};
+ghost use Rattle.fs_machine.specs.declared.refusal.Refusal.{Refusal};
+ghost use Rattle.fs_machine.specs.declared.refusal.Refusal.TheVariants as refusal;
+ghost use Rattle.fs_machine.specs.Entries.{is_full};
+ghost use Rattle.fs_machine.specs.Step.{step, refusal_of};
+ghost use Rattle.fs_machine.specs.Runs as spec;
+
+use crate::acts::do_act;
+use crate::entry::Entry;
+use crate::refusal::Refusal;
+use crate::refused::refused_act;
+use crate::reply::Reply;
+use fs_doc::Config;
+use fs_state::{Core, Delta, Draft};
+use fs_text::Memory;
+use std::alloc::Global;
+use std::marker::Model;
+
+/// What the largest entry costs.
+const LARGEST_COST: u64 = 65_600;
+
+/// A switch with the journal of its entries.
+///
+/// A contract sees what it was configured by, its journal, and for how many entries there is room; its state is what the entries make
+/// of the empty switch.
+#[derive(Drop)]
+pub struct Machine {
+    core: Core,
+    journal: Vec<Entry>,
+}
+
+/// What an entry is to change, once it was prepared.
+#[derive(Drop)]
+pub struct Change {
+    pub entry: Entry,
+    pub delta: Delta,
+    pub reply: Reply,
+}
+
+impl Model for Machine {
+    ghost use Rattle.std.specs.Prelude.{◌-◌};
+    ghost use Rattle.std.specs.Vec.{vec_capacity, vec_len};
+    ghost use Rattle.fs_machine.specs.Runs.{View, StandsFor};
+
+    ghost Value = { View };
+
+    ghost view = { λ m. record { config = m.core.config; journal = m.journal.items; spare = vec_capacity m.journal - vec_len m.journal } };
+
+    ghost invariant = { λ m. StandsFor m.core.config m.core m.journal.items };
+}
+
+impl Machine {
+    /// A switch to which nothing has happened.
+    pub fn new(alloc: Global, config: Config) -> Result<Machine, Memory>
+        ensures config { IfOk result (λ m. m.config ≡ config) }
+        ensures journal { IfOk result (λ m. m.journal ≡ []) }
+    {
+        Ok(Machine {
+            core: Core::new(alloc, config)?,
+            journal: Vec::new(alloc),
+        })
+    }
+
+    /// Judges an entry, and prepares what it changes. All memory is taken here; nothing changes but the room.
+    pub fn prepare(&mut self, asked: &Entry) -> Result<Change, Refusal>
+        ensures same { spec.IsSame self.old self.new }
+        ensures refused { IfErr result (λ r. r ≢ refusal.Memory → refusal_of (spec.state_of self.old) asked.entry.now ≡ Some r) }
+        ensures prepared { IfOk result (λ change. (change.entry ≡ asked.entry.now) × spec.IsPrepared (spec.state_of self.old) change.entry change.delta change.reply) }
+        ensures room { IfOk result (λ change. 1 ≤ self.new.spare) }
+    {
+        let change = plan(&self.core, asked)?;
+        self.journal.reserve(1)?;
+        Ok(change)
+    }
+
+    /// Does what was prepared. It takes no memory.
+    pub fn apply(&mut self, change: Change) -> Reply
+        requires prepared { spec.IsPrepared (spec.state_of self.old) change.entry change.delta change.reply }
+        requires room { 1 ≤ self.old.spare }
+        ensures config { self.new.config ≡ self.old.config }
+        ensures journal { self.new.journal ≡ self.old.journal ++ change.entry ∷ [] }
+        ensures reply { result ≡ (step (spec.state_of self.old) change.entry).reply }
+    {
+        let Change {
+            entry,
+            delta,
+            reply,
+        } = change;
+        self.core.apply(delta, entry.act.cost());
+        self.journal.push(entry).unwrap();
+        reply
+    }
+
+    /// Enters an entry: prepares it, and does it.
+    pub fn step(&mut self, entry: &Entry) -> Result<Reply, Refusal>
+        ensures refused { IfErr result (λ r. spec.IsSame self.old self.new) }
+        ensures cause { IfErr result (λ r. r ≢ refusal.Memory → refusal_of (spec.state_of self.old) entry.entry.now ≡ Some r) }
+        ensures config { self.new.config ≡ self.old.config }
+        ensures journal { OnOk result (self.new.journal ≡ self.old.journal ++ entry.entry.now ∷ []) }
+        ensures reply { IfOk result (λ reply. reply ≡ (step (spec.state_of self.old) entry.entry.now).reply) }
+        ensures defined { OnOk result (refusal_of (spec.state_of self.old) entry.entry.now ≡ None) }
+    {
+        let change = self.prepare(entry)?;
+        Ok(self.apply(change))
+    }
+}
+
+// Judges an entry over a state, and prepares what it changes.
+#[tactic(auto, unfolding(crate::specs::Step::step, crate::specs::Step::refusal_of))]
+fn plan(core: &Core, asked: &Entry) -> Result<Change, Refusal>
+    ensures refused { IfErr result (λ r. r ≢ refusal.Memory → refusal_of core.now asked.entry.now ≡ Some r) }
+    ensures planned { IfOk result (λ change. (change.entry ≡ asked.entry.now) × spec.IsPrepared core.now asked.entry.now change.delta change.reply) }
+{
+    if is_full(core) {
+        let limit = core.config().settings().journal_limit;
+        let cost = core.cost();
+        return Err(Refusal::JournalFull { cost, limit });
+    }
+    let mut draft = Draft::new(core);
+    draft.advance(asked.moment);
+    if let Some(refusal) = refused_act(&draft, &asked.act) {
+        return Err(refusal);
+    }
+    let reply = do_act(&mut draft, &asked.act)?;
+    let entry = asked.copy()?;
+    let delta = draft.finish()?;
+    Ok(Change {
+        entry,
+        delta,
+        reply,
+    })
+}
+
+// Whether the largest entry would pass the limit of the journal.
+fn is_full(core: &Core) -> bool
+    ensures { result ≡ is_full core.now }
+{
+    let limit = core.config().settings().journal_limit;
+    limit < LARGEST_COST || core.cost() > limit - LARGEST_COST
+}

@@ -1,0 +1,39 @@
+ghost use Rattle.std.specs.Prelude.{◌≡◌};
+ghost use Rattle.fs_machine.specs.declared.refusal.Refusal.TheVariants as refusal;
+
+use std::alloc::AllocError;
+
+/// Why an entry is refused. It changes nothing then.
+#[derive(Clone, Copy, Debug, PartialEq, Eq)]
+pub enum Refusal {
+    /// The journal's cost so far leaves no room for the largest entry.
+    JournalFull { cost: u64, limit: u64 },
+    /// The connection reads no commands, or is not there.
+    Gone,
+    /// As many connections as there may be are there.
+    TooMany { live: u64 },
+    /// The reply to the command at this place is still owed.
+    Busy { since: u64 },
+    /// No frame waits.
+    Empty,
+    /// The connection is not ending, or is still to be sent something.
+    Unsent { queued: u64, owed: bool },
+    /// There was no memory.
+    Memory,
+}
+
+impl From<fs_text::Memory> for Refusal {
+    ghost from_gives = { λ _ e. e ≡ refusal.Memory };
+
+    fn from(_e: fs_text::Memory) -> Refusal {
+        Refusal::Memory
+    }
+}
+
+impl From<AllocError> for Refusal {
+    ghost from_gives = { λ _ e. e ≡ refusal.Memory };
+
+    fn from(_e: AllocError) -> Refusal {
+        Refusal::Memory
+    }
+}

@@ -1,0 +1,14 @@
+use fs_text::Txt;
+
+/// What an entry came to.
+#[derive(Drop)]
+pub enum Reply {
+    /// A connection of this number came.
+    Arrived(u32),
+    /// A command was done, and its reply is given or still owed.
+    Queued { owed: bool },
+    /// The frame that was handed out.
+    Frame(Txt),
+    /// The connection reads no further command, or is gone.
+    Closed,
+}

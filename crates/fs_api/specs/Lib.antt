@@ -2,3 +2,4 @@ pub mod Usages
 pub mod Words
 pub mod Originates
 pub mod Readings
+pub mod Ranges

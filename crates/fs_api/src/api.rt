@@ -1,5 +1,7 @@
+ghost use Rattle.std.specs.Prelude.{◌≡◌, IfOk};
+
 use crate::usages::Which;
-use fs_text::{Cause, Txt};
+use fs_text::{Cause, Memory, Txt};
 
 /// An api command.
 #[derive(Drop)]
@@ -68,4 +70,30 @@ pub enum Winner {
         dialplan: Txt,
         context: Txt,
     },
+}
+
+impl Winner {
+    /// The same once more.
+    pub fn copy(&self) -> Result<Winner, Memory>
+        ensures { IfOk result (λ winner. winner ≡ self.now) }
+    {
+        Ok(match self {
+            Winner::App {
+                application,
+                argument,
+            } => Winner::App {
+                application: application.copy()?,
+                argument: argument.copy()?,
+            },
+            Winner::Route {
+                exten,
+                dialplan,
+                context,
+            } => Winner::Route {
+                exten: exten.copy()?,
+                dialplan: dialplan.copy()?,
+                context: context.copy()?,
+            },
+        })
+    }
 }

@@ -11,3 +11,4 @@ mod words;
 
 pub use api::{Api, Winner};
 pub use usages::{Which, usage};
+pub use words::{cut_at, cut_word, without_spaces};

@@ -1,4 +1,5 @@
 ghost use Rattle.std.specs.Prelude.{◌≡◌, IfOk};
+ghost use Rattle.fs_api.specs.Ranges.{IsInRange};
 ghost use Rattle.fs_api.specs.Readings as spec;
 ghost use Rattle.fs_api.specs.declared.api.Api.TheVariants as variant;
 ghost use Rattle.fs_api.specs.declared.usages.Which.TheVariants as which;
@@ -19,7 +20,8 @@ impl Api {
     /// Words are separated by runs of spaces. What is no command is `Unknown`, and a command whose words are missing or out of
     /// their form is `Usage`.
     pub fn of(alloc: Global, text: &[u8]) -> Result<Api, Memory>
-        ensures { IfOk result (λ api. api ≡ spec.api_of text.now) }
+        ensures api { IfOk result (λ api. api ≡ spec.api_of text.now) }
+        ensures range { IfOk result IsInRange }
     {
         let (name, arguments) = cut_word(without_spaces(text));
         named(alloc, name, arguments)

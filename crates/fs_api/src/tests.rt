@@ -1,5 +1,5 @@
 use crate::{Api, Which, Winner};
-use fs_text::Cause;
+use fs_text::{Cause, Txt};
 use std::test::Fail;
 
 // Texts whose words are missing or out of their form.
@@ -85,6 +85,104 @@ fn timeouts(rt: HostRuntime) -> Result<(), Fail> {
     Ok(())
 }
 
+// Commands that have a text or two, and what these are; the second is empty where there is none.
+const TEXTS: [(&str, &str, &str); 9] = [
+    (" echo  a b ", "a b ", ""),
+    ("echo", "", ""),
+    ("expand  echo ${a} ", "echo ${a} ", ""),
+    ("global_getvar a b", "a", ""),
+    ("global_setvar a=b=c d", "a", "b=c"),
+    ("global_setvar a", "a", ""),
+    ("global_setvar =b", "", "b"),
+    ("uuid_exists a b", "a", ""),
+    ("uuid_getvar a  b c", "a", "b"),
+];
+
+// The texts of such a command.
+fn texts_of(api: &Api) -> (&[u8], &[u8]) {
+    match api {
+        Api::Echo { text } | Api::Expand { text } => (text.as_bytes(), &[]),
+        Api::GlobalGetvar { name: Some(name) } => (name.as_bytes(), &[]),
+        Api::GlobalSetvar { name, value } => (name.as_bytes(), value.as_bytes()),
+        Api::UuidExists { uuid } => (uuid.as_bytes(), &[]),
+        Api::UuidGetvar { uuid, name } => (uuid.as_bytes(), name.as_bytes()),
+        _ => (b"none", &[]),
+    }
+}
+
+#[test]
+fn texts_of_commands(rt: HostRuntime) -> Result<(), Fail> {
+    for (text, wanted, further) in TEXTS {
+        let api = Api::of(rt.alloc(), text.as_bytes())?;
+        let (first, second) = texts_of(&api);
+        assert!(rt;
+            first == wanted.as_bytes() && second == further.as_bytes(),
+            "{text}"
+        );
+    }
+    let all = Api::of(rt.alloc(), b"global_getvar ")?;
+    assert!(rt; matches!(&all, Api::GlobalGetvar { name: None }));
+    Ok(())
+}
+
+// What stands behind `originate`, its url, and where its winner is routed to.
+const ROUTES: [(&str, &str, &str, &str, &str); 4] = [
+    ("'null/a b' 1 '' ''", "'null/a b'", "1", "", ""),
+    ("null/a ''", "null/a", "", "XML", "default"),
+    (
+        "null/'a b'/c '1 2' x",
+        "null/'a b'/c",
+        "1 2",
+        "x",
+        "default",
+    ),
+    (
+        "null/a 1 'XML default",
+        "null/a",
+        "1",
+        "'XML default",
+        "default",
+    ),
+];
+
+#[test]
+fn routes_of_winners(rt: HostRuntime) -> Result<(), Fail> {
+    for (words, wanted, to, plan, place) in ROUTES {
+        let text = format!(in rt.alloc(); "originate {words}")?;
+        let api = Api::of(rt.alloc(), text.as_bytes())?;
+        let fits = match &api {
+            Api::Originate {
+                url,
+                winner: Winner::Route {
+                    exten,
+                    dialplan,
+                    context,
+                },
+                ..
+            } => url.as_bytes() == wanted.as_bytes()
+                && exten.as_bytes() == to.as_bytes()
+                && dialplan.as_bytes() == plan.as_bytes()
+                && context.as_bytes() == place.as_bytes(),
+            _ => false,
+        };
+        assert!(rt; fits, "{words}");
+    }
+    Ok(())
+}
+
+#[test]
+fn copies_of_winners(rt: HostRuntime) -> Result<(), Fail> {
+    let winner = Winner::App {
+        application: Txt::of(rt.alloc(), b"park")?,
+        argument: Txt::of(rt.alloc(), b"a b")?,
+    };
+    let copy = winner.copy()?;
+    assert!(rt;
+        matches!(&copy, Winner::App { argument, .. } if argument.as_bytes() == b"a b".as_slice())
+    );
+    Ok(())
+}
+
 #[test]
 fn other_commands(rt: HostRuntime) -> Result<(), Fail> {
     let longest = Api::of(rt.alloc(), b"msleep 3600000 more")?;
@@ -106,8 +204,6 @@ fn other_commands(rt: HostRuntime) -> Result<(), Fail> {
             }
         )
     );
-    let echo = Api::of(rt.alloc(), b" echo  a b ")?;
-    assert!(rt; matches!(&echo, Api::Echo { text } if text.as_bytes() == b"a b ".as_slice()));
     let none = Api::of(rt.alloc(), b"")?;
     assert!(rt; matches!(&none, Api::Unknown(name) if name.as_bytes().is_empty()));
     Ok(())

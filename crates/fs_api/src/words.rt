@@ -6,7 +6,7 @@ use fs_text::place_of;
 
 /// The part up to the first such byte, and the part behind it.
 #[tactic(auto, using(crate::proofs::WordLemmas::word_rules))]
-pub(crate) fn cut_at(byte: u8, text: &[u8]) -> (&[u8], &[u8])
+pub fn cut_at(byte: u8, text: &[u8]) -> (&[u8], &[u8])
     ensures front { result.0.now ≡ before_first (λ b. b == byte) text.now }
     ensures behind { result.1.now ≡ after_first (λ b. b == byte) text.now }
 {
@@ -18,7 +18,7 @@ pub(crate) fn cut_at(byte: u8, text: &[u8]) -> (&[u8], &[u8])
 }
 
 /// The text without the spaces in front.
-pub(crate) fn without_spaces(text: &[u8]) -> &[u8]
+pub fn without_spaces(text: &[u8]) -> &[u8]
     ensures { result.now ≡ spec.without_spaces text.now }
 {
     let first = first_other(text).unwrap_or(text.len());
@@ -33,7 +33,7 @@ fn first_other(text: &[u8]) -> Option<usize>
 }
 
 /// The first word, and what stands behind it and the spaces behind it.
-pub(crate) fn cut_word(text: &[u8]) -> (&[u8], &[u8])
+pub fn cut_word(text: &[u8]) -> (&[u8], &[u8])
     ensures word { result.0.now ≡ spec.word_of text.now }
     ensures behind { result.1.now ≡ spec.behind_word text.now }
 {

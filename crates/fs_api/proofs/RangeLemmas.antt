@@ -1,0 +1,103 @@
+-- What is read as an api command keeps its limits.
+use Rattle.std.proofs.Common.{◌≡◌, ℕ, ◌≤◌, ◌==◌, ◌&&◌, nat_le, Bool, true, false, [], ◌∷◌, Option, None, Some, Result, Ok, Err, IfOk, IfSome, codes, refl, sym, subst, arith}
+use Rattle.std.proofs.lemmas.Bool.Decides.{nat_tests}
+use Rattle.std.specs.Prelude.{if◌then◌else◌}
+use Rattle.std.specs.Option.{option_and_then}
+use Rattle.std.specs.Str.{bytes_eq}
+use Rattle.fs_text.specs.Number.{read_u64}
+use Rattle.fs_text.specs.declared.memory.Memory.{Memory}
+use Rattle.fs_api.specs.declared.api.Api.{Api}
+use Rattle.fs_api.specs.declared.api.Api.TheVariants.{Expand, UuidGetvar}
+use Rattle.fs_api.specs.declared.api.Winner.{Winner}
+use Rattle.fs_api.specs.declared.usages.Which.{Which}
+use Rattle.fs_api.specs.declared.usages.Which.TheVariants as which
+use Rattle.fs_api.specs.Words.{word_of, behind_word, behind_quoted, quoted_word}
+use Rattle.fs_api.specs.Originates.{Text, is_short, winner_of, seconds_within, plain_word, word_or, originated, originate_to, originate_of}
+use Rattle.fs_api.specs.Readings.{needs, setting, getting, sleeping_for, asking, killing, reading, api_named}
+use Rattle.fs_api.specs.Ranges.{IsShortRoute, IsShortWinner, IsTimeout, IsInRange}
+
+-- what holds of both parts of a choice holds of the choice
+either : {A : Type 0} (P : A → Type 0) (test : Bool) (x y : A) → (test ≡ true → P x) → (test ≡ false → P y) → P (if test then x else y)
+either P true x y first second = first refl
+either P false x y first second = second refl
+
+-- ---- originate
+
+fits_all : (exten dialplan context : Text) → is_short exten ≡ true → is_short dialplan && is_short context ≡ true → IsShortRoute exten dialplan context
+fits_all exten dialplan context first others = record {
+  exten_short = grind (arith, nat_tests);
+  dialplan_short = grind (arith, nat_tests);
+  context_short = grind (arith, nat_tests);
+}
+
+winner_short : (exten dialplan context : Text) → IfSome (winner_of exten dialplan context) IsShortWinner
+winner_short [] dialplan context =
+    either (λ w. IfSome w IsShortWinner) (is_short dialplan && is_short context) _ _ (fits_all [] dialplan context refl) (λ _. tt)
+winner_short (byte ∷ bytes) dialplan context =
+    either (λ w. IfSome w IsShortWinner) (is_short dialplan && is_short context) _ _
+    (λ others. either (λ w. IfSome w IsShortWinner) (byte == 38) _ _ (λ _. tt)
+    (λ _. either (λ w. IfSome w IsShortWinner) (is_short (byte ∷ bytes)) _ _ (λ first. fits_all (byte ∷ bytes) dialplan context first others) (λ _. tt)))
+    (λ _. tt)
+
+timeout_of : (n : ℕ) → nat_le 1 n && nat_le n 3600 ≡ true → IsTimeout n
+timeout_of n within = record { low = grind (arith, nat_tests); high = grind (arith, nat_tests) }
+
+timeout_within : (number : Option ℕ) → IfSome (option_and_then seconds_within number) IsTimeout
+timeout_within None = tt
+timeout_within (Some n) = either (λ t. IfSome t IsTimeout) (nat_le 1 n && nat_le n 3600) _ _ (timeout_of n) (λ _. tt)
+
+originated_in_range : (url : Text) (winner : Option Winner) (rest : Text) → IfSome winner IsShortWinner → IsInRange (originated url winner rest)
+originated_in_range url None rest short = tt
+originated_in_range url (Some winner) rest short = record {
+  winner_short = short;
+  timeout_within = timeout_within (read_u64 (plain_word (behind_quoted (behind_quoted rest))));
+}
+
+originate_to_in_range : (url arguments : Text) → IsInRange (originate_to url arguments)
+originate_to_in_range url [] = tt
+originate_to_in_range url (byte ∷ bytes) =
+    let dialplan : Text = behind_quoted (byte ∷ bytes) in
+    let context : Text = behind_quoted dialplan in
+    originated_in_range url _ _ (winner_short (plain_word (byte ∷ bytes)) (word_or (codes "XML") dialplan) (word_or (codes "default") context))
+
+originate_in_range : (arguments : Text) → IsInRange (originate_of arguments)
+originate_in_range [] = tt
+originate_in_range (byte ∷ bytes) = originate_to_in_range (quoted_word (byte ∷ bytes)) (behind_quoted (byte ∷ bytes))
+
+-- ---- the other commands
+
+needs_in_range : (usage : Which) (read : Text → Api) (arguments : Text) → ((text : Text) → IsInRange (read text)) → IsInRange (needs usage read arguments)
+needs_in_range usage read [] each = tt
+needs_in_range usage read (byte ∷ bytes) each = each (byte ∷ bytes)
+
+getting_in_range : (arguments : Text) → IsInRange (getting arguments)
+getting_in_range [] = tt
+getting_in_range (byte ∷ bytes) = tt
+
+hour_of : (n : ℕ) → nat_le n 3600000 ≡ true → n ≤ 3600000
+hour_of n within = grind (arith, nat_tests)
+
+sleeping_in_range : (number : Option ℕ) → IsInRange (sleeping_for number)
+sleeping_in_range None = tt
+sleeping_in_range (Some n) = either IsInRange (nat_le n 3600000) _ _ (hour_of n) (λ _. tt)
+
+reading_in_range : (arguments : Text) → IsInRange (reading arguments)
+reading_in_range arguments = needs_in_range which.UuidGetvar (λ name. UuidGetvar (word_of arguments) (word_of name)) (behind_word arguments) (λ _. tt)
+
+named_in_range : (name arguments : Text) → IsInRange (api_named name arguments)
+unfolding api_named
+named_in_range name arguments =
+    either IsInRange (bytes_eq name (codes "echo")) _ _ (λ _. tt)
+    (λ _. either IsInRange (bytes_eq name (codes "expand")) _ _ (λ _. needs_in_range which.Expand Expand arguments (λ _. tt))
+    (λ _. either IsInRange (bytes_eq name (codes "global_getvar")) _ _ (λ _. getting_in_range arguments)
+    (λ _. either IsInRange (bytes_eq name (codes "global_setvar")) _ _ (λ _. needs_in_range which.GlobalSetvar setting arguments (λ _. tt))
+    (λ _. either IsInRange (bytes_eq name (codes "msleep")) _ _ (λ _. sleeping_in_range (read_u64 (word_of arguments)))
+    (λ _. either IsInRange (bytes_eq name (codes "originate")) _ _ (λ _. originate_in_range arguments)
+    (λ _. either IsInRange (bytes_eq name (codes "uuid_exists")) _ _ (λ _. needs_in_range which.UuidExists asking arguments (λ _. tt))
+    (λ _. either IsInRange (bytes_eq name (codes "uuid_getvar")) _ _ (λ _. needs_in_range which.UuidGetvar reading arguments reading_in_range)
+    (λ _. either IsInRange (bytes_eq name (codes "uuid_kill")) _ _ (λ _. needs_in_range which.UuidKill killing arguments (λ _. tt)) (λ _. tt)))))))))
+
+-- what is read of a name and its arguments, once it is read
+pub IfOk-in_range : (name arguments : Text) (result : Result Api Memory) → IfOk result (λ api. api ≡ api_named name arguments) → IfOk result IsInRange
+IfOk-in_range name arguments (Ok api) is = subst IsInRange (sym is) (named_in_range name arguments)
+IfOk-in_range name arguments (Err e) is = tt

@@ -1,3 +1,4 @@
 pub mod Positions
 pub mod Picks
 pub mod VerdictLemmas
+pub mod EndpointLemmas

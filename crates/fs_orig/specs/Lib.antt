@@ -2,3 +2,4 @@ pub mod Legs
 pub mod Verdicts
 pub mod Meaning
 pub mod Changes
+pub mod Endpoints

@@ -1,7 +1,9 @@
-//! One origination: what it is to try, the legs that it has made, each change of these, and the verdict on it at a moment.
+//! One origination: what it is to try, the legs that it has made, each change of these, and the verdict on it at a moment; and what
+//! the endpoint of a leg comes to.
 #![tactic(auto)]
 
 mod changes;
+mod endpoint;
 mod leg;
 mod orig;
 mod plan;
@@ -11,6 +13,7 @@ mod tests;
 mod verdict;
 
 pub use changes::changes_law;
+pub use endpoint::{Endpoint, is_one_leg};
 pub use leg::{OrigLeg, OrigLegs};
 pub use orig::{Orig, Owner};
 pub use plan::{LegGroup, LegPlan, LegPlans};

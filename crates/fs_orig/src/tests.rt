@@ -1,4 +1,7 @@
-use crate::{LegGroup, LegPlan, LegPlans, Orig, OrigLeg, OrigLegs, Owner, Verdict, judge};
+use crate::{
+    Endpoint, LegGroup, LegPlan, LegPlans, Orig, OrigLeg, OrigLegs, Owner, Verdict, is_one_leg,
+    judge,
+};
 use fs_text::{Cause, Headers, Memory, Txt};
 use std::alloc::Global;
 use std::test::Fail;
@@ -111,6 +114,45 @@ fn orig(alloc: Global, first: &Leg, second: &Leg, groups: usize) -> Result<Orig,
     Ok(Orig::new(Owner::Job(1), plans(alloc, groups)?, legs, 60))
 }
 
+// Endpoints that are an extension of a context.
+const LOOPBACKS: [(&str, &str, &str); 6] = [
+    ("loopback/ans", "ans", "default"),
+    ("loopback/a/", "a", "default"),
+    ("loopback/a/phones", "a", "phones"),
+    ("loopback/a/phones/XML", "a", "phones"),
+    ("loopback/a//XML", "a", "default"),
+    ("loopback/a/b/", "a", "b"),
+];
+
+// Endpoints that no channel can be made of.
+const DEAD: [(&str, Cause); 12] = [
+    ("error/USER_BUSY", Cause::UserBusy),
+    ("error/USER_BUSY/x", Cause::NormalUnspecified),
+    ("error/x", Cause::NormalUnspecified),
+    ("error/", Cause::NormalUnspecified),
+    ("error", Cause::NormalUnspecified),
+    ("loopback", Cause::InvalidNumberFormat),
+    ("loopback//b/XML", Cause::InvalidNumberFormat),
+    ("loopback/a/b/XML/c", Cause::NoRouteDestination),
+    ("loopback/a//enum", Cause::NoRouteDestination),
+    ("sofia/x", Cause::DestinationOutOfOrder),
+    ("Loopback/a", Cause::DestinationOutOfOrder),
+    ("", Cause::DestinationOutOfOrder),
+];
+
+// Dial strings, and whether they are one leg without variables.
+const ONE_LEG: [(&str, bool); 9] = [
+    ("loopback/a/b/XML", true),
+    ("a}]", true),
+    ("", true),
+    ("{a=1}loopback/a", false),
+    ("[a=1]loopback/a", false),
+    ("a,b", false),
+    ("a|b", false),
+    ("it's", false),
+    ("a\\b", false),
+];
+
 #[test]
 fn judges_by_who_answered_who_died_and_what_time_it_is(rt: HostRuntime) -> Result<(), Fail> {
     for (first, second, groups, now, wanted) in &VERDICTS {
@@ -137,5 +179,82 @@ fn goes_from_group_to_group(rt: HostRuntime) -> Result<(), Fail> {
     assert_eq!(rt; judge(&orig, 0), Verdict::Failed(Cause::UserBusy));
     assert_eq!(rt; judge(&before, 0), Verdict::Wait { until: 10 });
     assert_eq!(rt; before.due(0), 10);
+    Ok(())
+}
+
+#[test]
+fn endpoints_that_are_extensions(rt: HostRuntime) -> Result<(), Fail> {
+    for (text, number, place) in LOOPBACKS {
+        let endpoint = Endpoint::of(rt.alloc(), text.as_bytes())?;
+        let fits = match &endpoint {
+            Endpoint::Loopback { exten, context } => exten.as_bytes() == number.as_bytes()
+                && context.as_bytes() == place.as_bytes(),
+            Endpoint::Dead { .. } => false,
+        };
+        assert!(rt; fits, "{text}");
+    }
+    Ok(())
+}
+
+#[test]
+fn endpoints_that_are_dead(rt: HostRuntime) -> Result<(), Fail> {
+    for (text, wanted) in DEAD {
+        let endpoint = Endpoint::of(rt.alloc(), text.as_bytes())?;
+        assert!(rt;
+            matches!(&endpoint, Endpoint::Dead { cause } if *cause == wanted),
+            "{text}"
+        );
+    }
+    Ok(())
+}
+
+// The text of an endpoint whose extension, context and dialplan have so many bytes.
+fn endpoint_text(
+    alloc: Global,
+    exten: u16,
+    context: u16,
+    dialplan: u16,
+) -> Result<Vec<u8>, Memory> {
+    let mut text = Vec::from_slice(alloc, b"loopback")?;
+    for len in [exten, context, dialplan] {
+        text.push(b'/')?;
+        text.resize(text.len() + usize::from(len), b'1')?;
+    }
+    Ok(text)
+}
+
+#[test]
+fn lengths_of_parts(rt: HostRuntime) -> Result<(), Fail> {
+    let alloc = rt.alloc();
+    let longest = Endpoint::of(alloc, &endpoint_text(alloc, 256, 256, 0)?)?;
+    assert!(rt; matches!(&longest, Endpoint::Loopback { .. }));
+    for (exten, context, dialplan) in [(257, 0, 0), (1, 257, 0), (1, 0, 257)] {
+        let endpoint = Endpoint::of(alloc, &endpoint_text(alloc, exten, context, dialplan)?)?;
+        assert!(rt;
+            matches!(
+                &endpoint,
+                Endpoint::Dead {
+                    cause: Cause::InvalidNumberFormat
+                }
+            )
+        );
+    }
+    let other = Endpoint::of(alloc, &endpoint_text(alloc, 1, 1, 256)?)?;
+    assert!(rt;
+        matches!(
+            &other,
+            Endpoint::Dead {
+                cause: Cause::NoRouteDestination
+            }
+        )
+    );
+    Ok(())
+}
+
+#[test]
+fn dial_strings_of_one_leg(rt: HostRuntime) -> Result<(), Fail> {
+    for (text, wanted) in ONE_LEG {
+        assert!(rt; is_one_leg(text.as_bytes()) == wanted, "{text}");
+    }
     Ok(())
 }

@@ -1,0 +1,77 @@
+-- What the endpoint of a leg comes to, and which dial strings are one leg.
+use Rattle.std.specs.Prelude.{ℕ, ◌==◌, ◌≤◌, nat_le, Bool, not, ◌||◌, ◌&&◌, if◌then◌else◌, List, [], ◌∷◌, length, unwrap_or, codes}
+use Rattle.std.specs.List.{before_first, after_first, list_all}
+use Rattle.std.specs.Str.{bytes_eq}
+use Rattle.fs_text.specs.Cause.{cause_of_name}
+use Rattle.fs_text.specs.declared.causes.Cause.TheVariants.{NoRouteDestination, DestinationOutOfOrder, InvalidNumberFormat, NormalUnspecified}
+use Rattle.fs_orig.specs.declared.endpoint.Endpoint.{Endpoint}
+use Rattle.fs_orig.specs.declared.endpoint.Endpoint.TheVariants.{Loopback, Dead}
+
+abbrev pub Text : Type 0
+Text = List ℕ
+
+-- ---- the parts, separated by slashes
+
+abbrev pub is_slash : ℕ → Bool
+is_slash byte = byte == 47
+
+abbrev pub first_part : Text → Text
+first_part text = before_first is_slash text
+
+-- what stands behind it; nothing where there is no slash
+abbrev pub other_parts : Text → Text
+other_parts text = after_first is_slash text
+
+-- a part, or another text where it is empty
+abbrev pub part_or : Text → Text → Text
+part_or otherwise [] = otherwise
+part_or otherwise (byte ∷ bytes) = byte ∷ bytes
+
+-- ---- each kind
+
+-- the endpoint `error` with the name of a cause
+abbrev pub error_of : Text → Endpoint
+error_of name = Dead (unwrap_or (cause_of_name name) NormalUnspecified)
+
+-- the part has at most 256 bytes
+abbrev pub is_short : Text → Bool
+is_short part = nat_le (length part) 256
+
+-- an extension of a context, where these are within their lengths and the dialplan is `XML`
+abbrev pub loopback_to : Text → Text → Text → Endpoint
+loopback_to [] context dialplan = Dead InvalidNumberFormat
+loopback_to (byte ∷ bytes) context dialplan =
+    if not (is_short (byte ∷ bytes) && is_short context && is_short dialplan) then Dead InvalidNumberFormat
+    else (if bytes_eq (part_or (codes "XML") dialplan) (codes "XML") then Loopback (byte ∷ bytes) (part_or (codes "default") context)
+    else Dead NoRouteDestination)
+
+-- the parts behind the kind; the last one has all further slashes
+abbrev pub loopback_of : Text → Endpoint
+loopback_of parts = loopback_to (first_part parts) (first_part (other_parts parts)) (other_parts (other_parts parts))
+
+unfoldable pub endpoint_of : Text → Endpoint
+endpoint_of text =
+    if bytes_eq (first_part text) (codes "error") then error_of (other_parts text)
+    else (if bytes_eq (first_part text) (codes "loopback") then loopback_of (other_parts text)
+    else Dead DestinationOutOfOrder)
+
+-- ---- what it keeps
+
+-- an extension that is there; both texts can stand in a profile
+pub record IsShortAddress (exten context : Text) : Type 0 where
+  pub exten_there : 1 ≤ length exten
+  pub exten_short : length exten ≤ 256
+  pub context_short : length context ≤ 256
+
+abbrev pub IsShort : Endpoint → Type 0
+IsShort (Loopback exten context) = IsShortAddress exten context
+IsShort (Dead cause) = Unit {0}
+
+-- ---- dial strings
+
+-- one of  { [ , | ' \
+abbrev pub is_dial_mark : ℕ → Bool
+is_dial_mark byte = byte == 123 || byte == 91 || byte == 44 || byte == 124 || byte == 39 || byte == 92
+
+abbrev pub is_one_leg : Text → Bool
+is_one_leg text = list_all (λ byte. not (is_dial_mark byte)) text

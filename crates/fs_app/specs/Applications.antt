@@ -1,0 +1,81 @@
+-- What an application is asked to do, by its name and its argument.
+use Rattle.std.specs.Prelude.{ℕ, ◌==◌, nat_le, Bool, false, not, ◌||◌, ◌&&◌, if◌then◌else◌, [], ◌∷◌, Option, None, Some, codes}
+use Rattle.std.specs.List.{before_first, after_first}
+use Rattle.std.specs.Str.{bytes_eq}
+use Rattle.fs_text.specs.Number.{read_u64}
+use Rattle.fs_api.specs.Words.{without_spaces, word_of, behind_word}
+use Rattle.fs_api.specs.Originates.{Text, is_short}
+use Rattle.fs_api.specs.Readings.{is_equals, cause_named}
+use Rattle.fs_chan.specs.Changes as changes
+use Rattle.fs_app.specs.declared.application.Application.{Application}
+use Rattle.fs_app.specs.declared.application.Application.TheVariants as app
+
+-- ---- variables
+
+-- the name and the value of `name=value`; without `=` the value is empty
+abbrev pub name_in : Text → Text
+name_in argument = before_first is_equals argument
+
+abbrev pub value_in : Text → Text
+value_in argument = after_first is_equals argument
+
+-- ---- waiting and leaving
+
+-- a number of milliseconds up to an hour; 0 for any other
+abbrev pub within_hour : Option ℕ → ℕ
+within_hour None = 0
+within_hour (Some n) = if nat_le n 3600000 then n else 0
+
+abbrev pub sleeping : Text → Application
+sleeping argument = app.Sleep (within_hour (read_u64 argument))
+
+-- the cause of the first word
+abbrev pub hanging_up : Text → Application
+hanging_up argument = app.Hangup (cause_named (word_of (without_spaces argument)))
+
+-- ---- routing
+
+-- a word, if there is one
+abbrev pub word_named : Text → Option Text
+word_named [] = None
+word_named (byte ∷ bytes) = Some (byte ∷ bytes)
+
+-- a word that can be an extension: it is there, and begins with no `-`
+abbrev pub is_exten : Text → Bool
+is_exten [] = false
+is_exten (byte ∷ bytes) = not (byte == 45)
+
+-- to be routed to these words
+abbrev pub routed_to : Text → Text → Text → Application
+routed_to exten dialplan context =
+    app.Transfer (record { exten = exten; dialplan = word_named dialplan; context = word_named context })
+
+-- the same where there is an extension, and each word has at most 256 bytes
+abbrev pub routing : Text → Text → Text → Application
+routing exten dialplan context =
+    if is_exten exten && is_short exten && is_short dialplan && is_short context then routed_to exten dialplan context else app.Unknown
+
+-- the first three words of a text that begins with no space
+abbrev pub transferring : Text → Application
+transferring text = routing (word_of text) (word_of (behind_word text)) (word_of (behind_word (behind_word text)))
+
+-- ---- all of them
+
+unfoldable pub application_of : Text → Text → Application
+application_of name argument =
+    if bytes_eq name (codes "answer") then app.Answer
+    else (if bytes_eq name (codes "set") then app.Set (name_in argument) (value_in argument)
+    else (if bytes_eq name (codes "unset") then app.Unset argument
+    else (if bytes_eq name (codes "export") then app.Export (name_in argument) (value_in argument)
+    else (if bytes_eq name (codes "set_global") then app.SetGlobal (name_in argument) (value_in argument)
+    else (if bytes_eq name (codes "log") || bytes_eq name (codes "eval") then app.Eval
+    else (if bytes_eq name (codes "sleep") then sleeping argument
+    else (if bytes_eq name (codes "hangup") then hanging_up argument
+    else (if bytes_eq name (codes "park") then app.Park
+    else (if bytes_eq name (codes "transfer") then transferring (without_spaces argument)
+    else app.Unknown)))))))))
+
+-- the texts of a transfer can stand in a profile
+abbrev pub IsShort : Application → Type 0
+IsShort (app.Transfer to) = changes.IsShort to
+IsShort _ = Unit {0}

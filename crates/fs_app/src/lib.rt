@@ -1,0 +1,9 @@
+//! What the applications of a dialplan are asked to do, as their names and arguments are read.
+#![tactic(auto)]
+
+mod application;
+mod reading;
+#[cfg(test)]
+mod tests;
+
+pub use application::Application;

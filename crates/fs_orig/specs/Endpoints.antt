@@ -51,7 +51,7 @@ loopback_of parts = loopback_to (first_part parts) (first_part (other_parts part
 
 unfoldable pub endpoint_of : Text → Endpoint
 endpoint_of text =
-    if bytes_eq (first_part text) (codes "error") then error_of (other_parts text)
+    if bytes_eq (first_part text) (codes "error") then error_of (first_part (other_parts text))
     else (if bytes_eq (first_part text) (codes "loopback") then loopback_of (other_parts text)
     else Dead DestinationOutOfOrder)
 

@@ -30,7 +30,7 @@ impl Endpoint {
     {
         let (kind, parts) = cut_at_slash(text);
         if kind == b"error".as_slice() {
-            Ok(error_of(parts))
+            Ok(error_of(cut_at_slash(parts).0))
         } else if kind == b"loopback".as_slice() {
             loopback_of(alloc, parts)
         } else {

@@ -127,7 +127,7 @@ const LOOPBACKS: [(&str, &str, &str); 6] = [
 // Endpoints that no channel can be made of.
 const DEAD: [(&str, Cause); 12] = [
     ("error/USER_BUSY", Cause::UserBusy),
-    ("error/USER_BUSY/x", Cause::NormalUnspecified),
+    ("error/USER_BUSY/x", Cause::UserBusy),
     ("error/x", Cause::NormalUnspecified),
     ("error/", Cause::NormalUnspecified),
     ("error", Cause::NormalUnspecified),

@@ -1,5 +1,5 @@
 -- What is read as an api command keeps its limits.
-use Rattle.std.proofs.Common.{◌≡◌, ℕ, ◌≤◌, ◌==◌, ◌&&◌, nat_le, Bool, true, false, [], ◌∷◌, Option, None, Some, Result, Ok, Err, IfOk, IfSome, codes, refl, sym, subst, arith}
+use Rattle.std.proofs.Common.{◌≡◌, ℕ, ◌≤◌, ◌&&◌, nat_le, Bool, true, false, [], ◌∷◌, Option, None, Some, Result, Ok, Err, IfOk, IfSome, codes, refl, sym, subst, arith}
 use Rattle.std.proofs.lemmas.Bool.Decides.{nat_tests}
 use Rattle.std.specs.Prelude.{if◌then◌else◌}
 use Rattle.std.specs.Option.{option_and_then}
@@ -12,9 +12,10 @@ use Rattle.fs_api.specs.declared.api.Winner.{Winner}
 use Rattle.fs_api.specs.declared.usages.Which.{Which}
 use Rattle.fs_api.specs.declared.usages.Which.TheVariants as which
 use Rattle.fs_api.specs.Words.{word_of, behind_word, behind_quoted, quoted_word}
-use Rattle.fs_api.specs.Originates.{Text, is_short, winner_of, seconds_within, plain_word, word_or, originated, originate_to, originate_of}
+use Rattle.fs_api.specs.Routes.{Text}
+use Rattle.fs_api.specs.Originates.{seconds_within, plain_word, originated, originate_to, originate_of}
 use Rattle.fs_api.specs.Readings.{needs, setting, getting, sleeping_for, asking, killing, reading, api_named}
-use Rattle.fs_api.specs.Ranges.{IsShortRoute, IsShortWinner, IsTimeout, IsInRange}
+use Rattle.fs_api.specs.Ranges.{IsTimeout, IsInRange}
 
 -- what holds of both parts of a choice holds of the choice
 either : {A : Type 0} (P : A → Type 0) (test : Bool) (x y : A) → (test ≡ true → P x) → (test ≡ false → P y) → P (if test then x else y)
@@ -23,22 +24,6 @@ either P false x y first second = second refl
 
 -- ---- originate
 
-fits_all : (exten dialplan context : Text) → is_short exten ≡ true → is_short dialplan && is_short context ≡ true → IsShortRoute exten dialplan context
-fits_all exten dialplan context first others = record {
-  exten_short = grind (arith, nat_tests);
-  dialplan_short = grind (arith, nat_tests);
-  context_short = grind (arith, nat_tests);
-}
-
-winner_short : (exten dialplan context : Text) → IfSome (winner_of exten dialplan context) IsShortWinner
-winner_short [] dialplan context =
-    either (λ w. IfSome w IsShortWinner) (is_short dialplan && is_short context) _ _ (fits_all [] dialplan context refl) (λ _. tt)
-winner_short (byte ∷ bytes) dialplan context =
-    either (λ w. IfSome w IsShortWinner) (is_short dialplan && is_short context) _ _
-    (λ others. either (λ w. IfSome w IsShortWinner) (byte == 38) _ _ (λ _. tt)
-    (λ _. either (λ w. IfSome w IsShortWinner) (is_short (byte ∷ bytes)) _ _ (λ first. fits_all (byte ∷ bytes) dialplan context first others) (λ _. tt)))
-    (λ _. tt)
-
 timeout_of : (n : ℕ) → nat_le 1 n && nat_le n 3600 ≡ true → IsTimeout n
 timeout_of n within = record { low = grind (arith, nat_tests); high = grind (arith, nat_tests) }
 
@@ -46,19 +31,13 @@ timeout_within : (number : Option ℕ) → IfSome (option_and_then seconds_withi
 timeout_within None = tt
 timeout_within (Some n) = either (λ t. IfSome t IsTimeout) (nat_le 1 n && nat_le n 3600) _ _ (timeout_of n) (λ _. tt)
 
-originated_in_range : (url : Text) (winner : Option Winner) (rest : Text) → IfSome winner IsShortWinner → IsInRange (originated url winner rest)
-originated_in_range url None rest short = tt
-originated_in_range url (Some winner) rest short = record {
-  winner_short = short;
-  timeout_within = timeout_within (read_u64 (plain_word (behind_quoted (behind_quoted rest))));
-}
+originated_in_range : (url : Text) (winner : Option Winner) (rest : Text) → IsInRange (originated url winner rest)
+originated_in_range url None rest = tt
+originated_in_range url (Some winner) rest = timeout_within (read_u64 (plain_word (behind_quoted (behind_quoted rest))))
 
 originate_to_in_range : (url arguments : Text) → IsInRange (originate_to url arguments)
 originate_to_in_range url [] = tt
-originate_to_in_range url (byte ∷ bytes) =
-    let dialplan : Text = behind_quoted (byte ∷ bytes) in
-    let context : Text = behind_quoted dialplan in
-    originated_in_range url _ _ (winner_short (plain_word (byte ∷ bytes)) (word_or (codes "XML") dialplan) (word_or (codes "default") context))
+originate_to_in_range url (byte ∷ bytes) = originated_in_range url _ _
 
 originate_in_range : (arguments : Text) → IsInRange (originate_of arguments)
 originate_in_range [] = tt

@@ -1,5 +1,5 @@
 -- How the arguments of `originate` are read.
-use Rattle.std.specs.Prelude.{ℕ, ◌==◌, nat_le, ◌&&◌, Bool, if◌then◌else◌, List, [], ◌∷◌, length, Option, None, Some, unwrap_or, codes}
+use Rattle.std.specs.Prelude.{ℕ, ◌==◌, nat_le, ◌&&◌, Bool, if◌then◌else◌, [], ◌∷◌, length, Option, None, Some, unwrap_or, codes}
 use Rattle.std.specs.List.{before_first, after_first}
 use Rattle.std.specs.Option.{option_and_then}
 use Rattle.fs_text.specs.Number.{read_u64}
@@ -8,10 +8,8 @@ use Rattle.fs_api.specs.declared.api.Api.TheVariants.{Originate, Usage}
 use Rattle.fs_api.specs.declared.api.Winner.{Winner}
 use Rattle.fs_api.specs.declared.api.Winner.TheVariants.{App, Route}
 use Rattle.fs_api.specs.declared.usages.Which.TheVariants as which
+use Rattle.fs_api.specs.Routes.{Text}
 use Rattle.fs_api.specs.Words.{quoted_word, behind_quoted, unquoted}
-
-abbrev pub Text : Type 0
-Text = List ℕ
 
 -- the first word, without the quotes round it
 abbrev pub plain_word : Text → Text
@@ -47,16 +45,20 @@ up_to_close text = unwrap_or (before_close text) text
 abbrev pub application : Text → Winner
 application text = App (before_first is_open text) (up_to_close (after_first is_open text))
 
+-- routed to these
+abbrev pub routed : Text → Text → Text → Winner
+routed exten dialplan context = Route (record { exten = exten; dialplan = dialplan; context = context })
+
 -- the text has at most 256 bytes
 abbrev pub is_short : Text → Bool
 is_short text = nat_le (length text) 256
 
 -- what the winner does, where these are within their length
 abbrev pub winner_of : Text → Text → Text → Option Winner
-winner_of [] dialplan context = if is_short dialplan && is_short context then Some (Route [] dialplan context) else None
+winner_of [] dialplan context = if is_short dialplan && is_short context then Some (routed [] dialplan context) else None
 winner_of (byte ∷ bytes) dialplan context =
     if is_short dialplan && is_short context
-    then (if byte == 38 then Some (application bytes) else (if is_short (byte ∷ bytes) then Some (Route (byte ∷ bytes) dialplan context) else None))
+    then (if byte == 38 then Some (application bytes) else (if is_short (byte ∷ bytes) then Some (routed (byte ∷ bytes) dialplan context) else None))
     else None
 
 -- ---- the timeout

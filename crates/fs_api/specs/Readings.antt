@@ -11,7 +11,8 @@ use Rattle.fs_api.specs.declared.api.Api.TheVariants.{Echo, Expand, GlobalGetvar
 use Rattle.fs_api.specs.declared.usages.Which.{Which}
 use Rattle.fs_api.specs.declared.usages.Which.TheVariants as which
 use Rattle.fs_api.specs.Words.{without_spaces, word_of, behind_word}
-use Rattle.fs_api.specs.Originates.{Text, originate_of}
+use Rattle.fs_api.specs.Routes.{Text}
+use Rattle.fs_api.specs.Originates.{originate_of}
 
 abbrev pub is_equals : ℕ → Bool
 is_equals byte = byte == 61

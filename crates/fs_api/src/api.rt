@@ -1,5 +1,6 @@
 ghost use Rattle.std.specs.Prelude.{◌≡◌, IfOk};
 
+use crate::route::Route;
 use crate::usages::Which;
 use fs_text::{Cause, Memory, Txt};
 
@@ -60,16 +61,9 @@ pub enum Api {
 #[derive(Drop)]
 pub enum Winner {
     /// It runs an application.
-    App {
-        application: Txt,
-        argument: Txt,
-    },
-    /// It is routed; each text has at most 256 bytes.
-    Route {
-        exten: Txt,
-        dialplan: Txt,
-        context: Txt,
-    },
+    App { application: Txt, argument: Txt },
+    /// It is routed.
+    Route(Route),
 }
 
 impl Winner {
@@ -85,15 +79,7 @@ impl Winner {
                 application: application.copy()?,
                 argument: argument.copy()?,
             },
-            Winner::Route {
-                exten,
-                dialplan,
-                context,
-            } => Winner::Route {
-                exten: exten.copy()?,
-                dialplan: dialplan.copy()?,
-                context: context.copy()?,
-            },
+            Winner::Route(route) => Winner::Route(route.copy()?),
         })
     }
 }

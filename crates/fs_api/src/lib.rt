@@ -4,11 +4,13 @@
 mod api;
 mod originate;
 mod reading;
+mod route;
 #[cfg(test)]
 mod tests;
 mod usages;
 mod words;
 
 pub use api::{Api, Winner};
+pub use route::Route;
 pub use usages::{Which, usage};
 pub use words::{cut_at, cut_word, without_spaces};

@@ -3,6 +3,7 @@ ghost use Rattle.fs_api.specs.Originates as spec;
 ghost use Rattle.fs_api.specs.Words as words;
 
 use crate::api::{Api, Winner};
+use crate::route::Route;
 use crate::usages::Which;
 use crate::words::{cut_at, cut_quoted, unquoted};
 use fs_text::{Memory, Txt, read_u64};
@@ -106,11 +107,11 @@ fn winner(
     match exten {
         [b'&', text @ ..] => Ok(Some(application(alloc, text)?)),
         exten if exten.len() > LONGEST => Ok(None),
-        exten => Ok(Some(Winner::Route {
-            exten: Txt::of(alloc, exten)?,
-            dialplan: Txt::of(alloc, dialplan)?,
-            context: Txt::of(alloc, context)?,
-        })),
+        exten => Ok(Some(Winner::Route(Route::new(
+            Txt::of(alloc, exten)?,
+            Txt::of(alloc, dialplan)?,
+            Txt::of(alloc, context)?,
+        )))),
     }
 }
 

@@ -1,5 +1,5 @@
-use crate::{Api, Which, Winner};
-use fs_text::{Cause, Txt};
+use crate::{Api, Route, Which, Winner};
+use fs_text::{Cause, Memory, Txt};
 use std::test::Fail;
 
 // Texts whose words are missing or out of their form.
@@ -145,27 +145,36 @@ const ROUTES: [(&str, &str, &str, &str, &str); 4] = [
     ),
 ];
 
+// Whether a route leads to an extension, in a context of a dialplan.
+fn leads_to(route: Route, to: &str, plan: &str, place: &str) -> bool {
+    let (exten, dialplan, context) = route.into_texts();
+    exten.as_bytes() == to.as_bytes()
+        && dialplan.as_bytes() == plan.as_bytes()
+        && context.as_bytes() == place.as_bytes()
+}
+
+// Whether a winner is routed there.
+fn is_route(winner: &Winner, to: &str, plan: &str, place: &str) -> Result<bool, Memory> {
+    match winner {
+        Winner::Route(route) => Ok(leads_to(route.copy()?, to, plan, place)),
+        Winner::App { .. } => Ok(false),
+    }
+}
+
 #[test]
 fn routes_of_winners(rt: HostRuntime) -> Result<(), Fail> {
     for (words, wanted, to, plan, place) in ROUTES {
         let text = format!(in rt.alloc(); "originate {words}")?;
         let api = Api::of(rt.alloc(), text.as_bytes())?;
         let fits = match &api {
-            Api::Originate {
-                url,
-                winner: Winner::Route {
-                    exten,
-                    dialplan,
-                    context,
-                },
-                ..
-            } => url.as_bytes() == wanted.as_bytes()
-                && exten.as_bytes() == to.as_bytes()
-                && dialplan.as_bytes() == plan.as_bytes()
-                && context.as_bytes() == place.as_bytes(),
+            Api::Originate { winner, .. } => is_route(winner, to, plan, place)?,
             _ => false,
         };
         assert!(rt; fits, "{words}");
+        assert!(rt;
+            matches!(&api, Api::Originate { url, .. } if url.as_bytes() == wanted.as_bytes()),
+            "{words}"
+        );
     }
     Ok(())
 }
@@ -180,6 +189,17 @@ fn copies_of_winners(rt: HostRuntime) -> Result<(), Fail> {
     assert!(rt;
         matches!(&copy, Winner::App { argument, .. } if argument.as_bytes() == b"a b".as_slice())
     );
+    Ok(())
+}
+
+#[test]
+fn copies_of_routes(rt: HostRuntime) -> Result<(), Fail> {
+    let winner = Winner::Route(Route::new(
+        Txt::of(rt.alloc(), b"1")?,
+        Txt::of(rt.alloc(), b"XML")?,
+        Txt::of(rt.alloc(), b"default")?,
+    ));
+    assert!(rt; is_route(&winner.copy()?, "1", "XML", "default")?);
     Ok(())
 }
 

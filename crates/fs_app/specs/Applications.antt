@@ -4,7 +4,8 @@ use Rattle.std.specs.List.{before_first, after_first}
 use Rattle.std.specs.Str.{bytes_eq}
 use Rattle.fs_text.specs.Number.{read_u64}
 use Rattle.fs_api.specs.Words.{without_spaces, word_of, behind_word}
-use Rattle.fs_api.specs.Originates.{Text, is_short}
+use Rattle.fs_api.specs.Routes.{Text}
+use Rattle.fs_api.specs.Originates.{is_short}
 use Rattle.fs_api.specs.Readings.{is_equals, cause_named}
 use Rattle.fs_chan.specs.Changes as changes
 use Rattle.fs_app.specs.declared.application.Application.{Application}

@@ -1,4 +1,4 @@
-ghost use Rattle.std.specs.Prelude.{◌≡◌, [], length, OnOk, OnErr};
+ghost use Rattle.std.specs.Prelude.{◌≡◌, ◌<◌, [], length, IfSome, OnOk, OnErr};
 ghost use Rattle.std.specs.Option.{option_copied};
 ghost use Rattle.fs_places.specs.Places as places;
 ghost use Rattle.fs_places.specs.Overlays as spec;
@@ -74,7 +74,8 @@ impl<'a, T: Drop> Overlay<'a, T> {
     /// The least empty place from one on.
     #[tactic(auto, using(crate::proofs::PlaceLemmas::first_here, crate::proofs::PlaceLemmas::first_behind, crate::proofs::PlaceLemmas::first_nowhere))]
     pub fn least_free(&self, from: usize) -> Option<usize>
-        ensures { result ≡ places.least_free (spec.now_of self.now) from }
+        ensures place { result ≡ places.least_free (spec.now_of self.now) from }
+        ensures within { IfSome result (λ place. place < length (spec.now_of self.now)) }
     {
         for place in from..self.len() {
             if self.get(place).is_none() {

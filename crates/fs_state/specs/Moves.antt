@@ -2,12 +2,13 @@
 use Rattle.std.specs.Prelude.{ℕ, ◌==◌, nat_lt, if◌then◌else◌, Option, None, Some, is_none}
 use Rattle.std.specs.Option.{option_and_then}
 use Rattle.fs_text.specs.declared.states.State.{State}
-use Rattle.fs_text.specs.declared.states.State.TheVariants.{CsPark, CsHangup}
+use Rattle.fs_text.specs.declared.states.State.TheVariants.{CsInit, CsPark, CsHangup, CsReporting}
 use Rattle.fs_text.specs.State.{state_number}
 use Rattle.fs_text.specs.declared.causes.Cause.{Cause}
 use Rattle.fs_text.specs.declared.event_names.EventName.{EventName}
-use Rattle.fs_text.specs.declared.event_names.EventName.TheVariants.{ChannelState, ChannelAnswer, ChannelPark, ChannelUnpark, ChannelHangup, ChannelDestroy}
-use Rattle.fs_chan.specs.Changes.{is_live, answered_at, hung_up}
+use Rattle.fs_text.specs.declared.event_names.EventName.TheVariants.{ChannelCreate, ChannelState, ChannelAnswer, ChannelExecute, ChannelExecuteComplete, ChannelPark, ChannelUnpark, ChannelHangup, ChannelHangupComplete, ChannelDestroy}
+use Rattle.fs_chan.specs.Changes.{is_live, entered, answered_at, gone_on, hung_up}
+use Rattle.fs_chan.specs.declared.action.Action.{Action}
 use Rattle.fs_chan.specs.declared.chan.Chan.{Chan}
 use Rattle.fs_orig.specs.declared.orig.Orig.{Orig}
 use Rattle.fs_orig.specs.Legs.{position_in}
@@ -43,6 +44,24 @@ moved_from change slot (Some c) s = state_told c.state (change c).state (with_ch
 
 abbrev pub moved : (Chan → Chan) → ℕ → Switch → Switch
 moved change slot s = moved_from change slot (chan_at s slot) s
+
+-- a channel begins
+abbrev pub begun : ℕ → Switch → Switch
+begun slot s = moved (entered CsInit) slot (told (happens ChannelCreate) s)
+
+-- ---- applications
+
+-- a channel that has begun an application
+abbrev pub running : Action → Chan → Chan
+running action c = record c { running = Some action }
+
+-- an application begins
+abbrev pub run_on : Action → ℕ → Switch → Switch
+run_on action slot s = told (happens ChannelExecute) (moved (running action) slot s)
+
+-- the running application is over
+abbrev pub completed : ℕ → Switch → Switch
+completed slot s = told (happens ChannelExecuteComplete) (moved gone_on slot s)
 
 -- ---- originations
 
@@ -121,6 +140,10 @@ hung_with cause slot (Some partner) s =
 
 abbrev pub hung : Cause → ℕ → Switch → Switch
 hung cause slot s = hung_with cause slot (partner_at s slot) s
+
+-- the end of a call is told
+abbrev pub reported : ℕ → Switch → Switch
+reported slot s = moved (entered CsReporting) slot (told (happens ChannelHangupComplete) s)
 
 -- a channel is gone, and its slot is free
 abbrev pub destroyed : ℕ → Switch → Switch

@@ -1,8 +1,12 @@
 -- The state of a switch.
-use Rattle.std.specs.Prelude.{ℕ, ◌+◌, ◌-◌, ◌^◌, min, max, Bool, List, [], ◌∷◌, ◌++◌, Option, None, Some, is_none}
+use Rattle.std.specs.Prelude.{ℕ, ◌+◌, ◌-◌, ◌^◌, min, max, Bool, false, ◌&&◌, List, [], ◌∷◌, ◌++◌, position, Option, None, Some, is_none}
+use Rattle.std.specs.Str.{bytes_eq}
+use Rattle.fs_text.specs.CoreId as core_id
+use Rattle.fs_vars.specs.Pairs.{Text}
 use Rattle.fs_vars.specs.Variables.{Variables}
 use Rattle.fs_doc.specs.Reading.{Configuration}
 use Rattle.fs_chan.specs.declared.chan.Chan.{Chan}
+use Rattle.fs_chan.specs.Changes.{is_live}
 use Rattle.fs_orig.specs.declared.orig.Orig.{Orig}
 use Rattle.fs_places.specs.declared.numbered.Numbered.{Numbered}
 use Rattle.fs_places.specs.Places.{no_places, held_in, with_held, least_free}
@@ -58,6 +62,24 @@ empty config = record {
   given = [];
 }
 
+-- ---- the numbers that are drawn
+
+-- the number that the next origination gets
+abbrev pub next_orig : Switch → ℕ
+next_orig s = (numbers.with_orig s.drawn).origs
+
+-- the number that the next job gets
+abbrev pub next_job : Switch → ℕ
+next_job s = (numbers.with_job s.drawn).jobs
+
+-- with one more identifier drawn
+abbrev pub identified : Switch → Switch
+identified s = record s { drawn = numbers.with_identifier s.drawn }
+
+-- the identifier that was drawn last
+abbrev pub identifier_of : Switch → Text
+identifier_of s = core_id.uuid s.config.settings.core_uuid s.drawn.identifiers
+
 -- ---- what is there
 
 abbrev pub chan_at : Switch → ℕ → Option Chan
@@ -65,6 +87,19 @@ chan_at s slot = held_in s.channels slot
 
 abbrev pub with_chan : ℕ → Option Chan → Switch → Switch
 with_chan slot chan s = record s { channels = with_held s.channels slot chan }
+
+-- the least free slot from one on
+abbrev pub free_slot : ℕ → Switch → Option ℕ
+free_slot from s = least_free s.channels from
+
+-- there is a channel, it is live, and it has this identifier
+abbrev pub is_live_as : Text → Option Chan → Bool
+is_live_as uuid None = false
+is_live_as uuid (Some c) = is_live c && bytes_eq c.uuid uuid
+
+-- the least slot whose channel is live and has this identifier
+abbrev pub slot_named : Text → Switch → Option ℕ
+slot_named uuid s = position (is_live_as uuid) s.channels
 
 abbrev pub orig_of : Switch → ℕ → Option Orig
 orig_of s number = row_of s.origs number
@@ -77,7 +112,7 @@ without_orig number s = record s { origs = without_row s.origs number }
 
 -- with one more origination, of the next number
 abbrev pub with_new_orig : Orig → Switch → Switch
-with_new_orig orig s = record s { drawn = numbers.with_orig s.drawn; origs = with_new_row s.origs (numbers.with_orig s.drawn).origs orig }
+with_new_orig orig s = record s { drawn = numbers.with_orig s.drawn; origs = with_new_row s.origs (next_orig s) orig }
 
 abbrev pub job_of : Switch → ℕ → Option Job
 job_of s number = row_of s.jobs number
@@ -87,7 +122,15 @@ without_job number s = record s { jobs = without_row s.jobs number }
 
 -- with one more job, of the next number
 abbrev pub with_new_job : Job → Switch → Switch
-with_new_job job s = record s { drawn = numbers.with_job s.drawn; jobs = with_new_row s.jobs (numbers.with_job s.drawn).jobs job }
+with_new_job job s = record s { drawn = numbers.with_job s.drawn; jobs = with_new_row s.jobs (next_job s) job }
+
+-- what stands at a place for a job
+abbrev pub job_at : Switch → ℕ → Option (Numbered Job)
+job_at s place = held_in s.jobs place
+
+-- each place for a job is taken
+abbrev pub is_full_of_jobs : Switch → Bool
+is_full_of_jobs s = is_none (least_free s.jobs 0)
 
 abbrev pub conn_of : Switch → ℕ → Option Conn
 conn_of s number = row_of s.conns number

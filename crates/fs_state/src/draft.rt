@@ -42,7 +42,7 @@ pub struct Draft<'a> {
 }
 
 impl<'a> Model for Draft<'a> {
-    ghost use Rattle.std.specs.Prelude.{◌≡◌};
+    ghost use Rattle.std.specs.Prelude.{◌≡◌, ◌<◌, ◌^◌, length};
     ghost use Rattle.fs_state.specs.Drafts.{Drafted};
 
     ghost Value = { Drafted };
@@ -64,7 +64,8 @@ impl<'a> Model for Draft<'a> {
     } };
 
     ghost invariant = { λ d.
-        (d.channels.kept ≡ d.core.now.channels) × (d.origs.kept ≡ d.core.now.origs) × (d.jobs.kept ≡ d.core.now.jobs) × (d.conns.kept ≡ d.core.now.conns) };
+        (d.channels.kept ≡ d.core.now.channels) × (d.origs.kept ≡ d.core.now.origs) × (d.jobs.kept ≡ d.core.now.jobs) × (d.conns.kept ≡ d.core.now.conns)
+        × (length d.core.now.channels < 2 ^ 16) };
 }
 
 impl<'a> Draft<'a> {
@@ -114,6 +115,14 @@ impl<'a> Draft<'a> {
         core.entries
     }
 
+    /// What the entries before the one in hand cost.
+    pub fn cost(&self) -> u64
+        ensures { result ≡ (drafted self.now).cost }
+    {
+        let core = self.core;
+        core.cost
+    }
+
     /// The moment of the entry in hand, in microseconds.
     pub fn moment(&self) -> u64
         ensures { result ≡ (drafted self.now).moment }
@@ -144,6 +153,34 @@ impl<'a> Draft<'a> {
         ensures ok { OnOk result (drafted self.new ≡ spec.gave conn frame (drafted self.old)) }
     {
         self.given.push(conn, frame)
+    }
+
+    // ---- the numbers that are drawn
+
+    /// The number that the next origination gets.
+    pub fn next_orig(&self) -> u64
+        ensures { result ≡ spec.next_orig (drafted self.now) }
+    {
+        self.drawn.with_orig().origs
+    }
+
+    /// The number that the next job gets.
+    pub fn next_job(&self) -> u64
+        ensures { result ≡ spec.next_job (drafted self.now) }
+    {
+        self.drawn.with_job().jobs
+    }
+
+    /// Draws an identifier of the switch, whose number is the next.
+    pub fn draw_identifier(&mut self) -> Result<Txt, Memory>
+        ensures base { self.new.base ≡ self.old.base }
+        ensures identifier { IfOk result (λ text. text ≡ spec.identifier_of (drafted self.new)) }
+        ensures ok { OnOk result (drafted self.new ≡ spec.identified (drafted self.old)) }
+    {
+        self.drawn = self.drawn.with_identifier();
+        let core = self.core;
+        let core_id = core.config.settings().core_uuid;
+        core_id.uuid(core.alloc, self.drawn.identifiers)
     }
 
     // ---- globals
@@ -184,6 +221,46 @@ impl<'a> Draft<'a> {
         self.channels.put(usize::from(slot), chan)
     }
 
+    /// How many slots there are, with slot 0.
+    #[tactic(auto, using(fs_places::proofs::PlaceLemmas::written_length))]
+    pub fn slots(&self) -> u16
+        ensures { result ≡ length (drafted self.now).channels }
+    {
+        self.channels.len() as u16
+    }
+
+    /// The least free slot from one on.
+    #[tactic(auto, using(fs_places::proofs::PlaceLemmas::written_length))]
+    pub fn free_slot(&self, from: u16) -> Option<u16>
+        ensures { result ≡ spec.free_slot from (drafted self.now) }
+    {
+        let slot = self.channels.least_free(usize::from(from))?;
+        Some(slot as u16)
+    }
+
+    /// The least slot whose channel is live and has this identifier.
+    #[tactic(auto, using(fs_places::proofs::PlaceLemmas::first_here, fs_places::proofs::PlaceLemmas::first_behind, fs_places::proofs::PlaceLemmas::first_nowhere, crate::proofs::SlotLemmas::first_of_all))]
+    pub fn slot_named(&self, uuid: &[u8]) -> Option<u16>
+        ensures { result ≡ spec.slot_named uuid.now (drafted self.now) }
+    {
+        for slot in 0..self.slots() {
+            if self.is_live_as(slot, uuid) {
+                return Some(slot);
+            }
+        }
+        None
+    }
+
+    /// Whether there is a channel in a slot, it is live, and it has this identifier.
+    fn is_live_as(&self, slot: u16, uuid: &[u8]) -> bool
+        ensures { result ≡ spec.is_live_as uuid.now (spec.chan_at (drafted self.now) slot) }
+    {
+        match self.chan(slot) {
+            Some(chan) => chan.is_live() && chan.uuid.as_bytes() == uuid,
+            None => false,
+        }
+    }
+
     // ---- originations
 
     /// The origination of a number.
@@ -204,7 +281,7 @@ impl<'a> Draft<'a> {
     /// Begins an origination, whose number is the next.
     pub fn add_orig(&mut self, orig: Orig) -> Result<u64, Memory>
         ensures base { self.new.base ≡ self.old.base }
-        ensures number { IfOk result (λ number. number ≡ (numbers.with_orig (drafted self.old).drawn).origs) }
+        ensures number { IfOk result (λ number. number ≡ spec.next_orig (drafted self.old)) }
         ensures ok { OnOk result (drafted self.new ≡ spec.with_new_orig orig (drafted self.old)) }
     {
         self.drawn = self.drawn.with_orig();
@@ -233,7 +310,7 @@ impl<'a> Draft<'a> {
     /// Begins a job, whose number is the next.
     pub fn add_job(&mut self, job: Job) -> Result<u64, Memory>
         ensures base { self.new.base ≡ self.old.base }
-        ensures number { IfOk result (λ number. number ≡ (numbers.with_job (drafted self.old).drawn).jobs) }
+        ensures number { IfOk result (λ number. number ≡ spec.next_job (drafted self.old)) }
         ensures ok { OnOk result (drafted self.new ≡ spec.with_new_job job (drafted self.old)) }
     {
         self.drawn = self.drawn.with_job();
@@ -248,6 +325,27 @@ impl<'a> Draft<'a> {
         ensures ok { OnOk result (drafted self.new ≡ spec.without_job number (drafted self.old)) }
     {
         self.jobs.drop_row(number)
+    }
+
+    /// Whether each place for a job is taken.
+    pub fn is_full_of_jobs(&self) -> bool
+        ensures { result ≡ spec.is_full_of_jobs (drafted self.now) }
+    {
+        self.jobs.least_free(0).is_none()
+    }
+
+    /// What stands at a place for a job; past the last one stands nothing.
+    pub fn job_at(&self, place: usize) -> Option<&Numbered<Job>>
+        ensures { option_copied result ≡ spec.job_at (drafted self.now) place }
+    {
+        self.jobs.get(place)
+    }
+
+    /// How many jobs there may be.
+    pub fn job_places(&self) -> usize
+        ensures { result ≡ length (drafted self.now).jobs }
+    {
+        self.jobs.len()
     }
 
     // ---- connections

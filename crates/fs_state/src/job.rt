@@ -1,6 +1,7 @@
 ghost use Rattle.std.specs.Prelude.{◌≡◌, IfOk};
 
-use fs_text::{Memory, Txt};
+use fs_api::Winner;
+use fs_text::Memory;
 
 /// Work that goes on behind a command, and in the end gives its reply.
 #[derive(Drop)]
@@ -17,22 +18,6 @@ pub enum JobWork {
     Sleep { until: u64 },
     /// The verdict on the origination of this number. A leg that wins then does this.
     Originate { orig: u64, winner: Winner },
-}
-
-/// What a leg does that wins for the api command `originate`.
-#[derive(Drop)]
-pub enum Winner {
-    /// It runs an application.
-    App {
-        application: Txt,
-        argument: Txt,
-    },
-    /// It is routed.
-    Route {
-        exten: Txt,
-        dialplan: Txt,
-        context: Txt,
-    },
 }
 
 impl Job {
@@ -57,32 +42,6 @@ impl JobWork {
             JobWork::Originate { orig, winner } => JobWork::Originate {
                 orig: *orig,
                 winner: winner.copy()?,
-            },
-        })
-    }
-}
-
-impl Winner {
-    /// The same once more.
-    pub fn copy(&self) -> Result<Winner, Memory>
-        ensures { IfOk result (λ winner. winner ≡ self.now) }
-    {
-        Ok(match self {
-            Winner::App {
-                application,
-                argument,
-            } => Winner::App {
-                application: application.copy()?,
-                argument: argument.copy()?,
-            },
-            Winner::Route {
-                exten,
-                dialplan,
-                context,
-            } => Winner::Route {
-                exten: exten.copy()?,
-                dialplan: dialplan.copy()?,
-                context: context.copy()?,
             },
         })
     }

@@ -24,6 +24,6 @@ pub use draft::Draft;
 pub use drawn::Drawn;
 pub use event::{Event, Events};
 pub use gift::{Gift, Gifts};
-pub use job::{Job, JobWork, Winner};
+pub use job::{Job, JobWork};
 pub use queues::Queues;
 pub use switch::Core;

@@ -6,9 +6,8 @@ ghost use Rattle.fs_state.specs.Moves as spec;
 
 use crate::draft::Draft;
 use crate::event::Event;
-use fs_chan::{Actions, Chan, Target3};
+use fs_chan::{Action, Chan, Target3};
 use fs_text::{Cause, EventName, Memory, State};
-use fs_vars::Vars;
 
 impl<'a> Draft<'a> {
     /// Something happens that tells of no bridge and of no cause.
@@ -131,5 +130,58 @@ impl<'a> Draft<'a> {
         let old = chan.state;
         chan.go_on();
         self.put_moved(slot, old, chan)
+    }
+
+    /// A channel begins.
+    pub fn begin(&mut self, slot: u16) -> Result<(), Memory>
+        ensures base { self.new.base ≡ self.old.base }
+        ensures ok { OnOk result (drafted self.new ≡ spec.begun slot (drafted self.old)) }
+    {
+        self.tell_of(EventName::ChannelCreate)?;
+        self.enter(slot, State::CsInit)
+    }
+
+    // ---- applications
+
+    /// An application begins on the channel in a slot.
+    pub fn run_on(&mut self, slot: u16, action: Action) -> Result<(), Memory>
+        ensures base { self.new.base ≡ self.old.base }
+        ensures ok { OnOk result (drafted self.new ≡ spec.run_on action slot (drafted self.old)) }
+    {
+        self.set_running(slot, action)?;
+        self.tell_of(EventName::ChannelExecute)
+    }
+
+    /// The channel in a slot has begun an application.
+    fn set_running(&mut self, slot: u16, action: Action) -> Result<(), Memory>
+        ensures base { self.new.base ≡ self.old.base }
+        ensures ok { OnOk result (drafted self.new ≡ spec.moved (spec.running action) slot (drafted self.old)) }
+    {
+        let Some(mut chan) = self.copy_chan(slot)? else {
+            return Ok(());
+        };
+        let old = chan.state;
+        chan.running = Some(action);
+        self.put_moved(slot, old, chan)
+    }
+
+    /// The running application of the channel in a slot is over.
+    pub fn complete(&mut self, slot: u16) -> Result<(), Memory>
+        ensures base { self.new.base ≡ self.old.base }
+        ensures ok { OnOk result (drafted self.new ≡ spec.completed slot (drafted self.old)) }
+    {
+        self.go_on(slot)?;
+        self.tell_of(EventName::ChannelExecuteComplete)
+    }
+
+    // ---- the end of a call
+
+    /// The end of the call of the channel in a slot is told.
+    pub fn report(&mut self, slot: u16) -> Result<(), Memory>
+        ensures base { self.new.base ≡ self.old.base }
+        ensures ok { OnOk result (drafted self.new ≡ spec.reported slot (drafted self.old)) }
+    {
+        self.tell_of(EventName::ChannelHangupComplete)?;
+        self.enter(slot, State::CsReporting)
     }
 }

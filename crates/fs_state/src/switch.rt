@@ -42,7 +42,7 @@ pub struct Core {
 }
 
 impl Model for Core {
-    ghost use Rattle.std.specs.Prelude.{[]};
+    ghost use Rattle.std.specs.Prelude.{◌<◌, ◌^◌, [], length};
     ghost use Rattle.fs_state.specs.Switch.{Switch};
 
     ghost Value = { Switch };
@@ -63,13 +63,17 @@ impl Model for Core {
       news = [];
       given = [];
     } };
+
+    ghost invariant = { λ c. length c.channels < 2 ^ 16 };
 }
 
 impl Core {
     /// A switch to which nothing has happened.
+    #[tactic(auto, using(crate::proofs::SlotLemmas::no_places_length))]
     pub fn new(alloc: Global, config: Config) -> Result<Core, Memory>
         ensures { IfOk result (λ core. core ≡ spec.empty config) }
     {
+        config.within();
         let slots = usize::from(config.settings().max_sessions) + 1;
         let conns = usize::from(config.settings().max_connections);
         let globals = config.globals().copy()?;
@@ -91,6 +95,7 @@ impl Core {
     }
 
     /// Does what an entry changes, at its cost. It takes no memory.
+    #[tactic(auto, using(fs_places::proofs::PlaceLemmas::written_length))]
     pub fn apply(&mut self, delta: Delta, cost: u64)
         requires { Fits self.old delta }
         ensures { self.new ≡ spec.closed cost (after self.old delta) }

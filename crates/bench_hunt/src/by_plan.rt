@@ -22,7 +22,7 @@ pub fn found(alloc: Global, count: u64) -> Option<u64> {
     let mut found: u64 = 0;
     for _ in 0..count {
         let hunt = plan.hunt(alloc, &scope, b"default", &mut NoGate).ok()?;
-        if !hunt.actions.as_slice().is_empty() {
+        if !hunt.actions.is_empty() {
             found = found.saturating_add(1);
         }
     }

@@ -1,8 +1,11 @@
 ghost use Rattle.std.specs.Prelude.{◌≡◌, ◌==◌, [], ◌∷◌, ◌++◌, length, MatchOption, IfOk, OnOk, OnErr};
+ghost use Rattle.std.specs.Iterator.{at_most};
+ghost use Rattle.std.specs.Map.Iter.{TakesFirst};
 
 use fs_text::{Memory, Txt};
 use std::alloc::Global;
 use std::collections::VecDeque;
+use std::collections::vec_deque::Iter;
 use std::marker::Model;
 
 /// An application with its argument.
@@ -74,6 +77,25 @@ impl Actions {
         Ok(())
     }
 
+    /// Moves other actions behind these. Where that is refused, the others are gone.
+    pub fn append(&mut self, other: Actions) -> Result<(), Memory>
+        ensures ok { OnOk result (self.new ≡ self.old ++ other) }
+        ensures err { OnErr result (self.new ≡ self.old) }
+    {
+        let mut queue = other.queue;
+        self.queue.append(&mut queue)?;
+        Ok(())
+    }
+
+    /// The actions, one after another.
+    pub fn iter(&self) -> ActionsIter<'_>
+        ensures { result ≡ self.now }
+    {
+        ActionsIter {
+            queue: self.queue.iter(),
+        }
+    }
+
     /// Takes the first action out, if there is one.
     pub fn take_first(&mut self) -> Option<Action>
         ensures { MatchOption result ((self.old ≡ []) × (self.new ≡ [])) (λ action. self.old ≡ action ∷ self.new) }
@@ -97,5 +119,33 @@ impl Actions {
             actions.push(action.copy()?)?;
         }
         Ok(actions)
+    }
+}
+
+/// Actions, one after another. A contract sees those that are still to come.
+#[derive(Drop)]
+pub struct ActionsIter<'a> {
+    queue: Iter<'a, Action>,
+}
+
+impl<'a> Model for ActionsIter<'a> {
+    ghost use Rattle.std.specs.Prelude.{List};
+    ghost use Rattle.std.specs.VecDeque.Iter.{deque_iter_rest};
+    ghost use Rattle.fs_chan.specs.declared.action.Action.{Action};
+
+    ghost Value = { List Action };
+
+    ghost view = { λ i. deque_iter_rest i.queue };
+}
+
+impl<'a> Iterator for ActionsIter<'a> {
+    type Item = &'a Action;
+
+    ghost next_gives = { TakesFirst (λ action. action.now) };
+
+    ghost remaining = { λ s. at_most (length s) };
+
+    fn next(&mut self) -> Option<&'a Action> {
+        self.queue.next()
     }
 }

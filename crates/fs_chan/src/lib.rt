@@ -13,11 +13,12 @@ mod variables;
 mod wait;
 mod work;
 
-pub use action::{Action, Actions};
+pub use action::{Action, Actions, ActionsIter};
 pub use chan::Chan;
 pub use due::Due;
 pub use moment::moment_after;
 pub use peer::{Direction, Peer};
 pub use target::Target3;
+pub use variables::exported;
 pub use wait::Wait;
 pub use work::due_law;

@@ -51,9 +51,16 @@ impl Chan {
     }
 }
 
-/// The variables once a name is set and exported, unless either cannot be done.
+/// The variables once one of them is set, and its name put once into `export_vars`, the comma list of those that new legs get.
+///
+/// `None` where the variable or the list cannot be set. A name that is taken out by its value is listed too.
 #[tactic(auto, unfolding(crate::specs::Exports::exported))]
-fn exported(alloc: Global, vars: &Vars, name: &[u8], value: &[u8]) -> Result<Option<Vars>, Memory>
+pub fn exported(
+    alloc: Global,
+    vars: &Vars,
+    name: &[u8],
+    value: &[u8],
+) -> Result<Option<Vars>, Memory>
     ensures answer { IfOk result (λ done. is_some done ≡ spec.can_export vars.now name.now value.now) }
     ensures exported { IfOk result (λ done. unwrap_or done vars.now ≡ spec.exported vars.now name.now value.now) }
 {

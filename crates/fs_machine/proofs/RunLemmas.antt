@@ -1,5 +1,5 @@
 -- The run of a journal with one more entry.
-use Rattle.std.proofs.Common.{◌≡◌, List, [], ◌∷◌, ◌++◌, None, refl, sym, ap, ◌∙◌}
+use Rattle.std.proofs.Common.{◌≡◌, ◌+◌, ◌-◌, ◌^◌, min, List, [], ◌∷◌, ◌++◌, None, refl, sym, ap, ◌∙◌}
 use Rattle.fs_state.specs.Switch.{Switch, empty, closed}
 use Rattle.fs_state.specs.Drafts.{after}
 use Rattle.fs_state.specs.declared.delta.Delta.{Delta}
@@ -26,3 +26,8 @@ stands_more kept journal entry delta reply stands prepared = record {
       ∙ sym (run_more (empty kept.config) journal entry ∙ ap (λ (t : Acted). t.state) prepared.steps);
   defined = is_run_more (empty kept.config) journal entry stands.defined prepared.defined;
 }
+
+-- what was prepared costs what its act does
+pub cost_more : (s : Switch) (journal : List Entry) (entry : Entry) (delta : Delta) (reply : Reply) → IsPrepared (run_from s journal) entry delta reply →
+    (run_from s (journal ++ entry ∷ [])).cost ≡ min ((run_from s journal).cost + cost_of entry.act) (2 ^ 64 - 1)
+cost_more s journal entry delta reply prepared = ap (λ (t : Switch). t.cost) (run_more s journal entry) ∙ ap (λ (t : Acted). t.state.cost) prepared.steps

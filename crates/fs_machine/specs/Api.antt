@@ -1,6 +1,9 @@
 -- What an api command answers, and what it does to the switch.
-use Rattle.std.specs.Prelude.{nat_lt, [], ◌++◌, length, map, Option, None, Some, unwrap_or, codes, if◌then◌else◌}
+use Rattle.std.specs.Prelude.{ℕ, nat_lt, [], ◌++◌, length, map, Bool, Option, None, Some, is_some, unwrap_or, codes, if◌then◌else◌}
 use Rattle.std.specs.List.{concat}
+use Rattle.std.specs.Option.{option_and_then}
+use Rattle.fs_text.specs.declared.causes.Cause.{Cause}
+use Rattle.fs_text.specs.declared.causes.Cause.TheVariants.{InvalidNumberFormat}
 use Rattle.fs_vars.specs.Pairs.{Text, Pairs, value_of}
 use Rattle.fs_vars.specs.Variables.{can_set, set_to}
 use Rattle.fs_vars.specs.Expansion.{expanded}
@@ -8,17 +11,29 @@ use Rattle.fs_api.specs.declared.api.Api.{Api}
 use Rattle.fs_api.specs.declared.api.Api.TheVariants as api
 use Rattle.fs_api.specs.Readings.{api_of}
 use Rattle.fs_api.specs.Usages.{usage_of}
-use Rattle.fs_state.specs.Switch.{Switch}
-use Rattle.fs_machine.specs.Texts.{ok, limit_passed, too_long_text, usage_text, api_not_found}
+use Rattle.fs_api.specs.declared.api.Winner.{Winner}
+use Rattle.fs_chan.specs.declared.chan.Chan.{Chan}
+use Rattle.fs_orig.specs.Endpoints.{is_one_leg}
+use Rattle.fs_state.specs.Switch.{Switch, chan_at, slot_named, is_full_of_jobs}
+use Rattle.fs_state.specs.Moves.{hung}
+use Rattle.fs_machine.specs.Texts.{ok, yes, no, limit_passed, too_long_text, usage_text, api_not_found, no_channel, undefined, too_many_jobs, failed_text}
+use Rattle.fs_machine.specs.declared.originations.Caller.{Caller}
+use Rattle.fs_machine.specs.Jobs.{sleep_begun, originate_begun}
 
--- the switch after an api command, and its answer
+-- the switch after an api command, and its answer, unless that is owed
 pub record Done : Type 0 where
   pub state : Switch
-  pub answer : Text
+  pub answer : Option Text
 
 -- an answer, and nothing else
 abbrev pub says : Text → Switch → Done
-says answer s = record { state = s; answer = answer }
+says answer s = record { state = s; answer = Some answer }
+
+-- no answer yet
+abbrev pub owes : Switch → Done
+owes s = record { state = s; answer = None }
+
+-- ---- globals
 
 -- a global in a line
 abbrev pub line_of_pair : Text × Text → Text
@@ -38,25 +53,57 @@ abbrev pub set_global : Text → Text → Switch → Done
 set_global name value s =
     if can_set s.globals name value then says ok (record s { globals = set_to s.globals name value }) else says limit_passed s
 
--- what a command does that expands no text; what is not built yet is not found
-abbrev pub done_plainly : Api → Switch → Done
-done_plainly (api.Echo text) s = says text s
-done_plainly (api.Expand text) s = says (api_not_found (codes "expand")) s
-done_plainly (api.GlobalGetvar name) s = says (got_global name s.globals.pairs) s
-done_plainly (api.GlobalSetvar name value) s = set_global name value s
-done_plainly (api.Msleep milliseconds) s = says (api_not_found (codes "msleep")) s
-done_plainly (api.UuidExists uuid) s = says (api_not_found (codes "uuid_exists")) s
-done_plainly (api.UuidKill uuid cause) s = says (api_not_found (codes "uuid_kill")) s
-done_plainly (api.UuidGetvar uuid name) s = says (api_not_found (codes "uuid_getvar")) s
-done_plainly (api.Originate url winner cid_name cid_number timeout) s = says (api_not_found (codes "originate")) s
-done_plainly (api.Usage which) s = says (usage_text (usage_of which)) s
-done_plainly (api.Unknown name) s = says (api_not_found name) s
+-- ---- channels
+
+abbrev pub told_whether : Bool → Text
+told_whether holds = if holds then yes else no
+
+-- a live channel is hung up
+abbrev pub killed : Cause → Option ℕ → Switch → Done
+killed cause None s = says no_channel s
+killed cause (Some slot) s = says ok (hung cause slot s)
+
+-- the value of a variable
+abbrev pub got_variable : Text → Option Chan → Text
+got_variable name None = no_channel
+got_variable name (Some c) = unwrap_or (value_of c.vars.pairs name) undefined
+
+abbrev pub chan_named : Text → Switch → Option Chan
+chan_named uuid s = option_and_then (chan_at s) (slot_named uuid s)
+
+-- ---- jobs
+
+abbrev pub slept : ℕ → ℕ → Switch → Done
+slept conn milliseconds s = if is_full_of_jobs s then says too_many_jobs s else owes (sleep_begun conn milliseconds s)
+
+-- a dial string of several legs, or with variables, is not built yet
+abbrev pub originated : ℕ → Text → Winner → Caller → Option ℕ → Switch → Done
+originated conn url winner caller timeout s =
+    if is_full_of_jobs s then says too_many_jobs s
+    else (if is_one_leg url then owes (originate_begun conn url winner caller timeout s) else says (failed_text InvalidNumberFormat) s)
+
+-- ---- commands
+
+-- what a command of a connection does that expands no text
+abbrev pub done_plainly : ℕ → Api → Switch → Done
+done_plainly conn (api.Echo text) s = says text s
+done_plainly conn (api.Expand text) s = says (api_not_found (codes "expand")) s
+done_plainly conn (api.GlobalGetvar name) s = says (got_global name s.globals.pairs) s
+done_plainly conn (api.GlobalSetvar name value) s = set_global name value s
+done_plainly conn (api.Msleep milliseconds) s = slept conn milliseconds s
+done_plainly conn (api.UuidExists uuid) s = says (told_whether (is_some (slot_named uuid s))) s
+done_plainly conn (api.UuidKill uuid cause) s = killed cause (slot_named uuid s) s
+done_plainly conn (api.UuidGetvar uuid name) s = says (got_variable name (chan_named uuid s)) s
+done_plainly conn (api.Originate url winner cid_name cid_number timeout) s =
+    originated conn url winner (record { name = cid_name; number = cid_number }) timeout s
+done_plainly conn (api.Usage which) s = says (usage_text (usage_of which)) s
+done_plainly conn (api.Unknown name) s = says (api_not_found name) s
 
 -- what a text does that was expanded: it is run as a command, unless it is too long
-abbrev pub done_expanded : Text → Switch → Done
-done_expanded text s = if nat_lt 65536 (length text) then says too_long_text s else done_plainly (api_of text) s
+abbrev pub done_expanded : ℕ → Text → Switch → Done
+done_expanded conn text s = if nat_lt 65536 (length text) then says too_long_text s else done_plainly conn (api_of text) s
 
 -- what an api command does
-abbrev pub done_by : Api → Switch → Done
-done_by (api.Expand text) s = done_expanded (expanded s.globals.pairs text) s
-done_by other s = done_plainly other s
+abbrev pub done_by : ℕ → Api → Switch → Done
+done_by conn (api.Expand text) s = done_expanded conn (expanded s.globals.pairs text) s
+done_by conn other s = done_plainly conn other s

@@ -1,16 +1,16 @@
 -- How a command line is read, and what the commands do.
-use Rattle.std.specs.Prelude.{ℕ, ◌==◌, length, Option, None, Some, codes, if◌then◌else◌}
+use Rattle.std.specs.Prelude.{ℕ, Option, None, Some, codes, if◌then◌else◌}
 use Rattle.std.specs.Str.{bytes_eq}
 use Rattle.fs_vars.specs.Pairs.{Text}
 use Rattle.fs_api.specs.Readings.{api_of}
-use Rattle.fs_state.specs.declared.conn.Conn.{Conn}
 use Rattle.fs_state.specs.declared.conn.Phase.{Phase}
 use Rattle.fs_state.specs.declared.conn.Phase.TheVariants.{Fresh, Ready, Ending, Closed}
 use Rattle.fs_state.specs.declared.conn.Parting.{Parting}
 use Rattle.fs_state.specs.declared.conn.Parting.TheVariants as parting
-use Rattle.fs_state.specs.Switch.{Switch, conn_of, with_conn, gave}
-use Rattle.fs_machine.specs.Texts.{command_reply, api_response, notice, accepted, invalid, bye, not_found, no_reply}
+use Rattle.fs_state.specs.Switch.{Switch, gave}
+use Rattle.fs_machine.specs.Texts.{command_reply, api_response, notice, accepted, invalid, bye, not_found, spoken}
 use Rattle.fs_machine.specs.Words.{word_of, behind_word}
+use Rattle.fs_machine.specs.Connections.{phase_at, conn_changed, admitted, parted}
 use Rattle.fs_machine.specs.Api.{Done, done_by}
 
 -- a command of the event socket
@@ -26,32 +26,6 @@ command_of line =
     if bytes_eq (word_of line) (codes "auth") then Auth (behind_word line)
     else (if bytes_eq (word_of line) (codes "exit") then Exit
     else (if bytes_eq (word_of line) (codes "api") then Api (behind_word line) else Unknown))
-
--- ---- connections
-
--- a connection that is not there is closed
-abbrev pub phase_of : Option Conn → Phase
-phase_of None = Closed
-phase_of (Some c) = c.phase
-
-abbrev pub phase_at : Switch → ℕ → Phase
-phase_at s number = phase_of (conn_of s number)
-
--- a connection is changed, if it is there
-abbrev pub conn_changed_from : (Conn → Conn) → ℕ → Option Conn → Switch → Switch
-conn_changed_from change number None s = s
-conn_changed_from change number (Some c) s = with_conn number (change c) s
-
-abbrev pub conn_changed : (Conn → Conn) → ℕ → Switch → Switch
-conn_changed change number s = conn_changed_from change number (conn_of s number) s
-
--- it may give all commands
-abbrev pub admitted : Conn → Conn
-admitted c = record c { phase = Ready }
-
--- it gives no further command
-abbrev pub parted : Parting → Conn → Conn
-parted why c = record c { phase = Ending; parting = Some why }
 
 -- ---- what commands do
 
@@ -70,13 +44,14 @@ offered conn given s =
     then replied conn accepted (conn_changed admitted conn s)
     else dismissed conn parting.AuthRefused invalid s
 
--- an answer as it is sent: an empty one is told in words
-unfoldable pub spoken : Text → Text
-spoken answer = if length answer == 0 then no_reply else answer
+-- an answer, unless it is owed
+abbrev pub responded_with : ℕ → Option Text → Switch → Switch
+responded_with conn None s = s
+responded_with conn (Some answer) s = gave conn (api_response (spoken answer)) s
 
--- an api command was done, and answered
+-- an api command was done
 abbrev pub responded : ℕ → Done → Switch
-responded conn d = gave conn (api_response (spoken d.answer)) d.state
+responded conn d = responded_with conn d.answer d.state
 
 -- what a command does in a phase of its connection; before a password was accepted `auth` and `exit` alone are known
 abbrev pub commanded_in : Phase → ℕ → Command → Switch → Switch
@@ -86,7 +61,7 @@ commanded_in Fresh conn (Api text) s = replied conn not_found s
 commanded_in Fresh conn Unknown s = replied conn not_found s
 commanded_in Ready conn (Auth given) s = replied conn not_found s
 commanded_in Ready conn Exit s = dismissed conn parting.Exit bye s
-commanded_in Ready conn (Api text) s = responded conn (done_by (api_of text) s)
+commanded_in Ready conn (Api text) s = responded conn (done_by conn (api_of text) s)
 commanded_in Ready conn Unknown s = replied conn not_found s
 commanded_in Ending conn command s = s
 commanded_in Closed conn command s = s

@@ -1,8 +1,16 @@
 pub mod Texts
 pub mod Entries
 pub mod Words
+pub mod Connections
+pub mod Due
+pub mod Questions
+pub mod Applications
+pub mod Work
+pub mod Originations
+pub mod Jobs
 pub mod Api
 pub mod Commands
 pub mod Readings
 pub mod Step
+pub mod Frames
 pub mod Runs

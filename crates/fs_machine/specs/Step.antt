@@ -1,7 +1,8 @@
 -- Which entries are refused, and what the others do.
 use Rattle.std.specs.Prelude.{ℕ, ◌==◌, ◌||◌, not, Bool, true, false, [], length, Option, None, Some, is_some, unwrap_or, slice_get, if◌then◌else◌}
-use Rattle.std.specs.Option.{option_and_then}
 use Rattle.fs_frame.specs.Block.{line_of}
+use Rattle.fs_chan.specs.declared.due.Due.{Due}
+use Rattle.fs_chan.specs.declared.due.Due.TheVariants.{Now, At}
 use Rattle.fs_state.specs.declared.conn.Conn.{Conn}
 use Rattle.fs_state.specs.declared.conn.Phase.{Phase}
 use Rattle.fs_state.specs.declared.conn.Phase.TheVariants as phase
@@ -10,7 +11,7 @@ use Rattle.fs_state.specs.Drawn as numbers
 use Rattle.fs_state.specs.Switch.{Switch, conn_of, with_new_conn, without_conn, with_frame_taken, waiting_for, is_full_of_conns, gave, advanced, closed}
 use Rattle.fs_machine.specs.declared.entry.Entry.{Entry}
 use Rattle.fs_machine.specs.declared.entry.Act.{Act}
-use Rattle.fs_machine.specs.declared.entry.Act.TheVariants.{Arrive, Command, Take, Close}
+use Rattle.fs_machine.specs.declared.entry.Act.TheVariants.{Arrive, Command, Take, Close, Work, Job}
 use Rattle.fs_machine.specs.declared.entry.Closing.{Closing}
 use Rattle.fs_machine.specs.declared.entry.Closing.TheVariants.{EndOfInput, Sent, Failed}
 use Rattle.fs_machine.specs.declared.reply.Reply.{Reply}
@@ -19,7 +20,12 @@ use Rattle.fs_machine.specs.declared.refusal.Refusal.{Refusal}
 use Rattle.fs_machine.specs.declared.refusal.Refusal.TheVariants as refusal
 use Rattle.fs_machine.specs.Texts.{auth_request}
 use Rattle.fs_machine.specs.Entries.{cost_of, is_full}
-use Rattle.fs_machine.specs.Commands.{phase_at, conn_changed, parted, command_of, commanded}
+use Rattle.fs_machine.specs.Connections.{phase_at, conn_changed, parted}
+use Rattle.fs_machine.specs.Questions.{owed_to}
+use Rattle.fs_machine.specs.Due.{slot_due, job_due}
+use Rattle.fs_machine.specs.Work.{worked}
+use Rattle.fs_machine.specs.Jobs.{job_done}
+use Rattle.fs_machine.specs.Commands.{command_of, commanded}
 
 -- ---- refusals
 
@@ -42,13 +48,6 @@ is_ending phase.Ready = false
 is_ending phase.Ending = true
 is_ending phase.Closed = false
 
--- the place of the command to which a connection is still owed the reply
-abbrev pub owed_of : Conn → Option ℕ
-owed_of c = c.owed
-
-abbrev pub owed_to : Switch → ℕ → Option ℕ
-owed_to s conn = option_and_then owed_of (conn_of s conn)
-
 -- a refusal where this holds, or else another
 abbrev pub refused_where : Bool → Refusal → Option Refusal → Option Refusal
 refused_where test refusal otherwise = if test then Some refusal else otherwise
@@ -68,6 +67,12 @@ refused_close conn Sent s =
     (refused_where (is_unsent s conn) (refusal.Unsent (length (waiting_for s conn)) (is_some (owed_to s conn))) None)
 refused_close conn Failed s = refused_where (is_closed (phase_at s conn)) refusal.Gone None
 
+-- there is nothing to do yet
+abbrev pub not_due : Option Due → Option Refusal
+not_due None = Some (refusal.NotDue None)
+not_due (Some Now) = None
+not_due (Some (At moment)) = Some (refusal.NotDue (Some moment))
+
 abbrev pub refused_command : ℕ → Switch → Option Refusal
 refused_command conn s = refused_where (not (reads (phase_at s conn))) refusal.Gone (busy (owed_to s conn))
 
@@ -77,6 +82,8 @@ refused_act (Command conn block) s = refused_command conn s
 refused_act (Take conn) s =
     refused_where (is_closed (phase_at s conn)) refusal.Gone (refused_where (length (waiting_for s conn) == 0) refusal.Empty None)
 refused_act (Close conn how) s = refused_close conn how s
+refused_act (Work slot) s = not_due (slot_due slot s)
+refused_act (Job number) s = not_due (job_due number s)
 
 -- the first refusal of an entry
 unfoldable pub refusal_of : Switch → Entry → Option Refusal
@@ -115,6 +122,8 @@ acted Arrive s = arrived s
 acted (Command conn block) s = queued_in conn (commanded conn (command_of (line_of block)) s)
 acted (Take conn) s = taken conn s
 acted (Close conn how) s = record { state = closed_by how conn s; reply = reply.Closed }
+acted (Work slot) s = record { state = worked slot s; reply = reply.Worked }
+acted (Job number) s = record { state = job_done number s; reply = reply.Worked }
 
 -- the state behind an entry, and its reply; defined also for what is refused
 unfoldable pub step : Switch → Entry → Acted

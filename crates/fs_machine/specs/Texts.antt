@@ -1,6 +1,8 @@
 -- The texts that a connection is sent, and the lines that the program prints.
-use Rattle.std.specs.Prelude.{ℕ, List, ◌++◌, length, codes}
+use Rattle.std.specs.Prelude.{ℕ, List, ◌++◌, ◌==◌, length, codes, if◌then◌else◌}
 use Rattle.std.specs.Fmt.{decimal}
+use Rattle.fs_text.specs.declared.causes.Cause.{Cause}
+use Rattle.fs_text.specs.Cause.{cause_name}
 
 -- the first frame of a connection
 unfoldable pub auth_request : List ℕ
@@ -61,3 +63,33 @@ no_reply = codes "-ERR no reply\n"
 -- what an api command of an unknown name answers
 unfoldable pub api_not_found : List ℕ → List ℕ
 api_not_found name = codes "-ERR " ++ name ++ codes " Command not found!\n"
+
+-- an answer as it is sent: an empty one is told in words
+unfoldable pub spoken : List ℕ → List ℕ
+spoken answer = if length answer == 0 then no_reply else answer
+
+-- there is no such channel, or it is not live
+unfoldable pub no_channel : List ℕ
+no_channel = codes "-ERR No such channel!\n"
+
+-- a variable is not there
+unfoldable pub undefined : List ℕ
+undefined = codes "_undef_"
+
+-- as many jobs as there may be are there
+unfoldable pub too_many_jobs : List ℕ
+too_many_jobs = codes "-ERR too many jobs\n"
+
+-- an origination has made a call: the identifier of its leg
+unfoldable pub made_text : List ℕ → List ℕ
+made_text uuid = codes "+OK " ++ uuid ++ codes "\n"
+
+-- an origination has failed
+unfoldable pub failed_text : Cause → List ℕ
+failed_text cause = codes "-ERR " ++ cause_name cause ++ codes "\n"
+
+unfoldable pub yes : List ℕ
+yes = codes "true"
+
+unfoldable pub no : List ℕ
+no = codes "false"

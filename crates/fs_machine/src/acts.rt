@@ -4,17 +4,22 @@ ghost use Rattle.fs_state.specs.Drafts.{drafted};
 ghost use Rattle.fs_machine.specs.Step as spec;
 
 use crate::blocks::line_of;
-use crate::commands::{command_of, do_command, part};
+use crate::commands::{command_of, do_command};
+use crate::connections::part;
 use crate::entry::{Act, Closing};
+use crate::jobs::do_job;
 use crate::refused::owed_to;
 use crate::reply::Reply;
 use crate::texts::auth_request;
+use crate::work::work;
+use fs_plan::Dialplan;
 use fs_state::{Conn, Draft, Parting, Phase};
 use fs_text::{Memory, Txt};
 
-/// Does an act.
-pub(crate) fn do_act(draft: &mut Draft<'_>, act: &Act) -> Result<Reply, Memory>
-    requires { draft.old.delta.queue ≡ Unchanged }
+/// Does an act, by the dialplan of the configuration.
+pub(crate) fn do_act(draft: &mut Draft<'_>, plan: &Dialplan, act: &Act) -> Result<Reply, Memory>
+    requires queue { draft.old.delta.queue ≡ Unchanged }
+    requires plan { plan.now ≡ draft.old.base.config.contexts }
     ensures base { draft.new.base ≡ draft.old.base }
     ensures ok { IfOk result (λ reply. spec.acted act.now (drafted draft.old) ≡ record { state = drafted draft.new; reply = reply }) }
 {
@@ -29,6 +34,14 @@ pub(crate) fn do_act(draft: &mut Draft<'_>, act: &Act) -> Result<Reply, Memory>
         Act::Close { conn, how } => {
             close(draft, *conn, *how)?;
             Ok(Reply::Closed)
+        }
+        Act::Work { slot } => {
+            work(draft, plan, *slot)?;
+            Ok(Reply::Worked)
+        }
+        Act::Job { job } => {
+            do_job(draft, *job)?;
+            Ok(Reply::Worked)
         }
     }
 }

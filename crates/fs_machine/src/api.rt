@@ -1,40 +1,46 @@
-ghost use Rattle.std.specs.Prelude.{◌≡◌, ◌≤◌, ◌++◌, length, codes, IfOk, IfErr, OnOk};
+ghost use Rattle.std.specs.Prelude.{◌≡◌, ◌≤◌, ◌++◌, length, codes, Some, is_some, IfOk, IfErr, OnOk};
+ghost use Rattle.std.specs.Option.{option_copied};
 ghost use Rattle.fs_vars.specs.Outputs.{IsRefusal};
 ghost use Rattle.fs_vars.specs.Expansion.{expanded};
 ghost use Rattle.fs_state.specs.Drafts.{drafted};
+ghost use Rattle.fs_state.specs.Switch.{slot_named};
 ghost use Rattle.fs_machine.specs.Api as spec;
 
-use crate::texts::{api_not_found, usage_text};
-use fs_api::{Api, usage};
+use crate::jobs::{begin_originate, begin_sleep};
+use crate::originations::Caller;
+use crate::texts::{api_not_found, failed_text, usage_text};
+use fs_api::{Api, Winner, usage};
+use fs_chan::Chan;
+use fs_orig::is_one_leg;
 use fs_state::Draft;
-use fs_text::{Memory, Txt};
+use fs_text::{Cause, Memory, Txt};
 use fs_vars::{Profile, Refused, Scope, Vars, expand};
 use std::alloc::Global;
 
-/// Runs an api command, and gives its answer.
-pub(crate) fn run_api(draft: &mut Draft<'_>, api: Api) -> Result<Txt, Memory>
+/// Runs an api command of a connection, and gives its answer, unless that is owed.
+pub(crate) fn run_api(draft: &mut Draft<'_>, conn: u32, api: Api) -> Result<Option<Txt>, Memory>
     ensures base { draft.new.base ≡ draft.old.base }
-    ensures done { IfOk result (λ answer. spec.done_by api (drafted draft.old) ≡ record { state = drafted draft.new; answer = answer }) }
+    ensures done { IfOk result (λ answer. spec.done_by conn api (drafted draft.old) ≡ record { state = drafted draft.new; answer = answer }) }
 {
     match api {
-        Api::Expand { text } => run_expanded(draft, &text),
-        api => run_plainly(draft, api),
+        Api::Expand { text } => run_expanded(draft, conn, &text),
+        api => run_plainly(draft, conn, api),
     }
 }
 
 // Runs a text as an api command, once it is expanded over the globals.
 #[tactic(auto, unfolding(crate::specs::Texts::too_long_text))]
-fn run_expanded(draft: &mut Draft<'_>, text: &Txt) -> Result<Txt, Memory>
+fn run_expanded(draft: &mut Draft<'_>, conn: u32, text: &Txt) -> Result<Option<Txt>, Memory>
     ensures base { draft.new.base ≡ draft.old.base }
-    ensures done { IfOk result (λ answer. spec.done_expanded (expanded (drafted draft.old).globals.pairs text.now) (drafted draft.old) ≡ record { state = drafted draft.new; answer = answer }) }
+    ensures done { IfOk result (λ answer. spec.done_expanded conn (expanded (drafted draft.old).globals.pairs text.now) (drafted draft.old) ≡ record { state = drafted draft.new; answer = answer }) }
 {
     let alloc = draft.alloc();
     match expand_globally(alloc, draft.globals(), text.as_bytes()) {
         Ok(whole) => {
             let api = Api::of(alloc, whole.as_bytes())?;
-            run_plainly(draft, api)
+            run_plainly(draft, conn, api)
         }
-        Err(Refused::TooLong { .. }) => Txt::of(alloc, b"-ERR too long\n"),
+        Err(Refused::TooLong { .. }) => says(alloc, b"-ERR too long\n"),
         Err(Refused::Memory) => Err(Memory),
     }
 }
@@ -55,25 +61,134 @@ fn expand_globally(alloc: Global, globals: &Vars, text: &[u8]) -> Result<Txt, Re
 }
 
 // Runs an api command that expands no text.
-fn run_plainly(draft: &mut Draft<'_>, api: Api) -> Result<Txt, Memory>
+fn run_plainly(draft: &mut Draft<'_>, conn: u32, api: Api) -> Result<Option<Txt>, Memory>
     ensures base { draft.new.base ≡ draft.old.base }
-    ensures done { IfOk result (λ answer. spec.done_plainly api (drafted draft.old) ≡ record { state = drafted draft.new; answer = answer }) }
+    ensures done { IfOk result (λ answer. spec.done_plainly conn api (drafted draft.old) ≡ record { state = drafted draft.new; answer = answer }) }
 {
     let alloc = draft.alloc();
     match api {
-        Api::Echo { text } => Ok(text),
-        Api::Expand { .. } => api_not_found(alloc, b"expand"),
-        Api::GlobalGetvar { name } => get_global(alloc, draft.globals(), name),
-        Api::GlobalSetvar { name, value } => set_global(draft, &name, &value),
-        Api::Msleep { .. } => api_not_found(alloc, b"msleep"),
-        Api::UuidExists { .. } => api_not_found(alloc, b"uuid_exists"),
-        Api::UuidKill { .. } => api_not_found(alloc, b"uuid_kill"),
-        Api::UuidGetvar { .. } => api_not_found(alloc, b"uuid_getvar"),
-        Api::Originate { .. } => api_not_found(alloc, b"originate"),
-        Api::Usage(which) => usage_text(alloc, usage(which).as_bytes()),
-        Api::Unknown(name) => api_not_found(alloc, name.as_bytes()),
+        Api::Echo { text } => Ok(Some(text)),
+        Api::Expand { .. } => Ok(Some(api_not_found(alloc, b"expand")?)),
+        Api::GlobalGetvar { name } => Ok(Some(get_global(alloc, draft.globals(), name)?)),
+        Api::GlobalSetvar { name, value } => Ok(Some(set_global(draft, &name, &value)?)),
+        Api::Msleep { milliseconds } => sleep(draft, conn, milliseconds),
+        Api::UuidExists { uuid } => Ok(Some(tell_whether(draft, &uuid)?)),
+        Api::UuidKill { uuid, cause } => Ok(Some(kill(draft, &uuid, cause)?)),
+        Api::UuidGetvar { uuid, name } => Ok(Some(get_variable(draft, &uuid, &name)?)),
+        Api::Originate {
+            url,
+            winner,
+            cid_name,
+            cid_number,
+            timeout,
+        } => {
+            let caller = Caller {
+                name: cid_name,
+                number: cid_number,
+            };
+            originate(draft, conn, url, winner, caller, timeout)
+        }
+        Api::Usage(which) => Ok(Some(usage_text(alloc, usage(which).as_bytes())?)),
+        Api::Unknown(name) => Ok(Some(api_not_found(alloc, name.as_bytes())?)),
     }
 }
+
+// An answer of these bytes.
+fn says(alloc: Global, answer: &[u8]) -> Result<Option<Txt>, Memory>
+    ensures { IfOk result (λ said. said ≡ Some answer.now) }
+{
+    Ok(Some(Txt::of(alloc, answer)?))
+}
+
+// ---- channels
+
+// Whether a live channel has an identifier.
+#[tactic(auto, unfolding(crate::specs::Texts::yes, crate::specs::Texts::no))]
+fn tell_whether(draft: &Draft<'_>, uuid: &Txt) -> Result<Txt, Memory>
+    ensures { IfOk result (λ t. t ≡ spec.told_whether (is_some (slot_named uuid.now (drafted draft.now)))) }
+{
+    match draft.slot_named(uuid.as_bytes()) {
+        Some(_) => Txt::of(draft.alloc(), b"true"),
+        None => Txt::of(draft.alloc(), b"false"),
+    }
+}
+
+// A live channel is hung up.
+#[tactic(auto, unfolding(crate::specs::Texts::ok, crate::specs::Texts::no_channel))]
+fn kill(draft: &mut Draft<'_>, uuid: &Txt, cause: Cause) -> Result<Txt, Memory>
+    ensures base { draft.new.base ≡ draft.old.base }
+    ensures done { IfOk result (λ answer. spec.killed cause (slot_named uuid.now (drafted draft.old)) (drafted draft.old) ≡ record { state = drafted draft.new; answer = Some answer }) }
+{
+    let alloc = draft.alloc();
+    let Some(slot) = draft.slot_named(uuid.as_bytes()) else {
+        return Txt::of(alloc, b"-ERR No such channel!\n");
+    };
+    draft.hang_up(slot, cause)?;
+    Txt::of(alloc, b"+OK\n")
+}
+
+// The value of a variable of a live channel.
+#[tactic(auto, unfolding(crate::specs::Texts::no_channel, crate::specs::Texts::undefined))]
+fn get_variable(draft: &Draft<'_>, uuid: &Txt, name: &Txt) -> Result<Txt, Memory>
+    ensures { IfOk result (λ t. t ≡ spec.got_variable name.now (spec.chan_named uuid.now (drafted draft.now))) }
+{
+    let alloc = draft.alloc();
+    let Some(chan) = chan_named(draft, uuid) else {
+        return Txt::of(alloc, b"-ERR No such channel!\n");
+    };
+    match chan.vars.get(name.as_bytes()) {
+        Some(value) => value.copy(),
+        None => Txt::of(alloc, b"_undef_"),
+    }
+}
+
+// The live channel of an identifier.
+fn chan_named<'a>(draft: &'a Draft<'_>, uuid: &Txt) -> Option<&'a Chan>
+    ensures { option_copied result ≡ spec.chan_named uuid.now (drafted draft.now) }
+{
+    draft.chan(draft.slot_named(uuid.as_bytes())?)
+}
+
+// ---- jobs
+
+// The answer comes once so many milliseconds have passed.
+#[tactic(auto, unfolding(crate::specs::Texts::too_many_jobs))]
+fn sleep(draft: &mut Draft<'_>, conn: u32, milliseconds: u64) -> Result<Option<Txt>, Memory>
+    ensures base { draft.new.base ≡ draft.old.base }
+    ensures done { IfOk result (λ answer. spec.slept conn milliseconds (drafted draft.old) ≡ record { state = drafted draft.new; answer = answer }) }
+{
+    if draft.is_full_of_jobs() {
+        return says(draft.alloc(), b"-ERR too many jobs\n");
+    }
+    begin_sleep(draft, conn, milliseconds)?;
+    Ok(None)
+}
+
+// A leg is made, and the answer comes once it has won or failed.
+#[tactic(auto, unfolding(crate::specs::Texts::too_many_jobs))]
+fn originate(
+    draft: &mut Draft<'_>,
+    conn: u32,
+    url: Txt,
+    winner: Winner,
+    caller: Caller,
+    timeout: Option<u64>,
+) -> Result<Option<Txt>, Memory>
+    ensures base { draft.new.base ≡ draft.old.base }
+    ensures done { IfOk result (λ answer. spec.originated conn url winner caller timeout (drafted draft.old) ≡ record { state = drafted draft.new; answer = answer }) }
+{
+    let alloc = draft.alloc();
+    if draft.is_full_of_jobs() {
+        return says(alloc, b"-ERR too many jobs\n");
+    }
+    if !is_one_leg(url.as_bytes()) {
+        return Ok(Some(failed_text(alloc, Cause::InvalidNumberFormat)?));
+    }
+    begin_originate(draft, conn, url, winner, caller, timeout)?;
+    Ok(None)
+}
+
+// ---- globals
 
 // The value of a global, or nothing; without a name all globals in order, a line each.
 fn get_global(alloc: Global, globals: &Vars, name: Option<Txt>) -> Result<Txt, Memory>
@@ -114,7 +229,7 @@ fn push_line(lines: &mut Vec<u8>, name: &[u8], value: &[u8]) -> Result<(), Memor
 #[tactic(auto, unfolding(crate::specs::Texts::ok, crate::specs::Texts::limit_passed))]
 fn set_global(draft: &mut Draft<'_>, name: &Txt, value: &Txt) -> Result<Txt, Memory>
     ensures base { draft.new.base ≡ draft.old.base }
-    ensures done { IfOk result (λ answer. spec.set_global name.now value.now (drafted draft.old) ≡ record { state = drafted draft.new; answer = answer }) }
+    ensures done { IfOk result (λ answer. spec.set_global name.now value.now (drafted draft.old) ≡ record { state = drafted draft.new; answer = Some answer }) }
 {
     let alloc = draft.alloc();
     let mut changed = draft.globals().copy()?;

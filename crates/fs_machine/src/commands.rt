@@ -1,19 +1,18 @@
-ghost use Rattle.std.specs.Prelude.{◌≡◌, IfOk, OnOk};
+ghost use Rattle.std.specs.Prelude.{◌≡◌, OnOk};
 ghost use Rattle.std.specs.Str.{bytes_eq};
 ghost use Rattle.fs_api.specs.Readings.{api_of};
 ghost use Rattle.fs_state.specs.Drafts.{drafted};
-ghost use Rattle.fs_machine.specs.Texts as texts;
 ghost use Rattle.fs_machine.specs.Api.{done_by};
 ghost use Rattle.fs_machine.specs.Commands as spec;
 ghost use Rattle.fs_machine.specs.Readings.{read_of};
 
 use crate::api::run_api;
-use crate::texts::{api_response, command_reply, notice};
+use crate::connections::{admit, part, phase_at};
+use crate::texts::{command_reply, notice, speak};
 use crate::words::cut_at;
 use fs_api::Api;
 use fs_state::{Draft, Parting, Phase};
 use fs_text::{Memory, Txt};
-use std::alloc::Global;
 
 /// A command of the event socket, lent from its line.
 #[derive(Clone, Copy, Debug)]
@@ -41,16 +40,6 @@ pub(crate) fn command_of(line: &[u8]) -> Command<'_>
         Command::Api { text: behind }
     } else {
         Command::Unknown
-    }
-}
-
-/// Where a connection stands; one that is not there is closed.
-pub(crate) fn phase_at(draft: &Draft<'_>, conn: u32) -> Phase
-    ensures { result ≡ spec.phase_at (drafted draft.now) conn }
-{
-    match draft.conn(conn) {
-        Some(there) => there.phase,
-        None => Phase::Closed,
     }
 }
 
@@ -93,33 +82,6 @@ fn dismiss(draft: &mut Draft<'_>, conn: u32, why: Parting, text: &[u8]) -> Resul
     draft.give(conn, frame)
 }
 
-/// A connection gives no further command, if it is there.
-pub(crate) fn part(draft: &mut Draft<'_>, conn: u32, why: Parting) -> Result<(), Memory>
-    ensures base { draft.new.base ≡ draft.old.base }
-    ensures ok { OnOk result (drafted draft.new ≡ spec.conn_changed (spec.parted why) conn (drafted draft.old)) }
-{
-    let Some(there) = draft.conn(conn) else {
-        return Ok(());
-    };
-    let mut parted = *there;
-    parted.phase = Phase::Ending;
-    parted.parting = Some(why);
-    draft.set_conn(conn, parted)
-}
-
-// A connection may give all commands, if it is there.
-fn admit(draft: &mut Draft<'_>, conn: u32) -> Result<(), Memory>
-    ensures base { draft.new.base ≡ draft.old.base }
-    ensures ok { OnOk result (drafted draft.new ≡ spec.conn_changed spec.admitted conn (drafted draft.old)) }
-{
-    let Some(there) = draft.conn(conn) else {
-        return Ok(());
-    };
-    let mut admitted = *there;
-    admitted.phase = Phase::Ready;
-    draft.set_conn(conn, admitted)
-}
-
 // A password is offered.
 #[tactic(auto, unfolding(crate::specs::Texts::accepted, crate::specs::Texts::invalid))]
 fn offer(draft: &mut Draft<'_>, conn: u32, given: &[u8]) -> Result<(), Memory>
@@ -140,25 +102,16 @@ fn is_password(draft: &Draft<'_>, given: &[u8]) -> bool
     given == draft.config().settings().password.as_bytes()
 }
 
-// An api command is run, and answered.
+// An api command is run, and answered, unless the answer is owed.
 fn respond(draft: &mut Draft<'_>, conn: u32, text: &[u8]) -> Result<(), Memory>
     ensures base { draft.new.base ≡ draft.old.base }
-    ensures ok { OnOk result (drafted draft.new ≡ spec.responded conn (done_by (api_of text.now) (drafted draft.old))) }
+    ensures ok { OnOk result (drafted draft.new ≡ spec.responded conn (done_by conn (api_of text.now) (drafted draft.old))) }
 {
     let alloc = draft.alloc();
     let api = Api::of(alloc, text)?;
-    let answer = run_api(draft, api)?;
+    let Some(answer) = run_api(draft, conn, api)? else {
+        return Ok(());
+    };
     let frame = speak(alloc, answer.as_bytes())?;
     draft.give(conn, frame)
-}
-
-// The frame with the answer of an api command. An empty answer is told in words.
-#[tactic(auto, unfolding(crate::specs::Commands::spoken, crate::specs::Texts::no_reply))]
-fn speak(alloc: Global, answer: &[u8]) -> Result<Txt, Memory>
-    ensures { IfOk result (λ t. t ≡ texts.api_response (spec.spoken answer.now)) }
-{
-    match answer {
-        [] => api_response(alloc, b"-ERR no reply\n"),
-        answer => api_response(alloc, answer),
-    }
 }

@@ -25,6 +25,10 @@ pub enum Act {
     Take { conn: u32 },
     /// A connection comes to its end.
     Close { conn: u32, how: Closing },
+    /// The channel in a slot does what it has to do by itself.
+    Work { slot: u16 },
+    /// The job of a number does so.
+    Job { job: u64 },
 }
 
 /// How a connection comes to its end.
@@ -46,7 +50,7 @@ impl Act {
     {
         match self {
             Act::Command { block, .. } => ENTRY_COST + block.as_bytes().len() as u64,
-            Act::Arrive | Act::Take { .. } | Act::Close { .. } => ENTRY_COST,
+            _ => ENTRY_COST,
         }
     }
 
@@ -65,6 +69,8 @@ impl Act {
                 conn: *conn,
                 how: *how,
             },
+            Act::Work { slot } => Act::Work { slot: *slot },
+            Act::Job { job } => Act::Job { job: *job },
         })
     }
 }

@@ -3,16 +3,24 @@
 
 mod acts;
 mod api;
+mod applications;
 mod blocks;
 mod commands;
+mod connections;
+mod due;
 mod entry;
+mod jobs;
 mod machine;
+mod originations;
+mod questions;
 mod refusal;
 mod refused;
 mod reply;
 mod texts;
 mod words;
+mod work;
 
+pub use due::DueActor;
 pub use entry::{Act, Closing, Entry};
 pub use machine::{Change, Machine};
 pub use refusal::Refusal;

@@ -1,8 +1,8 @@
-ghost use Rattle.std.specs.Prelude.{◌≡◌, ◌≢◌, ◌≤◌, [], ◌∷◌, ◌++◌, Some, None, IfOk, IfErr, OnOk};
+ghost use Rattle.std.specs.Prelude.{◌≡◌, ◌≢◌, ◌≤◌, [], ◌∷◌, ◌++◌, ◌+◌, ◌-◌, ◌^◌, min, false, Some, None, IfOk, IfErr, OnOk};
 ghost use Rattle.fs_state.specs.Switch.{empty};
 ghost use Rattle.fs_machine.specs.declared.refusal.Refusal.{Refusal};
 ghost use Rattle.fs_machine.specs.declared.refusal.Refusal.TheVariants as refusal;
-ghost use Rattle.fs_machine.specs.Entries.{is_full};
+ghost use Rattle.fs_machine.specs.Entries.{cost_of, is_full};
 ghost use Rattle.fs_machine.specs.Step.{step, refusal_of};
 ghost use Rattle.fs_machine.specs.Runs as spec;
 
@@ -12,6 +12,7 @@ use crate::refusal::Refusal;
 use crate::refused::refused_act;
 use crate::reply::Reply;
 use fs_doc::Config;
+use fs_plan::Dialplan;
 use fs_state::{Core, Delta, Draft};
 use fs_text::Memory;
 use std::alloc::Global;
@@ -26,7 +27,8 @@ const LARGEST_COST: u64 = 65_600;
 /// of the empty switch.
 #[derive(Drop)]
 pub struct Machine {
-    core: Core,
+    pub(crate) core: Core,
+    plan: Dialplan,
     journal: Vec<Entry>,
 }
 
@@ -39,7 +41,7 @@ pub struct Change {
 }
 
 impl Model for Machine {
-    ghost use Rattle.std.specs.Prelude.{◌-◌};
+    ghost use Rattle.std.specs.Prelude.{◌≡◌, ◌-◌};
     ghost use Rattle.std.specs.Vec.{vec_capacity, vec_len};
     ghost use Rattle.fs_machine.specs.Runs.{View, StandsFor};
 
@@ -47,17 +49,19 @@ impl Model for Machine {
 
     ghost view = { λ m. record { config = m.core.config; journal = m.journal.items; spare = vec_capacity m.journal - vec_len m.journal } };
 
-    ghost invariant = { λ m. StandsFor m.core.config m.core m.journal.items };
+    ghost invariant = { λ m. StandsFor m.core.config m.core m.journal.items × (m.plan ≡ m.core.config.contexts) };
 }
 
 impl Machine {
-    /// A switch to which nothing has happened.
-    pub fn new(alloc: Global, config: Config) -> Result<Machine, Memory>
+    /// A switch to which nothing has happened, with the dialplan that was built from its configuration.
+    pub fn new(alloc: Global, config: Config, plan: Dialplan) -> Result<Machine, Memory>
+        requires { plan ≡ config.contexts }
         ensures config { IfOk result (λ m. m.config ≡ config) }
         ensures journal { IfOk result (λ m. m.journal ≡ []) }
     {
         Ok(Machine {
             core: Core::new(alloc, config)?,
+            plan,
             journal: Vec::new(alloc),
         })
     }
@@ -66,10 +70,11 @@ impl Machine {
     pub fn prepare(&mut self, asked: &Entry) -> Result<Change, Refusal>
         ensures same { spec.IsSame self.old self.new }
         ensures refused { IfErr result (λ r. r ≢ refusal.Memory → refusal_of (spec.state_of self.old) asked.entry.now ≡ Some r) }
+        ensures free { OnOk result ((spec.state_of self.old).cost + 65600 ≤ min self.old.config.settings.journal_limit (2 ^ 64 - 1)) }
         ensures prepared { IfOk result (λ change. (change.entry ≡ asked.entry.now) × spec.IsPrepared (spec.state_of self.old) change.entry change.delta change.reply) }
         ensures room { IfOk result (λ change. 1 ≤ self.new.spare) }
     {
-        let change = plan(&self.core, asked)?;
+        let change = plan(&self.core, &self.plan, asked)?;
         self.journal.reserve(1)?;
         Ok(change)
     }
@@ -81,6 +86,7 @@ impl Machine {
         ensures config { self.new.config ≡ self.old.config }
         ensures journal { self.new.journal ≡ self.old.journal ++ change.entry ∷ [] }
         ensures reply { result ≡ (step (spec.state_of self.old) change.entry).reply }
+        ensures cost { (spec.state_of self.new).cost ≡ min ((spec.state_of self.old).cost + cost_of change.entry.act) (2 ^ 64 - 1) }
     {
         let Change {
             entry,
@@ -100,6 +106,8 @@ impl Machine {
         ensures journal { OnOk result (self.new.journal ≡ self.old.journal ++ entry.entry.now ∷ []) }
         ensures reply { IfOk result (λ reply. reply ≡ (step (spec.state_of self.old) entry.entry.now).reply) }
         ensures defined { OnOk result (refusal_of (spec.state_of self.old) entry.entry.now ≡ None) }
+        ensures free { OnOk result ((spec.state_of self.old).cost + 65600 ≤ min self.old.config.settings.journal_limit (2 ^ 64 - 1)) }
+        ensures cost { OnOk result ((spec.state_of self.new).cost ≡ min ((spec.state_of self.old).cost + cost_of entry.entry.now.act) (2 ^ 64 - 1)) }
     {
         let change = self.prepare(entry)?;
         Ok(self.apply(change))
@@ -108,8 +116,10 @@ impl Machine {
 
 // Judges an entry over a state, and prepares what it changes.
 #[tactic(auto, unfolding(crate::specs::Step::step, crate::specs::Step::refusal_of))]
-fn plan(core: &Core, asked: &Entry) -> Result<Change, Refusal>
+fn plan(core: &Core, plan: &Dialplan, asked: &Entry) -> Result<Change, Refusal>
+    requires { plan.now ≡ core.now.config.contexts }
     ensures refused { IfErr result (λ r. r ≢ refusal.Memory → refusal_of core.now asked.entry.now ≡ Some r) }
+    ensures free { OnOk result (core.now.cost + 65600 ≤ min core.now.config.settings.journal_limit (2 ^ 64 - 1)) }
     ensures planned { IfOk result (λ change. (change.entry ≡ asked.entry.now) × spec.IsPrepared core.now asked.entry.now change.delta change.reply) }
 {
     if is_full(core) {
@@ -122,7 +132,7 @@ fn plan(core: &Core, asked: &Entry) -> Result<Change, Refusal>
     if let Some(refusal) = refused_act(&draft, &asked.act) {
         return Err(refusal);
     }
-    let reply = do_act(&mut draft, &asked.act)?;
+    let reply = do_act(&mut draft, plan, &asked.act)?;
     let entry = asked.copy()?;
     let delta = draft.finish()?;
     Ok(Change {
@@ -134,7 +144,8 @@ fn plan(core: &Core, asked: &Entry) -> Result<Change, Refusal>
 
 // Whether the largest entry would pass the limit of the journal.
 fn is_full(core: &Core) -> bool
-    ensures { result ≡ is_full core.now }
+    ensures exact { result ≡ is_full core.now }
+    ensures free { result ≡ false → core.now.cost + 65600 ≤ min core.now.config.settings.journal_limit (2 ^ 64 - 1) }
 {
     let limit = core.config().settings().journal_limit;
     limit < LARGEST_COST || core.cost() > limit - LARGEST_COST

@@ -4,11 +4,14 @@ ghost use Rattle.fs_state.specs.Drafts.{drafted};
 ghost use Rattle.fs_state.specs.Switch.{waiting_for};
 ghost use Rattle.fs_machine.specs.declared.entry.Act.TheVariants as act;
 ghost use Rattle.fs_machine.specs.declared.refusal.Refusal.TheVariants as refusal;
+ghost use Rattle.fs_machine.specs.Questions as questions;
 ghost use Rattle.fs_machine.specs.Step as spec;
 
-use crate::commands::phase_at;
+use crate::connections::phase_at;
+use crate::due::{job_due, slot_due};
 use crate::entry::{Act, Closing};
 use crate::refusal::Refusal;
+use fs_chan::Due;
 use fs_state::{Draft, Phase};
 
 /// Why an act is refused, if it is, where the journal is not full.
@@ -21,6 +24,8 @@ pub(crate) fn refused_act(draft: &Draft<'_>, act: &Act) -> Option<Refusal>
         Act::Command { conn, .. } => refused_command(draft, *conn),
         Act::Take { conn } => refused_take(draft, *conn),
         Act::Close { conn, how } => refused_close(draft, *conn, *how),
+        Act::Work { slot } => not_due(slot_due(draft, *slot)),
+        Act::Job { job } => not_due(job_due(draft, *job)),
     }
 }
 
@@ -74,7 +79,7 @@ fn refused_close(draft: &Draft<'_>, conn: u32, how: Closing) -> Option<Refusal>
 // That a connection is still to be sent something, or may give commands, if so.
 fn unsent(draft: &Draft<'_>, conn: u32) -> Option<Refusal>
     requires { draft.now.delta.queue ≡ Unchanged }
-    ensures { result ≡ spec.refused_where (spec.is_unsent (drafted draft.now) conn) (refusal.Unsent (length (waiting_for (drafted draft.now) conn)) (is_some (spec.owed_to (drafted draft.now) conn))) None }
+    ensures { result ≡ spec.refused_where (spec.is_unsent (drafted draft.now) conn) (refusal.Unsent (length (waiting_for (drafted draft.now) conn)) (is_some (questions.owed_to (drafted draft.now) conn))) None }
 {
     let queued = draft.waiting(conn) as u64;
     let owed = owed_to(draft, conn).is_some();
@@ -82,6 +87,17 @@ fn unsent(draft: &Draft<'_>, conn: u32) -> Option<Refusal>
         return None;
     }
     Some(Refusal::Unsent { queued, owed })
+}
+
+// That there is nothing to do yet, if so.
+fn not_due(due: Option<Due>) -> Option<Refusal>
+    ensures { result ≡ spec.not_due due }
+{
+    match due {
+        None => Some(Refusal::NotDue { next: None }),
+        Some(Due::Now) => None,
+        Some(Due::At(moment)) => Some(Refusal::NotDue { next: Some(moment) }),
+    }
 }
 
 // Whether a connection in this phase reads commands.
@@ -93,7 +109,7 @@ fn reads(phase: Phase) -> bool
 
 /// The place of the command to which a connection is still owed the reply.
 pub(crate) fn owed_to(draft: &Draft<'_>, conn: u32) -> Option<u64>
-    ensures { result ≡ spec.owed_to (drafted draft.now) conn }
+    ensures { result ≡ questions.owed_to (drafted draft.now) conn }
 {
     draft.conn(conn)?.owed
 }

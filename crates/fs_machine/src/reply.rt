@@ -11,4 +11,6 @@ pub enum Reply {
     Frame(Txt),
     /// The connection reads no further command, or is gone.
     Closed,
+    /// A channel or a job did what it had to do.
+    Worked,
 }

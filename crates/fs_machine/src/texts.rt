@@ -1,7 +1,7 @@
 ghost use Rattle.std.specs.Prelude.{◌≡◌, IfOk};
 ghost use Rattle.fs_machine.specs.Texts as texts;
 
-use fs_text::{Memory, Txt, decimal};
+use fs_text::{Cause, Memory, Txt, decimal};
 use std::alloc::Global;
 
 /// The first frame of a connection.
@@ -40,9 +40,20 @@ fn with_body(alloc: Global, content_type: &[u8], body: &[u8]) -> Result<Txt, Mem
     Txt::from_vec(frame)
 }
 
-/// The answer of an api command, where it is not empty, and words in its place where it is.
+/// The frame with the answer of an api command. An empty answer is told in words.
+#[tactic(auto, unfolding(crate::specs::Texts::spoken, crate::specs::Texts::no_reply))]
+pub(crate) fn speak(alloc: Global, answer: &[u8]) -> Result<Txt, Memory>
+    ensures { IfOk result (λ t. t ≡ texts.api_response (texts.spoken answer.now)) }
+{
+    match answer {
+        [] => api_response(alloc, b"-ERR no reply\n"),
+        answer => api_response(alloc, answer),
+    }
+}
+
+// The frame with these bytes as the answer of an api command.
 #[tactic(auto, unfolding(crate::specs::Texts::api_response))]
-pub(crate) fn api_response(alloc: Global, body: &[u8]) -> Result<Txt, Memory>
+fn api_response(alloc: Global, body: &[u8]) -> Result<Txt, Memory>
     ensures { IfOk result (λ t. t ≡ texts.api_response body.now) }
 {
     with_body(alloc, b"api/response", body)
@@ -78,5 +89,29 @@ pub(crate) fn api_not_found(alloc: Global, name: &[u8]) -> Result<Txt, Memory>
     text.extend_from_slice(b"-ERR ")?;
     text.extend_from_slice(name)?;
     text.extend_from_slice(b" Command not found!\n")?;
+    Txt::from_vec(text)
+}
+
+/// An origination has made a call: the identifier of its leg.
+#[tactic(auto, unfolding(crate::specs::Texts::made_text))]
+pub(crate) fn made_text(alloc: Global, uuid: &[u8]) -> Result<Txt, Memory>
+    ensures { IfOk result (λ t. t ≡ texts.made_text uuid.now) }
+{
+    let mut text = Vec::new(alloc);
+    text.extend_from_slice(b"+OK ")?;
+    text.extend_from_slice(uuid)?;
+    text.extend_from_slice(b"\n")?;
+    Txt::from_vec(text)
+}
+
+/// An origination has failed.
+#[tactic(auto, unfolding(crate::specs::Texts::failed_text))]
+pub(crate) fn failed_text(alloc: Global, cause: Cause) -> Result<Txt, Memory>
+    ensures { IfOk result (λ t. t ≡ texts.failed_text cause) }
+{
+    let mut text = Vec::new(alloc);
+    text.extend_from_slice(b"-ERR ")?;
+    text.extend_from_slice(cause.name().as_bytes())?;
+    text.extend_from_slice(b"\n")?;
     Txt::from_vec(text)
 }

@@ -1,5 +1,4 @@
 mod BuildLemmas
 mod GroupLemmas
 mod MatchLemmas
-mod NameLemmas
 mod TextLemmas

@@ -6,6 +6,7 @@ use Rattle.fs_vars.specs.Scopes.{fields_of}
 use Rattle.fs_vars.specs.Expansion.{expanded}
 use Rattle.fs_vars.specs.Outputs.{len_of}
 use Rattle.fs_vars.specs.declared.profile.Profile.{Profile}
+use Rattle.fs_chan.specs.declared.action.Action.{Action}
 use Rattle.fs_doc.specs.Attributes.{has_variable}
 use Rattle.fs_doc.specs.Dialplans.{Context, Extension, Condition}
 use Rattle.fs_doc.specs.declared.dialplan.Test.{Test}
@@ -18,7 +19,6 @@ use Rattle.fs_doc.specs.declared.dialplan.Break.TheVariants as stop
 use Rattle.fs_doc.specs.declared.dialplan.PlanAction.{PlanAction}
 use Rattle.fs_plan.specs.declared.tested.Tested.{Tested}
 use Rattle.fs_plan.specs.declared.tested.Count.{Count}
-use Rattle.fs_plan.specs.declared.action.Action.{Action}
 use Rattle.fs_plan.specs.declared.hunt.Hunt.{Hunt}
 use Rattle.fs_plan.specs.Outcomes.{Outcome, ◌>>=◌}
 use Rattle.fs_plan.specs.Matching.{Groups, tested}

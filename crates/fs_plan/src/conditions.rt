@@ -2,11 +2,11 @@ ghost use Rattle.std.specs.Prelude.{◌≡◌, false, Ok, IfOk, IfErr, OnOk, Opt
 ghost use Rattle.fs_plan.specs.Outcomes.{IsFault};
 ghost use Rattle.fs_plan.specs.Hunting as spec;
 
-use crate::action::Action;
 use crate::groups::{Groups, substituted};
 use crate::hunt::Hunt;
 use crate::pattern::Pattern;
 use crate::tested::{Count, Tested};
+use fs_chan::Action;
 use fs_doc::{Break, Child, ConditionDef, ManyKind, PlanAction, Test};
 use fs_ports::Gate;
 use fs_text::Txt;

@@ -2,9 +2,9 @@ ghost use Rattle.std.specs.Prelude.{◌≡◌, Ok, IfOk, IfErr, OnOk};
 ghost use Rattle.fs_plan.specs.Outcomes.{IsFault};
 ghost use Rattle.fs_plan.specs.Hunting as spec;
 
-use crate::action::Actions;
 use crate::hunt::Hunt;
 use crate::pattern::Pattern;
+use fs_chan::Actions;
 use fs_doc::ExtensionDef;
 use fs_ports::Gate;
 use fs_text::Memory;

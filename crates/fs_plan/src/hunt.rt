@@ -1,4 +1,4 @@
-use crate::action::Actions;
+use fs_chan::Actions;
 use fs_vars::Vars;
 
 /// What a hunt gives: the actions of the extensions that were taken, and the variables and globals after the inline actions.

@@ -4,7 +4,6 @@
 //! goes through the extensions of a context and gives the actions of those that are taken.
 #![tactic(auto)]
 
-mod action;
 mod build;
 mod conditions;
 mod extensions;
@@ -19,7 +18,6 @@ mod tested;
 #[cfg(test)]
 mod tests;
 
-pub use action::{Action, Actions};
 pub use fault::PlanFault;
 pub use hunt::Hunt;
 pub use pattern::Pattern;

@@ -3,11 +3,11 @@ ghost use Rattle.fs_plan.specs.Building as build;
 ghost use Rattle.fs_plan.specs.Outcomes.{IsFault};
 ghost use Rattle.fs_plan.specs.Hunting as spec;
 
-use crate::action::Actions;
 use crate::build::contexts;
 use crate::fault::PlanFault;
 use crate::hunt::Hunt;
 use crate::pattern::Pattern;
+use fs_chan::Actions;
 use fs_doc::{Config, ContextDef, ExtensionDef, Listed};
 use fs_ports::{Gate, Patterns};
 use fs_vars::{Refused, Scope};

@@ -44,7 +44,7 @@ fn dialplan(
 // The actions, a line each, with a space between application and argument.
 fn shown(alloc: Global, hunt: &Hunt) -> Result<Vec<u8>, Memory> {
     let mut lines = Vec::new(alloc);
-    for action in hunt.actions.as_slice() {
+    for action in hunt.actions.iter() {
         lines.extend_from_slice(action.application.as_bytes())?;
         lines.push(b' ')?;
         lines.extend_from_slice(action.argument.as_bytes())?;

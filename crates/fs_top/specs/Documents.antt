@@ -6,11 +6,11 @@ use Rattle.fs_text.specs.Escape.{escape}
 use Rattle.fs_vars.specs.Variables.{Variables}
 use Rattle.fs_vars.specs.declared.bounds.Bounds.TheVariants.{Channel}
 use Rattle.fs_vars.specs.declared.profile.Profile.{Profile}
+use Rattle.fs_chan.specs.declared.action.Action.{Action}
 use Rattle.fs_doc.specs.Dialplans.{Context}
 use Rattle.fs_doc.specs.Reading.{Configuration}
 use Rattle.fs_plan.specs.Building.{extensions_in}
 use Rattle.fs_plan.specs.Hunting.{hunted}
-use Rattle.fs_plan.specs.declared.action.Action.{Action}
 use Rattle.fs_plan.specs.declared.hunt.Hunt.{Hunt}
 use Rattle.fs_top.specs.declared.start.Start.{Start}
 

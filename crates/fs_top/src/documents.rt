@@ -4,8 +4,9 @@ ghost use Rattle.fs_plan.specs.Hunting.{hunted};
 ghost use Rattle.fs_plan.specs.Outcomes.{IsFault};
 ghost use Rattle.fs_top.specs.Documents as spec;
 
+use fs_chan::{Action, Actions};
 use fs_doc::ContextDef;
-use fs_plan::{Action, Dialplan, Hunt};
+use fs_plan::{Dialplan, Hunt};
 use fs_ports::NoGate;
 use fs_text::{Memory, Txt, decimal, escape};
 use fs_vars::{Bounds, Profile, Refused, Scope, Vars};
@@ -48,7 +49,7 @@ pub(crate) fn hunt_text(
     ensures { IfOk result (λ t. t ≡ spec.hunt_text plan.now globals.now context.now dest.now) }
 {
     match hunt(alloc, plan, globals, context, dest) {
-        Ok(hunt) => actions_text(alloc, hunt.actions.as_slice()),
+        Ok(hunt) => actions_text(alloc, &hunt.actions),
         Err(Refused::TooLong { len }) => too_long_hunt(alloc, len),
         Err(Refused::Memory) => Err(Memory),
     }
@@ -88,20 +89,20 @@ fn hunt_profile(alloc: Global, context: &Txt, dest: &Txt) -> Result<Profile, Mem
 
 // The actions in order, a line each, or words where there are none.
 #[tactic(auto, unfolding(crate::specs::Documents::actions_text))]
-fn actions_text(alloc: Global, actions: &[Action]) -> Result<Txt, Memory>
+fn actions_text(alloc: Global, actions: &Actions) -> Result<Txt, Memory>
     ensures { IfOk result (λ t. t ≡ spec.actions_text actions.now) }
 {
-    match actions {
-        [] => Txt::of(alloc, b"NO_ROUTE_DESTINATION\n"),
-        actions => action_lines(alloc, actions),
+    if actions.is_empty() {
+        return Txt::of(alloc, b"NO_ROUTE_DESTINATION\n");
     }
+    action_lines(alloc, actions)
 }
 
-fn action_lines(alloc: Global, actions: &[Action]) -> Result<Txt, Memory>
+fn action_lines(alloc: Global, actions: &Actions) -> Result<Txt, Memory>
     ensures { IfOk result (λ t. t ≡ concat (map spec.action_line actions.now)) }
 {
     let mut lines = Vec::new(alloc);
-    for action in actions {
+    for action in actions.iter() {
         push_action(alloc, &mut lines, action)?;
     }
     Txt::from_vec(lines)

@@ -1,0 +1,7 @@
+mod PlayLemmas
+mod StepLemmas
+mod RoundLemmas
+mod SettleLemmas
+mod SendLemmas
+mod TurnLemmas
+mod EndLemmas

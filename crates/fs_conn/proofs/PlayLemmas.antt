@@ -1,0 +1,182 @@
+-- Each step of the definition of a play leaves one that is over as it is, and only adds entries.
+use Rattle.std.proofs.Common.{◌≡◌, ◌^◌, ℕ, zero, suc, Bool, true, false, not, ◌&&◌, cond, List, [], ◌∷◌, ◌++◌, length, Option, None, Some, refl, sym, ap, ◌∙◌, append_assoc, append-nil}
+use Rattle.fs_state.specs.Switch.{waiting_for}
+use Rattle.fs_machine.specs.declared.due.DueActor.{DueActor}
+use Rattle.fs_machine.specs.declared.due.DueActor.TheVariants as due
+use Rattle.fs_machine.specs.declared.entry.Entry.{Entry}
+use Rattle.fs_machine.specs.declared.entry.Act.{Act}
+use Rattle.fs_machine.specs.declared.entry.Act.TheVariants.{Command, Take, Close, Work, Job}
+use Rattle.fs_machine.specs.declared.entry.Closing.TheVariants.{EndOfInput, Sent}
+use Rattle.fs_machine.specs.declared.refusal.Refusal.{Refusal}
+use Rattle.fs_machine.specs.declared.refusal.Refusal.TheVariants as refusal
+use Rattle.fs_machine.specs.Questions.{owes}
+use Rattle.fs_machine.specs.Step.{refusal_of}
+use Rattle.fs_conn.specs.declared.end.End.{End}
+use Rattle.fs_conn.specs.declared.end.End.TheVariants.{Runaway}
+use Rattle.fs_conn.specs.Play.{Play, switch_of, is_over, ended, judged, tried, entered, repeated, worked_by, next_actor, worked_once, stopped_by, stopped, settled, waits, waited_until, waited_once, waited, all_taken, followed, acted, reads_on, commanded, all_commanded, input_ended, closed}
+use Rattle.fs_conn.specs.Steps.{Begins, entry_of}
+
+-- ---- fronts
+
+pub begins_self : (p : Play) → Begins p p
+begins_self p = record { config = refl; more = []; split = sym (append-nil p.journal) }
+
+pub begins_trans : (a b c : Play) → Begins a b → Begins b c → Begins a c
+begins_trans a b c first then = record {
+  config = then.config ∙ first.config;
+  more = first.more ++ then.more;
+  split = then.split ∙ ap (λ entries. entries ++ then.more) first.split ∙ append_assoc a.journal first.more then.more;
+}
+
+-- whatever the clock says
+begins_at : (p whole : Play) (moment : ℕ) → Begins (record p { clock = moment }) whole → Begins p whole
+begins_at p whole moment begins = record { config = begins.config; more = begins.more; split = begins.split }
+
+-- ---- steps
+
+-- a step leaves a play that is over as it is, and only adds entries
+pub record Goes (step : Play → Play) : Type 0 where
+  pub over : (p : Play) → is_over p ≡ true → step p ≡ p
+  pub begins : (p : Play) → Begins p (step p)
+
+pub goes_then : (f g : Play → Play) → Goes f → Goes g → Goes (λ p. g (f p))
+goes_then f g first then = record {
+  over = λ p over. ap g (first.over p over) ∙ then.over p over;
+  begins = λ p. begins_trans p (f p) (g (f p)) (first.begins p) (then.begins (f p));
+}
+
+-- a step that is done only where this holds
+goes_where : (test : Play → Bool) (f : Play → Play) → Goes f → Goes (λ p. cond (test p) (f p) p)
+goes_where test f goes = record {
+  over = λ p over. elim (test p) as (λ b. cond b (f p) p ≡ p) [ true ↦ goes.over p over | false ↦ refl ];
+  begins = λ p. elim (test p) as (λ b. Begins p (cond b (f p) p)) [ true ↦ goes.begins p | false ↦ begins_self p ];
+}
+
+pub goes_repeated : (n : ℕ) (f : Play → Play) → Goes f → Goes (repeated n f)
+unfolding repeated
+goes_repeated zero f goes = record { over = λ p over. refl; begins = begins_self }
+goes_repeated (suc n) f goes = record {
+  over = λ p over. ap (repeated n f) (goes.over p over) ∙ (goes_repeated n f goes).over p over;
+  begins = λ p. begins_trans p (f p) (repeated n f (f p)) (goes.begins p) ((goes_repeated n f goes).begins (f p));
+}
+
+begins_judged : (cause : Option Refusal) (entry : Entry) (p : Play) → Begins p (judged cause entry p)
+begins_judged None entry p = record { config = refl; more = entry ∷ []; split = refl }
+begins_judged (Some (refusal.JournalFull cost limit)) entry p = record { config = refl; more = []; split = sym (append-nil p.journal) }
+begins_judged (Some _) entry p = begins_self p
+
+goes_tried : (entry : Entry) → Goes (tried entry)
+goes_tried entry = record {
+  over = λ p over. ap (λ b. cond b p (judged (refusal_of (switch_of p) entry) entry p)) over;
+  begins =
+      λ p. elim (is_over p) as (λ b. Begins p (cond b p (judged (refusal_of (switch_of p) entry) entry p))) [
+        | true ↦ begins_self p
+        | false ↦ begins_judged (refusal_of (switch_of p) entry) entry p
+      ];
+}
+
+pub goes_entered : (act : Act) → Goes (entered act)
+goes_entered act = record {
+  over = λ p over. (goes_tried (entry_of act p)).over p over;
+  begins = λ p. (goes_tried (entry_of act p)).begins p;
+}
+
+pub goes_ended : (end : End) → Goes (ended end)
+goes_ended end = record {
+  over = λ p over. ap (λ b. cond b p (record p { end = Some end })) over;
+  begins =
+      λ p. elim (is_over p) as (λ b. Begins p (cond b p (record p { end = Some end }))) [
+        | true ↦ begins_self p
+        | false ↦ record { config = refl; more = []; split = sym (append-nil p.journal) }
+      ];
+}
+
+-- ---- what is due
+
+goes_worked_by : (actor : DueActor) → Goes (worked_by actor)
+goes_worked_by (due.Slot slot) = goes_entered (Work slot)
+goes_worked_by (due.Job job) = goes_entered (Job job)
+goes_worked_by (due.Later moment) = record { over = λ p over. refl; begins = begins_self }
+goes_worked_by due.Never = record { over = λ p over. refl; begins = begins_self }
+
+pub goes_worked_once : Goes worked_once
+goes_worked_once = record {
+  over = λ p over. (goes_worked_by (next_actor p)).over p over;
+  begins = λ p. (goes_worked_by (next_actor p)).begins p;
+}
+
+goes_stopped_by : (actor : DueActor) → Goes (stopped_by actor)
+goes_stopped_by (due.Slot slot) = goes_ended (Runaway 100000)
+goes_stopped_by (due.Job job) = goes_ended (Runaway 100000)
+goes_stopped_by (due.Later moment) = record { over = λ p over. refl; begins = begins_self }
+goes_stopped_by due.Never = record { over = λ p over. refl; begins = begins_self }
+
+pub goes_stopped : Goes stopped
+goes_stopped = record {
+  over = λ p over. (goes_stopped_by (next_actor p)).over p over;
+  begins = λ p. (goes_stopped_by (next_actor p)).begins p;
+}
+
+pub goes_all_worked : (n : ℕ) → Goes (repeated n worked_once)
+goes_all_worked n = goes_repeated n worked_once goes_worked_once
+
+pub goes_settled : Goes settled
+unfolding settled
+goes_settled = goes_then (repeated 100000 worked_once) stopped (goes_all_worked 100000) goes_stopped
+
+-- ---- replies that are owed
+
+begins_waited : (actor : DueActor) (p : Play) → Begins p (waited_until actor p)
+begins_waited (due.Later moment) p = begins_at p (settled (record p { clock = moment })) moment (goes_settled.begins (record p { clock = moment }))
+begins_waited _ p = begins_self p
+
+pub goes_waited_once : Goes waited_once
+goes_waited_once = record {
+  over = λ p over. ap (λ b. cond (not b && owes (switch_of p) 1) (waited_until (next_actor p) p) p) over;
+  begins =
+      λ p. elim (waits p) as (λ b. Begins p (cond b (waited_until (next_actor p) p) p)) [
+        | true ↦ begins_waited (next_actor p) p
+        | false ↦ begins_self p
+      ];
+}
+
+pub goes_all_waited : (n : ℕ) → Goes (repeated n waited_once)
+goes_all_waited n = goes_repeated n waited_once goes_waited_once
+
+pub goes_waited : Goes waited
+unfolding waited
+goes_waited = goes_all_waited (2 ^ 64)
+
+-- ---- frames, and all that comes of an act
+
+pub goes_taken : (n : ℕ) → Goes (repeated n (entered (Take 1)))
+goes_taken n = goes_repeated n (entered (Take 1)) (goes_entered (Take 1))
+
+pub goes_all_taken : Goes all_taken
+unfolding all_taken
+goes_all_taken = record {
+  over = λ p over. (goes_taken (length (waiting_for (switch_of p) 1))).over p over;
+  begins = λ p. (goes_taken (length (waiting_for (switch_of p) 1))).begins p;
+}
+
+pub goes_followed : Goes followed
+goes_followed = goes_then (λ p. waited (settled p)) all_taken (goes_then settled waited goes_settled goes_waited) goes_all_taken
+
+pub goes_acted : (act : Act) → Goes (acted act)
+goes_acted act = goes_then (entered act) followed (goes_entered act) goes_followed
+
+-- ---- the conversation
+
+pub goes_commanded : (block : List ℕ) → Goes (λ p. commanded p block)
+goes_commanded block = goes_where reads_on (acted (Command 1 block)) (goes_acted (Command 1 block))
+
+pub goes_all_commanded : (blocks : List (List ℕ)) → Goes (λ p. all_commanded p blocks)
+goes_all_commanded [] = record { over = λ p over. refl; begins = begins_self }
+goes_all_commanded (block ∷ blocks) = goes_then (λ p. commanded p block) (λ p. all_commanded p blocks) (goes_commanded block) (goes_all_commanded blocks)
+
+pub goes_input_ended : Goes input_ended
+goes_input_ended =
+    goes_where reads_on (λ p. all_taken (entered (Close 1 EndOfInput) p)) (goes_then (entered (Close 1 EndOfInput)) all_taken (goes_entered (Close 1 EndOfInput)) goes_all_taken)
+
+pub goes_closed : Goes closed
+goes_closed = goes_then input_ended (entered (Close 1 Sent)) goes_input_ended (goes_entered (Close 1 Sent))

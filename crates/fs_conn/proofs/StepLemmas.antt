@@ -1,0 +1,124 @@
+-- How steps of a play follow one another, and what entering an act does.
+use Rattle.std.proofs.Common.{◌≡◌, ◌≢◌, ℕ, ◌+◌, ◌-◌, ◌^◌, ◌≤◌, min, Bool, true, false, cond, List, [], ◌∷◌, ◌++◌, length, Option, None, Some, Result, Ok, Err, refl, sym, ap, ◌∙◌, subst, append-nil, length-append, arith}
+use Rattle.std.specs.List.{concat}
+use Rattle.std.proofs.lemmas.List.Folds.{concat-append}
+use Rattle.fs_state.specs.Switch.{empty}
+use Rattle.fs_machine.specs.declared.entry.Entry.{Entry}
+use Rattle.fs_machine.specs.declared.entry.Act.{Act}
+use Rattle.fs_machine.specs.declared.entry.Act.TheVariants.{Command}
+use Rattle.fs_machine.specs.declared.reply.Reply.{Reply}
+use Rattle.fs_machine.specs.declared.refusal.Refusal.TheVariants as refusal
+use Rattle.fs_machine.specs.Entries.{cost_of, is_full}
+use Rattle.fs_machine.specs.Questions.{owes}
+use Rattle.fs_machine.specs.Step.{step, refusal_of, refused_where}
+use Rattle.fs_machine.specs.Runs.{View, state_of, IsSame}
+use Rattle.fs_machine.specs.Frames.{handed_in, handed_from}
+use Rattle.fs_machine.proofs.FrameLemmas.{some_cost, handed_more, command_refused}
+use Rattle.fs_conn.specs.declared.end.End.{End}
+use Rattle.fs_conn.specs.declared.stop.Stop.{Stop}
+use Rattle.fs_conn.specs.declared.stop.Stop.TheVariants.{Over, OutOfMemory, WriteFault}
+use Rattle.fs_conn.specs.Play.{Play, switch_of, output_of, is_over, judged, entered, reads_on}
+use Rattle.fs_conn.specs.Steps.{play_of, spent, Begins, Halts, Does, entry_of, Accepts, Rejects, Enters, Works}
+use Rattle.fs_conn.proofs.PlayLemmas.{begins_trans, Goes, goes_entered}
+
+-- ---- one step after another
+
+-- what halted stays so, whatever was to follow
+pub halts_on : (g : Play → Play) → Goes g → (stop : Stop) (p mid : Play) → Halts stop p mid → Halts stop p (g mid)
+halts_on g goes (Over end) p mid halts = (halts.0, ap g halts.1 ∙ goes.over (record p { end = Some end }) refl)
+halts_on g goes OutOfMemory p mid halts = begins_trans p mid (g mid) halts (goes.begins mid)
+halts_on g goes WriteFault p mid halts = begins_trans p mid (g mid) halts (goes.begins mid)
+
+pub does_then : {A : Type 0} (f g : Play → Play) (old mid new : Play) (result : Result A Stop) → mid ≡ f old → Does g mid new result → Does (λ p. g (f p)) old new result
+does_then f g old mid new (Ok done) first then = then ∙ ap g first
+does_then f g old mid new (Err stop) first then = subst (λ (p : Play). Halts stop new (g p)) first then
+
+-- ---- entering
+
+-- an act that is not refused is entered
+pub accepts : (old new : View) (clock : ℕ) (act : Act) (reply : Reply) → new.config ≡ old.config → new.journal ≡ old.journal ++ entry_of act (play_of old clock) ∷ [] →
+    refusal_of (state_of old) (entry_of act (play_of old clock)) ≡ None → reply ≡ (step (state_of old) (entry_of act (play_of old clock))).reply →
+    (state_of new).cost ≡ min ((state_of old).cost + cost_of act) (2 ^ 64 - 1) → (state_of old).cost + 65600 ≤ min old.config.settings.journal_limit (2 ^ 64 - 1) →
+    Accepts act (play_of old clock) (play_of new clock) reply
+accepts old new clock act reply config journal defined reply_is cost free =
+    let entry = entry_of act (play_of old clock) in
+    let some = some_cost act in record {
+      defined = defined;
+      does = rw (config, journal) refl;
+      reply_is = reply_is;
+      hands =
+          rw (config, journal)
+          (ap concat (handed_more 1 (empty old.config) old.journal entry) ∙ concat-append (handed_from 1 (empty old.config) old.journal) (handed_in 1 act (state_of old)));
+      costs = record { more = omega (arith, cost, some, free); free = omega (arith, free) };
+    }
+
+-- an act that is refused changes nothing
+pub rejects : (old new : View) (clock : ℕ) → IsSame old new → play_of new clock ≡ play_of old clock
+rejects old new clock same = rw (same.config, same.journal) refl
+
+-- whatever entering did, the step of the definition was done or halted
+does_accepts : (act : Act) (old new : Play) (reply : Reply) → Accepts act old new reply → is_over old ≡ false → new ≡ entered act old
+does_accepts act old new reply accepts goes_on =
+    accepts.does ∙ sym (ap (λ over. cond over old (judged (refusal_of (switch_of old) (entry_of act old)) (entry_of act old) old)) goes_on ∙ ap (λ cause. judged cause (entry_of act old) old) accepts.defined)
+
+pub does_enters : (act : Act) (old new : Play) (result : Result (Option Reply) Stop) → is_over old ≡ false → Enters act old new result → Does (entered act) old new result
+does_enters act old new (Ok None) goes_on enters = enters.does
+does_enters act old new (Ok (Some reply)) goes_on enters = does_accepts act old new reply enters goes_on
+does_enters act old new (Err (Over end)) goes_on enters = enters.1
+does_enters act old new (Err OutOfMemory) goes_on enters = subst (λ (p : Play). Begins p (entered act old)) (sym enters) ((goes_entered act).begins old)
+does_enters act old new (Err WriteFault) goes_on enters = absurd enters
+
+pub works_same : (old new : Play) → new ≡ old → Works old new
+works_same old new same = record { output = ap output_of same; spent = let e = ap spent same in omega (arith, e) }
+
+pub works_then : (old mid new : Play) → Works old mid → Works mid new → Works old new
+works_then old mid new first then = record { output = then.output ∙ first.output; spent = omega (arith, first.spent, then.spent) }
+
+-- whatever the clock said
+pub works_at : (old new : Play) (moment : ℕ) → Works (record old { clock = moment }) new → Works old new
+works_at old new moment works = record { output = works.output; spent = works.spent }
+
+-- an act that hands out no frame works
+pub works_enters : (act : Act) (old new : Play) (result : Result (Option Reply) Stop) → handed_in 1 act (switch_of old) ≡ [] → Enters act old new result → Works old new
+works_enters act old new (Ok None) none enters = works_same old new enters.same
+works_enters act old new (Ok (Some reply)) none enters = record {
+  output = enters.hands ∙ ap (λ frames. output_of old ++ concat frames) none ∙ append-nil (output_of old);
+  spent = omega (arith, enters.costs.more);
+}
+works_enters act old new (Err (Over end)) none enters = works_same old new enters.0
+works_enters act old new (Err OutOfMemory) none enters = works_same old new enters
+works_enters act old new (Err WriteFault) none enters = absurd enters
+
+-- entering stops by no write
+pub unwritten_enters : (act : Act) (old new : Play) (stop : Stop) → Enters act old new (Err stop) → stop ≢ WriteFault
+unwritten_enters act old new (Over end) enters = λ same. cc
+unwritten_enters act old new OutOfMemory enters = λ same. cc
+unwritten_enters act old new WriteFault enters = absurd enters
+
+pub spent_enters : (act : Act) (old new : Play) (result : Result (Option Reply) Stop) → Enters act old new result → spent old ≤ spent new
+spent_enters act old new (Ok None) enters = (works_same old new enters.same).spent
+spent_enters act old new (Ok (Some reply)) enters = omega (arith, enters.costs.more)
+spent_enters act old new (Err (Over end)) enters = (works_same old new enters.0).spent
+spent_enters act old new (Err OutOfMemory) enters = (works_same old new enters).spent
+spent_enters act old new (Err WriteFault) enters = absurd enters
+
+-- an entry makes a journal longer
+longer : (p : Play) (entry : Entry) → p ≡ record p { journal = p.journal ++ entry ∷ [] } → ⊥
+longer p entry same =
+    let long = ap (λ (q : Play). length q.journal) same in
+    let more = length-append p.journal (entry ∷ []) in omega (arith, long, more)
+
+-- a play that goes on is not over
+never_over : (end : End) → None ≡ Some end → ⊥
+never_over end same = cc
+
+-- a connection that reads commands and is owed no reply gives one
+pub never_rejects : (machine : View) (clock : ℕ) (new : Play) (block : List ℕ) → reads_on (play_of machine clock) ≡ true → owes (state_of machine) 1 ≡ false → Rejects (Command 1 block) (play_of machine clock) new → ⊥
+never_rejects machine clock new block is_reading owes_none refused =
+    by (is_full (state_of machine))
+    (sym refused.same ∙ refused.does
+    ∙ ap (λ cause. judged cause (entry_of (Command 1 block) (play_of machine clock)) (play_of machine clock)) (command_refused (state_of machine) clock 1 block is_reading owes_none))
+  where
+    by : (full : Bool) → play_of machine clock ≡ judged (refused_where full (refusal.JournalFull (state_of machine).cost (state_of machine).config.settings.journal_limit) None) (entry_of (Command 1 block) (play_of machine clock)) (play_of machine clock) → ⊥
+    by true same = absurd (never_over _ (ap (λ (q : Play). q.end) same))
+    by false same = longer (play_of machine clock) (entry_of (Command 1 block) (play_of machine clock)) same

@@ -1,0 +1,382 @@
+-- What a turn of a conversation comes to.
+use Rattle.std.proofs.Common.{◌≡◌, ◌≢◌, ℕ, ◌<◌, ◌≤◌, Bool, true, false, cond, List, [], ◌∷◌, ◌++◌, length, Option, None, Some, Ok, Err, sym, refl, ap, ◌∙◌, subst, append_assoc, append-nil, length-append, arith, ◌&&◌, nat_lt, if◌then◌else◌}
+use Rattle.std.specs.List.{AllByRecursion, concat}
+use Rattle.std.specs.Io.KnownBytes.{IsAtEnd}
+use Rattle.std.proofs.lemmas.List.Folds.{concat-append}
+use Rattle.std.proofs.lemmas.Bool.{ltb-false}
+use Rattle.fs_doc.specs.Reading.{Configuration}
+use Rattle.fs_ports.specs.Counts.{raised}
+use Rattle.fs_ports.specs.Ports.{Input, Output, Reads}
+use Rattle.fs_ports.proofs.Sides.{reads_both, reads_nothing, writes_nothing}
+use Rattle.fs_frame.specs.Block.{IsBlock, too_long}
+use Rattle.fs_frame.specs.Blocks.{HasNoBlock, blocks_of, rest_of}
+use Rattle.fs_frame.specs.Stream.{Stream, fresh, fed_with}
+use Rattle.fs_frame.specs.Next.{HandsOut, HandsOutNothing}
+use Rattle.fs_frame.proofs.BlockLaws.{AllByRecursion-append, blocks_of-append, rest_of-append, blocks_of-no_block, rest_of-no_block, front_of-no_block}
+use Rattle.fs_state.specs.declared.conn.Parting.{Parting}
+use Rattle.fs_state.specs.declared.conn.Parting.TheVariants as way
+use Rattle.fs_machine.specs.declared.entry.Act.TheVariants.{Arrive, Command, Close}
+use Rattle.fs_machine.specs.declared.entry.Closing.TheVariants.{EndOfInput}
+use Rattle.fs_machine.specs.declared.reply.Reply.{Reply}
+use Rattle.fs_machine.specs.Questions.{parting_at, owes}
+use Rattle.fs_conn.specs.declared.end.End.{End}
+use Rattle.fs_conn.specs.declared.end.End.TheVariants.{Exit, AuthRefused, Eof}
+use Rattle.fs_conn.specs.declared.conversation.Stance.TheVariants as stance
+use Rattle.fs_conn.specs.declared.stop.Stop.{Stop}
+use Rattle.fs_conn.specs.declared.stop.Stop.TheVariants.{OutOfMemory, WriteFault}
+use Rattle.fs_conn.specs.Play.{Play, switch_of, output_of, begun, is_over, ended, entered, all_taken, followed, acted, reads_on, commanded, all_commanded, opened, input_ended, conversed, closed, end_by, farewell, end_behind, played}
+use Rattle.fs_conn.specs.Steps.{spent, Begins, Halts, Costs, Enters, Written, StoppedBy}
+use Rattle.fs_conn.specs.Turns.{stance_by, stance_of, HasRead, Stands, is_told, Ends, Concludes, Stops, work_left}
+use Rattle.fs_conn.proofs.PlayLemmas.{begins_self, begins_trans, Goes, goes_entered, goes_ended, goes_all_taken, goes_followed, goes_all_commanded, goes_closed}
+use Rattle.fs_conn.proofs.StepLemmas.{halts_on, does_enters, works_enters, unwritten_enters}
+use Rattle.fs_conn.proofs.SendLemmas.{written_same, stopped_same}
+
+-- ---- what follows the last command
+
+abbrev pub concluded : List ℕ → Bool → Play → Play
+concluded input read_failed p = ended (end_behind (farewell p) (too_long (rest_of input)) read_failed) (closed p)
+
+pub played_is : (config : Configuration) (input : List ℕ) (read_failed : Bool) → concluded input read_failed (conversed config input) ≡ played config input read_failed
+unfolding played
+played_is config input read_failed = refl
+
+pub goes_concluded : (input : List ℕ) (read_failed : Bool) → Goes (concluded input read_failed)
+goes_concluded input read_failed = record {
+  over =
+      λ p over. let end = end_behind (farewell p) (too_long (rest_of input)) read_failed in
+      ap (ended end) (goes_closed.over p over) ∙ (goes_ended end).over p over;
+  begins =
+      λ p. let end = end_behind (farewell p) (too_long (rest_of input)) read_failed in
+      begins_trans p (closed p) (ended end (closed p)) (goes_closed.begins p) ((goes_ended end).begins (closed p));
+}
+
+-- ---- where a connection stands
+
+-- it reads commands, and is owed no reply
+pub record IsReading (p : Play) : Type 0 where
+  pub reads : reads_on p ≡ true
+  pub owed : owes (switch_of p) 1 ≡ false
+  pub none : farewell p ≡ None
+
+reading_by : (reads owed : Bool) (last : Option End) → stance_by reads owed last ≡ stance.Reads → (reads ≡ true) × (owed ≡ false) × (last ≡ None)
+reading_by true false None is = (refl, refl, refl)
+reading_by true false (Some end) is = absurd (cc)
+reading_by true true last is = absurd (cc)
+reading_by false owed None is = absurd (cc)
+reading_by false owed (Some end) is = absurd (cc)
+
+pub is_reading : (p : Play) → stance_of (switch_of p) ≡ stance.Reads → IsReading p
+is_reading p is = let parts = reading_by (reads_on p) (owes (switch_of p) 1) (farewell p) is in record { reads = parts.0; owed = parts.1; none = parts.2 }
+
+-- it reads no further command
+ending_by : (reads owed : Bool) (last : Option End) (end : End) → stance_by reads owed last ≡ stance.Ends end → (reads ≡ false) × (last ≡ Some end)
+ending_by true false None end is = absurd (cc)
+ending_by true false (Some way) end is = absurd (cc)
+ending_by true true last end is = absurd (cc)
+ending_by false owed None end is = absurd (cc)
+ending_by false owed (Some way) end is = (refl, let same : way ≡ end = cc in ap Some same)
+
+-- ---- commands
+
+all_commanded-append : (p : Play) (xs ys : List (List ℕ)) → all_commanded p (xs ++ ys) ≡ all_commanded (all_commanded p xs) ys
+all_commanded-append p [] ys = refl
+all_commanded-append p (x ∷ xs) ys = all_commanded-append (commanded p x) xs ys
+
+-- a connection that reads no further command gives none
+all_commanded-none : (p : Play) (blocks : List (List ℕ)) → reads_on p ≡ false → all_commanded p blocks ≡ p
+all_commanded-none p [] none = refl
+all_commanded-none p (block ∷ blocks) none =
+    ap (λ q. all_commanded q blocks) (ap (λ b. cond b (acted (Command 1 block) p) p) none) ∙ all_commanded-none p blocks none
+
+commanded_reads : (p : Play) (block : List ℕ) → reads_on p ≡ true → commanded p block ≡ acted (Command 1 block) p
+commanded_reads p block is = ap (λ b. cond b (acted (Command 1 block) p) p) is
+
+-- what these blocks and what is behind them come to
+conversed-append : (config : Configuration) (blocks : List (List ℕ)) (rest : List ℕ) → AllByRecursion IsBlock blocks →
+    all_commanded (all_commanded (opened config) blocks) (blocks_of rest) ≡ conversed config (concat blocks ++ rest)
+conversed-append config blocks rest are_blocks =
+    sym (ap (all_commanded (opened config)) (blocks_of-append blocks rest are_blocks) ∙ all_commanded-append (opened config) blocks (blocks_of rest))
+
+-- the blocks so far, with the one that was handed out
+snoc_whole : (blocks : List (List ℕ)) (block rest old : List ℕ) → old ≡ block ++ rest → concat blocks ++ old ≡ concat (blocks ++ block ∷ []) ++ rest
+snoc_whole blocks block rest old e =
+    ap (λ xs. concat blocks ++ xs) e ∙ sym (append_assoc (concat blocks) block rest)
+    ∙ ap (λ xs. (concat blocks ++ xs) ++ rest) (sym (append-nil block)) ∙ ap (λ xs. xs ++ rest) (sym (concat-append blocks (block ∷ [])))
+
+-- the play of the blocks so far, with the one that was handed out
+snoc_play : (config : Configuration) (p : Play) (blocks : List (List ℕ)) (block : List ℕ) → p ≡ all_commanded (opened config) blocks → reads_on p ≡ true →
+    acted (Command 1 block) p ≡ all_commanded (opened config) (blocks ++ block ∷ [])
+snoc_play config p blocks block is reading =
+    sym (commanded_reads p block reading) ∙ ap (λ q. commanded q block) is ∙ sym (all_commanded-append (opened config) blocks (block ∷ []))
+
+-- ---- how a conversation stops
+
+-- a play that is a front of what these blocks give stopped, whatever follows in its input
+pub stops_short : (config : Configuration) (in0 in1 : Input) (out0 out1 : Output) (stop : Stop) (p : Play) (blocks : List (List ℕ)) (rest : List ℕ) →
+    AllByRecursion IsBlock blocks → HasRead in0 in1 (concat blocks ++ rest) false → Halts stop p (all_commanded (opened config) blocks) → StoppedBy stop out0 out1 p →
+    Stops config in0 out0 in1 out1 stop p
+stops_short config in0 in1 out0 out1 stop p blocks rest are_blocks has_read halts stopped =
+    let input = concat blocks ++ rest in
+    let further = halts_on (λ q. all_commanded q (blocks_of rest)) (goes_all_commanded (blocks_of rest)) stop p (all_commanded (opened config) blocks) halts in
+    let all = subst (λ (q : Play). Halts stop p q) (conversed-append config blocks rest are_blocks) further in
+    let whole = halts_on (concluded input false) (goes_concluded input false) stop p (conversed config input) all in record {
+      input = input;
+      read_failed = false;
+      has_read = has_read;
+      halts = subst (λ (q : Play). Halts stop p q) (played_is config input false) whole;
+      stopped = stopped;
+    }
+
+begins_is : (p whole : Play) → p ≡ whole → Begins p whole
+begins_is p whole is = subst (λ (q : Play). Begins p q) is (begins_self p)
+
+-- memory was wanting between two commands
+pub stops_between : (config : Configuration) (in0 in1 : Input) (out0 out1 : Output) (stream : Stream) (p : Play) →
+    Stands config in0 out0 in1 out1 stream p → Stops config in0 out0 in1 out1 OutOfMemory p
+stops_between config in0 in1 out0 out1 stream p stands =
+    stops_short config in0 in1 out0 out1 OutOfMemory p stands.blocks stream.rest stands.are_blocks
+    (record { reads = stands.reads; faults = stands.read_faults }) (begins_is p (all_commanded (opened config) stands.blocks) stands.play_is) stands.written
+
+-- or for what was read
+pub stops_reading : (config : Configuration) (in0 in1 in2 : Input) (out0 out1 : Output) (stream : Stream) (p : Play) (piece : List ℕ) →
+    Stands config in0 out0 in1 out1 stream p → Reads in1 in2 piece → in2.faults ≡ in1.faults → Stops config in0 out0 in2 out1 OutOfMemory p
+stops_reading config in0 in1 in2 out0 out1 stream p piece stands reads faults =
+    stops_short config in0 in2 out0 out1 OutOfMemory p stands.blocks (stream.rest ++ piece) stands.are_blocks
+    (record {
+      reads = subst (λ (xs : List ℕ). Reads in0 in2 xs) (append_assoc (concat stands.blocks) stream.rest piece) (reads_both in0 in1 in2 _ piece stands.reads reads);
+      faults = faults ∙ stands.read_faults;
+    })
+    (begins_is p (all_commanded (opened config) stands.blocks) stands.play_is) stands.written
+
+-- what a block gives stopped
+pub stops_behind : (config : Configuration) (in0 in1 : Input) (out0 out1 out2 : Output) (stop : Stop) (old new : Stream) (p later : Play) (block : List ℕ) →
+    Stands config in0 out0 in1 out1 old p → HandsOut old new block → reads_on p ≡ true → Halts stop later (acted (Command 1 block) p) → StoppedBy stop out0 out2 later →
+    Stops config in0 out0 in1 out2 stop later
+stops_behind config in0 in1 out0 out1 out2 stop old new p later block stands hands_out reading halts stopped =
+    stops_short config in0 in1 out0 out2 stop later (stands.blocks ++ block ∷ []) new.rest
+    (AllByRecursion-append IsBlock stands.blocks (block ∷ []) stands.are_blocks (hands_out.is_block, tt))
+    (record {
+      reads = subst (λ (xs : List ℕ). Reads in0 in1 xs) (snoc_whole stands.blocks block new.rest old.rest hands_out.rest) stands.reads;
+      faults = stands.read_faults;
+    })
+    (subst (λ (q : Play). Halts stop later q) (snoc_play config p stands.blocks block stands.play_is reading) halts) stopped
+
+-- the command of a block was not entered
+pub stops_command : (config : Configuration) (in0 in1 : Input) (out0 out1 : Output) (stop : Stop) (old new : Stream) (p later : Play) (block : List ℕ) →
+    Stands config in0 out0 in1 out1 old p → HandsOut old new block → reads_on p ≡ true → Halts stop later (entered (Command 1 block) p) → output_of later ≡ output_of p → stop ≢ WriteFault →
+    Stops config in0 out0 in1 out1 stop later
+stops_command config in0 in1 out0 out1 stop old new p later block stands hands_out reading halts output unwritten =
+    stops_behind config in0 in1 out0 out1 out1 stop old new p later block stands hands_out reading (halts_on followed goes_followed stop later (entered (Command 1 block) p) halts)
+    (stopped_same out0 out1 p later stop output unwritten stands.written)
+
+-- or not all that comes of it
+pub stops_following : (config : Configuration) (in0 in1 : Input) (out0 out1 out2 : Output) (stop : Stop) (old new : Stream) (p mid later : Play) (block : List ℕ) →
+    Stands config in0 out0 in1 out1 old p → HandsOut old new block → reads_on p ≡ true → mid ≡ entered (Command 1 block) p → Halts stop later (followed mid) → StoppedBy stop out0 out2 later →
+    Stops config in0 out0 in1 out2 stop later
+stops_following config in0 in1 out0 out1 out2 stop old new p mid later block stands hands_out reading mid_is halts stopped =
+    stops_behind config in0 in1 out0 out1 out2 stop old new p later block stands hands_out reading (subst (λ (q : Play). Halts stop later (followed q)) mid_is halts) stopped
+
+-- ---- how it goes on
+
+-- the connection came, and nothing was read yet
+pub stands_first : (config : Configuration) (in0 in1 : Input) (out0 out1 : Output) (stream : Stream) (mid p : Play) →
+    in1 ≡ in0 → stream ≡ fresh → mid ≡ entered Arrive (begun config) → p ≡ followed mid → Written out0 out1 p → Stands config in0 out0 in1 out1 stream p
+stands_first config in0 in1 out0 out1 stream mid p in_is stream_is mid_is p_is written = record {
+  blocks = [];
+  are_blocks = tt;
+  reads = rw (in_is, stream_is) (reads_nothing in0);
+  read_faults = ap (λ i. i.faults) in_is;
+  play_is = p_is ∙ ap followed mid_is;
+  written = written;
+}
+
+-- a block was answered
+pub goes_on_behind : (config : Configuration) (in0 in1 : Input) (out0 out1 out2 : Output) (old new : Stream) (p mid later : Play) (block : List ℕ) →
+    Stands config in0 out0 in1 out1 old p → HandsOut old new block → reads_on p ≡ true → mid ≡ entered (Command 1 block) p → later ≡ followed mid → Written out0 out2 later →
+    Stands config in0 out0 in1 out2 new later
+goes_on_behind config in0 in1 out0 out1 out2 old new p mid later block stands hands_out reading mid_is later_is written = record {
+  blocks = stands.blocks ++ block ∷ [];
+  are_blocks = AllByRecursion-append IsBlock stands.blocks (block ∷ []) stands.are_blocks (hands_out.is_block, tt);
+  reads = subst (λ (xs : List ℕ). Reads in0 in1 xs) (snoc_whole stands.blocks block new.rest old.rest hands_out.rest) stands.reads;
+  read_faults = stands.read_faults;
+  play_is = later_is ∙ ap followed mid_is ∙ snoc_play config p stands.blocks block stands.play_is reading;
+  written = written;
+}
+
+-- more was read
+pub goes_on_fed : (config : Configuration) (in0 in1 in2 : Input) (out0 out1 : Output) (old new : Stream) (p : Play) (piece : List ℕ) →
+    Stands config in0 out0 in1 out1 old p → HandsOutNothing old new → Reads in1 in2 piece → in2.faults ≡ in1.faults → Stands config in0 out0 in2 out1 (fed_with new piece) p
+goes_on_fed config in0 in1 in2 out0 out1 old new p piece stands nothing reads faults =
+    let whole : (concat stands.blocks ++ old.rest) ++ piece ≡ concat stands.blocks ++ (new.rest ++ piece) =
+    append_assoc (concat stands.blocks) old.rest piece ∙ ap (λ xs. concat stands.blocks ++ (xs ++ piece)) (sym nothing.rest) in record {
+      blocks = stands.blocks;
+      are_blocks = stands.are_blocks;
+      reads = subst (λ (xs : List ℕ). Reads in0 in2 xs) whole (reads_both in0 in1 in2 _ piece stands.reads reads);
+      read_faults = faults ∙ stands.read_faults;
+      play_is = stands.play_is;
+      written = stands.written;
+    }
+
+-- ---- how it ends
+
+-- a farewell is told, and is no end by the input
+abbrev IsFarewell : End → Type 0
+IsFarewell end = (is_told end ≡ true) × (end ≢ Eof)
+
+farewell_told : (parting : Option Parting) (end : End) → end_by parting ≡ Some end → IsFarewell end
+farewell_told None end is = absurd (cc)
+farewell_told (Some way.Exit) end is = let same : Exit ≡ end = cc in subst IsFarewell same (refl, λ eof. cc)
+farewell_told (Some way.AuthRefused) end is = let same : AuthRefused ≡ end = cc in subst IsFarewell same (refl, λ eof. cc)
+farewell_told (Some way.EndOfInput) end is = absurd (cc)
+
+-- the connection reads no further command
+pub ends_by_farewell : (config : Configuration) (in0 in1 : Input) (out0 out1 : Output) (end : End) (stream : Stream) (p : Play) →
+    Stands config in0 out0 in1 out1 stream p → stance_of (switch_of p) ≡ stance.Ends end → Ends config in0 out0 in1 out1 end p
+ends_by_farewell config in0 in1 out0 out1 end stream p stands is =
+    let parts = ending_by (reads_on p) (owes (switch_of p) 1) (farewell p) end is in
+    let last = parts.1 in
+    let told = farewell_told (parting_at (switch_of p) 1) end last in record {
+      input = concat stands.blocks ++ stream.rest;
+      read_failed = false;
+      has_read = record { reads = stands.reads; faults = stands.read_faults };
+      play_is =
+          sym (all_commanded-none p (blocks_of stream.rest) parts.0) ∙ ap (λ q. all_commanded q (blocks_of stream.rest)) stands.play_is
+          ∙ conversed-append config stands.blocks stream.rest stands.are_blocks;
+      written = stands.written;
+      end_is = sym (ap (λ last. end_behind last (too_long (rest_of (concat stands.blocks ++ stream.rest))) false) last);
+      told = told.0;
+      at_end = λ is_eof. absurd (told.1 is_eof);
+    }
+
+-- no block is in front, and none will be read
+pub ends_between : (config : Configuration) (in0 in1 in2 : Input) (out0 out1 : Output) (end : End) (old : Stream) (p : Play) (read_failed : Bool) →
+    Stands config in0 out0 in1 out1 old p → HasNoBlock old.rest → farewell p ≡ None → Reads in1 in2 [] → in2.faults ≡ (if read_failed then raised in1.faults else in1.faults) →
+    end ≡ end_behind None (too_long old.rest) read_failed → is_told end ≡ true → (end ≡ Eof → IsAtEnd in2.left) → Ends config in0 out0 in2 out1 end p
+ends_between config in0 in1 in2 out0 out1 end old p read_failed stands no_block none reads faults end_is told at_end =
+    let input = concat stands.blocks ++ old.rest in
+    let rest : too_long old.rest ≡ too_long (rest_of input) = ap too_long (sym (rest_of-append stands.blocks old.rest stands.are_blocks ∙ rest_of-no_block old.rest no_block)) in record {
+      input = input;
+      read_failed = read_failed;
+      has_read = record {
+        reads = subst (λ (xs : List ℕ). Reads in0 in2 xs) (append-nil input) (reads_both in0 in1 in2 _ [] stands.reads reads);
+        faults = faults ∙ ap (λ n. if read_failed then raised n else n) stands.read_faults;
+      };
+      play_is =
+          ap (all_commanded p) (sym (blocks_of-no_block old.rest no_block)) ∙ ap (λ q. all_commanded q (blocks_of old.rest)) stands.play_is
+          ∙ conversed-append config stands.blocks old.rest stands.are_blocks;
+      written = stands.written;
+      end_is = end_is ∙ ap (λ long. end_behind None long read_failed) rest ∙ ap (λ last. end_behind last (too_long (rest_of input)) read_failed) (sym none);
+      told = told;
+      at_end = at_end;
+    }
+
+-- a read that failed read nothing
+pub reads_failed : (in0 : Input) → Reads in0 (record in0 { faults = raised in0.faults }) []
+reads_failed in0 = let nothing = reads_nothing in0 in record { taken = nothing.taken; left = nothing.left; waits = refl }
+
+-- ---- how a turn leaves less to do
+
+-- a block that was entered
+pub falls_behind : (old mid new : Play) (stream later : Stream) (block : List ℕ) → mid ≡ entered (Command 1 block) old → new ≡ followed mid → Costs old mid → spent mid ≤ spent new →
+    work_left new later < work_left old stream
+falls_behind old mid new stream later block mid_is new_is costs spent =
+    let config : new.config ≡ old.config =
+    ap (λ (p : Play). p.config) new_is ∙ (goes_followed.begins mid).config ∙ ap (λ (p : Play). p.config) mid_is ∙ ((goes_entered (Command 1 block)).begins old).config in
+    let limit = ap (λ (c : Configuration). c.settings.journal_limit) config in omega (arith, limit, costs.more, costs.free, spent)
+
+-- bytes with no block in front that are not too long
+short_rest : (rest : List ℕ) → HasNoBlock rest → too_long rest ≡ false → length rest ≤ 65536
+unfolding too_long
+short_rest rest no_block short =
+    let nothing = front_of-no_block rest no_block in
+    let few : (nat_lt 65536 (length rest) && true) ≡ false = rw nothing at short in omega (arith, ltb-false 65536 (length rest) (and_true (nat_lt 65536 (length rest)) few))
+  where
+    and_true : (b : Bool) → (b && true) ≡ false → b ≡ false
+    and_true true e = e
+    and_true false e = refl
+
+-- a piece that was read
+pub falls_fed : (p : Play) (old new : Stream) (piece : List ℕ) → HasNoBlock old.rest → too_long old.rest ≡ false → new.rest ≡ old.rest → 0 < length piece →
+    work_left p (fed_with new piece) < work_left p old
+falls_fed p old new piece no_block short same some =
+    let few = short_rest old.rest no_block short in
+    let long = length-append new.rest piece in
+    let kept = ap length same in omega (arith, few, long, kept)
+
+-- ---- the end
+
+-- a connection that came to its end was closed
+pub concludes : (config : Configuration) (in0 in1 : Input) (out0 out1 out2 : Output) (end : End) (p later : Play) →
+    Ends config in0 out0 in1 out1 end p → is_over later ≡ false → later ≡ closed p → Written out0 out2 later → Concludes config in0 out0 in1 out2 end later
+concludes config in0 in1 out0 out1 out2 end p later ends goes_on later_is written =
+    let same = ap closed ends.play_is in
+    let whole : ended end later ≡ played config ends.input ends.read_failed =
+    ap (λ how. ended how later) (ends.end_is ∙ ap (λ q. end_behind (farewell q) (too_long (rest_of ends.input)) ends.read_failed) ends.play_is)
+    ∙ ap (ended (end_behind (farewell (conversed config ends.input)) (too_long (rest_of ends.input)) ends.read_failed)) (later_is ∙ same)
+    ∙ played_is config ends.input ends.read_failed in record {
+      input = ends.input;
+      read_failed = ends.read_failed;
+      has_read = ends.has_read;
+      play_is = sym whole ∙ ap (λ b. cond b later (record later { end = Some end })) goes_on;
+      written = written;
+      told = ends.told;
+      at_end = ends.at_end;
+    }
+
+-- the closing of a connection stopped
+pub stops_closing : (config : Configuration) (in0 in1 : Input) (out0 out1 out2 : Output) (end : End) (stop : Stop) (p later : Play) →
+    Ends config in0 out0 in1 out1 end p → Halts stop later (closed p) → StoppedBy stop out0 out2 later → Stops config in0 out0 in1 out2 stop later
+stops_closing config in0 in1 out0 out1 out2 end stop p later ends halts stopped =
+    let how = end_behind (farewell p) (too_long (rest_of ends.input)) ends.read_failed in
+    let whole = halts_on (ended how) (goes_ended how) stop later (closed p) halts in record {
+      input = ends.input;
+      read_failed = ends.read_failed;
+      has_read = ends.has_read;
+      halts =
+          subst (λ (q : Play). Halts stop later q) (ap (concluded ends.input ends.read_failed) ends.play_is ∙ played_is config ends.input ends.read_failed) whole;
+      stopped = stopped;
+    }
+
+-- it stopped as it came
+stops_first : (config : Configuration) (in0 in1 : Input) (out0 out1 : Output) (stop : Stop) (p : Play) →
+    in1 ≡ in0 → Halts stop p (opened config) → StoppedBy stop out0 out1 p → Stops config in0 out0 in1 out1 stop p
+stops_first config in0 in1 out0 out1 stop p in_is halts stopped =
+    stops_short config in0 in1 out0 out1 stop p [] [] tt (record { reads = rw in_is (reads_nothing in0); faults = ap (λ i. i.faults) in_is }) halts stopped
+
+-- its coming was not entered
+pub stops_coming : (config : Configuration) (in0 : Input) (out0 : Output) (stop : Stop) (first p : Play) →
+    first ≡ begun config → Enters Arrive first p (Err stop) → Stops config in0 out0 in0 out0 stop p
+stops_coming config in0 out0 stop first p first_is enters =
+    let did = subst (λ (q : Play). Enters Arrive q p (Err stop)) first_is enters in
+    let works = works_enters Arrive (begun config) p (Err stop) refl did in
+    stops_first config in0 in0 out0 out0 stop p refl (halts_on followed goes_followed stop p (entered Arrive (begun config)) (does_enters Arrive (begun config) p (Err stop) refl did))
+    (stopped_same out0 out0 (begun config) p stop works.output (unwritten_enters Arrive (begun config) p stop did) (writes_nothing out0))
+
+-- it came
+pub came : (config : Configuration) (first mid : Play) (reply : Option Reply) → first ≡ begun config → Enters Arrive first mid (Ok reply) → mid ≡ entered Arrive (begun config)
+came config first mid reply first_is enters = does_enters Arrive (begun config) mid (Ok reply) refl (subst (λ (q : Play). Enters Arrive q mid (Ok reply)) first_is enters)
+
+-- and nothing was written yet
+pub written_came : (config : Configuration) (out0 : Output) (first mid : Play) (reply : Option Reply) → first ≡ begun config → Enters Arrive first mid (Ok reply) → Written out0 out0 mid
+written_came config out0 first mid reply first_is enters =
+    let did = subst (λ (q : Play). Enters Arrive q mid (Ok reply)) first_is enters in
+    written_same out0 out0 (begun config) mid (works_enters Arrive (begun config) mid (Ok reply) refl did).output (writes_nothing out0)
+
+-- what comes of that stopped
+pub stops_opening : (config : Configuration) (in0 in1 : Input) (out0 out1 : Output) (stop : Stop) (mid p : Play) →
+    mid ≡ entered Arrive (begun config) → in1 ≡ in0 → Halts stop p (followed mid) → StoppedBy stop out0 out1 p → Stops config in0 out0 in1 out1 stop p
+stops_opening config in0 in1 out0 out1 stop mid p mid_is in_is halts stopped =
+    stops_first config in0 in1 out0 out1 stop p in_is (subst (λ (q : Play). Halts stop p (followed q)) mid_is halts) stopped
+
+-- memory was wanting before anything was read
+pub stops_opened : (config : Configuration) (in0 in1 : Input) (out0 out1 : Output) (mid p : Play) →
+    in1 ≡ in0 → mid ≡ entered Arrive (begun config) → p ≡ followed mid → Written out0 out1 p → Stops config in0 out0 in1 out1 OutOfMemory p
+stops_opened config in0 in1 out0 out1 mid p in_is mid_is p_is written =
+    stops_first config in0 in1 out0 out1 OutOfMemory p in_is (begins_is p (opened config) (p_is ∙ ap followed mid_is)) written
+
+-- the end of the input was not entered
+pub input_ended_stops : (p later : Play) (stop : Stop) → is_over p ≡ false → reads_on p ≡ true → Enters (Close 1 EndOfInput) p later (Err stop) → Halts stop later (input_ended p)
+input_ended_stops p later stop goes_on reading enters =
+    let end = entered (Close 1 EndOfInput) p in
+    subst (λ (q : Play). Halts stop later q) (sym (ap (λ b. cond b (all_taken end) p) reading))
+    (halts_on all_taken goes_all_taken stop later end (does_enters (Close 1 EndOfInput) p later (Err stop) goes_on enters))

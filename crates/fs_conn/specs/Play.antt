@@ -1,0 +1,187 @@
+-- What a played connection is: its journal, what is written to it, and how it ends.
+use Rattle.std.specs.Prelude.{ℕ, zero, suc, ◌^◌, Bool, List, [], ◌∷◌, ◌++◌, length, Option, None, Some, is_some, not, ◌&&◌, if◌then◌else◌}
+use Rattle.std.specs.List.{concat}
+use Rattle.fs_doc.specs.Reading.{Configuration}
+use Rattle.fs_frame.specs.Block.{too_long}
+use Rattle.fs_frame.specs.Blocks.{blocks_of, rest_of}
+use Rattle.fs_state.specs.declared.conn.Parting.{Parting}
+use Rattle.fs_state.specs.declared.conn.Parting.TheVariants as parting
+use Rattle.fs_state.specs.Switch.{Switch, empty, waiting_for}
+use Rattle.fs_machine.specs.declared.due.DueActor.{DueActor}
+use Rattle.fs_machine.specs.declared.due.DueActor.TheVariants as actor
+use Rattle.fs_machine.specs.declared.entry.Entry.{Entry}
+use Rattle.fs_machine.specs.declared.entry.Act.{Act}
+use Rattle.fs_machine.specs.declared.entry.Act.TheVariants.{Arrive, Command, Take, Close, Work, Job}
+use Rattle.fs_machine.specs.declared.entry.Closing.TheVariants.{EndOfInput, Sent}
+use Rattle.fs_machine.specs.declared.refusal.Refusal.{Refusal}
+use Rattle.fs_machine.specs.declared.refusal.Refusal.TheVariants as refusal
+use Rattle.fs_machine.specs.Due.{next_due}
+use Rattle.fs_machine.specs.Step.{refusal_of, reads}
+use Rattle.fs_machine.specs.Runs.{run_from}
+use Rattle.fs_machine.specs.Frames.{handed_from}
+use Rattle.fs_machine.specs.Connections.{phase_at}
+use Rattle.fs_machine.specs.Questions.{parting_at, owes}
+use Rattle.fs_conn.specs.declared.end.End.{End}
+use Rattle.fs_conn.specs.declared.end.End.TheVariants.{Exit, AuthRefused, Eof, ReadFault, TooLong, JournalFull, Runaway}
+
+-- a play so far: what the switch was configured by, its journal, the clock, and how the play ended, if it did
+pub record Play : Type 0 where
+  pub config : Configuration
+  pub journal : List Entry
+  pub clock : ℕ
+  pub end : Option End
+
+-- nothing is entered yet
+abbrev pub begun : Configuration → Play
+begun config = record { config = config; journal = []; clock = 0; end = None }
+
+-- the switch that it has come to
+abbrev pub switch_of : Play → Switch
+switch_of p = run_from (empty p.config) p.journal
+
+-- the bytes of all frames that a journal hands out to the one connection
+abbrev pub bytes_handed : Configuration → List Entry → List ℕ
+bytes_handed config journal = concat (handed_from 1 (empty config) journal)
+
+abbrev pub output_of : Play → List ℕ
+output_of p = bytes_handed p.config p.journal
+
+abbrev pub is_over : Play → Bool
+is_over p = is_some p.end
+
+-- it ends so, unless it is over
+abbrev pub ended : End → Play → Play
+ended end p = if is_over p then p else record p { end = Some end }
+
+-- ---- entries
+
+-- an entry stands behind the others where it is not refused; a journal that is full ends all, and of any other refusal nothing comes
+abbrev pub judged : Option Refusal → Entry → Play → Play
+judged None entry p = record p { journal = p.journal ++ entry ∷ [] }
+judged (Some (refusal.JournalFull cost limit)) entry p = record p { end = Some (JournalFull cost limit) }
+judged (Some _) entry p = p
+
+abbrev pub tried : Entry → Play → Play
+tried entry p = if is_over p then p else judged (refusal_of (switch_of p) entry) entry p
+
+-- an act is tried at the clock's moment
+abbrev pub entered : Act → Play → Play
+entered act p = tried (record { moment = p.clock; act = act }) p
+
+-- ---- what is due is worked
+
+-- so many times
+unfoldable pub repeated : {A : Type 0} → ℕ → (A → A) → A → A
+repeated zero act a = a
+repeated (suc n) act a = repeated n act (act a)
+
+-- the least slot, or else the least job, that has something to do does it
+abbrev pub worked_by : DueActor → Play → Play
+worked_by (actor.Slot slot) p = entered (Work slot) p
+worked_by (actor.Job job) p = entered (Job job) p
+worked_by (actor.Later moment) p = p
+worked_by actor.Never p = p
+
+abbrev pub next_actor : Play → DueActor
+next_actor p = next_due p.clock (switch_of p)
+
+abbrev pub worked_once : Play → Play
+worked_once p = worked_by (next_actor p) p
+
+-- a play that has still something to do has run away
+abbrev pub stopped_by : DueActor → Play → Play
+stopped_by (actor.Slot slot) p = ended (Runaway 100000) p
+stopped_by (actor.Job job) p = ended (Runaway 100000) p
+stopped_by (actor.Later moment) p = p
+stopped_by actor.Never p = p
+
+abbrev pub stopped : Play → Play
+stopped p = stopped_by (next_actor p) p
+
+-- all that is due is worked, as long as that takes no more than 100,000 entries
+unfoldable pub settled : Play → Play
+settled p = stopped (repeated 100000 worked_once p)
+
+-- ---- replies that are owed
+
+-- a reply is owed, and the play goes on
+abbrev pub waits : Play → Bool
+waits p = not (is_over p) && owes (switch_of p) 1
+
+-- the clock goes on to the next moment at which something is due, and that is worked
+abbrev pub waited_until : DueActor → Play → Play
+waited_until (actor.Later moment) p = settled (record p { clock = moment })
+waited_until _ p = p
+
+abbrev pub waited_once : Play → Play
+waited_once p = if waits p then waited_until (next_actor p) p else p
+
+-- that goes on while a reply is owed; there are no more than 2^64 moments
+unfoldable pub waited : Play → Play
+waited p = repeated (2 ^ 64) waited_once p
+
+-- ---- frames
+
+-- a Take for each frame that waits
+unfoldable pub all_taken : Play → Play
+all_taken p = repeated (length (waiting_for (switch_of p) 1)) (entered (Take 1)) p
+
+-- what comes of an act
+abbrev pub followed : Play → Play
+followed p = all_taken (waited (settled p))
+
+-- an act with all that comes of it
+abbrev pub acted : Act → Play → Play
+acted act p = followed (entered act p)
+
+-- ---- the conversation
+
+-- it reads commands
+abbrev pub reads_on : Play → Bool
+reads_on p = reads (phase_at (switch_of p) 1)
+
+-- the next block is a command, unless the connection reads none any more
+abbrev pub commanded : Play → List ℕ → Play
+commanded p block = if reads_on p then acted (Command 1 block) p else p
+
+abbrev pub all_commanded : Play → List (List ℕ) → Play
+all_commanded p [] = p
+all_commanded p (block ∷ blocks) = all_commanded (commanded p block) blocks
+
+-- the connection has come
+abbrev pub opened : Configuration → Play
+opened config = acted Arrive (begun config)
+
+-- its input has ended
+abbrev pub input_ended : Play → Play
+input_ended p = if reads_on p then all_taken (entered (Close 1 EndOfInput) p) else p
+
+-- it is closed
+abbrev pub closed : Play → Play
+closed p = entered (Close 1 Sent) (input_ended p)
+
+-- ---- how it ends
+
+abbrev pub end_by : Option Parting → Option End
+end_by None = None
+end_by (Some parting.Exit) = Some Exit
+end_by (Some parting.AuthRefused) = Some AuthRefused
+end_by (Some parting.EndOfInput) = None
+
+-- how a connection ends that reads no further command, or none where it reads on
+abbrev pub farewell : Play → Option End
+farewell p = end_by (parting_at (switch_of p) 1)
+
+-- by its last command, or else by a block that is too long, by a read that failed, or by the end of the input
+abbrev pub end_behind : Option End → Bool → Bool → End
+end_behind (Some end) is_too_long read_failed = end
+end_behind None is_too_long read_failed = if is_too_long then TooLong 65537 else (if read_failed then ReadFault else Eof)
+
+-- the play of these bytes up to the last command
+abbrev pub conversed : Configuration → List ℕ → Play
+conversed config input = all_commanded (opened config) (blocks_of input)
+
+-- what these bytes of a link play over a switch of this configuration, where the reading ended or failed behind them
+unfoldable pub played : Configuration → List ℕ → Bool → Play
+played config input read_failed =
+    let p = conversed config input in ended (end_behind (farewell p) (too_long (rest_of input)) read_failed) (closed p)

@@ -1,0 +1,121 @@
+-- What a step of a play did, and what stopped it.
+use Rattle.std.specs.Prelude.{◌≡◌, ◌≢◌, ℕ, ◌+◌, ◌<◌, ◌≤◌, Bool, true, false, List, [], ◌∷◌, ◌++◌, Option, None, Some, Result, Ok, Err, IfErr}
+use Rattle.std.specs.List.{concat}
+use Rattle.fs_ports.specs.Ports.{Output, Writes, Stopped}
+use Rattle.fs_machine.specs.declared.due.DueActor.{DueActor}
+use Rattle.fs_machine.specs.declared.due.DueActor.TheVariants as actor
+use Rattle.fs_machine.specs.declared.entry.Entry.{Entry}
+use Rattle.fs_machine.specs.declared.entry.Act.{Act}
+use Rattle.fs_machine.specs.declared.entry.Act.TheVariants.{Work, Job}
+use Rattle.fs_machine.specs.declared.reply.Reply.{Reply}
+use Rattle.fs_machine.specs.Step.{step, refusal_of}
+use Rattle.fs_machine.specs.Runs.{View}
+use Rattle.fs_machine.specs.Frames.{handed_in}
+use Rattle.fs_conn.specs.declared.end.End.{End}
+use Rattle.fs_conn.specs.declared.end.End.TheVariants.{Exit, AuthRefused, Eof, ReadFault, WriteFault as ends_by_write, TooLong, JournalFull, Memory, Runaway}
+use Rattle.fs_conn.specs.declared.stop.Stop.{Stop}
+use Rattle.fs_conn.specs.declared.stop.Stop.TheVariants.{Over, OutOfMemory, WriteFault}
+use Rattle.fs_conn.specs.Play.{Play, switch_of, output_of, entered}
+
+-- the play that a machine has come to at a moment, which goes on
+abbrev pub play_of : View → ℕ → Play
+play_of machine clock = record { config = machine.config; journal = machine.journal; clock = clock; end = None }
+
+-- what its entries cost
+abbrev pub spent : Play → ℕ
+spent p = (switch_of p).cost
+
+-- the journal of a play is a front of that of the whole
+pub record Begins (p whole : Play) : Type 0 where
+  pub config : whole.config ≡ p.config
+  pub more : List Entry
+  pub split : whole.journal ≡ p.journal ++ more
+
+-- ---- how a step stops
+
+-- an end that comes before that of the connection
+abbrev pub is_early : End → Bool
+is_early (JournalFull cost limit) = true
+is_early (Runaway count) = true
+is_early Exit = false
+is_early AuthRefused = false
+is_early Eof = false
+is_early ReadFault = false
+is_early ends_by_write = false
+is_early (TooLong len) = false
+is_early Memory = false
+
+-- what was to become the whole play came to its end, or broke off behind a front of it
+abbrev pub Halts : Stop → Play → Play → Type 0
+Halts (Over end) p whole = (is_early end ≡ true) × (whole ≡ record p { end = Some end })
+Halts OutOfMemory p whole = Begins p whole
+Halts WriteFault p whole = Begins p whole
+
+-- a step of the play was done, or halted
+abbrev pub Does : {A : Type 0} → (Play → Play) → Play → Play → Result A Stop → Type 0
+Does step old new (Ok done) = new ≡ step old
+Does step old new (Err stop) = Halts stop new (step old)
+
+-- ---- entries
+
+abbrev pub entry_of : Act → Play → Entry
+entry_of act p = record { moment = p.clock; act = act }
+
+-- there was room for an entry, which cost something
+pub record Costs (old new : Play) : Type 0 where
+  pub more : spent old < spent new
+  pub free : spent old + 65600 ≤ old.config.settings.journal_limit
+
+-- an act was entered, and this is its reply
+pub record Accepts (act : Act) (old new : Play) (reply : Reply) : Type 0 where
+  pub defined : refusal_of (switch_of old) (entry_of act old) ≡ None
+  pub does : new ≡ record old { journal = old.journal ++ entry_of act old ∷ [] }
+  pub reply_is : reply ≡ (step (switch_of old) (entry_of act old)).reply
+  pub hands : output_of new ≡ output_of old ++ concat (handed_in 1 act (switch_of old))
+  pub costs : Costs old new
+
+-- an act was refused, and the play goes on as it was
+pub record Rejects (act : Act) (old new : Play) : Type 0 where
+  pub does : new ≡ entered act old
+  pub same : new ≡ old
+
+-- what entering an act did
+abbrev pub Enters : Act → Play → Play → Result (Option Reply) Stop → Type 0
+Enters act old new (Ok None) = Rejects act old new
+Enters act old new (Ok (Some reply)) = Accepts act old new reply
+Enters act old new (Err (Over end)) = (new ≡ old) × Halts (Over end) new (entered act old)
+Enters act old new (Err OutOfMemory) = new ≡ old
+Enters act old new (Err WriteFault) = ⊥
+
+-- what is to be entered for one that has something to do
+abbrev pub act_of : DueActor → Option Act
+act_of (actor.Slot slot) = Some (Work slot)
+act_of (actor.Job job) = Some (Job job)
+act_of (actor.Later moment) = None
+act_of actor.Never = None
+
+-- a step that writes nothing did not stop by a write
+abbrev pub IsUnwritten : {A : Type 0} → Result A Stop → Type 0
+IsUnwritten result = IfErr result (λ stop. stop ≢ WriteFault)
+
+-- entries were made that hand out no frame
+pub record Works (old new : Play) : Type 0 where
+  pub output : output_of new ≡ output_of old
+  pub spent : spent old ≤ spent new
+
+-- ---- frames
+
+-- the frames that were handed out were written
+abbrev pub Written : Output → Output → Play → Type 0
+Written out0 out1 p = Writes out0 out1 (output_of p)
+
+-- or the last of these writes failed
+abbrev pub StoppedBy : Stop → Output → Output → Play → Type 0
+StoppedBy (Over end) out0 out1 p = Written out0 out1 p
+StoppedBy OutOfMemory out0 out1 p = Written out0 out1 p
+StoppedBy WriteFault out0 out1 p = Stopped out0 out1 (output_of p)
+
+-- what a step wrote
+abbrev pub Sends : {A : Type 0} → Output → Output → Play → Result A Stop → Type 0
+Sends out0 out1 p (Ok done) = Written out0 out1 p
+Sends out0 out1 p (Err stop) = StoppedBy stop out0 out1 p

@@ -1,0 +1,23 @@
+/// How a connection came to its end.
+#[derive(Clone, Copy, Debug, PartialEq, Eq)]
+pub enum End {
+    /// By its command `exit`.
+    Exit,
+    /// By the end of its input.
+    Eof,
+    /// By a password that was refused.
+    AuthRefused,
+    /// By a read that failed.
+    ReadFault,
+    /// By a write that failed.
+    WriteFault,
+    /// By more bytes than a block may have, with no block in front of them; so many were looked at.
+    TooLong { len: u64 },
+    /// By the journal, behind whose cost no further entry is accepted.
+    JournalFull { cost: u64, limit: u64 },
+    /// For want of memory.
+    Memory,
+    /// By channels and jobs that do not come to rest: so many entries in a row were worked at one moment, and
+    /// something was still due.
+    Runaway { count: u64 },
+}

@@ -1,0 +1,66 @@
+ghost use Rattle.std.specs.Prelude.{◌≡◌, ◌≤◌};
+ghost use Rattle.fs_ports.specs.Ports.{Output};
+ghost use Rattle.fs_machine.specs.declared.entry.Act.TheVariants.{Take};
+ghost use Rattle.fs_conn.specs.Play.{entered, all_taken, followed};
+ghost use Rattle.fs_conn.specs.Steps.{play_of, spent, Does, Written, Sends};
+
+use crate::entering::{CONN, enter};
+use crate::settling::{settle, wait_out};
+use crate::stop::Stop;
+use fs_machine::{Act, Machine, Reply};
+use fs_ports::{Link, Sent, send_all};
+
+/// Works what is due behind an entry, waits for a reply that is owed, and takes and writes all frames.
+pub(crate) fn follow<L: Link>(
+    machine: &mut Machine,
+    clock: &mut u64,
+    link: &mut L,
+) -> Result<(), Stop>
+    ensures does { Does followed (play_of machine.old clock.old) (play_of machine.new clock.new) result }
+    ensures sends { (out0 : Output) → Written out0 (L.output link.old) (play_of machine.old clock.old)
+        → Sends out0 (L.output link.new) (play_of machine.new clock.new) result }
+    ensures input { L.input link.new ≡ L.input link.old }
+    ensures spent { spent (play_of machine.old clock.old) ≤ spent (play_of machine.new clock.new) }
+{
+    settle(machine, *clock)?;
+    wait_out(machine, clock)?;
+    send_frames(machine, *clock, link)
+}
+
+/// Takes and writes all frames that wait.
+pub(crate) fn send_frames<L: Link>(
+    machine: &mut Machine,
+    clock: u64,
+    link: &mut L,
+) -> Result<(), Stop>
+    ensures does { Does all_taken (play_of machine.old clock) (play_of machine.new clock) result }
+    ensures sends { (out0 : Output) → Written out0 (L.output link.old) (play_of machine.old clock)
+        → Sends out0 (L.output link.new) (play_of machine.new clock) result }
+    ensures input { L.input link.new ≡ L.input link.old }
+    ensures spent { spent (play_of machine.old clock) ≤ spent (play_of machine.new clock) }
+{
+    for _ in 0..machine.waiting(CONN) {
+        send_frame(machine, clock, link)?;
+    }
+    Ok(())
+}
+
+// Takes and writes the first frame that waits, if one does.
+fn send_frame<L: Link>(machine: &mut Machine, clock: u64, link: &mut L) -> Result<(), Stop>
+    ensures does { Does (entered (Take 1)) (play_of machine.old clock) (play_of machine.new clock) result }
+    ensures sends { (out0 : Output) → Written out0 (L.output link.old) (play_of machine.old clock)
+        → Sends out0 (L.output link.new) (play_of machine.new clock) result }
+    ensures input { L.input link.new ≡ L.input link.old }
+    ensures spent { spent (play_of machine.old clock) ≤ spent (play_of machine.new clock) }
+{
+    let Some(reply) = enter(machine, clock, Act::Take { conn: CONN })? else {
+        return Ok(());
+    };
+    let Reply::Frame(frame) = reply else {
+        unreachable!()
+    };
+    match send_all(link, frame.as_bytes()) {
+        Sent::All => Ok(()),
+        Sent::Failed => Err(Stop::WriteFault),
+    }
+}

@@ -1,0 +1,8 @@
+use Rattle.std.proofs.Common.{◌≡◌, drop}
+use Rattle.fs_state.specs.Drafts.{drafted}
+use Rattle.fs_machine.specs.Due.{lesser, least_of, due_number, due_job}
+use Rattle.fs_machine.proofs.due.due_job.Given as goal
+
+abbrev pub invariant-loop-place : goal.invariant-loop-place
+invariant-loop-place l =
+    lesser l.least (least_of (due_number (drafted l.draft)) (drop l.place (drafted l.draft).jobs)) ≡ due_job (drafted l.draft)

@@ -1,0 +1,21 @@
+use Rattle.std.proofs.Common.{◌≡◌, List, Option, None, sym, subst, ap}
+use Rattle.fs_vars.specs.Pairs.{Text}
+use Rattle.fs_vars.specs.Variables.{Variables}
+use Rattle.fs_doc.specs.Dialplans.{Context}
+use Rattle.fs_plan.specs.declared.hunt.Hunt.{Hunt}
+use Rattle.fs_plan.specs.Hunting.{hunted}
+use Rattle.fs_state.specs.Drafts.{drafted}
+use Rattle.fs_machine.specs.Work.{found_in}
+use Rattle.fs_machine.proofs.work.hunt_for.Goals as goal
+
+pub returns-in-Err-TooLong : goal.returns-in-Err-TooLong
+returns-in-Err-TooLong c =
+    let chan = c.args.chan.now in
+    let globals = (drafted c.args.draft.now).globals in
+    let found : List Context → Text → Variables → Option Hunt =
+    λ contexts context known. found_in (hunted contexts context chan.profile chan.vars known) in
+    let of_globals : Variables → Type 0 = λ known. None ≡ found c.args.plan.now c.as_bytes-context.result.now known in
+    let of_context : Text → Type 0 = λ context. None ≡ found c.args.plan.now context globals in
+    let of_plan : List Context → Type 0 = λ contexts. None ≡ found contexts chan.profile.context globals in
+    let told = ap found_in (c.in-Err-TooLong.ensures.too_long c.in-Err-TooLong.field-0-0 c.in-Err-TooLong.field-0-is) in
+    subst of_plan c.requires.plan (subst of_context c.as_bytes-context.ensures (subst of_globals c.globals.ensures (sym told)))

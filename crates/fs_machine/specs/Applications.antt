@@ -1,0 +1,94 @@
+-- What applications do.
+use Rattle.std.specs.Prelude.{ℕ, ◌==◌, ◌++◌, nat_lt, if◌then◌else◌, length, Option, None, Some, option_map}
+use Rattle.fs_text.specs.declared.states.State.{State}
+use Rattle.fs_text.specs.declared.states.State.TheVariants.{CsPark}
+use Rattle.fs_text.specs.declared.causes.Cause.TheVariants.{NormalClearing, NormalTemporaryFailure, DestinationOutOfOrder}
+use Rattle.fs_vars.specs.Pairs.{Text, without}
+use Rattle.fs_vars.specs.Scopes.{fields_of}
+use Rattle.fs_vars.specs.Expansion.{expanded}
+use Rattle.fs_chan.specs.declared.action.Action.{Action}
+use Rattle.fs_chan.specs.declared.chan.Chan.{Chan}
+use Rattle.fs_chan.specs.Changes.{transferred, parked, asleep}
+use Rattle.fs_chan.specs.Exports.{with_set, exported}
+use Rattle.fs_chan.specs.Work.{next_of, after_next}
+use Rattle.fs_app.specs.declared.application.Application.{Application}
+use Rattle.fs_app.specs.declared.application.Application.TheVariants as app
+use Rattle.fs_app.specs.Applications.{application_of}
+use Rattle.fs_state.specs.Switch.{Switch, chan_at}
+use Rattle.fs_state.specs.Moves.{moved, answered, hung, completed, run_on}
+
+-- ---- changes of one channel
+
+abbrev pub with_variable : Text → Text → Chan → Chan
+with_variable name value c = record c { vars = with_set c.vars name value }
+
+abbrev pub without_variable : Text → Chan → Chan
+without_variable name c = record c { vars = record c.vars { pairs = without c.vars.pairs name } }
+
+abbrev pub with_export : Text → Text → Chan → Chan
+with_export name value c = record c { vars = exported c.vars name value }
+
+-- ---- what an application does
+
+-- it sleeps, unless the time is none
+abbrev pub sleeping : ℕ → ℕ → Switch → Switch
+sleeping milliseconds slot s = if milliseconds == 0 then completed slot s else moved (asleep s.moment milliseconds) slot s
+
+-- the state of the channel in a slot
+abbrev pub state_of : Chan → State
+state_of c = c.state
+
+abbrev pub state_at : ℕ → Switch → Option State
+state_at slot s = option_map state_of (chan_at s slot)
+
+-- it parks, unless it is parked
+abbrev pub parking_in : Option State → ℕ → Switch → Switch
+parking_in None slot s = s
+parking_in (Some CsPark) slot s = completed slot s
+parking_in (Some _) slot s = moved parked slot s
+
+abbrev pub parking : ℕ → Switch → Switch
+parking slot s = parking_in (state_at slot s) slot s
+
+-- what an application does in a slot; those that end at once say so
+abbrev pub effect : Application → ℕ → Switch → Switch
+effect app.Answer slot s = completed slot (answered slot s)
+effect (app.Set name value) slot s = completed slot (moved (with_variable name value) slot s)
+effect (app.Unset name) slot s = completed slot (moved (without_variable name) slot s)
+effect (app.Export name value) slot s = completed slot (moved (with_export name value) slot s)
+effect (app.SetGlobal name value) slot s = completed slot (record s { globals = with_set s.globals name value })
+effect app.Eval slot s = completed slot s
+effect (app.Sleep milliseconds) slot s = sleeping milliseconds slot s
+effect (app.Hangup cause) slot s = hung cause slot s
+effect app.Park slot s = parking slot s
+effect (app.Transfer to) slot s = moved (transferred to) slot s
+effect app.Unknown slot s = hung DestinationOutOfOrder slot s
+
+-- ---- running one
+
+-- an argument, expanded over what the channel knows
+abbrev pub argument_in : Chan → Switch → Text → Text
+argument_in c s text = expanded (c.vars.pairs ++ fields_of c.profile ++ s.globals.pairs) text
+
+-- an application begins and has its effect
+abbrev pub executed : Text → Text → ℕ → Switch → Switch
+executed application argument slot s =
+    effect (application_of application argument) slot (run_on (record { application = application; argument = argument }) slot s)
+
+-- an argument that is too long hangs the channel up, and nothing is run
+abbrev pub executed_within : Text → Text → ℕ → Switch → Switch
+executed_within application argument slot s =
+    if nat_lt 65536 (length argument) then hung NormalTemporaryFailure slot s else executed application argument slot s
+
+-- what a channel is to run next is used up and run; one that has nothing to run is hung up
+abbrev pub ran_next : Option Action → ℕ → Chan → Switch → Switch
+ran_next None slot c s = hung NormalClearing slot s
+ran_next (Some action) slot c s =
+    executed_within action.application (argument_in (after_next c) s action.argument) slot (moved after_next slot s)
+
+abbrev pub ran_from : ℕ → Option Chan → Switch → Switch
+ran_from slot None s = s
+ran_from slot (Some c) s = ran_next (next_of c) slot c s
+
+unfoldable pub ran : ℕ → Switch → Switch
+ran slot s = ran_from slot (chan_at s slot) s

@@ -1,0 +1,134 @@
+-- When channels and jobs have something to do by themselves.
+use Rattle.std.specs.Prelude.{ℕ, min, Bool, true, false, if◌then◌else◌, List, [], ◌∷◌, Option, None, Some}
+use Rattle.std.specs.Option.{option_and_then}
+use Rattle.fs_chan.specs.declared.chan.Chan.{Chan}
+use Rattle.fs_chan.specs.declared.due.Due.{Due}
+use Rattle.fs_chan.specs.declared.due.Due.TheVariants.{Now, At}
+use Rattle.fs_chan.specs.Work.{due_of, due_at}
+use Rattle.fs_orig.specs.declared.orig.Orig.{Orig}
+use Rattle.fs_orig.specs.Verdicts as verdicts
+use Rattle.fs_places.specs.declared.numbered.Numbered.{Numbered}
+use Rattle.fs_places.specs.Places.{first_place}
+use Rattle.fs_state.specs.declared.job.Job.{Job}
+use Rattle.fs_state.specs.declared.job.JobWork.{JobWork}
+use Rattle.fs_state.specs.declared.job.JobWork.TheVariants.{Sleep, Originate}
+use Rattle.fs_state.specs.Switch.{Switch, chan_at, orig_of, job_of, advanced}
+use Rattle.fs_machine.specs.declared.due.DueActor.{DueActor}
+use Rattle.fs_machine.specs.declared.due.DueActor.TheVariants as actor
+
+-- ---- one channel, one job
+
+-- what stands in a slot, if it is a channel
+abbrev pub chan_due : Switch → Option Chan → Option Due
+chan_due s chan = option_and_then (due_of s.moment) chan
+
+abbrev pub slot_due : ℕ → Switch → Option Due
+slot_due slot s = chan_due s (chan_at s slot)
+
+-- an origination, by the verdict on it
+abbrev pub orig_due : ℕ → Option Orig → Option Due
+orig_due now None = None
+orig_due now (Some o) = Some (due_at now (verdicts.due_of now o))
+
+abbrev pub work_due : Switch → JobWork → Option Due
+work_due s (Sleep until) = Some (due_at s.moment until)
+work_due s (Originate orig winner) = orig_due s.moment (orig_of s orig)
+
+abbrev pub job_due : ℕ → Switch → Option Due
+job_due number s = option_and_then (λ job. work_due s job.work) (job_of s number)
+
+-- ---- all of them
+
+abbrev pub is_now : Option Due → Bool
+is_now None = false
+is_now (Some Now) = true
+is_now (Some (At moment)) = false
+
+-- a moment that is still to come
+abbrev pub later_of : Option Due → Option ℕ
+later_of None = None
+later_of (Some Now) = None
+later_of (Some (At moment)) = Some moment
+
+-- the least slot that has something to do
+abbrev pub is_due : Switch → Option Chan → Bool
+is_due s chan = is_now (chan_due s chan)
+
+abbrev pub due_slot : Switch → Option ℕ
+due_slot s = first_place (is_due s) s.channels 0
+
+-- the lesser of two numbers, where they are there
+abbrev pub lesser : Option ℕ → Option ℕ → Option ℕ
+lesser None m = m
+lesser (Some n) None = Some n
+lesser (Some n) (Some m) = Some (min n m)
+
+-- the least of the numbers that things have
+abbrev pub least_of : {T : Type 0} → (T → Option ℕ) → List T → Option ℕ
+least_of number [] = None
+least_of number (thing ∷ things) = lesser (number thing) (least_of number things)
+
+-- the moment at which a channel or a job will have something to do
+abbrev pub chan_moment : Switch → Option Chan → Option ℕ
+chan_moment s chan = later_of (chan_due s chan)
+
+abbrev pub row_due : Switch → Option (Numbered Job) → Option Due
+row_due s None = None
+row_due s (Some row) = work_due s row.held.work
+
+abbrev pub row_moment : Switch → Option (Numbered Job) → Option ℕ
+row_moment s row = later_of (row_due s row)
+
+-- the number of a job that has something to do
+abbrev pub number_where : Bool → Option (Numbered Job) → Option ℕ
+number_where due None = None
+number_where due (Some row) = if due then Some row.number else None
+
+abbrev pub due_number : Switch → Option (Numbered Job) → Option ℕ
+due_number s row = number_where (is_now (row_due s row)) row
+
+-- the least number of such a job
+abbrev pub due_job : Switch → Option ℕ
+due_job s = least_of (due_number s) s.jobs
+
+abbrev pub first_chan_moment : Switch → Option ℕ
+first_chan_moment s = least_of (chan_moment s) s.channels
+
+abbrev pub first_job_moment : Switch → Option ℕ
+first_job_moment s = least_of (row_moment s) s.jobs
+
+-- ---- who has something to do, as seen at a moment
+
+-- one who has, or else another
+abbrev pub actor_or : (ℕ → DueActor) → Option ℕ → DueActor → DueActor
+actor_or actor None otherwise = otherwise
+actor_or actor (Some number) otherwise = actor number
+
+-- at a moment, or only where others bring something
+abbrev pub later_or_never : Option ℕ → DueActor
+later_or_never moment = actor_or actor.Later moment actor.Never
+
+abbrev pub due_among_jobs : Switch → DueActor
+due_among_jobs s = actor_or actor.Job (due_job s) (later_or_never (first_job_moment s))
+
+abbrev pub due_among_all : Switch → DueActor
+due_among_all s =
+    actor_or actor.Slot (due_slot s) (actor_or actor.Job (due_job s) (later_or_never (lesser (first_chan_moment s) (first_job_moment s))))
+
+-- the channel in a slot
+abbrev pub due_as : ℕ → Option Due → DueActor
+due_as slot None = actor.Never
+due_as slot (Some Now) = actor.Slot slot
+due_as slot (Some (At moment)) = actor.Later moment
+
+-- the least slot, or else the least job, that has something to do at a moment, or the next moment at which one has
+unfoldable pub next_due : ℕ → Switch → DueActor
+next_due now s = due_among_all (advanced now s)
+
+-- the same of jobs alone
+unfoldable pub next_job : ℕ → Switch → DueActor
+next_job now s = due_among_jobs (advanced now s)
+
+-- the same of one slot alone
+unfoldable pub next_slot : ℕ → ℕ → Switch → DueActor
+next_slot slot now s = due_as slot (slot_due slot (advanced now s))

@@ -1,0 +1,146 @@
+-- How the legs of an origination are made, and what a leg does that has won.
+use Rattle.std.specs.Prelude.{ℕ, ◌+◌, ◌*◌, ◌++◌, min, nat_lt, Bool, if◌then◌else◌, List, [], ◌∷◌, length, take, Option, None, Some, option_map, codes}
+use Rattle.std.specs.Option.{option_and_then}
+use Rattle.fs_text.specs.declared.states.State.TheVariants.{CsExecute}
+use Rattle.fs_text.specs.declared.causes.Cause.{Cause}
+use Rattle.fs_text.specs.declared.causes.Cause.TheVariants.{SwitchCongestion}
+use Rattle.fs_vars.specs.Pairs.{Text}
+use Rattle.fs_vars.specs.Variables.{Variables}
+use Rattle.fs_vars.specs.declared.bounds.Bounds.TheVariants.{Channel}
+use Rattle.fs_vars.specs.declared.profile.Profile.{Profile}
+use Rattle.fs_api.specs.declared.api.Winner.{Winner}
+use Rattle.fs_api.specs.declared.api.Winner.TheVariants.{App, Route}
+use Rattle.fs_api.specs.Routes.{RouteTo}
+use Rattle.fs_chan.specs.declared.chan.Chan.{Chan}
+use Rattle.fs_chan.specs.declared.peer.Direction.{Direction}
+use Rattle.fs_chan.specs.declared.peer.Direction.TheVariants.{Inbound, Outbound}
+use Rattle.fs_chan.specs.declared.target.Target3.{Target3}
+use Rattle.fs_chan.specs.declared.wait.Wait.TheVariants.{Ready}
+use Rattle.fs_chan.specs.Changes.{new_channel, transferred}
+use Rattle.fs_orig.specs.declared.leg.OrigLeg.{OrigLeg}
+use Rattle.fs_orig.specs.declared.endpoint.Endpoint.{Endpoint}
+use Rattle.fs_orig.specs.declared.endpoint.Endpoint.TheVariants.{Loopback, Dead}
+use Rattle.fs_orig.specs.Changes.{ringing, unmade}
+use Rattle.fs_orig.specs.Endpoints.{endpoint_of}
+use Rattle.fs_state.specs.Switch.{Switch, with_chan, free_slot, identified, identifier_of}
+use Rattle.fs_state.specs.Moves.{moved}
+use Rattle.fs_machine.specs.declared.originations.Call.{Call}
+use Rattle.fs_machine.specs.declared.originations.Caller.{Caller}
+use Rattle.fs_machine.specs.declared.originations.End.{End}
+
+-- ---- a pair of channels
+
+-- the end of a pair, in the names of its channels
+abbrev pub side_of : Direction → Text
+side_of Outbound = codes "-a"
+side_of Inbound = codes "-b"
+
+-- the name of a channel of the loopback
+abbrev pub loopback_name : Text → Direction → Text
+loopback_name exten direction = codes "loopback/" ++ exten ++ side_of direction
+
+-- the first 256 bytes of a text, or all of a shorter one
+abbrev pub cut : Text → Text
+cut text = take (min 256 (length text)) text
+
+-- what is known of a channel of the loopback
+abbrev pub loopback_profile : Call → Direction → Text → Profile
+loopback_profile call direction uuid = record {
+  destination_number = call.exten;
+  caller_id_name = cut call.caller.name;
+  caller_id_number = cut call.caller.number;
+  ani = cut call.caller.number;
+  rdnis = [];
+  context = call.context;
+  dialplan = codes "XML";
+  source = codes "mod_loopback";
+  uuid = uuid;
+  chan_name = loopback_name call.exten direction;
+  network_addr = [];
+  username = [];
+}
+
+abbrev pub no_variables : Variables
+no_variables = record { bounds = Channel; pairs = [] }
+
+-- the channel at one end of a pair
+abbrev pub end_of : Call → End → Text → Chan
+end_of call end uuid =
+    record (new_channel uuid end.slot end.direction (loopback_profile call end.direction uuid) no_variables) { partner = Some end.partner; leg_of = end.leg_of }
+
+-- it is there, under the next identifier
+abbrev pub end_made_as : Call → End → Switch → Switch
+end_made_as call end s = with_chan end.slot (Some (end_of call end (identifier_of s))) s
+
+abbrev pub end_made : Call → End → Switch → Switch
+end_made call end s = end_made_as call end (identified s)
+
+-- the outbound end is the leg of an origination, the inbound end is routed
+abbrev pub leg_end : ℕ → ℕ → ℕ → End
+leg_end orig a b = record { direction = Outbound; slot = a; partner = b; leg_of = Some orig }
+
+abbrev pub far_end : ℕ → ℕ → End
+far_end a b = record { direction = Inbound; slot = b; partner = a; leg_of = None }
+
+abbrev pub pair_made : Call → ℕ → ℕ → ℕ → Switch → Switch
+pair_made call orig a b s = end_made call (far_end a b) (end_made call (leg_end orig a b) s)
+
+-- ---- a leg
+
+-- a leg, and the switch with its channels
+pub record Made : Type 0 where
+  pub state : Switch
+  pub leg : OrigLeg
+
+-- a leg that died as it was made
+abbrev pub made_dead : Cause → Switch → Made
+made_dead cause s = record { state = s; leg = unmade s.entries cause }
+
+-- the journal has cost over 15/16 of its limit
+abbrev pub is_congested : Switch → Bool
+is_congested s = nat_lt (15 * s.config.settings.journal_limit) (16 * s.cost)
+
+-- in two slots, if they are free
+abbrev pub made_in : Call → ℕ → Option (ℕ × ℕ) → Switch → Made
+made_in call orig None s = made_dead SwitchCongestion s
+made_in call orig (Some (a, b)) s = record { state = pair_made call orig a b s; leg = ringing a (identifier_of (identified s)) None }
+
+-- a slot with the least free one behind it
+abbrev pub with_second : Switch → ℕ → Option (ℕ × ℕ)
+with_second s a = option_map (λ b. (a, b)) (free_slot (a + 1) s)
+
+-- the two least free slots
+abbrev pub free_pair : Switch → Option (ℕ × ℕ)
+free_pair s = option_and_then (with_second s) (free_slot 1 s)
+
+abbrev pub loopback_made : Call → ℕ → Switch → Made
+loopback_made call orig s = if is_congested s then made_dead SwitchCongestion s else made_in call orig (free_pair s) s
+
+abbrev pub made_of : Endpoint → Caller → ℕ → Switch → Made
+made_of (Dead cause) caller orig s = made_dead cause s
+made_of (Loopback exten context) caller orig s = loopback_made (record { exten = exten; context = context; caller = caller }) orig s
+
+-- the leg of an origination that an endpoint comes to
+unfoldable pub leg_made : Text → Caller → ℕ → Switch → Made
+leg_made endpoint caller orig s = made_of (endpoint_of endpoint) caller orig s
+
+-- ---- a leg that has won
+
+-- it has one thing to run
+abbrev pub given_action : Text → Text → Chan → Chan
+given_action application argument c =
+    record c { actions = record { application = application; argument = argument } ∷ []; wait = Ready; leg_of = None; state = CsExecute }
+
+-- it is routed, and no leg any more
+abbrev pub target_of : RouteTo → Target3
+target_of to = record { exten = to.exten; dialplan = Some to.dialplan; context = Some to.context }
+
+abbrev pub given_route : RouteTo → Chan → Chan
+given_route to c = transferred (target_of to) (record c { leg_of = None })
+
+abbrev pub won_by : Winner → Chan → Chan
+won_by (App application argument) c = given_action application argument c
+won_by (Route to) c = given_route to c
+
+unfoldable pub won : Winner → ℕ → Switch → Switch
+won winner slot s = moved (won_by winner) slot s

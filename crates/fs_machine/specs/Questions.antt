@@ -1,0 +1,23 @@
+-- What is asked of a switch.
+use Rattle.std.specs.Prelude.{ℕ, Bool, Option, is_some}
+use Rattle.std.specs.Option.{option_and_then}
+use Rattle.fs_state.specs.declared.conn.Conn.{Conn}
+use Rattle.fs_state.specs.declared.conn.Parting.{Parting}
+use Rattle.fs_state.specs.Switch.{Switch, conn_of}
+
+abbrev pub parting_of : Conn → Option Parting
+parting_of c = c.parting
+
+-- why a connection reads no further command
+abbrev pub parting_at : Switch → ℕ → Option Parting
+parting_at s conn = option_and_then parting_of (conn_of s conn)
+
+-- the place of the command to which a connection is still owed the reply
+abbrev pub owed_of : Conn → Option ℕ
+owed_of c = c.owed
+
+abbrev pub owed_to : Switch → ℕ → Option ℕ
+owed_to s conn = option_and_then owed_of (conn_of s conn)
+
+abbrev pub owes : Switch → ℕ → Bool
+owes s conn = is_some (owed_to s conn)

@@ -1,0 +1,97 @@
+-- What a channel does by itself, state by state.
+use Rattle.std.specs.Prelude.{ℕ, ◌==◌, Bool, [], List, length, Ok, Err, codes, if◌then◌else◌, Option, None, Some}
+use Rattle.std.specs.Str.{bytes_eq}
+use Rattle.fs_text.specs.declared.states.State.{State}
+use Rattle.fs_text.specs.declared.states.State.TheVariants.{CsNew, CsInit, CsRouting, CsExecute, CsPark, CsConsumeMedia, CsHangup, CsReporting}
+use Rattle.fs_text.specs.declared.causes.Cause.{Cause}
+use Rattle.fs_text.specs.declared.causes.Cause.TheVariants.{ExchangeRoutingError, NoRouteDestination, NormalTemporaryFailure}
+use Rattle.fs_vars.specs.Variables.{Variables}
+use Rattle.fs_chan.specs.declared.action.Action.{Action}
+use Rattle.fs_chan.specs.declared.chan.Chan.{Chan}
+use Rattle.fs_chan.specs.declared.peer.Direction.{Direction}
+use Rattle.fs_chan.specs.declared.peer.Direction.TheVariants.{Inbound, Outbound}
+use Rattle.fs_chan.specs.declared.wait.Wait.{Wait}
+use Rattle.fs_chan.specs.declared.wait.Wait.TheVariants.{Ready, Sleep, Parked, Socket}
+use Rattle.fs_chan.specs.Changes.{entered, may_route, routed}
+use Rattle.fs_plan.specs.declared.hunt.Hunt.{Hunt}
+use Rattle.fs_plan.specs.Outcomes.{Outcome}
+use Rattle.fs_plan.specs.Hunting.{hunted}
+use Rattle.fs_state.specs.Switch.{Switch, chan_at}
+use Rattle.fs_state.specs.Moves.{moved, hung, begun, completed, reported, destroyed}
+use Rattle.fs_machine.specs.Applications.{ran}
+
+-- ---- routing
+
+abbrev pub with_variables : Variables → Chan → Chan
+with_variables vars c = record c { vars = vars }
+
+-- the actions that the dialplan gave are to be run; without any there is no route
+abbrev pub routed_to : Variables → List Action → ℕ → Switch → Switch
+routed_to vars actions slot s =
+    if length actions == 0 then hung NoRouteDestination slot (moved (with_variables vars) slot s) else moved (routed vars actions) slot s
+
+-- the dialplan that the documents have
+abbrev pub has_xml : Chan → Bool
+has_xml c = bytes_eq c.profile.dialplan (codes "XML")
+
+-- the actions that the hunt gave; a channel of another dialplan has none
+abbrev pub actions_for : Chan → List Action → List Action
+actions_for c actions = if has_xml c then actions else []
+
+-- why a channel is hung up for which a text is too long
+abbrev pub too_long_cause : Chan → Cause
+too_long_cause c = if has_xml c then NormalTemporaryFailure else NoRouteDestination
+
+-- what the hunt gave, unless a text is too long
+abbrev pub found_in : Outcome Hunt → Option Hunt
+found_in (Err len) = None
+found_in (Ok hunt) = Some hunt
+
+abbrev pub found_for : Chan → Switch → Option Hunt
+found_for c s = found_in (hunted s.config.contexts c.profile.context c.profile c.vars s.globals)
+
+-- a channel is routed by it
+abbrev pub routed_by : Option Hunt → Chan → ℕ → Switch → Switch
+routed_by None c slot s = hung (too_long_cause c) slot s
+routed_by (Some hunt) c slot s = routed_to hunt.vars (actions_for c hunt.actions) slot (record s { globals = hunt.globals })
+
+-- a channel is routed, unless it was routed too often
+abbrev pub routing_from : ℕ → Option Chan → Switch → Switch
+routing_from slot None s = s
+routing_from slot (Some c) s = if may_route c then routed_by (found_for c s) c slot s else hung ExchangeRoutingError slot s
+
+abbrev pub routing : ℕ → Switch → Switch
+routing slot s = routing_from slot (chan_at s slot) s
+
+-- ---- state by state
+
+-- an inbound channel is routed, an outbound one waits to be answered
+abbrev pub first_state : Direction → State
+first_state Inbound = CsRouting
+first_state Outbound = CsConsumeMedia
+
+-- what a channel waits for is over, or it runs what is next
+abbrev pub worked_waiting : Wait → ℕ → Switch → Switch
+worked_waiting Ready slot s = ran slot s
+worked_waiting (Sleep until) slot s = completed slot s
+worked_waiting Parked slot s = ran slot s
+worked_waiting (Socket conn) slot s = ran slot s
+worked_waiting _ slot s = s
+
+abbrev pub worked_in : State → ℕ → Chan → Switch → Switch
+worked_in CsNew slot c s = begun slot s
+worked_in CsInit slot c s = moved (entered (first_state c.direction)) slot s
+worked_in CsRouting slot c s = routing slot s
+worked_in CsExecute slot c s = worked_waiting c.wait slot s
+worked_in CsPark slot c s = worked_waiting c.wait slot s
+worked_in CsHangup slot c s = reported slot s
+worked_in CsReporting slot c s = destroyed slot s
+worked_in _ slot c s = s
+
+abbrev pub worked_from : ℕ → Option Chan → Switch → Switch
+worked_from slot None s = s
+worked_from slot (Some c) s = worked_in c.state slot c s
+
+-- what the channel in a slot does by itself, where it has something to do
+unfoldable pub worked : ℕ → Switch → Switch
+worked slot s = worked_from slot (chan_at s slot) s

@@ -1,0 +1,77 @@
+ghost use Rattle.std.specs.Prelude.{◌≡◌, OnOk};
+ghost use Rattle.fs_state.specs.Drafts.{drafted};
+ghost use Rattle.fs_machine.specs.Connections as spec;
+
+use fs_state::{Conn, Draft, Parting, Phase};
+use fs_text::Memory;
+
+/// Where a connection stands; one that is not there is closed.
+pub(crate) fn phase_at(draft: &Draft<'_>, conn: u32) -> Phase
+    ensures { result ≡ spec.phase_at (drafted draft.now) conn }
+{
+    match draft.conn(conn) {
+        Some(there) => there.phase,
+        None => Phase::Closed,
+    }
+}
+
+/// A connection gives no further command, if it is there.
+pub(crate) fn part(draft: &mut Draft<'_>, conn: u32, why: Parting) -> Result<(), Memory>
+    ensures base { draft.new.base ≡ draft.old.base }
+    ensures ok { OnOk result (drafted draft.new ≡ spec.conn_changed (spec.parted why) conn (drafted draft.old)) }
+{
+    let Some(there) = draft.conn(conn) else {
+        return Ok(());
+    };
+    let parted = Conn {
+        phase: Phase::Ending,
+        parting: Some(why),
+        ..*there
+    };
+    draft.set_conn(conn, parted)
+}
+
+/// A connection may give all commands, if it is there.
+pub(crate) fn admit(draft: &mut Draft<'_>, conn: u32) -> Result<(), Memory>
+    ensures base { draft.new.base ≡ draft.old.base }
+    ensures ok { OnOk result (drafted draft.new ≡ spec.conn_changed spec.admitted conn (drafted draft.old)) }
+{
+    let Some(there) = draft.conn(conn) else {
+        return Ok(());
+    };
+    let admitted = Conn {
+        phase: Phase::Ready,
+        ..*there
+    };
+    draft.set_conn(conn, admitted)
+}
+
+/// A connection is owed the reply to the command at a place, if it is there.
+pub(crate) fn owe(draft: &mut Draft<'_>, conn: u32, place: u64) -> Result<(), Memory>
+    ensures base { draft.new.base ≡ draft.old.base }
+    ensures ok { OnOk result (drafted draft.new ≡ spec.conn_changed (spec.owed_since place) conn (drafted draft.old)) }
+{
+    let Some(there) = draft.conn(conn) else {
+        return Ok(());
+    };
+    let owed = Conn {
+        owed: Some(place),
+        ..*there
+    };
+    draft.set_conn(conn, owed)
+}
+
+/// A connection is owed no reply any more, if it is there.
+pub(crate) fn settle(draft: &mut Draft<'_>, conn: u32) -> Result<(), Memory>
+    ensures base { draft.new.base ≡ draft.old.base }
+    ensures ok { OnOk result (drafted draft.new ≡ spec.conn_changed spec.not_owed conn (drafted draft.old)) }
+{
+    let Some(there) = draft.conn(conn) else {
+        return Ok(());
+    };
+    let settled = Conn {
+        owed: None,
+        ..*there
+    };
+    draft.set_conn(conn, settled)
+}

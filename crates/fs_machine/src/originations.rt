@@ -1,0 +1,251 @@
+ghost use Rattle.std.specs.Prelude.{◌≡◌, ◌+◌, Some, IfOk, OnOk};
+ghost use Rattle.fs_state.specs.Drafts.{drafted};
+ghost use Rattle.fs_state.specs.Switch.{identifier_of, identified, free_slot};
+ghost use Rattle.fs_machine.specs.Originations as spec;
+
+use fs_api::Winner;
+use fs_chan::{Action, Actions, Chan, Direction, Target3, Wait};
+use fs_orig::{Endpoint, OrigLeg};
+use fs_state::Draft;
+use fs_text::{Cause, Memory, State, Txt};
+use fs_vars::{Bounds, Profile, Vars};
+use std::alloc::Global;
+
+/// The most bytes of a caller id.
+const LONGEST_CALLER_ID: usize = 256;
+
+/// Who calls.
+#[derive(Drop)]
+pub(crate) struct Caller {
+    pub(crate) name: Txt,
+    pub(crate) number: Txt,
+}
+
+// A call over the loopback.
+#[derive(Drop)]
+pub(crate) struct Call {
+    pub(crate) exten: Txt,
+    pub(crate) context: Txt,
+    pub(crate) caller: Caller,
+}
+
+// One end of a pair of channels.
+#[derive(Clone, Copy, Debug)]
+pub(crate) struct End {
+    pub(crate) direction: Direction,
+    pub(crate) slot: u16,
+    pub(crate) partner: u16,
+    pub(crate) leg_of: Option<u64>,
+}
+
+// ---- a leg
+
+/// Makes the leg of an origination of this number that an endpoint comes to.
+#[tactic(auto, unfolding(crate::specs::Originations::leg_made))]
+pub(crate) fn make_leg(
+    draft: &mut Draft<'_>,
+    endpoint: &Txt,
+    caller: Caller,
+    orig: u64,
+) -> Result<OrigLeg, Memory>
+    ensures base { draft.new.base ≡ draft.old.base }
+    ensures made { IfOk result (λ leg. spec.leg_made endpoint.now caller orig (drafted draft.old) ≡ record { state = drafted draft.new; leg = leg }) }
+{
+    let alloc = draft.alloc();
+    match Endpoint::of(alloc, endpoint.as_bytes())? {
+        Endpoint::Dead { cause } => OrigLeg::unmade(alloc, draft.place(), cause),
+        Endpoint::Loopback { exten, context } => {
+            let call = Call {
+                exten,
+                context,
+                caller,
+            };
+            make_loopback(draft, &call, orig)
+        }
+    }
+}
+
+// Makes a leg over the loopback.
+fn make_loopback(draft: &mut Draft<'_>, call: &Call, orig: u64) -> Result<OrigLeg, Memory>
+    ensures base { draft.new.base ≡ draft.old.base }
+    ensures made { IfOk result (λ leg. spec.loopback_made call.now orig (drafted draft.old) ≡ record { state = drafted draft.new; leg = leg }) }
+{
+    match free_pair(draft) {
+        Some((leg, far)) if !is_congested(draft) => make_pair(draft, call, orig, leg, far),
+        _ => OrigLeg::unmade(draft.alloc(), draft.place(), Cause::SwitchCongestion),
+    }
+}
+
+// Whether the journal has cost over 15/16 of its limit.
+fn is_congested(draft: &Draft<'_>) -> bool
+    ensures { result ≡ spec.is_congested (drafted draft.now) }
+{
+    let limit = draft.config().settings().journal_limit;
+    u128::from(draft.cost()) * 16 > u128::from(limit) * 15
+}
+
+// The two least free slots.
+fn free_pair(draft: &Draft<'_>) -> Option<(u16, u16)>
+    ensures { result ≡ spec.free_pair (drafted draft.now) }
+{
+    let first = draft.free_slot(1)?;
+    let second = free_behind(draft, first)?;
+    Some((first, second))
+}
+
+// The least free slot behind another; behind the last one there is none.
+#[tactic(auto, using(fs_places::proofs::PlaceLemmas::first_nowhere))]
+fn free_behind(draft: &Draft<'_>, slot: u16) -> Option<u16>
+    ensures { result ≡ free_slot (slot + 1) (drafted draft.now) }
+{
+    if slot >= draft.slots() {
+        return None;
+    }
+    draft.free_slot(slot + 1)
+}
+
+// Makes the two channels of a call in these slots: the first is the leg.
+fn make_pair(
+    draft: &mut Draft<'_>,
+    call: &Call,
+    orig: u64,
+    leg: u16,
+    far: u16,
+) -> Result<OrigLeg, Memory>
+    ensures base { draft.new.base ≡ draft.old.base }
+    ensures made { IfOk result (λ made. spec.made_in call.now orig (Some (leg, far)) (drafted draft.old) ≡ record { state = drafted draft.new; leg = made }) }
+{
+    let leg_end = End {
+        direction: Direction::Outbound,
+        slot: leg,
+        partner: far,
+        leg_of: Some(orig),
+    };
+    let far_end = End {
+        direction: Direction::Inbound,
+        slot: far,
+        partner: leg,
+        leg_of: None,
+    };
+    let uuid = make_end(draft, call, leg_end)?;
+    let _far_uuid = make_end(draft, call, far_end)?;
+    Ok(OrigLeg::ringing(leg, uuid, None))
+}
+
+// Makes the channel at one end, and gives its identifier.
+fn make_end(draft: &mut Draft<'_>, call: &Call, end: End) -> Result<Txt, Memory>
+    ensures base { draft.new.base ≡ draft.old.base }
+    ensures uuid { IfOk result (λ uuid. uuid ≡ identifier_of (identified (drafted draft.old))) }
+    ensures made { OnOk result (drafted draft.new ≡ spec.end_made call.now end (drafted draft.old)) }
+{
+    let uuid = draft.draw_identifier()?;
+    let chan = end_of(draft.alloc(), call, end, uuid.copy()?)?;
+    draft.put_chan(end.slot, Some(chan))?;
+    Ok(uuid)
+}
+
+// The channel at one end of a pair.
+fn end_of(alloc: Global, call: &Call, end: End, uuid: Txt) -> Result<Chan, Memory>
+    ensures { IfOk result (λ chan. chan ≡ spec.end_of call.now end uuid) }
+{
+    let profile = loopback_profile(alloc, call, end.direction, &uuid)?;
+    let vars = Vars::new(alloc, Bounds::Channel)?;
+    let mut chan = Chan::new(alloc, uuid, end.slot, end.direction, profile, vars);
+    chan.partner = Some(end.partner);
+    chan.leg_of = end.leg_of;
+    Ok(chan)
+}
+
+// What is known of a channel of the loopback.
+fn loopback_profile(
+    alloc: Global,
+    call: &Call,
+    direction: Direction,
+    uuid: &Txt,
+) -> Result<Profile, Memory>
+    ensures { IfOk result (λ profile. profile ≡ spec.loopback_profile call.now direction uuid.now) }
+{
+    let empty = Txt::of(alloc, b"")?;
+    let number = cut(alloc, &call.caller.number)?;
+    Ok(Profile {
+        destination_number: call.exten.copy()?,
+        caller_id_name: cut(alloc, &call.caller.name)?,
+        caller_id_number: number.copy()?,
+        ani: number,
+        rdnis: empty.copy()?,
+        context: call.context.copy()?,
+        dialplan: Txt::of(alloc, b"XML")?,
+        source: Txt::of(alloc, b"mod_loopback")?,
+        uuid: uuid.copy()?,
+        chan_name: loopback_name(alloc, &call.exten, direction)?,
+        network_addr: empty.copy()?,
+        username: empty,
+    })
+}
+
+// The name of a channel of the loopback.
+fn loopback_name(alloc: Global, exten: &Txt, direction: Direction) -> Result<Txt, Memory>
+    ensures { IfOk result (λ name. name ≡ spec.loopback_name exten.now direction) }
+{
+    let mut name = Vec::from_slice(alloc, b"loopback/")?;
+    name.extend_from_slice(exten.as_bytes())?;
+    name.extend_from_slice(side_of(direction))?;
+    Txt::from_vec(name)
+}
+
+// The end of a pair, in the names of its channels.
+fn side_of(direction: Direction) -> &'static [u8]
+    ensures { result.now ≡ spec.side_of direction }
+{
+    match direction {
+        Direction::Outbound => b"-a",
+        Direction::Inbound => b"-b",
+    }
+}
+
+// The first 256 bytes of a text, or all of a shorter one.
+fn cut(alloc: Global, text: &Txt) -> Result<Txt, Memory>
+    ensures { IfOk result (λ t. t ≡ spec.cut text.now) }
+{
+    let bytes = text.as_bytes();
+    Txt::of(alloc, &bytes[..LONGEST_CALLER_ID.min(bytes.len())])
+}
+
+// ---- a leg that has won
+
+/// The leg in a slot has won: it runs its application, or is routed.
+#[tactic(auto, unfolding(crate::specs::Originations::won))]
+pub(crate) fn win(draft: &mut Draft<'_>, slot: u16, winner: Winner) -> Result<(), Memory>
+    ensures base { draft.new.base ≡ draft.old.base }
+    ensures ok { OnOk result (drafted draft.new ≡ spec.won winner slot (drafted draft.old)) }
+{
+    let Some(mut chan) = draft.copy_chan(slot)? else {
+        return Ok(());
+    };
+    let state = chan.state;
+    chan.leg_of = None;
+    match winner {
+        Winner::App {
+            application,
+            argument,
+        } => {
+            let mut actions = Actions::new(draft.alloc());
+            actions.push(Action {
+                application,
+                argument,
+            })?;
+            chan.actions = actions;
+            chan.wait = Wait::Ready;
+            chan.state = State::CsExecute;
+        }
+        Winner::Route(route) => {
+            let (exten, dialplan, context) = route.into_texts();
+            chan.transfer(Target3 {
+                exten,
+                dialplan: Some(dialplan),
+                context: Some(context),
+            });
+        }
+    }
+    draft.put_moved(slot, state, chan)
+}

@@ -1,0 +1,124 @@
+ghost use Rattle.std.specs.Prelude.{◌≡◌, ◌<◌, ℕ, length, is_some};
+ghost use Rattle.fs_state.specs.declared.delta.QueueChange.TheVariants.{Unchanged};
+ghost use Rattle.fs_state.specs.Drafts.{drafted};
+ghost use Rattle.fs_state.specs.Switch.{chan_at, waiting_for, advanced};
+ghost use Rattle.fs_machine.specs.declared.due.DueActor.TheVariants as actor;
+ghost use Rattle.fs_machine.specs.Connections as connections;
+ghost use Rattle.fs_machine.specs.Due as due;
+ghost use Rattle.fs_machine.specs.Questions as spec;
+ghost use Rattle.fs_machine.specs.Runs.{state_of};
+
+use crate::connections::phase_at;
+use crate::due::{DueActor, due_among_all, due_among_jobs, due_in_slot};
+use crate::machine::Machine;
+use crate::refused::owed_to;
+use fs_state::{Counts, Draft, Parting, Phase};
+
+impl Machine {
+    /// The least slot, or else the least job, that has something to do by itself at a moment, or the next moment at which one has.
+    ///
+    /// A moment before the last entry's counts as that one.
+    #[tactic(auto, unfolding(crate::specs::Due::next_due))]
+    pub fn next_due(&self, now: u64) -> DueActor
+        ensures exact { result ≡ due.next_due now (state_of self.now) }
+        ensures to_come { (moment : ℕ) → result ≡ actor.Later moment → now < moment }
+    {
+        due_among_all(&self.seen_at(now))
+    }
+
+    /// The least job that has something to do at a moment, or the next moment at which one has.
+    #[tactic(auto, unfolding(crate::specs::Due::next_job))]
+    pub fn next_job(&self, now: u64) -> DueActor
+        ensures { result ≡ due.next_job now (state_of self.now) }
+    {
+        due_among_jobs(&self.seen_at(now))
+    }
+
+    /// Whether the channel in a slot has something to do at a moment, or the next moment at which it has.
+    #[tactic(auto, unfolding(crate::specs::Due::next_slot))]
+    pub fn next_slot(&self, slot: u16, now: u64) -> DueActor
+        ensures { result ≡ due.next_slot slot now (state_of self.now) }
+    {
+        due_in_slot(&self.seen_at(now), slot)
+    }
+
+    /// The state as it stands.
+    fn seen(&self) -> Draft<'_>
+        ensures state { drafted result ≡ state_of self.now }
+        ensures queue { result.delta.queue ≡ Unchanged }
+    {
+        Draft::new(&self.core)
+    }
+
+    /// The state as it stands at a moment.
+    fn seen_at(&self, now: u64) -> Draft<'_>
+        ensures { drafted result ≡ advanced now (state_of self.now) }
+    {
+        let mut seen = self.seen();
+        seen.advance(now);
+        seen
+    }
+
+    /// Whether a slot holds a channel.
+    pub fn holds(&self, slot: u16) -> bool
+        ensures { result ≡ is_some (chan_at (state_of self.now) slot) }
+    {
+        self.seen().chan(slot).is_some()
+    }
+
+    /// The moment of the last entry, in microseconds.
+    pub fn moment(&self) -> u64
+        ensures { result ≡ (state_of self.now).moment }
+    {
+        self.seen().moment()
+    }
+
+    /// What its entries so far cost.
+    pub fn cost(&self) -> u64
+        ensures { result ≡ (state_of self.now).cost }
+    {
+        self.core.cost()
+    }
+
+    /// The most that its entries may cost.
+    pub fn limit(&self) -> u64
+        ensures { result ≡ self.now.config.settings.journal_limit }
+    {
+        self.core.config().settings().journal_limit
+    }
+
+    /// How many events there were of each name, and channels that were hung up with each cause.
+    pub fn counts(&self) -> &Counts
+        ensures { result.now ≡ (state_of self.now).counts }
+    {
+        self.core.counts()
+    }
+
+    /// Where a connection stands; one that is not there is closed.
+    pub fn phase(&self, conn: u32) -> Phase
+        ensures { result ≡ connections.phase_at (state_of self.now) conn }
+    {
+        phase_at(&self.seen(), conn)
+    }
+
+    /// Why a connection reads no further command.
+    pub fn parting(&self, conn: u32) -> Option<Parting>
+        ensures { result ≡ spec.parting_at (state_of self.now) conn }
+    {
+        self.seen().conn(conn)?.parting
+    }
+
+    /// Whether a connection is still owed the reply to a command.
+    pub fn owes(&self, conn: u32) -> bool
+        ensures { result ≡ spec.owes (state_of self.now) conn }
+    {
+        owed_to(&self.seen(), conn).is_some()
+    }
+
+    /// How many frames wait for a connection.
+    pub fn waiting(&self, conn: u32) -> usize
+        ensures { result ≡ length (waiting_for (state_of self.now) conn) }
+    {
+        self.seen().waiting(conn)
+    }
+}

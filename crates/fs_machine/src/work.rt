@@ -1,0 +1,138 @@
+ghost use Rattle.std.specs.Prelude.{◌≡◌, true, Some, IfOk, OnOk};
+ghost use Rattle.fs_chan.specs.Changes.{may_route};
+ghost use Rattle.fs_state.specs.Drafts.{drafted};
+ghost use Rattle.fs_state.specs.Switch.{chan_at};
+ghost use Rattle.fs_machine.specs.Work as spec;
+
+use crate::applications::run_next;
+use fs_chan::{Actions, Chan, Direction, Wait};
+use fs_plan::{Dialplan, Hunt};
+use fs_ports::NoGate;
+use fs_state::Draft;
+use fs_text::{Cause, Memory, State};
+use fs_vars::{Refused, Scope};
+
+/// Does what the channel in a slot has to do by itself.
+#[tactic(auto, unfolding(crate::specs::Work::worked))]
+pub(crate) fn work(draft: &mut Draft<'_>, plan: &Dialplan, slot: u16) -> Result<(), Memory>
+    requires plan { plan.now ≡ draft.old.base.config.contexts }
+    ensures base { draft.new.base ≡ draft.old.base }
+    ensures ok { OnOk result (drafted draft.new ≡ spec.worked slot (drafted draft.old)) }
+{
+    let Some(chan) = draft.chan(slot) else {
+        return Ok(());
+    };
+    match (chan.state, &chan.wait) {
+        (State::CsNew, _) => draft.begin(slot),
+        (State::CsInit, _) => {
+            let first = first_state(chan.direction);
+            draft.enter(slot, first)
+        }
+        (State::CsRouting, _) => route(draft, plan, slot),
+        (State::CsExecute | State::CsPark, Wait::Sleep { .. }) => draft.complete(slot),
+        (State::CsExecute | State::CsPark, Wait::Ready | Wait::Parked | Wait::Socket { .. }) =>
+            run_next(draft, slot),
+        (State::CsHangup, _) => draft.report(slot),
+        (State::CsReporting, _) => draft.destroy(slot),
+        _ => Ok(()),
+    }
+}
+
+// An inbound channel is routed, an outbound one waits to be answered.
+fn first_state(direction: Direction) -> State
+    ensures { result ≡ spec.first_state direction }
+{
+    match direction {
+        Direction::Inbound => State::CsRouting,
+        Direction::Outbound => State::CsConsumeMedia,
+    }
+}
+
+// A channel is routed, unless it was routed too often.
+fn route(draft: &mut Draft<'_>, plan: &Dialplan, slot: u16) -> Result<(), Memory>
+    requires plan { plan.now ≡ draft.old.base.config.contexts }
+    ensures base { draft.new.base ≡ draft.old.base }
+    ensures ok { OnOk result (drafted draft.new ≡ spec.routing slot (drafted draft.old)) }
+{
+    let Some(chan) = draft.copy_chan(slot)? else {
+        return Ok(());
+    };
+    if !chan.may_route() {
+        return draft.hang_up(slot, Cause::ExchangeRoutingError);
+    }
+    match hunt_for(draft, plan, &chan)? {
+        Some(hunt) => take_route(draft, slot, chan, hunt),
+        None => draft.hang_up(slot, too_long_cause(&chan)),
+    }
+}
+
+// Why a channel is hung up for which a text is too long.
+fn too_long_cause(chan: &Chan) -> Cause
+    ensures { result ≡ spec.too_long_cause chan.now }
+{
+    if has_xml(chan) {
+        Cause::NormalTemporaryFailure
+    } else {
+        Cause::NoRouteDestination
+    }
+}
+
+// Whether a channel has the dialplan that the documents have.
+fn has_xml(chan: &Chan) -> bool
+    ensures { result ≡ spec.has_xml chan.now }
+{
+    chan.profile.dialplan.as_bytes() == b"XML".as_slice()
+}
+
+// What the dialplan gives a channel, unless a text is too long.
+fn hunt_for(draft: &Draft<'_>, plan: &Dialplan, chan: &Chan) -> Result<Option<Hunt>, Memory>
+    requires plan { plan.now ≡ draft.now.base.config.contexts }
+    ensures { IfOk result (λ found. found ≡ spec.found_for chan.now (drafted draft.now)) }
+{
+    let scope = Scope {
+        vars: &chan.vars,
+        profile: &chan.profile,
+        globals: draft.globals(),
+    };
+    let context = chan.profile.context.as_bytes();
+    match plan.hunt(draft.alloc(), &scope, context, &mut NoGate) {
+        Ok(hunt) => Ok(Some(hunt)),
+        Err(Refused::TooLong { .. }) => Ok(None),
+        Err(Refused::Memory) => Err(Memory),
+    }
+}
+
+// What the hunt gave is taken over: the actions are to be run; without any, or in another dialplan, there is no route.
+fn take_route(draft: &mut Draft<'_>, slot: u16, mut chan: Chan, hunt: Hunt) -> Result<(), Memory>
+    requires there { chan_at (drafted draft.old) slot ≡ Some chan }
+    requires may { may_route chan ≡ true }
+    ensures base { draft.new.base ≡ draft.old.base }
+    ensures ok { OnOk result (drafted draft.new ≡ spec.routed_by (Some hunt) chan slot (drafted draft.old)) }
+{
+    let Hunt {
+        actions,
+        vars,
+        globals,
+    } = hunt;
+    let state = chan.state;
+    let actions = actions_for(draft, &chan, actions);
+    draft.set_globals(globals);
+    if actions.is_empty() {
+        chan.vars = vars;
+        draft.put_moved(slot, state, chan)?;
+        return draft.hang_up(slot, Cause::NoRouteDestination);
+    }
+    chan.route(vars, actions);
+    draft.put_moved(slot, state, chan)
+}
+
+// The actions that the hunt gave; a channel of another dialplan has none.
+fn actions_for(draft: &Draft<'_>, chan: &Chan, actions: Actions) -> Actions
+    ensures { result ≡ spec.actions_for chan.now actions }
+{
+    if has_xml(chan) {
+        actions
+    } else {
+        Actions::new(draft.alloc())
+    }
+}

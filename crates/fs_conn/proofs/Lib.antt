@@ -5,3 +5,6 @@ mod SettleLemmas
 mod SendLemmas
 mod TurnLemmas
 mod EndLemmas
+mod KeepLemmas
+pub mod LawLemmas
+mod DrainLemmas

@@ -13,7 +13,7 @@ use Rattle.fs_machine.specs.Questions.{owes}
 use Rattle.fs_machine.specs.Step.{refusal_of}
 use Rattle.fs_conn.specs.declared.end.End.{End}
 use Rattle.fs_conn.specs.declared.end.End.TheVariants.{Runaway}
-use Rattle.fs_conn.specs.Play.{Play, switch_of, is_over, ended, judged, tried, entered, repeated, worked_by, next_actor, worked_once, stopped_by, stopped, settled, waits, waited_until, waited_once, waited, all_taken, followed, acted, reads_on, commanded, all_commanded, input_ended, closed}
+use Rattle.fs_conn.specs.Play.{Play, switch_of, is_over, ended, judged, tried, entered, repeated, worked_by, next_actor, worked_once, stopped_by, stopped, settled, waits, waited_until, waited_once, waited, all_taken, followed, acted, reads_on, takes_commands, commanded, all_commanded, input_ended, closed}
 use Rattle.fs_conn.specs.Steps.{Begins, entry_of}
 
 -- ---- fronts
@@ -168,7 +168,7 @@ goes_acted act = goes_then (entered act) followed (goes_entered act) goes_follow
 -- ---- the conversation
 
 pub goes_commanded : (block : List ℕ) → Goes (λ p. commanded p block)
-goes_commanded block = goes_where reads_on (acted (Command 1 block)) (goes_acted (Command 1 block))
+goes_commanded block = goes_where takes_commands (acted (Command 1 block)) (goes_acted (Command 1 block))
 
 pub goes_all_commanded : (blocks : List (List ℕ)) → Goes (λ p. all_commanded p blocks)
 goes_all_commanded [] = record { over = λ p over. refl; begins = begins_self }

@@ -1,5 +1,5 @@
 -- What a turn of a conversation comes to.
-use Rattle.std.proofs.Common.{◌≡◌, ◌≢◌, ℕ, ◌<◌, ◌≤◌, Bool, true, false, cond, List, [], ◌∷◌, ◌++◌, length, Option, None, Some, Ok, Err, sym, refl, ap, ◌∙◌, subst, append_assoc, append-nil, length-append, arith, ◌&&◌, nat_lt, if◌then◌else◌}
+use Rattle.std.proofs.Common.{◌≡◌, ◌≢◌, ℕ, ◌<◌, ◌≤◌, Bool, true, false, cond, List, [], ◌∷◌, ◌++◌, length, Option, None, Some, Ok, Err, sym, refl, ap, ◌∙◌, subst, append_assoc, append-nil, length-append, arith, ◌&&◌, not, nat_lt, if◌then◌else◌}
 use Rattle.std.specs.List.{AllByRecursion, concat}
 use Rattle.std.specs.Io.KnownBytes.{IsAtEnd}
 use Rattle.std.proofs.lemmas.List.Folds.{concat-append}
@@ -24,7 +24,7 @@ use Rattle.fs_conn.specs.declared.end.End.TheVariants.{Exit, AuthRefused, Eof}
 use Rattle.fs_conn.specs.declared.conversation.Stance.TheVariants as stance
 use Rattle.fs_conn.specs.declared.stop.Stop.{Stop}
 use Rattle.fs_conn.specs.declared.stop.Stop.TheVariants.{OutOfMemory, WriteFault}
-use Rattle.fs_conn.specs.Play.{Play, switch_of, output_of, begun, is_over, ended, entered, all_taken, followed, acted, reads_on, commanded, all_commanded, opened, input_ended, conversed, closed, end_by, farewell, end_behind, played}
+use Rattle.fs_conn.specs.Play.{Play, switch_of, output_of, begun, is_over, ended, entered, all_taken, followed, acted, reads_on, takes_commands, commanded, all_commanded, opened, input_ended, conversed, closed, end_by, farewell, end_behind, played}
 use Rattle.fs_conn.specs.Steps.{spent, Begins, Halts, Costs, Enters, Written, StoppedBy}
 use Rattle.fs_conn.specs.Turns.{stance_by, stance_of, HasRead, Stands, is_told, Ends, Concludes, Stops, work_left}
 use Rattle.fs_conn.proofs.PlayLemmas.{begins_self, begins_trans, Goes, goes_entered, goes_ended, goes_all_taken, goes_followed, goes_all_commanded, goes_closed}
@@ -56,6 +56,7 @@ goes_concluded input read_failed = record {
 pub record IsReading (p : Play) : Type 0 where
   pub reads : reads_on p ≡ true
   pub owed : owes (switch_of p) 1 ≡ false
+  pub takes : takes_commands p ≡ true
   pub none : farewell p ≡ None
 
 reading_by : (reads owed : Bool) (last : Option End) → stance_by reads owed last ≡ stance.Reads → (reads ≡ true) × (owed ≡ false) × (last ≡ None)
@@ -66,7 +67,12 @@ reading_by false owed None is = absurd (cc)
 reading_by false owed (Some end) is = absurd (cc)
 
 pub is_reading : (p : Play) → stance_of (switch_of p) ≡ stance.Reads → IsReading p
-is_reading p is = let parts = reading_by (reads_on p) (owes (switch_of p) 1) (farewell p) is in record { reads = parts.0; owed = parts.1; none = parts.2 }
+is_reading p is = let parts = reading_by (reads_on p) (owes (switch_of p) 1) (farewell p) is in record {
+  reads = parts.0;
+  owed = parts.1;
+  takes = ap (λ b. b && not (owes (switch_of p) 1)) parts.0 ∙ ap not parts.1;
+  none = parts.2;
+}
 
 -- it reads no further command
 ending_by : (reads owed : Bool) (last : Option End) (end : End) → stance_by reads owed last ≡ stance.Ends end → (reads ≡ false) × (last ≡ Some end)
@@ -82,14 +88,14 @@ all_commanded-append : (p : Play) (xs ys : List (List ℕ)) → all_commanded p 
 all_commanded-append p [] ys = refl
 all_commanded-append p (x ∷ xs) ys = all_commanded-append (commanded p x) xs ys
 
--- a connection that reads no further command gives none
-all_commanded-none : (p : Play) (blocks : List (List ℕ)) → reads_on p ≡ false → all_commanded p blocks ≡ p
+-- a connection that takes no further command gives none
+pub all_commanded-none : (p : Play) (blocks : List (List ℕ)) → takes_commands p ≡ false → all_commanded p blocks ≡ p
 all_commanded-none p [] none = refl
 all_commanded-none p (block ∷ blocks) none =
     ap (λ q. all_commanded q blocks) (ap (λ b. cond b (acted (Command 1 block) p) p) none) ∙ all_commanded-none p blocks none
 
-commanded_reads : (p : Play) (block : List ℕ) → reads_on p ≡ true → commanded p block ≡ acted (Command 1 block) p
-commanded_reads p block is = ap (λ b. cond b (acted (Command 1 block) p) p) is
+pub commanded_takes : (p : Play) (block : List ℕ) → takes_commands p ≡ true → commanded p block ≡ acted (Command 1 block) p
+commanded_takes p block is = ap (λ b. cond b (acted (Command 1 block) p) p) is
 
 -- what these blocks and what is behind them come to
 conversed-append : (config : Configuration) (blocks : List (List ℕ)) (rest : List ℕ) → AllByRecursion IsBlock blocks →
@@ -104,10 +110,10 @@ snoc_whole blocks block rest old e =
     ∙ ap (λ xs. (concat blocks ++ xs) ++ rest) (sym (append-nil block)) ∙ ap (λ xs. xs ++ rest) (sym (concat-append blocks (block ∷ [])))
 
 -- the play of the blocks so far, with the one that was handed out
-snoc_play : (config : Configuration) (p : Play) (blocks : List (List ℕ)) (block : List ℕ) → p ≡ all_commanded (opened config) blocks → reads_on p ≡ true →
+snoc_play : (config : Configuration) (p : Play) (blocks : List (List ℕ)) (block : List ℕ) → p ≡ all_commanded (opened config) blocks → takes_commands p ≡ true →
     acted (Command 1 block) p ≡ all_commanded (opened config) (blocks ++ block ∷ [])
 snoc_play config p blocks block is reading =
-    sym (commanded_reads p block reading) ∙ ap (λ q. commanded q block) is ∙ sym (all_commanded-append (opened config) blocks (block ∷ []))
+    sym (commanded_takes p block reading) ∙ ap (λ q. commanded q block) is ∙ sym (all_commanded-append (opened config) blocks (block ∷ []))
 
 -- ---- how a conversation stops
 
@@ -150,7 +156,7 @@ stops_reading config in0 in1 in2 out0 out1 stream p piece stands reads faults =
 
 -- what a block gives stopped
 pub stops_behind : (config : Configuration) (in0 in1 : Input) (out0 out1 out2 : Output) (stop : Stop) (old new : Stream) (p later : Play) (block : List ℕ) →
-    Stands config in0 out0 in1 out1 old p → HandsOut old new block → reads_on p ≡ true → Halts stop later (acted (Command 1 block) p) → StoppedBy stop out0 out2 later →
+    Stands config in0 out0 in1 out1 old p → HandsOut old new block → takes_commands p ≡ true → Halts stop later (acted (Command 1 block) p) → StoppedBy stop out0 out2 later →
     Stops config in0 out0 in1 out2 stop later
 stops_behind config in0 in1 out0 out1 out2 stop old new p later block stands hands_out reading halts stopped =
     stops_short config in0 in1 out0 out2 stop later (stands.blocks ++ block ∷ []) new.rest
@@ -163,7 +169,7 @@ stops_behind config in0 in1 out0 out1 out2 stop old new p later block stands han
 
 -- the command of a block was not entered
 pub stops_command : (config : Configuration) (in0 in1 : Input) (out0 out1 : Output) (stop : Stop) (old new : Stream) (p later : Play) (block : List ℕ) →
-    Stands config in0 out0 in1 out1 old p → HandsOut old new block → reads_on p ≡ true → Halts stop later (entered (Command 1 block) p) → output_of later ≡ output_of p → stop ≢ WriteFault →
+    Stands config in0 out0 in1 out1 old p → HandsOut old new block → takes_commands p ≡ true → Halts stop later (entered (Command 1 block) p) → output_of later ≡ output_of p → stop ≢ WriteFault →
     Stops config in0 out0 in1 out1 stop later
 stops_command config in0 in1 out0 out1 stop old new p later block stands hands_out reading halts output unwritten =
     stops_behind config in0 in1 out0 out1 out1 stop old new p later block stands hands_out reading (halts_on followed goes_followed stop later (entered (Command 1 block) p) halts)
@@ -171,7 +177,7 @@ stops_command config in0 in1 out0 out1 stop old new p later block stands hands_o
 
 -- or not all that comes of it
 pub stops_following : (config : Configuration) (in0 in1 : Input) (out0 out1 out2 : Output) (stop : Stop) (old new : Stream) (p mid later : Play) (block : List ℕ) →
-    Stands config in0 out0 in1 out1 old p → HandsOut old new block → reads_on p ≡ true → mid ≡ entered (Command 1 block) p → Halts stop later (followed mid) → StoppedBy stop out0 out2 later →
+    Stands config in0 out0 in1 out1 old p → HandsOut old new block → takes_commands p ≡ true → mid ≡ entered (Command 1 block) p → Halts stop later (followed mid) → StoppedBy stop out0 out2 later →
     Stops config in0 out0 in1 out2 stop later
 stops_following config in0 in1 out0 out1 out2 stop old new p mid later block stands hands_out reading mid_is halts stopped =
     stops_behind config in0 in1 out0 out1 out2 stop old new p later block stands hands_out reading (subst (λ (q : Play). Halts stop later (followed q)) mid_is halts) stopped
@@ -192,7 +198,7 @@ stands_first config in0 in1 out0 out1 stream mid p in_is stream_is mid_is p_is w
 
 -- a block was answered
 pub goes_on_behind : (config : Configuration) (in0 in1 : Input) (out0 out1 out2 : Output) (old new : Stream) (p mid later : Play) (block : List ℕ) →
-    Stands config in0 out0 in1 out1 old p → HandsOut old new block → reads_on p ≡ true → mid ≡ entered (Command 1 block) p → later ≡ followed mid → Written out0 out2 later →
+    Stands config in0 out0 in1 out1 old p → HandsOut old new block → takes_commands p ≡ true → mid ≡ entered (Command 1 block) p → later ≡ followed mid → Written out0 out2 later →
     Stands config in0 out0 in1 out2 new later
 goes_on_behind config in0 in1 out0 out1 out2 old new p mid later block stands hands_out reading mid_is later_is written = record {
   blocks = stands.blocks ++ block ∷ [];
@@ -240,7 +246,7 @@ ends_by_farewell config in0 in1 out0 out1 end stream p stands is =
       read_failed = false;
       has_read = record { reads = stands.reads; faults = stands.read_faults };
       play_is =
-          sym (all_commanded-none p (blocks_of stream.rest) parts.0) ∙ ap (λ q. all_commanded q (blocks_of stream.rest)) stands.play_is
+          sym (all_commanded-none p (blocks_of stream.rest) (ap (λ b. b && not (owes (switch_of p) 1)) parts.0)) ∙ ap (λ q. all_commanded q (blocks_of stream.rest)) stands.play_is
           ∙ conversed-append config stands.blocks stream.rest stands.are_blocks;
       written = stands.written;
       end_is = sym (ap (λ last. end_behind last (too_long (rest_of (concat stands.blocks ++ stream.rest))) false) last);

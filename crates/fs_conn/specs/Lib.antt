@@ -1,3 +1,4 @@
 pub mod Play
 pub mod Steps
 pub mod Turns
+pub mod Ends

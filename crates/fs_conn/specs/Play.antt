@@ -140,9 +140,13 @@ acted act p = followed (entered act p)
 abbrev pub reads_on : Play → Bool
 reads_on p = reads (phase_at (switch_of p) 1)
 
--- the next block is a command, unless the connection reads none any more
+-- and is owed no reply
+abbrev pub takes_commands : Play → Bool
+takes_commands p = reads_on p && not (owes (switch_of p) 1)
+
+-- the next block is a command, unless the connection takes none any more
 abbrev pub commanded : Play → List ℕ → Play
-commanded p block = if reads_on p then acted (Command 1 block) p else p
+commanded p block = if takes_commands p then acted (Command 1 block) p else p
 
 abbrev pub all_commanded : Play → List (List ℕ) → Play
 all_commanded p [] = p

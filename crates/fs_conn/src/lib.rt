@@ -4,6 +4,7 @@
 mod conversation;
 mod end;
 mod entering;
+mod laws;
 mod reading;
 mod sending;
 mod settling;
@@ -13,3 +14,4 @@ mod tests;
 
 pub use conversation::play;
 pub use end::End;
+pub use laws::{ends_for_a_cause, enters_commands_once, hands_out_its_frames, plays_a_run};

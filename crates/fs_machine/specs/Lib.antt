@@ -13,4 +13,6 @@ pub mod Commands
 pub mod Readings
 pub mod Step
 pub mod Frames
+pub mod Owed
 pub mod Runs
+pub mod Sound

@@ -10,6 +10,7 @@ mod connections;
 mod due;
 mod entry;
 mod jobs;
+mod laws;
 mod machine;
 mod originations;
 mod questions;
@@ -22,6 +23,7 @@ mod work;
 
 pub use due::DueActor;
 pub use entry::{Act, Closing, Entry};
+pub use laws::{hands_out_what_it_gives, identifiers_differ, owes_to_its_jobs, partners_agree};
 pub use machine::{Change, Machine};
 pub use refusal::Refusal;
 pub use reply::Reply;

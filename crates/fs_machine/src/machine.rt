@@ -5,6 +5,7 @@ ghost use Rattle.fs_machine.specs.declared.refusal.Refusal.TheVariants as refusa
 ghost use Rattle.fs_machine.specs.Entries.{cost_of, is_full};
 ghost use Rattle.fs_machine.specs.Step.{step, refusal_of};
 ghost use Rattle.fs_machine.specs.Runs as spec;
+ghost use Rattle.fs_machine.specs.Sound.{IsSound};
 
 use crate::acts::do_act;
 use crate::entry::Entry;
@@ -43,13 +44,14 @@ pub struct Change {
 impl Model for Machine {
     ghost use Rattle.std.specs.Prelude.{◌≡◌, ◌-◌};
     ghost use Rattle.std.specs.Vec.{vec_capacity, vec_len};
+    ghost use Rattle.fs_doc.specs.Limits.{IsWithin};
     ghost use Rattle.fs_machine.specs.Runs.{View, StandsFor};
 
     ghost Value = { View };
 
     ghost view = { λ m. record { config = m.core.config; journal = m.journal.items; spare = vec_capacity m.journal - vec_len m.journal } };
 
-    ghost invariant = { λ m. StandsFor m.core.config m.core m.journal.items × (m.plan ≡ m.core.config.contexts) };
+    ghost invariant = { λ m. StandsFor m.core.config m.core m.journal.items × (m.plan ≡ m.core.config.contexts) × IsWithin m.core.config };
 }
 
 impl Machine {
@@ -59,11 +61,19 @@ impl Machine {
         ensures config { IfOk result (λ m. m.config ≡ config) }
         ensures journal { IfOk result (λ m. m.journal ≡ []) }
     {
+        config.within();
         Ok(Machine {
             core: Core::new(alloc, config)?,
             plan,
             journal: Vec::new(alloc),
         })
+    }
+
+    /// What holds of the state of every machine. It does nothing, and stands for its contract.
+    pub fn sound(&self)
+        ensures { IsSound (spec.state_of self.now) }
+    {
+        let _journal = &self.journal;
     }
 
     /// Judges an entry, and prepares what it changes. All memory is taken here; nothing changes but the room.

@@ -66,6 +66,13 @@ impl Machine {
         self.seen().chan(slot).is_some()
     }
 
+    /// How many channels are live.
+    pub fn live(&self) -> u16
+        ensures { result ≡ spec.live (state_of self.now) }
+    {
+        live_among(&self.seen())
+    }
+
     /// The moment of the last entry, in microseconds.
     pub fn moment(&self) -> u64
         ensures { result ≡ (state_of self.now).moment }
@@ -120,5 +127,29 @@ impl Machine {
         ensures { result ≡ length (waiting_for (state_of self.now) conn) }
     {
         self.seen().waiting(conn)
+    }
+}
+
+// How many channels are live.
+#[tactic(auto, using(std::proofs::lemmas::List::Sums::count_by_more_yes, std::proofs::lemmas::List::Sums::count_by_more_no))]
+fn live_among(draft: &Draft<'_>) -> u16
+    ensures { result ≡ spec.live (drafted draft.now) }
+{
+    let mut count = 0;
+    for slot in 0..draft.slots() {
+        if holds_live(draft, slot) {
+            count += 1;
+        }
+    }
+    count
+}
+
+// Whether there is a channel in a slot, and it is live.
+fn holds_live(draft: &Draft<'_>, slot: u16) -> bool
+    ensures { result ≡ spec.holds_live (chan_at (drafted draft.now) slot) }
+{
+    match draft.chan(slot) {
+        Some(chan) => chan.is_live(),
+        None => false,
     }
 }

@@ -13,7 +13,7 @@ use Rattle.fs_doc.specs.declared.fault.DocFault.{DocFault}
 use Rattle.fs_plan.specs.Building.{Numbered, IsNoPattern, IsRefusal}
 use Rattle.fs_plan.specs.declared.fault.PlanFault.{PlanFault}
 use Rattle.fs_plan.specs.declared.fault.PlanFault.TheVariants.{PatternRefused, PatternTooLarge, Memory}
-use Rattle.fs_top.specs.Turns.{HasRead}
+use Rattle.fs_conn.specs.Turns.{HasRead}
 use Rattle.fs_top.specs.Told.{Told, Asked, file_of, told_words, told_read, told_asked}
 use Rattle.fs_top.specs.Runs.{Does, completes, fails_to_write, lacks_memory, Completes, LacksMemory, RefusesPattern, IsBuilt, Ran, HasReadings, IsGiven, NoneRose, DoesAll}
 

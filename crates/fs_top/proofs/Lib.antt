@@ -1,11 +1,3 @@
-mod ApiLaws
 mod CompleteLaws
-mod EndLaws
-mod JournalLaws
-mod LimitLaws
 mod PartLaws
-mod PlayLaws
 mod RunLaws
-mod SendLaws
-mod TurnLaws
-mod WordLaws

@@ -1,7 +1,7 @@
 -- What a run of the program comes to, and the causes of its statuses.
-use Rattle.std.proofs.Common.{◌≡◌, ◌≢◌, ℕ, Bool, true, false, cond, IsTrue, ◌==◌, List, [], ◌++◌, length, Option, None, Some, IfSome, Result, Ok, Err, ◌⊎◌, unwrap_or, refl, sym, ap, ◌∙◌, subst, inl, inr}
+use Rattle.std.proofs.Common.{◌≡◌, ◌≢◌, ℕ, Bool, true, false, cond, IsTrue, List, [], ◌++◌, Option, None, Some, IfSome, Result, Ok, Err, ◌⊎◌, unwrap_or, refl, sym, ap, ◌∙◌, subst, inl, inr}
 use Rattle.std.specs.List.{concat}
-use Rattle.std.proofs.lemmas.Bool.{eqb-false}
+use Rattle.std.specs.Option.{option_map}
 use Rattle.fs_ports.specs.Counts.{raised}
 use Rattle.fs_ports.specs.Ports.{Input, Output, Writes, Stopped, SendDid}
 use Rattle.fs_ports.specs.declared.send.Sent.{Sent}
@@ -10,31 +10,27 @@ use Rattle.fs_ports.specs.declared.files.Load.{Load}
 use Rattle.fs_ports.specs.declared.files.Load.TheVariants.{Got, Absent, Failed}
 use Rattle.fs_ports.proofs.Sides.{reads_nothing, writes_nothing, stopped_sooner}
 use Rattle.fs_frame.specs.Block.{too_long}
-use Rattle.fs_frame.specs.Blocks.{blocks_of, rest_of}
+use Rattle.fs_frame.specs.Blocks.{rest_of}
 use Rattle.fs_doc.specs.Reading.{Configuration, config_of}
 use Rattle.fs_doc.specs.declared.fault.DocKind.TheVariants.{Memory}
 use Rattle.fs_doc.specs.declared.fault.DocFault.{DocFault}
 use Rattle.fs_plan.specs.Building.{IsRefusal, sizes_after}
 use Rattle.fs_plan.specs.declared.fault.PlanFault.{PlanFault}
 use Rattle.fs_plan.specs.declared.fault.PlanFault.TheVariants.{PatternRefused, PatternTooLarge, Memory as NoMemory}
-use Rattle.fs_top.specs.Switch.{Journal, run, taken_from, bytes_taken}
-use Rattle.fs_top.specs.Journal.{cost, accepted}
-use Rattle.fs_top.specs.Play.{farewell_of, farewell, opened, after_all, whole_journal, end_behind, end_of, end_within, play}
-use Rattle.fs_top.specs.Takes.{Begins}
-use Rattle.fs_top.specs.Turns.{HasRead}
-use Rattle.fs_top.specs.Documents.{start_of}
+use Rattle.fs_state.specs.Switch.{Switch, empty}
+use Rattle.fs_machine.specs.declared.entry.Entry.{Entry}
+use Rattle.fs_machine.specs.Runs.{run_from}
+use Rattle.fs_machine.specs.Frames.{handed_from}
+use Rattle.fs_conn.specs.declared.end.End.{End}
+use Rattle.fs_conn.specs.declared.end.End.TheVariants as ends
+use Rattle.fs_conn.specs.Play.{switch_of, bytes_handed, played}
+use Rattle.fs_conn.specs.Turns.{HasRead, Plays, Finishes, Breaks}
+use Rattle.fs_conn.specs.Ends.{IsFullAt, HasCause}
+use Rattle.fs_conn.proofs.LawLemmas.{config_kept, ends_played, cause_played, bytes_begin}
 use Rattle.fs_top.specs.Told.{Told, Asked, Check, Hunt, Play, file_of, told_words, told_file, told_read, told_built, told_asked, told_play, told_text, refused, is_eof, line_of_end, status_of_end, usage_line, cannot_read_line, fault_line, pattern_line}
-use Rattle.fs_top.specs.Runs.{line_of, status_of, PlaysTo, Does, completes, fails_to_write, lacks_memory, DoesAs, Answers, IsBuiltOf, IsBuilt, OverConfig, OverBytes, is_memory, not_read, not_built, Runs, RefusesPattern, Ran, HasConfig, HasFault, HasRefusal, CountRose, FillsJournal, MeetsTooLong}
-use Rattle.fs_top.specs.declared.start.Start.{Start}
-use Rattle.fs_top.specs.declared.phase.Phase.{Phase}
-use Rattle.fs_top.specs.declared.phase.Phase.TheVariants.{Fresh, Ready, Ending, Refused, Closed}
-use Rattle.fs_top.specs.declared.end.End.{End}
-use Rattle.fs_top.specs.declared.end.End.TheVariants.{Exit, AuthRefused, Eof, ReadFault, TooLong, JournalFull}
-use Rattle.fs_top.specs.declared.play.Fault.TheVariants.{OutOfMemory, WriteFault}
+use Rattle.fs_top.specs.Runs.{line_of, status_of, PlaysTo, Does, completes, fails_to_write, lacks_memory, DoesAs, Answers, IsBuiltOf, IsBuilt, OverConfig, OverBytes, is_memory, not_read, not_built, Runs, RefusesPattern, Ran, HasConfig, HasFault, HasRefusal, CountRose, FillsJournal, MeetsTooLong, RunsAway}
 use Rattle.fs_top.specs.declared.outcome.Outcome.{Outcome}
-use Rattle.fs_top.specs.declared.outcome.Outcome.TheVariants.{Usage, CannotRead, BadDocument, BadPattern, Printed, Ended, BrokenOff}
-use Rattle.fs_top.proofs.JournalLaws.{bytes_taken-append}
-use Rattle.fs_top.proofs.LimitLaws.{full-accepted}
+use Rattle.fs_top.specs.declared.outcome.Outcome.TheVariants.{Usage, CannotRead, BadDocument, BadPattern, Printed, Ended}
 
 -- ---- what is answered
 
@@ -49,7 +45,7 @@ refused_does in0 out0 line status outcome line_is status_is =
     completes (record { written = writes_nothing out0; line_is = line_is; status_is = status_is; at_end = λ h. absurd (cc) })
 
 -- memory was wanting before anything was written
-memory_does : (told : Told) (in1 : Input) (out0 : Output) → DoesAs told in1 out0 out0 (BrokenOff OutOfMemory)
+memory_does : (told : Told) (in1 : Input) (out0 : Output) → DoesAs told in1 out0 out0 (Ended ends.Memory)
 memory_does told in1 out0 =
     lacks_memory (record { front = []; back = told.output; split = refl; written = writes_nothing out0; line_is = refl; status_is = refl })
 
@@ -57,10 +53,10 @@ memory_does told in1 out0 =
 pub print_all : (in1 : Input) (out0 out1 : Output) (text : List ℕ) → Writes out0 out1 text → DoesAs (told_text text) in1 out0 out1 Printed
 print_all in1 out0 out1 text written = completes (record { written = written; line_is = refl; status_is = refl; at_end = λ h. absurd (cc) })
 
-pub print_failed : (in1 : Input) (out0 out1 : Output) (text : List ℕ) → Stopped out0 out1 text → DoesAs (told_text text) in1 out0 out1 (BrokenOff WriteFault)
+pub print_failed : (in1 : Input) (out0 out1 : Output) (text : List ℕ) → Stopped out0 out1 text → DoesAs (told_text text) in1 out0 out1 (Ended ends.WriteFault)
 print_failed in1 out0 out1 text stopped = fails_to_write (record { stopped = stopped; line_is = refl; status_is = refl })
 
-pub print_none : (in1 : Input) (out0 : Output) (text : List ℕ) → DoesAs (told_text text) in1 out0 out0 (BrokenOff OutOfMemory)
+pub print_none : (in1 : Input) (out0 : Output) (text : List ℕ) → DoesAs (told_text text) in1 out0 out0 (Ended ends.Memory)
 print_none in1 out0 text = memory_does (told_text text) in1 out0
 
 -- nothing was read for the answer
@@ -74,66 +70,98 @@ answers_quiet told asked in0 in1 out0 out1 outcome same does = record {
   does = does;
 }
 
--- what a front of the journal took is a front of the output
-output-begins : (start : Start) (input : List ℕ) (read_failed : Bool) (journal : Journal) (begins : Begins journal (play start input read_failed).journal) →
-    (play start input read_failed).output ≡ bytes_taken journal ++ concat (taken_from (run journal) begins.more)
-unfolding play
-output-begins start input read_failed journal begins = ap bytes_taken begins.split ∙ bytes_taken-append journal begins.more
+-- only one end is by the end of the input
+eof_is : (end : End) → IsTrue (is_eof end) → end ≡ ends.Eof
+eof_is ends.Exit h = absurd (cc)
+eof_is ends.Eof h = refl
+eof_is ends.AuthRefused h = absurd (cc)
+eof_is ends.ReadFault h = absurd (cc)
+eof_is ends.WriteFault h = absurd (cc)
+eof_is (ends.TooLong len) h = absurd (cc)
+eof_is (ends.JournalFull cost limit) h = absurd (cc)
+eof_is ends.Memory h = absurd (cc)
+eof_is (ends.Runaway count) h = absurd (cc)
 
-eof_is : (end : End) → IsTrue (is_eof end) → end ≡ Eof
-eof_is Exit h = absurd (cc)
-eof_is AuthRefused h = absurd (cc)
-eof_is Eof h = refl
-eof_is ReadFault h = absurd (cc)
-eof_is (TooLong len) h = absurd (cc)
-eof_is (JournalFull spent limit) h = absurd (cc)
+-- what is told of a play
+abbrev tells : Configuration → List ℕ → Bool → Told
+tells c input read_failed = told_play c (played c input read_failed)
 
--- the connection was played
-pub answers_played : (start : Start) (file : List ℕ) (in0 in1 : Input) (out0 out1 : Output) (outcome : Outcome) → PlaysTo start in0 out0 in1 out1 outcome →
-    Answers (λ input read_failed. told_play (play start input read_failed)) (Some (Play file)) in0 in1 out0 out1 outcome
-answers_played start file in0 in1 out0 out1 Usage plays = absurd plays
-answers_played start file in0 in1 out0 out1 (CannotRead name) plays = absurd plays
-answers_played start file in0 in1 out0 out1 (BadDocument fault) plays = absurd plays
-answers_played start file in0 in1 out0 out1 (BadPattern fault) plays = absurd plays
-answers_played start file in0 in1 out0 out1 Printed plays = absurd plays
-answers_played start file in0 in1 out0 out1 (Ended end) plays = let f = plays.1 in record {
+-- the connection came to its end, or the play did before
+answers_finished : (c : Configuration) (file : List ℕ) (in0 in1 : Input) (out0 out1 : Output) (end : End) (journal : List Entry) → Finishes c in0 out0 in1 out1 end journal →
+    Answers (tells c) (Some (Play file)) in0 in1 out0 out1 (Ended end)
+answers_finished c file in0 in1 out0 out1 end journal f = record {
   input = f.input;
   read_failed = f.read_failed;
   has_read = f.has_read;
   quiet = λ none. absurd none;
   does = completes (record {
     written = f.written;
-    line_is = ap line_of_end f.end_is;
-    status_is = ap status_of_end f.end_is;
-    at_end = λ h. f.at_end (f.end_is ∙ eof_is _ h);
+    line_is = sym (ap (λ (last : Option End). unwrap_or (option_map line_of_end last) []) f.end_is);
+    status_is = sym (ap (λ (last : Option End). unwrap_or (option_map status_of_end last) 0) f.end_is);
+    at_end = λ h. f.at_end (eof_is end (subst (λ (last : Option End). IsTrue (unwrap_or (option_map is_eof last) false)) f.end_is h));
   });
 }
-answers_played start file in0 in1 out0 out1 (BrokenOff OutOfMemory) plays = let s = plays.1 in record {
-  input = s.input;
-  read_failed = s.read_failed;
-  has_read = s.has_read;
+
+-- what a front of the journal handed out is a front of the output
+begins_output : (c : Configuration) (in0 in1 : Input) (journal : List Entry) (breaks : Breaks c in0 in1 journal) →
+    bytes_handed c (played c breaks.input breaks.read_failed).journal ≡ bytes_handed c journal ++ concat (handed_from 1 (run_from (empty c) journal) breaks.more)
+begins_output c in0 in1 journal breaks = bytes_begin c (played c breaks.input breaks.read_failed).journal journal breaks.more breaks.split
+
+-- the connection was played
+answers_ended : (c : Configuration) (file : List ℕ) (in0 in1 : Input) (out0 out1 : Output) (end : End) (journal : List Entry) → Plays c in0 out0 in1 out1 journal end →
+    Answers (tells c) (Some (Play file)) in0 in1 out0 out1 (Ended end)
+answers_ended c file in0 in1 out0 out1 ends.Exit journal plays = answers_finished c file in0 in1 out0 out1 ends.Exit journal plays
+answers_ended c file in0 in1 out0 out1 ends.Eof journal plays = answers_finished c file in0 in1 out0 out1 ends.Eof journal plays
+answers_ended c file in0 in1 out0 out1 ends.AuthRefused journal plays = answers_finished c file in0 in1 out0 out1 ends.AuthRefused journal plays
+answers_ended c file in0 in1 out0 out1 ends.ReadFault journal plays = answers_finished c file in0 in1 out0 out1 ends.ReadFault journal plays
+answers_ended c file in0 in1 out0 out1 (ends.TooLong len) journal plays = answers_finished c file in0 in1 out0 out1 (ends.TooLong len) journal plays
+answers_ended c file in0 in1 out0 out1 (ends.JournalFull cost limit) journal plays = answers_finished c file in0 in1 out0 out1 (ends.JournalFull cost limit) journal plays
+answers_ended c file in0 in1 out0 out1 (ends.Runaway count) journal plays = answers_finished c file in0 in1 out0 out1 (ends.Runaway count) journal plays
+answers_ended c file in0 in1 out0 out1 ends.Memory journal plays = let b = plays.breaks in record {
+  input = b.input;
+  read_failed = b.read_failed;
+  has_read = b.has_read;
   quiet = λ none. absurd none;
   does = lacks_memory (record {
-    front = bytes_taken plays.0;
-    back = concat (taken_from (run plays.0) s.begins.more);
-    split = output-begins start s.input s.read_failed plays.0 s.begins;
-    written = s.broken;
+    front = bytes_handed c journal;
+    back = concat (handed_from 1 (run_from (empty c) journal) b.more);
+    split = begins_output c in0 in1 journal b;
+    written = plays.written;
     line_is = refl;
     status_is = refl;
   });
 }
-answers_played start file in0 in1 out0 out1 (BrokenOff WriteFault) plays = let s = plays.1 in record {
-  input = s.input;
-  read_failed = s.read_failed;
-  has_read = s.has_read;
+answers_ended c file in0 in1 out0 out1 ends.WriteFault journal plays = let b = plays.breaks in record {
+  input = b.input;
+  read_failed = b.read_failed;
+  has_read = b.has_read;
   quiet = λ none. absurd none;
   does = fails_to_write (record {
-    stopped = subst (λ (xs : List ℕ). Stopped out0 out1 xs) (sym (output-begins start s.input s.read_failed plays.0 s.begins))
-        (stopped_sooner out0 out1 (bytes_taken plays.0) (concat (taken_from (run plays.0) s.begins.more)) s.broken);
+    stopped = subst (λ (bytes : List ℕ). Stopped out0 out1 bytes) (sym (begins_output c in0 in1 plays.before b))
+        (stopped_sooner out0 out1 (bytes_handed c plays.before) (concat (handed_from 1 (run_from (empty c) plays.before) b.more)) plays.stopped);
     line_is = refl;
     status_is = refl;
   });
 }
+
+pub answers_played : (c : Configuration) (file : List ℕ) (in0 in1 : Input) (out0 out1 : Output) (outcome : Outcome) → PlaysTo c in0 out0 in1 out1 outcome →
+    Answers (tells c) (Some (Play file)) in0 in1 out0 out1 outcome
+answers_played c file in0 in1 out0 out1 Usage plays = absurd plays
+answers_played c file in0 in1 out0 out1 (CannotRead name) plays = absurd plays
+answers_played c file in0 in1 out0 out1 (BadDocument fault) plays = absurd plays
+answers_played c file in0 in1 out0 out1 (BadPattern fault) plays = absurd plays
+answers_played c file in0 in1 out0 out1 Printed plays = absurd plays
+answers_played c file in0 in1 out0 out1 (Ended end) plays = answers_ended c file in0 in1 out0 out1 end plays.0 plays.1
+
+-- memory was wanting for the machine
+pub plays_none : (c : Configuration) (in0 : Input) (out0 : Output) → PlaysTo c in0 out0 in0 out0 (Ended ends.Memory)
+plays_none c in0 out0 = (
+  [],
+  record {
+    breaks = record { input = []; read_failed = false; has_read = reads_none in0; more = (played c [] false).journal; split = refl };
+    written = writes_nothing out0;
+  },
+)
 
 -- ---- over a configuration
 
@@ -154,11 +182,11 @@ over_refused asked c fault sizes0 sizes1 in0 out0 refused = record {
 
 -- memory was wanting for them
 over_unbuilt : (asked : Asked) (c : Configuration) (sizes0 sizes1 : ℕ) (in0 : Input) (out0 : Output) → sizes1 ≡ sizes0 →
-    OverConfig asked c sizes0 sizes1 in0 in0 out0 out0 (BrokenOff OutOfMemory)
+    OverConfig asked c sizes0 sizes1 in0 in0 out0 out0 (Ended ends.Memory)
 over_unbuilt asked c sizes0 sizes1 in0 out0 sizes = record {
   built = None;
   built_told = sizes;
-  answers = answers_quiet (told_built asked c None) (Some asked) in0 in0 out0 out0 (BrokenOff OutOfMemory) refl (memory_does (told_built asked c None [] false) in0 out0);
+  answers = answers_quiet (told_built asked c None) (Some asked) in0 in0 out0 out0 (Ended ends.Memory) refl (memory_does (told_built asked c None [] false) in0 out0);
 }
 
 -- the dialplan was not built
@@ -194,11 +222,11 @@ over_faulty asked bytes fault sizes in0 out0 reads = record {
       (answers_quiet (told_read asked (Err fault) None) (Some asked) in0 in0 out0 out0 (BadDocument fault) refl (refused_does in0 out0 (fault_line fault) 3 (BadDocument fault) refl refl));
 }
 
-pub over_unread : (asked : Asked) (bytes : List ℕ) (sizes : ℕ) (in0 : Input) (out0 : Output) → OverBytes asked bytes sizes sizes in0 in0 out0 out0 (BrokenOff OutOfMemory)
+pub over_unread : (asked : Asked) (bytes : List ℕ) (sizes : ℕ) (in0 : Input) (out0 : Output) → OverBytes asked bytes sizes sizes in0 in0 out0 out0 (Ended ends.Memory)
 over_unread asked bytes sizes in0 out0 = record {
   built = None;
   built_told = refl;
-  answers = answers_quiet (told_file asked (Got bytes) None) (Some asked) in0 in0 out0 out0 (BrokenOff OutOfMemory) refl (memory_does (told_file asked (Got bytes) None [] false) in0 out0);
+  answers = answers_quiet (told_file asked (Got bytes) None) (Some asked) in0 in0 out0 out0 (Ended ends.Memory) refl (memory_does (told_file asked (Got bytes) None [] false) in0 out0);
 }
 
 -- the document was not read: it has this fault, or memory was wanting
@@ -206,7 +234,7 @@ pub over_answer : (asked : Asked) (bytes : List ℕ) (fault : DocFault) (sizes :
     (fault ≡ record { at = 0; kind = Memory }) ⊎ (config_of bytes ≡ Err fault) → OverBytes asked bytes sizes sizes in0 in0 out0 out0 (not_read fault)
 over_answer asked bytes fault sizes in0 out0 why = by (is_memory fault.kind) refl
   where
-    by : (memory : Bool) → is_memory fault.kind ≡ memory → OverBytes asked bytes sizes sizes in0 in0 out0 out0 (cond memory (BrokenOff OutOfMemory) (BadDocument fault))
+    by : (memory : Bool) → is_memory fault.kind ≡ memory → OverBytes asked bytes sizes sizes in0 in0 out0 out0 (cond memory (Ended ends.Memory) (BadDocument fault))
     by true is = over_unread asked bytes sizes in0 out0
     by false is = over_faulty asked bytes fault sizes in0 out0 (reads why)
       where
@@ -275,14 +303,14 @@ some_load (Some load) = (load, refl)
 
 -- the file could not be loaded for want of memory
 pub runs_unloaded : (asked : Asked) (next_load : List ℕ → Option Load) (counts0 counts1 : LoadCounts) (sizes0 sizes1 : ℕ) (in0 : Input) (out0 : Output) → sizes1 ≡ sizes0 →
-    Runs (Some asked) next_load counts0 counts1 sizes0 sizes1 in0 in0 out0 out0 (BrokenOff OutOfMemory)
+    Runs (Some asked) next_load counts0 counts1 sizes0 sizes1 in0 in0 out0 out0 (Ended ends.Memory)
 runs_unloaded asked next_load counts0 counts1 sizes0 sizes1 in0 out0 sizes = let load = some_load (next_load (file_of asked)) in record {
   file = load.0;
   built = None;
   file_told = load.1;
   built_told = sizes;
   loaded = λ not_one. absurd (not_one refl);
-  answers = answers_quiet (told_file asked load.0 None) (Some asked) in0 in0 out0 out0 (BrokenOff OutOfMemory) refl (memory_does (told_file asked load.0 None [] false) in0 out0);
+  answers = answers_quiet (told_file asked load.0 None) (Some asked) in0 in0 out0 out0 (Ended ends.Memory) refl (memory_does (told_file asked load.0 None [] false) in0 out0);
   usage = λ none. absurd (cc);
 }
 
@@ -309,108 +337,103 @@ ran asked next_load counts0 counts1 sizes0 sizes1 in0 in1 out0 out1 err0 err1 ou
 
 -- ---- causes
 
--- a connection that says farewell has nothing to tell
-farewell_done : (phase : Phase) (end : End) → farewell_of phase ≡ Some end → status_of_end end ≡ 0
-farewell_done Fresh end is = absurd (cc)
-farewell_done Ready end is = absurd (cc)
-farewell_done Ending end is = ap (λ last. status_of_end (unwrap_or last Exit)) (sym is)
-farewell_done Refused end is = ap (λ last. status_of_end (unwrap_or last Exit)) (sym is)
-farewell_done Closed end is = ap (λ last. status_of_end (unwrap_or last Exit)) (sym is)
-
--- what each status of an end shows, where one that is said by farewell has status 0
-SaysNothing : Option End → Type 0
-SaysNothing last = (end : End) → last ≡ Some end → status_of_end end ≡ 0
-
-unreadable_behind : (last : Option End) (is_too_long read_failed : Bool) → SaysNothing last →
-    status_of_end (end_behind last is_too_long read_failed) ≡ 4 → read_failed ≡ true
-unfolding SaysNothing
-unreadable_behind (Some end) is_too_long read_failed nothing four = let zero = nothing end refl in absurd (cc)
-unreadable_behind None true read_failed nothing four = absurd (cc)
-unreadable_behind None false true nothing four = refl
-unreadable_behind None false false nothing four = absurd (cc)
-
-too_long_behind : (last : Option End) (is_too_long read_failed : Bool) → SaysNothing last →
-    status_of_end (end_behind last is_too_long read_failed) ≡ 10 → (end_behind last is_too_long read_failed ≡ TooLong 65537) × (is_too_long ≡ true)
-unfolding SaysNothing
-too_long_behind (Some end) is_too_long read_failed nothing ten = let zero = nothing end refl in absurd (cc)
-too_long_behind None true read_failed nothing ten = (refl, refl)
-too_long_behind None false true nothing ten = absurd (cc)
-too_long_behind None false false nothing ten = absurd (cc)
-
-full_behind : (last : Option End) (is_too_long read_failed : Bool) → SaysNothing last → status_of_end (end_behind last is_too_long read_failed) ≡ 8 → ⊥
-unfolding SaysNothing
-full_behind (Some end) is_too_long read_failed nothing eight = let zero = nothing end refl in cc
-full_behind None true read_failed nothing eight = cc
-full_behind None false true nothing eight = cc
-full_behind None false false nothing eight = cc
-
-says_nothing : (start : Start) (input : List ℕ) → SaysNothing (farewell (after_all (opened start) (blocks_of input)))
-unfolding SaysNothing
-says_nothing start input = farewell_done (run (after_all (opened start) (blocks_of input))).phase
-
--- an end other than by a full journal is that of the whole journal
-within_other : (journal whole : Journal) (end : End) (status : ℕ) → status_of_end (end_within journal whole end) ≡ status → status ≢ 8 → end_within journal whole end ≡ end
-within_other journal whole end status is other = by (length journal.entries == length whole.entries) is
-  where
-    by : (same : Bool) → status_of_end (cond same end (JournalFull (cost journal) journal.start.journal_limit)) ≡ status → cond same end (JournalFull (cost journal) journal.start.journal_limit) ≡ end
-    by true e = refl
-    by false e = absurd (other (sym e))
-
--- and one by a full journal is cut short
-within_full : (journal whole : Journal) (end : End) → status_of_end (end_within journal whole end) ≡ 8 → (status_of_end end ≡ 8 → ⊥) →
-    (end_within journal whole end ≡ JournalFull (cost journal) journal.start.journal_limit) × ((length journal.entries == length whole.entries) ≡ false)
-within_full journal whole end eight not_own = by (length journal.entries == length whole.entries) eight
-  where
-    by : (same : Bool) → status_of_end (cond same end (JournalFull (cost journal) journal.start.journal_limit)) ≡ 8 →
-        (cond same end (JournalFull (cost journal) journal.start.journal_limit) ≡ JournalFull (cost journal) journal.start.journal_limit) × (same ≡ false)
-    by true e = absurd (not_own e)
-    by false e = (refl, refl)
+-- the end of a play of this status
+status_ended : (c : Configuration) (input : List ℕ) (read_failed : Bool) (status : ℕ) → (tells c input read_failed).status ≡ status →
+    (end : End) × ((played c input read_failed).end ≡ Some end) × (status_of_end end ≡ status)
+status_ended c input read_failed status is =
+    let ended = ends_played c input read_failed in
+    (ended.0, ended.1, sym (ap (λ (last : Option End). unwrap_or (option_map status_of_end last) 0) ended.1) ∙ is)
 
 -- the count that a status of 4 shows
-unreadable_play : (start : Start) (counts0 counts1 : LoadCounts) (in0 in1 : Input) (input : List ℕ) (read_failed : Bool) →
-    HasRead in0 in1 input read_failed → status_of_end (play start input read_failed).end ≡ 4 → CountRose counts0 counts1 in0 in1
-unfolding play
-unreadable_play start counts0 counts1 in0 in1 input read_failed has_read four =
-    let own = within_other (accepted (whole_journal start input)) (whole_journal start input) (end_of start input read_failed) 4 four (λ e. absurd (cc)) in
-    let failed = unreadable_behind (farewell (after_all (opened start) (blocks_of input))) (too_long (rest_of input)) read_failed (says_nothing start input) (ap status_of_end (sym own) ∙ four) in
+unreadable_end : (end : End) (s : Switch) (is_too_long read_failed : Bool) → status_of_end end ≡ 4 → HasCause end s is_too_long read_failed → read_failed ≡ true
+unreadable_end ends.Exit s is_too_long read_failed four cause = absurd (cc)
+unreadable_end ends.Eof s is_too_long read_failed four cause = absurd (cc)
+unreadable_end ends.AuthRefused s is_too_long read_failed four cause = absurd (cc)
+unreadable_end ends.ReadFault s is_too_long read_failed four cause = cause.1
+unreadable_end ends.WriteFault s is_too_long read_failed four cause = absurd cause
+unreadable_end (ends.TooLong len) s is_too_long read_failed four cause = absurd (cc)
+unreadable_end (ends.JournalFull cost limit) s is_too_long read_failed four cause = absurd (cc)
+unreadable_end ends.Memory s is_too_long read_failed four cause = absurd cause
+unreadable_end (ends.Runaway count) s is_too_long read_failed four cause = absurd (cc)
+
+unreadable_play : (c : Configuration) (counts0 counts1 : LoadCounts) (in0 in1 : Input) (input : List ℕ) (read_failed : Bool) →
+    HasRead in0 in1 input read_failed → (tells c input read_failed).status ≡ 4 → CountRose counts0 counts1 in0 in1
+unreadable_play c counts0 counts1 in0 in1 input read_failed has_read four =
+    let ended = status_ended c input read_failed 4 four in
+    let failed = unreadable_end ended.0 (switch_of (played c input read_failed)) (too_long (rest_of input)) read_failed ended.2 (cause_played c input read_failed ended.0 ended.1) in
     inr (inr (has_read.faults ∙ ap (λ b. cond b (raised in0.faults) in0.faults) failed))
 
 -- the rest that a status of 10 shows
-too_long_play : (start : Start) (in0 in1 : Input) (input : List ℕ) (read_failed : Bool) → HasRead in0 in1 input read_failed → status_of_end (play start input read_failed).end ≡ 10 → MeetsTooLong start in0 in1
-unfolding play
-too_long_play start in0 in1 input read_failed has_read ten =
-    let own = within_other (accepted (whole_journal start input)) (whole_journal start input) (end_of start input read_failed) 10 ten (λ e. absurd (cc)) in
-    let is = too_long_behind (farewell (after_all (opened start) (blocks_of input))) (too_long (rest_of input)) read_failed (says_nothing start input) (ap status_of_end (sym own) ∙ ten) in record {
+too_long_end : (end : End) (s : Switch) (is_too_long read_failed : Bool) → status_of_end end ≡ 10 → HasCause end s is_too_long read_failed → (end ≡ ends.TooLong 65537) × (is_too_long ≡ true)
+too_long_end ends.Exit s is_too_long read_failed ten cause = absurd (cc)
+too_long_end ends.Eof s is_too_long read_failed ten cause = absurd (cc)
+too_long_end ends.AuthRefused s is_too_long read_failed ten cause = absurd (cc)
+too_long_end ends.ReadFault s is_too_long read_failed ten cause = absurd (cc)
+too_long_end ends.WriteFault s is_too_long read_failed ten cause = absurd cause
+too_long_end (ends.TooLong len) s is_too_long read_failed ten cause = (ap ends.TooLong cause.1, cause.0)
+too_long_end (ends.JournalFull cost limit) s is_too_long read_failed ten cause = absurd (cc)
+too_long_end ends.Memory s is_too_long read_failed ten cause = absurd cause
+too_long_end (ends.Runaway count) s is_too_long read_failed ten cause = absurd (cc)
+
+too_long_play : (c : Configuration) (in0 in1 : Input) (input : List ℕ) (read_failed : Bool) → HasRead in0 in1 input read_failed → (tells c input read_failed).status ≡ 10 → MeetsTooLong c in0 in1
+too_long_play c in0 in1 input read_failed has_read ten =
+    let ended = status_ended c input read_failed 10 ten in
+    let is = too_long_end ended.0 (switch_of (played c input read_failed)) (too_long (rest_of input)) read_failed ended.2 (cause_played c input read_failed ended.0 ended.1) in record {
       input = input;
       read_failed = read_failed;
       has_read = has_read;
-      end_is = own ∙ is.0;
+      end_is = ended.1 ∙ ap Some is.0;
       is_too_long = is.1;
     }
 
--- a status of 8 shows that the journal was cut short
-pub full-cut : (start : Start) (input : List ℕ) (read_failed : Bool) → status_of_end (play start input read_failed).end ≡ 8 → length (accepted (whole_journal start input)).entries ≢ length (whole_journal start input).entries
-unfolding play
-full-cut start input read_failed eight =
-    let journal = accepted (whole_journal start input) in
-    let not_own = full_behind (farewell (after_all (opened start) (blocks_of input))) (too_long (rest_of input)) read_failed (says_nothing start input) in
-    let is = within_full journal (whole_journal start input) (end_of start input read_failed) eight not_own in
-    λ same. absurd (eqb-false (length journal.entries) (length (whole_journal start input).entries) is.1 same)
-
 -- the journal that a status of 8 shows
-full_play : (start : Start) (in0 in1 : Input) (input : List ℕ) (read_failed : Bool) → HasRead in0 in1 input read_failed → status_of_end (play start input read_failed).end ≡ 8 → FillsJournal start in0 in1
-unfolding play
-full_play start in0 in1 input read_failed has_read eight =
-    let journal = accepted (whole_journal start input) in
-    let not_own = full_behind (farewell (after_all (opened start) (blocks_of input))) (too_long (rest_of input)) read_failed (says_nothing start input) in
-    let is = within_full journal (whole_journal start input) (end_of start input read_failed) eight not_own in record {
+abbrev IsFull : End → Switch → Type 0
+IsFull end s = (cost : ℕ) × (limit : ℕ) × (end ≡ ends.JournalFull cost limit) × IsFullAt cost limit s
+
+full_end : (end : End) (s : Switch) (is_too_long read_failed : Bool) → status_of_end end ≡ 8 → HasCause end s is_too_long read_failed → IsFull end s
+full_end ends.Exit s is_too_long read_failed eight cause = absurd (cc)
+full_end ends.Eof s is_too_long read_failed eight cause = absurd (cc)
+full_end ends.AuthRefused s is_too_long read_failed eight cause = absurd (cc)
+full_end ends.ReadFault s is_too_long read_failed eight cause = absurd (cc)
+full_end ends.WriteFault s is_too_long read_failed eight cause = absurd cause
+full_end (ends.TooLong len) s is_too_long read_failed eight cause = absurd (cc)
+full_end (ends.JournalFull cost limit) s is_too_long read_failed eight cause = (cost, limit, refl, cause)
+full_end ends.Memory s is_too_long read_failed eight cause = absurd cause
+full_end (ends.Runaway count) s is_too_long read_failed eight cause = absurd (cc)
+
+full_play : (c : Configuration) (in0 in1 : Input) (input : List ℕ) (read_failed : Bool) → HasRead in0 in1 input read_failed → (tells c input read_failed).status ≡ 8 → FillsJournal c in0 in1
+full_play c in0 in1 input read_failed has_read eight =
+    let ended = status_ended c input read_failed 8 eight in
+    let is = full_end ended.0 (switch_of (played c input read_failed)) (too_long (rest_of input)) read_failed ended.2 (cause_played c input read_failed ended.0 ended.1) in record {
       input = input;
       read_failed = read_failed;
       has_read = has_read;
-      cost_told = cost journal;
-      limit_told = journal.start.journal_limit;
-      end_is = is.0;
-      full = record { full = full-accepted (whole_journal start input) (full-cut start input read_failed eight); cost_is = refl; limit_is = refl };
+      cost_told = is.0;
+      limit_told = is.1;
+      end_is = ended.1 ∙ ap Some is.2;
+      full = is.3;
+      limit_is = is.3.limit_is ∙ ap (λ (k : Configuration). k.settings.journal_limit) (config_kept c input read_failed);
+    }
+
+-- the end that a status of 9 shows
+away_end : (end : End) (s : Switch) (is_too_long read_failed : Bool) → status_of_end end ≡ 9 → HasCause end s is_too_long read_failed → end ≡ ends.Runaway 100000
+away_end ends.Exit s is_too_long read_failed nine cause = absurd (cc)
+away_end ends.Eof s is_too_long read_failed nine cause = absurd (cc)
+away_end ends.AuthRefused s is_too_long read_failed nine cause = absurd (cc)
+away_end ends.ReadFault s is_too_long read_failed nine cause = absurd (cc)
+away_end ends.WriteFault s is_too_long read_failed nine cause = absurd cause
+away_end (ends.TooLong len) s is_too_long read_failed nine cause = absurd (cc)
+away_end (ends.JournalFull cost limit) s is_too_long read_failed nine cause = absurd (cc)
+away_end ends.Memory s is_too_long read_failed nine cause = absurd cause
+away_end (ends.Runaway count) s is_too_long read_failed nine cause = ap ends.Runaway cause
+
+away_play : (c : Configuration) (in0 in1 : Input) (input : List ℕ) (read_failed : Bool) → HasRead in0 in1 input read_failed → (tells c input read_failed).status ≡ 9 → RunsAway c in0 in1
+away_play c in0 in1 input read_failed has_read nine =
+    let ended = status_ended c input read_failed 9 nine in record {
+      input = input;
+      read_failed = read_failed;
+      has_read = has_read;
+      end_is = ended.1 ∙ ap Some (away_end ended.0 (switch_of (played c input read_failed)) (too_long (rest_of input)) read_failed ended.2 (cause_played c input read_failed ended.0 ended.1));
     }
 
 -- a status that is neither 1 nor 5 is the one that is told
@@ -429,7 +452,7 @@ status-told asked next_load counts0 counts1 sizes0 sizes1 in0 in1 out0 out1 outc
 record Played (asked : Option Asked) (next_load : List ℕ → Option Load) (input : List ℕ) (read_failed : Bool) (status : ℕ) : Type 0 where
   c : Configuration
   has : HasConfig asked next_load c
-  ended : status_of_end (play (start_of c) input read_failed).end ≡ status
+  ended : (tells c input read_failed).status ≡ status
 
 played_asked : (asked : Asked) (bytes : List ℕ) (c : Configuration) (next_load : List ℕ → Option Load) (input : List ℕ) (read_failed : Bool) (status : ℕ) → status ≢ 0 →
     Tells (next_load (file_of asked)) (Got bytes) → config_of bytes ≡ Ok c → status ≡ (told_asked asked c input read_failed).status → Played (Some asked) next_load input read_failed status
@@ -459,28 +482,68 @@ played_file (Some asked) Failed built next_load input read_failed status not_0 n
 
 -- what status 8 shows
 pub cause_full : (asked : Option Asked) (next_load : List ℕ → Option Load) (counts0 counts1 : LoadCounts) (sizes0 sizes1 : ℕ) (in0 in1 : Input) (out0 out1 : Output) (outcome : Outcome) →
-    Runs asked next_load counts0 counts1 sizes0 sizes1 in0 in1 out0 out1 outcome → status_of outcome ≡ 8 → (c : Configuration) × HasConfig asked next_load c × FillsJournal (start_of c) in0 in1
+    Runs asked next_load counts0 counts1 sizes0 sizes1 in0 in1 out0 out1 outcome → status_of outcome ≡ 8 → (c : Configuration) × HasConfig asked next_load c × FillsJournal c in0 in1
 cause_full asked next_load counts0 counts1 sizes0 sizes1 in0 in1 out0 out1 outcome runs eight =
     let told = status-told asked next_load counts0 counts1 sizes0 sizes1 in0 in1 out0 out1 outcome runs (λ e. absurd (cc)) (λ e. absurd (cc)) in
     let p = played_file asked runs.file runs.built next_load runs.answers.input runs.answers.read_failed (status_of outcome) (λ e. absurd (cc)) (λ e. absurd (cc)) (λ e. absurd (cc)) (λ e. absurd (cc)) runs.file_told told in
-    let ended : status_of_end (play (start_of p.c) runs.answers.input runs.answers.read_failed).end ≡ 8 = subst (λ (n : ℕ). status_of_end (play (start_of p.c) runs.answers.input runs.answers.read_failed).end ≡ n) eight p.ended in
-    (p.c, p.has, full_play (start_of p.c) in0 in1 runs.answers.input runs.answers.read_failed runs.answers.has_read ended)
+    let ended : (tells p.c runs.answers.input runs.answers.read_failed).status ≡ 8 = subst (λ (n : ℕ). (tells p.c runs.answers.input runs.answers.read_failed).status ≡ n) eight p.ended in
+    (p.c, p.has, full_play p.c in0 in1 runs.answers.input runs.answers.read_failed runs.answers.has_read ended)
+
+-- what status 9 shows
+pub cause_away : (asked : Option Asked) (next_load : List ℕ → Option Load) (counts0 counts1 : LoadCounts) (sizes0 sizes1 : ℕ) (in0 in1 : Input) (out0 out1 : Output) (outcome : Outcome) →
+    Runs asked next_load counts0 counts1 sizes0 sizes1 in0 in1 out0 out1 outcome → status_of outcome ≡ 9 → (c : Configuration) × HasConfig asked next_load c × RunsAway c in0 in1
+cause_away asked next_load counts0 counts1 sizes0 sizes1 in0 in1 out0 out1 outcome runs nine =
+    let told = status-told asked next_load counts0 counts1 sizes0 sizes1 in0 in1 out0 out1 outcome runs (λ e. absurd (cc)) (λ e. absurd (cc)) in
+    let p = played_file asked runs.file runs.built next_load runs.answers.input runs.answers.read_failed (status_of outcome) (λ e. absurd (cc)) (λ e. absurd (cc)) (λ e. absurd (cc)) (λ e. absurd (cc)) runs.file_told told in
+    let ended : (tells p.c runs.answers.input runs.answers.read_failed).status ≡ 9 = subst (λ (n : ℕ). (tells p.c runs.answers.input runs.answers.read_failed).status ≡ n) nine p.ended in
+    (p.c, p.has, away_play p.c in0 in1 runs.answers.input runs.answers.read_failed runs.answers.has_read ended)
 
 -- what status 10 shows
 pub cause_too_long : (asked : Option Asked) (next_load : List ℕ → Option Load) (counts0 counts1 : LoadCounts) (sizes0 sizes1 : ℕ) (in0 in1 : Input) (out0 out1 : Output) (outcome : Outcome) →
-    Runs asked next_load counts0 counts1 sizes0 sizes1 in0 in1 out0 out1 outcome → status_of outcome ≡ 10 → (c : Configuration) × HasConfig asked next_load c × MeetsTooLong (start_of c) in0 in1
+    Runs asked next_load counts0 counts1 sizes0 sizes1 in0 in1 out0 out1 outcome → status_of outcome ≡ 10 → (c : Configuration) × HasConfig asked next_load c × MeetsTooLong c in0 in1
 cause_too_long asked next_load counts0 counts1 sizes0 sizes1 in0 in1 out0 out1 outcome runs ten =
     let told = status-told asked next_load counts0 counts1 sizes0 sizes1 in0 in1 out0 out1 outcome runs (λ e. absurd (cc)) (λ e. absurd (cc)) in
     let p = played_file asked runs.file runs.built next_load runs.answers.input runs.answers.read_failed (status_of outcome) (λ e. absurd (cc)) (λ e. absurd (cc)) (λ e. absurd (cc)) (λ e. absurd (cc)) runs.file_told told in
-    let ended : status_of_end (play (start_of p.c) runs.answers.input runs.answers.read_failed).end ≡ 10 = subst (λ (n : ℕ). status_of_end (play (start_of p.c) runs.answers.input runs.answers.read_failed).end ≡ n) ten p.ended in
-    (p.c, p.has, too_long_play (start_of p.c) in0 in1 runs.answers.input runs.answers.read_failed runs.answers.has_read ended)
+    let ended : (tells p.c runs.answers.input runs.answers.read_failed).status ≡ 10 = subst (λ (n : ℕ). (tells p.c runs.answers.input runs.answers.read_failed).status ≡ n) ten p.ended in
+    (p.c, p.has, too_long_play p.c in0 in1 runs.answers.input runs.answers.read_failed runs.answers.has_read ended)
+
+-- no play is told to end by a write that failed
+unwritten_end : (end : End) (s : Switch) (is_too_long read_failed : Bool) → status_of_end end ≡ 5 → HasCause end s is_too_long read_failed → ⊥
+unwritten_end ends.Exit s is_too_long read_failed five cause = cc
+unwritten_end ends.Eof s is_too_long read_failed five cause = cc
+unwritten_end ends.AuthRefused s is_too_long read_failed five cause = cc
+unwritten_end ends.ReadFault s is_too_long read_failed five cause = cc
+unwritten_end ends.WriteFault s is_too_long read_failed five cause = cause
+unwritten_end (ends.TooLong len) s is_too_long read_failed five cause = cc
+unwritten_end (ends.JournalFull cost limit) s is_too_long read_failed five cause = cc
+unwritten_end ends.Memory s is_too_long read_failed five cause = cause
+unwritten_end (ends.Runaway count) s is_too_long read_failed five cause = cc
+
+unwritten_play : (c : Configuration) (input : List ℕ) (read_failed : Bool) → (tells c input read_failed).status ≡ 5 → ⊥
+unwritten_play c input read_failed five =
+    let ended = status_ended c input read_failed 5 five in
+    unwritten_end ended.0 (switch_of (played c input read_failed)) (too_long (rest_of input)) read_failed ended.2 (cause_played c input read_failed ended.0 ended.1)
+
+-- so a status of 5 comes of a write
+failed_write : (told : Told) (in1 : Input) (out0 out1 : Output) (line : List ℕ) (status : ℕ) → Does told in1 out0 out1 line status → status ≡ 5 → told.status ≢ 5 → out1.faults ≡ raised out0.faults
+failed_write told in1 out0 out1 line status (completes h) five never = absurd (never (sym h.status_is ∙ five))
+failed_write told in1 out0 out1 line status (fails_to_write h) five never = h.stopped.faults
+failed_write told in1 out0 out1 line status (lacks_memory h) five never = let one : 1 ≡ 5 = sym h.status_is ∙ five in absurd (cc)
+
+-- what status 5 shows
+pub cause_write : (asked : Option Asked) (next_load : List ℕ → Option Load) (counts0 counts1 : LoadCounts) (sizes0 sizes1 : ℕ) (in0 in1 : Input) (out0 out1 : Output) (outcome : Outcome) →
+    Runs asked next_load counts0 counts1 sizes0 sizes1 in0 in1 out0 out1 outcome → status_of outcome ≡ 5 → out1.faults ≡ raised out0.faults
+cause_write asked next_load counts0 counts1 sizes0 sizes1 in0 in1 out0 out1 outcome runs five =
+    failed_write (told_words asked runs.file runs.built runs.answers.input runs.answers.read_failed) in1 out0 out1 (line_of outcome) (status_of outcome) runs.answers.does five
+    (λ e. let p = played_file asked runs.file runs.built next_load runs.answers.input runs.answers.read_failed 5 (λ z. absurd (cc)) (λ z. absurd (cc)) (λ z. absurd (cc)) (λ z. absurd (cc)) runs.file_told (sym e) in
+    unwritten_play p.c runs.answers.input runs.answers.read_failed p.ended)
 
 -- what status 4 shows
 unreadable_file : (asked : Asked) (file : Load) (built : Option PlanFault) (next_load : List ℕ → Option Load) (counts0 counts1 : LoadCounts) (in0 in1 : Input) (input : List ℕ) (read_failed : Bool) (status : ℕ) →
     status ≡ 4 → Tells (next_load (file_of asked)) file → Counted counts0 counts1 file → HasRead in0 in1 input read_failed → status ≡ (told_file asked file built input read_failed).status → CountRose counts0 counts1 in0 in1
 unreadable_file asked (Got bytes) built next_load counts0 counts1 in0 in1 input read_failed status four tells counted has_read is =
     let p = played_read asked bytes (config_of bytes) built next_load input read_failed 4 (λ e. absurd (cc)) (λ e. absurd (cc)) tells refl (sym four ∙ is) in
-    unreadable_play (start_of p.c) counts0 counts1 in0 in1 input read_failed has_read p.ended
+    unreadable_play p.c counts0 counts1 in0 in1 input read_failed has_read p.ended
 unreadable_file asked Absent built next_load counts0 counts1 in0 in1 input read_failed status four tells counted has_read is = inl (ap (λ c. c.absences) counted)
 unreadable_file asked Failed built next_load counts0 counts1 in0 in1 input read_failed status four tells counted has_read is = inr (inl (ap (λ c. c.faults) counted))
 
@@ -491,24 +554,22 @@ cause_unreadable (Some asked) next_load counts0 counts1 sizes0 sizes1 in0 in1 ou
     let told = status-told (Some asked) next_load counts0 counts1 sizes0 sizes1 in0 in1 out0 out1 outcome runs (λ e. absurd (cc)) (λ e. absurd (cc)) in
     unreadable_file asked runs.file runs.built next_load counts0 counts1 in0 in1 runs.answers.input runs.answers.read_failed (status_of outcome) four runs.file_told (runs.loaded (λ e. absurd (cc))) runs.answers.has_read told
 
--- what status 3 shows
-end_not_3 : (last : Option End) (is_too_long read_failed : Bool) → SaysNothing last → status_of_end (end_behind last is_too_long read_failed) ≡ 3 → ⊥
-unfolding SaysNothing
-end_not_3 (Some end) is_too_long read_failed nothing three = let zero = nothing end refl in cc
-end_not_3 None true read_failed nothing three = cc
-end_not_3 None false true nothing three = cc
-end_not_3 None false false nothing three = cc
-
-play_not_3 : (start : Start) (input : List ℕ) (read_failed : Bool) → status_of_end (play start input read_failed).end ≡ 3 → ⊥
-unfolding play
-play_not_3 start input read_failed three =
-    let own = within_other (accepted (whole_journal start input)) (whole_journal start input) (end_of start input read_failed) 3 three (λ e. absurd (cc)) in
-    end_not_3 (farewell (after_all (opened start) (blocks_of input))) (too_long (rest_of input)) read_failed (says_nothing start input) (ap status_of_end (sym own) ∙ three)
+-- no play has status 3
+end_not_3 : (end : End) → status_of_end end ≡ 3 → ⊥
+end_not_3 ends.Exit three = cc
+end_not_3 ends.Eof three = cc
+end_not_3 ends.AuthRefused three = cc
+end_not_3 ends.ReadFault three = cc
+end_not_3 ends.WriteFault three = cc
+end_not_3 (ends.TooLong len) three = cc
+end_not_3 (ends.JournalFull cost limit) three = cc
+end_not_3 ends.Memory three = cc
+end_not_3 (ends.Runaway count) three = cc
 
 asked_not_3 : (asked : Asked) (c : Configuration) (input : List ℕ) (read_failed : Bool) → (told_asked asked c input read_failed).status ≡ 3 → ⊥
 asked_not_3 (Check file) c input read_failed three = cc
 asked_not_3 (Hunt file context dest) c input read_failed three = cc
-asked_not_3 (Play file) c input read_failed three = play_not_3 (start_of c) input read_failed three
+asked_not_3 (Play file) c input read_failed three = let ended = status_ended c input read_failed 3 three in end_not_3 ended.0 ended.2
 
 document_read : (asked : Asked) (bytes : List ℕ) (read : Result Configuration DocFault) (built : Option PlanFault) (next_load : List ℕ → Option Load) (sizes0 sizes1 : ℕ) (input : List ℕ) (read_failed : Bool) →
     Tells (next_load (file_of asked)) (Got bytes) → config_of bytes ≡ read → IsBuilt (Got bytes) built sizes0 sizes1 → (told_read asked read built input read_failed).status ≡ 3 →

@@ -8,15 +8,9 @@ use Rattle.fs_vars.specs.declared.bounds.Bounds.TheVariants.{Channel}
 use Rattle.fs_vars.specs.declared.profile.Profile.{Profile}
 use Rattle.fs_chan.specs.declared.action.Action.{Action}
 use Rattle.fs_doc.specs.Dialplans.{Context}
-use Rattle.fs_doc.specs.Reading.{Configuration}
 use Rattle.fs_plan.specs.Building.{extensions_in}
 use Rattle.fs_plan.specs.Hunting.{hunted}
 use Rattle.fs_plan.specs.declared.hunt.Hunt.{Hunt}
-use Rattle.fs_top.specs.declared.start.Start.{Start}
-
--- what a switch starts from
-abbrev pub start_of : Configuration → Start
-start_of c = record { password = c.settings.password; journal_limit = c.settings.journal_limit; globals = c.globals }
 
 -- how many extensions stand in the contexts, as far as 64 bits go
 abbrev pub extensions_counted : List Context → ℕ

@@ -1,12 +1,3 @@
-pub mod Texts
-pub mod Words
-pub mod Api
-pub mod Commands
-pub mod Switch
-pub mod Journal
-pub mod Play
-pub mod Takes
-pub mod Turns
 pub mod Documents
 pub mod Told
 pub mod Runs

@@ -17,16 +17,14 @@ use Rattle.fs_doc.specs.declared.fault.DocFault.{DocFault}
 use Rattle.fs_plan.specs.Building.{IsNoPattern, patterns_in, IsRefusal, sizes_after}
 use Rattle.fs_plan.specs.declared.fault.PlanFault.{PlanFault}
 use Rattle.fs_plan.specs.declared.fault.PlanFault.TheVariants.{PatternRefused, PatternTooLarge, Memory as NoMemory}
-use Rattle.fs_top.specs.Switch.{Journal}
-use Rattle.fs_top.specs.Journal.{IsFull}
-use Rattle.fs_top.specs.Play.{play}
-use Rattle.fs_top.specs.Turns.{HasRead, Finishes, Breaks}
+use Rattle.fs_machine.specs.declared.entry.Entry.{Entry}
+use Rattle.fs_conn.specs.declared.end.End.TheVariants as ends
+use Rattle.fs_conn.specs.Play.{switch_of, played}
+use Rattle.fs_conn.specs.Turns.{HasRead, Plays}
+use Rattle.fs_conn.specs.Ends.{IsFullAt}
 use Rattle.fs_top.specs.Told.{Told, Asked, Check, Hunt, Play, file_of, told_asked, told_built, told_file, told_words, line_of_end, status_of_end, usage_line, cannot_read_line, fault_line, pattern_line, write_fault_line, memory_line}
-use Rattle.fs_top.specs.declared.start.Start.{Start}
-use Rattle.fs_top.specs.declared.end.End.TheVariants.{TooLong, JournalFull}
-use Rattle.fs_top.specs.declared.play.Fault.TheVariants.{OutOfMemory, WriteFault}
 use Rattle.fs_top.specs.declared.outcome.Outcome.{Outcome}
-use Rattle.fs_top.specs.declared.outcome.Outcome.TheVariants.{Usage, CannotRead, BadDocument, BadPattern, Printed, Ended, BrokenOff}
+use Rattle.fs_top.specs.declared.outcome.Outcome.TheVariants.{Usage, CannotRead, BadDocument, BadPattern, Printed, Ended}
 
 -- the line of an outcome, and its status
 abbrev pub line_of : Outcome → List ℕ
@@ -36,8 +34,6 @@ line_of (BadDocument fault) = fault_line fault
 line_of (BadPattern fault) = pattern_line fault
 line_of Printed = []
 line_of (Ended end) = line_of_end end
-line_of (BrokenOff OutOfMemory) = memory_line
-line_of (BrokenOff WriteFault) = write_fault_line
 
 abbrev pub status_of : Outcome → ℕ
 status_of Usage = 2
@@ -46,18 +42,15 @@ status_of (BadDocument fault) = 3
 status_of (BadPattern fault) = 3
 status_of Printed = 0
 status_of (Ended end) = status_of_end end
-status_of (BrokenOff OutOfMemory) = 1
-status_of (BrokenOff WriteFault) = 5
 
--- what playing a connection came to, over a switch that starts so
-abbrev pub PlaysTo : Start → Input → Output → Input → Output → Outcome → Type 0
-PlaysTo start in0 out0 in1 out1 Usage = ⊥
-PlaysTo start in0 out0 in1 out1 (CannotRead name) = ⊥
-PlaysTo start in0 out0 in1 out1 (BadDocument fault) = ⊥
-PlaysTo start in0 out0 in1 out1 (BadPattern fault) = ⊥
-PlaysTo start in0 out0 in1 out1 Printed = ⊥
-PlaysTo start in0 out0 in1 out1 (Ended end) = (journal : Journal) × Finishes start in0 out0 in1 out1 end journal
-PlaysTo start in0 out0 in1 out1 (BrokenOff fault) = (journal : Journal) × Breaks start in0 out0 in1 out1 fault journal
+-- what playing a connection came to, over a switch of this configuration
+abbrev pub PlaysTo : Configuration → Input → Output → Input → Output → Outcome → Type 0
+PlaysTo c in0 out0 in1 out1 Usage = ⊥
+PlaysTo c in0 out0 in1 out1 (CannotRead name) = ⊥
+PlaysTo c in0 out0 in1 out1 (BadDocument fault) = ⊥
+PlaysTo c in0 out0 in1 out1 (BadPattern fault) = ⊥
+PlaysTo c in0 out0 in1 out1 Printed = ⊥
+PlaysTo c in0 out0 in1 out1 (Ended end) = (journal : List Entry) × Plays c in0 out0 in1 out1 journal end
 
 -- all was answered as it is told
 pub record Completes (told : Told) (in1 : Input) (out0 out1 : Output) (line : List ℕ) (status : ℕ) : Type 0 where
@@ -144,11 +137,11 @@ is_memory _ = false
 
 -- the outcome where a document was not read
 abbrev pub not_read : DocFault → Outcome
-not_read fault = if is_memory fault.kind then BrokenOff OutOfMemory else BadDocument fault
+not_read fault = if is_memory fault.kind then Ended ends.Memory else BadDocument fault
 
 -- the outcome where a dialplan was not built
 abbrev pub not_built : PlanFault → Outcome
-not_built NoMemory = BrokenOff OutOfMemory
+not_built NoMemory = Ended ends.Memory
 not_built (PatternRefused extension condition) = BadPattern (PatternRefused extension condition)
 not_built (PatternTooLarge extension condition) = BadPattern (PatternTooLarge extension condition)
 
@@ -216,22 +209,30 @@ CountRose counts0 counts1 in0 in1 =
     (counts1.absences ≡ raised counts0.absences) ⊎ ((counts1.faults ≡ raised counts0.faults) ⊎ (in1.faults ≡ raised in0.faults))
 
 -- behind the blocks of the bytes that were taken stand more bytes than a block may have, and none in front of them
-pub record MeetsTooLong (start : Start) (in0 in1 : Input) : Type 0 where
+pub record MeetsTooLong (c : Configuration) (in0 in1 : Input) : Type 0 where
   pub input : List ℕ
   pub read_failed : Bool
   pub has_read : HasRead in0 in1 input read_failed
-  pub end_is : (play start input read_failed).end ≡ TooLong 65537
+  pub end_is : (played c input read_failed).end ≡ Some (ends.TooLong 65537)
   pub is_too_long : too_long (rest_of input) ≡ true
 
 -- the journal of what was taken is full behind its last entry, and was to have a further one
-pub record FillsJournal (start : Start) (in0 in1 : Input) : Type 0 where
+pub record FillsJournal (c : Configuration) (in0 in1 : Input) : Type 0 where
   pub input : List ℕ
   pub read_failed : Bool
   pub has_read : HasRead in0 in1 input read_failed
   pub cost_told : ℕ
   pub limit_told : ℕ
-  pub end_is : (play start input read_failed).end ≡ JournalFull cost_told limit_told
-  pub full : IsFull (play start input read_failed).journal cost_told limit_told
+  pub end_is : (played c input read_failed).end ≡ Some (ends.JournalFull cost_told limit_told)
+  pub full : IsFullAt cost_told limit_told (switch_of (played c input read_failed))
+  pub limit_is : limit_told ≡ c.settings.journal_limit
+
+-- channels and jobs of what was taken do not come to rest at some moment
+pub record RunsAway (c : Configuration) (in0 in1 : Input) : Type 0 where
+  pub input : List ℕ
+  pub read_failed : Bool
+  pub has_read : HasRead in0 in1 input read_failed
+  pub end_is : (played c input read_failed).end ≡ Some (ends.Runaway 100000)
 
 -- ---- completeness
 

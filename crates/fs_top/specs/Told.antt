@@ -1,7 +1,8 @@
 -- What the program answers: its output, its printed line and its status.
-use Rattle.std.specs.Prelude.{ℕ, Bool, true, false, List, [], ◌∷◌, ◌++◌, Option, None, Some, Result, Ok, Err, codes, if◌then◌else◌}
+use Rattle.std.specs.Prelude.{ℕ, Bool, true, false, List, [], ◌∷◌, ◌++◌, Option, None, Some, unwrap_or, Result, Ok, Err, codes, if◌then◌else◌}
 use Rattle.std.specs.Str.{bytes_eq}
 use Rattle.std.specs.Fmt.{decimal}
+use Rattle.std.specs.Option.{option_map}
 use Rattle.fs_ports.specs.declared.files.Load.{Load}
 use Rattle.fs_ports.specs.declared.files.Load.TheVariants.{Got, Absent, Failed}
 use Rattle.fs_doc.specs.Reading.{Configuration, config_of}
@@ -9,10 +10,10 @@ use Rattle.fs_doc.specs.Faults.{kind_name}
 use Rattle.fs_doc.specs.declared.fault.DocFault.{DocFault}
 use Rattle.fs_plan.specs.declared.fault.PlanFault.{PlanFault}
 use Rattle.fs_plan.specs.declared.fault.PlanFault.TheVariants.{PatternRefused, PatternTooLarge, Memory}
-use Rattle.fs_top.specs.Documents.{start_of, check_text, hunt_text}
-use Rattle.fs_top.specs.Play.{Played, play}
-use Rattle.fs_top.specs.declared.end.End.{End}
-use Rattle.fs_top.specs.declared.end.End.TheVariants.{Exit, AuthRefused, Eof, ReadFault, TooLong, JournalFull}
+use Rattle.fs_conn.specs.declared.end.End.{End}
+use Rattle.fs_conn.specs.declared.end.End.TheVariants as ends
+use Rattle.fs_conn.specs.Play as plays
+use Rattle.fs_top.specs.Documents.{check_text, hunt_text}
 
 -- the bytes written, the line on standard error, the status, and whether the input was read to its end
 pub record Told : Type 0 where
@@ -76,6 +77,10 @@ too_long_line len = codes "fsw: block too long " ++ decimal len ++ codes "\n"
 unfoldable pub journal_full_line : ℕ → ℕ → List ℕ
 journal_full_line cost limit = codes "fsw: journal full " ++ (decimal cost ++ (codes " " ++ (decimal limit ++ codes "\n")))
 
+-- so many entries were worked at one moment
+unfoldable pub runaway_line : ℕ → List ℕ
+runaway_line count = codes "fsw: runaway " ++ (decimal count ++ codes "\n")
+
 unfoldable pub write_fault_line : List ℕ
 write_fault_line = codes "fsw: write fault\n"
 
@@ -94,32 +99,47 @@ pattern_line Memory = memory_line
 
 -- the line of an end, and its status
 abbrev pub line_of_end : End → List ℕ
-line_of_end Exit = []
-line_of_end AuthRefused = []
-line_of_end Eof = []
-line_of_end ReadFault = read_fault_line
-line_of_end (TooLong len) = too_long_line len
-line_of_end (JournalFull cost limit) = journal_full_line cost limit
+line_of_end ends.Exit = []
+line_of_end ends.Eof = []
+line_of_end ends.AuthRefused = []
+line_of_end ends.ReadFault = read_fault_line
+line_of_end ends.WriteFault = write_fault_line
+line_of_end (ends.TooLong len) = too_long_line len
+line_of_end (ends.JournalFull cost limit) = journal_full_line cost limit
+line_of_end ends.Memory = memory_line
+line_of_end (ends.Runaway count) = runaway_line count
 
 abbrev pub status_of_end : End → ℕ
-status_of_end Exit = 0
-status_of_end AuthRefused = 0
-status_of_end Eof = 0
-status_of_end ReadFault = 4
-status_of_end (TooLong len) = 10
-status_of_end (JournalFull cost limit) = 8
+status_of_end ends.Exit = 0
+status_of_end ends.Eof = 0
+status_of_end ends.AuthRefused = 0
+status_of_end ends.ReadFault = 4
+status_of_end ends.WriteFault = 5
+status_of_end (ends.TooLong len) = 10
+status_of_end (ends.JournalFull cost limit) = 8
+status_of_end ends.Memory = 1
+status_of_end (ends.Runaway count) = 9
 
 -- the end by the end of the input
 abbrev pub is_eof : End → Bool
-is_eof Exit = false
-is_eof AuthRefused = false
-is_eof Eof = true
-is_eof ReadFault = false
-is_eof (TooLong len) = false
-is_eof (JournalFull cost limit) = false
+is_eof ends.Exit = false
+is_eof ends.Eof = true
+is_eof ends.AuthRefused = false
+is_eof ends.ReadFault = false
+is_eof ends.WriteFault = false
+is_eof (ends.TooLong len) = false
+is_eof (ends.JournalFull cost limit) = false
+is_eof ends.Memory = false
+is_eof (ends.Runaway count) = false
 
-abbrev pub told_play : Played → Told
-told_play played = record { output = played.output; line = line_of_end played.end; status = status_of_end played.end; at_end = is_eof played.end }
+-- what a play hands out, and how it ended
+abbrev pub told_play : Configuration → plays.Play → Told
+told_play c p = record {
+  output = plays.bytes_handed c p.journal;
+  line = unwrap_or (option_map line_of_end p.end) [];
+  status = unwrap_or (option_map status_of_end p.end) 0;
+  at_end = unwrap_or (option_map is_eof p.end) false;
+}
 
 -- this is printed, and nothing is read
 abbrev pub told_text : List ℕ → Told
@@ -129,7 +149,7 @@ told_text output = record { output = output; line = []; status = 0; at_end = fal
 abbrev pub told_asked : Asked → Configuration → List ℕ → Bool → Told
 told_asked (Check file) c input read_failed = told_text (check_text c.contexts)
 told_asked (Hunt file context dest) c input read_failed = told_text (hunt_text c.contexts c.globals context dest)
-told_asked (Play file) c input read_failed = told_play (play (start_of c) input read_failed)
+told_asked (Play file) c input read_failed = told_play c (plays.played c input read_failed)
 
 -- what is answered over a configuration of which a pattern was refused, or none
 abbrev pub told_built : Asked → Configuration → Option PlanFault → List ℕ → Bool → Told

@@ -4,9 +4,8 @@ ghost use Rattle.fs_ports.specs.Ports.{SendDid};
 ghost use Rattle.fs_top.specs.Told as spec;
 ghost use Rattle.fs_top.specs.Runs.{line_of};
 
-use crate::end::End;
 use crate::outcome::Outcome;
-use crate::play::Fault;
+use fs_conn::End;
 use fs_doc::DocFault;
 use fs_plan::PlanFault;
 use fs_ports::{Sent, Sink, send_all};
@@ -31,8 +30,9 @@ pub(crate) fn say<E: Sink>(err: &mut E, outcome: Outcome<'_>) -> Sent
         Outcome::Ended(End::ReadFault) => send_all(err, b"fsw: read fault\n"),
         Outcome::Ended(End::TooLong { len }) => say_too_long(err, len),
         Outcome::Ended(End::JournalFull { cost, limit }) => say_journal_full(err, cost, limit),
-        Outcome::BrokenOff(Fault::OutOfMemory) => send_all(err, b"fsw: out of memory\n"),
-        Outcome::BrokenOff(Fault::WriteFault) => send_all(err, b"fsw: write fault\n"),
+        Outcome::Ended(End::Runaway { count }) => say_runaway(err, count),
+        Outcome::Ended(End::Memory) => send_all(err, b"fsw: out of memory\n"),
+        Outcome::Ended(End::WriteFault) => send_all(err, b"fsw: write fault\n"),
     }
 }
 
@@ -139,6 +139,18 @@ fn say_journal_full<E: Sink>(err: &mut E, cost: u64, limit: u64) -> Sent
     let cost = cost_buffer.format(cost).as_bytes();
     let limit = limit_buffer.format(limit).as_bytes();
     send_parts(err, &[b"fsw: journal full ", cost, b" ", limit, b"\n"])
+}
+
+// Prints that so many entries were worked at one moment, and something was still due.
+#[tactic(auto, unfolding(crate::specs::Told::runaway_line))]
+fn say_runaway<E: Sink>(err: &mut E, count: u64) -> Sent
+    ensures { SendDid (E.output err.old) (E.output err.new) result (spec.runaway_line count) }
+{
+    let mut buffer = Buffer::new();
+    send_parts(
+        err,
+        &[b"fsw: runaway ", buffer.format(count).as_bytes(), b"\n"],
+    )
 }
 
 // Sends a line in parts, so that it needs no memory.

@@ -1,8 +1,7 @@
 ghost use Rattle.std.specs.Prelude.{◌≡◌};
 ghost use Rattle.fs_top.specs.Runs.{status_of};
 
-use crate::end::End;
-use crate::play::Fault;
+use fs_conn::End;
 use fs_doc::DocFault;
 use fs_plan::PlanFault;
 use fs_text::Txt;
@@ -20,10 +19,8 @@ pub(crate) enum Outcome<'a> {
     BadPattern(PlanFault),
     /// What was asked for was printed.
     Printed,
-    /// The connection came to its end.
+    /// A connection came to this end; or the run ended so, for want of memory or by a write that failed.
     Ended(End),
-    /// The run broke off before its end.
-    BrokenOff(Fault),
 }
 
 impl<'a> Outcome<'a> {
@@ -33,12 +30,13 @@ impl<'a> Outcome<'a> {
     {
         match self {
             Outcome::Printed | Outcome::Ended(End::Exit | End::AuthRefused | End::Eof) => 0,
-            Outcome::BrokenOff(Fault::OutOfMemory) => 1,
+            Outcome::Ended(End::Memory) => 1,
             Outcome::Usage => 2,
             Outcome::BadDocument(_) | Outcome::BadPattern(_) => 3,
             Outcome::CannotRead { .. } | Outcome::Ended(End::ReadFault) => 4,
-            Outcome::BrokenOff(Fault::WriteFault) => 5,
+            Outcome::Ended(End::WriteFault) => 5,
             Outcome::Ended(End::JournalFull { .. }) => 8,
+            Outcome::Ended(End::Runaway { .. }) => 9,
             Outcome::Ended(End::TooLong { .. }) => 10,
         }
     }

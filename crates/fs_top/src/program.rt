@@ -1,21 +1,18 @@
-ghost use Rattle.std.specs.Prelude.{◌≡◌, ◌↔◌, ◌⊎◌, None, Some, IfOk, IsTrue};
+ghost use Rattle.std.specs.Prelude.{◌≡◌, ◌↔◌, ◌⊎◌, None, Some, IsTrue};
 ghost use Rattle.fs_ports.specs.Counts as counts;
 ghost use Rattle.fs_doc.specs.Reading.{Configuration};
-ghost use Rattle.fs_doc.specs.Views.{configuration_of};
-ghost use Rattle.fs_top.specs.Switch.{begun};
 ghost use Rattle.fs_top.specs.Documents as documents;
 ghost use Rattle.fs_top.specs.Told as spec;
 ghost use Rattle.fs_top.specs.Reading.{asked_seen};
-ghost use Rattle.fs_top.specs.Runs.{PlaysTo, Answers, OverBytes, OverConfig, not_read, not_built, Runs, Ran, DoesAs, HasConfig, HasFault, HasRefusal, CountRose, FillsJournal, MeetsTooLong, IsGiven, NoneRose, DoesAll};
+ghost use Rattle.fs_top.specs.Runs.{PlaysTo, Answers, OverBytes, OverConfig, not_read, not_built, Runs, Ran, DoesAs, HasConfig, HasFault, HasRefusal, CountRose, FillsJournal, MeetsTooLong, RunsAway, IsGiven, NoneRose, DoesAll};
 
 use crate::asked::Asked;
 use crate::documents::{check_text, hunt_text};
 use crate::lines::say;
 use crate::outcome::Outcome;
-use crate::play::{Fault, play};
-use crate::start::Start;
-use crate::switch::Switch;
+use fs_conn::{End, play};
 use fs_doc::{Config, ContextDef, DocFault, DocKind, read_config};
+use fs_machine::Machine;
 use fs_plan::{Dialplan, PlanFault};
 use fs_ports::{Files, Link, Load, Sent, Sink, send_all};
 use fs_text::{Memory, Txt};
@@ -54,9 +51,11 @@ pub fn run<F: Files, L: Link, E: Sink>(
     ensures unreadable { result.code ≡ 4 → CountRose (F.counts files.old) (F.counts files.new) (L.input link.old) (L.input link.new) }
     ensures write_fault { result.code ≡ 5 → (L.output link.new).faults ≡ counts.raised (L.output link.old).faults }
     ensures full { result.code ≡ 8 → (c : Configuration) × HasConfig (spec.asked_of words.now) (F.next_load files.old) c
-        × FillsJournal (documents.start_of c) (L.input link.old) (L.input link.new) }
+        × FillsJournal c (L.input link.old) (L.input link.new) }
+    ensures runaway { result.code ≡ 9 → (c : Configuration) × HasConfig (spec.asked_of words.now) (F.next_load files.old) c
+        × RunsAway c (L.input link.old) (L.input link.new) }
     ensures too_long { result.code ≡ 10 → (c : Configuration) × HasConfig (spec.asked_of words.now) (F.next_load files.old) c
-        × MeetsTooLong (documents.start_of c) (L.input link.old) (L.input link.new) }
+        × MeetsTooLong c (L.input link.old) (L.input link.new) }
 
     // Where the file is told to be read as a configuration whose patterns have readings, and no count rose, all that is told was
     // done, or memory was wanting.
@@ -104,7 +103,7 @@ fn over_file<'a, F: Files, L: Link>(
         Ok(Load::Got(bytes)) => over_bytes(alloc, asked, bytes.as_bytes(), files, link),
         Ok(Load::Absent) => Outcome::CannotRead { name },
         Ok(Load::Failed) => Outcome::CannotRead { name },
-        Err(Memory) => Outcome::BrokenOff(Fault::OutOfMemory),
+        Err(Memory) => Outcome::Ended(End::Memory),
     }
 }
 
@@ -122,7 +121,7 @@ fn over_bytes<'a, F: Files, L: Link>(
     ensures counts { F.counts files.new ≡ F.counts files.old }
 {
     match read_config(alloc, bytes) {
-        Ok(config) => over_config(alloc, asked, &config, files, link),
+        Ok(config) => over_config(alloc, asked, config, files, link),
         Err(fault) => not_read(fault),
     }
 }
@@ -132,7 +131,7 @@ fn not_read<'a>(fault: DocFault) -> Outcome<'a>
     ensures { result ≡ not_read fault }
 {
     match fault.kind {
-        DocKind::Memory => Outcome::BrokenOff(Fault::OutOfMemory),
+        DocKind::Memory => Outcome::Ended(End::Memory),
         _ => Outcome::BadDocument(fault),
     }
 }
@@ -141,17 +140,17 @@ fn not_read<'a>(fault: DocFault) -> Outcome<'a>
 fn over_config<'a, F: Files, L: Link>(
     alloc: Global,
     asked: Asked<'a>,
-    config: &Config,
+    config: Config,
     files: &mut F,
     link: &mut L,
 ) -> Outcome<'a>
     requires { IsTrue (L.input link.old).waits }
-    ensures over { OverConfig (asked_seen asked.entry) (configuration_of config.now) (F.sizes files.old) (F.sizes files.new)
+    ensures over { OverConfig (asked_seen asked.entry) config (F.sizes files.old) (F.sizes files.new)
         (L.input link.old) (L.input link.new) (L.output link.old) (L.output link.new) result }
     ensures counts { F.counts files.new ≡ F.counts files.old }
 {
-    match Dialplan::build(alloc, config, files) {
-        Ok(plan) => over_plan(alloc, asked, config, &plan, link),
+    match Dialplan::build(alloc, &config, files) {
+        Ok(plan) => over_plan(alloc, asked, config, plan, link),
         Err(fault) => not_built(fault),
     }
 }
@@ -161,7 +160,7 @@ fn not_built<'a>(fault: PlanFault) -> Outcome<'a>
     ensures { result ≡ not_built fault }
 {
     match fault {
-        PlanFault::Memory => Outcome::BrokenOff(Fault::OutOfMemory),
+        PlanFault::Memory => Outcome::Ended(End::Memory),
         PlanFault::PatternRefused { .. } | PlanFault::PatternTooLarge { .. } => {
             Outcome::BadPattern(fault)
         }
@@ -172,26 +171,26 @@ fn not_built<'a>(fault: PlanFault) -> Outcome<'a>
 fn over_plan<'a, L: Link>(
     alloc: Global,
     asked: Asked<'a>,
-    config: &Config,
-    plan: &Dialplan,
+    config: Config,
+    plan: Dialplan,
     link: &mut L,
 ) -> Outcome<'a>
     requires waits { IsTrue (L.input link.old).waits }
-    requires built { plan.now ≡ config.now.contexts }
-    ensures { Answers (spec.told_asked (asked_seen asked.entry) (configuration_of config.now)) (Some (asked_seen asked.entry))
+    requires built { plan ≡ config.contexts }
+    ensures { Answers (spec.told_asked (asked_seen asked.entry) config) (Some (asked_seen asked.entry))
         (L.input link.old) (L.input link.new) (L.output link.old) (L.output link.new) result }
 {
     match asked {
         Asked::Check { .. } => check(alloc, config.contexts(), link),
         Asked::Hunt { context, dest, .. } => hunt(
             alloc,
-            plan,
+            &plan,
             config.globals(),
             context,
             dest,
             link,
         ),
-        Asked::Play { .. } => played(alloc, config, link),
+        Asked::Play { .. } => played(alloc, config, plan, link),
     }
 }
 
@@ -202,7 +201,7 @@ fn check<'a, L: Link>(alloc: Global, contexts: &[ContextDef<Txt>], link: &mut L)
 {
     match check_text(alloc, contexts) {
         Ok(text) => print(link, &text),
-        Err(Memory) => Outcome::BrokenOff(Fault::OutOfMemory),
+        Err(Memory) => Outcome::Ended(End::Memory),
     }
 }
 
@@ -220,7 +219,7 @@ fn hunt<'a, L: Link>(
 {
     match hunt_text(alloc, plan, globals, context, dest) {
         Ok(text) => print(link, &text),
-        Err(Memory) => Outcome::BrokenOff(Fault::OutOfMemory),
+        Err(Memory) => Outcome::Ended(End::Memory),
     }
 }
 
@@ -231,32 +230,18 @@ fn print<'a, L: Link>(link: &mut L, text: &Txt) -> Outcome<'a>
 {
     match send_all(link, text.as_bytes()) {
         Sent::All => Outcome::Printed,
-        Sent::Failed => Outcome::BrokenOff(Fault::WriteFault),
+        Sent::Failed => Outcome::Ended(End::WriteFault),
     }
 }
 
 // Plays one connection over the link, as the configuration says.
-fn played<'a, L: Link>(alloc: Global, config: &Config, link: &mut L) -> Outcome<'a>
-    requires { IsTrue (L.input link.old).waits }
-    ensures { PlaysTo (documents.start_of (configuration_of config.now)) (L.input link.old) (L.output link.old) (L.input link.new) (L.output link.new) result }
+fn played<'a, L: Link>(alloc: Global, config: Config, plan: Dialplan, link: &mut L) -> Outcome<'a>
+    requires waits { IsTrue (L.input link.old).waits }
+    requires built { plan ≡ config.contexts }
+    ensures { PlaysTo config (L.input link.old) (L.output link.old) (L.input link.new) (L.output link.new) result }
 {
-    let Ok(mut switch) = started(alloc, config) else {
-        return Outcome::BrokenOff(Fault::OutOfMemory);
-    };
-    match play(alloc, &mut switch, link) {
-        Ok(end) => Outcome::Ended(end),
-        Err(fault) => Outcome::BrokenOff(fault),
+    match Machine::new(alloc, config, plan) {
+        Ok(mut machine) => Outcome::Ended(play(alloc, &mut machine, link)),
+        Err(Memory) => Outcome::Ended(End::Memory),
     }
-}
-
-// A switch as the configuration says that it starts.
-fn started(alloc: Global, config: &Config) -> Result<Switch, Memory>
-    ensures { IfOk result (λ switch. switch ≡ begun (documents.start_of (configuration_of config.now))) }
-{
-    let start = Start {
-        password: config.settings().password.copy()?,
-        journal_limit: config.settings().journal_limit,
-        globals: config.globals().copy()?,
-    };
-    Switch::new(alloc, start)
 }

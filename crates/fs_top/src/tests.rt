@@ -1,19 +1,15 @@
+mod calls;
 mod documents;
 
-use crate::refusal::Refusal;
 use crate::run;
-use crate::start::Start;
-use crate::switch::Switch;
-use fs_frame::{Blocks, Next};
 use fs_ports::{MemFiles, MemLink};
 use fs_text::{Memory, Txt};
-use fs_vars::{Bounds, Vars};
 use std::alloc::Global;
 use std::test::Fail;
 
-const REQUEST: &str = "Content-Type: auth/request\n\n";
+pub(crate) const REQUEST: &str = "Content-Type: auth/request\n\n";
 
-const ACCEPTED: &str = "Content-Type: command/reply\nReply-Text: +OK accepted\n\n";
+pub(crate) const ACCEPTED: &str = "Content-Type: command/reply\nReply-Text: +OK accepted\n\n";
 
 const HI: &str = "Content-Type: api/response\nContent-Length: 2\n\nhi";
 
@@ -429,47 +425,5 @@ fn a_document_limits_the_journal(rt: HostRuntime) -> Result<(), Fail> {
         b"fsw: journal full 985166 1048576\n".as_slice()
     );
     assert_eq!(rt; full.output.as_bytes().len(), 28 + 54 + 14 * (50 + 65_525));
-    Ok(())
-}
-
-// Why the command of the next block of a stream is refused, if it is.
-fn refusal_of(
-    switch: &mut Switch,
-    blocks: &mut Blocks,
-    piece: &[u8],
-) -> Result<Option<Refusal>, Memory> {
-    blocks.feed(piece)?;
-    match blocks.next_block() {
-        Next::Block(block) => Ok(switch.command(&block).err()),
-        Next::NeedMore | Next::TooLong { .. } => Ok(None),
-    }
-}
-
-fn start(alloc: Global) -> Result<Start, Memory> {
-    Ok(Start {
-        password: text(alloc, &["ClueCon"])?,
-        journal_limit: 67_108_864,
-        globals: Vars::new(alloc, Bounds::Globals)?,
-    })
-}
-
-#[test]
-fn a_full_journal_refuses_again(rt: HostRuntime) -> Result<(), Fail> {
-    let alloc = rt.alloc();
-    let mut block = Vec::new(alloc);
-    push_block(&mut block, "", 65_534)?;
-    let mut switch = Switch::new(alloc, start(alloc)?)?;
-    assert!(rt; switch.arrive().is_ok());
-    let mut blocks = Blocks::new(alloc)?;
-    for _ in 0..1_023 {
-        assert_eq!(rt; refusal_of(&mut switch, &mut blocks, &block)?, None);
-    }
-    let full = Refusal::JournalFull {
-        cost: 67_108_864,
-        limit: 67_108_864,
-    };
-    for _ in 0..3 {
-        assert_eq!(rt; refusal_of(&mut switch, &mut blocks, &block)?, Some(full));
-    }
     Ok(())
 }

@@ -256,7 +256,7 @@ fn push_actions(
 }
 
 // A document with a global, and one context with an extension for each number.
-fn numbered(alloc: Global) -> Result<Vec<u8>, Memory> {
+pub(crate) fn numbered(alloc: Global) -> Result<Vec<u8>, Memory> {
     let mut text = Vec::new(alloc);
     text.extend_from_slice(
         b"<document><X-PRE-PROCESS cmd='set' data='x=1234567890'/><section name='dialplan'><context name='default'>",

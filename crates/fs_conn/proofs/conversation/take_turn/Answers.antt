@@ -23,7 +23,7 @@ returns-in_err-command-in-Block-clause-turns g c =
     let block = bytes_of c.in-Block.block in
     let hands_out = subst (λ (s : Stream). HandsOut c.args.blocks.now s block) (sym c.next_block.follows.holds-at-none) c.in-Block.ensures.answer in
     λ config in0 out0 stands. rw (p.1, p.2)
-    (stops_command config in0 _ out0 _ _ _ _ (play_of c.args.machine.now c.args.clock.now) (play_of c.command.new.machine c.args.clock.now) block stands hands_out reading.reads did.does did.output did.unwritten)
+    (stops_command config in0 _ out0 _ _ _ _ (play_of c.args.machine.now c.args.clock.now) (play_of c.command.new.machine c.args.clock.now) block stands hands_out reading.takes did.does did.output did.unwritten)
 
 pub returns-in_err-follow-in-Block-clause-turns : goal.returns-in_err-follow-in-Block-clause-turns
 returns-in_err-follow-in-Block-clause-turns g c =
@@ -35,7 +35,7 @@ returns-in_err-follow-in-Block-clause-turns g c =
     let old = play_of c.args.machine.now c.args.clock.now in
     let mid = play_of c.command.new.machine c.args.clock.now in
     λ config in0 out0 stands. rw (p.1, p.2, c.follow.ensures.input)
-    (stops_following config in0 _ out0 _ _ _ _ _ old mid (play_of c.follow.new.machine c.follow.new.clock) block stands hands_out reading.reads did.does
+    (stops_following config in0 _ out0 _ _ _ _ _ old mid (play_of c.follow.new.machine c.follow.new.clock) block stands hands_out reading.takes did.does
     c.in_err-follow-in-Block.ensures.does (c.in_err-follow-in-Block.ensures.sends out0 (written_same out0 _ old mid did.output stands.written)))
 
 pub returns-in_err-fill-in-NeedMore-clause-turns : goal.returns-in_err-fill-in-NeedMore-clause-turns
@@ -54,7 +54,7 @@ returns-in_ok-follow-in-Block-clause-turns g c =
     let mid = play_of c.command.new.machine c.args.clock.now in
     let later = c.in_ok-follow-in-Block.ensures in
     λ config in0 out0 stands. rw c.follow.ensures.input
-    (goes_on_behind config in0 _ out0 _ _ _ _ old mid (play_of c.follow.new.machine c.follow.new.clock) block stands hands_out reading.reads
+    (goes_on_behind config in0 _ out0 _ _ _ _ old mid (play_of c.follow.new.machine c.follow.new.clock) block stands hands_out reading.takes
     did.does later.does (later.sends out0 (written_same out0 _ old mid did.output stands.written)))
 
 pub returns-in_ok-follow-in-Block-clause-falls : goal.returns-in_ok-follow-in-Block-clause-falls

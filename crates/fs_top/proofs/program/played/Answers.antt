@@ -1,8 +1,8 @@
-use Rattle.fs_doc.specs.Views.{configuration_of}
-use Rattle.fs_top.specs.Switch.{begun}
-use Rattle.fs_top.specs.Documents.{start_of}
-use Rattle.fs_top.proofs.EndLaws.{breaks_first}
+use Rattle.fs_top.proofs.RunLaws.{plays_none}
 use Rattle.fs_top.proofs.program.played.Goals as goal
 
-pub returns-in_default : goal.returns-in_default
-returns-in_default g c = let start = start_of (configuration_of c.args.config.now) in (begun start, breaks_first start _ _)
+pub returns-in-Ok : goal.returns-in-Ok
+returns-in-Ok g c = (_, rw (c.in-Ok.ensures.config) at c.play.ensures.plays)
+
+pub returns-in-Err : goal.returns-in-Err
+returns-in-Err g c = plays_none c.args.config _ _

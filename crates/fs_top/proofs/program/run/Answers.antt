@@ -1,5 +1,5 @@
 use Rattle.std.proofs.Common.{sym, ◌∙◌}
-use Rattle.fs_top.proofs.RunLaws.{ran, cause_document, cause_unreadable, cause_full, cause_too_long}
+use Rattle.fs_top.proofs.RunLaws.{ran, cause_document, cause_unreadable, cause_write, cause_full, cause_away, cause_too_long}
 use Rattle.fs_top.proofs.CompleteLaws.{complete}
 use Rattle.fs_top.proofs.program.run.Goals as goal
 
@@ -12,8 +12,14 @@ returns-clause-document g c = λ three. cause_document _ _ _ _ _ _ _ _ _ _ _ c.c
 pub returns-clause-unreadable : goal.returns-clause-unreadable
 returns-clause-unreadable g c = λ four. cause_unreadable _ _ _ _ _ _ _ _ _ _ _ c.conduct-outcome.ensures (sym c.status.ensures ∙ four)
 
+pub returns-clause-write_fault : goal.returns-clause-write_fault
+returns-clause-write_fault g c = λ five. cause_write _ _ _ _ _ _ _ _ _ _ _ c.conduct-outcome.ensures (sym c.status.ensures ∙ five)
+
 pub returns-clause-full : goal.returns-clause-full
 returns-clause-full g c = λ eight. cause_full _ _ _ _ _ _ _ _ _ _ _ c.conduct-outcome.ensures (sym c.status.ensures ∙ eight)
+
+pub returns-clause-runaway : goal.returns-clause-runaway
+returns-clause-runaway g c = λ nine. cause_away _ _ _ _ _ _ _ _ _ _ _ c.conduct-outcome.ensures (sym c.status.ensures ∙ nine)
 
 pub returns-clause-too_long : goal.returns-clause-too_long
 returns-clause-too_long g c = λ ten. cause_too_long _ _ _ _ _ _ _ _ _ _ _ c.conduct-outcome.ensures (sym c.status.ensures ∙ ten)

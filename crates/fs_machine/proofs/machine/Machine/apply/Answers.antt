@@ -16,7 +16,7 @@ invariant_of-self c =
     let done = c.apply.ensures ∙ ap (λ cost. closed cost (after c.self.inside.core c.args.change.delta)) c.cost.ensures.exact in
     let P : View → Type 0 = λ view. IsPrepared (state_of view) entry c.args.change.delta c.args.change.reply in
     rw (done, pushed)
-    (stands_more c.self.inside.core c.self.inside.journal.items entry c.args.change.delta c.args.change.reply c.self.invariant.0 (subst P (sym c.self.view_is) c.requires.prepared), c.self.invariant.1)
+    (stands_more c.self.inside.core c.self.inside.journal.items entry c.args.change.delta c.args.change.reply c.self.invariant.0 (subst P (sym c.self.view_is) c.requires.prepared), c.self.invariant.1, c.self.invariant.2)
 
 pub returns-clause-cost : goal.returns-clause-cost
 returns-clause-cost c =

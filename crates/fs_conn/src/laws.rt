@@ -1,0 +1,45 @@
+//! What holds of every play. These functions do nothing: each stands for its contract.
+
+ghost use Rattle.std.specs.Prelude.{◌≡◌, ℕ, ◌≤◌, Bool, false, List, ◌++◌, Some};
+ghost use Rattle.std.specs.List.{concat};
+ghost use Rattle.fs_doc.specs.Reading.{Configuration};
+ghost use Rattle.fs_frame.specs.Block.{too_long};
+ghost use Rattle.fs_frame.specs.Blocks.{blocks_of, rest_of};
+ghost use Rattle.fs_state.specs.Switch.{empty};
+ghost use Rattle.fs_machine.specs.Runs.{IsRunFrom};
+ghost use Rattle.fs_machine.specs.Frames.{commands_of, frames_from};
+ghost use Rattle.fs_conn.specs.declared.end.End.{End};
+ghost use Rattle.fs_conn.specs.Play.{switch_of, bytes_handed, played};
+ghost use Rattle.fs_conn.specs.Steps.{is_early};
+ghost use Rattle.fs_conn.specs.Ends.{HasCause};
+
+/// The journal of a play is a run of the machine from the empty switch: no entry of it is refused, in particular none
+/// comes where the journal is full.
+pub fn plays_a_run()
+    ensures { (config : Configuration) (input : List ℕ) (read_failed : Bool) → IsRunFrom (empty config) (played config input read_failed).journal }
+{}
+
+/// The commands in the journal of a play are the first blocks of its input, each once and in their order.
+pub fn enters_commands_once()
+    ensures { (config : Configuration) (input : List ℕ) (read_failed : Bool) → (more : List (List ℕ))
+        × (blocks_of input ≡ commands_of 1 (played config input read_failed).journal ++ more) }
+{}
+
+/// A play comes to an end, and each end has its cause. So a play ends by a full journal only where no further entry
+/// is accepted behind what its journal costs.
+pub fn ends_for_a_cause()
+    ensures ends { (config : Configuration) (input : List ℕ) (read_failed : Bool) → (end : End) × ((played config input read_failed).end ≡ Some end) }
+    ensures cause { (config : Configuration) (input : List ℕ) (read_failed : Bool) (end : End) → (played config input read_failed).end ≡ Some end
+        → HasCause end (switch_of (played config input read_failed)) (too_long (rest_of input)) read_failed }
+{}
+
+/// The bytes that a play hands out are those of the frames that its journal gives the connection, in their order: all of
+/// them, or the first of them where the journal is full or the play ran away. The limit of a journal is at most 2^30 in
+/// every configuration.
+pub fn hands_out_its_frames()
+    ensures first { (config : Configuration) (input : List ℕ) (read_failed : Bool) → config.settings.journal_limit ≤ 1073741824 → (more : List ℕ)
+        × (concat (frames_from 1 (empty config) (played config input read_failed).journal) ≡ bytes_handed config (played config input read_failed).journal ++ more) }
+    ensures all { (config : Configuration) (input : List ℕ) (read_failed : Bool) (end : End) → config.settings.journal_limit ≤ 1073741824
+        → (played config input read_failed).end ≡ Some end → is_early end ≡ false
+        → bytes_handed config (played config input read_failed).journal ≡ concat (frames_from 1 (empty config) (played config input read_failed).journal) }
+{}

@@ -1,0 +1,207 @@
+-- Behind the entries of a run the connections and their queues fit together.
+use Rattle.std.proofs.Common.{◌≡◌, ℕ, zero, suc, ◌+◌, ◌*◌, ◌-◌, ◌^◌, ◌<◌, ◌≤◌, min, Bool, true, false, List, [], ◌∷◌, length, replicate, get_or, Option, None, refl, sym, ap, subst, ◌∙◌, arith}
+use Rattle.std.proofs.lemmas.Bool.{both_ways, ltb-false}
+use Rattle.std.proofs.lemmas.List.{length-replicate}
+use Rattle.fs_frame.specs.Block.{line_of}
+use Rattle.fs_doc.specs.Reading.{Configuration}
+use Rattle.fs_places.specs.declared.numbered.Numbered.{Numbered}
+use Rattle.fs_places.specs.Places.{no_places, held_in}
+use Rattle.fs_places.specs.Rows.{has_number, place_of}
+use Rattle.fs_state.specs.declared.conn.Conn.{Conn}
+use Rattle.fs_state.specs.declared.conn.Parting.TheVariants as parting
+use Rattle.fs_state.specs.Queues.{Frames, queue_at, no_queues}
+use Rattle.fs_state.specs.Switch.{Switch, empty, waiting_at, waiting_for, advanced, closed}
+use Rattle.fs_machine.specs.declared.entry.Entry.{Entry}
+use Rattle.fs_machine.specs.declared.entry.Act.{Act}
+use Rattle.fs_machine.specs.declared.entry.Act.TheVariants.{Arrive, Command, Take, Close, Work, Job}
+use Rattle.fs_machine.specs.declared.entry.Closing.TheVariants.{EndOfInput, Sent, Failed}
+use Rattle.fs_machine.specs.declared.refusal.Refusal.{Refusal}
+use Rattle.fs_machine.specs.declared.refusal.Refusal.TheVariants as refusal
+use Rattle.fs_machine.specs.Entries.{cost_of, is_full}
+use Rattle.fs_machine.specs.Connections.{conn_changed, parted}
+use Rattle.fs_machine.specs.Work.{worked}
+use Rattle.fs_machine.specs.Jobs.{job_done}
+use Rattle.fs_machine.specs.Commands.{command_of, commanded}
+use Rattle.fs_machine.specs.Step.{refused_where, refused_act, refusal_of, acted, step}
+use Rattle.fs_machine.specs.Runs.{run_from, IsRunFrom}
+use Rattle.fs_machine.proofs.RowLemmas.{nowhere}
+use Rattle.fs_machine.proofs.SocketLemmas.{worked_same}
+use Rattle.fs_machine.proofs.KeepLemmas.{is_shut, Keeps, keeps_same, parted_keeps, commanded_keeps, job_done_keeps}
+use Rattle.fs_machine.proofs.WaitingLemmas.{Ordered, keeps_ordered, keeps_place, closed_ordered, taken_ordered, without_ordered, arrived_ordered, arrived_gone, without_gone}
+use Rattle.fs_machine.proofs.FrameLemmas.{some_cost}
+
+-- ---- what each act keeps
+
+-- a channel that works keeps the connections
+pub work_keeps : (slot : ℕ) (s : Switch) → Keeps s (worked slot s)
+work_keeps slot s = keeps_same s (worked slot s) (worked_same slot s)
+
+-- the connections that there are, and their queues
+pub acted_ordered : (act : Act) (s : Switch) → Ordered s → s.drawn.conns < 2 ^ 32 - 1 → Ordered (acted act s).state
+acted_ordered Arrive s ordered room = arrived_ordered s ordered room
+acted_ordered (Command conn block) s ordered room =
+    keeps_ordered s (commanded conn (command_of (line_of block)) s) (commanded_keeps conn (command_of (line_of block)) s) ordered
+acted_ordered (Take conn) s ordered room = taken_ordered conn s ordered
+acted_ordered (Close conn EndOfInput) s ordered room = keeps_ordered s (conn_changed (parted parting.EndOfInput) conn s) (parted_keeps parting.EndOfInput conn s) ordered
+acted_ordered (Close conn Sent) s ordered room = without_ordered conn s ordered
+acted_ordered (Close conn Failed) s ordered room = without_ordered conn s ordered
+acted_ordered (Work slot) s ordered room = keeps_ordered s (worked slot s) (work_keeps slot s) ordered
+acted_ordered (Job number) s ordered room = keeps_ordered s (job_done number s) (job_done_keeps number s) ordered
+
+-- no act pays by itself, nor changes what the switch was configured by
+pub acted_cost : (act : Act) (s : Switch) → (acted act s).state.cost ≡ s.cost
+acted_cost Arrive s = refl
+acted_cost (Command conn block) s = (commanded_keeps conn (command_of (line_of block)) s).cost
+acted_cost (Take conn) s = refl
+acted_cost (Close conn EndOfInput) s = (parted_keeps parting.EndOfInput conn s).cost
+acted_cost (Close conn Sent) s = refl
+acted_cost (Close conn Failed) s = refl
+acted_cost (Work slot) s = (work_keeps slot s).cost
+acted_cost (Job number) s = (job_done_keeps number s).cost
+
+pub acted_config : (act : Act) (s : Switch) → (acted act s).state.config ≡ s.config
+acted_config Arrive s = refl
+acted_config (Command conn block) s = (commanded_keeps conn (command_of (line_of block)) s).config
+acted_config (Take conn) s = refl
+acted_config (Close conn EndOfInput) s = (parted_keeps parting.EndOfInput conn s).config
+acted_config (Close conn Sent) s = refl
+acted_config (Close conn Failed) s = refl
+acted_config (Work slot) s = (work_keeps slot s).config
+acted_config (Job number) s = (job_done_keeps number s).config
+
+-- at most one number more is drawn
+abbrev pub IsNext : ℕ → ℕ → Type 0
+IsNext drawn later = (drawn ≤ later) × (later ≤ drawn + 1)
+
+next_same : (drawn later : ℕ) → later ≡ drawn → IsNext drawn later
+next_same drawn later same = (omega (arith, same), omega (arith, same))
+
+next_more : (drawn : ℕ) → drawn < 2 ^ 32 - 1 → IsNext drawn (min (drawn + 1) (2 ^ 32 - 1))
+next_more drawn room = (omega (arith, room), omega arith)
+
+pub acted_drawn : (act : Act) (s : Switch) → s.drawn.conns < 2 ^ 32 - 1 → IsNext s.drawn.conns (acted act s).state.drawn.conns
+acted_drawn Arrive s room = next_more s.drawn.conns room
+acted_drawn (Command conn block) s room =
+    next_same s.drawn.conns (commanded conn (command_of (line_of block)) s).drawn.conns (commanded_keeps conn (command_of (line_of block)) s).drawn
+acted_drawn (Take conn) s room = next_same s.drawn.conns s.drawn.conns refl
+acted_drawn (Close conn EndOfInput) s room =
+    next_same s.drawn.conns (conn_changed (parted parting.EndOfInput) conn s).drawn.conns (parted_keeps parting.EndOfInput conn s).drawn
+acted_drawn (Close conn Sent) s room = next_same s.drawn.conns s.drawn.conns refl
+acted_drawn (Close conn Failed) s room = next_same s.drawn.conns s.drawn.conns refl
+acted_drawn (Work slot) s room = next_same s.drawn.conns (worked slot s).drawn.conns (work_keeps slot s).drawn
+acted_drawn (Job number) s room = next_same s.drawn.conns (job_done number s).drawn.conns (job_done_keeps number s).drawn
+
+-- a connection that had its number and is gone stays so
+pub acted_gone : (act : Act) (s : Switch) (conn : ℕ) → Ordered s → s.drawn.conns < 2 ^ 32 - 1 → place_of s.conns conn ≡ None → conn ≤ s.drawn.conns →
+    place_of (acted act s).state.conns conn ≡ None
+acted_gone Arrive s conn ordered room none below = arrived_gone s conn room none below
+acted_gone (Command giver block) s conn ordered room none below =
+    keeps_place s (commanded giver (command_of (line_of block)) s) (commanded_keeps giver (command_of (line_of block)) s) conn ∙ none
+acted_gone (Take taker) s conn ordered room none below = none
+acted_gone (Close gone EndOfInput) s conn ordered room none below =
+    keeps_place s (conn_changed (parted parting.EndOfInput) gone s) (parted_keeps parting.EndOfInput gone s) conn ∙ none
+acted_gone (Close gone Sent) s conn ordered room none below = without_gone gone s conn ordered none
+acted_gone (Close gone Failed) s conn ordered room none below = without_gone gone s conn ordered none
+acted_gone (Work slot) s conn ordered room none below = keeps_place s (worked slot s) (work_keeps slot s) conn ∙ none
+acted_gone (Job number) s conn ordered room none below = keeps_place s (job_done number s) (job_done_keeps number s) conn ∙ none
+
+-- ---- refusals
+
+-- without a refusal its test fails, and no other refusal follows
+pub none_refused : (test : Bool) (why : Refusal) (otherwise : Option Refusal) → refused_where test why otherwise ≡ None → (test ≡ false) × (otherwise ≡ None)
+none_refused true why otherwise none = absurd (cc)
+none_refused false why otherwise none = (refl, none)
+
+-- an entry that is not refused came where the journal was not full, and its act is not refused
+pub not_full : (s : Switch) (entry : Entry) → refusal_of s entry ≡ None → is_full s ≡ false
+unfolding refusal_of
+not_full s entry none = (none_refused (is_full s) (refusal.JournalFull s.cost s.config.settings.journal_limit) (refused_act entry.act (advanced entry.moment s)) none).0
+
+pub not_refused : (s : Switch) (entry : Entry) → refusal_of s entry ≡ None → refused_act entry.act (advanced entry.moment s) ≡ None
+unfolding refusal_of
+not_refused s entry none = (none_refused (is_full s) (refusal.JournalFull s.cost s.config.settings.journal_limit) (refused_act entry.act (advanced entry.moment s)) none).1
+
+-- ---- between entries
+
+-- a switch between the entries of a run, whose journal is short enough for each connection to have a number of its own
+pub record Orderly (s : Switch) : Type 0 where
+  pub ordered : Ordered s
+  pub given : s.given ≡ []
+  pub paid : 64 * s.drawn.conns ≤ s.cost
+  pub limit : s.config.settings.journal_limit ≤ 1073741824
+
+-- further numbers can be drawn
+pub room_left : (s : Switch) → Orderly s → is_full s ≡ false → s.drawn.conns < 2 ^ 32 - 1
+room_left s orderly below =
+    omega (arith, orderly.paid, orderly.limit, ltb-false s.config.settings.journal_limit (s.cost + 65600) below)
+
+-- the clock is no matter of connections
+pub advanced_ordered : (now : ℕ) (s : Switch) → Ordered s → Ordered (advanced now s)
+advanced_ordered now s ordered = keeps_ordered s (advanced now s) (keeps_same s (advanced now s) refl) ordered
+
+pub advanced_orderly : (now : ℕ) (s : Switch) → Orderly s → Orderly (advanced now s)
+advanced_orderly now s orderly = record { ordered = advanced_ordered now s orderly.ordered; given = orderly.given; paid = orderly.paid; limit = orderly.limit }
+
+-- the number that is drawn next is paid for by the cost of an entry
+paid_more : (drawn later cost spent limit : ℕ) → later ≤ drawn + 1 → 64 * drawn ≤ cost → cost + 65600 ≤ limit → limit ≤ 1073741824 → 64 ≤ spent →
+    64 * later ≤ min (cost + spent) (2 ^ 64 - 1)
+paid_more drawn later cost spent limit next paid below small some = omega (arith, next, paid, below, small, some)
+
+act_orderly : (act : Act) (s : Switch) → Orderly s → is_full s ≡ false → Orderly (closed (cost_of act) (acted act s).state)
+act_orderly act s orderly below = record {
+  ordered = closed_ordered (cost_of act) (acted act s).state (acted_ordered act s orderly.ordered (room_left s orderly below));
+  given = refl;
+  paid = subst (λ cost. 64 * (acted act s).state.drawn.conns ≤ min (cost + cost_of act) (2 ^ 64 - 1)) (sym (acted_cost act s))
+      (paid_more s.drawn.conns (acted act s).state.drawn.conns s.cost (cost_of act) s.config.settings.journal_limit (acted_drawn act s (room_left s orderly below)).1 orderly.paid
+      (ltb-false s.config.settings.journal_limit (s.cost + 65600) below) orderly.limit (some_cost act));
+  limit = subst (λ (config : Configuration). config.settings.journal_limit ≤ 1073741824) (sym (acted_config act s)) orderly.limit;
+}
+
+-- so it stays from entry to entry
+pub entry_orderly : (s : Switch) (entry : Entry) → Orderly s → refusal_of s entry ≡ None → Orderly (step s entry).state
+unfolding step
+entry_orderly s entry orderly none = act_orderly entry.act (advanced entry.moment s) (advanced_orderly entry.moment s orderly) (not_full s entry none)
+
+pub run_orderly : (s : Switch) (entries : List Entry) → Orderly s → IsRunFrom s entries → Orderly (run_from s entries)
+run_orderly s [] orderly run = orderly
+run_orderly s (entry ∷ entries) orderly run = run_orderly (step s entry).state entries (entry_orderly s entry orderly run.0) run.1
+
+-- ---- the empty switch
+
+-- what is repeated stands at each place
+all_alike : {A : Type 0} → (count place : ℕ) (a : A) → get_or (replicate count a) place a ≡ a
+all_alike zero place a = refl
+all_alike (suc count) zero a = refl
+all_alike (suc count) (suc place) a = all_alike count place a
+
+none_held : (T : Type 0) (count place : ℕ) → held_in (no_places {T = T} count) place ≡ None
+unfolding no_places
+none_held T count place = all_alike {A = Option T} count place None
+
+none_waits : (count place : ℕ) → queue_at (no_queues count) place ≡ []
+unfolding no_queues
+none_waits count place = all_alike {A = Frames} count place []
+
+-- there are as many queues as places
+as_many : (T : Type 0) (count : ℕ) → length (no_queues count) ≡ length (no_places {T = T} count)
+unfolding no_queues no_places
+as_many T count = length-replicate {A = Frames} count [] ∙ sym (length-replicate {A = Option T} count None)
+
+-- no connection is there
+pub empty_nowhere : (config : Configuration) (conn : ℕ) → place_of (empty config).conns conn ≡ None
+empty_nowhere config conn = nowhere (empty config).conns conn (λ place. ap (has_number conn) (none_held (Numbered Conn) config.settings.max_connections place))
+
+pub empty_waits : (config : Configuration) (conn : ℕ) → waiting_for (empty config) conn ≡ []
+empty_waits config conn = ap (waiting_at (empty config).queues) (empty_nowhere config conn)
+
+empty_ordered : (config : Configuration) → Ordered (empty config)
+empty_ordered config = record {
+  distinct = λ number p q first second. absurd (both_ways (has_number number (held_in (empty config).conns p)) (ap (has_number number) (none_held (Numbered Conn) config.settings.max_connections p)) first);
+  within = λ number place stands. absurd (both_ways (has_number number (held_in (empty config).conns place)) (ap (has_number number) (none_held (Numbered Conn) config.settings.max_connections place)) stands);
+  opened = λ place. ap is_shut (none_held (Numbered Conn) config.settings.max_connections place);
+  places = as_many (Numbered Conn) config.settings.max_connections;
+  quiet = λ place free. none_waits config.settings.max_connections place;
+}
+
+pub empty_orderly : (config : Configuration) → config.settings.journal_limit ≤ 1073741824 → Orderly (empty config)
+empty_orderly config limit = record { ordered = empty_ordered config; given = refl; paid = omega arith; limit = limit }

@@ -1,0 +1,133 @@
+-- What is known of connections, of the jobs that owe them replies, and of the originations that these try.
+use Rattle.std.proofs.Common.{◌≡◌, ◌≢◌, ℕ, ◌+◌, ◌*◌, ◌^◌, ◌<◌, ◌≤◌, List, length, Option, None, Some}
+use Rattle.std.specs.List.{sum_by}
+use Rattle.fs_places.specs.declared.numbered.Numbered.{Numbered}
+use Rattle.fs_places.specs.Places.{held_in}
+use Rattle.fs_state.specs.declared.conn.Conn.{Conn}
+use Rattle.fs_state.specs.declared.job.Job.{Job}
+use Rattle.fs_state.specs.declared.job.JobWork.{JobWork}
+use Rattle.fs_state.specs.declared.job.JobWork.TheVariants.{Sleep, Originate}
+use Rattle.fs_state.specs.Switch.{Switch}
+use Rattle.fs_machine.specs.Owed.{Parts}
+use Rattle.fs_machine.proofs.TableLemmas.{numbers_in, one_if, taken_in}
+
+abbrev pub Conns : Type 0
+Conns = List (Option (Numbered Conn))
+
+abbrev pub Jobs : Type 0
+Jobs = List (Option (Numbered Job))
+
+-- what of a switch the replies that are owed depend on; of originations that is their numbers alone
+pub record Books : Type 0 where
+  pub conns : Conns
+  pub jobs : Jobs
+  pub origs : List (Option ℕ)
+  pub conns_drawn : ℕ
+  pub jobs_drawn : ℕ
+  pub origs_drawn : ℕ
+  pub cost : ℕ
+  pub limit : ℕ
+
+abbrev pub books_of : Switch → Books
+books_of s = record {
+  conns = s.conns;
+  jobs = s.jobs;
+  origs = numbers_in s.origs;
+  conns_drawn = s.drawn.conns;
+  jobs_drawn = s.drawn.jobs;
+  origs_drawn = s.drawn.origs;
+  cost = s.cost;
+  limit = s.config.settings.journal_limit;
+}
+
+-- ---- connections
+
+-- each thing has a number of its own that was drawn
+pub record Numbers {T : Type 0} (rows : List (Option (Numbered T))) (drawn : ℕ) : Type 0 where
+  pub apart : (p q : ℕ) (a c : Numbered T) → held_in rows p ≡ Some a → held_in rows q ≡ Some c → a.number ≡ c.number → p ≡ q
+  pub within : (p : ℕ) (a : Numbered T) → held_in rows p ≡ Some a → a.number ≤ drawn
+
+-- each connection parts as its phase says
+abbrev pub PartEach : Conns → Type 0
+PartEach conns = (p : ℕ) (a : Numbered Conn) → held_in conns p ≡ Some a → Parts a.held
+
+-- ---- jobs and the connections that they are for
+
+abbrev pub HasJob : Jobs → ℕ → Type 0
+HasJob jobs conn = (q : ℕ) × (job : Numbered Job) × (held_in jobs q ≡ Some job) × (job.held.conn ≡ conn)
+
+-- a reply that is owed has one job, and the connection of a job is owed a reply, if it is still there
+pub record Owes (conns : Conns) (jobs : Jobs) (drawn : ℕ) : Type 0 where
+  pub owed : (p : ℕ) (a : Numbered Conn) (since : ℕ) → held_in conns p ≡ Some a → a.held.owed ≡ Some since → HasJob jobs a.number
+  pub owes : (q : ℕ) (job : Numbered Job) (p : ℕ) (a : Numbered Conn) → held_in jobs q ≡ Some job → held_in conns p ≡ Some a → a.number ≡ job.held.conn → a.held.owed ≢ None
+  pub alone : (q r : ℕ) (a c : Numbered Job) → held_in jobs q ≡ Some a → held_in jobs r ≡ Some c → a.held.conn ≡ c.held.conn → q ≡ r
+  pub within : (q : ℕ) (job : Numbered Job) → held_in jobs q ≡ Some job → job.held.conn ≤ drawn
+
+-- connections and jobs as they must be
+pub record Linked (conns : Conns) (jobs : Jobs) (drawn jobs_drawn : ℕ) : Type 0 where
+  pub numbers : Numbers conns drawn
+  pub parts : PartEach conns
+  pub job_numbers : Numbers jobs jobs_drawn
+  pub owes : Owes conns jobs drawn
+
+-- ---- jobs and the originations that they try
+
+-- the origination that is tried, if it is one
+abbrev pub tried_by : JobWork → Option ℕ
+tried_by (Sleep until) = None
+tried_by (Originate orig winner) = Some orig
+
+abbrev pub tried_in : Option (Numbered Job) → Option ℕ
+tried_in None = None
+tried_in (Some job) = tried_by job.held.work
+
+abbrev pub tries : Option (Numbered Job) → ℕ
+tries held = one_if (tried_in held)
+
+abbrev pub trying_in : Jobs → ℕ
+trying_in jobs = sum_by tries jobs
+
+abbrev pub HasNumber : List (Option ℕ) → ℕ → Type 0
+HasNumber origs number = (p : ℕ) × (held_in origs p ≡ Some number)
+
+-- what a job tries is there, is tried by no other job, and has a number that was drawn; there is no more than is tried, so there is always
+-- a place for one more
+pub record Tries (jobs : Jobs) (origs : List (Option ℕ)) (drawn : ℕ) : Type 0 where
+  pub there : (q : ℕ) (job : Numbered Job) (number : ℕ) → held_in jobs q ≡ Some job → tried_by job.held.work ≡ Some number → HasNumber origs number
+  pub alone : (q r : ℕ) (a c : Numbered Job) (number : ℕ) → held_in jobs q ≡ Some a → held_in jobs r ≡ Some c → tried_by a.held.work ≡ Some number → tried_by c.held.work ≡ Some number → q ≡ r
+  pub within : (p number : ℕ) → held_in origs p ≡ Some number → number ≤ drawn
+  pub fewer : taken_in origs ≤ trying_in jobs
+  pub job_places : length jobs ≡ 1024
+  pub orig_places : length origs ≡ 1280
+
+-- ---- all of it
+
+pub record Sound (b : Books) : Type 0 where
+  pub linked : Linked b.conns b.jobs b.conns_drawn b.jobs_drawn
+  pub tries : Tries b.jobs b.origs b.origs_drawn
+
+-- at most one number more of each kind was drawn; the cost and the limit are as before
+pub record Near (old new : Books) : Type 0 where
+  pub conns : new.conns_drawn ≤ old.conns_drawn + 1
+  pub jobs : new.jobs_drawn ≤ old.jobs_drawn + 1
+  pub origs : new.origs_drawn ≤ old.origs_drawn + 1
+  pub cost : new.cost ≡ old.cost
+  pub limit : new.limit ≡ old.limit
+
+-- it is all as it must be, near what it was
+pub record Goes (old new : Books) : Type 0 where
+  pub sound : Sound new
+  pub near : Near old new
+
+-- few numbers were drawn, so the next ones are fresh
+pub record Few (b : Books) : Type 0 where
+  pub conns : b.conns_drawn < 2 ^ 30
+  pub jobs : b.jobs_drawn < 2 ^ 30
+  pub origs : b.origs_drawn < 2 ^ 30
+
+-- each number that was drawn was paid for, and the limit is small
+pub record Paid (b : Books) : Type 0 where
+  pub conns : 64 * b.conns_drawn ≤ b.cost
+  pub jobs : 64 * b.jobs_drawn ≤ b.cost
+  pub origs : 64 * b.origs_drawn ≤ b.cost
+  pub limit : b.limit ≤ 1073741824

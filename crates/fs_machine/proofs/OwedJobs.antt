@@ -1,0 +1,318 @@
+-- Changes of connections, and jobs that begin and end, in a switch.
+use Rattle.std.proofs.Common.{◌≡◌, ◌≢◌, ℕ, ◌+◌, ◌-◌, ◌*◌, ◌^◌, ◌<◌, ◌≤◌, min, List, [], ◌∷◌, length, Option, None, Some, slice_get, unwrap_or, refl, sym, ap, subst, ◌∙◌, arith}
+use Rattle.std.proofs.lemmas.List.{length-map}
+use Rattle.fs_text.specs.declared.causes.Cause.TheVariants.{NoAnswer}
+use Rattle.fs_vars.specs.Pairs.{Text}
+use Rattle.fs_api.specs.declared.api.Winner.{Winner}
+use Rattle.fs_chan.specs.Moments.{moment_after}
+use Rattle.fs_orig.specs.declared.leg.OrigLeg.{OrigLeg}
+use Rattle.fs_orig.specs.declared.orig.Orig.{Orig}
+use Rattle.fs_orig.specs.declared.orig.Owner.TheVariants as owner
+use Rattle.fs_orig.specs.declared.verdict.Verdict.{Verdict}
+use Rattle.fs_orig.specs.declared.verdict.Verdict.TheVariants as verdict
+use Rattle.fs_orig.specs.Changes.{begun}
+use Rattle.fs_orig.specs.Verdicts.{verdict_of}
+use Rattle.fs_places.specs.declared.numbered.Numbered.{Numbered}
+use Rattle.fs_places.specs.Places.{held_in, with_held, least_free}
+use Rattle.fs_places.specs.Rows.{place_of, row_of, with_held_at, with_new_row, without_row}
+use Rattle.fs_state.specs.declared.conn.Conn.{Conn}
+use Rattle.fs_state.specs.declared.job.Job.{Job}
+use Rattle.fs_state.specs.declared.job.JobWork.{JobWork}
+use Rattle.fs_state.specs.declared.job.JobWork.TheVariants.{Sleep, Originate}
+use Rattle.fs_state.specs.Switch.{Switch, next_orig, next_job, orig_of, job_of, conn_of, with_conn, with_new_job, with_new_orig, without_job, without_conn, without_orig}
+use Rattle.fs_machine.specs.declared.originations.Caller.{Caller}
+use Rattle.fs_machine.specs.Texts.{ok, failed_text, made_text}
+use Rattle.fs_machine.specs.Connections.{conn_changed_from, conn_changed, owed_since, not_owed}
+use Rattle.fs_machine.specs.Originations.{Made, leg_made, won}
+use Rattle.fs_machine.specs.Jobs.{owing, ended, sleep_begun, seconds, tried_by_job, originate_begun, living_slots, all_hung, won_at, judged, judged_from, worked_by, job_done_from, job_done}
+use Rattle.fs_machine.specs.Step.{fresh, arrived}
+use Rattle.fs_machine.specs.Owed.{Parts}
+use Rattle.fs_machine.proofs.RowLemmas.{free_least}
+use Rattle.fs_machine.proofs.TableLemmas.{something_there, IsRow, HasRow, row_found, no_row, row_written, row_removed, row_added, numbers_in, numbers_held, number_at, number_there, row_of_number, numbers_removed, numbers_added, taken_in, full_taken, taken_numbers}
+use Rattle.fs_machine.proofs.OwedBooks.{Conns, Jobs, Books, books_of, PartEach, Linked, HasNumber, tried_by, trying_in, Tries, Sound, Near, Goes, Few}
+use Rattle.fs_machine.proofs.OwedMoves.{kept_all_hung, kept_made, kept_won}
+use Rattle.fs_machine.proofs.OwedLemmas.{linked_changed, linked_gone, linked_come, linked_more, linked_begun, linked_ended, linked_dropped, tries_slept, tries_begun, tries_woken, tries_ended, trying_most}
+
+-- ---- nothing of it changes
+
+pub near_same : (old new : Books) → new.conns_drawn ≡ old.conns_drawn → new.jobs_drawn ≡ old.jobs_drawn → new.origs_drawn ≡ old.origs_drawn →
+    new.cost ≡ old.cost → new.limit ≡ old.limit → Near old new
+near_same old new conns jobs origs cost limit = record { conns = omega (arith, conns); jobs = omega (arith, jobs); origs = omega (arith, origs); cost = cost; limit = limit }
+
+pub near_self : (b : Books) → Near b b
+near_self b = near_same b b refl refl refl refl refl
+
+pub goes_same : (old new : Books) → new ≡ old → Sound old → Goes old new
+goes_same old new same h = subst (λ (b : Books). Goes old b) (sym same) (record { sound = h; near = near_self old })
+
+-- ---- connections
+
+-- a connection that is there parts as its phase says
+pub parts_of : (s : Switch) (conn : ℕ) (c : Conn) → PartEach s.conns → conn_of s conn ≡ Some c → Parts c
+parts_of s conn c each is =
+    let found = row_found s.conns conn c is in
+    subst (λ (y : Conn). Parts y) found.3 (each found.0 found.1 found.2.there)
+
+-- one is changed that is owed what it was owed before
+pub goes_conn : (change : Conn → Conn) (conn : ℕ) (s : Switch) → ((c : Conn) → conn_of s conn ≡ Some c → Parts (change c)) → ((c : Conn) → (change c).owed ≡ c.owed) →
+    Sound (books_of s) → Goes (books_of s) (books_of (conn_changed change conn s))
+goes_conn change conn s parts same h = by (conn_of s conn) refl
+  where
+    by : (found : Option Conn) → conn_of s conn ≡ found → Goes (books_of s) (books_of (conn_changed_from change conn found s))
+    by None is = goes_same (books_of s) (books_of s) refl h
+    by (Some c) is =
+        let found = row_found s.conns conn c is in
+        let new : Numbered Conn = record { number = conn; held = change c } in
+        let new_books : Books = record (books_of s) { conns = with_held s.conns found.0 (Some new) } in
+        let fits : Linked (with_held s.conns found.0 (Some new)) s.jobs s.drawn.conns s.drawn.jobs =
+        linked_changed s.conns s.jobs s.drawn.conns s.drawn.jobs found.0 found.1 new found.2.there (sym found.2.numbered) (same c ∙ sym (ap (λ (y : Conn). y.owed) found.3)) (parts c is) h.linked in
+        let goes : Goes (books_of s) new_books = record {
+          sound = record { linked = fits; tries = h.tries };
+          near = near_same (books_of s) new_books refl refl refl refl refl;
+        } in
+        subst (λ (conns : Conns). Goes (books_of s) (record (books_of s) { conns = conns })) (sym (row_written s.conns conn found.0 (change c) found.2.at)) goes
+
+-- one is gone
+pub goes_gone : (conn : ℕ) (s : Switch) → Sound (books_of s) → Goes (books_of s) (books_of (without_conn conn s))
+goes_gone conn s h = by (place_of s.conns conn)
+  where
+    by : (found : Option ℕ) → Goes (books_of s) (record (books_of s) { conns = with_held_at {T = Numbered Conn} s.conns None found })
+    by None = goes_same (books_of s) (books_of s) refl h
+    by (Some place) = record {
+      sound = record { linked = linked_gone s.conns s.jobs s.drawn.conns s.drawn.jobs place h.linked; tries = h.tries };
+      near = near_same (books_of s) (record (books_of s) { conns = with_held s.conns place None }) refl refl refl refl refl;
+    }
+
+-- one comes
+pub goes_arrived : (s : Switch) → Few (books_of s) → Sound (books_of s) → Goes (books_of s) (books_of (arrived s).state)
+goes_arrived s few h =
+    subst (λ (n : ℕ). Goes (books_of s) (record (books_of s) { conns = with_new_row s.conns n fresh; conns_drawn = n })) (sym next) (by (least_free s.conns 0))
+  where
+    next : min (s.drawn.conns + 1) (2 ^ 32 - 1) ≡ s.drawn.conns + 1
+    next = let most : s.drawn.conns < 2 ^ 30 = few.conns in omega (arith, most)
+
+    by : (found : Option ℕ) → Goes (books_of s) (record (books_of s) { conns = with_held_at {T = Numbered Conn} s.conns (Some (record { number = s.drawn.conns + 1; held = fresh })) found; conns_drawn = s.drawn.conns + 1 })
+    by None = record {
+      sound = record { linked = linked_more s.conns s.jobs s.drawn.conns s.drawn.jobs h.linked; tries = h.tries };
+      near = record { conns = omega arith; jobs = omega arith; origs = omega arith; cost = refl; limit = refl };
+    }
+    by (Some place) = record {
+      sound = record {
+        linked = linked_come s.conns s.jobs s.drawn.conns s.drawn.jobs place (record { number = s.drawn.conns + 1; held = fresh }) refl refl refl h.linked;
+        tries = h.tries;
+      };
+      near = record { conns = omega arith; jobs = omega arith; origs = omega arith; cost = refl; limit = refl };
+    }
+
+-- ---- a job begins
+
+-- the job of a number for a connection
+abbrev job_for : ℕ → ℕ → JobWork → Numbered Job
+job_for number conn work = record { number = number; held = record { conn = conn; work = work } }
+
+-- it begins for a connection that is owed nothing, where a place for it is free
+goes_owing : (b : Books) (u : Switch) (conn : ℕ) (work : JobWork) (c : Conn) (q : ℕ) → conn_of u conn ≡ Some c → c.owed ≡ None → least_free u.jobs 0 ≡ Some q →
+    u.drawn.jobs < 2 ^ 30 → u.drawn.jobs ≡ b.jobs_drawn → Linked u.conns u.jobs u.drawn.conns u.drawn.jobs →
+    Tries (with_held u.jobs q (Some (job_for (next_job u) conn work))) (numbers_in u.origs) u.drawn.origs → Near b (books_of u) → Goes b (books_of (owing conn work u))
+goes_owing b u conn work c q is none is_free few same_jobs linked tries near =
+    let found = row_found u.conns conn c is in
+    let free = free_least u.jobs q is_free in
+    let next : next_job u ≡ u.drawn.jobs + 1 = omega (arith, few) in
+    let held : Job = record { conn = conn; work = work } in
+    let job : Numbered Job = job_for (next_job u) conn work in
+    let new : Numbered Conn = record { number = conn; held = owed_since u.entries c } in
+    let begun_fit : Linked (with_held u.conns found.0 (Some new)) (with_held u.jobs q (Some job)) u.drawn.conns (u.drawn.jobs + 1) =
+    linked_begun u.conns u.jobs u.drawn.conns u.drawn.jobs found.0 q found.1 new job found.2.there (ap (λ (y : Conn). y.owed) found.3 ∙ none) (sym found.2.numbered) (something_there u.entries)
+    (parts_of u conn c linked.parts is) free.1 free.0 (sym found.2.numbered) next linked in
+    let fits : Linked (with_held u.conns found.0 (Some new)) (with_held u.jobs q (Some job)) u.drawn.conns (next_job u) =
+    subst (λ (n : ℕ). Linked (with_held u.conns found.0 (Some new)) (with_held u.jobs q (Some job)) u.drawn.conns n) (sym next) begun_fit in
+    let goes : Goes b (record (books_of u) { conns = with_held u.conns found.0 (Some new); jobs = with_held u.jobs q (Some job); jobs_drawn = next_job u }) = record {
+      sound = record { linked = fits; tries = tries };
+      near = record { conns = near.conns; jobs = omega (arith, next, same_jobs); origs = near.origs; cost = near.cost; limit = near.limit };
+    } in
+    let with_its_job : Goes b (record (books_of u) { conns = with_held u.conns found.0 (Some new); jobs = with_new_row u.jobs (next_job u) held; jobs_drawn = next_job u }) =
+    subst (λ (jobs : Jobs). Goes b (record (books_of u) { conns = with_held u.conns found.0 (Some new); jobs = jobs; jobs_drawn = next_job u })) (sym (row_added u.jobs (next_job u) q held is_free)) goes in
+    let with_both : Goes b (books_of (with_conn conn (owed_since u.entries c) (with_new_job held u))) =
+    subst (λ (conns : Conns). Goes b (record (books_of u) { conns = conns; jobs = with_new_row u.jobs (next_job u) held; jobs_drawn = next_job u }))
+    (sym (row_written u.conns conn found.0 (owed_since u.entries c) found.2.at)) with_its_job in
+    subst (λ (there : Option Conn). Goes b (books_of (conn_changed_from (owed_since u.entries) conn there (with_new_job held u)))) (sym is) with_both
+
+-- msleep
+pub goes_sleep : (s : Switch) (conn milliseconds : ℕ) (c : Conn) (q : ℕ) → conn_of s conn ≡ Some c → c.owed ≡ None → least_free s.jobs 0 ≡ Some q → Few (books_of s) →
+    Sound (books_of s) → Goes (books_of s) (books_of (sleep_begun conn milliseconds s))
+goes_sleep s conn milliseconds c q is none is_free few h =
+    let free = free_least s.jobs q is_free in
+    let work : JobWork = Sleep (moment_after s.moment (milliseconds * 1000)) in
+    goes_owing (books_of s) s conn work c q is none is_free few.jobs refl h.linked
+    (tries_slept s.jobs (numbers_in s.origs) s.drawn.origs q (job_for (next_job s) conn work) free.1 free.0 refl h.tries)
+    (near_self (books_of s))
+
+-- ---- an origination begins
+
+-- a place for one more is always free
+orig_place : (jobs : Jobs) (origs : List (Option (Numbered Orig))) (drawn : ℕ) → Tries jobs (numbers_in origs) drawn → least_free origs 0 ≢ None
+orig_place jobs origs drawn h none =
+    let all : taken_in origs ≡ length origs = full_taken origs none in
+    let same : taken_in (numbers_in origs) ≡ taken_in origs = taken_numbers origs in
+    let fewer : taken_in (numbers_in origs) ≤ trying_in jobs = h.fewer in
+    let most : trying_in jobs ≤ length jobs = trying_most jobs in
+    let job_places : length jobs ≡ 1024 = h.job_places in
+    let orig_places : length (numbers_in origs) ≡ 1280 = h.orig_places in
+    let lengths : length (numbers_in origs) ≡ length origs = length-map origs number_at in
+    omega (arith, all, same, fewer, most, job_places, orig_places, lengths)
+
+-- at that place it is there, and the job that tries it
+begun_at : (b : Books) (t : Switch) (conn orig : ℕ) (winner : Winner) (o : Orig) (c : Conn) (q p : ℕ) → conn_of t conn ≡ Some c → c.owed ≡ None → least_free t.jobs 0 ≡ Some q →
+    least_free t.origs 0 ≡ Some p → t.drawn.jobs < 2 ^ 30 → orig ≡ t.drawn.origs + 1 → next_orig t ≡ t.drawn.origs + 1 → Sound (books_of t) → b ≡ books_of t →
+    Goes b (books_of (owing conn (Originate orig winner) (with_new_orig o t)))
+begun_at b t conn orig winner o c q p is none is_free is_orig_free few is_next next h same =
+    let free = free_least t.jobs q is_free in
+    let orig_free = free_least t.origs p is_orig_free in
+    let job : Numbered Job = job_for (next_job t) conn (Originate orig winner) in
+    let lengths : length (numbers_in t.origs) ≡ length t.origs = length-map t.origs number_at in
+    let number_within : p < length (numbers_in t.origs) = subst (λ (n : ℕ). p < n) (sym lengths) orig_free.1 in
+    let tried : Tries (with_held t.jobs q (Some job)) (with_held (numbers_in t.origs) p (Some (t.drawn.origs + 1))) (t.drawn.origs + 1) =
+    tries_begun t.jobs (numbers_in t.origs) t.drawn.origs q p job free.1 free.0 number_within (numbers_held t.origs p ∙ ap number_at orig_free.0) (ap Some is_next) h.tries in
+    let tried_next : Tries (with_held t.jobs q (Some job)) (with_held (numbers_in t.origs) p (Some (next_orig t))) (next_orig t) =
+    subst (λ (n : ℕ). Tries (with_held t.jobs q (Some job)) (with_held (numbers_in t.origs) p (Some n)) n) (sym next) tried in
+    let tried_there : Tries (with_held t.jobs q (Some job)) (numbers_in (with_new_row t.origs (next_orig t) o)) (next_orig t) =
+    subst (λ (origs : List (Option ℕ)). Tries (with_held t.jobs q (Some job)) origs (next_orig t)) (sym (numbers_added t.origs (next_orig t) p o is_orig_free)) tried_next in
+    let near_t : Near (books_of t) (books_of (with_new_orig o t)) = record { conns = omega arith; jobs = omega arith; origs = omega (arith, next); cost = refl; limit = refl } in
+    goes_owing b (with_new_orig o t) conn (Originate orig winner) c q is none is_free few (sym (ap (λ (x : Books). x.jobs_drawn) same)) h.linked tried_there
+    (subst (λ (old : Books). Near old (books_of (with_new_orig o t))) (sym same) near_t)
+
+-- originate, once its leg was made
+goes_tried : (s : Switch) (made : Made) (conn : ℕ) (endpoint : Text) (winner : Winner) (timeout : ℕ) (c : Conn) (q : ℕ) → books_of made.state ≡ books_of s →
+    conn_of s conn ≡ Some c → c.owed ≡ None → least_free s.jobs 0 ≡ Some q → Few (books_of s) → Sound (books_of s) →
+    Goes (books_of s) (books_of (tried_by_job conn endpoint winner timeout (next_orig s) made))
+goes_tried s made conn endpoint winner timeout c q same is none is_free few h = by (least_free made.state.origs 0) refl
+  where
+    drawn : made.state.drawn.origs ≡ s.drawn.origs
+    drawn = ap (λ (b : Books). b.origs_drawn) same
+
+    few_origs : s.drawn.origs < 2 ^ 30
+    few_origs = few.origs
+
+    few_jobs : made.state.drawn.jobs < 2 ^ 30
+    few_jobs = subst (λ (n : ℕ). n < 2 ^ 30) (sym (ap (λ (b : Books). b.jobs_drawn) same)) few.jobs
+
+    sound : Sound (books_of made.state)
+    sound = subst (λ (b : Books). Sound b) (sym same) h
+
+    by : (found : Option ℕ) → least_free made.state.origs 0 ≡ found → Goes (books_of s) (books_of (tried_by_job conn endpoint winner timeout (next_orig s) made))
+    by None is_none = absurd (orig_place made.state.jobs made.state.origs made.state.drawn.origs sound.tries is_none)
+    by (Some p) is_orig_free =
+        begun_at (books_of s) made.state conn (next_orig s) winner
+        (begun (owner.Job (next_job made.state)) ((record { endpoint = endpoint; pairs = [] } ∷ []) ∷ []) (made.leg ∷ []) (moment_after made.state.moment (seconds timeout)))
+        c q p
+        (ap (λ (b : Books). row_of b.conns conn) same ∙ is) none (ap (λ (b : Books). least_free b.jobs 0) same ∙ is_free) is_orig_free few_jobs
+        (omega (arith, few_origs, drawn)) (omega (arith, few_origs, drawn)) sound (sym same)
+
+-- originate
+pub goes_originate : (s : Switch) (conn : ℕ) (endpoint : Text) (winner : Winner) (caller : Caller) (timeout : Option ℕ) (c : Conn) (q : ℕ) →
+    conn_of s conn ≡ Some c → c.owed ≡ None → least_free s.jobs 0 ≡ Some q → Few (books_of s) → Sound (books_of s) →
+    Goes (books_of s) (books_of (originate_begun conn endpoint winner caller timeout s))
+goes_originate s conn endpoint winner caller timeout c q is none is_free few h =
+    goes_tried s (leg_made endpoint caller (next_orig s) s) conn endpoint winner (unwrap_or timeout 60) c q (kept_made endpoint caller (next_orig s) s) is none is_free few h
+
+-- ---- a job ends
+
+-- it ends, and its connection, if it is there, is owed nothing any more
+goes_ended : (b : Books) (u : Switch) (number conn : ℕ) (answer : Text) (q : ℕ) (row : Numbered Job) → IsRow u.jobs number q row → row.held.conn ≡ conn →
+    Linked u.conns u.jobs u.drawn.conns u.drawn.jobs → Tries (with_held u.jobs q None) (numbers_in u.origs) u.drawn.origs →
+    Near b (books_of u) → Goes b (books_of (ended number conn answer u))
+goes_ended b u number conn answer q row stands for linked tries near = by (conn_of u conn) refl
+  where
+    without : without_row u.jobs number ≡ with_held u.jobs q None
+    without = row_removed u.jobs number q stands.at
+
+    by : (found : Option Conn) → conn_of u conn ≡ found → Goes b (books_of (conn_changed_from not_owed conn found (without_job number u)))
+    by None is =
+        let gone : (p : ℕ) (a : Numbered Conn) → held_in u.conns p ≡ Some a → a.number ≢ row.held.conn = λ p a e same. no_row u.conns conn p a is e (same ∙ for) in
+        let goes : Goes b (record (books_of u) { jobs = with_held u.jobs q None }) = record {
+          sound = record { linked = linked_dropped u.conns u.jobs u.drawn.conns u.drawn.jobs q row stands.there gone linked; tries = tries };
+          near = record { conns = near.conns; jobs = near.jobs; origs = near.origs; cost = near.cost; limit = near.limit };
+        } in
+        subst (λ (jobs : Jobs). Goes b (record (books_of u) { jobs = jobs })) (sym without) goes
+    by (Some c) is =
+        let found = row_found u.conns conn c is in
+        let new : Numbered Conn = record { number = conn; held = not_owed c } in
+        let fits : Linked (with_held u.conns found.0 (Some new)) (with_held u.jobs q None) u.drawn.conns u.drawn.jobs =
+        linked_ended u.conns u.jobs u.drawn.conns u.drawn.jobs found.0 q found.1 new row stands.there found.2.there (found.2.numbered ∙ sym for) (sym found.2.numbered) refl
+        (parts_of u conn c linked.parts is) linked in
+        let goes : Goes b (record (books_of u) { conns = with_held u.conns found.0 (Some new); jobs = with_held u.jobs q None }) = record {
+          sound = record { linked = fits; tries = tries };
+          near = record { conns = near.conns; jobs = near.jobs; origs = near.origs; cost = near.cost; limit = near.limit };
+        } in
+        let without_its_job : Goes b (record (books_of u) { conns = with_held u.conns found.0 (Some new); jobs = without_row u.jobs number }) =
+        subst (λ (jobs : Jobs). Goes b (record (books_of u) { conns = with_held u.conns found.0 (Some new); jobs = jobs })) (sym without) goes in
+        subst (λ (conns : Conns). Goes b (record (books_of u) { conns = conns; jobs = without_row u.jobs number })) (sym (row_written u.conns conn found.0 (not_owed c) found.2.at)) without_its_job
+
+-- a job that slept ends
+goes_woken : (s : Switch) (number conn : ℕ) (answer : Text) (job : Job) → job_of s number ≡ Some job → tried_by job.work ≡ None → job.conn ≡ conn →
+    Sound (books_of s) → Goes (books_of s) (books_of (ended number conn answer s))
+goes_woken s number conn answer job is none for h =
+    let found = row_found s.jobs number job is in
+    goes_ended (books_of s) s number conn answer found.0 found.1 found.2 (ap (λ (y : Job). y.conn) found.3 ∙ for) h.linked
+    (tries_woken s.jobs (numbers_in s.origs) s.drawn.origs found.0 found.1 found.2.there (ap (λ (y : Job). tried_by y.work) found.3 ∙ none) h.tries)
+    (near_self (books_of s))
+
+-- a job ends with the row of the origination that it tried
+tries_without : (jobs : Jobs) (origs : List (Option (Numbered Orig))) (drawn q number : ℕ) (job : Numbered Job) → held_in jobs q ≡ Some job → tried_by job.held.work ≡ Some number →
+    Tries jobs (numbers_in origs) drawn → Tries (with_held jobs q None) (numbers_in (without_row origs number)) drawn
+tries_without jobs origs drawn q number job stands tried h = by (h.there q job number stands tried)
+  where
+    at : HasRow origs number → Tries (with_held jobs q None) (numbers_in (without_row origs number)) drawn
+    at row =
+        subst (λ (numbers : List (Option ℕ)). Tries (with_held jobs q None) numbers drawn) (sym (numbers_removed origs number row.0 row.2.at))
+        (tries_ended jobs (numbers_in origs) drawn q row.0 number job stands tried (number_there origs number row.0 row.1 row.2) h)
+
+    by : HasNumber (numbers_in origs) number → Tries (with_held jobs q None) (numbers_in (without_row origs number)) drawn
+    by had = at (row_of_number origs number had.0 had.1)
+
+-- a job ends with the origination that it tried, once channels were changed
+goes_tried_end : (s t : Switch) (number conn orig : ℕ) (answer : Text) (job : Job) → books_of t ≡ books_of s → job_of s number ≡ Some job → tried_by job.work ≡ Some orig → job.conn ≡ conn →
+    Sound (books_of s) → Goes (books_of s) (books_of (ended number conn answer (without_orig orig t)))
+goes_tried_end s t number conn orig answer job same is tried for h =
+    let sound : Sound (books_of t) = subst (λ (b : Books). Sound b) (sym same) h in
+    let found = row_found t.jobs number job (ap (λ (b : Books). row_of b.jobs number) same ∙ is) in
+    let fits : Tries (with_held t.jobs found.0 None) (numbers_in (without_row t.origs orig)) t.drawn.origs =
+    tries_without t.jobs t.origs t.drawn.origs found.0 orig found.1 found.2.there (ap (λ (y : Job). tried_by y.work) found.3 ∙ tried) sound.tries in
+    let near_t : Near (books_of t) (books_of (without_orig orig t)) = near_same (books_of t) (books_of (without_orig orig t)) refl refl refl refl refl in
+    goes_ended (books_of s) (without_orig orig t) number conn answer found.0 found.1 found.2 (ap (λ (y : Job). y.conn) found.3 ∙ for) sound.linked fits
+    (subst (λ (old : Books). Near old (books_of (without_orig orig t))) same near_t)
+
+-- a leg has won, if there is one at that position
+goes_won_at : (leg : Option OrigLeg) (s : Switch) (number conn orig : ℕ) (winner : Winner) (job : Job) → job_of s number ≡ Some job → tried_by job.work ≡ Some orig → job.conn ≡ conn →
+    Sound (books_of s) → Goes (books_of s) (books_of (won_at (record { job = number; conn = conn; orig = orig }) winner leg s))
+goes_won_at None s number conn orig winner job is tried for h = goes_same (books_of s) (books_of s) refl h
+goes_won_at (Some leg) s number conn orig winner job is tried for h =
+    goes_tried_end s (won winner (unwrap_or leg.slot 0) s) number conn orig (made_text leg.uuid) job (kept_won winner (unwrap_or leg.slot 0) s) is tried for h
+
+-- what comes of an origination
+goes_judged : (v : Verdict) (s : Switch) (number conn orig : ℕ) (winner : Winner) (o : Orig) (job : Job) → job_of s number ≡ Some job → tried_by job.work ≡ Some orig → job.conn ≡ conn →
+    Sound (books_of s) → Goes (books_of s) (books_of (judged v (record { job = number; conn = conn; orig = orig }) winner o s))
+goes_judged (verdict.Won position) s number conn orig winner o job is tried for h = goes_won_at (slice_get o.legs position) s number conn orig winner job is tried for h
+goes_judged (verdict.Failed cause) s number conn orig winner o job is tried for h = goes_tried_end s s number conn orig (failed_text cause) job refl is tried for h
+goes_judged verdict.Expired s number conn orig winner o job is tried for h =
+    goes_tried_end s (all_hung NoAnswer (living_slots o.legs) s) number conn orig (failed_text NoAnswer) job (kept_all_hung NoAnswer (living_slots o.legs) s) is tried for h
+goes_judged _ s number conn orig winner o job is tried for h = goes_same (books_of s) (books_of s) refl h
+
+goes_judged_from : (found : Option Orig) (s : Switch) (number conn orig : ℕ) (winner : Winner) (job : Job) → job_of s number ≡ Some job → tried_by job.work ≡ Some orig → job.conn ≡ conn →
+    Sound (books_of s) → Goes (books_of s) (books_of (judged_from (record { job = number; conn = conn; orig = orig }) winner found s))
+goes_judged_from None s number conn orig winner job is tried for h = goes_same (books_of s) (books_of s) refl h
+goes_judged_from (Some o) s number conn orig winner job is tried for h = goes_judged (verdict_of s.moment o) s number conn orig winner o job is tried for h
+
+goes_worked_by : (work : JobWork) (s : Switch) (number conn : ℕ) (job : Job) → job_of s number ≡ Some job → job.work ≡ work → job.conn ≡ conn →
+    Sound (books_of s) → Goes (books_of s) (books_of (worked_by work number conn s))
+goes_worked_by (Sleep until) s number conn job is works for h = goes_woken s number conn ok job is (ap tried_by works) for h
+goes_worked_by (Originate orig winner) s number conn job is works for h = goes_judged_from (orig_of s orig) s number conn orig winner job is (ap tried_by works) for h
+
+-- what a job does
+pub goes_job_done : (number : ℕ) (s : Switch) → Sound (books_of s) → Goes (books_of s) (books_of (job_done number s))
+unfolding job_done
+goes_job_done number s h = by (job_of s number) refl
+  where
+    by : (found : Option Job) → job_of s number ≡ found → Goes (books_of s) (books_of (job_done_from number found s))
+    by None is = goes_same (books_of s) (books_of s) refl h
+    by (Some job) is = goes_worked_by job.work s number job.conn job is refl refl h

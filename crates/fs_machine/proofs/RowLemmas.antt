@@ -1,0 +1,448 @@
+-- Tables of things that are known by their numbers: where these stand, and where they stand behind a change.
+use Rattle.std.proofs.Common.{◌≡◌, ℕ, zero, suc, ◌+◌, ◌<◌, ◌≤◌, ◌==◌, Bool, true, false, if◌then◌else◌, List, [], ◌∷◌, length, Option, None, Some, is_none, option_map, option_and_then, ◌⊎◌, inl, inr, refl, sym, ap, subst, ◌∙◌, arith}
+use Rattle.std.proofs.lemmas.List.{get_or-set_same, get_or-set_other, length-set}
+use Rattle.std.proofs.lemmas.Bool.{false≢true, both_ways, eqb-true, eq-eqb, ne_eqb, cases_eq}
+use Rattle.std.proofs.lemmas.Option.{same_Some}
+use Rattle.fs_places.specs.declared.numbered.Numbered.{Numbered}
+use Rattle.fs_places.specs.Places.{held_in, with_held, first_place, least_free}
+use Rattle.fs_places.specs.Rows.{has_number, place_of, row_of, with_held_at, with_row, without_row, with_new_row}
+
+-- ---- the first place of which a test holds
+
+-- the test holds there
+pub place_found : {T : Type 0} → (test : Option T → Bool) (places : List (Option T)) (from place : ℕ) → first_place test places from ≡ Some place →
+    (i : ℕ) × (place ≡ from + i) × (test (held_in places i) ≡ true) × (i < length places)
+place_found test [] from place is = absurd (cc)
+place_found test (held ∷ more) from place is = by (test held) refl (place_found test more (from + 1) place) is
+  where
+    by : (b : Bool) → test held ≡ b →
+        (first_place test more (from + 1) ≡ Some place → (i : ℕ) × (place ≡ (from + 1) + i) × (test (held_in more i) ≡ true) × (i < length more)) →
+        (if b then Some from else first_place test more (from + 1)) ≡ Some place →
+        (i : ℕ) × (place ≡ from + i) × (test (held_in (held ∷ more) i) ≡ true) × (i < length (held ∷ more))
+    by true e again is =
+        let same : from ≡ place = same_Some from place is in
+        (0, omega (arith, same), e, omega arith)
+    by false e again is =
+        let f = again is in
+        (suc f.0, omega (arith, f.1), f.2, omega (arith, f.3))
+
+-- without such a place it holds nowhere
+pub none_found : {T : Type 0} → (test : Option T → Bool) → test None ≡ false → (places : List (Option T)) (from : ℕ) → first_place test places from ≡ None →
+    (i : ℕ) → test (held_in places i) ≡ false
+none_found test empty [] from is i = empty
+none_found test empty (held ∷ more) from is i = by (test held) refl (none_found test empty more (from + 1)) is i
+  where
+    by : (b : Bool) → test held ≡ b → (first_place test more (from + 1) ≡ None → (i : ℕ) → test (held_in more i) ≡ false) →
+        (if b then Some from else first_place test more (from + 1)) ≡ None → (i : ℕ) → test (held_in (held ∷ more) i) ≡ false
+    by true e again is i = absurd (cc)
+    by false e again is zero = e
+    by false e again is (suc i) = again is i
+
+-- where it holds nowhere there is no such place
+pub found_none : {T : Type 0} → (test : Option T → Bool) (places : List (Option T)) (from : ℕ) → ((i : ℕ) → test (held_in places i) ≡ false) →
+    first_place test places from ≡ None
+found_none test [] from none = refl
+found_none test (held ∷ more) from none =
+    ap (λ b. if b then Some from else first_place test more (from + 1)) (none zero) ∙ found_none test more (from + 1) (λ i. none (suc i))
+
+-- it is the same in tables of which the test tells the same
+pub same_place : {T : Type 0} → (test : Option T → Bool) → test None ≡ false → (xs ys : List (Option T)) (from : ℕ) →
+    ((i : ℕ) → test (held_in xs i) ≡ test (held_in ys i)) → first_place test xs from ≡ first_place test ys from
+same_place test empty [] ys from same = sym (found_none test ys from (λ i. sym (same i) ∙ empty))
+same_place test empty (x ∷ xs) [] from same = found_none test (x ∷ xs) from (λ i. same i ∙ empty)
+same_place test empty (x ∷ xs) (y ∷ ys) from same =
+    ap (λ b. if b then Some from else first_place test xs (from + 1)) (same zero)
+    ∙ ap (λ found. if test y then Some from else found) (same_place test empty xs ys (from + 1) (λ i. same (suc i)))
+
+-- ---- one thing at a place
+
+-- what a function tells of the places stays where it tells of the new thing what it told of the old one
+pub held_put : {T A : Type 0} → (f : Option T → A) (rows : List (Option T)) (put : ℕ) (held : Option T) → f (held_in rows put) ≡ f held →
+    (place : ℕ) → f (held_in (with_held rows put held) place) ≡ f (held_in rows place)
+held_put f [] put held same place = refl
+held_put f (row ∷ rows) zero held same zero = sym same
+held_put f (row ∷ rows) zero held same (suc place) = refl
+held_put f (row ∷ rows) (suc put) held same zero = refl
+held_put f (row ∷ rows) (suc put) held same (suc place) = held_put f rows put held same place
+
+-- what holds of each place, and of the new thing, holds of each place then
+pub each_put : {T : Type 0} → (P : Option T → Type 0) (rows : List (Option T)) (put : ℕ) (held : Option T) → ((place : ℕ) → P (held_in rows place)) → P held →
+    (place : ℕ) → P (held_in (with_held rows put held) place)
+each_put P [] put held each here place = each place
+each_put P (row ∷ rows) zero held each here zero = here
+each_put P (row ∷ rows) zero held each here (suc place) = each (suc place)
+each_put P (row ∷ rows) (suc put) held each here zero = each zero
+each_put P (row ∷ rows) (suc put) held each here (suc place) = each_put P rows put held (λ p. each (suc p)) here place
+
+-- the same where there may be no place for the thing
+pub each_put_at : {T : Type 0} → (P : Option T → Type 0) (rows : List (Option T)) (held : Option T) (found : Option ℕ) → ((place : ℕ) → P (held_in rows place)) → P held →
+    (place : ℕ) → P (held_in (with_held_at rows held found) place)
+each_put_at P rows held None each here place = each place
+each_put_at P rows held (Some put) each here place = each_put P rows put held each here place
+
+-- there are as many places as before
+pub length_put_at : {T : Type 0} → (rows : List (Option T)) (held : Option T) (found : Option ℕ) → length (with_held_at rows held found) ≡ length rows
+length_put_at rows held None = refl
+length_put_at rows held (Some put) = length-set rows put held
+
+-- a place that was emptied is empty
+pub emptied : {T : Type 0} → (rows : List (Option T)) (put : ℕ) → held_in (with_held rows put None) put ≡ None
+emptied [] put = refl
+emptied (row ∷ rows) zero = refl
+emptied (row ∷ rows) (suc put) = emptied rows put
+
+-- ---- numbers
+
+-- a thing of this number stands at this place
+abbrev pub Stands : {T : Type 0} → ℕ → List (Option (Numbered T)) → ℕ → Type 0
+Stands number rows place = has_number number (held_in rows place) ≡ true
+
+-- nothing stands there
+abbrev pub IsFree : {T : Type 0} → List (Option (Numbered T)) → ℕ → Type 0
+IsFree rows place = (number : ℕ) → has_number number (held_in rows place) ≡ false
+
+-- no number stands at two places
+abbrev pub AreDistinct : {T : Type 0} → List (Option (Numbered T)) → Type 0
+AreDistinct rows = (number p q : ℕ) → Stands number rows p → Stands number rows q → p ≡ q
+
+-- no number is above a bound
+abbrev pub AreWithin : {T : Type 0} → ℕ → List (Option (Numbered T)) → Type 0
+AreWithin bound rows = (number place : ℕ) → Stands number rows place → number ≤ bound
+
+-- the same numbers stand at the same places
+abbrev pub SameNumbers : {T : Type 0} → List (Option (Numbered T)) → List (Option (Numbered T)) → Type 0
+SameNumbers old new = (number place : ℕ) → has_number number (held_in new place) ≡ has_number number (held_in old place)
+
+-- a thing of one number is of no other
+number_at : {T : Type 0} → (held : Option (Numbered T)) (number other : ℕ) → has_number number held ≡ true → has_number other held ≡ (number == other)
+number_at None number other is = absurd (cc)
+number_at (Some row) number other is = ap (λ n. n == other) (eqb-true row.number number is)
+
+-- so two numbers of one thing are one
+pub one_number : {T : Type 0} → (held : Option (Numbered T)) (number other : ℕ) → has_number number held ≡ true → has_number other held ≡ true → number ≡ other
+one_number held number other is also = eqb-true number other (sym (number_at held number other is) ∙ also)
+
+-- and it is not of a number that differs
+pub other_number : {T : Type 0} → (held : Option (Numbered T)) (number other : ℕ) → has_number number held ≡ true → (number ≡ other → ⊥) → has_number other held ≡ false
+other_number held number other is differ = number_at held number other is ∙ ne_eqb number other differ
+
+-- ---- places of numbers
+
+-- at the place of a number a thing of it stands
+pub place_stands : {T : Type 0} → (rows : List (Option (Numbered T))) (number place : ℕ) → place_of rows number ≡ Some place → Stands number rows place
+place_stands rows number place is =
+    let f = place_found (has_number number) rows 0 place is in
+    let same : f.0 ≡ place = omega (arith, f.1) in
+    subst (λ p. has_number number (held_in rows p) ≡ true) same f.2
+
+-- the place is one of the table
+pub place_within : {T : Type 0} → (rows : List (Option (Numbered T))) (number place : ℕ) → place_of rows number ≡ Some place → place < length rows
+place_within rows number place is =
+    let f = place_found (has_number number) rows 0 place is in
+    omega (arith, f.1, f.3)
+
+-- a number without a place stands nowhere
+pub none_stands : {T : Type 0} → (rows : List (Option (Numbered T))) (number : ℕ) → place_of rows number ≡ None → (place : ℕ) → has_number number (held_in rows place) ≡ false
+none_stands rows number is place = none_found (has_number number) refl rows 0 is place
+
+-- a number that stands nowhere has no place
+pub nowhere : {T : Type 0} → (rows : List (Option (Numbered T))) (number : ℕ) → ((place : ℕ) → has_number number (held_in rows place) ≡ false) → place_of rows number ≡ None
+nowhere rows number none = found_none (has_number number) rows 0 none
+
+-- a number stands at its place, if no other place has it
+pub stands_place : {T : Type 0} → (rows : List (Option (Numbered T))) (number place : ℕ) → AreDistinct rows → Stands number rows place → place_of rows number ≡ Some place
+stands_place rows number place distinct stands = by (place_of rows number) refl
+  where
+    by : (found : Option ℕ) → place_of rows number ≡ found → found ≡ Some place
+    by None is = absurd (both_ways (has_number number (held_in rows place)) (none_stands rows number is place) stands)
+    by (Some other) is = ap Some (distinct number other place (place_stands rows number other is) stands)
+
+-- different numbers have different places
+pub places_apart : {T : Type 0} → (rows : List (Option (Numbered T))) (number other p q : ℕ) → place_of rows number ≡ Some p → place_of rows other ≡ Some q → p ≡ q → number ≡ other
+places_apart rows number other p q is also same =
+    one_number (held_in rows q) number other (subst (λ place. has_number number (held_in rows place) ≡ true) same (place_stands rows number p is)) (place_stands rows other q also)
+
+-- a free place is the place of no number
+pub free_apart : {T : Type 0} → (rows : List (Option (Numbered T))) (number place free : ℕ) → place_of rows number ≡ Some place → IsFree rows free → free ≡ place → ⊥
+free_apart rows number place free is empty same =
+    both_ways (has_number number (held_in rows place)) (subst (λ p. has_number number (held_in rows p) ≡ false) same (empty number)) (place_stands rows number place is)
+
+-- a number above the bound stands nowhere
+pub above_nowhere : {T : Type 0} → (rows : List (Option (Numbered T))) (bound number : ℕ) → AreWithin bound rows → bound < number → place_of rows number ≡ None
+above_nowhere rows bound number within above = nowhere rows number (λ place. by place (has_number number (held_in rows place)) refl)
+  where
+    by : (place : ℕ) (b : Bool) → has_number number (held_in rows place) ≡ b → b ≡ false
+    by place true e = absurd (omega (arith, within number place e, above))
+    by place false e = refl
+
+-- where the same numbers stand
+pub places_same : {T : Type 0} → (old new : List (Option (Numbered T))) → SameNumbers old new → (number : ℕ) → place_of new number ≡ place_of old number
+places_same old new same number = same_place (has_number number) refl new old 0 (λ i. same number i)
+
+-- they are as distinct
+pub distinct_same : {T : Type 0} → (old new : List (Option (Numbered T))) → SameNumbers old new → AreDistinct old → AreDistinct new
+distinct_same old new same distinct number p q first second = distinct number p q (sym (same number p) ∙ first) (sym (same number q) ∙ second)
+
+-- and have the same bound
+pub within_same : {T : Type 0} → (old new : List (Option (Numbered T))) (bound : ℕ) → SameNumbers old new → AreWithin bound old → AreWithin bound new
+within_same old new bound same within number place stands = within number place (sym (same number place) ∙ stands)
+
+-- ---- the things of numbers
+
+abbrev pub held_of : {T : Type 0} → Option (Numbered T) → Option T
+held_of held = option_map (λ row. row.held) held
+
+-- the thing of a number is what stands at its place
+pub row_at : {T : Type 0} → (rows : List (Option (Numbered T))) (number place : ℕ) → place_of rows number ≡ Some place → row_of rows number ≡ held_of (held_in rows place)
+row_at rows number place is = ap (λ found. held_of (option_and_then (λ p. held_in rows p) found)) is
+
+-- a number without a place has no thing
+pub row_none : {T : Type 0} → (rows : List (Option (Numbered T))) (number : ℕ) → place_of rows number ≡ None → row_of rows number ≡ None
+row_none rows number is = ap (λ found. held_of (option_and_then (λ p. held_in rows p) found)) is
+
+-- ---- a change of one place
+
+-- a number stands where it stood, or at the changed place
+pub stands_put : {T : Type 0} → (rows : List (Option (Numbered T))) (put : ℕ) (held : Option (Numbered T)) (number place : ℕ) → Stands number (with_held rows put held) place →
+    ((place ≡ put) × (has_number number held ≡ true)) ⊎ (has_number number (held_in rows place) ≡ true)
+stands_put [] put held number place stands = inr stands
+stands_put (row ∷ rows) zero held number zero stands = inl (refl, stands)
+stands_put (row ∷ rows) zero held number (suc place) stands = inr stands
+stands_put (row ∷ rows) (suc put) held number zero stands = inr stands
+stands_put (row ∷ rows) (suc put) held number (suc place) stands =
+    elim (stands_put rows put held number place stands) [ inl f ↦ inl (ap suc f.0, f.1) | inr f ↦ inr f ]
+
+-- numbers stay distinct where the new thing has none that stands elsewhere
+pub distinct_put : {T : Type 0} → (rows : List (Option (Numbered T))) (put : ℕ) (held : Option (Numbered T)) → AreDistinct rows →
+    ((number place : ℕ) → has_number number held ≡ true → Stands number rows place → place ≡ put) → AreDistinct (with_held rows put held)
+distinct_put rows put held distinct one number p q first second = by (stands_put rows put held number p first) (stands_put rows put held number q second)
+  where
+    by : ((p ≡ put) × (has_number number held ≡ true)) ⊎ (has_number number (held_in rows p) ≡ true) →
+        ((q ≡ put) × (has_number number held ≡ true)) ⊎ (has_number number (held_in rows q) ≡ true) → p ≡ q
+    by (inl a) (inl b) = a.0 ∙ sym b.0
+    by (inl a) (inr b) = a.0 ∙ sym (one number q a.1 b)
+    by (inr a) (inl b) = one number p b.1 a ∙ sym b.0
+    by (inr a) (inr b) = distinct number p q a b
+
+-- they stay within a bound where the new thing is
+pub within_put : {T : Type 0} → (rows : List (Option (Numbered T))) (put : ℕ) (held : Option (Numbered T)) (bound : ℕ) → AreWithin bound rows →
+    ((number : ℕ) → has_number number held ≡ true → number ≤ bound) → AreWithin bound (with_held rows put held)
+within_put rows put held bound within new number place stands =
+    elim (stands_put rows put held number place stands) [ inl f ↦ new number f.1 | inr f ↦ within number place f ]
+
+-- a number that neither the old thing nor the new one has
+pub place_put_other : {T : Type 0} → (rows : List (Option (Numbered T))) (put : ℕ) (held : Option (Numbered T)) (number : ℕ) →
+    has_number number (held_in rows put) ≡ false → has_number number held ≡ false → place_of (with_held rows put held) number ≡ place_of rows number
+place_put_other rows put held number before after =
+    same_place (has_number number) refl (with_held rows put held) rows 0 (λ i. held_put (has_number number) rows put held (before ∙ sym after) i)
+
+-- it has the same thing as before
+pub row_put_other : {T : Type 0} → (rows : List (Option (Numbered T))) (put : ℕ) (held : Option (Numbered T)) (number : ℕ) →
+    has_number number (held_in rows put) ≡ false → has_number number held ≡ false → row_of (with_held rows put held) number ≡ row_of rows number
+row_put_other rows put held number before after = by (place_of rows number) refl
+  where
+    same : place_of (with_held rows put held) number ≡ place_of rows number
+    same = place_put_other rows put held number before after
+
+    by : (found : Option ℕ) → place_of rows number ≡ found → row_of (with_held rows put held) number ≡ row_of rows number
+    by None is = row_none (with_held rows put held) number (same ∙ is) ∙ sym (row_none rows number is)
+    by (Some place) is =
+        row_at (with_held rows put held) number place (same ∙ is)
+        ∙ ap held_of (get_or-set_other rows put place held None
+        (λ e. both_ways (has_number number (held_in rows put)) before (subst (λ p. has_number number (held_in rows p) ≡ true) e (place_stands rows number place is))))
+        ∙ sym (row_at rows number place is)
+
+-- ---- another thing of a number
+
+-- no number changes its place
+pub numbers-with_row : {T : Type 0} → (rows : List (Option (Numbered T))) (number : ℕ) (held : T) → SameNumbers rows (with_row rows number held)
+numbers-with_row rows number held = by (place_of rows number) refl
+  where
+    by : (found : Option ℕ) → place_of rows number ≡ found → SameNumbers rows (with_held_at rows (Some (record { number = number; held = held })) found)
+    by None is other place = refl
+    by (Some put) is other place =
+        held_put (has_number other) rows put (Some (record { number = number; held = held })) (number_at (held_in rows put) number other (place_stands rows number put is)) place
+
+pub place_of-with_row : {T : Type 0} → (rows : List (Option (Numbered T))) (number : ℕ) (held : T) (other : ℕ) → place_of (with_row rows number held) other ≡ place_of rows other
+place_of-with_row rows number held other = places_same rows (with_row rows number held) (numbers-with_row rows number held) other
+
+-- the number has the new thing, if it had one
+pub row_of-with_row_same : {T : Type 0} → (rows : List (Option (Numbered T))) (number place : ℕ) (held : T) → place_of rows number ≡ Some place →
+    row_of (with_row rows number held) number ≡ Some held
+row_of-with_row_same rows number place held is =
+    row_at (with_row rows number held) number place (place_of-with_row rows number held number ∙ is)
+    ∙ ap (λ found. held_of (held_in (with_held_at rows (Some (record { number = number; held = held })) found) place)) is
+    ∙ ap held_of (get_or-set_same rows place (Some (record { number = number; held = held })) None (place_within rows number place is))
+
+-- other numbers have what they had
+pub row_of-with_row_other : {T : Type 0} → (rows : List (Option (Numbered T))) (number : ℕ) (held : T) (other : ℕ) → (number ≡ other → ⊥) →
+    row_of (with_row rows number held) other ≡ row_of rows other
+row_of-with_row_other rows number held other differ = by (place_of rows number) refl
+  where
+    by : (found : Option ℕ) → place_of rows number ≡ found → row_of (with_held_at rows (Some (record { number = number; held = held })) found) other ≡ row_of rows other
+    by None is = refl
+    by (Some put) is =
+        row_put_other rows put (Some (record { number = number; held = held })) other
+        (other_number (held_in rows put) number other (place_stands rows number put is) differ) (ne_eqb number other differ)
+
+-- ---- a thing less
+
+-- other numbers stand where they stood
+pub place_of-without_row_other : {T : Type 0} → (rows : List (Option (Numbered T))) (number other : ℕ) → (number ≡ other → ⊥) →
+    place_of (without_row rows number) other ≡ place_of rows other
+place_of-without_row_other rows number other differ = by (place_of rows number) refl
+  where
+    by : (found : Option ℕ) → place_of rows number ≡ found → place_of (with_held_at rows None found) other ≡ place_of rows other
+    by None is = refl
+    by (Some put) is = place_put_other rows put None other (other_number (held_in rows put) number other (place_stands rows number put is) differ) refl
+
+-- and have what they had
+pub row_of-without_row_other : {T : Type 0} → (rows : List (Option (Numbered T))) (number other : ℕ) → (number ≡ other → ⊥) →
+    row_of (without_row rows number) other ≡ row_of rows other
+row_of-without_row_other rows number other differ = by (place_of rows number) refl
+  where
+    by : (found : Option ℕ) → place_of rows number ≡ found → row_of (with_held_at rows None found) other ≡ row_of rows other
+    by None is = refl
+    by (Some put) is = row_put_other rows put None other (other_number (held_in rows put) number other (place_stands rows number put is) differ) refl
+
+-- where no other place has the number, it is gone
+cleared : {T : Type 0} → (rows : List (Option (Numbered T))) (number put : ℕ) → AreDistinct rows → place_of rows number ≡ Some put →
+    (place : ℕ) → has_number number (held_in (with_held rows put None) place) ≡ false
+cleared rows number put distinct is place = by (cases_eq place put)
+  where
+    elsewhere : (place ≡ put → ⊥) → (b : Bool) → has_number number (held_in rows place) ≡ b → b ≡ false
+    elsewhere apart true e = absurd (apart (distinct number place put e (place_stands rows number put is)))
+    elsewhere apart false e = refl
+
+    by : (place ≡ put) ⊎ (place ≡ put → ⊥) → has_number number (held_in (with_held rows put None) place) ≡ false
+    by (inl same) = subst (λ p. has_number number (held_in (with_held rows put None) p) ≡ false) (sym same) (ap (has_number number) (emptied rows put))
+    by (inr apart) =
+        ap (has_number number) (get_or-set_other rows put place None None apart) ∙ elsewhere apart (has_number number (held_in rows place)) refl
+
+-- so its number has no place
+pub place_of-without_row_same : {T : Type 0} → (rows : List (Option (Numbered T))) (number : ℕ) → AreDistinct rows → place_of (without_row rows number) number ≡ None
+place_of-without_row_same rows number distinct = by (place_of rows number) refl
+  where
+    by : (found : Option ℕ) → place_of rows number ≡ found → place_of (with_held_at rows None found) number ≡ None
+    by None is = is
+    by (Some put) is = nowhere (with_held rows put None) number (cleared rows number put distinct is)
+
+-- and no thing
+pub row_of-without_row_same : {T : Type 0} → (rows : List (Option (Numbered T))) (number : ℕ) → AreDistinct rows → row_of (without_row rows number) number ≡ None
+row_of-without_row_same rows number distinct = row_none (without_row rows number) number (place_of-without_row_same rows number distinct)
+
+-- the others are as distinct, and within the same bound
+pub distinct-without_row : {T : Type 0} → (rows : List (Option (Numbered T))) (number : ℕ) → AreDistinct rows → AreDistinct (without_row rows number)
+distinct-without_row rows number distinct = by (place_of rows number)
+  where
+    by : (found : Option ℕ) → AreDistinct (with_held_at rows None found)
+    by None = distinct
+    by (Some put) = distinct_put rows put None distinct (λ n place has stands. absurd (false≢true has))
+
+pub within-without_row : {T : Type 0} → (rows : List (Option (Numbered T))) (number bound : ℕ) → AreWithin bound rows → AreWithin bound (without_row rows number)
+within-without_row rows number bound within = by (place_of rows number)
+  where
+    by : (found : Option ℕ) → AreWithin bound (with_held_at rows None found)
+    by None = within
+    by (Some put) = within_put rows put None bound within (λ n has. absurd (false≢true has))
+
+-- ---- a new thing
+
+-- what is none is None
+is_nothing : {T : Type 0} → (held : Option T) → is_none held ≡ true → held ≡ None
+is_nothing None is = refl
+is_nothing (Some x) is = absurd (cc)
+
+-- nothing stands at the least free place
+pub free_least : {T : Type 0} → (rows : List (Option T)) (put : ℕ) → least_free rows 0 ≡ Some put → (held_in rows put ≡ None) × (put < length rows)
+free_least rows put is =
+    let f = place_found is_none rows 0 put is in
+    let same : f.0 ≡ put = omega (arith, f.1) in
+    (subst (λ p. held_in rows p ≡ None) same (is_nothing (held_in rows f.0) f.2), omega (arith, f.1, f.3))
+
+-- other numbers stand where they stood
+pub place_of-with_new_row_other : {T : Type 0} → (rows : List (Option (Numbered T))) (number : ℕ) (held : T) (other : ℕ) → (number ≡ other → ⊥) →
+    place_of (with_new_row rows number held) other ≡ place_of rows other
+place_of-with_new_row_other rows number held other differ = by (least_free rows 0) refl
+  where
+    by : (found : Option ℕ) → least_free rows 0 ≡ found → place_of (with_held_at rows (Some (record { number = number; held = held })) found) other ≡ place_of rows other
+    by None is = refl
+    by (Some put) is =
+        place_put_other rows put (Some (record { number = number; held = held })) other (ap (has_number other) (free_least rows put is).0) (ne_eqb number other differ)
+
+-- and have what they had
+pub row_of-with_new_row_other : {T : Type 0} → (rows : List (Option (Numbered T))) (number : ℕ) (held : T) (other : ℕ) → (number ≡ other → ⊥) →
+    row_of (with_new_row rows number held) other ≡ row_of rows other
+row_of-with_new_row_other rows number held other differ = by (least_free rows 0) refl
+  where
+    by : (found : Option ℕ) → least_free rows 0 ≡ found → row_of (with_held_at rows (Some (record { number = number; held = held })) found) other ≡ row_of rows other
+    by None is = refl
+    by (Some put) is =
+        row_put_other rows put (Some (record { number = number; held = held })) other (ap (has_number other) (free_least rows put is).0) (ne_eqb number other differ)
+
+-- numbers stay distinct where the new one stood nowhere
+pub distinct-with_new_row : {T : Type 0} → (rows : List (Option (Numbered T))) (number : ℕ) (held : T) → AreDistinct rows → place_of rows number ≡ None →
+    AreDistinct (with_new_row rows number held)
+distinct-with_new_row rows number held distinct new = by (least_free rows 0)
+  where
+    by : (found : Option ℕ) → AreDistinct (with_held_at rows (Some (record { number = number; held = held })) found)
+    by None = distinct
+    by (Some put) = distinct_put rows put (Some (record { number = number; held = held })) distinct
+        (λ n place has stands. absurd (both_ways (has_number n (held_in rows place))
+        (subst (λ m. has_number m (held_in rows place) ≡ false) (eqb-true number n has) (none_stands rows number new place)) stands))
+
+-- they stay within a bound where the new one is
+pub within-with_new_row : {T : Type 0} → (rows : List (Option (Numbered T))) (number : ℕ) (held : T) (bound : ℕ) → AreWithin bound rows → number ≤ bound →
+    AreWithin bound (with_new_row rows number held)
+within-with_new_row rows number held bound within below = by (least_free rows 0)
+  where
+    by : (found : Option ℕ) → AreWithin bound (with_held_at rows (Some (record { number = number; held = held })) found)
+    by None = within
+    by (Some put) = within_put rows put (Some (record { number = number; held = held })) bound within (λ n has. subst (λ m. m ≤ bound) (eqb-true number n has) below)
+
+-- a new number has the place that was free
+pub place_of-with_new_row_same : {T : Type 0} → (rows : List (Option (Numbered T))) (number : ℕ) (held : T) (put : ℕ) → AreDistinct rows → place_of rows number ≡ None →
+    least_free rows 0 ≡ Some put → place_of (with_new_row rows number held) number ≡ Some put
+place_of-with_new_row_same rows number held put distinct new is =
+    stands_place (with_new_row rows number held) number put (distinct-with_new_row rows number held distinct new)
+    (ap (λ found. has_number number (held_in (with_held_at rows (Some (record { number = number; held = held })) found) put)) is
+    ∙ ap (has_number number) (get_or-set_same rows put (Some (record { number = number; held = held })) None (free_least rows put is).1)
+    ∙ eq-eqb number number refl)
+
+-- and has the new thing
+pub row_of-with_new_row_same : {T : Type 0} → (rows : List (Option (Numbered T))) (number : ℕ) (held : T) (put : ℕ) → AreDistinct rows → place_of rows number ≡ None →
+    least_free rows 0 ≡ Some put → row_of (with_new_row rows number held) number ≡ Some held
+row_of-with_new_row_same rows number held put distinct new is =
+    row_at (with_new_row rows number held) number put (place_of-with_new_row_same rows number held put distinct new is)
+    ∙ ap (λ found. held_of (held_in (with_held_at rows (Some (record { number = number; held = held })) found) put)) is
+    ∙ ap held_of (get_or-set_same rows put (Some (record { number = number; held = held })) None (free_least rows put is).1)
+
+-- a number stands behind it where it stood, or it is the new one and the place was free
+pub new_stands : {T : Type 0} → (rows : List (Option (Numbered T))) (number : ℕ) (held : T) (place : ℕ) → place_of rows number ≡ None →
+    Stands number (with_new_row rows number held) place → IsFree rows place
+new_stands rows number held place new stands = by (least_free rows 0) refl stands
+  where
+    by : (found : Option ℕ) → least_free rows 0 ≡ found → Stands number (with_held_at rows (Some (record { number = number; held = held })) found) place → IsFree rows place
+    by None is stands = absurd (both_ways (has_number number (held_in rows place)) (none_stands rows number new place) stands)
+    by (Some put) is stands =
+        elim (stands_put rows put (Some (record { number = number; held = held })) number place stands) [
+          | inl f ↦ λ n. subst (λ p. has_number n (held_in rows p) ≡ false) (sym f.0) (ap (has_number n) (free_least rows put is).0)
+          | inr f ↦ absurd (both_ways (has_number number (held_in rows place)) (none_stands rows number new place) f)
+        ]
+
+-- what is free behind it was free
+pub new_free : {T : Type 0} → (rows : List (Option (Numbered T))) (number : ℕ) (held : T) (place : ℕ) → IsFree (with_new_row rows number held) place → IsFree rows place
+new_free rows number held place free = by (least_free rows 0) refl free
+  where
+    apart : (put : ℕ) → least_free rows 0 ≡ Some put → IsFree (with_held rows put (Some (record { number = number; held = held }))) place →
+        (place ≡ put) ⊎ (place ≡ put → ⊥) → IsFree rows place
+    apart put is free (inl same) n = subst (λ p. has_number n (held_in rows p) ≡ false) (sym same) (ap (has_number n) (free_least rows put is).0)
+    apart put is free (inr differ) n = sym (ap (has_number n) (get_or-set_other rows put place (Some (record { number = number; held = held })) None differ)) ∙ free n
+
+    by : (found : Option ℕ) → least_free rows 0 ≡ found → IsFree (with_held_at rows (Some (record { number = number; held = held })) found) place → IsFree rows place
+    by None is free = free
+    by (Some put) is free = apart put is free (cases_eq place put)
+
+-- what is free once a thing is gone was free, or it is the place of that thing
+pub less_free : {T : Type 0} → (rows : List (Option (Numbered T))) (put place : ℕ) → (place ≡ put → ⊥) → IsFree (with_held rows put None) place → IsFree rows place
+less_free rows put place differ free n = sym (ap (has_number n) (get_or-set_other rows put place None None differ)) ∙ free n

@@ -1,0 +1,38 @@
+-- Who owes a connection its reply, and how connections part: what holds in every state.
+use Rattle.std.specs.Prelude.{◌≡◌, ◌≢◌, ℕ, Option, None, Some}
+use Rattle.fs_places.specs.declared.numbered.Numbered.{Numbered}
+use Rattle.fs_state.specs.declared.conn.Conn.{Conn}
+use Rattle.fs_state.specs.declared.conn.Phase.{Phase}
+use Rattle.fs_state.specs.declared.conn.Phase.TheVariants.{Fresh, Ready, Ending, Closed}
+use Rattle.fs_state.specs.declared.conn.Parting.{Parting}
+use Rattle.fs_state.specs.declared.job.Job.{Job}
+use Rattle.fs_state.specs.Switch.{Switch, job_at, job_of, conn_of}
+use Rattle.fs_machine.specs.Due.{job_due}
+use Rattle.fs_machine.specs.Questions.{owed_to}
+
+-- at this place stands a job, known by its number, that owes a connection its reply; no other does, and it has a next moment
+pub record OwesFrom (s : Switch) (conn place : ℕ) (row : Numbered Job) : Type 0 where
+  pub there : job_at s place ≡ Some row
+  pub owes : row.held.conn ≡ conn
+  pub known : job_of s row.number ≡ Some row.held
+  pub alone : (other : ℕ) (another : Numbered Job) → job_at s other ≡ Some another → another.held.conn ≡ conn → other ≡ place
+  pub due : job_due row.number s ≢ None
+
+-- one job owes a connection its reply
+abbrev pub HasOneJob : Switch → ℕ → Type 0
+HasOneJob s conn = (place : ℕ) × (row : Numbered Job) × OwesFrom s conn place row
+
+-- one that reads commands has not parted, one that is ending has, and one that is closed is not there
+abbrev pub PartsIn : Phase → Option Parting → Type 0
+PartsIn Fresh parting = parting ≡ None
+PartsIn Ready parting = parting ≡ None
+PartsIn Ending parting = parting ≢ None
+PartsIn Closed parting = ⊥
+
+abbrev pub Parts : Conn → Type 0
+Parts c = PartsIn c.phase c.parting
+
+-- each connection that is owed a reply has one job that owes it, and each that is there parts as its phase says
+pub record AreOwed (s : Switch) : Type 0 where
+  pub owed : (conn since : ℕ) → owed_to s conn ≡ Some since → HasOneJob s conn
+  pub parted : (conn : ℕ) (c : Conn) → conn_of s conn ≡ Some c → Parts c

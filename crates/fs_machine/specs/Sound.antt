@@ -1,0 +1,27 @@
+-- What holds of the channels of every switch that a run comes to.
+use Rattle.std.specs.Prelude.{◌≡◌, ◌≢◌, ℕ, true, Some}
+use Rattle.fs_chan.specs.declared.chan.Chan.{Chan}
+use Rattle.fs_chan.specs.Changes.{is_live}
+use Rattle.fs_state.specs.Switch.{Switch, chan_at}
+use Rattle.fs_machine.specs.Owed.{AreOwed}
+
+-- a live channel stands in a slot, and the one in another slot is its loopback partner
+pub record HasPartner (s : Switch) (slot other : ℕ) : Type 0 where
+  pub chan : Chan
+  pub there : chan_at s slot ≡ Some chan
+  pub live : is_live chan ≡ true
+  pub partner : chan.partner ≡ Some other
+
+-- the loopback partner of a live channel is there, is live, and names it back
+pub record PartnersAgree (s : Switch) : Type 0 where
+  pub back : (slot other : ℕ) → HasPartner s slot other → HasPartner s other slot
+
+-- channels in different slots have different identifiers
+pub record IdentifiersDiffer (s : Switch) : Type 0 where
+  pub apart : (slot other : ℕ) (c d : Chan) → chan_at s slot ≡ Some c → chan_at s other ≡ Some d → slot ≢ other → c.uuid ≢ d.uuid
+
+-- what holds of the state of every machine
+pub record IsSound (s : Switch) : Type 0 where
+  pub partners : PartnersAgree s
+  pub identifiers : IdentifiersDiffer s
+  pub owed : AreOwed s

@@ -9,9 +9,9 @@ use fs_text::{EventName, Memory, Txt};
 use std::alloc::Global;
 use std::test::Fail;
 
-// An extension that answers and waits.
+// An extension that answers and waits, and one that answers after five seconds.
 const DOCUMENT: &str =
-    "<document><section name='dialplan'><context name='default'><extension><condition field='destination_number' expression='^ans$'><action application='answer'/><action application='park'/></condition></extension></context></section></document>";
+    "<document><section name='dialplan'><context name='default'><extension><condition field='destination_number' expression='^ans$'><action application='answer'/><action application='park'/></condition></extension><extension><condition field='destination_number' expression='^slow$'><action application='sleep' data='5000'/><action application='answer'/><action application='park'/></condition></extension></context></section></document>";
 
 // What a connection is sent as it comes and gives its password.
 const GREETING: &str =
@@ -26,7 +26,7 @@ struct Row {
     moment: u64,
 }
 
-const ROWS: [Row; 4] = [
+const ROWS: [Row; 5] = [
     Row {
         name: "an echo",
         input: "auth ClueCon\n\napi echo hi\n\n",
@@ -40,6 +40,13 @@ const ROWS: [Row; 4] = [
         output: "Content-Type: api/response\nContent-Length: 41\n\n+OK 46530000-0000-8000-8000-000000000001\nContent-Type: api/response\nContent-Length: 4\n\n+OK\nContent-Type: api/response\nContent-Length: 5\n\nfalseContent-Type: api/response\nContent-Length: 22\n\n-ERR No such channel!\nContent-Type: api/response\nContent-Length: 4\n\n+OK\n",
         end: End::Eof,
         moment: 2_000_000,
+    },
+    Row {
+        name: "an answer after five seconds",
+        input: "auth ClueCon\n\napi originate loopback/slow &park()\n\n",
+        output: "Content-Type: api/response\nContent-Length: 41\n\n+OK 46530000-0000-8000-8000-000000000001\n",
+        end: End::Eof,
+        moment: 5_000_000,
     },
     Row {
         name: "no route",

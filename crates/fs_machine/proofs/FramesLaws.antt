@@ -47,7 +47,7 @@ quiet_follows conn act s handed ordered same =
     ∙ ap (λ frames. frames ++ waiting_for (closed (cost_of act) (acted act s).state) conn) (sym handed)
 
 -- an act that keeps the connections
-keeps_follows : (conn : ℕ) (act : Act) (s : Switch) → handed_in conn act s ≡ [] → Ordered (acted act s).state → Keeps s (acted act s).state → Follows conn act s
+keeps_follows : {who : Option ℕ} → (conn : ℕ) (act : Act) (s : Switch) → handed_in conn act s ≡ [] → Ordered (acted act s).state → Keeps who s (acted act s).state → Follows conn act s
 keeps_follows conn act s handed ordered keeps = quiet_follows conn act s handed ordered (keeps_waiting s (acted act s).state keeps conn)
 
 -- a frame that is taken is handed out, and the others wait
@@ -75,7 +75,7 @@ take_follows conn taker s orderly = by (taker == conn) refl
         ∙ sym (waits ∙ taken_other taker conn s (eqb-false taker conn e))
 
 -- why a connection of which all was sent cannot be closed
-close_refused : (s : Switch) (conn : ℕ) → refused_act (Close conn Sent) s ≡ None →
+pub close_refused : (s : Switch) (conn : ℕ) → refused_act (Close conn Sent) s ≡ None →
     (is_closed (phase_at s conn) ≡ false) × (refused_where (is_unsent s conn) (refusal.Unsent (length (waiting_for s conn)) (is_some (owed_to s conn))) None ≡ None)
 close_refused s conn none =
     none_refused (is_closed (phase_at s conn)) refusal.Gone
@@ -168,11 +168,11 @@ handed_advanced : (conn now : ℕ) (act : Act) (s : Switch) → handed_in conn a
 handed_advanced conn now (Take taker) s = refl
 handed_advanced conn now _ s = refl
 
-record Lost (conn : ℕ) (s : Switch) (entry : Entry) : Type 0 where
-  handed : handed_in conn entry.act s ≡ []
-  given : given_by conn s entry ≡ []
-  gone : place_of (step s entry).state.conns conn ≡ None
-  drawn : conn ≤ (step s entry).state.drawn.conns
+pub record Lost (conn : ℕ) (s : Switch) (entry : Entry) : Type 0 where
+  pub handed : handed_in conn entry.act s ≡ []
+  pub given : given_by conn s entry ≡ []
+  pub gone : place_of (step s entry).state.conns conn ≡ None
+  pub drawn : conn ≤ (step s entry).state.drawn.conns
 
 -- the same of the entry of an act
 entry_waits : (conn : ℕ) (s : Switch) (entry : Entry) → Follows conn entry.act (advanced entry.moment s) →
@@ -189,7 +189,7 @@ entry_drops conn s entry drops = record {
   drawn = drops.drawn;
 }
 
-entry_follows : (conn : ℕ) (s : Switch) (entry : Entry) → Orderly s → refusal_of s entry ≡ None →
+pub entry_follows : (conn : ℕ) (s : Switch) (entry : Entry) → Orderly s → refusal_of s entry ≡ None →
     (waiting_for s conn ++ given_by conn s entry ≡ handed_in conn entry.act s ++ waiting_for (step s entry).state conn) ⊎ Lost conn s entry
 entry_follows conn s entry orderly none =
     by (act_follows conn entry.act (advanced entry.moment s) (advanced_orderly entry.moment s orderly) (room_left s orderly (not_full s entry none)) (not_refused s entry none))
@@ -202,7 +202,7 @@ entry_follows conn s entry orderly none =
 -- ---- a connection that is gone
 
 -- nothing waits for it
-none_waits : (s : Switch) (conn : ℕ) → place_of s.conns conn ≡ None → waiting_for s conn ≡ []
+pub none_waits : (s : Switch) (conn : ℕ) → place_of s.conns conn ≡ None → waiting_for s conn ≡ []
 none_waits s conn none = ap (waiting_at s.queues) none
 
 -- and nothing is handed out to it
@@ -316,7 +316,7 @@ frames_more conn s (first ∷ entries) entry =
     ∙ sym (append_assoc (given_by conn s first) (frames_from conn (step s first).state entries) (given_by conn (run_from (step s first).state entries) entry))
 
 -- the front of a run with one more entry, and that entry
-run_front : (s : Switch) (entries : List Entry) (entry : Entry) → IsRunFrom s (entries ++ entry ∷ []) → IsRunFrom s entries × (refusal_of (run_from s entries) entry ≡ None)
+pub run_front : (s : Switch) (entries : List Entry) (entry : Entry) → IsRunFrom s (entries ++ entry ∷ []) → IsRunFrom s entries × (refusal_of (run_from s entries) entry ≡ None)
 run_front s [] entry run = (tt, run.0)
 run_front s (first ∷ entries) entry run = let rest = run_front (step s first).state entries entry run.1 in ((run.0, rest.0), rest.1)
 

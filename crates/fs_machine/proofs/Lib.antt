@@ -12,6 +12,8 @@ pub mod KeepLemmas
 pub mod WaitingLemmas
 pub mod OrderLemmas
 pub mod FramesLaws
+pub mod ConcernLemmas
+pub mod EventLemmas
 pub mod RefusalLemmas
 pub mod TableLemmas
 pub mod OwedBooks

@@ -33,7 +33,7 @@ use Rattle.fs_machine.proofs.FrameLemmas.{some_cost}
 -- ---- what each act keeps
 
 -- a channel that works keeps the connections
-pub work_keeps : (slot : ℕ) (s : Switch) → Keeps s (worked slot s)
+pub work_keeps : (slot : ℕ) (s : Switch) → Keeps None s (worked slot s)
 work_keeps slot s = keeps_same s (worked slot s) (worked_same slot s)
 
 -- the connections that there are, and their queues
@@ -48,7 +48,7 @@ acted_ordered (Close conn Failed) s ordered room = without_ordered conn s ordere
 acted_ordered (Work slot) s ordered room = keeps_ordered s (worked slot s) (work_keeps slot s) ordered
 acted_ordered (Job number) s ordered room = keeps_ordered s (job_done number s) (job_done_keeps number s) ordered
 
--- no act pays by itself, nor changes what the switch was configured by
+-- no act pays or counts by itself, nor changes what the switch was configured by
 pub acted_cost : (act : Act) (s : Switch) → (acted act s).state.cost ≡ s.cost
 acted_cost Arrive s = refl
 acted_cost (Command conn block) s = (commanded_keeps conn (command_of (line_of block)) s).cost
@@ -68,6 +68,16 @@ acted_config (Close conn Sent) s = refl
 acted_config (Close conn Failed) s = refl
 acted_config (Work slot) s = (work_keeps slot s).config
 acted_config (Job number) s = (job_done_keeps number s).config
+
+pub acted_counts : (act : Act) (s : Switch) → (acted act s).state.counts ≡ s.counts
+acted_counts Arrive s = refl
+acted_counts (Command conn block) s = (commanded_keeps conn (command_of (line_of block)) s).counts
+acted_counts (Take conn) s = refl
+acted_counts (Close conn EndOfInput) s = (parted_keeps parting.EndOfInput conn s).counts
+acted_counts (Close conn Sent) s = refl
+acted_counts (Close conn Failed) s = refl
+acted_counts (Work slot) s = (work_keeps slot s).counts
+acted_counts (Job number) s = (job_done_keeps number s).counts
 
 -- at most one number more is drawn
 abbrev pub IsNext : ℕ → ℕ → Type 0
@@ -137,7 +147,7 @@ room_left s orderly below =
 
 -- the clock is no matter of connections
 pub advanced_ordered : (now : ℕ) (s : Switch) → Ordered s → Ordered (advanced now s)
-advanced_ordered now s ordered = keeps_ordered s (advanced now s) (keeps_same s (advanced now s) refl) ordered
+advanced_ordered now s ordered = keeps_ordered s (advanced now s) (keeps_same {who = None} s (advanced now s) refl) ordered
 
 pub advanced_orderly : (now : ℕ) (s : Switch) → Orderly s → Orderly (advanced now s)
 advanced_orderly now s orderly = record { ordered = advanced_ordered now s orderly.ordered; given = orderly.given; paid = orderly.paid; limit = orderly.limit }

@@ -1,4 +1,4 @@
--- What happens to channels leaves all connections as they are, with what waits for them.
+-- What happens to channels leaves all connections as they are, with what waits for them, and what was counted before.
 use Rattle.std.proofs.Common.{◌≡◌, ℕ, ◌==◌, Bool, true, false, if◌then◌else◌, nat_lt, List, [], ◌∷◌, length, Option, None, Some, is_none, refl, ◌∙◌}
 use Rattle.fs_text.specs.declared.causes.Cause.{Cause}
 use Rattle.fs_text.specs.declared.causes.Cause.TheVariants.{NormalClearing, NormalTemporaryFailure, DestinationOutOfOrder, ExchangeRoutingError, NoRouteDestination, SwitchCongestion}
@@ -28,6 +28,7 @@ use Rattle.fs_orig.specs.Endpoints.{endpoint_of}
 use Rattle.fs_plan.specs.declared.hunt.Hunt.{Hunt}
 use Rattle.fs_places.specs.declared.numbered.Numbered.{Numbered}
 use Rattle.fs_state.specs.declared.conn.Conn.{Conn}
+use Rattle.fs_state.specs.Counts.{Tallies}
 use Rattle.fs_state.specs.Queues.{Frames}
 use Rattle.fs_state.specs.Switch.{Switch, chan_at, with_chan, orig_of, told}
 use Rattle.fs_state.specs.Moves.{happens, left_told, come_told, state_told, moved_from, moved, begun, running, run_on, completed, orig_changed_from, leg_changed, its_leg_changed, answered_from, one_answered, partner_at, for_slot, answered, hangup_of, hung_from, one_hung, hung_with, hung}
@@ -38,16 +39,17 @@ use Rattle.fs_machine.specs.Work.{with_variables, routed_to, actions_for, too_lo
 use Rattle.fs_machine.specs.Originations.{Made, made_dead, made_in, free_pair, is_congested, loopback_made, made_of, leg_made, won_by, won}
 use Rattle.fs_machine.specs.Jobs.{all_hung}
 
--- the connections of a switch, with what waits for them and what numbers them
+-- the connections of a switch, with what waits for them and what numbers them, and what was counted and paid before the entry in hand
 pub record Sockets : Type 0 where
   pub config : Configuration
   pub conns : List (Option (Numbered Conn))
   pub queues : List Frames
   pub drawn : ℕ
   pub cost : ℕ
+  pub counts : Tallies
 
 abbrev pub sockets_of : Switch → Sockets
-sockets_of s = record { config = s.config; conns = s.conns; queues = s.queues; drawn = s.drawn.conns; cost = s.cost }
+sockets_of s = record { config = s.config; conns = s.conns; queues = s.queues; drawn = s.drawn.conns; cost = s.cost; counts = s.counts }
 
 -- what holds of both holds of the one that a test chooses
 pub whichever : {A : Type 0} → (P : A → Type 0) (b : Bool) (x y : A) → P x → P y → P (if b then x else y)

@@ -1,6 +1,5 @@
 -- Jobs: work that goes on behind a command, and the replies that are owed until it is done.
-use Rattle.std.specs.Prelude.{ℕ, ◌*◌, ◌==◌, not, if◌then◌else◌, List, [], ◌∷◌, length, Option, None, Some, unwrap_or, slice_get}
-use Rattle.std.specs.Option.{option_and_then}
+use Rattle.std.specs.Prelude.{ℕ, ◌*◌, if◌then◌else◌, List, [], ◌∷◌, Option, None, Some, unwrap_or, slice_get}
 use Rattle.std.specs.List.{filter_map}
 use Rattle.fs_text.specs.declared.causes.Cause.{Cause}
 use Rattle.fs_text.specs.declared.causes.Cause.TheVariants.{NoAnswer}

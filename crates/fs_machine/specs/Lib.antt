@@ -15,4 +15,6 @@ pub mod Step
 pub mod Frames
 pub mod Owed
 pub mod Runs
+pub mod Events
+pub mod Concerns
 pub mod Sound

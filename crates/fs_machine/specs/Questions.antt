@@ -1,10 +1,8 @@
 -- What is asked of a switch.
-use Rattle.std.specs.Prelude.{ℕ, Bool, false, Option, None, Some, is_some, count_by}
+use Rattle.std.specs.Prelude.{ℕ, Bool, Option, None, Some, is_some, count_by}
 use Rattle.std.specs.Option.{option_and_then}
 use Rattle.fs_state.specs.declared.conn.Conn.{Conn}
 use Rattle.fs_state.specs.declared.conn.Parting.{Parting}
-use Rattle.fs_chan.specs.declared.chan.Chan.{Chan}
-use Rattle.fs_chan.specs.Changes.{is_live}
 use Rattle.fs_state.specs.Switch.{Switch, conn_of}
 
 abbrev pub parting_of : Conn → Option Parting
@@ -24,10 +22,14 @@ owed_to s conn = option_and_then owed_of (conn_of s conn)
 abbrev pub owes : Switch → ℕ → Bool
 owes s conn = is_some (owed_to s conn)
 
--- how many channels are live
-abbrev pub holds_live : Option Chan → Bool
-holds_live None = false
-holds_live (Some c) = is_live c
+-- how many events a connection did not get that it asked for
+abbrev pub lost_of : Option Conn → ℕ
+lost_of None = 0
+lost_of (Some c) = c.lost
 
+abbrev pub lost : Switch → ℕ → ℕ
+lost s conn = lost_of (conn_of s conn)
+
+-- how many slots hold a channel
 abbrev pub live : Switch → ℕ
-live s = count_by holds_live s.channels
+live s = count_by is_some s.channels

@@ -8,7 +8,7 @@ use Rattle.fs_state.specs.declared.conn.Phase.{Phase}
 use Rattle.fs_state.specs.declared.conn.Phase.TheVariants as phase
 use Rattle.fs_state.specs.declared.conn.Parting.TheVariants as parting
 use Rattle.fs_state.specs.Drawn as numbers
-use Rattle.fs_state.specs.Switch.{Switch, conn_of, with_new_conn, without_conn, with_frame_taken, waiting_for, is_full_of_conns, gave, advanced, closed}
+use Rattle.fs_state.specs.Switch.{Switch, with_new_conn, without_conn, with_frame_taken, waiting_for, is_full_of_conns, gave, advanced, closed}
 use Rattle.fs_machine.specs.declared.entry.Entry.{Entry}
 use Rattle.fs_machine.specs.declared.entry.Act.{Act}
 use Rattle.fs_machine.specs.declared.entry.Act.TheVariants.{Arrive, Command, Take, Close, Work, Job}
@@ -98,7 +98,7 @@ pub record Acted : Type 0 where
 
 -- a connection that has come
 abbrev pub fresh : Conn
-fresh = record { phase = phase.Fresh; owed = None; parting = None }
+fresh = record { phase = phase.Fresh; owed = None; parting = None; lost = 0 }
 
 abbrev pub arrived : Switch → Acted
 arrived s = record {

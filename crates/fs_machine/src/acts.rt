@@ -55,6 +55,7 @@ fn arrive(draft: &mut Draft<'_>) -> Result<Reply, Memory>
         phase: Phase::Fresh,
         owed: None,
         parting: None,
+        lost: 0,
     })?;
     let request = auth_request(draft.alloc())?;
     draft.give(number, request)?;

@@ -107,7 +107,7 @@ fn set(draft: &mut Draft<'_>, slot: u16, name: &Txt, value: &Txt) -> Result<(), 
     ensures base { draft.new.base ≡ draft.old.base }
     ensures ok { OnOk result (drafted draft.new ≡ moved (spec.with_variable name.now value.now) slot (drafted draft.old)) }
 {
-    let Some(mut chan) = draft.copy_chan(slot)? else {
+    let Some(mut chan) = draft.own_chan(slot)? else {
         return Ok(());
     };
     let state = chan.state;
@@ -120,7 +120,7 @@ fn unset(draft: &mut Draft<'_>, slot: u16, name: &Txt) -> Result<(), Memory>
     ensures base { draft.new.base ≡ draft.old.base }
     ensures ok { OnOk result (drafted draft.new ≡ moved (spec.without_variable name.now) slot (drafted draft.old)) }
 {
-    let Some(mut chan) = draft.copy_chan(slot)? else {
+    let Some(mut chan) = draft.own_chan(slot)? else {
         return Ok(());
     };
     let state = chan.state;
@@ -133,7 +133,7 @@ fn export(draft: &mut Draft<'_>, slot: u16, name: &Txt, value: &Txt) -> Result<(
     ensures base { draft.new.base ≡ draft.old.base }
     ensures ok { OnOk result (drafted draft.new ≡ moved (spec.with_export name.now value.now) slot (drafted draft.old)) }
 {
-    let Some(mut chan) = draft.copy_chan(slot)? else {
+    let Some(mut chan) = draft.own_chan(slot)? else {
         return Ok(());
     };
     let state = chan.state;
@@ -161,11 +161,12 @@ fn sleep(draft: &mut Draft<'_>, slot: u16, milliseconds: u64) -> Result<(), Memo
     if milliseconds == 0 {
         return draft.complete(slot);
     }
-    let Some(mut chan) = draft.copy_chan(slot)? else {
+    let now = draft.moment();
+    let Some(mut chan) = draft.own_chan(slot)? else {
         return Ok(());
     };
     let state = chan.state;
-    chan.sleep(draft.moment(), milliseconds);
+    chan.sleep(now, milliseconds);
     draft.put_moved(slot, state, chan)
 }
 

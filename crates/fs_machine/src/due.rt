@@ -106,11 +106,11 @@ pub(crate) fn due_in_slot(draft: &Draft<'_>, slot: u16) -> DueActor
 }
 
 // The least slot that has something to do.
-#[tactic(auto, using(fs_places::proofs::PlaceLemmas::first_here, fs_places::proofs::PlaceLemmas::first_behind, fs_places::proofs::PlaceLemmas::first_nowhere))]
+#[tactic(auto, using(fs_places::proofs::PlaceLemmas::first_here, fs_places::proofs::PlaceLemmas::first_behind, fs_places::proofs::PlaceLemmas::first_empty))]
 fn due_slot(draft: &Draft<'_>) -> Option<u16>
     ensures { result ≡ spec.due_slot (drafted draft.now) }
 {
-    for slot in 0..draft.slots() {
+    for slot in 0..draft.filled_slots() {
         if is_now(slot_due(draft, slot)) {
             return Some(slot);
         }
@@ -119,36 +119,36 @@ fn due_slot(draft: &Draft<'_>) -> Option<u16>
 }
 
 // The least number of a job that has something to do.
-#[tactic(auto, using(crate::proofs::LeastLemmas::least_next, crate::proofs::LeastLemmas::least_done))]
+#[tactic(auto, using(crate::proofs::LeastLemmas::least_next, crate::proofs::LeastLemmas::least_empty))]
 fn due_job(draft: &Draft<'_>) -> Option<u64>
     ensures { result ≡ spec.due_job (drafted draft.now) }
 {
     let mut least = None;
-    for place in 0..draft.job_places() {
+    for place in 0..draft.filled_jobs() {
         least = lesser(least, due_number(draft, place));
     }
     least
 }
 
 // The first moment at which a channel will have something to do.
-#[tactic(auto, using(crate::proofs::LeastLemmas::least_next, crate::proofs::LeastLemmas::least_done))]
+#[tactic(auto, using(crate::proofs::LeastLemmas::least_next, crate::proofs::LeastLemmas::least_empty))]
 fn first_chan_moment(draft: &Draft<'_>) -> Option<u64>
     ensures { result ≡ spec.first_chan_moment (drafted draft.now) }
 {
     let mut first = None;
-    for slot in 0..draft.slots() {
+    for slot in 0..draft.filled_slots() {
         first = lesser(first, later_of(slot_due(draft, slot)));
     }
     first
 }
 
 // The first moment at which a job will have something to do.
-#[tactic(auto, using(crate::proofs::LeastLemmas::least_next, crate::proofs::LeastLemmas::least_done))]
+#[tactic(auto, using(crate::proofs::LeastLemmas::least_next, crate::proofs::LeastLemmas::least_empty))]
 fn first_job_moment(draft: &Draft<'_>) -> Option<u64>
     ensures { result ≡ spec.first_job_moment (drafted draft.now) }
 {
     let mut first = None;
-    for place in 0..draft.job_places() {
+    for place in 0..draft.filled_jobs() {
         first = lesser(first, later_of(row_due(draft, draft.job_at(place))));
     }
     first

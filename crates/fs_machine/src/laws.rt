@@ -11,6 +11,7 @@ ghost use Rattle.fs_machine.specs.declared.entry.Closing.TheVariants.{Sent};
 ghost use Rattle.fs_machine.specs.Connections.{phase_at};
 ghost use Rattle.fs_machine.specs.Due.{next_due};
 ghost use Rattle.fs_machine.specs.Questions.{owes};
+ghost use Rattle.fs_machine.specs.Concerns.{Concerns};
 ghost use Rattle.fs_machine.specs.Step.{is_closed};
 ghost use Rattle.fs_machine.specs.Frames.{frames_from, handed_from};
 ghost use Rattle.fs_machine.specs.Runs.{run_from, IsRunFrom};
@@ -51,4 +52,10 @@ pub fn partners_agree()
 pub fn identifiers_differ()
     ensures { (config : Configuration) (entries : List Entry) → config.settings.journal_limit ≤ 1073741824 → IsRunFrom (empty config) entries
         → IdentifiersDiffer (run_from (empty config) entries) }
+{}
+
+/// Each entry of a run is for each connection one of three things: its own, one of others, or the one by which it comes.
+pub fn concerns_each_connection()
+    ensures { (config : Configuration) (entries : List Entry) (entry : Entry) (conn : ℕ) → config.settings.journal_limit ≤ 1073741824
+        → IsRunFrom (empty config) (entries ++ entry ∷ []) → Concerns conn (run_from (empty config) entries) entry }
 {}

@@ -23,7 +23,10 @@ mod work;
 
 pub use due::DueActor;
 pub use entry::{Act, Closing, Entry};
-pub use laws::{hands_out_what_it_gives, identifiers_differ, owes_to_its_jobs, partners_agree};
+pub use laws::{
+    concerns_each_connection, hands_out_what_it_gives, identifiers_differ, owes_to_its_jobs,
+    partners_agree,
+};
 pub use machine::{Change, Machine};
 pub use refusal::Refusal;
 pub use reply::Reply;

@@ -1,10 +1,16 @@
 ghost use Rattle.std.specs.Prelude.{◌≡◌, ◌<◌, ℕ, length, is_some};
+ghost use Rattle.fs_text.specs.declared.causes.Cause.{Cause};
+ghost use Rattle.fs_text.specs.declared.event_names.EventName.{EventName};
+ghost use Rattle.fs_text.specs.Cause.{cause_number};
+ghost use Rattle.fs_text.specs.EventName.{event_number};
 ghost use Rattle.fs_state.specs.declared.delta.QueueChange.TheVariants.{Unchanged};
+ghost use Rattle.fs_state.specs.Counts.{counted_at, events_named, hangups_for};
 ghost use Rattle.fs_state.specs.Drafts.{drafted};
 ghost use Rattle.fs_state.specs.Switch.{chan_at, waiting_for, advanced};
 ghost use Rattle.fs_machine.specs.declared.due.DueActor.TheVariants as actor;
 ghost use Rattle.fs_machine.specs.Connections as connections;
 ghost use Rattle.fs_machine.specs.Due as due;
+ghost use Rattle.fs_machine.specs.Events.{happened, events_of};
 ghost use Rattle.fs_machine.specs.Questions as spec;
 ghost use Rattle.fs_machine.specs.Runs.{state_of};
 
@@ -66,11 +72,11 @@ impl Machine {
         self.seen().chan(slot).is_some()
     }
 
-    /// How many channels are live.
+    /// How many slots hold a channel.
     pub fn live(&self) -> u16
         ensures { result ≡ spec.live (state_of self.now) }
     {
-        live_among(&self.seen())
+        held_among(&self.seen())
     }
 
     /// The moment of the last entry, in microseconds.
@@ -94,9 +100,19 @@ impl Machine {
         self.core.config().settings().journal_limit
     }
 
+    /// Whether the switch comes to its end.
+    pub fn stopping(&self) -> bool
+        ensures { result ≡ is_some (state_of self.now).stopping }
+    {
+        self.core.stopping().is_some()
+    }
+
     /// How many events there were of each name, and channels that were hung up with each cause.
+    #[tactic(auto, using(crate::proofs::EventLemmas::counts_events, crate::proofs::EventLemmas::counts_causes))]
     pub fn counts(&self) -> &Counts
-        ensures { result.now ≡ (state_of self.now).counts }
+        ensures state { result.now ≡ (state_of self.now).counts }
+        ensures events { (name : EventName) → counted_at result.now.events (event_number name) ≡ events_named name (events_of (happened self.now)) }
+        ensures hangups { (cause : Cause) → counted_at result.now.hangups (cause_number cause) ≡ hangups_for cause (events_of (happened self.now)) }
     {
         self.core.counts()
     }
@@ -122,6 +138,16 @@ impl Machine {
         owed_to(&self.seen(), conn).is_some()
     }
 
+    /// How many events a connection did not get that it asked for, because too many waited for it.
+    pub fn lost(&self, conn: u32) -> u64
+        ensures { result ≡ spec.lost (state_of self.now) conn }
+    {
+        match self.seen().conn(conn) {
+            Some(there) => there.lost,
+            None => 0,
+        }
+    }
+
     /// How many frames wait for a connection.
     pub fn waiting(&self, conn: u32) -> usize
         ensures { result ≡ length (waiting_for (state_of self.now) conn) }
@@ -130,26 +156,16 @@ impl Machine {
     }
 }
 
-// How many channels are live.
+// How many slots hold a channel.
 #[tactic(auto, using(std::proofs::lemmas::List::Sums::count_by_more_yes, std::proofs::lemmas::List::Sums::count_by_more_no))]
-fn live_among(draft: &Draft<'_>) -> u16
+fn held_among(draft: &Draft<'_>) -> u16
     ensures { result ≡ spec.live (drafted draft.now) }
 {
     let mut count = 0;
     for slot in 0..draft.slots() {
-        if holds_live(draft, slot) {
+        if draft.chan(slot).is_some() {
             count += 1;
         }
     }
     count
-}
-
-// Whether there is a channel in a slot, and it is live.
-fn holds_live(draft: &Draft<'_>, slot: u16) -> bool
-    ensures { result ≡ spec.holds_live (chan_at (drafted draft.now) slot) }
-{
-    match draft.chan(slot) {
-        Some(chan) => chan.is_live(),
-        None => false,
-    }
 }

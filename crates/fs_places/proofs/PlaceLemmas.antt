@@ -1,11 +1,11 @@
 -- What is written over a table, and what stands at its places.
-use Rattle.std.proofs.Common.{◌≡◌, ℕ, ◌+◌, ◌<◌, ◌≤◌, ◌==◌, Bool, true, false, List, [], ◌∷◌, ◌++◌, length, drop, Option, None, Some, refl, sym, ap, subst, ◌∙◌, arith}
+use Rattle.std.proofs.Common.{◌≡◌, ℕ, zero, suc, ◌+◌, ◌<◌, ◌≤◌, ◌==◌, max, leb, Bool, true, false, List, [], ◌∷◌, ◌++◌, length, drop, Option, None, Some, refl, sym, ap, subst, ◌∙◌, arith}
 use Rattle.std.specs.Prelude.{if◌then◌else◌}
-use Rattle.std.proofs.lemmas.List.{get_or-set_same, get_or-set_other, length-set, get_or_past, at_drop_more, at_drop_all}
-use Rattle.std.proofs.lemmas.Bool.{eqb-true}
+use Rattle.std.proofs.lemmas.List.{get_or-set_same, get_or-set_other, set-set, length-set, get_or_past, at_drop_more, at_drop_all}
+use Rattle.std.proofs.lemmas.Bool.{eqb-true, leb-true, leb-false}
 use Rattle.std.proofs.lemmas.Bool.Decides.{nat_tests}
 use Rattle.fs_places.specs.declared.sheet.Write.{Write}
-use Rattle.fs_places.specs.Places.{held_in, with_held, first_place}
+use Rattle.fs_places.specs.Places.{held_in, with_held, first_place, IsEmptyFrom}
 use Rattle.fs_places.specs.Sheets.{written, newest}
 
 -- no write changes how many places there are
@@ -44,6 +44,31 @@ pub written_past : {T : Type 0} → (places : List (Option T)) (ws : List (Write
     held_in (written places ws) place ≡ None
 written_past places ws place past = get_or_past (written places ws) place None (subst (λ n. n ≤ place) (sym (written_length places ws)) past)
 
+-- a write that is taken back stood there
+pub taken_held : {T : Type 0} → (places : List (Option T)) (ws : List (Write T)) (place : ℕ) (held : Option T) → place < length places →
+    held_in (written places (ws ++ record { place = place; held = held } ∷ [])) place ≡ held
+taken_held places ws place held within =
+    ap (λ list. held_in list place) (written_put places ws (record { place = place; held = held }))
+    ∙ get_or-set_same (written places ws) place held None (subst (λ n. place < n) (sym (written_length places ws)) within)
+
+-- whatever is put there then
+pub taken_put : {T : Type 0} → (places : List (Option T)) (ws : List (Write T)) (place : ℕ) (held other : Option T) →
+    with_held (written places ws) place other ≡ with_held (written places (ws ++ record { place = place; held = held } ∷ [])) place other
+taken_put places ws place held other =
+    sym (ap (λ list. with_held list place other) (written_put places ws (record { place = place; held = held })) ∙ set-set (written places ws) place held other)
+
+-- ---- what is filled
+
+pub none_past : {T : Type 0} → (places : List (Option T)) → IsEmptyFrom (length places) places
+none_past places = record { each = λ place past. get_or_past places place None past }
+
+-- a place that is filled further down
+pub put_within : {T : Type 0} → (places : List (Option T)) (filled place : ℕ) (held : Option T) → IsEmptyFrom filled places → IsEmptyFrom (max filled (place + 1)) (with_held places place held)
+put_within places filled place held empty = record {
+  each =
+      λ other past. get_or-set_other places place other held None (λ same. omega (arith, past, same)) ∙ empty.each other (omega (arith, past));
+}
+
 -- ---- the first place
 
 pub first_here : {T : Type 0} → (test : Option T → Bool) (places : List (Option T)) (place : ℕ) → place < length places →
@@ -61,3 +86,22 @@ first_behind test places place within e =
 pub first_nowhere : {T : Type 0} → (test : Option T → Bool) (places : List (Option T)) (place : ℕ) → length places ≤ place →
     first_place test (drop place places) place ≡ None
 first_nowhere test places place past = at_drop_all (λ held. first_place test held place) places place past
+
+-- where nothing stands any more
+empty_behind : {T : Type 0} → (places : List (Option T)) (from : ℕ) → IsEmptyFrom from places → IsEmptyFrom (from + 1) places
+empty_behind places from empty = record { each = λ place past. empty.each place (omega (arith, past)) }
+
+first_over : {T : Type 0} → (test : Option T → Bool) (places : List (Option T)) (at : ℕ) (over : Bool) → leb (length places) at ≡ over → test None ≡ false → IsEmptyFrom at places →
+    first_place test (drop (at + 1) places) (at + 1) ≡ None → first_place test (drop at places) at ≡ None
+first_over test places at true is fails empty behind = first_nowhere test places at (leb-true (length places) at is)
+first_over test places at false is fails empty behind =
+    first_behind test places at (leb-false (length places) at is) (ap test (empty.each at (omega arith)) ∙ fails) ∙ behind
+
+first_down : {T : Type 0} → (test : Option T → Bool) (places : List (Option T)) (left at : ℕ) → length places ≤ at + left → test None ≡ false → IsEmptyFrom at places →
+    first_place test (drop at places) at ≡ None
+first_down test places zero at past fails empty = first_nowhere test places at (omega (arith, past))
+first_down test places (suc left) at past fails empty =
+    first_over test places at (leb (length places) at) refl fails empty (first_down test places left (at + 1) (omega (arith, past)) fails (empty_behind places at empty))
+
+pub first_empty : {T : Type 0} → (test : Option T → Bool) (places : List (Option T)) (from : ℕ) → test None ≡ false → IsEmptyFrom from places → first_place test (drop from places) from ≡ None
+first_empty test places from fails empty = first_down test places (length places) from (omega arith) fails empty

@@ -1,5 +1,5 @@
 -- What stands at the places of a table.
-use Rattle.std.specs.Prelude.{ℕ, ◌+◌, Bool, List, [], ◌∷◌, Option, None, Some, is_none, get_or, drop, replicate, if◌then◌else◌}
+use Rattle.std.specs.Prelude.{◌≡◌, ◌≤◌, ℕ, ◌+◌, Bool, List, [], ◌∷◌, Option, None, Some, is_none, get_or, drop, replicate, if◌then◌else◌}
 use Rattle.std.specs.List.{slice_set}
 
 -- so many empty places
@@ -22,3 +22,7 @@ first_place test (held ∷ more) place = if test held then Some place else first
 -- the least empty place from one on
 abbrev pub least_free : {T : Type 0} → List (Option T) → ℕ → Option ℕ
 least_free places from = first_place is_none (drop from places) from
+
+-- from this place on nothing stands
+pub record IsEmptyFrom {T : Type 0} (from : ℕ) (places : List (Option T)) : Type 0 where
+  pub each : (place : ℕ) → from ≤ place → held_in places place ≡ None

@@ -1,4 +1,4 @@
-ghost use Rattle.std.specs.Prelude.{◌≡◌, ◌<◌, [], length, IfSome, OnOk, OnErr};
+ghost use Rattle.std.specs.Prelude.{◌≡◌, ◌<◌, ◌≤◌, [], Option, Some, length, MatchOption, IfSome, OnOk, OnErr};
 ghost use Rattle.std.specs.Option.{option_copied};
 ghost use Rattle.fs_places.specs.Places as places;
 ghost use Rattle.fs_places.specs.Overlays as spec;
@@ -62,6 +62,32 @@ impl<'a, T: Drop> Overlay<'a, T> {
         ensures err { OnErr result (self.new ≡ self.old) }
     {
         self.sheet.put(place, held)
+    }
+
+    /// Takes back what was written last, if it is something at this place, so that something else can be put there.
+    #[tactic(auto, using(crate::proofs::PlaceLemmas::taken_held, crate::proofs::PlaceLemmas::taken_put))]
+    pub fn take(&mut self, place: usize) -> Option<T>
+        ensures kept { self.new.kept ≡ self.old.kept }
+        ensures taken { MatchOption result (self.new ≡ self.old) (λ held. places.held_in (spec.now_of self.old) place ≡ Some held) }
+        ensures put { (held : Option T) → places.with_held (spec.now_of self.new) place held ≡ places.with_held (spec.now_of self.old) place held }
+    {
+        if place >= self.kept.len() {
+            return None;
+        }
+        self.sheet.take_newest(place)
+    }
+
+    /// How many places are filled, at most: from this one on nothing stands.
+    #[tactic(auto, using(crate::proofs::PlaceLemmas::none_past))]
+    pub fn filled(&self) -> usize
+        ensures within { result ≤ length (spec.now_of self.now) }
+        ensures empty { places.IsEmptyFrom result (spec.now_of self.now) }
+    {
+        if self.sheet.len() == 0 {
+            self.kept.filled()
+        } else {
+            self.len()
+        }
     }
 
     /// The writes alone.

@@ -1,4 +1,4 @@
-ghost use Rattle.std.specs.Prelude.{◌≡◌, length, IfOk};
+ghost use Rattle.std.specs.Prelude.{◌≡◌, ◌≤◌, length, IfOk};
 ghost use Rattle.std.specs.Option.{option_copied};
 ghost use Rattle.fs_places.specs.Places as spec;
 
@@ -10,15 +10,20 @@ use std::marker::Model;
 #[derive(Drop)]
 pub struct Places<T> {
     list: Vec<Option<T>>,
+    filled: usize,
 }
 
 impl<T> Model for Places<T> {
     ghost use Rattle.std.specs.Prelude.{List, Option};
+    ghost use Rattle.std.specs.Prelude.{◌≤◌, length};
     ghost use Rattle.std.specs.Coded.{coded_list, coded_option};
+    ghost use Rattle.fs_places.specs.Places.{IsEmptyFrom};
 
     ghost Value = { List (Option T) };
 
     ghost view = { λ p. p.list.items };
+
+    ghost invariant = { λ p. (p.filled ≤ length p.list.items) × IsEmptyFrom p.filled p.list.items };
 
     ghost coded = { coded_list (coded_option T.code) };
 }
@@ -33,7 +38,7 @@ impl<T: Drop> Places<T> {
         for _place in 0..count {
             list.push(None)?;
         }
-        Ok(Places { list })
+        Ok(Places { list, filled: 0 })
     }
 
     /// How many places there are.
@@ -41,6 +46,14 @@ impl<T: Drop> Places<T> {
         ensures { result ≡ length self.now }
     {
         self.list.len()
+    }
+
+    /// How many places were ever filled, at most: from this one on nothing stands.
+    pub fn filled(&self) -> usize
+        ensures within { result ≤ length self.now }
+        ensures empty { spec.IsEmptyFrom result self.now }
+    {
+        self.filled
     }
 
     /// What stands at a place; past the last one stands nothing.
@@ -59,6 +72,7 @@ impl<T: Drop> Places<T> {
     {
         if let Some(there) = self.list.get_mut(place) {
             *there = held;
+            self.filled = self.filled.max(place + 1);
         }
     }
 }

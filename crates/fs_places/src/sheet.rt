@@ -1,4 +1,4 @@
-ghost use Rattle.std.specs.Prelude.{◌≡◌, [], ◌∷◌, ◌++◌, OnOk, OnErr};
+ghost use Rattle.std.specs.Prelude.{◌≡◌, [], ◌∷◌, ◌++◌, Some, length, MatchOption, OnOk, OnErr};
 ghost use Rattle.std.specs.Option.{option_copied};
 ghost use Rattle.fs_places.specs.Sheets as spec;
 ghost use Rattle.fs_places.specs.declared.sheet.Write.{Write};
@@ -48,6 +48,25 @@ impl<T: Drop> Sheet<T> {
     {
         self.writes.push(Write { place, held })?;
         Ok(())
+    }
+
+    /// How many writes there are.
+    pub fn len(&self) -> usize
+        ensures { result ≡ length self.now }
+    {
+        self.writes.len()
+    }
+
+    /// Takes the newest write back, if it put something at this place.
+    pub fn take_newest(&mut self, place: usize) -> Option<T>
+        ensures { MatchOption result (self.new ≡ self.old) (λ held. self.old ≡ self.new ++ record { place = place; held = Some held } ∷ []) }
+    {
+        match self.writes.last() {
+            Some(newest) if newest.place == place && newest.held.is_some() => {
+                self.writes.pop()?.held
+            }
+            _ => None,
+        }
     }
 
     /// What stands at a place where something is kept below the sheet: what was written there last, or else what is kept.

@@ -1,9 +1,10 @@
 -- How many events there were of each name, and channels that were hung up with each cause.
-use Rattle.std.specs.Prelude.{ℕ, ◌+◌, ◌-◌, ◌^◌, min, List, [], ◌∷◌, get_or, replicate, Option, None, Some}
+use Rattle.std.specs.Prelude.{ℕ, ◌+◌, ◌-◌, ◌^◌, ◌==◌, min, Bool, false, List, [], ◌∷◌, get_or, replicate, count_by, Option, None, Some}
 use Rattle.std.specs.List.{slice_set}
 use Rattle.fs_text.specs.EventName.{event_number}
 use Rattle.fs_text.specs.Cause.{cause_number}
 use Rattle.fs_text.specs.declared.causes.Cause.{Cause}
+use Rattle.fs_text.specs.declared.event_names.EventName.{EventName}
 use Rattle.fs_state.specs.declared.event.Event.{Event}
 
 -- the counts by the numbers of event names, and of causes
@@ -38,3 +39,20 @@ counted event t = record { events = raised_at (event_number event.name) t.events
 abbrev pub all_counted : List Event → Tallies → Tallies
 all_counted [] t = t
 all_counted (event ∷ events) t = all_counted events (counted event t)
+
+-- ---- what the counts tell of all events so far
+
+abbrev pub is_named : EventName → Event → Bool
+is_named name event = event_number event.name == event_number name
+
+abbrev pub is_cause : Cause → Option Cause → Bool
+is_cause cause None = false
+is_cause cause (Some other) = cause_number other == cause_number cause
+
+-- how many events have a name, as far as a count goes
+abbrev pub events_named : EventName → List Event → ℕ
+events_named name events = min (count_by (is_named name) events) (2 ^ 64 - 1)
+
+-- how many tell of a hangup with a cause, as far as a count goes
+abbrev pub hangups_for : Cause → List Event → ℕ
+hangups_for cause events = min (count_by (λ event. is_cause cause event.cause) events) (2 ^ 64 - 1)

@@ -38,6 +38,8 @@ pub record Switch : Type 0 where
   pub moment : ℕ
   pub entries : ℕ
   pub cost : ℕ
+  -- the place of the entry by which it came to its end, once one did
+  pub stopping : Option ℕ
   pub counts : Tallies
   -- the entry in hand
   pub news : List Event
@@ -57,6 +59,7 @@ empty config = record {
   moment = 0;
   entries = 0;
   cost = 0;
+  stopping = None;
   counts = none_counted;
   news = [];
   given = [];

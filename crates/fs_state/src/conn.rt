@@ -30,4 +30,6 @@ pub struct Conn {
     pub owed: Option<u64>,
     /// Why it is ending, where it is.
     pub parting: Option<Parting>,
+    /// How many events that it asked for it did not get, because too many waited for it.
+    pub lost: u64,
 }

@@ -1,6 +1,8 @@
-ghost use Rattle.std.specs.Prelude.{◌≡◌, length, slice_get, IfOk, OnOk};
+ghost use Rattle.std.specs.Prelude.{◌≡◌, ◌≤◌, Option, Some, length, slice_get, MatchOption, IfOk, OnOk};
 ghost use Rattle.std.specs.Option.{option_copied};
 ghost use Rattle.fs_places.specs.Overlays.{now_of};
+ghost use Rattle.fs_places.specs.Places.{IsEmptyFrom};
+ghost use Rattle.fs_chan.specs.declared.chan.Chan.{Chan};
 ghost use Rattle.fs_places.specs.Rows as rows;
 ghost use Rattle.fs_state.specs.declared.delta.QueueChange.TheVariants as change;
 ghost use Rattle.fs_state.specs.Drawn as numbers;
@@ -221,6 +223,24 @@ impl<'a> Draft<'a> {
         self.channels.put(usize::from(slot), chan)
     }
 
+    /// Takes a channel back that was put into a slot last, so that it can be put there changed.
+    pub fn take_chan(&mut self, slot: u16) -> Option<Chan>
+        ensures base { self.new.base ≡ self.old.base }
+        ensures taken { MatchOption result (drafted self.new ≡ drafted self.old) (λ chan. spec.chan_at (drafted self.old) slot ≡ Some chan) }
+        ensures put { (chan : Option Chan) → spec.with_chan slot chan (drafted self.new) ≡ spec.with_chan slot chan (drafted self.old) }
+    {
+        self.channels.take(usize::from(slot))
+    }
+
+    /// How many slots are filled, at most: from this one on there is no channel.
+    #[tactic(auto, using(fs_places::proofs::PlaceLemmas::written_length))]
+    pub fn filled_slots(&self) -> u16
+        ensures within { result ≤ length (drafted self.now).channels }
+        ensures empty { IsEmptyFrom result (drafted self.now).channels }
+    {
+        self.channels.filled() as u16
+    }
+
     /// How many slots there are, with slot 0.
     #[tactic(auto, using(fs_places::proofs::PlaceLemmas::written_length))]
     pub fn slots(&self) -> u16
@@ -341,11 +361,12 @@ impl<'a> Draft<'a> {
         self.jobs.get(place)
     }
 
-    /// How many jobs there may be.
-    pub fn job_places(&self) -> usize
-        ensures { result ≡ length (drafted self.now).jobs }
+    /// How many places for jobs are filled, at most: from this one on there is no job.
+    pub fn filled_jobs(&self) -> usize
+        ensures within { result ≤ length (drafted self.now).jobs }
+        ensures empty { IsEmptyFrom result (drafted self.now).jobs }
     {
-        self.jobs.len()
+        self.jobs.filled()
     }
 
     // ---- connections

@@ -1,4 +1,5 @@
-ghost use Rattle.std.specs.Prelude.{◌≡◌, Some, None, IfOk, OnOk};
+ghost use Rattle.std.specs.Prelude.{◌≡◌, Option, Some, None, Ok, IfOk, OnOk};
+ghost use Rattle.fs_chan.specs.declared.chan.Chan.{Chan};
 ghost use Rattle.fs_chan.specs.Changes as chan;
 ghost use Rattle.fs_state.specs.Drafts.{drafted};
 ghost use Rattle.fs_state.specs.Switch.{chan_at, with_chan, told};
@@ -69,6 +70,19 @@ impl<'a> Draft<'a> {
         }
     }
 
+    /// The channel in a slot, to be changed and put there again: the one that was put there last is taken back, any other copied.
+    pub fn own_chan(&mut self, slot: u16) -> Result<Option<Chan>, Memory>
+        ensures base { self.new.base ≡ self.old.base }
+        ensures chan { IfOk result (λ own. own ≡ chan_at (drafted self.old) slot) }
+        ensures none { result ≡ Ok None → drafted self.new ≡ drafted self.old }
+        ensures put { (held : Option Chan) → with_chan slot held (drafted self.new) ≡ with_chan slot held (drafted self.old) }
+    {
+        match self.take_chan(slot) {
+            Some(chan) => Ok(Some(chan)),
+            None => self.copy_chan(slot),
+        }
+    }
+
     /// Puts a channel into a slot that came there from a state, and tells of that.
     pub fn put_moved(&mut self, slot: u16, old: State, chan: Chan) -> Result<(), Memory>
         ensures base { self.new.base ≡ self.old.base }
@@ -84,7 +98,7 @@ impl<'a> Draft<'a> {
         ensures base { self.new.base ≡ self.old.base }
         ensures ok { OnOk result (drafted self.new ≡ spec.moved (chan.entered state) slot (drafted self.old)) }
     {
-        let Some(mut chan) = self.copy_chan(slot)? else {
+        let Some(mut chan) = self.own_chan(slot)? else {
             return Ok(());
         };
         let old = chan.state;
@@ -98,7 +112,7 @@ impl<'a> Draft<'a> {
         ensures base { self.new.base ≡ self.old.base }
         ensures ok { OnOk result (drafted self.new ≡ spec.moved (chan.transferred to) slot (drafted self.old)) }
     {
-        let Some(mut chan) = self.copy_chan(slot)? else {
+        let Some(mut chan) = self.own_chan(slot)? else {
             return Ok(());
         };
         let old = chan.state;
@@ -111,7 +125,7 @@ impl<'a> Draft<'a> {
         ensures base { self.new.base ≡ self.old.base }
         ensures ok { OnOk result (drafted self.new ≡ spec.moved chan.parked slot (drafted self.old)) }
     {
-        let Some(mut chan) = self.copy_chan(slot)? else {
+        let Some(mut chan) = self.own_chan(slot)? else {
             return Ok(());
         };
         let old = chan.state;
@@ -124,7 +138,7 @@ impl<'a> Draft<'a> {
         ensures base { self.new.base ≡ self.old.base }
         ensures ok { OnOk result (drafted self.new ≡ spec.moved chan.gone_on slot (drafted self.old)) }
     {
-        let Some(mut chan) = self.copy_chan(slot)? else {
+        let Some(mut chan) = self.own_chan(slot)? else {
             return Ok(());
         };
         let old = chan.state;
@@ -157,7 +171,7 @@ impl<'a> Draft<'a> {
         ensures base { self.new.base ≡ self.old.base }
         ensures ok { OnOk result (drafted self.new ≡ spec.moved (spec.running action) slot (drafted self.old)) }
     {
-        let Some(mut chan) = self.copy_chan(slot)? else {
+        let Some(mut chan) = self.own_chan(slot)? else {
             return Ok(());
         };
         let old = chan.state;

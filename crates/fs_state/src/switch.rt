@@ -38,6 +38,7 @@ pub struct Core {
     pub(crate) moment: u64,
     pub(crate) entries: u64,
     pub(crate) cost: u64,
+    pub(crate) stopping: Option<u64>,
     pub(crate) counts: Counts,
 }
 
@@ -59,6 +60,7 @@ impl Model for Core {
       moment = c.moment;
       entries = c.entries;
       cost = c.cost;
+      stopping = c.stopping;
       counts = c.counts;
       news = [];
       given = [];
@@ -90,6 +92,7 @@ impl Core {
             moment: 0,
             entries: 0,
             cost: 0,
+            stopping: None,
             counts: Counts::new(alloc)?,
         })
     }
@@ -138,6 +141,13 @@ impl Core {
         ensures { result ≡ self.now.cost }
     {
         self.cost
+    }
+
+    /// The place of the entry by which it came to its end, once one did.
+    pub fn stopping(&self) -> Option<u64>
+        ensures { result ≡ self.now.stopping }
+    {
+        self.stopping
     }
 
     /// How many events there were of each name, and channels that were hung up with each cause.

@@ -132,3 +132,16 @@ fn calls_are_answered_as_the_rows_say(rt: HostRuntime) -> Result<(), Fail> {
     }
     Ok(())
 }
+
+#[test]
+fn a_call_that_goes_round_at_one_moment_runs_away(rt: HostRuntime) -> Result<(), Fail> {
+    let alloc = rt.alloc();
+    let file = numbered(alloc)?;
+    let input = input_of(alloc, &["originate loopback/spin &park()"])?;
+    let came = run_over(alloc, &["play", "f"], &file, &[], &input)?;
+    let output = output_of(alloc, &[])?;
+    assert_eq!(rt; came.output.as_bytes(), output.as_slice());
+    assert_eq!(rt; came.line.as_bytes(), "fsw: runaway 100000\n".as_bytes());
+    assert_eq!(rt; came.status, 9);
+    Ok(())
+}

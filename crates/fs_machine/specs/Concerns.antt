@@ -1,0 +1,51 @@
+-- How an entry of a run concerns one connection: it is its own, one of others, or the one by which it comes.
+use Rattle.std.specs.Prelude.{◌≡◌, ◌≢◌, ℕ, true, false, [], ◌∷◌, ◌++◌, Option, None, Some, ◌⊎◌}
+use Rattle.fs_state.specs.declared.conn.Phase.TheVariants.{Fresh, Closed}
+use Rattle.fs_state.specs.Switch.{Switch, waiting_for}
+use Rattle.fs_machine.specs.declared.entry.Entry.{Entry}
+use Rattle.fs_machine.specs.declared.entry.Act.{Act}
+use Rattle.fs_machine.specs.declared.entry.Act.TheVariants.{Arrive, Command, Take, Close, Work, Job}
+use Rattle.fs_machine.specs.Texts.{auth_request}
+use Rattle.fs_machine.specs.Connections.{phase_at}
+use Rattle.fs_machine.specs.Questions.{owed_to}
+use Rattle.fs_machine.specs.Step.{is_closed, step}
+use Rattle.fs_machine.specs.Frames.{given_by, handed_in, command_in}
+
+-- the connection whose act it is
+abbrev pub actor_of : Act → Option ℕ
+actor_of Arrive = None
+actor_of (Command conn block) = Some conn
+actor_of (Take conn) = Some conn
+actor_of (Close conn how) = Some conn
+actor_of (Work slot) = None
+actor_of (Job number) = None
+
+-- An act of its own, while it is open. What waited for it, and then what it is given, is what is handed out to it, and then what waits.
+-- If the act closes it, it is given nothing.
+pub record IsOwn (conn : ℕ) (s : Switch) (entry : Entry) : Type 0 where
+  pub actor : actor_of entry.act ≡ Some conn
+  pub was_open : is_closed (phase_at s conn) ≡ false
+  pub frames : is_closed (phase_at (step s entry).state conn) ≡ false →
+      waiting_for s conn ++ given_by conn s entry ≡ handed_in conn entry.act s ++ waiting_for (step s entry).state conn
+  pub last : is_closed (phase_at (step s entry).state conn) ≡ true → given_by conn s entry ≡ []
+
+-- An act of others. It gives no command and nothing is handed out to it; it stays in its phase, and is owed nothing if it was owed
+-- nothing; what it is given waits behind what waited.
+pub record IsOthers (conn : ℕ) (s : Switch) (entry : Entry) : Type 0 where
+  pub actor : actor_of entry.act ≢ Some conn
+  pub commands : command_in conn entry.act ≡ []
+  pub handed : handed_in conn entry.act s ≡ []
+  pub phase : phase_at (step s entry).state conn ≡ phase_at s conn
+  pub owed : owed_to s conn ≡ None → owed_to (step s entry).state conn ≡ None
+  pub frames : waiting_for (step s entry).state conn ≡ waiting_for s conn ++ given_by conn s entry
+
+-- The act by which it comes. It is asked for the password, and nothing else waits.
+pub record Comes (conn : ℕ) (s : Switch) (entry : Entry) : Type 0 where
+  pub act : entry.act ≡ Arrive
+  pub before : phase_at s conn ≡ Closed
+  pub after : phase_at (step s entry).state conn ≡ Fresh
+  pub given : given_by conn s entry ≡ auth_request ∷ []
+  pub frames : waiting_for (step s entry).state conn ≡ auth_request ∷ []
+
+abbrev pub Concerns : ℕ → Switch → Entry → Type 0
+Concerns conn s entry = IsOwn conn s entry ⊎ (IsOthers conn s entry ⊎ Comes conn s entry)

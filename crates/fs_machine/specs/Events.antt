@@ -1,0 +1,33 @@
+-- What happened in a run.
+use Rattle.std.specs.Prelude.{ℕ, ◌+◌, List, [], ◌∷◌, ◌++◌, map}
+use Rattle.fs_state.specs.declared.event.Event.{Event}
+use Rattle.fs_state.specs.Switch.{Switch, empty, advanced}
+use Rattle.fs_machine.specs.declared.entry.Entry.{Entry}
+use Rattle.fs_machine.specs.Step.{acted, step}
+use Rattle.fs_machine.specs.Runs.{View}
+
+-- an event, and the place in the journal of the entry in which it happened
+pub record Happened : Type 0 where
+  pub place : ℕ
+  pub event : Event
+
+-- events of the entry at a place
+abbrev pub at_place : ℕ → List Event → List Happened
+at_place place events = map (λ event. record { place = place; event = event }) events
+
+-- what happens in an entry, in order
+unfoldable pub events_by : Switch → Entry → List Event
+events_by s entry = (acted entry.act (advanced entry.moment s)).state.news
+
+-- what happens in entries, of which the first has this place
+abbrev pub happened_from : ℕ → Switch → List Entry → List Happened
+happened_from place s [] = []
+happened_from place s (entry ∷ entries) = at_place place (events_by s entry) ++ happened_from (place + 1) (step s entry).state entries
+
+-- all that happened in the entries of a machine
+abbrev pub happened : View → List Happened
+happened m = happened_from 0 (empty m.config) m.journal
+
+-- the events alone
+abbrev pub events_of : List Happened → List Event
+events_of happened = map (λ h. h.event) happened

@@ -1,4 +1,5 @@
 ghost use Rattle.std.specs.Prelude.{◌≡◌, OnOk};
+ghost use Rattle.std.specs.Option.{option_copied};
 ghost use Rattle.fs_state.specs.Drafts.{drafted};
 ghost use Rattle.fs_machine.specs.Connections as spec;
 
@@ -6,13 +7,20 @@ use fs_state::{Conn, Draft, Parting, Phase};
 use fs_text::Memory;
 
 /// Where a connection stands; one that is not there is closed.
-pub(crate) fn phase_at(draft: &Draft<'_>, conn: u32) -> Phase
-    ensures { result ≡ spec.phase_at (drafted draft.now) conn }
+pub(crate) fn phase_of(conn: Option<&Conn>) -> Phase
+    ensures { result ≡ spec.phase_of (option_copied conn.entry) }
 {
-    match draft.conn(conn) {
+    match conn {
         Some(there) => there.phase,
         None => Phase::Closed,
     }
+}
+
+/// Where the connection of a number stands.
+pub(crate) fn phase_at(draft: &Draft<'_>, conn: u32) -> Phase
+    ensures { result ≡ spec.phase_at (drafted draft.now) conn }
+{
+    phase_of(draft.conn(conn))
 }
 
 /// A connection gives no further command, if it is there.

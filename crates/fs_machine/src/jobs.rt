@@ -1,4 +1,5 @@
-ghost use Rattle.std.specs.Prelude.{◌≡◌, Some, IfOk, OnOk};
+ghost use Rattle.std.specs.Prelude.{◌≡◌, Some, slice_get, IfOk, OnOk};
+ghost use Rattle.fs_text.specs.declared.causes.Cause.TheVariants.{NoAnswer};
 ghost use Rattle.fs_state.specs.Drafts.{drafted};
 ghost use Rattle.fs_state.specs.Switch.{orig_of};
 ghost use Rattle.fs_machine.specs.Jobs as spec;
@@ -149,36 +150,54 @@ fn judge_attempt(draft: &mut Draft<'_>, attempt: Attempt, winner: Winner) -> Res
     };
     match judge(orig, draft.moment()) {
         Verdict::Won { position } => {
-            let Some(leg) = orig.legs.as_slice().get(position as usize) else {
-                return Ok(());
-            };
-            let leg = leg.copy()?;
+            let leg = leg_at(orig, position as usize)?;
             win_attempt(draft, attempt, winner, leg)
         }
         Verdict::Failed(cause) => fail(draft, attempt, cause),
         Verdict::Expired => {
             let slots = living_slots(draft.alloc(), orig)?;
-            hang_up_all(draft, &slots, Cause::NoAnswer)?;
-            fail(draft, attempt, Cause::NoAnswer)
+            expire(draft, attempt, &slots)
         }
         _ => Ok(()),
     }
 }
 
-// A leg has won.
+// The leg of an origination at a position.
+fn leg_at(orig: &Orig, position: usize) -> Result<Option<OrigLeg>, Memory>
+    ensures { IfOk result (λ leg. leg ≡ slice_get orig.now.legs position) }
+{
+    match orig.legs.as_slice().get(position) {
+        Some(leg) => Ok(Some(leg.copy()?)),
+        None => Ok(None),
+    }
+}
+
+// A leg has won, if there is one.
 fn win_attempt(
     draft: &mut Draft<'_>,
     attempt: Attempt,
     winner: Winner,
-    leg: OrigLeg,
+    leg: Option<OrigLeg>,
 ) -> Result<(), Memory>
     ensures base { draft.new.base ≡ draft.old.base }
-    ensures ok { OnOk result (drafted draft.new ≡ spec.won_at attempt winner (Some leg) (drafted draft.old)) }
+    ensures ok { OnOk result (drafted draft.new ≡ spec.won_at attempt winner leg (drafted draft.old)) }
 {
+    let Some(leg) = leg else {
+        return Ok(());
+    };
     win(draft, leg.slot.unwrap_or(0), winner)?;
     draft.drop_orig(attempt.orig)?;
     let answer = made_text(draft.alloc(), leg.uuid.as_bytes())?;
     end_job(draft, attempt.job, attempt.conn, answer.as_bytes())
+}
+
+// An origination comes to its deadline: its legs in these slots are hung up.
+fn expire(draft: &mut Draft<'_>, attempt: Attempt, slots: &[u16]) -> Result<(), Memory>
+    ensures base { draft.new.base ≡ draft.old.base }
+    ensures ok { OnOk result (drafted draft.new ≡ spec.failed attempt NoAnswer (spec.all_hung NoAnswer slots.now (drafted draft.old))) }
+{
+    hang_up_all(draft, slots, Cause::NoAnswer)?;
+    fail(draft, attempt, Cause::NoAnswer)
 }
 
 // An origination has failed.

@@ -1,9 +1,11 @@
 ghost use Rattle.std.specs.Prelude.{◌≡◌, ◌≢◌, ◌≤◌, [], ◌∷◌, ◌++◌, ◌+◌, ◌-◌, ◌^◌, min, false, Some, None, IfOk, IfErr, OnOk};
+ghost use Rattle.fs_state.specs.declared.delta.QueueChange.TheVariants.{Unchanged};
+ghost use Rattle.fs_state.specs.Drafts.{after, drafted, Fits};
 ghost use Rattle.fs_state.specs.Switch.{empty};
 ghost use Rattle.fs_machine.specs.declared.refusal.Refusal.{Refusal};
 ghost use Rattle.fs_machine.specs.declared.refusal.Refusal.TheVariants as refusal;
 ghost use Rattle.fs_machine.specs.Entries.{cost_of, is_full};
-ghost use Rattle.fs_machine.specs.Step.{step, refusal_of};
+ghost use Rattle.fs_machine.specs.Step.{acted, step, refusal_of};
 ghost use Rattle.fs_machine.specs.Runs as spec;
 ghost use Rattle.fs_machine.specs.Sound.{IsSound};
 
@@ -139,15 +141,25 @@ fn plan(core: &Core, plan: &Dialplan, asked: &Entry) -> Result<Change, Refusal>
     }
     let mut draft = Draft::new(core);
     draft.advance(asked.moment);
-    if let Some(refusal) = refused_act(&draft, &asked.act) {
-        return Err(refusal);
+    match refused_act(&draft, &asked.act) {
+        Some(refusal) => Err(refusal),
+        None => Ok(change_by(draft, plan, asked)?),
     }
+}
+
+// What an entry changes that is not refused.
+fn change_by(mut draft: Draft<'_>, plan: &Dialplan, asked: &Entry) -> Result<Change, Memory>
+    requires queue { draft.delta.queue ≡ Unchanged }
+    requires plan { plan.now ≡ draft.base.config.contexts }
+    ensures entry { IfOk result (λ change. change.entry ≡ asked.entry.now) }
+    ensures acted { IfOk result (λ change. acted asked.entry.now.act (drafted draft.entry) ≡ record { state = after draft.entry.base change.delta; reply = change.reply }) }
+    ensures fits { IfOk result (λ change. Fits draft.entry.base change.delta) }
+{
     let reply = do_act(&mut draft, plan, &asked.act)?;
     let entry = asked.copy()?;
-    let delta = draft.finish()?;
     Ok(Change {
         entry,
-        delta,
+        delta: draft.finish()?,
         reply,
     })
 }

@@ -1,9 +1,10 @@
-ghost use Rattle.std.specs.Prelude.{◌≡◌, ◌+◌, Some, IfOk, OnOk};
+ghost use Rattle.std.specs.Prelude.{◌≡◌, ◌+◌, [], ◌∷◌, Some, IfOk, OnOk};
+ghost use Rattle.fs_chan.specs.Changes.{IsShort};
 ghost use Rattle.fs_state.specs.Drafts.{drafted};
 ghost use Rattle.fs_state.specs.Switch.{identifier_of, identified, free_slot};
 ghost use Rattle.fs_machine.specs.Originations as spec;
 
-use fs_api::Winner;
+use fs_api::{Route, Winner};
 use fs_chan::{Action, Actions, Chan, Direction, Target3, Wait};
 use fs_orig::{Endpoint, OrigLeg};
 use fs_state::Draft;
@@ -219,33 +220,54 @@ pub(crate) fn win(draft: &mut Draft<'_>, slot: u16, winner: Winner) -> Result<()
     ensures base { draft.new.base ≡ draft.old.base }
     ensures ok { OnOk result (drafted draft.new ≡ spec.won winner slot (drafted draft.old)) }
 {
-    let Some(mut chan) = draft.copy_chan(slot)? else {
+    let Some(chan) = draft.copy_chan(slot)? else {
         return Ok(());
     };
     let state = chan.state;
+    let chan = won_by(draft.alloc(), chan, winner)?;
+    draft.put_moved(slot, state, chan)
+}
+
+// A channel that has won is no leg any more: it has one thing to run, or is to be routed.
+fn won_by(alloc: Global, mut chan: Chan, winner: Winner) -> Result<Chan, Memory>
+    ensures { IfOk result (λ won. won ≡ spec.won_by winner chan) }
+{
     chan.leg_of = None;
     match winner {
         Winner::App {
             application,
             argument,
         } => {
-            let mut actions = Actions::new(draft.alloc());
-            actions.push(Action {
-                application,
-                argument,
-            })?;
-            chan.actions = actions;
+            chan.actions = only(alloc, application, argument)?;
             chan.wait = Wait::Ready;
             chan.state = State::CsExecute;
         }
-        Winner::Route(route) => {
-            let (exten, dialplan, context) = route.into_texts();
-            chan.transfer(Target3 {
-                exten,
-                dialplan: Some(dialplan),
-                context: Some(context),
-            });
-        }
+        Winner::Route(route) => chan.transfer(target_of(route)),
     }
-    draft.put_moved(slot, state, chan)
+    Ok(chan)
+}
+
+// One action alone.
+fn only(alloc: Global, application: Txt, argument: Txt) -> Result<Actions, Memory>
+    ensures { IfOk result (λ actions. actions ≡ record { application = application; argument = argument } ∷ []) }
+{
+    let mut actions = Actions::new(alloc);
+    actions.push(Action {
+        application,
+        argument,
+    })?;
+    Ok(actions)
+}
+
+// Where a route leads.
+fn target_of(route: Route) -> Target3
+    ensures is { result ≡ spec.target_of route }
+    ensures short { IsShort result }
+{
+    let (exten, dialplan, context) = route.into_texts();
+    Target3 {
+        exten,
+        dialplan: Some(dialplan),
+        context: Some(context),
+    }
 }

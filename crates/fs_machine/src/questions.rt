@@ -3,7 +3,6 @@ ghost use Rattle.fs_text.specs.declared.causes.Cause.{Cause};
 ghost use Rattle.fs_text.specs.declared.event_names.EventName.{EventName};
 ghost use Rattle.fs_text.specs.Cause.{cause_number};
 ghost use Rattle.fs_text.specs.EventName.{event_number};
-ghost use Rattle.fs_state.specs.declared.delta.QueueChange.TheVariants.{Unchanged};
 ghost use Rattle.fs_state.specs.Counts.{counted_at, events_named, hangups_for};
 ghost use Rattle.fs_state.specs.Drafts.{drafted};
 ghost use Rattle.fs_state.specs.Switch.{chan_at, waiting_for, advanced};
@@ -14,11 +13,10 @@ ghost use Rattle.fs_machine.specs.Events.{happened, events_of};
 ghost use Rattle.fs_machine.specs.Questions as spec;
 ghost use Rattle.fs_machine.specs.Runs.{state_of};
 
-use crate::connections::phase_at;
+use crate::connections::phase_of;
 use crate::due::{DueActor, due_among_all, due_among_jobs, due_in_slot};
 use crate::machine::Machine;
-use crate::refused::owed_to;
-use fs_state::{Counts, Draft, Parting, Phase};
+use fs_state::{Core, Counts, Draft, Parting, Phase};
 
 impl Machine {
     /// The least slot, or else the least job, that has something to do by itself at a moment, or the next moment at which one has.
@@ -48,19 +46,11 @@ impl Machine {
         due_in_slot(&self.seen_at(now), slot)
     }
 
-    /// The state as it stands.
-    fn seen(&self) -> Draft<'_>
-        ensures state { drafted result ≡ state_of self.now }
-        ensures queue { result.delta.queue ≡ Unchanged }
-    {
-        Draft::new(&self.core)
-    }
-
     /// The state as it stands at a moment.
     fn seen_at(&self, now: u64) -> Draft<'_>
         ensures { drafted result ≡ advanced now (state_of self.now) }
     {
-        let mut seen = self.seen();
+        let mut seen = Draft::new(&self.core);
         seen.advance(now);
         seen
     }
@@ -69,21 +59,21 @@ impl Machine {
     pub fn holds(&self, slot: u16) -> bool
         ensures { result ≡ is_some (chan_at (state_of self.now) slot) }
     {
-        self.seen().chan(slot).is_some()
+        self.core.chan(slot).is_some()
     }
 
     /// How many slots hold a channel.
     pub fn live(&self) -> u16
         ensures { result ≡ spec.live (state_of self.now) }
     {
-        held_among(&self.seen())
+        held_among(&self.core)
     }
 
     /// The moment of the last entry, in microseconds.
     pub fn moment(&self) -> u64
         ensures { result ≡ (state_of self.now).moment }
     {
-        self.seen().moment()
+        self.core.moment()
     }
 
     /// What its entries so far cost.
@@ -121,28 +111,31 @@ impl Machine {
     pub fn phase(&self, conn: u32) -> Phase
         ensures { result ≡ connections.phase_at (state_of self.now) conn }
     {
-        phase_at(&self.seen(), conn)
+        phase_of(self.core.conn(conn))
     }
 
     /// Why a connection reads no further command.
     pub fn parting(&self, conn: u32) -> Option<Parting>
         ensures { result ≡ spec.parting_at (state_of self.now) conn }
     {
-        self.seen().conn(conn)?.parting
+        self.core.conn(conn)?.parting
     }
 
     /// Whether a connection is still owed the reply to a command.
     pub fn owes(&self, conn: u32) -> bool
         ensures { result ≡ spec.owes (state_of self.now) conn }
     {
-        owed_to(&self.seen(), conn).is_some()
+        match self.core.conn(conn) {
+            Some(there) => there.owed.is_some(),
+            None => false,
+        }
     }
 
     /// How many events a connection did not get that it asked for, because too many waited for it.
     pub fn lost(&self, conn: u32) -> u64
         ensures { result ≡ spec.lost (state_of self.now) conn }
     {
-        match self.seen().conn(conn) {
+        match self.core.conn(conn) {
             Some(there) => there.lost,
             None => 0,
         }
@@ -152,18 +145,18 @@ impl Machine {
     pub fn waiting(&self, conn: u32) -> usize
         ensures { result ≡ length (waiting_for (state_of self.now) conn) }
     {
-        self.seen().waiting(conn)
+        self.core.waiting(conn)
     }
 }
 
 // How many slots hold a channel.
 #[tactic(auto, using(std::proofs::lemmas::List::Sums::count_by_more_yes, std::proofs::lemmas::List::Sums::count_by_more_no))]
-fn held_among(draft: &Draft<'_>) -> u16
-    ensures { result ≡ spec.live (drafted draft.now) }
+fn held_among(core: &Core) -> u16
+    ensures { result ≡ spec.live core.now }
 {
     let mut count = 0;
-    for slot in 0..draft.slots() {
-        if draft.chan(slot).is_some() {
+    for slot in 0..core.slots() {
+        if core.chan(slot).is_some() {
             count += 1;
         }
     }

@@ -54,15 +54,19 @@ fn route(draft: &mut Draft<'_>, plan: &Dialplan, slot: u16) -> Result<(), Memory
     ensures base { draft.new.base ≡ draft.old.base }
     ensures ok { OnOk result (drafted draft.new ≡ spec.routing slot (drafted draft.old)) }
 {
-    let Some(chan) = draft.copy_chan(slot)? else {
+    let Some(chan) = draft.chan(slot) else {
         return Ok(());
     };
     if !chan.may_route() {
         return draft.hang_up(slot, Cause::ExchangeRoutingError);
     }
-    match hunt_for(draft, plan, &chan)? {
-        Some(hunt) => take_route(draft, slot, chan, hunt),
-        None => draft.hang_up(slot, too_long_cause(&chan)),
+    let too_long = too_long_cause(chan);
+    match hunt_for(draft, plan, chan)? {
+        Some(hunt) => {
+            let chan = chan.copy()?;
+            take_route(draft, slot, chan, hunt)
+        }
+        None => draft.hang_up(slot, too_long),
     }
 }
 

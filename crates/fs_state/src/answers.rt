@@ -1,10 +1,13 @@
 ghost use Rattle.std.specs.Prelude.{◌≡◌, IfOk, OnOk};
+ghost use Rattle.fs_chan.specs.Changes as channel;
 ghost use Rattle.fs_orig.specs.Changes as changes;
 ghost use Rattle.fs_state.specs.Drafts.{drafted};
+ghost use Rattle.fs_state.specs.Switch.{told};
 ghost use Rattle.fs_state.specs.Moves as spec;
 
 use crate::draft::Draft;
 use crate::event::Event;
+use fs_chan::Chan;
 use fs_orig::Orig;
 use fs_text::{Cause, EventName, Memory, State};
 
@@ -34,14 +37,15 @@ impl<'a> Draft<'a> {
         ensures base { self.new.base ≡ self.old.base }
         ensures ok { OnOk result (drafted self.new ≡ spec.one_answered slot (drafted self.old)) }
     {
-        let Some(mut chan) = self.copy_chan(slot)? else {
+        let Some(chan) = self.chan(slot) else {
             return Ok(());
         };
-        if !chan.answer(self.place()) {
+        if chan.answered.is_some() {
             return Ok(());
         }
         let leg_of = chan.leg_of;
-        self.put_chan(slot, Some(chan))?;
+        let answered = answered(chan, self.place())?;
+        self.put_chan(slot, Some(answered))?;
         self.tell_of(EventName::ChannelAnswer)?;
         self.answer_leg(slot, leg_of)
     }
@@ -84,22 +88,30 @@ impl<'a> Draft<'a> {
         ensures base { self.new.base ≡ self.old.base }
         ensures ok { OnOk result (drafted self.new ≡ spec.one_hung cause slot (drafted self.old)) }
     {
-        let Some(mut chan) = self.copy_chan(slot)? else {
+        let Some(chan) = self.chan(slot) else {
             return Ok(());
         };
         if !chan.is_live() {
             return Ok(());
         }
         let (old, leg_of) = (chan.state, chan.leg_of);
-        chan.hang_up(cause)?;
-        self.put_chan(slot, Some(chan))?;
+        let hung = hung_up(chan, cause)?;
+        self.put_chan(slot, Some(hung))?;
+        self.tell_hangup(cause)?;
+        self.tell_state(old, State::CsHangup)?;
+        self.end_leg(slot, leg_of, cause)
+    }
+
+    /// A channel was hung up with a cause.
+    fn tell_hangup(&mut self, cause: Cause) -> Result<(), Memory>
+        ensures base { self.new.base ≡ self.old.base }
+        ensures ok { OnOk result (drafted self.new ≡ told (spec.hangup_of cause) (drafted self.old)) }
+    {
         self.tell(Event {
             name: EventName::ChannelHangup,
             bridge: 0,
             cause: Some(cause),
-        })?;
-        self.tell_state(old, State::CsHangup)?;
-        self.end_leg(slot, leg_of, cause)
+        })
     }
 
     /// The living leg in a slot dies, of the origination of this number.
@@ -126,6 +138,24 @@ impl<'a> Draft<'a> {
         self.tell_of(EventName::ChannelState)?;
         self.tell_of(EventName::ChannelDestroy)
     }
+}
+
+/// A channel once more, answered by the entry at a place.
+fn answered(chan: &Chan, place: u64) -> Result<Chan, Memory>
+    ensures { IfOk result (λ c. c ≡ channel.answered_at place chan.now) }
+{
+    let mut chan = chan.copy()?;
+    let _is = chan.answer(place);
+    Ok(chan)
+}
+
+/// A channel once more, hung up with a cause.
+fn hung_up(chan: &Chan, cause: Cause) -> Result<Chan, Memory>
+    ensures { IfOk result (λ c. c ≡ channel.hung_up cause chan.now) }
+{
+    let mut chan = chan.copy()?;
+    chan.hang_up(cause)?;
+    Ok(chan)
 }
 
 /// An origination with the living leg in a slot answered, if there is one.

@@ -1,5 +1,7 @@
-ghost use Rattle.std.specs.Prelude.{◌≡◌, IfOk, unwrap_or};
-ghost use Rattle.fs_state.specs.Queues.{requeued};
+ghost use Rattle.std.specs.Prelude.{◌≡◌, length, IfOk, unwrap_or};
+ghost use Rattle.std.specs.Option.{option_copied};
+ghost use Rattle.fs_places.specs.Places.{no_places};
+ghost use Rattle.fs_state.specs.Queues.{no_queues, requeued};
 ghost use Rattle.fs_state.specs.Switch as spec;
 ghost use Rattle.fs_state.specs.Drafts.{after, Fits};
 
@@ -76,24 +78,28 @@ impl Core {
         ensures { IfOk result (λ core. core ≡ spec.empty config) }
     {
         config.within();
-        let slots = usize::from(config.settings().max_sessions) + 1;
-        let conns = usize::from(config.settings().max_connections);
+        let settings = config.settings();
+        let slots = usize::from(settings.max_sessions) + 1;
+        let conns = usize::from(settings.max_connections);
+        let counts = Counts::new(alloc)?;
         let globals = config.globals().copy()?;
+        let (channels, origs, jobs) = call_tables(alloc, slots)?;
+        let (conns, queues) = conn_tables(alloc, conns)?;
         Ok(Core {
             alloc,
             config,
             globals,
-            channels: Places::empty(alloc, slots)?,
-            origs: Places::empty(alloc, ORIGS)?,
-            jobs: Places::empty(alloc, JOBS)?,
-            conns: Places::empty(alloc, conns)?,
-            queues: Queues::new(alloc, conns)?,
+            channels,
+            origs,
+            jobs,
+            conns,
+            queues,
             drawn: Drawn::none(),
             moment: 0,
             entries: 0,
             cost: 0,
             stopping: None,
-            counts: Counts::new(alloc)?,
+            counts,
         })
     }
 
@@ -136,6 +142,13 @@ impl Core {
         &self.config
     }
 
+    /// The moment of the last entry, in microseconds.
+    pub fn moment(&self) -> u64
+        ensures { result ≡ self.now.moment }
+    {
+        self.moment
+    }
+
     /// What its entries so far cost.
     pub fn cost(&self) -> u64
         ensures { result ≡ self.now.cost }
@@ -148,6 +161,37 @@ impl Core {
         ensures { result ≡ self.now.stopping }
     {
         self.stopping
+    }
+
+    /// How many slots there are, with slot 0.
+    pub fn slots(&self) -> u16
+        ensures { result ≡ length self.now.channels }
+    {
+        self.channels.len() as u16
+    }
+
+    /// The channel in a slot.
+    pub fn chan(&self, slot: u16) -> Option<&Chan>
+        ensures { option_copied result ≡ spec.chan_at self.now slot }
+    {
+        self.channels.get(usize::from(slot))
+    }
+
+    /// The connection of a number.
+    pub fn conn(&self, number: u32) -> Option<&Conn>
+        ensures { option_copied result ≡ spec.conn_of self.now number }
+    {
+        self.conns.row(u64::from(number))
+    }
+
+    /// How many frames wait for the connection of a number.
+    pub fn waiting(&self, number: u32) -> usize
+        ensures { result ≡ length (spec.waiting_for self.now number) }
+    {
+        match self.conns.place_of(u64::from(number)) {
+            Some(place) => self.queues.len(place),
+            None => 0,
+        }
     }
 
     /// How many events there were of each name, and channels that were hung up with each cause.
@@ -176,4 +220,26 @@ impl Core {
             QueueChange::Cleared { place } => self.queues.clear(place),
         }
     }
+}
+
+/// What calls are made of: channels, originations and jobs.
+type CallTables = (Places<Chan>, Places<Numbered<Orig>>, Places<Numbered<Job>>);
+
+/// Tables for calls, with nothing in them.
+fn call_tables(alloc: Global, slots: usize) -> Result<CallTables, Memory>
+    ensures { IfOk result (λ tables. tables ≡ (no_places slots, no_places 1280, no_places 1024)) }
+{
+    let channels = Places::empty(alloc, slots)?;
+    let origs = Places::empty(alloc, ORIGS)?;
+    let jobs = Places::empty(alloc, JOBS)?;
+    Ok((channels, origs, jobs))
+}
+
+/// Tables for connections and what waits for them, with nothing in them.
+fn conn_tables(alloc: Global, count: usize) -> Result<(Places<Numbered<Conn>>, Queues), Memory>
+    ensures { IfOk result (λ tables. tables ≡ (no_places count, no_queues count)) }
+{
+    let conns = Places::empty(alloc, count)?;
+    let queues = Queues::new(alloc, count)?;
+    Ok((conns, queues))
 }

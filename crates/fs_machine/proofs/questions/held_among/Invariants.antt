@@ -1,6 +1,5 @@
 use Rattle.std.proofs.Common.{◌≡◌, ◌≤◌, take, is_some, count_by}
-use Rattle.fs_state.specs.Drafts.{drafted}
 use Rattle.fs_machine.proofs.questions.held_among.Given as goal
 
 abbrev pub invariant-loop-slot : goal.invariant-loop-slot
-invariant-loop-slot l = (l.count ≡ count_by is_some (take l.slot (drafted l.draft).channels)) × (l.count ≤ l.slot)
+invariant-loop-slot l = (l.count ≡ count_by is_some (take l.slot l.core.channels)) × (l.count ≤ l.slot)

@@ -3,8 +3,9 @@ mod StepLemmas
 mod RoundLemmas
 mod SettleLemmas
 mod SendLemmas
+mod KeepLemmas
+mod HereLemmas
 mod TurnLemmas
 mod EndLemmas
-mod KeepLemmas
 pub mod LawLemmas
 mod DrainLemmas

@@ -7,6 +7,8 @@ use Rattle.fs_machine.specs.declared.entry.Act.TheVariants.{Work, Job}
 use Rattle.fs_machine.specs.declared.reply.Reply.{Reply}
 use Rattle.fs_machine.specs.Questions.{owes}
 use Rattle.fs_machine.specs.Frames.{handed_in}
+use Rattle.fs_machine.specs.Owed.{AreOwed}
+use Rattle.fs_machine.proofs.OwedLaws as owed_laws
 use Rattle.fs_conn.specs.declared.end.End.TheVariants.{Runaway}
 use Rattle.fs_conn.specs.declared.stop.Stop.{Stop}
 use Rattle.fs_conn.specs.declared.stop.Stop.TheVariants.{Over}
@@ -56,9 +58,9 @@ pub round_worked : (act : Act) (now next : Play) (reply : Option Reply) → is_o
 round_worked act now next reply goes_on is enters = does_enters act now next (Ok reply) goes_on enters ∙ sym (worked_act (next_actor now) act now is)
 
 -- an option that is nothing else
-pub is_none : (o : Option Act) → ((act : Act) → o ≡ Some act → ⊥) → o ≡ None
+pub is_none : {A : Type 0} → (o : Option A) → ((a : A) → o ≡ Some a → ⊥) → o ≡ None
 is_none None not_some = refl
-is_none (Some act) not_some = absurd (not_some act refl)
+is_none (Some a) not_some = absurd (not_some a refl)
 
 pub is_not_some : (o : Option Act) → is_some o ≡ false → o ≡ None
 is_not_some None is = refl
@@ -107,16 +109,15 @@ waited_rest start now awaits goes_on owed =
     let same = ap (λ b. cond (not b && owes (switch_of now) 1) (waited_until (next_actor now) now) now) goes_on ∙ ap (λ b. cond b (waited_until (next_actor now) now) now) owed in
     sym (repeated_none awaits.rounds waited_once now same) ∙ awaits.reaches
 
--- nothing comes to be due
-never_later : (actor : DueActor) (p : Play) → ((moment : ℕ) → actor ≡ due.Later moment → ⊥) → waited_until actor p ≡ p
-never_later (due.Slot slot) p never = refl
-never_later (due.Job job) p never = refl
-never_later (due.Later moment) p never = absurd (never moment refl)
-never_later due.Never p never = refl
-
-pub waited_stuck : (start now : Play) → Awaits start now → is_over now ≡ false → owes (switch_of now) 1 ≡ true → ((moment : ℕ) → next_actor now ≡ due.Later moment → ⊥) → now ≡ waited start
-waited_stuck start now awaits goes_on owed never =
-    sym (repeated_none awaits.rounds waited_once now (waited_by now goes_on owed ∙ never_later (next_actor now) now never)) ∙ awaits.reaches
+-- somebody has something to do while a reply is owed, and where nobody has it now it is later
+pub never_stuck : (now : Play) → AreOwed (switch_of now) → owes (switch_of now) 1 ≡ true → act_of (next_actor now) ≡ None → ((moment : ℕ) → next_actor now ≡ due.Later moment → ⊥) → ⊥
+never_stuck now sound owed idle never = by (next_actor now) refl
+  where
+    by : (actor : DueActor) → next_actor now ≡ actor → ⊥
+    by (due.Slot slot) is = let none : act_of (due.Slot slot) ≡ None = ap act_of (sym is) ∙ idle in cc
+    by (due.Job job) is = let none : act_of (due.Job job) ≡ None = ap act_of (sym is) ∙ idle in cc
+    by (due.Later moment) is = never moment is
+    by due.Never is = owed_laws.goes_on (switch_of now) 1 now.clock sound owed is
 
 -- the clock went on
 waited_later : (now : Play) (moment : ℕ) → is_over now ≡ false → owes (switch_of now) 1 ≡ true → next_actor now ≡ due.Later moment → waited_once now ≡ settled (record now { clock = moment })

@@ -103,7 +103,7 @@ spent_enters act old new (Err OutOfMemory) enters = (works_same old new enters).
 spent_enters act old new (Err WriteFault) enters = absurd enters
 
 -- an entry makes a journal longer
-longer : (p : Play) (entry : Entry) → p ≡ record p { journal = p.journal ++ entry ∷ [] } → ⊥
+pub longer : (p : Play) (entry : Entry) → p ≡ record p { journal = p.journal ++ entry ∷ [] } → ⊥
 longer p entry same =
     let long = ap (λ (q : Play). length q.journal) same in
     let more = length-append p.journal (entry ∷ []) in omega (arith, long, more)

@@ -1,6 +1,7 @@
 -- What a turn of a conversation comes to.
-use Rattle.std.proofs.Common.{◌≡◌, ◌≢◌, ℕ, ◌<◌, ◌≤◌, Bool, true, false, cond, List, [], ◌∷◌, ◌++◌, length, Option, None, Some, Ok, Err, sym, refl, ap, ◌∙◌, subst, append_assoc, append-nil, length-append, arith, ◌&&◌, not, nat_lt, if◌then◌else◌}
+use Rattle.std.proofs.Common.{◌≡◌, ◌≢◌, ℕ, ◌<◌, ◌≤◌, Bool, true, false, cond, List, [], ◌∷◌, ◌++◌, length, Option, None, Some, Err, sym, refl, ap, ◌∙◌, subst, append_assoc, append-nil, length-append, arith, ◌&&◌, not, nat_lt, if◌then◌else◌}
 use Rattle.std.specs.List.{AllByRecursion, concat}
+use Rattle.std.specs.Option.{option_and_then}
 use Rattle.std.specs.Io.KnownBytes.{IsAtEnd}
 use Rattle.std.proofs.lemmas.List.Folds.{concat-append}
 use Rattle.std.proofs.lemmas.Bool.{ltb-false}
@@ -13,22 +14,29 @@ use Rattle.fs_frame.specs.Blocks.{HasNoBlock, blocks_of, rest_of}
 use Rattle.fs_frame.specs.Stream.{Stream, fresh, fed_with}
 use Rattle.fs_frame.specs.Next.{HandsOut, HandsOutNothing}
 use Rattle.fs_frame.proofs.BlockLaws.{AllByRecursion-append, blocks_of-append, rest_of-append, blocks_of-no_block, rest_of-no_block, front_of-no_block}
+use Rattle.fs_state.specs.declared.conn.Conn.{Conn}
+use Rattle.fs_state.specs.declared.conn.Phase.{Phase}
+use Rattle.fs_state.specs.declared.conn.Phase.TheVariants.{Fresh, Ready, Ending, Closed}
 use Rattle.fs_state.specs.declared.conn.Parting.{Parting}
 use Rattle.fs_state.specs.declared.conn.Parting.TheVariants as way
+use Rattle.fs_state.specs.Switch.{Switch, conn_of}
 use Rattle.fs_machine.specs.declared.entry.Act.TheVariants.{Arrive, Command, Close}
 use Rattle.fs_machine.specs.declared.entry.Closing.TheVariants.{EndOfInput}
-use Rattle.fs_machine.specs.declared.reply.Reply.{Reply}
-use Rattle.fs_machine.specs.Questions.{parting_at, owes}
+use Rattle.fs_machine.specs.Connections.{phase_of, phase_at}
+use Rattle.fs_machine.specs.Questions.{parting_of, parting_at, owes}
+use Rattle.fs_machine.specs.Here.{IsHere}
+use Rattle.fs_machine.specs.Step.{reads}
+use Rattle.fs_machine.specs.Owed.{PartsIn, AreOwed}
 use Rattle.fs_conn.specs.declared.end.End.{End}
 use Rattle.fs_conn.specs.declared.end.End.TheVariants.{Exit, AuthRefused, Eof}
-use Rattle.fs_conn.specs.declared.conversation.Stance.TheVariants as stance
 use Rattle.fs_conn.specs.declared.stop.Stop.{Stop}
 use Rattle.fs_conn.specs.declared.stop.Stop.TheVariants.{OutOfMemory, WriteFault}
 use Rattle.fs_conn.specs.Play.{Play, switch_of, output_of, begun, is_over, ended, entered, all_taken, followed, acted, reads_on, takes_commands, commanded, all_commanded, opened, input_ended, conversed, closed, end_by, farewell, end_behind, played}
 use Rattle.fs_conn.specs.Steps.{spent, Begins, Halts, Costs, Enters, Written, StoppedBy}
-use Rattle.fs_conn.specs.Turns.{stance_by, stance_of, HasRead, Stands, is_told, Ends, Concludes, Stops, work_left}
+use Rattle.fs_conn.specs.Turns.{HasRead, Stands, is_told, Ends, Concludes, Stops, work_left}
 use Rattle.fs_conn.proofs.PlayLemmas.{begins_self, begins_trans, Goes, goes_entered, goes_ended, goes_all_taken, goes_followed, goes_all_commanded, goes_closed}
-use Rattle.fs_conn.proofs.StepLemmas.{halts_on, does_enters, works_enters, unwritten_enters}
+use Rattle.fs_conn.proofs.StepLemmas.{halts_on, does_enters}
+use Rattle.fs_conn.proofs.SettleLemmas.{is_none}
 use Rattle.fs_conn.proofs.SendLemmas.{written_same, stopped_same}
 
 -- ---- what follows the last command
@@ -59,28 +67,52 @@ pub record IsReading (p : Play) : Type 0 where
   pub takes : takes_commands p ≡ true
   pub none : farewell p ≡ None
 
-reading_by : (reads owed : Bool) (last : Option End) → stance_by reads owed last ≡ stance.Reads → (reads ≡ true) × (owed ≡ false) × (last ≡ None)
-reading_by true false None is = (refl, refl, refl)
-reading_by true false (Some end) is = absurd (cc)
-reading_by true true last is = absurd (cc)
-reading_by false owed None is = absurd (cc)
-reading_by false owed (Some end) is = absurd (cc)
+-- one that is there, whose input has not ended, and that says no farewell has not parted
+reads_in : (now : Phase) (parting : Option Parting) → PartsIn now parting → parting ≢ Some way.EndOfInput → end_by parting ≡ None → reads now ≡ true
+reads_in Fresh parting parts hears none = refl
+reads_in Ready parting parts hears none = refl
+reads_in Ending None parts hears none = absurd (parts refl)
+reads_in Ending (Some way.Exit) parts hears none = absurd (cc)
+reads_in Ending (Some way.AuthRefused) parts hears none = absurd (cc)
+reads_in Ending (Some way.EndOfInput) parts hears none = absurd (hears refl)
+reads_in Closed parting parts hears none = absurd parts
 
-pub is_reading : (p : Play) → stance_of (switch_of p) ≡ stance.Reads → IsReading p
-is_reading p is = let parts = reading_by (reads_on p) (owes (switch_of p) 1) (farewell p) is in record {
-  reads = parts.0;
-  owed = parts.1;
-  takes = ap (λ b. b && not (owes (switch_of p) 1)) parts.0 ∙ ap not parts.1;
-  none = parts.2;
-}
+reads_still : (s : Switch) → AreOwed s → IsHere 1 s → end_by (parting_at s 1) ≡ None → reads (phase_at s 1) ≡ true
+reads_still s sound here none = by (conn_of s 1) refl
+  where
+    by : (found : Option Conn) → conn_of s 1 ≡ found → reads (phase_at s 1) ≡ true
+    by None is = absurd (here.there is)
+    by (Some c) is =
+        ap (λ found. reads (phase_of found)) is
+        ∙ reads_in c.phase c.parting (sound.parted 1 c is) (λ ended. here.hears (ap (option_and_then parting_of) is ∙ ended))
+        (sym (ap (λ found. end_by (option_and_then parting_of found)) is) ∙ none)
 
--- it reads no further command
-ending_by : (reads owed : Bool) (last : Option End) (end : End) → stance_by reads owed last ≡ stance.Ends end → (reads ≡ false) × (last ≡ Some end)
-ending_by true false None end is = absurd (cc)
-ending_by true false (Some way) end is = absurd (cc)
-ending_by true true last end is = absurd (cc)
-ending_by false owed None end is = absurd (cc)
-ending_by false owed (Some way) end is = (refl, let same : way ≡ end = cc in ap Some same)
+pub is_reading : (p : Play) (parting : Option Parting) (last : Option End) → AreOwed (switch_of p) → IsHere 1 (switch_of p) → owes (switch_of p) 1 ≡ false →
+    parting ≡ parting_at (switch_of p) 1 → last ≡ end_by parting → ((end : End) → last ≡ Some end → ⊥) → IsReading p
+is_reading p parting last sound here free parting_is last_is never =
+    let none : farewell p ≡ None = sym (last_is ∙ ap end_by parting_is) ∙ is_none last never in
+    let reading = reads_still (switch_of p) sound here none in record {
+      reads = reading;
+      owed = free;
+      takes = ap (λ b. b && not (owes (switch_of p) 1)) reading ∙ ap not free;
+      none = none;
+    }
+
+-- one that says farewell reads no further command
+reads_none_in : (now : Phase) (parting : Option Parting) (end : End) → PartsIn now parting → end_by parting ≡ Some end → reads now ≡ false
+reads_none_in Fresh parting end parts last = let none : None ≡ Some end = ap end_by (sym parts) ∙ last in absurd (cc)
+reads_none_in Ready parting end parts last = let none : None ≡ Some end = ap end_by (sym parts) ∙ last in absurd (cc)
+reads_none_in Ending parting end parts last = refl
+reads_none_in Closed parting end parts last = refl
+
+reads_no_more : (s : Switch) (end : End) → AreOwed s → end_by (parting_at s 1) ≡ Some end → reads (phase_at s 1) ≡ false
+reads_no_more s end sound last = by (conn_of s 1) refl
+  where
+    by : (found : Option Conn) → conn_of s 1 ≡ found → reads (phase_at s 1) ≡ false
+    by None is = ap (λ found. reads (phase_of found)) is
+    by (Some c) is =
+        ap (λ found. reads (phase_of found)) is
+        ∙ reads_none_in c.phase c.parting end (sound.parted 1 c is) (sym (ap (λ found. end_by (option_and_then parting_of found)) is) ∙ last)
 
 -- ---- commands
 
@@ -136,14 +168,7 @@ stops_short config in0 in1 out0 out1 stop p blocks rest are_blocks has_read halt
 begins_is : (p whole : Play) → p ≡ whole → Begins p whole
 begins_is p whole is = subst (λ (q : Play). Begins p q) is (begins_self p)
 
--- memory was wanting between two commands
-pub stops_between : (config : Configuration) (in0 in1 : Input) (out0 out1 : Output) (stream : Stream) (p : Play) →
-    Stands config in0 out0 in1 out1 stream p → Stops config in0 out0 in1 out1 OutOfMemory p
-stops_between config in0 in1 out0 out1 stream p stands =
-    stops_short config in0 in1 out0 out1 OutOfMemory p stands.blocks stream.rest stands.are_blocks
-    (record { reads = stands.reads; faults = stands.read_faults }) (begins_is p (all_commanded (opened config) stands.blocks) stands.play_is) stands.written
-
--- or for what was read
+-- memory was wanting for what was read
 pub stops_reading : (config : Configuration) (in0 in1 in2 : Input) (out0 out1 : Output) (stream : Stream) (p : Play) (piece : List ℕ) →
     Stands config in0 out0 in1 out1 stream p → Reads in1 in2 piece → in2.faults ≡ in1.faults → Stops config in0 out0 in2 out1 OutOfMemory p
 stops_reading config in0 in1 in2 out0 out1 stream p piece stands reads faults =
@@ -237,16 +262,14 @@ farewell_told (Some way.EndOfInput) end is = absurd (cc)
 
 -- the connection reads no further command
 pub ends_by_farewell : (config : Configuration) (in0 in1 : Input) (out0 out1 : Output) (end : End) (stream : Stream) (p : Play) →
-    Stands config in0 out0 in1 out1 stream p → stance_of (switch_of p) ≡ stance.Ends end → Ends config in0 out0 in1 out1 end p
-ends_by_farewell config in0 in1 out0 out1 end stream p stands is =
-    let parts = ending_by (reads_on p) (owes (switch_of p) 1) (farewell p) end is in
-    let last = parts.1 in
+    Stands config in0 out0 in1 out1 stream p → AreOwed (switch_of p) → farewell p ≡ Some end → Ends config in0 out0 in1 out1 end p
+ends_by_farewell config in0 in1 out0 out1 end stream p stands sound last =
     let told = farewell_told (parting_at (switch_of p) 1) end last in record {
       input = concat stands.blocks ++ stream.rest;
       read_failed = false;
       has_read = record { reads = stands.reads; faults = stands.read_faults };
       play_is =
-          sym (all_commanded-none p (blocks_of stream.rest) (ap (λ b. b && not (owes (switch_of p) 1)) parts.0)) ∙ ap (λ q. all_commanded q (blocks_of stream.rest)) stands.play_is
+          sym (all_commanded-none p (blocks_of stream.rest) (ap (λ b. b && not (owes (switch_of p) 1)) (reads_no_more (switch_of p) end sound last))) ∙ ap (λ q. all_commanded q (blocks_of stream.rest)) stands.play_is
           ∙ conversed-append config stands.blocks stream.rest stands.are_blocks;
       written = stands.written;
       end_is = sym (ap (λ last. end_behind last (too_long (rest_of (concat stands.blocks ++ stream.rest))) false) last);
@@ -351,22 +374,19 @@ stops_first config in0 in1 out0 out1 stop p in_is halts stopped =
 
 -- its coming was not entered
 pub stops_coming : (config : Configuration) (in0 : Input) (out0 : Output) (stop : Stop) (first p : Play) →
-    first ≡ begun config → Enters Arrive first p (Err stop) → Stops config in0 out0 in0 out0 stop p
-stops_coming config in0 out0 stop first p first_is enters =
-    let did = subst (λ (q : Play). Enters Arrive q p (Err stop)) first_is enters in
-    let works = works_enters Arrive (begun config) p (Err stop) refl did in
-    stops_first config in0 in0 out0 out0 stop p refl (halts_on followed goes_followed stop p (entered Arrive (begun config)) (does_enters Arrive (begun config) p (Err stop) refl did))
-    (stopped_same out0 out0 (begun config) p stop works.output (unwritten_enters Arrive (begun config) p stop did) (writes_nothing out0))
+    first ≡ begun config → Halts stop p (entered Arrive first) → output_of p ≡ output_of first → stop ≢ WriteFault → Stops config in0 out0 in0 out0 stop p
+stops_coming config in0 out0 stop first p first_is halts output unwritten =
+    let halts_begun = subst (λ (q : Play). Halts stop p (entered Arrive q)) first_is halts in
+    stops_first config in0 in0 out0 out0 stop p refl (halts_on followed goes_followed stop p (entered Arrive (begun config)) halts_begun)
+    (stopped_same out0 out0 (begun config) p stop (output ∙ ap output_of first_is) unwritten (writes_nothing out0))
 
 -- it came
-pub came : (config : Configuration) (first mid : Play) (reply : Option Reply) → first ≡ begun config → Enters Arrive first mid (Ok reply) → mid ≡ entered Arrive (begun config)
-came config first mid reply first_is enters = does_enters Arrive (begun config) mid (Ok reply) refl (subst (λ (q : Play). Enters Arrive q mid (Ok reply)) first_is enters)
+pub came : (config : Configuration) (first mid : Play) → first ≡ begun config → mid ≡ entered Arrive first → mid ≡ entered Arrive (begun config)
+came config first mid first_is mid_is = mid_is ∙ ap (entered Arrive) first_is
 
 -- and nothing was written yet
-pub written_came : (config : Configuration) (out0 : Output) (first mid : Play) (reply : Option Reply) → first ≡ begun config → Enters Arrive first mid (Ok reply) → Written out0 out0 mid
-written_came config out0 first mid reply first_is enters =
-    let did = subst (λ (q : Play). Enters Arrive q mid (Ok reply)) first_is enters in
-    written_same out0 out0 (begun config) mid (works_enters Arrive (begun config) mid (Ok reply) refl did).output (writes_nothing out0)
+pub written_came : (config : Configuration) (out0 : Output) (first mid : Play) → first ≡ begun config → output_of mid ≡ output_of first → Written out0 out0 mid
+written_came config out0 first mid first_is output = written_same out0 out0 (begun config) mid (output ∙ ap output_of first_is) (writes_nothing out0)
 
 -- what comes of that stopped
 pub stops_opening : (config : Configuration) (in0 in1 : Input) (out0 out1 : Output) (stop : Stop) (mid p : Play) →

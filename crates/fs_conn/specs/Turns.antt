@@ -1,5 +1,5 @@
 -- What stands of a played connection from turn to turn, and at its end.
-use Rattle.std.specs.Prelude.{◌≡◌, ℕ, ◌-◌, ◌*◌, ◌+◌, ◌<◌, Bool, true, false, List, [], ◌∷◌, ◌++◌, length, Option, None, Some, Result, Ok, Err, ◌⊎◌, if◌then◌else◌}
+use Rattle.std.specs.Prelude.{◌≡◌, ℕ, ◌-◌, ◌*◌, ◌+◌, ◌<◌, Bool, true, false, List, [], ◌∷◌, ◌++◌, length, None, Some, Result, Ok, Err, ◌⊎◌, if◌then◌else◌}
 use Rattle.std.specs.List.{AllByRecursion, concat}
 use Rattle.std.specs.Io.KnownBytes.{IsAtEnd}
 use Rattle.fs_text.specs.declared.memory.Memory.{Memory as NoMemory}
@@ -9,24 +9,20 @@ use Rattle.fs_ports.specs.Ports.{Input, Output, Reads, Writes, Stopped}
 use Rattle.fs_frame.specs.Block.{IsBlock, too_long}
 use Rattle.fs_frame.specs.Blocks.{rest_of}
 use Rattle.fs_frame.specs.Stream.{Stream, fed_with}
-use Rattle.fs_state.specs.Switch.{Switch, empty}
+use Rattle.fs_state.specs.Switch.{empty}
 use Rattle.fs_machine.specs.declared.entry.Entry.{Entry}
 use Rattle.fs_machine.specs.declared.entry.Act.TheVariants.{Close}
 use Rattle.fs_machine.specs.declared.entry.Closing.TheVariants.{Failed}
-use Rattle.fs_machine.specs.Connections.{phase_at}
-use Rattle.fs_machine.specs.Questions.{parting_at, owes}
-use Rattle.fs_machine.specs.Step.{reads, refusal_of}
+use Rattle.fs_machine.specs.Step.{refusal_of}
 use Rattle.fs_machine.specs.Runs.{run_from}
 use Rattle.fs_conn.specs.declared.end.End.{End}
 use Rattle.fs_conn.specs.declared.end.End.TheVariants as ends
 use Rattle.fs_conn.specs.declared.stop.Stop.{Stop}
 use Rattle.fs_conn.specs.declared.reading.Filled.{Filled}
 use Rattle.fs_conn.specs.declared.reading.Filled.TheVariants.{More, AtEnd, ReadFailed}
-use Rattle.fs_conn.specs.declared.conversation.Stance.{Stance}
-use Rattle.fs_conn.specs.declared.conversation.Stance.TheVariants as stance
 use Rattle.fs_conn.specs.declared.conversation.Turn.{Turn}
 use Rattle.fs_conn.specs.declared.conversation.Turn.TheVariants.{GoOn, Done}
-use Rattle.fs_conn.specs.Play.{Play, bytes_handed, opened, all_commanded, conversed, end_by, farewell, end_behind, played}
+use Rattle.fs_conn.specs.Play.{Play, bytes_handed, opened, all_commanded, conversed, farewell, end_behind, played}
 use Rattle.fs_conn.specs.Steps.{spent, Halts, Written, StoppedBy}
 
 -- what reading more of a link did
@@ -35,15 +31,6 @@ Fills in0 in1 old new (Ok More) = (piece : List ℕ) × (0 < length piece) × Re
 Fills in0 in1 old new (Ok AtEnd) = IsAtEnd in1.left × (in1 ≡ in0) × (new ≡ old)
 Fills in0 in1 old new (Ok ReadFailed) = (in1 ≡ record in0 { faults = raised in0.faults }) × (new ≡ old)
 Fills in0 in1 old new (Err memory) = (piece : List ℕ) × Reads in0 in1 piece × (in1.faults ≡ in0.faults) × (new ≡ old)
-
--- where a connection stands between two commands, by whether it reads them, whether it is owed a reply, and how it says farewell
-abbrev pub stance_by : Bool → Bool → Option End → Stance
-stance_by true false None = stance.Reads
-stance_by false owed (Some end) = stance.Ends end
-stance_by _ _ _ = stance.Adrift
-
-abbrev pub stance_of : Switch → Stance
-stance_of s = stance_by (reads (phase_at s 1)) (owes s 1) (end_by (parting_at s 1))
 
 -- the bytes that were read, and whether the reading failed behind them
 pub record HasRead (in0 in1 : Input) (input : List ℕ) (read_failed : Bool) : Type 0 where
@@ -117,6 +104,12 @@ abbrev pub Falls : Play → Stream → Play → Stream → Result Turn Stop → 
 Falls old_play old new_play new (Ok GoOn) = work_left new_play new < work_left old_play old
 Falls old_play old new_play new (Ok (Done end)) = Unit {0}
 Falls old_play old new_play new (Err stop) = Unit {0}
+
+-- what holds where the connection goes on behind a turn
+abbrev pub OnGoOn : Result Turn Stop → Type 0 → Type 0
+OnGoOn (Ok GoOn) fact = fact
+OnGoOn (Ok (Done end)) fact = Unit {0}
+OnGoOn (Err stop) fact = Unit {0}
 
 -- what a conversation did: it was closed after its end, or stopped
 abbrev pub Converses : Configuration → Input → Output → Input → Output → Play → Result End Stop → Type 0

@@ -1,14 +1,16 @@
-ghost use Rattle.std.specs.Prelude.{◌≡◌, ◌≤◌, [], IsTrue};
+ghost use Rattle.std.specs.Prelude.{◌≡◌, ◌≤◌, false, [], IsTrue};
 ghost use Rattle.fs_doc.specs.Reading.{Configuration};
 ghost use Rattle.fs_ports.specs.Ports.{Input, Output};
+ghost use Rattle.fs_machine.specs.Here.{IsHere};
+ghost use Rattle.fs_machine.specs.Questions.{owes};
 ghost use Rattle.fs_machine.specs.Runs.{state_of};
 ghost use Rattle.fs_machine.specs.Step as step;
 ghost use Rattle.fs_conn.specs.Play.{closed, input_ended, end_by};
 ghost use Rattle.fs_conn.specs.Steps.{play_of, Does, Written, Sends};
-ghost use Rattle.fs_conn.specs.Turns.{stance_of, Stands, Turns, Falls, Converses, Plays};
+ghost use Rattle.fs_conn.specs.Turns.{Stands, Turns, Falls, OnGoOn, Converses, Plays};
 
 use crate::end::End;
-use crate::entering::{CONN, command, enter};
+use crate::entering::{CONN, arrive, command, enter};
 use crate::reading::{Filled, fill};
 use crate::sending::{follow, send_frames};
 use crate::stop::Stop;
@@ -23,17 +25,6 @@ use std::alloc::Global;
 enum Turn {
     GoOn,
     Done(End),
-}
-
-// Where a connection stands between two commands.
-#[derive(Clone, Copy, Debug)]
-enum Stance {
-    /// It reads commands, and is owed no reply.
-    Reads,
-    /// It reads no further command, and ends so.
-    Ends(End),
-    /// Neither of these.
-    Adrift,
 }
 
 /// Plays a whole connection over a link: it comes, its commands are read, worked and answered, and it goes.
@@ -73,7 +64,7 @@ fn converse<L: Link>(
     requires clock { clock.old ≡ 0 }
     ensures { Converses machine.old.config (L.input link.old) (L.output link.old) (L.input link.new) (L.output link.new) (play_of machine.new clock.new) result }
 {
-    enter(machine, *clock, Act::Arrive)?;
+    arrive(machine, *clock)?;
     follow(machine, clock, link)?;
     let mut blocks = Blocks::new(alloc)?;
     loop {
@@ -96,17 +87,19 @@ fn take_turn<L: Link>(
     link: &mut L,
 ) -> Result<Turn, Stop>
     requires waits { IsTrue (L.input link.old).waits }
+    requires here { IsHere 1 (state_of machine.old) }
+    requires free { owes (state_of machine.old) 1 ≡ false }
     ensures waits { (L.input link.new).waits ≡ (L.input link.old).waits }
+    ensures here { OnGoOn result (IsHere 1 (state_of machine.new)) }
+    ensures free { OnGoOn result (owes (state_of machine.new) 1 ≡ false) }
     ensures turns { (config : Configuration) (in0 : Input) (out0 : Output)
         → Stands config in0 out0 (L.input link.old) (L.output link.old) blocks.old (play_of machine.old clock.old)
         → Turns config in0 out0 (L.input link.new) (L.output link.new) blocks.new (play_of machine.new clock.new) result }
     ensures falls { Falls (play_of machine.old clock.old) blocks.old (play_of machine.new clock.new) blocks.new result }
 {
-    match standing(machine) {
-        Stance::Reads => {}
-        Stance::Ends(end) => return Ok(Turn::Done(end)),
-        // No connection comes to this; if one did, its next command could not be entered.
-        Stance::Adrift => return Err(Stop::OutOfMemory),
+    machine.sound();
+    if let Some(end) = farewell(machine.parting(CONN)) {
+        return Ok(Turn::Done(end));
     }
     match blocks.next_block() {
         Next::Block(block) => {
@@ -120,18 +113,6 @@ fn take_turn<L: Link>(
             Filled::ReadFailed => Ok(Turn::Done(End::ReadFault)),
         },
         Next::TooLong { len } => Ok(Turn::Done(End::TooLong { len })),
-    }
-}
-
-fn standing(machine: &Machine) -> Stance
-    ensures { result ≡ stance_of (state_of machine.now) }
-{
-    let reads = reads(machine.phase(CONN));
-    let owed = machine.owes(CONN);
-    match farewell(machine.parting(CONN)) {
-        None if reads && !owed => Stance::Reads,
-        Some(end) if !reads => Stance::Ends(end),
-        _ => Stance::Adrift,
     }
 }
 

@@ -1,6 +1,8 @@
-ghost use Rattle.std.specs.Prelude.{◌≡◌, true, false, OnOk};
-ghost use Rattle.fs_machine.specs.declared.entry.Act.TheVariants.{Command};
+ghost use Rattle.std.specs.Prelude.{◌≡◌, true, false, [], OnOk};
+ghost use Rattle.fs_machine.specs.declared.entry.Act.TheVariants.{Arrive, Command};
+ghost use Rattle.fs_machine.specs.Here.{IsHere};
 ghost use Rattle.fs_machine.specs.Questions.{owes};
+ghost use Rattle.fs_machine.specs.Runs.{state_of};
 ghost use Rattle.fs_conn.specs.Play.{switch_of, output_of, reads_on, entered};
 ghost use Rattle.fs_conn.specs.Steps.{play_of, Enters, Does, Costs, IsUnwritten};
 
@@ -24,6 +26,21 @@ pub(crate) fn enter(machine: &mut Machine, clock: u64, act: Act) -> Result<Optio
         }
         Err(Refusal::Memory) => Err(Stop::OutOfMemory),
         Err(_) => Ok(None),
+    }
+}
+
+/// Enters the coming of the connection, before which nothing was entered.
+pub(crate) fn arrive(machine: &mut Machine, clock: u64) -> Result<(), Stop>
+    requires begun { machine.old.journal ≡ [] }
+    ensures does { Does (entered Arrive) (play_of machine.old clock) (play_of machine.new clock) result }
+    ensures output { output_of (play_of machine.new clock) ≡ output_of (play_of machine.old clock) }
+    ensures here { OnOk result (IsHere 1 (state_of machine.new)) }
+    ensures unwritten { IsUnwritten result }
+{
+    machine.sound();
+    match enter(machine, clock, Act::Arrive)? {
+        Some(_) => Ok(()),
+        None => unreachable!(),
     }
 }
 

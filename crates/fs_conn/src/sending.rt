@@ -1,7 +1,8 @@
-ghost use Rattle.std.specs.Prelude.{◌≡◌, ◌≤◌};
+ghost use Rattle.std.specs.Prelude.{◌≡◌, ◌≤◌, false, OnOk};
 ghost use Rattle.fs_ports.specs.Ports.{Output};
 ghost use Rattle.fs_machine.specs.declared.entry.Act.TheVariants.{Take};
-ghost use Rattle.fs_conn.specs.Play.{entered, all_taken, followed};
+ghost use Rattle.fs_machine.specs.Questions.{owes};
+ghost use Rattle.fs_conn.specs.Play.{switch_of, entered, all_taken, followed};
 ghost use Rattle.fs_conn.specs.Steps.{play_of, spent, Does, Written, Sends};
 
 use crate::entering::{CONN, enter};
@@ -21,6 +22,7 @@ pub(crate) fn follow<L: Link>(
         → Sends out0 (L.output link.new) (play_of machine.new clock.new) result }
     ensures input { L.input link.new ≡ L.input link.old }
     ensures spent { spent (play_of machine.old clock.old) ≤ spent (play_of machine.new clock.new) }
+    ensures free { OnOk result (owes (switch_of (play_of machine.new clock.new)) 1 ≡ false) }
 {
     settle(machine, *clock)?;
     wait_out(machine, clock)?;

@@ -1,5 +1,6 @@
-ghost use Rattle.std.specs.Prelude.{◌≡◌};
-ghost use Rattle.fs_conn.specs.Play.{next_actor, settled, waited};
+ghost use Rattle.std.specs.Prelude.{◌≡◌, false, None, OnOk};
+ghost use Rattle.fs_machine.specs.Questions.{owes};
+ghost use Rattle.fs_conn.specs.Play.{switch_of, next_actor, settled, waited};
 ghost use Rattle.fs_conn.specs.Steps.{play_of, act_of, Does, Works, IsUnwritten};
 
 use crate::end::End;
@@ -15,6 +16,7 @@ pub(crate) fn settle(machine: &mut Machine, clock: u64) -> Result<(), Stop>
     ensures does { Does settled (play_of machine.old clock) (play_of machine.new clock) result }
     ensures works { Works (play_of machine.old clock) (play_of machine.new clock) }
     ensures unwritten { IsUnwritten result }
+    ensures idle { OnOk result (act_of (next_actor (play_of machine.new clock)) ≡ None) }
 {
     for _ in 0..MOST_ENTRIES {
         let Some(act) = due_act(machine, clock) else {
@@ -30,14 +32,19 @@ pub(crate) fn settle(machine: &mut Machine, clock: u64) -> Result<(), Stop>
 }
 
 /// Lets the clock go on, and works what comes to be due, while the connection is owed a reply.
+///
+/// Whoever owes it has something to do at some moment.
 pub(crate) fn wait_out(machine: &mut Machine, clock: &mut u64) -> Result<(), Stop>
+    requires idle { act_of (next_actor (play_of machine.old clock.old)) ≡ None }
     ensures does { Does waited (play_of machine.old clock.old) (play_of machine.new clock.new) result }
     ensures works { Works (play_of machine.old clock.old) (play_of machine.new clock.new) }
     ensures unwritten { IsUnwritten result }
+    ensures free { OnOk result (owes (switch_of (play_of machine.new clock.new)) 1 ≡ false) }
 {
     while machine.owes(CONN) {
+        machine.sound();
         let DueActor::Later(moment) = machine.next_due(*clock) else {
-            return Ok(());
+            unreachable!()
         };
         *clock = moment;
         settle(machine, moment)?;

@@ -1,5 +1,5 @@
 -- Each entry of a run is for a connection its own, one of others, or the one by which it comes.
-use Rattle.std.proofs.Common.{◌≡◌, ◌≢◌, ℕ, ◌-◌, ◌^◌, ◌<◌, ◌≤◌, ◌==◌, true, false, not, if◌then◌else◌, List, [], ◌∷◌, ◌++◌, length, take, Option, None, Some, is_none, ◌⊎◌, inl, inr, refl, ap, subst, ◌∙◌}
+use Rattle.std.proofs.Common.{◌≡◌, ◌≢◌, ℕ, ◌-◌, ◌^◌, ◌<◌, ◌≤◌, ◌==◌, Bool, true, false, not, if◌then◌else◌, List, [], ◌∷◌, ◌++◌, length, take, Option, None, Some, is_none, ◌⊎◌, inl, inr, refl, ap, subst, ◌∙◌}
 use Rattle.std.proofs.lemmas.Bool.{both_ways, eq-eqb, ne_eqb, cases_eq}
 use Rattle.std.proofs.lemmas.Option.{same_Some, none-some}
 use Rattle.fs_frame.specs.Block.{line_of}
@@ -51,7 +51,7 @@ record Spares (conn : ℕ) (s t : Switch) : Type 0 where
   settles : Settles (conn_of s conn) (conn_of t conn)
   waits : waiting_for t conn ≡ waiting_for s conn
 
-keeps_spares : {who : Option ℕ} → (conn : ℕ) (s t : Switch) → Keeps who s t → (who ≡ Some conn → ⊥) → Spares conn s t
+keeps_spares : {who : Option ℕ} {may_end : Bool} → (conn : ℕ) (s t : Switch) → Keeps who may_end s t → (who ≡ Some conn → ⊥) → Spares conn s t
 keeps_spares conn s t keeps apart = record { settles = keeps.others conn apart; waits = keeps_waiting s t keeps conn }
 
 -- one that goes spares the others

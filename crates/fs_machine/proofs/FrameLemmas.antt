@@ -37,6 +37,11 @@ pub take_answers : (s : Switch) (moment conn : ℕ) → (step s (record { moment
 unfolding step
 take_answers s moment conn = refl
 
+-- and no command is answered by it
+pub take_owes : (s : Switch) (moment taker conn : ℕ) → owes (step s (record { moment = moment; act = Take taker })).state conn ≡ owes s conn
+unfolding step
+take_owes s moment taker conn = refl
+
 -- the bytes of the first frame
 pub first_bytes : (frames : Frames) → concat (take 1 frames) ≡ unwrap_or (slice_get frames 0) []
 first_bytes [] = refl

@@ -47,7 +47,7 @@ quiet_follows conn act s handed ordered same =
     ∙ ap (λ frames. frames ++ waiting_for (closed (cost_of act) (acted act s).state) conn) (sym handed)
 
 -- an act that keeps the connections
-keeps_follows : {who : Option ℕ} → (conn : ℕ) (act : Act) (s : Switch) → handed_in conn act s ≡ [] → Ordered (acted act s).state → Keeps who s (acted act s).state → Follows conn act s
+keeps_follows : {who : Option ℕ} {may_end : Bool} → (conn : ℕ) (act : Act) (s : Switch) → handed_in conn act s ≡ [] → Ordered (acted act s).state → Keeps who may_end s (acted act s).state → Follows conn act s
 keeps_follows conn act s handed ordered keeps = quiet_follows conn act s handed ordered (keeps_waiting s (acted act s).state keeps conn)
 
 -- a frame that is taken is handed out, and the others wait

@@ -13,6 +13,7 @@ pub mod WaitingLemmas
 pub mod OrderLemmas
 pub mod FramesLaws
 pub mod ConcernLemmas
+pub mod HereLemmas
 pub mod EventLemmas
 pub mod RefusalLemmas
 pub mod TableLemmas

@@ -33,7 +33,7 @@ use Rattle.fs_machine.proofs.FrameLemmas.{some_cost}
 -- ---- what each act keeps
 
 -- a channel that works keeps the connections
-pub work_keeps : (slot : ℕ) (s : Switch) → Keeps None s (worked slot s)
+pub work_keeps : (slot : ℕ) (s : Switch) → Keeps None false s (worked slot s)
 work_keeps slot s = keeps_same s (worked slot s) (worked_same slot s)
 
 -- the connections that there are, and their queues
@@ -147,7 +147,7 @@ room_left s orderly below =
 
 -- the clock is no matter of connections
 pub advanced_ordered : (now : ℕ) (s : Switch) → Ordered s → Ordered (advanced now s)
-advanced_ordered now s ordered = keeps_ordered s (advanced now s) (keeps_same {who = None} s (advanced now s) refl) ordered
+advanced_ordered now s ordered = keeps_ordered s (advanced now s) (keeps_same {who = None} {may_end = false} s (advanced now s) refl) ordered
 
 pub advanced_orderly : (now : ℕ) (s : Switch) → Orderly s → Orderly (advanced now s)
 advanced_orderly now s orderly = record { ordered = advanced_ordered now s orderly.ordered; given = orderly.given; paid = orderly.paid; limit = orderly.limit }

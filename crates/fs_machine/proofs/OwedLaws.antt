@@ -234,7 +234,7 @@ job_at_work s number is_due = by (job_of s number) refl
         (row.0, row.1, row.2.there, λ none. is_due (ap (λ (held : Option Job). option_and_then (λ (j : Job). work_due s j.work) held) is ∙ (sym (ap (λ (j : Job). work_due s j.work) row.3) ∙ none)))
 
 -- while a reply is owed somebody has something to do
-goes_on : (s : Switch) (conn now : ℕ) → AreOwed s → owes s conn ≡ true → next_due now s ≢ actor.Never
+pub goes_on : (s : Switch) (conn now : ℕ) → AreOwed s → owes s conn ≡ true → next_due now s ≢ actor.Never
 unfolding next_due
 goes_on s conn now h owed never = by (owed_to s conn) refl owed
   where

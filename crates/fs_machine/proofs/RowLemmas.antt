@@ -2,7 +2,7 @@
 use Rattle.std.proofs.Common.{◌≡◌, ℕ, zero, suc, ◌+◌, ◌<◌, ◌≤◌, ◌==◌, Bool, true, false, if◌then◌else◌, List, [], ◌∷◌, length, Option, None, Some, is_none, option_map, option_and_then, ◌⊎◌, inl, inr, refl, sym, ap, subst, ◌∙◌, arith}
 use Rattle.std.proofs.lemmas.List.{get_or-set_same, get_or-set_other, length-set}
 use Rattle.std.proofs.lemmas.Bool.{false≢true, both_ways, eqb-true, eq-eqb, ne_eqb, cases_eq}
-use Rattle.std.proofs.lemmas.Option.{same_Some}
+use Rattle.std.proofs.lemmas.Option.{same_Some, none-some}
 use Rattle.fs_places.specs.declared.numbered.Numbered.{Numbered}
 use Rattle.fs_places.specs.Places.{held_in, with_held, first_place, least_free}
 use Rattle.fs_places.specs.Rows.{has_number, place_of, row_of, with_held_at, with_row, without_row, with_new_row}
@@ -192,6 +192,11 @@ within_same old new bound same within number place stands = within number place 
 abbrev pub held_of : {T : Type 0} → Option (Numbered T) → Option T
 held_of held = option_map (λ row. row.held) held
 
+-- what has a number is a thing
+some_held : {T : Type 0} → (held : Option (Numbered T)) (number : ℕ) → has_number number held ≡ true → held_of held ≡ None → ⊥
+some_held None number has none = absurd (cc)
+some_held (Some row) number has none = none-some row.held (sym none)
+
 -- the thing of a number is what stands at its place
 pub row_at : {T : Type 0} → (rows : List (Option (Numbered T))) (number place : ℕ) → place_of rows number ≡ Some place → row_of rows number ≡ held_of (held_in rows place)
 row_at rows number place is = ap (λ found. held_of (option_and_then (λ p. held_in rows p) found)) is
@@ -199,6 +204,14 @@ row_at rows number place is = ap (λ found. held_of (option_and_then (λ p. held
 -- a number without a place has no thing
 pub row_none : {T : Type 0} → (rows : List (Option (Numbered T))) (number : ℕ) → place_of rows number ≡ None → row_of rows number ≡ None
 row_none rows number is = ap (λ found. held_of (option_and_then (λ p. held_in rows p) found)) is
+
+-- a number without a thing has no place
+pub row_gone : {T : Type 0} → (rows : List (Option (Numbered T))) (number : ℕ) → row_of rows number ≡ None → place_of rows number ≡ None
+row_gone rows number is = by (place_of rows number) refl
+  where
+    by : (found : Option ℕ) → place_of rows number ≡ found → found ≡ None
+    by None at = refl
+    by (Some place) at = absurd (some_held (held_in rows place) number (place_stands rows number place at) (sym (row_at rows number place at) ∙ is))
 
 -- ---- a change of one place
 
@@ -416,6 +429,65 @@ row_of-with_new_row_same rows number held put distinct new is =
     row_at (with_new_row rows number held) number put (place_of-with_new_row_same rows number held put distinct new is)
     ∙ ap (λ found. held_of (held_in (with_held_at rows (Some (record { number = number; held = held })) found) put)) is
     ∙ ap held_of (get_or-set_same rows put (Some (record { number = number; held = held })) None (free_least rows put is).1)
+
+-- the first place behind the first one
+found_next : {T : Type 0} → (test : Option T → Bool) (places : List (Option T)) (from : ℕ) → first_place test places (from + 1) ≡ option_map suc (first_place test places from)
+found_next test [] from = refl
+found_next test (held ∷ more) from =
+    elim (test held) as (λ b. (if b then Some (from + 1) else first_place test more ((from + 1) + 1)) ≡ option_map suc (if b then Some from else first_place test more (from + 1))) [
+      | true ↦ ap Some (one_more from)
+      | false ↦ found_next test more (from + 1)
+    ]
+  where
+    one_more : (n : ℕ) → n + 1 ≡ suc n
+    one_more n = omega arith
+
+-- the thing of a number is the first one that has it
+row_first : {T : Type 0} → (row : Option (Numbered T)) (rows : List (Option (Numbered T))) (number : ℕ) →
+    row_of (row ∷ rows) number ≡ (if has_number number row then held_of row else row_of rows number)
+row_first row rows number =
+    elim (has_number number row) as
+    (λ b. held_of (option_and_then (λ place. held_in (row ∷ rows) place) (if b then Some 0 else first_place (has_number number) rows (0 + 1))) ≡ (if b then held_of row else row_of rows number)) [
+      | true ↦ refl
+      | false ↦ ap (λ found. held_of (option_and_then (λ place. held_in (row ∷ rows) place) found)) (found_next (has_number number) rows 0) ∙ behind (place_of rows number)
+    ]
+  where
+    behind : (found : Option ℕ) → held_of (option_and_then (λ place. held_in (row ∷ rows) place) (option_map suc found)) ≡ held_of (option_and_then (λ place. held_in rows place) found)
+    behind None = refl
+    behind (Some place) = refl
+
+-- a thing that is put at an empty place is that of its number, or another one was and is
+row_put : {T : Type 0} → (rows : List (Option (Numbered T))) (put number : ℕ) (held : T) → held_in rows put ≡ None →
+    (row_of (with_held rows put (Some (record { number = number; held = held }))) number ≡ Some held)
+    ⊎ (row_of (with_held rows put (Some (record { number = number; held = held }))) number ≡ row_of rows number)
+row_put [] put number held free = inr refl
+row_put (row ∷ rows) zero number held free =
+    inl (row_first (Some (record { number = number; held = held })) rows number ∙ ap (λ b. if b then Some held else row_of rows number) (eq-eqb number number refl))
+row_put (row ∷ rows) (suc put) number held free =
+    let before = row_first row rows number in
+    let behind = row_first row (with_held rows put (Some (record { number = number; held = held }))) number in
+    elim (row_put rows put number held free) [
+      | inl new ↦ by (has_number number row) before (behind ∙ ap (λ found. if has_number number row then held_of row else found) new)
+      | inr same ↦ inr (behind ∙ ap (λ found. if has_number number row then held_of row else found) same ∙ sym before)
+    ]
+  where
+    by : (b : Bool) → row_of (row ∷ rows) number ≡ (if b then held_of row else row_of rows number) →
+        row_of (with_held (row ∷ rows) (suc put) (Some (record { number = number; held = held }))) number ≡ (if b then held_of row else Some held) →
+        (row_of (with_held (row ∷ rows) (suc put) (Some (record { number = number; held = held }))) number ≡ Some held)
+        ⊎ (row_of (with_held (row ∷ rows) (suc put) (Some (record { number = number; held = held }))) number ≡ row_of (row ∷ rows) number)
+    by true before behind = inr (behind ∙ sym before)
+    by false before behind = inl behind
+
+-- the same of a new thing, whatever its number is
+pub row_of-with_new_row : {T : Type 0} → (rows : List (Option (Numbered T))) (number : ℕ) (held : T) →
+    (row_of (with_new_row rows number held) number ≡ Some held) ⊎ (row_of (with_new_row rows number held) number ≡ row_of rows number)
+row_of-with_new_row rows number held = by (least_free rows 0) refl
+  where
+    by : (found : Option ℕ) → least_free rows 0 ≡ found →
+        (row_of (with_held_at rows (Some (record { number = number; held = held })) found) number ≡ Some held)
+        ⊎ (row_of (with_held_at rows (Some (record { number = number; held = held })) found) number ≡ row_of rows number)
+    by None is = inr refl
+    by (Some put) is = row_put rows put number held (free_least rows put is).0
 
 -- a number stands behind it where it stood, or it is the new one and the place was free
 pub new_stands : {T : Type 0} → (rows : List (Option (Numbered T))) (number : ℕ) (held : T) (place : ℕ) → place_of rows number ≡ None →

@@ -48,7 +48,7 @@ some_open s conn place opened is =
 -- ---- a step that keeps the connections
 
 -- connections and queues fit together as before
-pub keeps_ordered : {who : Option ℕ} → (s t : Switch) → Keeps who s t → Ordered s → Ordered t
+pub keeps_ordered : {who : Option ℕ} {may_end : Bool} → (s t : Switch) → Keeps who may_end s t → Ordered s → Ordered t
 keeps_ordered s t keeps ordered = record {
   distinct = distinct_same s.conns t.conns keeps.numbers ordered.distinct;
   within = λ number place stands. subst (λ bound. number ≤ bound) (sym keeps.drawn) (ordered.within number place (sym (keeps.numbers number place) ∙ stands));
@@ -58,12 +58,12 @@ keeps_ordered s t keeps ordered = record {
 }
 
 -- the same frames wait
-pub keeps_waiting : {who : Option ℕ} → (s t : Switch) → Keeps who s t → (conn : ℕ) → waiting_for t conn ≡ waiting_for s conn
+pub keeps_waiting : {who : Option ℕ} {may_end : Bool} → (s t : Switch) → Keeps who may_end s t → (conn : ℕ) → waiting_for t conn ≡ waiting_for s conn
 keeps_waiting s t keeps conn =
     ap (λ queues. waiting_at queues (place_of t.conns conn)) keeps.queues ∙ ap (waiting_at s.queues) (places_same s.conns t.conns keeps.numbers conn)
 
 -- each connection has the same place
-pub keeps_place : {who : Option ℕ} → (s t : Switch) → Keeps who s t → (conn : ℕ) → place_of t.conns conn ≡ place_of s.conns conn
+pub keeps_place : {who : Option ℕ} {may_end : Bool} → (s t : Switch) → Keeps who may_end s t → (conn : ℕ) → place_of t.conns conn ≡ place_of s.conns conn
 keeps_place s t keeps conn = places_same s.conns t.conns keeps.numbers conn
 
 -- ---- other queues

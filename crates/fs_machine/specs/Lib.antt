@@ -4,6 +4,7 @@ pub mod Words
 pub mod Connections
 pub mod Due
 pub mod Questions
+pub mod Here
 pub mod Applications
 pub mod Work
 pub mod Originations

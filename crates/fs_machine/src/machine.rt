@@ -1,4 +1,5 @@
 ghost use Rattle.std.specs.Prelude.{◌≡◌, ◌≢◌, ◌≤◌, [], ◌∷◌, ◌++◌, ◌+◌, ◌-◌, ◌^◌, min, false, Some, None, IfOk, IfErr, OnOk};
+ghost use Rattle.fs_doc.specs.Limits.{IsWithin};
 ghost use Rattle.fs_state.specs.declared.delta.QueueChange.TheVariants.{Unchanged};
 ghost use Rattle.fs_state.specs.Drafts.{after, drafted, Fits};
 ghost use Rattle.fs_state.specs.Switch.{empty};
@@ -71,9 +72,10 @@ impl Machine {
         })
     }
 
-    /// What holds of the state of every machine. It does nothing, and stands for its contract.
+    /// What holds of the state of every machine, and of what it was configured by. It does nothing, and stands for its contract.
     pub fn sound(&self)
-        ensures { IsSound (spec.state_of self.now) }
+        ensures state { IsSound (spec.state_of self.now) }
+        ensures config { IsWithin self.now.config }
     {
         let _journal = &self.journal;
     }

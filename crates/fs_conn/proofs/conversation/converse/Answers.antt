@@ -1,23 +1,26 @@
 use Rattle.std.proofs.Common.{refl}
 use Rattle.std.proofs.lemmas.Result.{err_from_is_err_and}
 use Rattle.fs_conn.specs.Steps.{play_of}
+use Rattle.fs_conn.proofs.HereLemmas.{here_followed}
 use Rattle.fs_conn.proofs.TurnLemmas.{stands_first, concludes, stops_closing, stops_coming, came, written_came, stops_opening, stops_opened}
 use Rattle.fs_conn.proofs.conversation.converse.Goals as goal
 
-pub returns-in_err-enter : goal.returns-in_err-enter
-returns-in_err-enter g c =
+pub returns-in_err-arrive : goal.returns-in_err-arrive
+returns-in_err-arrive g c =
     let p = err_from_is_err_and c.from_residual.result c.from_residual.ensures.1 in
+    let did = c.in_err-arrive.ensures in
     rw (p.1, p.2)
-    (stops_coming c.args.machine.now.config _ _ _ (play_of c.args.machine.now c.args.clock.now) (play_of c.enter.new.machine c.args.clock.now) (rw (c.requires.begun, c.requires.clock) refl) c.in_err-enter.ensures)
+    (stops_coming c.args.machine.now.config _ _ _ (play_of c.args.machine.now c.args.clock.now) (play_of c.arrive.new.machine c.args.clock.now) (rw (c.requires.begun, c.requires.clock) refl)
+    did.does did.output did.unwritten)
 
 pub returns-in_err-follow : goal.returns-in_err-follow
 returns-in_err-follow g c =
     let p = err_from_is_err_and c.from_residual-in_err-follow.result c.from_residual-in_err-follow.ensures.1 in
     let config = c.args.machine.now.config in
     let first = play_of c.args.machine.now c.args.clock.now in
-    let mid = play_of c.enter.new.machine c.args.clock.now in
-    let mid_is = came config first mid _ (rw (c.requires.begun, c.requires.clock) refl) c.in_ok-enter.ensures in
-    let sent = c.in_err-follow.ensures.sends _ (written_came config _ first mid _ (rw (c.requires.begun, c.requires.clock) refl) c.in_ok-enter.ensures) in
+    let mid = play_of c.arrive.new.machine c.args.clock.now in
+    let mid_is = came config first mid (rw (c.requires.begun, c.requires.clock) refl) c.in_ok-arrive.ensures.does in
+    let sent = c.in_err-follow.ensures.sends _ (written_came config _ first mid (rw (c.requires.begun, c.requires.clock) refl) c.in_ok-arrive.ensures.output) in
     rw (p.1, p.2) (stops_opening config _ _ _ _ _ mid (play_of c.follow.new.machine c.follow.new.clock) mid_is c.follow.ensures.input c.in_err-follow.ensures.does sent)
 
 pub returns-in_err-blocks : goal.returns-in_err-blocks
@@ -25,21 +28,23 @@ returns-in_err-blocks g c =
     let p = err_from_is_err_and c.from_residual-in_err-blocks.result c.from_residual-in_err-blocks.ensures.1 in
     let config = c.args.machine.now.config in
     let first = play_of c.args.machine.now c.args.clock.now in
-    let mid = play_of c.enter.new.machine c.args.clock.now in
-    let mid_is = came config first mid _ (rw (c.requires.begun, c.requires.clock) refl) c.in_ok-enter.ensures in
-    let sent = c.in_ok-follow.ensures.sends _ (written_came config _ first mid _ (rw (c.requires.begun, c.requires.clock) refl) c.in_ok-enter.ensures) in
+    let mid = play_of c.arrive.new.machine c.args.clock.now in
+    let mid_is = came config first mid (rw (c.requires.begun, c.requires.clock) refl) c.in_ok-arrive.ensures.does in
+    let sent = c.in_ok-follow.ensures.sends _ (written_came config _ first mid (rw (c.requires.begun, c.requires.clock) refl) c.in_ok-arrive.ensures.output) in
     rw (p.1, p.2) (stops_opened config _ _ _ _ mid (play_of c.follow.new.machine c.follow.new.clock) c.follow.ensures.input mid_is c.in_ok-follow.ensures.does sent)
 
 pub loop-blocks-init : goal.loop-blocks-init
 loop-blocks-init g c =
     let config = c.args.machine.now.config in
     let first = play_of c.args.machine.now c.args.clock.now in
-    let mid = play_of c.enter.new.machine c.args.clock.now in
-    let mid_is = came config first mid _ (rw (c.requires.begun, c.requires.clock) refl) c.in_ok-enter.ensures in
-    let sent = c.in_ok-follow.ensures.sends _ (written_came config _ first mid _ (rw (c.requires.begun, c.requires.clock) refl) c.in_ok-enter.ensures) in record {
+    let mid = play_of c.arrive.new.machine c.args.clock.now in
+    let mid_is = came config first mid (rw (c.requires.begun, c.requires.clock) refl) c.in_ok-arrive.ensures.does in
+    let sent = c.in_ok-follow.ensures.sends _ (written_came config _ first mid (rw (c.requires.begun, c.requires.clock) refl) c.in_ok-arrive.ensures.output) in record {
       waits = rw c.follow.ensures.input c.requires.waits;
       stands =
           stands_first config _ _ _ _ _ mid (play_of c.follow.new.machine c.follow.new.clock) c.follow.ensures.input c.in_ok-blocks.ensures mid_is c.in_ok-follow.ensures.does sent;
+      here = here_followed mid (play_of c.follow.new.machine c.follow.new.clock) c.in_ok-arrive.ensures.here c.in_ok-follow.ensures.does refl;
+      free = c.in_ok-follow.ensures.free;
     }
 
 pub returns-in_err-finish-in-Done : goal.returns-in_err-finish-in-Done

@@ -3,22 +3,22 @@ use Rattle.std.proofs.lemmas.Result.{err_from_is_err_and}
 use Rattle.fs_ports.proofs.Sides.{reads_nothing}
 use Rattle.fs_frame.specs.Stream.{Stream}
 use Rattle.fs_frame.specs.Next.{HandsOut, bytes_of}
+use Rattle.fs_conn.specs.Play.{end_by}
 use Rattle.fs_conn.specs.Steps.{play_of}
 use Rattle.fs_conn.proofs.SendLemmas.{written_same}
-use Rattle.fs_conn.proofs.TurnLemmas.{is_reading, stops_between, stops_reading, stops_command, stops_following, goes_on_behind, ends_by_farewell, ends_between, reads_failed, falls_behind, falls_fed}
+use Rattle.fs_conn.proofs.HereLemmas.{here_commanded}
+use Rattle.fs_conn.proofs.TurnLemmas.{is_reading, stops_reading, stops_command, stops_following, goes_on_behind, ends_by_farewell, ends_between, reads_failed, falls_behind, falls_fed}
 use Rattle.fs_conn.proofs.conversation.take_turn.Goals as goal
 
-pub returns-in-Adrift-clause-turns : goal.returns-in-Adrift-clause-turns
-returns-in-Adrift-clause-turns g c = λ config in0 out0 stands. stops_between config in0 _ out0 _ _ (play_of c.args.machine.now c.args.clock.now) stands
-
-pub returns-in-Ends-clause-turns : goal.returns-in-Ends-clause-turns
-returns-in-Ends-clause-turns g c =
-    λ config in0 out0 stands. ends_by_farewell config in0 _ out0 _ c.in-Ends.end _ (play_of c.args.machine.now c.args.clock.now) stands (sym c.standing.ensures ∙ c.in-Ends.is)
+pub returns-in-Some-clause-turns : goal.returns-in-Some-clause-turns
+returns-in-Some-clause-turns g c =
+    λ config in0 out0 stands. ends_by_farewell config in0 _ out0 _ c.in-Some.end _ (play_of c.args.machine.now c.args.clock.now) stands c.sound.ensures.state.owed
+    (sym (c.farewell.ensures ∙ ap end_by c.parting.ensures) ∙ c.in-Some.is)
 
 pub returns-in_err-command-in-Block-clause-turns : goal.returns-in_err-command-in-Block-clause-turns
 returns-in_err-command-in-Block-clause-turns g c =
     let p = err_from_is_err_and c.from_residual.result c.from_residual.ensures.1 in
-    let reading = is_reading (play_of c.args.machine.now c.args.clock.now) (sym c.standing.ensures ∙ c.in-Reads.is) in
+    let reading = is_reading (play_of c.args.machine.now c.args.clock.now) _ _ c.sound.ensures.state.owed c.requires.here c.requires.free c.parting.ensures c.farewell.ensures c.in_default.not-Some in
     let did = rw c.bytes.ensures at c.in_err-command-in-Block.ensures in
     let block = bytes_of c.in-Block.block in
     let hands_out = subst (λ (s : Stream). HandsOut c.args.blocks.now s block) (sym c.next_block.follows.holds-at-none) c.in-Block.ensures.answer in
@@ -28,7 +28,7 @@ returns-in_err-command-in-Block-clause-turns g c =
 pub returns-in_err-follow-in-Block-clause-turns : goal.returns-in_err-follow-in-Block-clause-turns
 returns-in_err-follow-in-Block-clause-turns g c =
     let p = err_from_is_err_and c.from_residual-in_err-follow-in-Block.result c.from_residual-in_err-follow-in-Block.ensures.1 in
-    let reading = is_reading (play_of c.args.machine.now c.args.clock.now) (sym c.standing.ensures ∙ c.in-Reads.is) in
+    let reading = is_reading (play_of c.args.machine.now c.args.clock.now) _ _ c.sound.ensures.state.owed c.requires.here c.requires.free c.parting.ensures c.farewell.ensures c.in_default.not-Some in
     let did = rw c.bytes.ensures at c.in_ok-command-in-Block.ensures in
     let block = bytes_of c.in-Block.block in
     let hands_out = subst (λ (s : Stream). HandsOut c.args.blocks.now s block) (sym c.next_block.follows.holds-at-none) c.in-Block.ensures.answer in
@@ -46,7 +46,7 @@ returns-in_err-fill-in-NeedMore-clause-turns g c =
 
 pub returns-in_ok-follow-in-Block-clause-turns : goal.returns-in_ok-follow-in-Block-clause-turns
 returns-in_ok-follow-in-Block-clause-turns g c =
-    let reading = is_reading (play_of c.args.machine.now c.args.clock.now) (sym c.standing.ensures ∙ c.in-Reads.is) in
+    let reading = is_reading (play_of c.args.machine.now c.args.clock.now) _ _ c.sound.ensures.state.owed c.requires.here c.requires.free c.parting.ensures c.farewell.ensures c.in_default.not-Some in
     let did = rw c.bytes.ensures at c.in_ok-command-in-Block.ensures in
     let block = bytes_of c.in-Block.block in
     let hands_out = subst (λ (s : Stream). HandsOut c.args.blocks.now s block) (sym c.next_block.follows.holds-at-none) c.in-Block.ensures.answer in
@@ -72,7 +72,7 @@ returns-in-More-clause-falls g c =
 
 pub returns-in-AtEnd-clause-turns : goal.returns-in-AtEnd-clause-turns
 returns-in-AtEnd-clause-turns g c =
-    let reading = is_reading (play_of c.args.machine.now c.args.clock.now) (sym c.standing.ensures ∙ c.in-Reads.is) in
+    let reading = is_reading (play_of c.args.machine.now c.args.clock.now) _ _ c.sound.ensures.state.owed c.requires.here c.requires.free c.parting.ensures c.farewell.ensures c.in_default.not-Some in
     let fills = rw c.in-AtEnd.is at c.in_ok-fill-in-NeedMore.ensures.fills in
     let answer = c.in-NeedMore.ensures.answer in
     let at_end = rw fills.1 at fills.0 in
@@ -81,7 +81,7 @@ returns-in-AtEnd-clause-turns g c =
 
 pub returns-in-ReadFailed-clause-turns : goal.returns-in-ReadFailed-clause-turns
 returns-in-ReadFailed-clause-turns g c =
-    let reading = is_reading (play_of c.args.machine.now c.args.clock.now) (sym c.standing.ensures ∙ c.in-Reads.is) in
+    let reading = is_reading (play_of c.args.machine.now c.args.clock.now) _ _ c.sound.ensures.state.owed c.requires.here c.requires.free c.parting.ensures c.farewell.ensures c.in_default.not-Some in
     let fills = rw c.in-ReadFailed.is at c.in_ok-fill-in-NeedMore.ensures.fills in
     let answer = c.in-NeedMore.ensures.answer in
     λ config in0 out0 stands. rw (fills.0, c.fill.ensures.output)
@@ -89,12 +89,18 @@ returns-in-ReadFailed-clause-turns g c =
 
 pub returns-in-TooLong-clause-turns : goal.returns-in-TooLong-clause-turns
 returns-in-TooLong-clause-turns g c =
-    let reading = is_reading (play_of c.args.machine.now c.args.clock.now) (sym c.standing.ensures ∙ c.in-Reads.is) in
+    let reading = is_reading (play_of c.args.machine.now c.args.clock.now) _ _ c.sound.ensures.state.owed c.requires.here c.requires.free c.parting.ensures c.farewell.ensures c.in_default.not-Some in
     let answer = c.in-TooLong.ensures.answer in
     λ config in0 out0 stands. ends_between config in0 _ _ out0 _ _ _ (play_of c.args.machine.now c.args.clock.now) false stands answer.0.no_block reading.none (reads_nothing _) refl (rw (answer.1, answer.2) refl) refl (λ is_eof. absurd (cc))
 
 pub command-requires-clause-reads : goal.command-requires-clause-reads
-command-requires-clause-reads g c = (is_reading (play_of c.args.machine.now c.args.clock.now) (sym c.standing.ensures ∙ c.in-Reads.is)).reads
+command-requires-clause-reads g c = (is_reading (play_of c.args.machine.now c.args.clock.now) _ _ c.sound.ensures.state.owed c.requires.here c.requires.free c.parting.ensures c.farewell.ensures c.in_default.not-Some).reads
 
 pub command-requires-clause-owed : goal.command-requires-clause-owed
-command-requires-clause-owed g c = (is_reading (play_of c.args.machine.now c.args.clock.now) (sym c.standing.ensures ∙ c.in-Reads.is)).owed
+command-requires-clause-owed g c = (is_reading (play_of c.args.machine.now c.args.clock.now) _ _ c.sound.ensures.state.owed c.requires.here c.requires.free c.parting.ensures c.farewell.ensures c.in_default.not-Some).owed
+
+pub returns-in_ok-follow-in-Block-clause-here : goal.returns-in_ok-follow-in-Block-clause-here
+returns-in_ok-follow-in-Block-clause-here g c =
+    let did = c.in_ok-command-in-Block.ensures in
+    here_commanded (play_of c.args.machine.now c.args.clock.now) (play_of c.command.new.machine c.args.clock.now) (play_of c.follow.new.machine c.follow.new.clock) c.bytes.result.now
+    c.requires.here did.does c.in_ok-follow-in-Block.ensures.does refl

@@ -17,6 +17,9 @@ returns-in_default-clause-does c =
 pub returns-in_default-clause-works : goal.returns-in_default-clause-works
 returns-in_default-clause-works c = c.loop.invariant.works
 
+pub returns-in_default-clause-idle : goal.returns-in_default-clause-idle
+returns-in_default-clause-idle c = sym c.due_act.ensures ∙ is_none _ c.in_default.not-Some
+
 pub returns-in_err-enter-clause-does : goal.returns-in_err-enter-clause-does
 returns-in_err-enter-clause-does c =
     let p = err_from_is_err_and c.from_residual.result c.from_residual.ensures.1 in
@@ -49,3 +52,6 @@ pub returns-clause-does : goal.returns-clause-does
 returns-clause-does c =
     settled_rest _ (play_of c.args.machine.now c.args.clock) (play_of c.loop.machine c.args.clock)
     (is_not_some _ (ap is_some (sym c.due_act-2.ensures) ∙ sym c.is_some.ensures ∙ c.if-is_some.false)) c.loop.invariant.reaches
+
+pub returns-clause-idle : goal.returns-clause-idle
+returns-clause-idle c = is_not_some _ (ap is_some (sym c.due_act-2.ensures) ∙ sym c.is_some.ensures ∙ c.if-is_some.false)

@@ -1,0 +1,120 @@
+-- A connection that has come is there, and its input has not ended, until it is closed.
+use Rattle.std.proofs.Common.{◌≡◌, ℕ, zero, suc, ◌+◌, ◌≤◌, false, Option, None, Some, is_none, length, ◌⊎◌, inl, inr, refl, sym, ap, subst, ◌∙◌, arith}
+use Rattle.std.proofs.lemmas.Bool.{cases_eq, le-ltb}
+use Rattle.std.proofs.lemmas.Option.{none-some}
+use Rattle.fs_frame.specs.Block.{line_of}
+use Rattle.fs_doc.specs.Reading.{Configuration}
+use Rattle.fs_doc.specs.Limits.{IsWithin}
+use Rattle.fs_places.specs.declared.numbered.Numbered.{Numbered}
+use Rattle.fs_places.specs.Places.{no_places, least_free}
+use Rattle.fs_places.specs.Rows.{row_of, with_new_row}
+use Rattle.fs_state.specs.declared.conn.Conn.{Conn}
+use Rattle.fs_state.specs.Drawn as numbers
+use Rattle.fs_state.specs.Switch.{Switch, empty, conn_of, advanced}
+use Rattle.fs_machine.specs.declared.entry.Entry.{Entry}
+use Rattle.fs_machine.specs.declared.entry.Act.{Act}
+use Rattle.fs_machine.specs.declared.entry.Act.TheVariants.{Arrive, Command, Take, Close, Work, Job}
+use Rattle.fs_machine.specs.declared.refusal.Refusal.TheVariants as refusal
+use Rattle.fs_machine.specs.Here.{IsHere}
+use Rattle.fs_machine.specs.Work.{worked}
+use Rattle.fs_machine.specs.Jobs.{job_done}
+use Rattle.fs_machine.specs.Commands.{command_of, commanded}
+use Rattle.fs_machine.specs.Step.{refused_where, refusal_of, fresh, arrived, acted, step}
+use Rattle.fs_machine.proofs.RowLemmas.{row_none, row_gone, places_same, row_of-with_new_row, row_of-with_new_row_other}
+use Rattle.fs_machine.proofs.KeepLemmas.{Hears, Keeps, commanded_keeps, job_done_keeps}
+use Rattle.fs_machine.proofs.OrderLemmas.{work_keeps}
+
+-- ---- each act
+
+-- an act that closes no connection, nor ends its input
+abbrev pub ClosesNone : Act → Type 0
+ClosesNone Arrive = Unit {0}
+ClosesNone (Command conn block) = Unit {0}
+ClosesNone (Take conn) = Unit {0}
+ClosesNone (Close conn how) = ⊥
+ClosesNone (Work slot) = Unit {0}
+ClosesNone (Job number) = Unit {0}
+
+-- connections that are kept in their places, and whose input does not end
+keeps_here : {who : Option ℕ} → (conn : ℕ) (s t : Switch) → Keeps who false s t → IsHere conn s → IsHere conn t
+keeps_here conn s t keeps here = record {
+  there = λ none. here.there (row_none s.conns conn (sym (places_same s.conns t.conns keeps.numbers conn) ∙ row_gone t.conns conn none));
+  hears = keeps.hears refl conn here.hears;
+}
+
+-- one that has just come
+fresh_here : (conn : ℕ) (t : Switch) → conn_of t conn ≡ Some fresh → IsHere conn t
+fresh_here conn t is = record {
+  there = λ none. none-some fresh (sym none ∙ is);
+  hears = subst Hears (sym is) (λ same. cc);
+}
+
+-- one that stays as it is
+same_here : (conn : ℕ) (s t : Switch) → conn_of t conn ≡ conn_of s conn → IsHere conn s → IsHere conn t
+same_here conn s t same here = record {
+  there = λ none. here.there (sym same ∙ none);
+  hears = subst Hears (sym same) here.hears;
+}
+
+-- whoever comes, the others stay
+arrived_here : (conn : ℕ) (s : Switch) → IsHere conn s → IsHere conn (arrived s).state
+arrived_here conn s here = by (cases_eq (numbers.with_conn s.drawn).conns conn)
+  where
+    same_number : (number : ℕ) → number ≡ conn →
+        (row_of (with_new_row s.conns number fresh) number ≡ Some fresh) ⊎ (row_of (with_new_row s.conns number fresh) number ≡ row_of s.conns number) →
+        (row_of (with_new_row s.conns number fresh) conn ≡ Some fresh) ⊎ (row_of (with_new_row s.conns number fresh) conn ≡ row_of s.conns conn)
+    same_number number same found =
+        subst (λ n. (row_of (with_new_row s.conns number fresh) n ≡ Some fresh) ⊎ (row_of (with_new_row s.conns number fresh) n ≡ row_of s.conns n)) same found
+
+    by : ((numbers.with_conn s.drawn).conns ≡ conn) ⊎ ((numbers.with_conn s.drawn).conns ≡ conn → ⊥) → IsHere conn (arrived s).state
+    by (inl same) =
+        elim (same_number (numbers.with_conn s.drawn).conns same (row_of-with_new_row s.conns (numbers.with_conn s.drawn).conns fresh)) [
+          | inl new ↦ fresh_here conn (arrived s).state new
+          | inr old ↦ same_here conn s (arrived s).state old here
+        ]
+    by (inr differ) = same_here conn s (arrived s).state (row_of-with_new_row_other s.conns (numbers.with_conn s.drawn).conns fresh conn differ) here
+
+acted_here : (conn : ℕ) (act : Act) (s : Switch) → ClosesNone act → IsHere conn s → IsHere conn (acted act s).state
+acted_here conn Arrive s such here = arrived_here conn s here
+acted_here conn (Command giver block) s such here =
+    keeps_here conn s (commanded giver (command_of (line_of block)) s) (commanded_keeps giver (command_of (line_of block)) s) here
+acted_here conn (Take taker) s such here = record { there = here.there; hears = here.hears }
+acted_here conn (Close gone how) s such here = absurd such
+acted_here conn (Work slot) s such here = keeps_here conn s (worked slot s) (work_keeps slot s) here
+acted_here conn (Job number) s such here = keeps_here conn s (job_done number s) (job_done_keeps number s) here
+
+-- a connection that is here is so behind each entry that closes none
+pub here_step : (conn : ℕ) (s : Switch) (entry : Entry) → ClosesNone entry.act → IsHere conn s → IsHere conn (step s entry).state
+unfolding step
+here_step conn s entry such here =
+    let behind = acted_here conn entry.act (advanced entry.moment s) such (record { there = here.there; hears = here.hears }) in
+    record { there = behind.there; hears = behind.hears }
+
+-- ---- the first connection
+
+-- there is a place for it
+has_place : (count : ℕ) → 1 ≤ count → is_none (least_free (no_places {T = Numbered Conn} count) 0) ≡ false
+unfolding no_places
+has_place zero some = absurd (omega (arith, some))
+has_place (suc count) some = refl
+
+-- it takes that
+first_row : (count : ℕ) → 1 ≤ count → row_of (with_new_row (no_places {T = Numbered Conn} count) 1 fresh) 1 ≡ Some fresh
+unfolding no_places
+first_row zero some = absurd (omega (arith, some))
+first_row (suc count) some = refl
+
+-- it may come
+pub arrival_accepted : (config : Configuration) (moment : ℕ) → IsWithin config → refusal_of (empty config) (record { moment = moment; act = Arrive }) ≡ None
+unfolding refusal_of
+arrival_accepted config moment within =
+    let places = config.settings.max_connections in
+    ap (λ full. refused_where full (refusal.JournalFull 0 config.settings.journal_limit) (refused_where (is_none (least_free (no_places {T = Numbered Conn} places) 0)) (refusal.TooMany (length (no_places {T = Numbered Conn} places))) None))
+    (le-ltb config.settings.journal_limit (0 + 65600) (omega (arith, within.settings.journal.0)))
+    ∙ ap (λ full. refused_where full (refusal.TooMany (length (no_places {T = Numbered Conn} places))) None) (has_place places within.settings.connections.0)
+
+-- and then it is here
+pub arrival_here : (config : Configuration) (moment : ℕ) → IsWithin config → IsHere 1 (step (empty config) (record { moment = moment; act = Arrive })).state
+unfolding step
+arrival_here config moment within =
+    fresh_here 1 (step (empty config) (record { moment = moment; act = Arrive })).state (first_row config.settings.max_connections within.settings.connections.0)

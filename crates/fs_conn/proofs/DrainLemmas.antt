@@ -1,5 +1,5 @@
 -- What a play gives its connection is handed out, all of it unless the play is over before the connection.
-use Rattle.std.proofs.Common.{◌≡◌, ◌≢◌, ℕ, zero, suc, ◌-◌, ◌≤◌, ◌==◌, Bool, true, false, cond, List, [], ◌∷◌, ◌++◌, length, drop, Option, None, Some, ◌⊎◌, inl, inr, refl, sym, ap, ◌∙◌, subst, append_assoc, append-nil, arith}
+use Rattle.std.proofs.Common.{◌≡◌, ℕ, zero, suc, ◌-◌, ◌≤◌, ◌==◌, Bool, true, false, cond, List, [], ◌∷◌, ◌++◌, length, drop, Option, None, Some, ◌⊎◌, inl, inr, refl, sym, ap, ◌∙◌, subst, append-nil, arith}
 use Rattle.std.specs.List.{concat}
 use Rattle.std.proofs.lemmas.Bool.{both_ways, eqb-true}
 use Rattle.std.proofs.lemmas.List.{nil_from_length, length-drop}
@@ -24,10 +24,10 @@ use Rattle.fs_machine.proofs.RunLemmas.{run_more}
 use Rattle.fs_machine.proofs.FramesLaws.{handed_first, handed_sent, closed_waits_not, take_leaves_rest, IsUnfailed, AreUnfailed, unfailed_more, handed_unfailed}
 use Rattle.fs_conn.specs.declared.end.End.{End}
 use Rattle.fs_conn.specs.declared.end.End.TheVariants.{Exit, Eof, AuthRefused, ReadFault, WriteFault, TooLong, JournalFull, Memory, Runaway}
-use Rattle.fs_conn.specs.Play.{Play, switch_of, bytes_handed, begun, is_over, ended, judged, entered, repeated, settled, waited, all_taken, followed, acted, reads_on, takes_commands, commanded, all_commanded, opened, input_ended, conversed, closed, farewell, end_behind, played}
+use Rattle.fs_conn.specs.Play.{Play, switch_of, bytes_handed, begun, is_over, ended, judged, entered, repeated, settled, waited, all_taken, acted, reads_on, takes_commands, commanded, all_commanded, opened, input_ended, conversed, closed, farewell, end_behind, played}
 use Rattle.fs_conn.specs.Steps.{is_early, entry_of}
-use Rattle.fs_conn.proofs.PlayLemmas.{Goes, goes_entered, goes_taken, goes_input_ended}
-use Rattle.fs_conn.proofs.KeepLemmas.{Keeps, kept_settled, kept_waited, kept_acted, kept_opened, kept_commanded, kept_all_commanded, kept_input_ended, kept_closed}
+use Rattle.fs_conn.proofs.PlayLemmas.{goes_entered, goes_taken}
+use Rattle.fs_conn.proofs.KeepLemmas.{Keeps, kept_settled, kept_waited, kept_opened, kept_commanded, kept_all_commanded, kept_input_ended}
 use Rattle.fs_conn.proofs.LawLemmas.{Any, IsRun, keeps_run, run_closed, run_played, EndsEarly, Early, early_closed}
 
 -- the run of a play, in terms of what it was configured by

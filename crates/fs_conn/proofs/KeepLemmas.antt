@@ -1,5 +1,5 @@
 -- What holds of a play is kept by its steps.
-use Rattle.std.proofs.Common.{◌≡◌, ◌^◌, ℕ, zero, suc, true, false, cond, List, [], ◌∷◌, length}
+use Rattle.std.proofs.Common.{◌^◌, ℕ, zero, suc, true, false, cond, List, [], ◌∷◌, length}
 use Rattle.fs_doc.specs.Reading.{Configuration}
 use Rattle.fs_state.specs.Switch.{waiting_for}
 use Rattle.fs_machine.specs.declared.due.DueActor.{DueActor}
@@ -8,7 +8,7 @@ use Rattle.fs_machine.specs.declared.entry.Act.{Act}
 use Rattle.fs_machine.specs.declared.entry.Act.TheVariants.{Arrive, Command, Take, Close, Work, Job}
 use Rattle.fs_machine.specs.declared.entry.Closing.TheVariants.{EndOfInput, Sent}
 use Rattle.fs_conn.specs.declared.end.End.TheVariants.{Runaway}
-use Rattle.fs_conn.specs.Play.{Play, switch_of, begun, ended, entered, repeated, worked_by, next_actor, worked_once, stopped_by, stopped, settled, waits, waited_until, waited_once, waited, all_taken, followed, acted, reads_on, takes_commands, commanded, all_commanded, opened, input_ended, closed}
+use Rattle.fs_conn.specs.Play.{Play, switch_of, begun, ended, entered, repeated, worked_by, next_actor, worked_once, stopped_by, settled, waits, waited_until, waited_once, waited, all_taken, followed, acted, reads_on, takes_commands, commanded, all_commanded, opened, input_ended, closed}
 
 -- what holds of a play holds still once an act of this kind was tried, once it has run away, and whatever the clock says; of this kind
 -- are the acts that a play enters by itself

@@ -1,5 +1,5 @@
 -- What holds of every play: its journal is a run, its commands are blocks of its input, and each end has its cause.
-use Rattle.std.proofs.Common.{◌≡◌, ◌≢◌, ℕ, Bool, true, false, cond, not, ◌&&◌, List, [], ◌∷◌, ◌++◌, Option, None, Some, is_some, ◌⊎◌, inl, inr, refl, sym, ap, ◌∙◌, subst, append_assoc, append-nil}
+use Rattle.std.proofs.Common.{◌≡◌, ℕ, Bool, true, false, cond, not, ◌&&◌, List, [], ◌∷◌, ◌++◌, Option, None, Some, is_some, ◌⊎◌, inl, inr, refl, sym, ap, ◌∙◌, subst, append_assoc, append-nil}
 use Rattle.std.specs.List.{concat}
 use Rattle.std.proofs.lemmas.List.Folds.{concat-append}
 use Rattle.fs_doc.specs.Reading.{Configuration}
@@ -10,8 +10,7 @@ use Rattle.fs_state.specs.declared.conn.Parting.TheVariants as way
 use Rattle.fs_state.specs.Switch.{Switch, empty}
 use Rattle.fs_machine.specs.declared.entry.Entry.{Entry}
 use Rattle.fs_machine.specs.declared.entry.Act.{Act}
-use Rattle.fs_machine.specs.declared.entry.Act.TheVariants.{Arrive, Command, Take, Close, Work, Job}
-use Rattle.fs_machine.specs.declared.entry.Closing.TheVariants.{EndOfInput, Sent}
+use Rattle.fs_machine.specs.declared.entry.Act.TheVariants.{Command}
 use Rattle.fs_machine.specs.declared.refusal.Refusal.{Refusal}
 use Rattle.fs_machine.specs.declared.refusal.Refusal.TheVariants as refusal
 use Rattle.fs_machine.specs.Entries.{is_full}
@@ -25,11 +24,11 @@ use Rattle.fs_machine.proofs.FrameLemmas.{command_refused}
 use Rattle.fs_machine.proofs.RefusalLemmas.{full_refused}
 use Rattle.fs_conn.specs.declared.end.End.{End}
 use Rattle.fs_conn.specs.declared.end.End.TheVariants.{Exit, AuthRefused, Eof, ReadFault, WriteFault, TooLong, JournalFull, Memory, Runaway}
-use Rattle.fs_conn.specs.Play.{Play, switch_of, bytes_handed, begun, is_over, ended, judged, entered, followed, acted, reads_on, takes_commands, commanded, all_commanded, opened, conversed, closed, end_by, farewell, end_behind, played}
+use Rattle.fs_conn.specs.Play.{Play, switch_of, bytes_handed, is_over, ended, judged, entered, followed, acted, reads_on, takes_commands, commanded, all_commanded, opened, conversed, closed, end_by, farewell, end_behind, played}
 use Rattle.fs_conn.specs.Steps.{entry_of}
 use Rattle.fs_conn.specs.Ends.{IsFullAt, HasCause}
-use Rattle.fs_conn.proofs.PlayLemmas.{Goes, goes_followed, goes_acted, goes_all_commanded}
-use Rattle.fs_conn.proofs.TurnLemmas.{all_commanded-none, commanded_takes}
+use Rattle.fs_conn.proofs.PlayLemmas.{goes_followed, goes_all_commanded}
+use Rattle.fs_conn.proofs.TurnLemmas.{all_commanded-none}
 use Rattle.fs_conn.proofs.KeepLemmas.{Keeps, kept_followed, kept_opened, kept_all_commanded, kept_closed}
 
 -- every act

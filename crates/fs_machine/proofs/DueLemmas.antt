@@ -1,5 +1,5 @@
 -- A moment that is told is still to come.
-use Rattle.std.proofs.Common.{◌≡◌, ℕ, ◌<◌, ◌≤◌, Bool, true, false, cond, min, max, List, [], ◌∷◌, Option, None, Some, unwrap_or, refl, sym, subst, ap, arith, leb}
+use Rattle.std.proofs.Common.{◌≡◌, ℕ, ◌<◌, Bool, true, false, cond, max, List, [], ◌∷◌, Option, None, Some, unwrap_or, refl, subst, ap, arith, leb}
 use Rattle.std.proofs.lemmas.Bool.{leb-false}
 use Rattle.fs_chan.specs.declared.chan.Chan.{Chan}
 use Rattle.fs_chan.specs.declared.due.Due.{Due}
@@ -13,9 +13,8 @@ use Rattle.fs_state.specs.declared.job.Job.{Job}
 use Rattle.fs_state.specs.declared.job.JobWork.{JobWork}
 use Rattle.fs_state.specs.declared.job.JobWork.TheVariants.{Sleep, Originate}
 use Rattle.fs_state.specs.Switch.{Switch, orig_of, advanced}
-use Rattle.fs_machine.specs.declared.due.DueActor.{DueActor}
 use Rattle.fs_machine.specs.declared.due.DueActor.TheVariants as actor
-use Rattle.fs_machine.specs.Due.{orig_due, work_due, later_of, lesser, least_of, chan_moment, row_due, row_moment, due_slot, due_job, first_chan_moment, first_job_moment, later_or_never, due_among_all}
+use Rattle.fs_machine.specs.Due.{orig_due, work_due, later_of, lesser, least_of, chan_moment, row_moment, due_slot, due_job, first_chan_moment, first_job_moment, later_or_never, due_among_all}
 
 -- where there is such a number, it is greater
 abbrev IsAfter : ℕ → Option ℕ → Type 0

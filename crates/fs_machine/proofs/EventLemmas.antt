@@ -1,12 +1,12 @@
 -- What was counted is what happened.
-use Rattle.std.proofs.Common.{◌≡◌, ℕ, ◌+◌, List, [], ◌∷◌, ◌++◌, map, refl, sym, ap, ◌∙◌}
+use Rattle.std.proofs.Common.{◌≡◌, ℕ, ◌+◌, List, [], ◌∷◌, ◌++◌, refl, sym, ap, ◌∙◌}
 use Rattle.std.proofs.lemmas.List.{map-append}
 use Rattle.fs_text.specs.declared.causes.Cause.{Cause}
 use Rattle.fs_text.specs.declared.event_names.EventName.{EventName}
 use Rattle.fs_text.specs.Cause.{cause_number}
 use Rattle.fs_text.specs.EventName.{event_number}
 use Rattle.fs_state.specs.declared.event.Event.{Event}
-use Rattle.fs_state.specs.Counts.{Tallies, none_counted, counted_at, all_counted, events_named, hangups_for}
+use Rattle.fs_state.specs.Counts.{Tallies, counted_at, all_counted, events_named, hangups_for}
 use Rattle.fs_state.specs.Switch.{Switch, empty, advanced}
 use Rattle.fs_state.proofs.CountLemmas.{counted_append, counts_names, counts_hangups}
 use Rattle.fs_machine.specs.declared.entry.Entry.{Entry}

@@ -1,4 +1,4 @@
-use Rattle.std.proofs.Common.{◌≡◌, sym, ap, ◌∙◌}
+use Rattle.std.proofs.Common.{sym, ap, ◌∙◌}
 use Rattle.fs_machine.specs.Due.{due_among_all}
 use Rattle.fs_machine.specs.Runs.{state_of}
 use Rattle.fs_machine.proofs.DueLemmas.{next_to_come}

@@ -110,6 +110,13 @@ impl Actions {
         self.queue.clear();
     }
 
+    /// The actions as a list.
+    pub(crate) fn into_vec(self) -> Vec<Action>
+        ensures { result.items ≡ self }
+    {
+        Vec::from(self.queue)
+    }
+
     /// The same actions once more.
     pub fn copy(&self) -> Result<Actions, Memory>
         ensures { IfOk result (λ actions. actions ≡ self.now) }

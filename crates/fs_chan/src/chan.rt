@@ -1,6 +1,7 @@
 ghost use Rattle.std.specs.Prelude.{◌≡◌, IfOk};
 
 use crate::action::{Action, Actions};
+use crate::left::ActionsLeft;
 use crate::peer::{Direction, Peer};
 use crate::wait::Wait;
 use fs_text::{Cause, Memory, State, Txt};
@@ -22,7 +23,7 @@ pub struct Chan {
     pub profile: Profile,
     pub vars: Vars,
     /// What it is to run, as the dialplan gave it.
-    pub actions: Actions,
+    pub actions: ActionsLeft,
     /// What it is to run first, as clients sent it.
     pub messages: Actions,
     /// The application that has begun and is not complete.
@@ -65,7 +66,7 @@ impl Chan {
             direction,
             profile,
             vars,
-            actions: Actions::new(alloc),
+            actions: ActionsLeft::none(),
             messages: Actions::new(alloc),
             running: None,
             wait: Wait::Ready,

@@ -3,6 +3,7 @@ ghost use Rattle.fs_chan.specs.Changes as spec;
 
 use crate::action::Actions;
 use crate::chan::Chan;
+use crate::left::ActionsLeft;
 use crate::moment::moment_after;
 use crate::target::Target3;
 use crate::wait::Wait;
@@ -57,14 +58,16 @@ impl Chan {
     }
 
     /// Was routed once more: it is to run these actions, and has these variables.
-    pub fn route(&mut self, vars: Vars, actions: Actions)
+    pub fn route(&mut self, vars: Vars, actions: Actions) -> Result<(), Memory>
         requires { spec.may_route self.old ≡ true }
-        ensures { self.new ≡ spec.routed vars actions self.old }
+        ensures ok { OnOk result (self.new ≡ spec.routed vars actions self.old) }
+        ensures err { OnErr result (self.new ≡ self.old) }
     {
+        self.actions = ActionsLeft::of(actions)?;
         self.vars = vars;
-        self.actions = actions;
         self.hops += 1;
         self.state = State::CsExecute;
+        Ok(())
     }
 
     /// Goes on once what it waited for is over: the running application is complete.

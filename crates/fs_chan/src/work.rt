@@ -1,4 +1,4 @@
-ghost use Rattle.std.specs.Prelude.{◌≡◌, ◌<◌, ◌≤◌, ℕ, true, is_some};
+ghost use Rattle.std.specs.Prelude.{◌≡◌, ◌<◌, ◌≤◌, ℕ, true, is_some, IfOk, OnOk, OnErr};
 ghost use Rattle.fs_chan.specs.declared.chan.Chan.{Chan};
 ghost use Rattle.fs_chan.specs.declared.due.Due.TheVariants as due;
 ghost use Rattle.fs_chan.specs.Work as spec;
@@ -7,24 +7,25 @@ use crate::action::Action;
 use crate::chan::Chan;
 use crate::due::Due;
 use crate::wait::Wait;
-use fs_text::State;
+use fs_text::{Memory, State};
 
 impl Chan {
     /// Takes what it runs next, if there is anything: its first message, or else its first action.
     ///
     /// Messages are run where it is ready in CS_EXECUTE, and where it is parked or held by a connection in CS_EXECUTE or CS_PARK;
     /// actions only where it is ready in CS_EXECUTE.
-    pub fn next_action(&mut self) -> Option<Action>
-        ensures next { result ≡ spec.next_of self.old }
-        ensures rest { self.new ≡ spec.after_next self.old }
+    pub fn next_action(&mut self) -> Result<Option<Action>, Memory>
+        ensures next { IfOk result (λ next. next ≡ spec.next_of self.old) }
+        ensures rest { OnOk result (self.new ≡ spec.after_next self.old) }
+        ensures err { OnErr result (self.new ≡ self.old) }
     {
         if !self.runs_messages() {
-            return None;
+            return Ok(None);
         }
         match self.messages.take_first() {
-            Some(message) => Some(message),
+            Some(message) => Ok(Some(message)),
             None if self.runs_actions() => self.actions.take_first(),
-            None => None,
+            None => Ok(None),
         }
     }
 

@@ -1,6 +1,7 @@
-ghost use Rattle.std.specs.Prelude.{◌≡◌, ◌≤◌, length, Some, IfOk, IfErr, OnOk};
+ghost use Rattle.std.specs.Prelude.{◌≡◌, ◌≤◌, length, Some, None, MatchOption, IfOk, IfErr, OnOk};
 ghost use Rattle.fs_vars.specs.Outputs.{IsRefusal};
 ghost use Rattle.fs_chan.specs.Exports.{with_set};
+ghost use Rattle.fs_chan.specs.Work.{next_of, after_next};
 ghost use Rattle.fs_state.specs.Drafts.{drafted};
 ghost use Rattle.fs_state.specs.Switch.{with_chan};
 ghost use Rattle.fs_state.specs.Moves.{moved, state_told};
@@ -19,13 +20,23 @@ pub(crate) fn run_next(draft: &mut Draft<'_>, slot: u16) -> Result<(), Memory>
     ensures base { draft.new.base ≡ draft.old.base }
     ensures ok { OnOk result (drafted draft.new ≡ spec.ran slot (drafted draft.old)) }
 {
-    let Some(mut chan) = draft.copy_chan(slot)? else {
+    let Some(chan) = draft.copy_chan(slot)? else {
         return Ok(());
     };
     let state = chan.state;
-    match chan.next_action() {
-        Some(action) => run_action(draft, slot, state, chan, action),
+    match with_next(chan)? {
+        Some((chan, action)) => run_action(draft, slot, state, chan, action),
         None => draft.hang_up(slot, Cause::NormalClearing),
+    }
+}
+
+// A channel with what it is to run next, which is used up, if there is anything.
+fn with_next(mut chan: Chan) -> Result<Option<(Chan, Action)>, Memory>
+    ensures { IfOk result (λ next. MatchOption next (next_of chan ≡ None) (λ taken. (next_of chan ≡ Some taken.1) × (taken.0 ≡ after_next chan))) }
+{
+    match chan.next_action()? {
+        Some(action) => Ok(Some((chan, action))),
+        None => Ok(None),
     }
 }
 

@@ -5,7 +5,7 @@ ghost use Rattle.fs_state.specs.Switch.{identifier_of, identified, free_slot};
 ghost use Rattle.fs_machine.specs.Originations as spec;
 
 use fs_api::{Route, Winner};
-use fs_chan::{Action, Actions, Chan, Direction, Target3, Wait};
+use fs_chan::{Action, Actions, ActionsLeft, Chan, Direction, Target3, Wait};
 use fs_orig::{Endpoint, OrigLeg};
 use fs_state::Draft;
 use fs_text::{Cause, Memory, State, Txt};
@@ -248,7 +248,7 @@ fn won_by(alloc: Global, mut chan: Chan, winner: Winner) -> Result<Chan, Memory>
 }
 
 // One action alone.
-fn only(alloc: Global, application: Txt, argument: Txt) -> Result<Actions, Memory>
+fn only(alloc: Global, application: Txt, argument: Txt) -> Result<ActionsLeft, Memory>
     ensures { IfOk result (λ actions. actions ≡ record { application = application; argument = argument } ∷ []) }
 {
     let mut actions = Actions::new(alloc);
@@ -256,7 +256,7 @@ fn only(alloc: Global, application: Txt, argument: Txt) -> Result<Actions, Memor
         application,
         argument,
     })?;
-    Ok(actions)
+    ActionsLeft::of(actions)
 }
 
 // Where a route leads.

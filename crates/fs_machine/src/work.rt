@@ -1,4 +1,5 @@
 ghost use Rattle.std.specs.Prelude.{◌≡◌, true, Some, IfOk, OnOk};
+ghost use Rattle.fs_chan.specs.Changes as changes;
 ghost use Rattle.fs_chan.specs.Changes.{may_route};
 ghost use Rattle.fs_state.specs.Drafts.{drafted};
 ghost use Rattle.fs_state.specs.Switch.{chan_at};
@@ -10,7 +11,7 @@ use fs_plan::{Dialplan, Hunt};
 use fs_ports::NoGate;
 use fs_state::Draft;
 use fs_text::{Cause, Memory, State};
-use fs_vars::{Refused, Scope};
+use fs_vars::{Refused, Scope, Vars};
 
 /// Does what the channel in a slot has to do by itself.
 #[tactic(auto, unfolding(crate::specs::Work::worked))]
@@ -126,8 +127,17 @@ fn take_route(draft: &mut Draft<'_>, slot: u16, mut chan: Chan, hunt: Hunt) -> R
         draft.put_moved(slot, state, chan)?;
         return draft.hang_up(slot, Cause::NoRouteDestination);
     }
-    chan.route(vars, actions);
+    let chan = routed(chan, vars, actions)?;
     draft.put_moved(slot, state, chan)
+}
+
+// A channel that is routed once more.
+fn routed(mut chan: Chan, vars: Vars, actions: Actions) -> Result<Chan, Memory>
+    requires may { may_route chan ≡ true }
+    ensures { IfOk result (λ routed. routed ≡ changes.routed vars actions chan) }
+{
+    chan.route(vars, actions)?;
+    Ok(chan)
 }
 
 // The actions that the hunt gave; a channel of another dialplan has none.

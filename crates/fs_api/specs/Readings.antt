@@ -68,3 +68,13 @@ api_named name arguments =
 -- the api command that a text is
 abbrev pub api_of : Text → Api
 api_of text = api_named (word_of (without_spaces text)) (behind_word (without_spaces text))
+
+-- a command, where `expand` is none
+abbrev pub without_expand : Api → Api
+without_expand (Expand text) = Unknown (codes "expand")
+without_expand (Usage which.Expand) = Unknown (codes "expand")
+without_expand other = other
+
+-- the api command that a text is which `expand` gave
+abbrev pub expanded_api_of : Text → Api
+expanded_api_of text = without_expand (api_of text)

@@ -26,6 +26,19 @@ impl Api {
         let (name, arguments) = cut_word(without_spaces(text));
         named(alloc, name, arguments)
     }
+
+    /// The api command that a text is which `expand` gave: the same, but that `expand` is then no command.
+    pub fn of_expanded(alloc: Global, text: &[u8]) -> Result<Api, Memory>
+        ensures api { IfOk result (λ api. api ≡ spec.expanded_api_of text.now) }
+        ensures range { IfOk result IsInRange }
+    {
+        match Api::of(alloc, text)? {
+            Api::Expand { .. } | Api::Usage(Which::Expand) => {
+                Ok(Api::Unknown(Txt::of(alloc, b"expand")?))
+            }
+            api => Ok(api),
+        }
+    }
 }
 
 // The api command of a name with these arguments.

@@ -7,11 +7,20 @@ use std::marker::Model;
 /// Where a leg is routed to that wins for the api command `originate`: an extension, in a context of a dialplan.
 ///
 /// Each of the three texts has at most 256 bytes.
-#[derive(Drop)]
 pub struct Route {
     exten: Txt,
     dialplan: Txt,
     context: Txt,
+}
+
+impl Drop for Route {
+    fn drop(self) {
+        let Route {
+            exten: _exten,
+            dialplan: _dialplan,
+            context: _context,
+        } = self;
+    }
 }
 
 impl Model for Route {
@@ -55,6 +64,11 @@ impl Route {
         ensures context { result.2 ≡ self.context }
         ensures short { IsShortRoute result.0 result.1 result.2 }
     {
-        (self.exten, self.dialplan, self.context)
+        let Route {
+            exten,
+            dialplan,
+            context,
+        } = self;
+        (exten, dialplan, context)
     }
 }

@@ -229,6 +229,21 @@ fn other_commands(rt: HostRuntime) -> Result<(), Fail> {
     Ok(())
 }
 
+// `expand` is no command where `expand` gave the text, whatever stands behind it.
+#[test]
+fn expanded_commands(rt: HostRuntime) -> Result<(), Fail> {
+    for text in ["expand", " expand ", "expand echo a"] {
+        let api = Api::of_expanded(rt.alloc(), text.as_bytes())?;
+        assert!(rt;
+            matches!(&api, Api::Unknown(name) if name.as_bytes() == b"expand".as_slice()),
+            "{text}"
+        );
+    }
+    let echo = Api::of_expanded(rt.alloc(), b"echo expand")?;
+    assert!(rt; texts_of(&echo).0 == b"expand".as_slice());
+    Ok(())
+}
+
 #[test]
 fn lengths_of_extensions(rt: HostRuntime) -> Result<(), Fail> {
     for (exten, fits) in [

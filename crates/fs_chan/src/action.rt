@@ -1,6 +1,8 @@
 ghost use Rattle.std.specs.Prelude.{◌≡◌, ◌==◌, [], ◌∷◌, ◌++◌, length, MatchOption, IfOk, OnOk, OnErr};
 ghost use Rattle.std.specs.Iterator.{at_most};
+ghost use Rattle.std.specs.Option.{option_copied};
 ghost use Rattle.std.specs.Map.Iter.{TakesFirst};
+ghost use Rattle.fs_chan.specs.Work.{first_of};
 
 use fs_text::{Memory, Txt};
 use std::alloc::Global;
@@ -94,6 +96,13 @@ impl Actions {
         ActionsIter {
             queue: self.queue.iter(),
         }
+    }
+
+    /// The first action.
+    pub fn first(&self) -> Option<&Action>
+        ensures { option_copied result ≡ first_of self.now }
+    {
+        self.queue.front()
     }
 
     /// Takes the first action out, if there is one.

@@ -11,7 +11,6 @@ use std::alloc::Global;
 /// A channel: one leg of a call.
 ///
 /// A contract sees its fields. What refers to other things does so by their numbers.
-#[derive(Drop)]
 pub struct Chan {
     /// Its identifier.
     pub uuid: Txt,
@@ -43,6 +42,30 @@ pub struct Chan {
     pub cause: Option<Cause>,
     /// How often it was routed.
     pub hops: u32,
+}
+
+impl Drop for Chan {
+    fn drop(self) {
+        let Chan {
+            uuid: _uuid,
+            slot: _slot,
+            state: _state,
+            direction: _direction,
+            profile: _profile,
+            vars: _vars,
+            actions: _actions,
+            messages: _messages,
+            running: _running,
+            wait: _wait,
+            answered: _answered,
+            partner: _partner,
+            peer: _peer,
+            leg_of: _leg_of,
+            socket: _socket,
+            cause: _cause,
+            hops: _hops,
+        } = self;
+    }
 }
 
 impl Chan {
@@ -86,18 +109,18 @@ impl Chan {
     {
         Ok(Chan {
             uuid: self.uuid.copy()?,
+            running: self.copy_running()?,
+            peer: self.copy_peer()?,
+            wait: self.wait.copy()?,
+            actions: self.actions.copy()?,
+            messages: self.messages.copy()?,
+            vars: self.vars.copy()?,
+            profile: self.profile.copy()?,
             slot: self.slot,
             state: self.state,
             direction: self.direction,
-            profile: self.profile.copy()?,
-            vars: self.vars.copy()?,
-            actions: self.actions.copy()?,
-            messages: self.messages.copy()?,
-            running: self.copy_running()?,
-            wait: self.wait.copy()?,
             answered: self.answered,
             partner: self.partner,
-            peer: self.copy_peer()?,
             leg_of: self.leg_of,
             socket: self.socket,
             cause: self.cause,

@@ -36,11 +36,7 @@ impl Chan {
         ensures to { self.new ≡ spec.transferred to self.old }
         ensures short { spec.HasShortFields self.old.profile → spec.HasShortFields self.new.profile }
     {
-        let Target3 {
-            exten,
-            dialplan,
-            context,
-        } = to;
+        let (exten, dialplan, context) = to.into_texts();
         self.profile.destination_number = exten;
         set_if_named(&mut self.profile.dialplan, dialplan);
         set_if_named(&mut self.profile.context, context);

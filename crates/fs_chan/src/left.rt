@@ -1,5 +1,6 @@
-ghost use Rattle.std.specs.Prelude.{◌≡◌, [], ◌∷◌, slice_get, MatchOption, IfOk, OnErr};
+ghost use Rattle.std.specs.Prelude.{◌≡◌, [], drop, IfOk};
 ghost use Rattle.std.specs.Option.{option_copied};
+ghost use Rattle.fs_chan.specs.Work.{first_of};
 
 use crate::action::{Action, Actions};
 use fs_text::Memory;
@@ -12,8 +13,8 @@ use std::sync::ArcSlice;
 #[derive(Drop)]
 pub struct ActionsLeft {
     all: Option<ArcSlice<Action>>,
-    /// How many of them were taken out.
-    taken: usize,
+    /// How many of them are done.
+    done: usize,
 }
 
 impl Model for ActionsLeft {
@@ -23,7 +24,7 @@ impl Model for ActionsLeft {
 
     ghost Value = { List Action };
 
-    ghost view = { λ left. drop left.taken (unwrap_or (option_map arc_slice_items left.all) []) };
+    ghost view = { λ left. drop left.done (unwrap_or (option_map arc_slice_items left.all) []) };
 }
 
 impl ActionsLeft {
@@ -31,10 +32,7 @@ impl ActionsLeft {
     pub fn none() -> ActionsLeft
         ensures { result ≡ [] }
     {
-        ActionsLeft {
-            all: None,
-            taken: 0,
-        }
+        ActionsLeft { all: None, done: 0 }
     }
 
     /// All of these.
@@ -44,31 +42,29 @@ impl ActionsLeft {
         let all = ArcSlice::from_vec(actions.into_vec())?;
         Ok(ActionsLeft {
             all: Some(all),
-            taken: 0,
+            done: 0,
         })
     }
 
     /// The first one.
-    fn first(&self) -> Option<&Action>
-        ensures { option_copied result ≡ slice_get self.now 0 }
+    pub fn first(&self) -> Option<&Action>
+        ensures { option_copied result ≡ first_of self.now }
     {
         match &self.all {
-            Some(all) => all.as_slice().get(self.taken),
+            Some(all) => all.as_slice().get(self.done),
             None => None,
         }
     }
 
-    /// Takes the first one out, if there is one.
-    pub fn take_first(&mut self) -> Result<Option<Action>, Memory>
-        ensures ok { IfOk result (λ first. MatchOption first ((self.old ≡ []) × (self.new ≡ [])) (λ action. self.old ≡ action ∷ self.new)) }
-        ensures err { OnErr result (self.new ≡ self.old) }
+    /// Leaves the first one behind, if there is one.
+    pub fn pass_first(&mut self)
+        ensures { self.new ≡ drop 1 self.old }
     {
-        let Some(action) = self.first() else {
-            return Ok(None);
-        };
-        let action = action.copy()?;
-        self.taken += 1;
-        Ok(Some(action))
+        if let Some(all) = &self.all
+            && self.done < all.len()
+        {
+            self.done += 1;
+        }
     }
 
     /// Takes all out.
@@ -88,7 +84,7 @@ impl ActionsLeft {
         };
         Ok(ActionsLeft {
             all,
-            taken: self.taken,
+            done: self.done,
         })
     }
 }

@@ -10,6 +10,8 @@ mod left;
 mod moment;
 mod peer;
 mod target;
+#[cfg(test)]
+mod tests;
 mod variables;
 mod wait;
 mod work;

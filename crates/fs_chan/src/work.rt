@@ -1,4 +1,5 @@
-ghost use Rattle.std.specs.Prelude.{◌≡◌, ◌<◌, ◌≤◌, ℕ, true, is_some, IfOk, OnOk, OnErr};
+ghost use Rattle.std.specs.Prelude.{◌≡◌, ◌<◌, ◌≤◌, ℕ, true, is_some};
+ghost use Rattle.std.specs.Option.{option_copied};
 ghost use Rattle.fs_chan.specs.declared.chan.Chan.{Chan};
 ghost use Rattle.fs_chan.specs.declared.due.Due.TheVariants as due;
 ghost use Rattle.fs_chan.specs.Work as spec;
@@ -7,25 +8,36 @@ use crate::action::Action;
 use crate::chan::Chan;
 use crate::due::Due;
 use crate::wait::Wait;
-use fs_text::{Memory, State};
+use fs_text::State;
 
 impl Chan {
-    /// Takes what it runs next, if there is anything: its first message, or else its first action.
+    /// What it runs next, if there is anything: its first message, or else its first action.
     ///
     /// Messages are run where it is ready in CS_EXECUTE, and where it is parked or held by a connection in CS_EXECUTE or CS_PARK;
     /// actions only where it is ready in CS_EXECUTE.
-    pub fn next_action(&mut self) -> Result<Option<Action>, Memory>
-        ensures next { IfOk result (λ next. next ≡ spec.next_of self.old) }
-        ensures rest { OnOk result (self.new ≡ spec.after_next self.old) }
-        ensures err { OnErr result (self.new ≡ self.old) }
+    pub fn next_action(&self) -> Option<&Action>
+        ensures { option_copied result ≡ spec.next_of self.now }
     {
         if !self.runs_messages() {
-            return Ok(None);
+            return None;
         }
-        match self.messages.take_first() {
-            Some(message) => Ok(Some(message)),
-            None if self.runs_actions() => self.actions.take_first(),
-            None => Ok(None),
+        match self.messages.first() {
+            Some(message) => Some(message),
+            None if self.runs_actions() => self.actions.first(),
+            None => None,
+        }
+    }
+
+    /// Leaves behind what it runs next, if there is anything.
+    pub fn pass_action(&mut self)
+        ensures { self.new ≡ spec.after_next self.old }
+    {
+        if !self.runs_messages() {
+            return;
+        }
+        let message = self.messages.take_first();
+        if message.is_none() && self.runs_actions() {
+            self.actions.pass_first();
         }
     }
 

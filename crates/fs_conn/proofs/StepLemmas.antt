@@ -29,10 +29,6 @@ halts_on g goes (Over end) p mid halts = (halts.0, ap g halts.1 ∙ goes.over (r
 halts_on g goes OutOfMemory p mid halts = begins_trans p mid (g mid) halts (goes.begins mid)
 halts_on g goes WriteFault p mid halts = begins_trans p mid (g mid) halts (goes.begins mid)
 
-pub does_then : {A : Type 0} (f g : Play → Play) (old mid new : Play) (result : Result A Stop) → mid ≡ f old → Does g mid new result → Does (λ p. g (f p)) old new result
-does_then f g old mid new (Ok done) first then = then ∙ ap g first
-does_then f g old mid new (Err stop) first then = subst (λ (p : Play). Halts stop new (g p)) first then
-
 -- ---- entering
 
 -- an act that is not refused is entered
@@ -88,19 +84,6 @@ works_enters act old new (Ok (Some reply)) none enters = record {
 works_enters act old new (Err (Over end)) none enters = works_same old new enters.0
 works_enters act old new (Err OutOfMemory) none enters = works_same old new enters
 works_enters act old new (Err WriteFault) none enters = absurd enters
-
--- entering stops by no write
-pub unwritten_enters : (act : Act) (old new : Play) (stop : Stop) → Enters act old new (Err stop) → stop ≢ WriteFault
-unwritten_enters act old new (Over end) enters = λ same. cc
-unwritten_enters act old new OutOfMemory enters = λ same. cc
-unwritten_enters act old new WriteFault enters = absurd enters
-
-pub spent_enters : (act : Act) (old new : Play) (result : Result (Option Reply) Stop) → Enters act old new result → spent old ≤ spent new
-spent_enters act old new (Ok None) enters = (works_same old new enters.same).spent
-spent_enters act old new (Ok (Some reply)) enters = omega (arith, enters.costs.more)
-spent_enters act old new (Err (Over end)) enters = (works_same old new enters.0).spent
-spent_enters act old new (Err OutOfMemory) enters = (works_same old new enters).spent
-spent_enters act old new (Err WriteFault) enters = absurd enters
 
 -- an entry makes a journal longer
 pub longer : (p : Play) (entry : Entry) → p ≡ record p { journal = p.journal ++ entry ∷ [] } → ⊥

@@ -234,20 +234,6 @@ goes_on_behind config in0 in1 out0 out1 out2 old new p mid later block stands ha
   written = written;
 }
 
--- more was read
-pub goes_on_fed : (config : Configuration) (in0 in1 in2 : Input) (out0 out1 : Output) (old new : Stream) (p : Play) (piece : List ℕ) →
-    Stands config in0 out0 in1 out1 old p → HandsOutNothing old new → Reads in1 in2 piece → in2.faults ≡ in1.faults → Stands config in0 out0 in2 out1 (fed_with new piece) p
-goes_on_fed config in0 in1 in2 out0 out1 old new p piece stands nothing reads faults =
-    let whole : (concat stands.blocks ++ old.rest) ++ piece ≡ concat stands.blocks ++ (new.rest ++ piece) =
-    append_assoc (concat stands.blocks) old.rest piece ∙ ap (λ xs. concat stands.blocks ++ (xs ++ piece)) (sym nothing.rest) in record {
-      blocks = stands.blocks;
-      are_blocks = stands.are_blocks;
-      reads = subst (λ (xs : List ℕ). Reads in0 in2 xs) whole (reads_both in0 in1 in2 _ piece stands.reads reads);
-      read_faults = faults ∙ stands.read_faults;
-      play_is = stands.play_is;
-      written = stands.written;
-    }
-
 -- ---- how it ends
 
 -- a farewell is told, and is no end by the input

@@ -13,11 +13,20 @@ use std::marker::Model;
 /// What a document configures: the settings, the globals that it sets, and its dialplan.
 ///
 /// Each setting is in its range, the globals are bounded as those of a switch are, and no count is above its limit.
-#[derive(Drop)]
 pub struct Config {
     settings: Settings,
     globals: Vars,
     contexts: Listed<ContextDef<Txt>>,
+}
+
+impl Drop for Config {
+    fn drop(self) {
+        let Config {
+            settings: _settings,
+            globals: _globals,
+            contexts: _contexts,
+        } = self;
+    }
 }
 
 impl Model for Config {
@@ -37,10 +46,11 @@ impl Config {
         requires { IsWithin (configured content) }
         ensures { result ≡ configured content }
     {
+        let (settings, globals, contexts) = content.into_parts();
         Config {
-            settings: content.settings,
-            globals: content.globals,
-            contexts: content.contexts,
+            settings,
+            globals,
+            contexts,
         }
     }
 

@@ -25,7 +25,6 @@ const MOST_ACTIONS: usize = 32_768;
 const PATTERN_LIMIT: usize = 1_024;
 
 /// What was read of a document.
-#[derive(Drop)]
 pub struct Content {
     /// Whether the document is over.
     pub done: bool,
@@ -41,6 +40,23 @@ pub struct Content {
     pub extensions: usize,
     pub patterns: usize,
     pub actions: usize,
+}
+
+impl Drop for Content {
+    fn drop(self) {
+        let Content {
+            done: _done,
+            globals: _globals,
+            settings: _settings,
+            contexts: _contexts,
+            context: _context,
+            extension: _extension,
+            condition: _condition,
+            extensions: _extensions,
+            patterns: _patterns,
+            actions: _actions,
+        } = self;
+    }
 }
 
 impl Content {
@@ -61,6 +77,25 @@ impl Content {
             patterns: 0,
             actions: 0,
         })
+    }
+
+    /// The settings, the globals and the contexts.
+    pub(crate) fn into_parts(self) -> (Settings, Vars, Listed<ContextDef<Txt>>)
+        ensures { result ≡ (self.settings, self.globals, self.contexts) }
+    {
+        let Content {
+            done: _done,
+            globals,
+            settings,
+            contexts,
+            context: _context,
+            extension: _extension,
+            condition: _condition,
+            extensions: _extensions,
+            patterns: _patterns,
+            actions: _actions,
+        } = self;
+        (settings, globals, contexts)
     }
 
     /// Begins an element, and says what may stand in it.

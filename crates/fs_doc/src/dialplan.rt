@@ -21,12 +21,22 @@ pub struct ExtensionDef<P> {
 }
 
 /// A condition, and what is done where it is true and where it is false.
-#[derive(Drop)]
 pub struct ConditionDef<P> {
     pub test: Test<P>,
     pub stop: Break,
     pub actions: Listed<PlanAction>,
     pub anti: Listed<PlanAction>,
+}
+
+impl<P: Drop> Drop for ConditionDef<P> {
+    fn drop(self) {
+        let ConditionDef {
+            test: _test,
+            stop: _stop,
+            actions: _actions,
+            anti: _anti,
+        } = self;
+    }
 }
 
 /// What a condition tests. `P` is the type of its patterns, which a document has as texts.

@@ -5,7 +5,6 @@ use fs_text::{CoreId, Memory, Txt, read_u64};
 use std::alloc::Global;
 
 /// The settings of a switch.
-#[derive(Drop)]
 pub struct Settings {
     /// The identifier of the switch.
     pub core_uuid: CoreId,
@@ -21,6 +20,20 @@ pub struct Settings {
     pub password: Txt,
     /// How many connections there may be: 1 to 16.
     pub max_connections: u16,
+}
+
+impl Drop for Settings {
+    fn drop(self) {
+        let Settings {
+            core_uuid: _core_uuid,
+            max_sessions: _max_sessions,
+            journal_limit: _journal_limit,
+            listen_ip: _listen_ip,
+            listen_port: _listen_port,
+            password: _password,
+            max_connections: _max_connections,
+        } = self;
+    }
 }
 
 /// A configuration, by what its parameters set.

@@ -11,7 +11,7 @@ use Rattle.fs_api.specs.declared.api.Api.{Api}
 use Rattle.fs_api.specs.declared.api.Api.TheVariants as api
 use Rattle.fs_api.specs.declared.api.Winner.{Winner}
 use Rattle.fs_api.specs.declared.api.Winner.TheVariants.{App, Route}
-use Rattle.fs_api.specs.Readings.{api_of}
+use Rattle.fs_api.specs.Readings.{expanded_api_of}
 use Rattle.fs_chan.specs.declared.chan.Chan.{Chan}
 use Rattle.fs_chan.specs.Moments.{moment_after}
 use Rattle.fs_orig.specs.declared.endpoint.Endpoint.{Endpoint}
@@ -246,9 +246,9 @@ plainly_acts conn (api.Unknown name) s = unseen s s refl
 
 expanded_acts : (conn : ℕ) (text : Text) (s : Switch) → Acts s (done_expanded conn text s).state
 expanded_acts conn text s =
-    elim (nat_lt 65536 (length text)) as (λ b. Acts s (cond b (says too_long_text s) (done_plainly conn (api_of text) s)).state) [
+    elim (nat_lt 65536 (length text)) as (λ b. Acts s (cond b (says too_long_text s) (done_plainly conn (expanded_api_of text) s)).state) [
       | true ↦ unseen s s refl
-      | false ↦ plainly_acts conn (api_of text) s
+      | false ↦ plainly_acts conn (expanded_api_of text) s
     ]
 
 done_acts : (conn : ℕ) (asked : Api) (s : Switch) → Acts s (done_by conn asked s).state
@@ -270,7 +270,7 @@ commanded_in_acts phase.Fresh conn (command.Api text) s = unseen s (replied conn
 commanded_in_acts phase.Fresh conn command.Unknown s = unseen s (replied conn not_found s) refl
 commanded_in_acts phase.Ready conn (command.Auth given) s = unseen s (replied conn not_found s) refl
 commanded_in_acts phase.Ready conn command.Exit s = dismissed_acts conn parting.Exit bye s
-commanded_in_acts phase.Ready conn (command.Api text) s = responded_acts conn s (done_by conn (api_of text) s) (done_acts conn (api_of text) s)
+commanded_in_acts phase.Ready conn (command.Api text) s = responded_acts conn s (done_by conn (expanded_api_of text) s) (done_acts conn (expanded_api_of text) s)
 commanded_in_acts phase.Ready conn command.Unknown s = unseen s (replied conn not_found s) refl
 commanded_in_acts phase.Ending conn c s = unseen s s refl
 commanded_in_acts phase.Closed conn c s = unseen s s refl

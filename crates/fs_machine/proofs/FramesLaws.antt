@@ -410,9 +410,6 @@ none_given_behind : (s : Switch) (entries : List Entry) → s.given ≡ [] → (
 none_given_behind s [] none = none
 none_given_behind s (entry ∷ entries) none = none_given_behind (step s entry).state entries (step_gives_none s entry)
 
-pub given_none : (config : Configuration) (entries : List Entry) → (run_from (empty config) entries).given ≡ []
-given_none config entries = none_given_behind (empty config) entries refl
-
 -- nothing waits for a connection that is closed
 pub closed_waits_not : (config : Configuration) (entries : List Entry) (conn : ℕ) → config.settings.journal_limit ≤ 1073741824 → IsRunFrom (empty config) entries →
     is_closed (phase_at (run_from (empty config) entries) conn) ≡ true → waiting_for (run_from (empty config) entries) conn ≡ []

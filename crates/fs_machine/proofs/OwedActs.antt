@@ -12,7 +12,7 @@ use Rattle.fs_frame.specs.Block.{line_of}
 use Rattle.fs_api.specs.declared.api.Api.{Api}
 use Rattle.fs_api.specs.declared.api.Api.TheVariants as api
 use Rattle.fs_api.specs.declared.api.Winner.{Winner}
-use Rattle.fs_api.specs.Readings.{api_of}
+use Rattle.fs_api.specs.Readings.{expanded_api_of}
 use Rattle.fs_orig.specs.Endpoints.{is_one_leg}
 use Rattle.fs_places.specs.Places.{least_free}
 use Rattle.fs_state.specs.declared.conn.Conn.{Conn}
@@ -115,9 +115,9 @@ goes_done_expanded : (text : Text) (s : Switch) (conn : ℕ) (c : Conn) → MayO
     Goes (books_of s) (books_of (done_expanded conn text s).state)
 goes_done_expanded text s conn c may few h = by (nat_lt 65536 (length text))
   where
-    by : (b : Bool) → Goes (books_of s) (books_of (if b then says too_long_text s else done_plainly conn (api_of text) s).state)
+    by : (b : Bool) → Goes (books_of s) (books_of (if b then says too_long_text s else done_plainly conn (expanded_api_of text) s).state)
     by true = goes_same (books_of s) (books_of s) refl h
-    by false = goes_done_plainly (api_of text) s conn c may few h
+    by false = goes_done_plainly (expanded_api_of text) s conn c may few h
 
 goes_done_by : (command : Api) (s : Switch) (conn : ℕ) (c : Conn) → MayOwe s conn c → Few (books_of s) → Sound (books_of s) →
     Goes (books_of s) (books_of (done_by conn command s).state)
@@ -151,10 +151,10 @@ goes_commanded : (conn : ℕ) (command : spec.Command) (s : Switch) → reads (p
 unfolding commanded
 goes_commanded conn command s reading none few h = by (phase_at s conn) refl command
   where
-    responds : (text : Text) → Goes (books_of s) (books_of (responded conn (done_by conn (api_of text) s)))
+    responds : (text : Text) → Goes (books_of s) (books_of (responded conn (done_by conn (expanded_api_of text) s)))
     responds text =
         let giver = may_owe s conn reading none in
-        subst (λ (b : Books). Goes (books_of s) b) (sym (kept_responded conn (done_by conn (api_of text) s))) (goes_done_by (api_of text) s conn giver.0 giver.1 few h)
+        subst (λ (b : Books). Goes (books_of s) b) (sym (kept_responded conn (done_by conn (expanded_api_of text) s))) (goes_done_by (expanded_api_of text) s conn giver.0 giver.1 few h)
 
     by : (at : Phase) → phase_at s conn ≡ at → (given : spec.Command) → Goes (books_of s) (books_of (commanded_in at conn given s))
     by phase.Fresh is (spec.Auth password) = goes_offered conn password s is h

@@ -183,10 +183,6 @@ places_same old new same number = same_place (has_number number) refl new old 0 
 pub distinct_same : {T : Type 0} → (old new : List (Option (Numbered T))) → SameNumbers old new → AreDistinct old → AreDistinct new
 distinct_same old new same distinct number p q first second = distinct number p q (sym (same number p) ∙ first) (sym (same number q) ∙ second)
 
--- and have the same bound
-pub within_same : {T : Type 0} → (old new : List (Option (Numbered T))) (bound : ℕ) → SameNumbers old new → AreWithin bound old → AreWithin bound new
-within_same old new bound same within number place stands = within number place (sym (same number place) ∙ stands)
-
 -- ---- the things of numbers
 
 abbrev pub held_of : {T : Type 0} → Option (Numbered T) → Option T
@@ -339,10 +335,6 @@ place_of-without_row_same rows number distinct = by (place_of rows number) refl
     by : (found : Option ℕ) → place_of rows number ≡ found → place_of (with_held_at rows None found) number ≡ None
     by None is = is
     by (Some put) is = nowhere (with_held rows put None) number (cleared rows number put distinct is)
-
--- and no thing
-pub row_of-without_row_same : {T : Type 0} → (rows : List (Option (Numbered T))) (number : ℕ) → AreDistinct rows → row_of (without_row rows number) number ≡ None
-row_of-without_row_same rows number distinct = row_none (without_row rows number) number (place_of-without_row_same rows number distinct)
 
 -- the others are as distinct, and within the same bound
 pub distinct-without_row : {T : Type 0} → (rows : List (Option (Numbered T))) (number : ℕ) → AreDistinct rows → AreDistinct (without_row rows number)

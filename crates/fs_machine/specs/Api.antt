@@ -9,7 +9,7 @@ use Rattle.fs_vars.specs.Variables.{can_set, set_to}
 use Rattle.fs_vars.specs.Expansion.{expanded}
 use Rattle.fs_api.specs.declared.api.Api.{Api}
 use Rattle.fs_api.specs.declared.api.Api.TheVariants as api
-use Rattle.fs_api.specs.Readings.{api_of}
+use Rattle.fs_api.specs.Readings.{expanded_api_of}
 use Rattle.fs_api.specs.Usages.{usage_of}
 use Rattle.fs_api.specs.declared.api.Winner.{Winner}
 use Rattle.fs_chan.specs.declared.chan.Chan.{Chan}
@@ -101,7 +101,7 @@ done_plainly conn (api.Unknown name) s = says (api_not_found name) s
 
 -- what a text does that was expanded: it is run as a command, unless it is too long
 abbrev pub done_expanded : ℕ → Text → Switch → Done
-done_expanded conn text s = if nat_lt 65536 (length text) then says too_long_text s else done_plainly conn (api_of text) s
+done_expanded conn text s = if nat_lt 65536 (length text) then says too_long_text s else done_plainly conn (expanded_api_of text) s
 
 -- what an api command does
 abbrev pub done_by : ℕ → Api → Switch → Done

@@ -1,6 +1,6 @@
 -- How a line is cut into words.
-use Rattle.std.specs.Prelude.{ℕ, Bool, ◌==◌, not, List, drop}
-use Rattle.std.specs.List.{before_first, after_first, position_or_len}
+use Rattle.std.specs.Prelude.{ℕ, Bool, ◌==◌, List}
+use Rattle.std.specs.List.{before_first, after_first}
 
 abbrev pub is_space : ℕ → Bool
 is_space byte = byte == 32
@@ -11,10 +11,3 @@ word_of line = before_first is_space line
 
 abbrev pub behind_word : List ℕ → List ℕ
 behind_word line = after_first is_space line
-
-abbrev pub is_other : ℕ → Bool
-is_other byte = not (is_space byte)
-
--- the text from its first byte on that is no space
-abbrev pub without_spaces : List ℕ → List ℕ
-without_spaces text = drop (position_or_len is_other text) text

@@ -37,7 +37,7 @@ fn run_expanded(draft: &mut Draft<'_>, conn: u32, text: &Txt) -> Result<Option<T
     let alloc = draft.alloc();
     match expand_globally(alloc, draft.globals(), text.as_bytes()) {
         Ok(whole) => {
-            let api = Api::of(alloc, whole.as_bytes())?;
+            let api = Api::of_expanded(alloc, whole.as_bytes())?;
             run_plainly(draft, conn, api)
         }
         Err(Refused::TooLong { .. }) => says(alloc, b"-ERR too long\n"),

@@ -34,10 +34,12 @@ pub(crate) fn run_next(draft: &mut Draft<'_>, slot: u16) -> Result<(), Memory>
 fn with_next(mut chan: Chan) -> Result<Option<(Chan, Action)>, Memory>
     ensures { IfOk result (λ next. MatchOption next (next_of chan ≡ None) (λ taken. (next_of chan ≡ Some taken.1) × (taken.0 ≡ after_next chan))) }
 {
-    match chan.next_action()? {
-        Some(action) => Ok(Some((chan, action))),
-        None => Ok(None),
-    }
+    let Some(action) = chan.next_action() else {
+        return Ok(None);
+    };
+    let action = action.copy()?;
+    chan.pass_action();
+    Ok(Some((chan, action)))
 }
 
 // Runs an action that a channel has used up, which came there from a state.

@@ -9,8 +9,7 @@ ghost use Rattle.fs_machine.specs.Readings.{read_of};
 use crate::api::run_api;
 use crate::connections::{admit, part, phase_at};
 use crate::texts::{command_reply, notice, speak};
-use crate::words::cut_at;
-use fs_api::Api;
+use fs_api::{Api, cut_at};
 use fs_state::{Draft, Parting, Phase};
 use fs_text::{Memory, Txt};
 

@@ -7,11 +7,19 @@ use fs_text::{Memory, Txt};
 const ENTRY_COST: u64 = 64;
 
 /// One entry of the journal.
-#[derive(Drop)]
 pub struct Entry {
     /// The moment of the entry, in microseconds. The clock never goes back: an earlier one is the last one.
     pub moment: u64,
     pub act: Act,
+}
+
+impl Drop for Entry {
+    fn drop(self) {
+        let Entry {
+            moment: _moment,
+            act: _act,
+        } = self;
+    }
 }
 
 /// What an entry does.

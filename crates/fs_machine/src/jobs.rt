@@ -116,17 +116,17 @@ pub(crate) fn do_job(draft: &mut Draft<'_>, number: u64) -> Result<(), Memory>
     let Some(job) = draft.job(number) else {
         return Ok(());
     };
-    let job = job.copy()?;
-    work_job(draft, number, job)
+    let conn = job.conn;
+    let work = job.work.copy()?;
+    do_work(draft, number, conn, work)
 }
 
 // Does what a job is there for.
 #[tactic(auto, unfolding(crate::specs::Texts::ok))]
-fn work_job(draft: &mut Draft<'_>, number: u64, job: Job) -> Result<(), Memory>
+fn do_work(draft: &mut Draft<'_>, number: u64, conn: u32, work: JobWork) -> Result<(), Memory>
     ensures base { draft.new.base ≡ draft.old.base }
-    ensures ok { OnOk result (drafted draft.new ≡ spec.worked_by job.work number job.conn (drafted draft.old)) }
+    ensures ok { OnOk result (drafted draft.new ≡ spec.worked_by work number conn (drafted draft.old)) }
 {
-    let Job { conn, work } = job;
     match work {
         JobWork::Sleep { .. } => end_job(draft, number, conn, b"+OK\n"),
         JobWork::Originate { orig, winner } => {

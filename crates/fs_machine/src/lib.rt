@@ -18,7 +18,6 @@ mod refusal;
 mod refused;
 mod reply;
 mod texts;
-mod words;
 mod work;
 
 pub use due::DueActor;

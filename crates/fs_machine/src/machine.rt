@@ -29,19 +29,51 @@ const LARGEST_COST: u64 = 65_600;
 ///
 /// A contract sees what it was configured by, its journal, and for how many entries there is room; its state is what the entries make
 /// of the empty switch.
-#[derive(Drop)]
 pub struct Machine {
     pub(crate) core: Core,
     plan: Dialplan,
     journal: Vec<Entry>,
 }
 
+impl Drop for Machine {
+    fn drop(self) {
+        let Machine {
+            core: _core,
+            plan: _plan,
+            journal: _journal,
+        } = self;
+    }
+}
+
 /// What an entry is to change, once it was prepared.
-#[derive(Drop)]
 pub struct Change {
     pub entry: Entry,
     pub delta: Delta,
     pub reply: Reply,
+}
+
+impl Drop for Change {
+    fn drop(self) {
+        let Change {
+            entry: _entry,
+            delta: _delta,
+            reply: _reply,
+        } = self;
+    }
+}
+
+impl Change {
+    /// The entry, what it changes, and the reply to it.
+    fn into_parts(self) -> (Entry, Delta, Reply)
+        ensures { result ≡ (self.entry, self.delta, self.reply) }
+    {
+        let Change {
+            entry,
+            delta,
+            reply,
+        } = self;
+        (entry, delta, reply)
+    }
 }
 
 impl Model for Machine {
@@ -102,11 +134,7 @@ impl Machine {
         ensures reply { result ≡ (step (spec.state_of self.old) change.entry).reply }
         ensures cost { (spec.state_of self.new).cost ≡ min ((spec.state_of self.old).cost + cost_of change.entry.act) (2 ^ 64 - 1) }
     {
-        let Change {
-            entry,
-            delta,
-            reply,
-        } = change;
+        let (entry, delta, reply) = change.into_parts();
         self.core.apply(delta, entry.act.cost());
         self.journal.push(entry).unwrap();
         reply

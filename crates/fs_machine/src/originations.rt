@@ -23,11 +23,20 @@ pub(crate) struct Caller {
 }
 
 // A call over the loopback.
-#[derive(Drop)]
 pub(crate) struct Call {
     pub(crate) exten: Txt,
     pub(crate) context: Txt,
     pub(crate) caller: Caller,
+}
+
+impl Drop for Call {
+    fn drop(self) {
+        let Call {
+            exten: _exten,
+            context: _context,
+            caller: _caller,
+        } = self;
+    }
 }
 
 // One end of a pair of channels.
@@ -166,22 +175,17 @@ fn loopback_profile(
 ) -> Result<Profile, Memory>
     ensures { IfOk result (λ profile. profile ≡ spec.loopback_profile call.now direction uuid.now) }
 {
-    let empty = Txt::of(alloc, b"")?;
-    let number = cut(alloc, &call.caller.number)?;
-    Ok(Profile {
-        destination_number: call.exten.copy()?,
-        caller_id_name: cut(alloc, &call.caller.name)?,
-        caller_id_number: number.copy()?,
-        ani: number,
-        rdnis: empty.copy()?,
-        context: call.context.copy()?,
-        dialplan: Txt::of(alloc, b"XML")?,
-        source: Txt::of(alloc, b"mod_loopback")?,
-        uuid: uuid.copy()?,
-        chan_name: loopback_name(alloc, &call.exten, direction)?,
-        network_addr: empty.copy()?,
-        username: empty,
-    })
+    let mut profile = Profile::empty(alloc)?;
+    profile.caller_id_number = cut(alloc, &call.caller.number)?;
+    profile.ani = profile.caller_id_number.copy()?;
+    profile.caller_id_name = cut(alloc, &call.caller.name)?;
+    profile.destination_number = call.exten.copy()?;
+    profile.context = call.context.copy()?;
+    profile.dialplan = Txt::of(alloc, b"XML")?;
+    profile.source = Txt::of(alloc, b"mod_loopback")?;
+    profile.uuid = uuid.copy()?;
+    profile.chan_name = loopback_name(alloc, &call.exten, direction)?;
+    Ok(profile)
 }
 
 // The name of a channel of the loopback.

@@ -114,11 +114,7 @@ fn take_route(draft: &mut Draft<'_>, slot: u16, mut chan: Chan, hunt: Hunt) -> R
     ensures base { draft.new.base ≡ draft.old.base }
     ensures ok { OnOk result (drafted draft.new ≡ spec.routed_by (Some hunt) chan slot (drafted draft.old)) }
 {
-    let Hunt {
-        actions,
-        vars,
-        globals,
-    } = hunt;
+    let (actions, vars, globals) = hunt.into_parts();
     let state = chan.state;
     let actions = actions_for(draft, &chan, actions);
     draft.set_globals(globals);

@@ -5,7 +5,6 @@ use std::alloc::Global;
 use std::marker::Model;
 
 /// A leg of an origination: a channel that was made to be answered.
-#[derive(Drop)]
 pub struct OrigLeg {
     /// The slot of its channel; a leg that died as it was made has none.
     pub slot: Option<u16>,
@@ -19,6 +18,19 @@ pub struct OrigLeg {
     pub died: Option<u64>,
     /// What it died of.
     pub cause: Option<Cause>,
+}
+
+impl Drop for OrigLeg {
+    fn drop(self) {
+        let OrigLeg {
+            slot: _slot,
+            uuid: _uuid,
+            deadline: _deadline,
+            answered: _answered,
+            died: _died,
+            cause: _cause,
+        } = self;
+    }
 }
 
 /// The legs of an origination's group, in order; there are less than 2^32. A contract sees them as that list.

@@ -18,7 +18,6 @@ pub enum Owner {
 /// `bridge` do it.
 ///
 /// Its groups are tried one after another; the legs of a group ring together. A contract sees its fields.
-#[derive(Drop)]
 pub struct Orig {
     pub owner: Owner,
     /// All groups that are to be tried.
@@ -29,6 +28,18 @@ pub struct Orig {
     pub legs: OrigLegs,
     /// The moment, in microseconds, at which the whole origination is given up.
     pub deadline: u64,
+}
+
+impl Drop for Orig {
+    fn drop(self) {
+        let Orig {
+            owner: _owner,
+            groups: _groups,
+            current: _current,
+            legs: _legs,
+            deadline: _deadline,
+        } = self;
+    }
 }
 
 impl Orig {

@@ -62,13 +62,6 @@ taken_put places ws place held other =
 pub none_past : {T : Type 0} → (places : List (Option T)) → IsEmptyFrom (length places) places
 none_past places = record { each = λ place past. get_or_past places place None past }
 
--- a place that is filled further down
-pub put_within : {T : Type 0} → (places : List (Option T)) (filled place : ℕ) (held : Option T) → IsEmptyFrom filled places → IsEmptyFrom (max filled (place + 1)) (with_held places place held)
-put_within places filled place held empty = record {
-  each =
-      λ other past. get_or-set_other places place other held None (λ same. omega (arith, past, same)) ∙ empty.each other (omega (arith, past));
-}
-
 -- ---- the first place
 
 pub first_here : {T : Type 0} → (test : Option T → Bool) (places : List (Option T)) (place : ℕ) → place < length places →

@@ -10,7 +10,6 @@ use std::alloc::Global;
 use std::marker::Model;
 
 /// Files in memory. Loads that are to fail, and builds that are to find a pattern too large, are named by their numbers, counted from 1.
-#[derive(Drop)]
 pub struct MemFiles {
     alloc: Global,
     held: Vec<(Txt, Txt)>,
@@ -21,6 +20,22 @@ pub struct MemFiles {
     faults: u64,
     absences: u64,
     sizes: u64,
+}
+
+impl Drop for MemFiles {
+    fn drop(self) {
+        let MemFiles {
+            alloc: _alloc,
+            held: _held,
+            failed: _failed,
+            too_large: _too_large,
+            loads: _loads,
+            builds: _builds,
+            faults: _faults,
+            absences: _absences,
+            sizes: _sizes,
+        } = self;
+    }
 }
 
 impl Model for MemFiles {

@@ -10,7 +10,6 @@ use std::marker::Model;
 /// A link in memory: it hands out the given bytes in pieces, and keeps what is written.
 ///
 /// Reads and writes that are to fail are named by their numbers, counted from 1.
-#[derive(Drop)]
 pub struct MemLink {
     input: Vec<u8>,
     at: usize,
@@ -23,6 +22,24 @@ pub struct MemLink {
     failed_writes: Vec<u64>,
     writes: u64,
     write_faults: u64,
+}
+
+impl Drop for MemLink {
+    fn drop(self) {
+        let MemLink {
+            input: _input,
+            at: _at,
+            cuts: _cuts,
+            failed_reads: _failed_reads,
+            reads: _reads,
+            read_faults: _read_faults,
+            output: _output,
+            room: _room,
+            failed_writes: _failed_writes,
+            writes: _writes,
+            write_faults: _write_faults,
+        } = self;
+    }
 }
 
 impl Model for MemLink {

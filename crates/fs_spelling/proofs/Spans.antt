@@ -7,11 +7,6 @@ use Rattle.std.proofs.Math.Seq.{take-append_seam, drop-append-add}
 use Rattle.fs_xml.specs.Results.{◌>>=◌}
 use Rattle.fs_xml.specs.Bytes.{is_byte, halves_of}
 
--- which way a choice went
-pub chosen : {X : Type 0} (t : Bool) (a b x : X) → cond t a b ≡ x → ((t ≡ true) × (a ≡ x)) ⊎ ((t ≡ false) × (b ≡ x))
-chosen true a b x e = inl (refl, e)
-chosen false a b x e = inr (refl, e)
-
 -- a reading that was followed was read
 pub bind_ok : {X Y E : Type 0} (read : Result X E) (next : X → Result Y E) (y : Y) → (read >>= next) ≡ Ok y → (x : X) × (read ≡ Ok x) × (next x ≡ Ok y)
 bind_ok (Ok x) next y e = (x, refl, e)

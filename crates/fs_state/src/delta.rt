@@ -1,8 +1,12 @@
+ghost use Rattle.std.specs.Prelude.{◌≡◌};
+ghost use Rattle.fs_state.specs.Drafts.{after};
+
 use crate::conn::Conn;
 use crate::drawn::Drawn;
 use crate::event::Events;
 use crate::gift::Gifts;
 use crate::job::Job;
+use crate::switch::Core;
 use fs_chan::Chan;
 use fs_orig::Orig;
 use fs_places::{Numbered, Sheet};
@@ -19,7 +23,6 @@ pub enum QueueChange {
 }
 
 /// What an entry changes. A contract sees its fields.
-#[derive(Drop)]
 pub struct Delta {
     /// The globals, where they change.
     pub globals: Option<Vars>,
@@ -35,4 +38,52 @@ pub struct Delta {
     pub news: Events,
     /// What it gives to connections.
     pub given: Gifts,
+}
+
+impl Drop for Delta {
+    fn drop(self) {
+        let Delta {
+            globals: _globals,
+            channels: _channels,
+            origs: _origs,
+            jobs: _jobs,
+            conns: _conns,
+            queue: _queue,
+            drawn: _drawn,
+            moment: _moment,
+            news: _news,
+            given: _given,
+        } = self;
+    }
+}
+
+impl Delta {
+    /// Makes its changes of what is there, without memory, and gives back what happens and what is given.
+    #[tactic(auto, using(fs_places::proofs::PlaceLemmas::written_length))]
+    pub(crate) fn write_into(self, core: &mut Core) -> (Events, Gifts)
+        ensures core { record core.new { news = self.news; given = self.given } ≡ after core.old self }
+        ensures entry { result ≡ (self.news, self.given) }
+    {
+        let Delta {
+            globals,
+            channels,
+            origs,
+            jobs,
+            conns,
+            queue,
+            drawn,
+            moment,
+            news,
+            given,
+        } = self;
+        core.take_globals(globals);
+        channels.write_into(&mut core.channels);
+        origs.write_into(&mut core.origs);
+        jobs.write_into(&mut core.jobs);
+        conns.write_into(&mut core.conns);
+        core.requeue(queue);
+        core.drawn = drawn;
+        core.moment = moment;
+        (news, given)
+    }
 }

@@ -28,7 +28,6 @@ use std::marker::Model;
 /// A switch that is kept, and what is to change of it. A contract sees both.
 ///
 /// Where memory is wanting a draft may have part of a change: it is to be dropped then.
-#[derive(Drop)]
 pub struct Draft<'a> {
     core: &'a Core,
     globals: Option<Vars>,
@@ -41,6 +40,24 @@ pub struct Draft<'a> {
     moment: u64,
     news: Events,
     given: Gifts,
+}
+
+impl Drop for Draft<'_> {
+    fn drop(self) {
+        let Draft {
+            core: _core,
+            globals: _globals,
+            channels: _channels,
+            origs: _origs,
+            jobs: _jobs,
+            conns: _conns,
+            queue: _queue,
+            drawn: _drawn,
+            moment: _moment,
+            news: _news,
+            given: _given,
+        } = self;
+    }
 }
 
 impl<'a> Model for Draft<'a> {
@@ -471,17 +488,30 @@ impl<'a> Draft<'a> {
         if !core.queues.have_room(self.given.frames()) {
             return Err(Memory);
         }
+        let Draft {
+            core: _core,
+            globals,
+            channels,
+            origs,
+            jobs,
+            conns,
+            queue,
+            drawn,
+            moment,
+            news,
+            given,
+        } = self;
         Ok(Delta {
-            globals: self.globals,
-            channels: self.channels.into_sheet(),
-            origs: self.origs.into_sheet(),
-            jobs: self.jobs.into_sheet(),
-            conns: self.conns.into_sheet(),
-            queue: self.queue,
-            drawn: self.drawn,
-            moment: self.moment,
-            news: self.news,
-            given: self.given,
+            globals,
+            channels: channels.into_sheet(),
+            origs: origs.into_sheet(),
+            jobs: jobs.into_sheet(),
+            conns: conns.into_sheet(),
+            queue,
+            drawn,
+            moment,
+            news,
+            given,
         })
     }
 }

@@ -4,11 +4,19 @@ use fs_api::Winner;
 use fs_text::Memory;
 
 /// Work that goes on behind a command, and in the end gives its reply.
-#[derive(Drop)]
 pub struct Job {
     /// The number of the connection that is owed the reply.
     pub conn: u32,
     pub work: JobWork,
+}
+
+impl Drop for Job {
+    fn drop(self) {
+        let Job {
+            conn: _conn,
+            work: _work,
+        } = self;
+    }
 }
 
 /// What a job waits for.

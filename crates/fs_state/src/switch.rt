@@ -26,7 +26,6 @@ const ORIGS: usize = 1_280;
 const JOBS: usize = 1_024;
 
 /// The state of a switch between two entries. A contract sees it as the record of what is there.
-#[derive(Drop)]
 pub struct Core {
     pub(crate) alloc: Global,
     pub(crate) config: Config,
@@ -42,6 +41,27 @@ pub struct Core {
     pub(crate) cost: u64,
     pub(crate) stopping: Option<u64>,
     pub(crate) counts: Counts,
+}
+
+impl Drop for Core {
+    fn drop(self) {
+        let Core {
+            alloc: _alloc,
+            config: _config,
+            globals: _globals,
+            channels: _channels,
+            origs: _origs,
+            jobs: _jobs,
+            conns: _conns,
+            queues: _queues,
+            drawn: _drawn,
+            moment: _moment,
+            entries: _entries,
+            cost: _cost,
+            stopping: _stopping,
+            counts: _counts,
+        } = self;
+    }
 }
 
 impl Model for Core {
@@ -109,28 +129,9 @@ impl Core {
         requires { Fits self.old delta }
         ensures { self.new ≡ spec.closed cost (after self.old delta) }
     {
-        let Delta {
-            globals,
-            channels,
-            origs,
-            jobs,
-            conns,
-            queue,
-            drawn,
-            moment,
-            news,
-            given,
-        } = delta;
-        self.take_globals(globals);
-        channels.write_into(&mut self.channels);
-        origs.write_into(&mut self.origs);
-        jobs.write_into(&mut self.jobs);
-        conns.write_into(&mut self.conns);
-        self.requeue(queue);
+        let (news, given) = delta.write_into(self);
         self.queues.deliver(&self.conns, given);
         self.counts.count_all(news.as_slice());
-        self.drawn = drawn;
-        self.moment = moment;
         self.entries = self.entries.saturating_add(1);
         self.cost = self.cost.saturating_add(cost);
     }
@@ -202,7 +203,7 @@ impl Core {
     }
 
     /// Has other globals, where there are any.
-    fn take_globals(&mut self, globals: Option<Vars>)
+    pub(crate) fn take_globals(&mut self, globals: Option<Vars>)
         ensures { self.new ≡ record self.old { globals = unwrap_or globals self.old.globals } }
     {
         if let Some(globals) = globals {
@@ -211,7 +212,7 @@ impl Core {
     }
 
     /// Changes the frames that wait.
-    fn requeue(&mut self, change: QueueChange)
+    pub(crate) fn requeue(&mut self, change: QueueChange)
         ensures { self.new ≡ record self.old { queues = requeued change self.old.queues } }
     {
         match change {

@@ -161,12 +161,13 @@ const CASES: &[Case] = &[
     },
     Case {
         name: "api commands that a text is expanded to",
-        input: "auth ClueCon\n\napi expand global_setvar a=echo b\n\napi expand ${a} ${a}\n\napi expand expand x\n\napi expand ${none}\n\n",
+        input: "auth ClueCon\n\napi expand global_setvar a=echo b\n\napi expand ${a} ${a}\n\napi expand expand x\n\napi expand expand\n\napi expand ${none}\n\n",
         output: &[
             REQUEST,
             ACCEPTED,
             OK,
             "Content-Type: api/response\nContent-Length: 4\n\necho",
+            "Content-Type: api/response\nContent-Length: 31\n\n-ERR expand Command not found!\n",
             "Content-Type: api/response\nContent-Length: 31\n\n-ERR expand Command not found!\n",
             "Content-Type: api/response\nContent-Length: 25\n\n-ERR  Command not found!\n",
         ],

@@ -14,14 +14,6 @@ pub record Expands (known : Pairs) (text : Text) (left : Left) (output : Output)
   pub whole : expanded known text ≡ done ++ expanded left.known left.text
   pub holds : Holds output done
 
--- one piece more
-pub expands_more : (known : Pairs) (text piece : Text) (left next : Left) (output added : Output) → Expands known text left output → TakesPiece left piece next → ((done : Text) → Holds output done → Holds added (done ++ piece)) → Expands known text next added
-expands_more known text piece left next output added so_far step more = record {
-  done = so_far.done ++ piece;
-  whole = so_far.whole ∙ ap (λ rest. so_far.done ++ rest) step.text ∙ sym (append_assoc so_far.done piece (expanded next.known next.text));
-  holds = more so_far.done so_far.holds;
-}
-
 -- once no text is left, the output holds the whole
 pub expands_all : (known : Pairs) (text : Text) (left : Left) (output : Output) → Expands known text left output → left.text ≡ [] → Holds output (expanded known text)
 expands_all known text left output so_far nothing =

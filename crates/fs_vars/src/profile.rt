@@ -5,7 +5,6 @@ use fs_text::{Memory, Txt};
 use std::alloc::Global;
 
 /// What is known of a call: who calls whom, and how it came in.
-#[derive(Drop)]
 pub struct Profile {
     pub destination_number: Txt,
     pub caller_id_name: Txt,
@@ -19,6 +18,25 @@ pub struct Profile {
     pub chan_name: Txt,
     pub network_addr: Txt,
     pub username: Txt,
+}
+
+impl Drop for Profile {
+    fn drop(self) {
+        let Profile {
+            destination_number: _destination_number,
+            caller_id_name: _caller_id_name,
+            caller_id_number: _caller_id_number,
+            ani: _ani,
+            rdnis: _rdnis,
+            context: _context,
+            dialplan: _dialplan,
+            source: _source,
+            uuid: _uuid,
+            chan_name: _chan_name,
+            network_addr: _network_addr,
+            username: _username,
+        } = self;
+    }
 }
 
 impl Profile {

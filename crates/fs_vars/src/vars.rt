@@ -16,11 +16,20 @@ const NAME_LIMIT: usize = 256;
 const VALUE_LIMIT: usize = 16_384;
 
 /// Variables in the order in which they were first set, within the limits of their [`Bounds`].
-#[derive(Drop)]
 pub struct Vars {
     bounds: Bounds,
     table: Table,
     tally: Tally,
+}
+
+impl Drop for Vars {
+    fn drop(self) {
+        let Vars {
+            bounds: _bounds,
+            table: _table,
+            tally: _tally,
+        } = self;
+    }
 }
 
 impl Model for Vars {

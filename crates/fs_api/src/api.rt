@@ -5,7 +5,6 @@ use crate::usages::Which;
 use fs_text::{Cause, Memory, Txt};
 
 /// An api command.
-#[derive(Drop)]
 pub enum Api {
     /// The text is the answer.
     Echo {
@@ -57,13 +56,57 @@ pub enum Api {
     Unknown(Txt),
 }
 
+impl Drop for Api {
+    fn drop(self) {
+        match self {
+            Api::Echo { text: _text } => {}
+            Api::Expand { text: _text } => {}
+            Api::GlobalGetvar { name: _name } => {}
+            Api::GlobalSetvar {
+                name: _name,
+                value: _value,
+            } => {}
+            Api::Msleep { milliseconds: _ } => {}
+            Api::UuidExists { uuid: _uuid } => {}
+            Api::UuidKill {
+                uuid: _uuid,
+                cause: _,
+            } => {}
+            Api::UuidGetvar {
+                uuid: _uuid,
+                name: _name,
+            } => {}
+            Api::Originate {
+                url: _url,
+                winner: _winner,
+                cid_name: _cid_name,
+                cid_number: _cid_number,
+                timeout: _,
+            } => {}
+            Api::Usage(_) => {}
+            Api::Unknown(_name) => {}
+        }
+    }
+}
+
 /// What a leg does that wins for the api command `originate`.
-#[derive(Drop)]
 pub enum Winner {
     /// It runs an application.
     App { application: Txt, argument: Txt },
     /// It is routed.
     Route(Route),
+}
+
+impl Drop for Winner {
+    fn drop(self) {
+        match self {
+            Winner::App {
+                application: _application,
+                argument: _argument,
+            } => {}
+            Winner::Route(_route) => {}
+        }
+    }
 }
 
 impl Winner {

@@ -32,11 +32,12 @@ impl Api {
         ensures api { IfOk result (λ api. api ≡ spec.expanded_api_of text.now) }
         ensures range { IfOk result IsInRange }
     {
-        match Api::of(alloc, text)? {
+        let api = Api::of(alloc, text)?;
+        match &api {
             Api::Expand { .. } | Api::Usage(Which::Expand) => {
                 Ok(Api::Unknown(Txt::of(alloc, b"expand")?))
             }
-            api => Ok(api),
+            _ => Ok(api),
         }
     }
 }

@@ -2,7 +2,6 @@ use fs_chan::Target3;
 use fs_text::{Cause, Txt};
 
 /// What an application of a dialplan is asked to do, as FreeSWITCH's mod_dptools has them.
-#[derive(Drop)]
 pub enum Application {
     /// The channel is answered.
     Answer,
@@ -26,4 +25,31 @@ pub enum Application {
     Transfer { to: Target3 },
     /// There is no such application, or its words are out of their form.
     Unknown,
+}
+
+impl Drop for Application {
+    fn drop(self) {
+        match self {
+            Application::Answer => {}
+            Application::Set {
+                name: _name,
+                value: _value,
+            } => {}
+            Application::Unset { name: _name } => {}
+            Application::Export {
+                name: _name,
+                value: _value,
+            } => {}
+            Application::SetGlobal {
+                name: _name,
+                value: _value,
+            } => {}
+            Application::Eval => {}
+            Application::Sleep { milliseconds: _ } => {}
+            Application::Hangup { cause: _ } => {}
+            Application::Park => {}
+            Application::Transfer { to: _to } => {}
+            Application::Unknown => {}
+        }
+    }
 }

@@ -1,6 +1,6 @@
-ghost use Rattle.std.specs.Prelude.{◌≡◌};
+ghost use Rattle.std.specs.Prelude.{◌≡◌, IfOk};
 
-use fs_text::Txt;
+use fs_text::{Memory, Txt};
 
 /// Where a channel is transferred to. A dialplan or context that is not named stays as it is.
 pub struct Target3 {
@@ -20,6 +20,17 @@ impl Drop for Target3 {
 }
 
 impl Target3 {
+    /// The same once more.
+    pub fn copy(&self) -> Result<Target3, Memory>
+        ensures { IfOk result (λ target. target ≡ self.now) }
+    {
+        Ok(Target3 {
+            exten: self.exten.copy()?,
+            dialplan: copy_named(&self.dialplan)?,
+            context: copy_named(&self.context)?,
+        })
+    }
+
     /// Its extension, and its dialplan and context where they are named.
     pub fn into_texts(self) -> (Txt, Option<Txt>, Option<Txt>)
         ensures { result ≡ (self.exten, self.dialplan, self.context) }
@@ -30,5 +41,15 @@ impl Target3 {
             context,
         } = self;
         (exten, dialplan, context)
+    }
+}
+
+/// A text once more, where it is named.
+fn copy_named(text: &Option<Txt>) -> Result<Option<Txt>, Memory>
+    ensures { IfOk result (λ copy. copy ≡ text.now) }
+{
+    match text {
+        Some(text) => Ok(Some(text.copy()?)),
+        None => Ok(None),
     }
 }

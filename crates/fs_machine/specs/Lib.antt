@@ -19,3 +19,4 @@ pub mod Runs
 pub mod Events
 pub mod Concerns
 pub mod Sound
+pub mod Journals

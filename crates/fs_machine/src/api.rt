@@ -18,12 +18,12 @@ use fs_vars::{Profile, Refused, Scope, Vars, expand};
 use std::alloc::Global;
 
 /// Runs an api command of a connection, and gives its answer, unless that is owed.
-pub(crate) fn run_api(draft: &mut Draft<'_>, conn: u32, api: Api) -> Result<Option<Txt>, Memory>
+pub(crate) fn run_api(draft: &mut Draft<'_>, conn: u32, api: &Api) -> Result<Option<Txt>, Memory>
     ensures base { draft.new.base ≡ draft.old.base }
-    ensures done { IfOk result (λ answer. spec.done_by conn api (drafted draft.old) ≡ record { state = drafted draft.new; answer = answer }) }
+    ensures done { IfOk result (λ answer. spec.done_by conn api.now (drafted draft.old) ≡ record { state = drafted draft.new; answer = answer }) }
 {
     match api {
-        Api::Expand { text } => run_expanded(draft, conn, &text),
+        Api::Expand { text } => run_expanded(draft, conn, text),
         api => run_plainly(draft, conn, api),
     }
 }
@@ -38,7 +38,7 @@ fn run_expanded(draft: &mut Draft<'_>, conn: u32, text: &Txt) -> Result<Option<T
     match expand_globally(alloc, draft.globals(), text.as_bytes()) {
         Ok(whole) => {
             let api = Api::of_expanded(alloc, whole.as_bytes())?;
-            run_plainly(draft, conn, api)
+            run_plainly(draft, conn, &api)
         }
         Err(Refused::TooLong { .. }) => says(alloc, b"-ERR too long\n"),
         Err(Refused::Memory) => Err(Memory),
@@ -61,20 +61,20 @@ fn expand_globally(alloc: Global, globals: &Vars, text: &[u8]) -> Result<Txt, Re
 }
 
 // Runs an api command that expands no text.
-fn run_plainly(draft: &mut Draft<'_>, conn: u32, api: Api) -> Result<Option<Txt>, Memory>
+fn run_plainly(draft: &mut Draft<'_>, conn: u32, api: &Api) -> Result<Option<Txt>, Memory>
     ensures base { draft.new.base ≡ draft.old.base }
-    ensures done { IfOk result (λ answer. spec.done_plainly conn api (drafted draft.old) ≡ record { state = drafted draft.new; answer = answer }) }
+    ensures done { IfOk result (λ answer. spec.done_plainly conn api.now (drafted draft.old) ≡ record { state = drafted draft.new; answer = answer }) }
 {
     let alloc = draft.alloc();
     match api {
-        Api::Echo { text } => Ok(Some(text)),
+        Api::Echo { text } => Ok(Some(text.copy()?)),
         Api::Expand { .. } => Ok(Some(api_not_found(alloc, b"expand")?)),
-        Api::GlobalGetvar { name } => Ok(Some(get_global(alloc, draft.globals(), name)?)),
-        Api::GlobalSetvar { name, value } => Ok(Some(set_global(draft, &name, &value)?)),
-        Api::Msleep { milliseconds } => sleep(draft, conn, milliseconds),
-        Api::UuidExists { uuid } => Ok(Some(tell_whether(draft, &uuid)?)),
-        Api::UuidKill { uuid, cause } => Ok(Some(kill(draft, &uuid, cause)?)),
-        Api::UuidGetvar { uuid, name } => Ok(Some(get_variable(draft, &uuid, &name)?)),
+        Api::GlobalGetvar { name } => Ok(Some(get_global(alloc, draft.globals(), name.as_ref())?)),
+        Api::GlobalSetvar { name, value } => Ok(Some(set_global(draft, name, value)?)),
+        Api::Msleep { milliseconds } => sleep(draft, conn, *milliseconds),
+        Api::UuidExists { uuid } => Ok(Some(tell_whether(draft, uuid)?)),
+        Api::UuidKill { uuid, cause } => Ok(Some(kill(draft, uuid, *cause)?)),
+        Api::UuidGetvar { uuid, name } => Ok(Some(get_variable(draft, uuid, name)?)),
         Api::Originate {
             url,
             winner,
@@ -83,12 +83,12 @@ fn run_plainly(draft: &mut Draft<'_>, conn: u32, api: Api) -> Result<Option<Txt>
             timeout,
         } => {
             let caller = Caller {
-                name: cid_name,
-                number: cid_number,
+                name: cid_name.copy()?,
+                number: cid_number.copy()?,
             };
-            originate(draft, conn, url, winner, caller, timeout)
+            originate(draft, conn, url, winner, caller, *timeout)
         }
-        Api::Usage(which) => Ok(Some(usage_text(alloc, usage(which).as_bytes())?)),
+        Api::Usage(which) => Ok(Some(usage_text(alloc, usage(*which).as_bytes())?)),
         Api::Unknown(name) => Ok(Some(api_not_found(alloc, name.as_bytes())?)),
     }
 }
@@ -169,13 +169,13 @@ fn sleep(draft: &mut Draft<'_>, conn: u32, milliseconds: u64) -> Result<Option<T
 fn originate(
     draft: &mut Draft<'_>,
     conn: u32,
-    url: Txt,
-    winner: Winner,
+    url: &Txt,
+    winner: &Winner,
     caller: Caller,
     timeout: Option<u64>,
 ) -> Result<Option<Txt>, Memory>
     ensures base { draft.new.base ≡ draft.old.base }
-    ensures done { IfOk result (λ answer. spec.originated conn url winner caller timeout (drafted draft.old) ≡ record { state = drafted draft.new; answer = answer }) }
+    ensures done { IfOk result (λ answer. spec.originated conn url.now winner.now caller timeout (drafted draft.old) ≡ record { state = drafted draft.new; answer = answer }) }
 {
     let alloc = draft.alloc();
     if draft.is_full_of_jobs() {
@@ -191,8 +191,8 @@ fn originate(
 // ---- globals
 
 // The value of a global, or nothing; without a name all globals in order, a line each.
-fn get_global(alloc: Global, globals: &Vars, name: Option<Txt>) -> Result<Txt, Memory>
-    ensures { IfOk result (λ t. t ≡ spec.got_global name globals.now.pairs) }
+fn get_global(alloc: Global, globals: &Vars, name: Option<&Txt>) -> Result<Txt, Memory>
+    ensures { IfOk result (λ t. t ≡ spec.got_global (option_copied name.entry) globals.now.pairs) }
 {
     let Some(name) = name else {
         return list(alloc, globals);

@@ -90,26 +90,26 @@ fn execute(draft: &mut Draft<'_>, slot: u16, application: Txt, argument: Txt) ->
             argument,
         },
     )?;
-    affect(draft, slot, asked)
+    affect(draft, slot, &asked)
 }
 
 // What an application does in a slot.
-fn affect(draft: &mut Draft<'_>, slot: u16, asked: Application) -> Result<(), Memory>
-    requires { IsShort asked }
+fn affect(draft: &mut Draft<'_>, slot: u16, asked: &Application) -> Result<(), Memory>
+    requires { IsShort asked.now }
     ensures base { draft.new.base ≡ draft.old.base }
-    ensures ok { OnOk result (drafted draft.new ≡ spec.effect asked slot (drafted draft.old)) }
+    ensures ok { OnOk result (drafted draft.new ≡ spec.effect asked.now slot (drafted draft.old)) }
 {
     match asked {
         Application::Answer => draft.answer(slot)?,
-        Application::Set { name, value } => set(draft, slot, &name, &value)?,
-        Application::Unset { name } => unset(draft, slot, &name)?,
-        Application::Export { name, value } => export(draft, slot, &name, &value)?,
-        Application::SetGlobal { name, value } => set_global(draft, &name, &value)?,
+        Application::Set { name, value } => set(draft, slot, name, value)?,
+        Application::Unset { name } => unset(draft, slot, name)?,
+        Application::Export { name, value } => export(draft, slot, name, value)?,
+        Application::SetGlobal { name, value } => set_global(draft, name, value)?,
         Application::Eval => {}
-        Application::Sleep { milliseconds } => return sleep(draft, slot, milliseconds),
-        Application::Hangup { cause } => return draft.hang_up(slot, cause),
+        Application::Sleep { milliseconds } => return sleep(draft, slot, *milliseconds),
+        Application::Hangup { cause } => return draft.hang_up(slot, *cause),
         Application::Park => return park(draft, slot),
-        Application::Transfer { to } => return draft.transfer(slot, to),
+        Application::Transfer { to } => return draft.transfer(slot, to.copy()?),
         Application::Unknown => return draft.hang_up(slot, Cause::DestinationOutOfOrder),
     }
     draft.complete(slot)

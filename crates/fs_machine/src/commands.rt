@@ -108,7 +108,7 @@ fn respond(draft: &mut Draft<'_>, conn: u32, text: &[u8]) -> Result<(), Memory>
 {
     let alloc = draft.alloc();
     let api = Api::of(alloc, text)?;
-    let Some(answer) = run_api(draft, conn, api)? else {
+    let Some(answer) = run_api(draft, conn, &api)? else {
         return Ok(());
     };
     let frame = speak(alloc, answer.as_bytes())?;

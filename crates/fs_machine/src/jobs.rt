@@ -57,17 +57,18 @@ pub(crate) fn begin_sleep(draft: &mut Draft<'_>, conn: u32, milliseconds: u64) -
 pub(crate) fn begin_originate(
     draft: &mut Draft<'_>,
     conn: u32,
-    url: Txt,
-    winner: Winner,
+    url: &Txt,
+    winner: &Winner,
     caller: Caller,
     timeout: Option<u64>,
 ) -> Result<(), Memory>
     ensures base { draft.new.base ≡ draft.old.base }
-    ensures ok { OnOk result (drafted draft.new ≡ spec.originate_begun conn url winner caller timeout (drafted draft.old)) }
+    ensures ok { OnOk result (drafted draft.new ≡ spec.originate_begun conn url.now winner.now caller timeout (drafted draft.old)) }
 {
     let orig = draft.next_orig();
-    let leg = make_leg(draft, &url, caller, orig)?;
-    begin_orig(draft, url, leg, timeout.unwrap_or(DEFAULT_TIMEOUT))?;
+    let leg = make_leg(draft, url, caller, orig)?;
+    begin_orig(draft, url.copy()?, leg, timeout.unwrap_or(DEFAULT_TIMEOUT))?;
+    let winner = winner.copy()?;
     begin_job(draft, conn, JobWork::Originate { orig, winner })
 }
 
@@ -118,14 +119,14 @@ pub(crate) fn do_job(draft: &mut Draft<'_>, number: u64) -> Result<(), Memory>
     };
     let conn = job.conn;
     let work = job.work.copy()?;
-    do_work(draft, number, conn, work)
+    do_work(draft, number, conn, &work)
 }
 
 // Does what a job is there for.
 #[tactic(auto, unfolding(crate::specs::Texts::ok))]
-fn do_work(draft: &mut Draft<'_>, number: u64, conn: u32, work: JobWork) -> Result<(), Memory>
+fn do_work(draft: &mut Draft<'_>, number: u64, conn: u32, work: &JobWork) -> Result<(), Memory>
     ensures base { draft.new.base ≡ draft.old.base }
-    ensures ok { OnOk result (drafted draft.new ≡ spec.worked_by work number conn (drafted draft.old)) }
+    ensures ok { OnOk result (drafted draft.new ≡ spec.worked_by work.now number conn (drafted draft.old)) }
 {
     match work {
         JobWork::Sleep { .. } => end_job(draft, number, conn, b"+OK\n"),
@@ -133,7 +134,7 @@ fn do_work(draft: &mut Draft<'_>, number: u64, conn: u32, work: JobWork) -> Resu
             let attempt = Attempt {
                 job: number,
                 conn,
-                orig,
+                orig: *orig,
             };
             judge_attempt(draft, attempt, winner)
         }
@@ -141,9 +142,9 @@ fn do_work(draft: &mut Draft<'_>, number: u64, conn: u32, work: JobWork) -> Resu
 }
 
 // Does what the verdict on an origination says.
-fn judge_attempt(draft: &mut Draft<'_>, attempt: Attempt, winner: Winner) -> Result<(), Memory>
+fn judge_attempt(draft: &mut Draft<'_>, attempt: Attempt, winner: &Winner) -> Result<(), Memory>
     ensures base { draft.new.base ≡ draft.old.base }
-    ensures ok { OnOk result (drafted draft.new ≡ spec.judged_from attempt winner (orig_of (drafted draft.old) attempt.orig) (drafted draft.old)) }
+    ensures ok { OnOk result (drafted draft.new ≡ spec.judged_from attempt winner.now (orig_of (drafted draft.old) attempt.orig) (drafted draft.old)) }
 {
     let Some(orig) = draft.orig(attempt.orig) else {
         return Ok(());
@@ -176,11 +177,11 @@ fn leg_at(orig: &Orig, position: usize) -> Result<Option<OrigLeg>, Memory>
 fn win_attempt(
     draft: &mut Draft<'_>,
     attempt: Attempt,
-    winner: Winner,
+    winner: &Winner,
     leg: Option<OrigLeg>,
 ) -> Result<(), Memory>
     ensures base { draft.new.base ≡ draft.old.base }
-    ensures ok { OnOk result (drafted draft.new ≡ spec.won_at attempt winner leg (drafted draft.old)) }
+    ensures ok { OnOk result (drafted draft.new ≡ spec.won_at attempt winner.now leg (drafted draft.old)) }
 {
     let Some(leg) = leg else {
         return Ok(());

@@ -10,6 +10,7 @@ mod connections;
 mod due;
 mod entry;
 mod jobs;
+mod journal;
 mod laws;
 mod machine;
 mod originations;
@@ -22,6 +23,7 @@ mod work;
 
 pub use due::DueActor;
 pub use entry::{Act, Closing, Entry};
+pub use journal::Journal;
 pub use laws::{
     concerns_each_connection, hands_out_what_it_gives, identifiers_differ, owes_to_its_jobs,
     partners_agree,

@@ -12,6 +12,7 @@ ghost use Rattle.fs_machine.specs.Sound.{IsSound};
 
 use crate::acts::do_act;
 use crate::entry::Entry;
+use crate::journal::Journal;
 use crate::refusal::Refusal;
 use crate::refused::refused_act;
 use crate::reply::Reply;
@@ -32,7 +33,7 @@ const LARGEST_COST: u64 = 65_600;
 pub struct Machine {
     pub(crate) core: Core,
     plan: Dialplan,
-    journal: Vec<Entry>,
+    journal: Journal,
 }
 
 impl Drop for Machine {
@@ -77,16 +78,15 @@ impl Change {
 }
 
 impl Model for Machine {
-    ghost use Rattle.std.specs.Prelude.{◌≡◌, ◌-◌};
-    ghost use Rattle.std.specs.Vec.{vec_capacity, vec_len};
+    ghost use Rattle.std.specs.Prelude.{◌≡◌};
     ghost use Rattle.fs_doc.specs.Limits.{IsWithin};
     ghost use Rattle.fs_machine.specs.Runs.{View, StandsFor};
 
     ghost Value = { View };
 
-    ghost view = { λ m. record { config = m.core.config; journal = m.journal.items; spare = vec_capacity m.journal - vec_len m.journal } };
+    ghost view = { λ m. record { config = m.core.config; journal = m.journal.entries; spare = m.journal.spare } };
 
-    ghost invariant = { λ m. StandsFor m.core.config m.core m.journal.items × (m.plan ≡ m.core.config.contexts) × IsWithin m.core.config };
+    ghost invariant = { λ m. StandsFor m.core.config m.core m.journal.entries × (m.plan ≡ m.core.config.contexts) × IsWithin m.core.config };
 }
 
 impl Machine {
@@ -100,7 +100,7 @@ impl Machine {
         Ok(Machine {
             core: Core::new(alloc, config)?,
             plan,
-            journal: Vec::new(alloc),
+            journal: Journal::new(alloc),
         })
     }
 
@@ -112,6 +112,25 @@ impl Machine {
         let _journal = &self.journal;
     }
 
+    /// The journal of its entries.
+    pub fn journal(&self) -> &Journal
+        ensures { result.now.entries ≡ self.now.journal }
+    {
+        &self.journal
+    }
+
+    /// The journal of its entries alone.
+    pub fn into_journal(self) -> Journal
+        ensures { result.entries ≡ self.journal }
+    {
+        let Machine {
+            core: _core,
+            plan: _plan,
+            journal,
+        } = self;
+        journal
+    }
+
     /// Judges an entry, and prepares what it changes. All memory is taken here; nothing changes but the room.
     pub fn prepare(&mut self, asked: &Entry) -> Result<Change, Refusal>
         ensures same { spec.IsSame self.old self.new }
@@ -121,7 +140,7 @@ impl Machine {
         ensures room { IfOk result (λ change. 1 ≤ self.new.spare) }
     {
         let change = plan(&self.core, &self.plan, asked)?;
-        self.journal.reserve(1)?;
+        self.journal.make_room()?;
         Ok(change)
     }
 
@@ -136,7 +155,7 @@ impl Machine {
     {
         let (entry, delta, reply) = change.into_parts();
         self.core.apply(delta, entry.act.cost());
-        self.journal.push(entry).unwrap();
+        self.journal.add(entry);
         reply
     }
 

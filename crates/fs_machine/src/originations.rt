@@ -220,9 +220,9 @@ fn cut(alloc: Global, text: &Txt) -> Result<Txt, Memory>
 
 /// The leg in a slot has won: it runs its application, or is routed.
 #[tactic(auto, unfolding(crate::specs::Originations::won))]
-pub(crate) fn win(draft: &mut Draft<'_>, slot: u16, winner: Winner) -> Result<(), Memory>
+pub(crate) fn win(draft: &mut Draft<'_>, slot: u16, winner: &Winner) -> Result<(), Memory>
     ensures base { draft.new.base ≡ draft.old.base }
-    ensures ok { OnOk result (drafted draft.new ≡ spec.won winner slot (drafted draft.old)) }
+    ensures ok { OnOk result (drafted draft.new ≡ spec.won winner.now slot (drafted draft.old)) }
 {
     let Some(chan) = draft.copy_chan(slot)? else {
         return Ok(());
@@ -233,8 +233,8 @@ pub(crate) fn win(draft: &mut Draft<'_>, slot: u16, winner: Winner) -> Result<()
 }
 
 // A channel that has won is no leg any more: it has one thing to run, or is to be routed.
-fn won_by(alloc: Global, mut chan: Chan, winner: Winner) -> Result<Chan, Memory>
-    ensures { IfOk result (λ won. won ≡ spec.won_by winner chan) }
+fn won_by(alloc: Global, mut chan: Chan, winner: &Winner) -> Result<Chan, Memory>
+    ensures { IfOk result (λ won. won ≡ spec.won_by winner.now chan) }
 {
     chan.leg_of = None;
     match winner {
@@ -242,11 +242,11 @@ fn won_by(alloc: Global, mut chan: Chan, winner: Winner) -> Result<Chan, Memory>
             application,
             argument,
         } => {
-            chan.actions = only(alloc, application, argument)?;
+            chan.actions = only(alloc, application.copy()?, argument.copy()?)?;
             chan.wait = Wait::Ready;
             chan.state = State::CsExecute;
         }
-        Winner::Route(route) => chan.transfer(target_of(route)),
+        Winner::Route(route) => chan.transfer(target_of(route.copy()?)),
     }
     Ok(chan)
 }

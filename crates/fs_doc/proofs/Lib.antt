@@ -4,3 +4,4 @@ pub mod DialplanLemmas
 pub mod RoundLemmas
 pub mod Counts
 pub mod WithinLemmas
+pub mod GlobalLemmas

@@ -27,5 +27,6 @@ pub use dialplan::{
 };
 pub use document::read_config;
 pub use fault::{DocFault, DocKind};
+pub use globals::globals_law;
 pub use listed::Listed;
 pub use settings::Settings;

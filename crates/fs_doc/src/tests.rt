@@ -1,7 +1,7 @@
 use crate::config::Config;
 use crate::dialplan::{Break, ConditionDef, ContextDef, ManyKind, Test};
 use crate::fault::{DocFault, DocKind};
-use crate::read_config;
+use crate::{globals_law, read_config};
 use DocKind::*;
 use fs_text::Txt;
 use std::alloc::Global;
@@ -599,6 +599,7 @@ fn puts_globals_in_once(rt: HostRuntime) -> Result<(), Fail> {
     let config = config.ok_or("refused")?;
     has(&rt, config.globals().get(b"a"), "$");
     has(&rt, config.globals().get(b"c"), "$${b}");
+    globals_law();
     Ok(())
 }
 

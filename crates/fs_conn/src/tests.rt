@@ -2,7 +2,7 @@ mod applications;
 
 use crate::{End, play};
 use fs_doc::read_config;
-use fs_machine::Machine;
+use fs_machine::{Act, Machine};
 use fs_plan::Dialplan;
 use fs_ports::{MemFiles, MemLink};
 use fs_text::{EventName, Memory, Txt};
@@ -85,6 +85,8 @@ struct Came {
     end: End,
     moment: u64,
     counts: [u64; 10],
+    /// How many commands stand in its journal.
+    commands: usize,
 }
 
 // The play of this input over the document, if that is read and built.
@@ -104,7 +106,17 @@ fn played(alloc: Global, document: &[u8], input: &[u8]) -> Result<Option<Came>, 
         end,
         moment: machine.moment(),
         counts: COUNTED.map(|name| machine.counts().events(name)),
+        commands: commands_in(&machine),
     }))
+}
+
+// How many commands stand in a machine's journal.
+fn commands_in(machine: &Machine) -> usize {
+    let entries = machine.journal().entries();
+    entries
+        .iter()
+        .filter(|entry| matches!(entry.act, Act::Command { .. }))
+        .count()
 }
 
 fn text(alloc: Global, parts: &[&str]) -> Result<Txt, Memory> {
@@ -127,5 +139,16 @@ fn plays_are_as_worked_out(rt: HostRuntime) -> Result<(), Fail> {
         assert_eq!(rt; came.end, row.end, "{}", row.name);
         assert_eq!(rt; came.moment, row.moment, "{}", row.name);
     }
+    Ok(())
+}
+
+#[test]
+fn no_command_stands_behind_a_refused_password(rt: HostRuntime) -> Result<(), Fail> {
+    let input = b"auth wrong\n\napi echo hi\n\n".as_slice();
+    let Some(came) = played(rt.alloc(), DOCUMENT.as_bytes(), input)? else {
+        return Err(Fail::from("no document"));
+    };
+    assert_eq!(rt; came.end, End::AuthRefused);
+    assert_eq!(rt; came.commands, 1);
     Ok(())
 }

@@ -1,5 +1,5 @@
 -- What a value says, once the globals are put in place of their references.
-use Rattle.std.specs.Prelude.{ℕ, ◌+◌, Bool, ◌&&◌, nat_eq, if◌then◌else◌, [], ◌∷◌, ◌++◌, length, take, drop, Option, None, Some, unwrap_or, Ok, codes}
+use Rattle.std.specs.Prelude.{ℕ, ◌+◌, Bool, ◌&&◌, nat_eq, if◌then◌else◌, [], length, take, drop, Option, None, Some, unwrap_or, Ok, codes}
 use Rattle.std.specs.List.{starts_with, list_any, before_first, position_or_len}
 use Rattle.std.specs.Borrow.{Bor}
 use Rattle.fs_vars.specs.Pairs.{Text, Pairs, value_of}

@@ -1,4 +1,4 @@
-use Rattle.std.proofs.Common.{◌≡◌, ◌<◌, ◌≤◌, [], ◌∷◌, ◌++◌, false, length, take, drop, slice_index_or, append_assoc, ap, sym, arith, rules}
+use Rattle.std.proofs.Common.{◌≡◌, ◌<◌, ◌≤◌, [], ◌∷◌, ◌++◌, false, length, drop, slice_index_or, append_assoc, ap, sym, arith, rules}
 use Rattle.std.proofs.lemmas.List.{take_rest}
 use Rattle.fs_vars.specs.Pairs.{Text, Pairs}
 use Rattle.fs_doc.specs.Values.{begins_global, replaced}

@@ -23,7 +23,7 @@ use Rattle.fs_machine.specs.Questions.{owed_to}
 use Rattle.fs_machine.specs.Work.{worked}
 use Rattle.fs_machine.specs.Jobs.{job_done}
 use Rattle.fs_machine.specs.Commands.{command_of, commanded}
-use Rattle.fs_machine.specs.Step.{reads, is_closed, busy, refused_where, refused_act, refusal_of, fresh, arrived, acted, step}
+use Rattle.fs_machine.specs.Step.{reads, is_closed, busy, refused_where, refused_act, refusal_of, places_for_conns, fresh, arrived, acted, step}
 use Rattle.fs_machine.specs.Runs.{run_from, IsRunFrom}
 use Rattle.fs_machine.specs.Frames.{frames_among, given_in, given_by, handed_in, command_in}
 use Rattle.fs_machine.specs.Concerns.{actor_of, IsOwn, IsOthers, Comes, Concerns}
@@ -181,7 +181,7 @@ comes moment s orderly none =
     let room : s.drawn.conns < 2 ^ 32 - 1 = room_left s orderly (not_full s (record { moment = moment; act = Arrive }) none) in
     let nowhere : place_of s.conns new ≡ None = number_new s orderly.ordered room in
     let there : conn_of (arrived (advanced moment s)).state new ≡ Some fresh =
-    new_there s orderly.ordered room (none_refused (is_full_of_conns s) (refusal.TooMany (length s.conns)) None (not_refused s (record { moment = moment; act = Arrive }) none)).0 in
+    new_there s orderly.ordered room (none_refused (is_full_of_conns s) (refusal.TooMany (places_for_conns s)) None (not_refused s (record { moment = moment; act = Arrive }) none)).0 in
     let given : given_in new (arrived (advanced moment s)).state ≡ auth_request ∷ [] =
     ap (λ found. if is_closed (phase_of found) then [] else frames_among new (arrived (advanced moment s)).state.given) there
     ∙ ap (λ gifts. frames_among new (gifts ++ record { conn = new; frames = auth_request ∷ [] } ∷ [])) orderly.given

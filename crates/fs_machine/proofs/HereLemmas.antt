@@ -1,5 +1,5 @@
 -- A connection that has come is there, and its input has not ended, until it is closed.
-use Rattle.std.proofs.Common.{◌≡◌, ℕ, zero, suc, ◌+◌, ◌≤◌, false, Option, None, Some, is_none, length, ◌⊎◌, inl, inr, refl, sym, ap, subst, ◌∙◌, arith}
+use Rattle.std.proofs.Common.{◌≡◌, ℕ, zero, suc, ◌+◌, ◌-◌, ◌^◌, min, ◌≤◌, false, Option, None, Some, is_none, length, ◌⊎◌, inl, inr, refl, sym, ap, subst, ◌∙◌, arith}
 use Rattle.std.proofs.lemmas.Bool.{cases_eq, le-ltb}
 use Rattle.std.proofs.lemmas.Option.{none-some}
 use Rattle.fs_frame.specs.Block.{line_of}
@@ -109,9 +109,9 @@ pub arrival_accepted : (config : Configuration) (moment : ℕ) → IsWithin conf
 unfolding refusal_of
 arrival_accepted config moment within =
     let places = config.settings.max_connections in
-    ap (λ full. refused_where full (refusal.JournalFull 0 config.settings.journal_limit) (refused_where (is_none (least_free (no_places {T = Numbered Conn} places) 0)) (refusal.TooMany (length (no_places {T = Numbered Conn} places))) None))
+    ap (λ full. refused_where full (refusal.JournalFull 0 config.settings.journal_limit) (refused_where (is_none (least_free (no_places {T = Numbered Conn} places) 0)) (refusal.TooMany (min (length (no_places {T = Numbered Conn} places)) (2 ^ 16 - 1))) None))
     (le-ltb config.settings.journal_limit (0 + 65600) (omega (arith, within.settings.journal.0)))
-    ∙ ap (λ full. refused_where full (refusal.TooMany (length (no_places {T = Numbered Conn} places))) None) (has_place places within.settings.connections.0)
+    ∙ ap (λ full. refused_where full (refusal.TooMany (min (length (no_places {T = Numbered Conn} places)) (2 ^ 16 - 1))) None) (has_place places within.settings.connections.0)
 
 -- and then it is here
 pub arrival_here : (config : Configuration) (moment : ℕ) → IsWithin config → IsHere 1 (step (empty config) (record { moment = moment; act = Arrive })).state

@@ -14,7 +14,7 @@ use Rattle.fs_machine.specs.Entries.{is_full}
 use Rattle.fs_machine.specs.Connections.{phase_at}
 use Rattle.fs_machine.specs.Questions.{owed_to}
 use Rattle.fs_machine.specs.Due.{slot_due, job_due}
-use Rattle.fs_machine.specs.Step.{reads, is_closed, is_unsent, refusal_of, refused_where, refused_act, refused_close, not_due, busy}
+use Rattle.fs_machine.specs.Step.{reads, is_closed, is_unsent, refusal_of, refused_where, refused_act, refused_close, places_for_conns, not_due, busy}
 
 -- no other test refuses so
 not_full : (test : Bool) (other : Refusal) (otherwise : Option Refusal) (cost limit : ℕ) → other ≢ refusal.JournalFull cost limit → otherwise ≢ Some (refusal.JournalFull cost limit) →
@@ -57,7 +57,7 @@ not_closing conn Sent s cost limit =
 not_closing conn Failed s cost limit = not_full (is_closed (phase_at s conn)) refusal.Gone None cost limit (gone cost limit) (nothing cost limit)
 
 not_acting : (act : Act) (s : Switch) (cost limit : ℕ) → refused_act act s ≢ Some (refusal.JournalFull cost limit)
-not_acting Arrive s cost limit = not_full (is_full_of_conns s) (refusal.TooMany (length s.conns)) None cost limit (many (length s.conns) cost limit) (nothing cost limit)
+not_acting Arrive s cost limit = not_full (is_full_of_conns s) (refusal.TooMany (places_for_conns s)) None cost limit (many (places_for_conns s) cost limit) (nothing cost limit)
 not_acting (Command conn block) s cost limit = not_full (not (reads (phase_at s conn))) refusal.Gone (busy (owed_to s conn)) cost limit (gone cost limit) (not_busy (owed_to s conn) cost limit)
 not_acting (Take conn) s cost limit =
     not_full (is_closed (phase_at s conn)) refusal.Gone (refused_where (length (waiting_for s conn) == 0) refusal.Empty None) cost limit (gone cost limit)

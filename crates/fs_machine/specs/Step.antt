@@ -1,5 +1,5 @@
 -- Which entries are refused, and what the others do.
-use Rattle.std.specs.Prelude.{ℕ, ◌==◌, ◌||◌, not, Bool, true, false, [], length, Option, None, Some, is_some, unwrap_or, slice_get, if◌then◌else◌}
+use Rattle.std.specs.Prelude.{ℕ, ◌-◌, ◌^◌, min, ◌==◌, ◌||◌, not, Bool, true, false, [], length, Option, None, Some, is_some, unwrap_or, slice_get, if◌then◌else◌}
 use Rattle.fs_frame.specs.Block.{line_of}
 use Rattle.fs_chan.specs.declared.due.Due.{Due}
 use Rattle.fs_chan.specs.declared.due.Due.TheVariants.{Now, At}
@@ -76,8 +76,12 @@ not_due (Some (At moment)) = Some (refusal.NotDue (Some moment))
 abbrev pub refused_command : ℕ → Switch → Option Refusal
 refused_command conn s = refused_where (not (reads (phase_at s conn))) refusal.Gone (busy (owed_to s conn))
 
+-- how many connections there may be, as far as 16 bits go
+abbrev pub places_for_conns : Switch → ℕ
+places_for_conns s = min (length s.conns) (2 ^ 16 - 1)
+
 abbrev pub refused_act : Act → Switch → Option Refusal
-refused_act Arrive s = refused_where (is_full_of_conns s) (refusal.TooMany (length s.conns)) None
+refused_act Arrive s = refused_where (is_full_of_conns s) (refusal.TooMany (places_for_conns s)) None
 refused_act (Command conn block) s = refused_command conn s
 refused_act (Take conn) s =
     refused_where (is_closed (phase_at s conn)) refusal.Gone (refused_where (length (waiting_for s conn) == 0) refusal.Empty None)

@@ -11,7 +11,7 @@ pub enum Refusal {
     /// The connection reads no commands, or is not there.
     Gone,
     /// As many connections as there may be are there.
-    TooMany { live: u64 },
+    TooMany { live: u16 },
     /// The reply to the command at this place is still owed.
     Busy { since: u64 },
     /// No frame waits.

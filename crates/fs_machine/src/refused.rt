@@ -33,7 +33,7 @@ fn refused_arrival(draft: &Draft<'_>) -> Option<Refusal>
     ensures { result ≡ spec.refused_act act.Arrive (drafted draft.now) }
 {
     if draft.is_full() {
-        let live = draft.conn_places() as u64;
+        let live = draft.conn_places().min(usize::from(u16::MAX)) as u16;
         return Some(Refusal::TooMany { live });
     }
     None

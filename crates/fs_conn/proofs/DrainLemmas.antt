@@ -31,24 +31,24 @@ use Rattle.fs_conn.proofs.KeepLemmas.{Keeps, kept_settled, kept_waited, kept_ope
 use Rattle.fs_conn.proofs.LawLemmas.{Any, IsRun, keeps_run, run_closed, run_played, EndsEarly, Early, early_closed}
 
 -- the run of a play, in terms of what it was configured by
-run_of : (config : Configuration) (p : Play) → IsRun config p → IsRunFrom (empty config) p.journal
+pub run_of : (config : Configuration) (p : Play) → IsRun config p → IsRunFrom (empty config) p.journal
 run_of config p h = subst (λ (c : Configuration). IsRunFrom (empty c) p.journal) h.config_is h.run
 
-switch_is : (config : Configuration) (p : Play) → IsRun config p → run_from (empty config) p.journal ≡ switch_of p
+pub switch_is : (config : Configuration) (p : Play) → IsRun config p → run_from (empty config) p.journal ≡ switch_of p
 switch_is config p h = ap (λ (c : Configuration). run_from (empty c) p.journal) (sym h.config_is)
 
 -- the frames that wait for the connection
-abbrev waits_in : Play → Frames
+abbrev pub waits_in : Play → Frames
 waits_in p = waiting_for (switch_of p) 1
 
 -- ---- taking frames
 
 -- the play is over, or nothing waits
-abbrev Drained : Play → Type 0
+abbrev pub Drained : Play → Type 0
 Drained p = (is_over p ≡ true) ⊎ (waits_in p ≡ [])
 
 -- the play is over, or one frame less waits
-abbrev Takes : Play → Play → Type 0
+abbrev pub Takes : Play → Play → Type 0
 Takes p q = (is_over q ≡ true) ⊎ (length (waits_in q) ≤ length (waits_in p) - 1)
 
 -- how a Take is judged
@@ -61,7 +61,7 @@ unfolding refusal_of
 take_is p goes_on = ap (λ over. cond over p (judged (refusal_of (switch_of p) (entry_of (Take 1) p)) (entry_of (Take 1) p) p)) goes_on
 
 -- one that is entered leaves the others
-taken_one : (config : Configuration) (p : Play) → config.settings.journal_limit ≤ 1073741824 → IsRun config p → is_closed (phase_at (switch_of p) 1) ≡ false →
+pub taken_one : (config : Configuration) (p : Play) → config.settings.journal_limit ≤ 1073741824 → IsRun config p → is_closed (phase_at (switch_of p) 1) ≡ false →
     length (waits_in (record p { journal = p.journal ++ entry_of (Take 1) p ∷ [] })) ≤ length (waits_in p) - 1
 taken_one config p limit run is_open =
     let entry = entry_of (Take 1) p in
@@ -84,7 +84,7 @@ takes_judged config p false true none limit run is_gone is_none =
 takes_judged config p false false true limit run is_gone is_none = let zero_long = eqb-true (length (waits_in p)) 0 is_none in inr (omega (arith, zero_long))
 takes_judged config p false false false limit run is_gone is_none = inr (taken_one config p limit run is_gone)
 
-takes_one : (config : Configuration) (p : Play) → config.settings.journal_limit ≤ 1073741824 → IsRun config p → Takes p (entered (Take 1) p)
+pub takes_one : (config : Configuration) (p : Play) → config.settings.journal_limit ≤ 1073741824 → IsRun config p → Takes p (entered (Take 1) p)
 takes_one config p limit run = by (is_over p) refl
   where
     by : (over : Bool) → is_over p ≡ over → Takes p (entered (Take 1) p)
@@ -129,22 +129,22 @@ drained_all_commanded config [] p limit run drained = drained
 drained_all_commanded config (block ∷ blocks) p limit run drained =
     drained_all_commanded config blocks (commanded p block) limit (kept_commanded Any (IsRun config) (keeps_run config) block tt p run) (drained_commanded config block p limit run drained)
 
-run_begun : (config : Configuration) → IsRun config (begun config)
+pub run_begun : (config : Configuration) → IsRun config (begun config)
 run_begun config = record { config_is = refl; run = tt }
 
-run_conversed : (config : Configuration) (input : List ℕ) → IsRun config (conversed config input)
+pub run_conversed : (config : Configuration) (input : List ℕ) → IsRun config (conversed config input)
 run_conversed config input =
     kept_all_commanded Any (IsRun config) (keeps_run config) (λ block. tt) (blocks_of input) (opened config) (kept_opened Any (IsRun config) (keeps_run config) tt config (run_begun config))
 
-drained_conversed : (config : Configuration) (input : List ℕ) → config.settings.journal_limit ≤ 1073741824 → Drained (conversed config input)
+pub drained_conversed : (config : Configuration) (input : List ℕ) → config.settings.journal_limit ≤ 1073741824 → Drained (conversed config input)
 drained_conversed config input limit =
     drained_all_commanded config (blocks_of input) (opened config) limit (kept_opened Any (IsRun config) (keeps_run config) tt config (run_begun config))
     (drained_acted config Arrive (begun config) limit (run_begun config))
 
-run_ended : (config : Configuration) (input : List ℕ) → IsRun config (input_ended (conversed config input))
+pub run_ended : (config : Configuration) (input : List ℕ) → IsRun config (input_ended (conversed config input))
 run_ended config input = kept_input_ended Any (IsRun config) (keeps_run config) tt (conversed config input) (run_conversed config input)
 
-drained_ended : (config : Configuration) (p : Play) → config.settings.journal_limit ≤ 1073741824 → IsRun config p → Drained p → Drained (input_ended p)
+pub drained_ended : (config : Configuration) (p : Play) → config.settings.journal_limit ≤ 1073741824 → IsRun config p → Drained p → Drained (input_ended p)
 drained_ended config p limit run drained =
     elim (reads_on p) as (λ b. Drained (cond b (all_taken (entered (Close 1 EndOfInput) p)) p)) [
       | true ↦ drained_taken config (entered (Close 1 EndOfInput) p) limit ((keeps_run config).enters (Close 1 EndOfInput) tt p run)
@@ -215,7 +215,7 @@ not_over p goes_on = by (is_over p) refl
     by true over = sym (ap is_over ((goes_entered (Close 1 Sent)).over p over) ∙ over) ∙ goes_on
     by false over = refl
 
-nothing_waits : (p : Play) → Drained p → is_over p ≡ false → waits_in p ≡ []
+pub nothing_waits : (p : Play) → Drained p → is_over p ≡ false → waits_in p ≡ []
 nothing_waits p (inl over) goes_on = absurd (cc)
 nothing_waits p (inr nothing) goes_on = nothing
 
@@ -240,7 +240,7 @@ first_played config input read_failed limit =
     (concat first.0, ap concat first.1 ∙ concat-append (handed_from 1 (empty config) journal) first.0)
 
 -- an end before that of the connection is known as such
-early_is : (end : End) (s : Switch) → EndsEarly (Some end) s → is_early end ≡ true
+pub early_is : (end : End) (s : Switch) → EndsEarly (Some end) s → is_early end ≡ true
 early_is Exit s early = absurd early
 early_is Eof s early = absurd early
 early_is AuthRefused s early = absurd early

@@ -1,5 +1,5 @@
 -- What holds of a play is kept by its steps.
-use Rattle.std.proofs.Common.{◌^◌, ℕ, zero, suc, true, false, cond, List, [], ◌∷◌, length}
+use Rattle.std.proofs.Common.{◌^◌, ℕ, zero, suc, true, false, cond, List, [], ◌∷◌, length, sym, subst}
 use Rattle.fs_doc.specs.Reading.{Configuration}
 use Rattle.fs_state.specs.Switch.{waiting_for}
 use Rattle.fs_machine.specs.declared.due.DueActor.{DueActor}
@@ -8,7 +8,8 @@ use Rattle.fs_machine.specs.declared.entry.Act.{Act}
 use Rattle.fs_machine.specs.declared.entry.Act.TheVariants.{Arrive, Command, Take, Close, Work, Job}
 use Rattle.fs_machine.specs.declared.entry.Closing.TheVariants.{EndOfInput, Sent}
 use Rattle.fs_conn.specs.declared.end.End.TheVariants.{Runaway}
-use Rattle.fs_conn.specs.Play.{Play, switch_of, begun, ended, entered, repeated, worked_by, next_actor, worked_once, stopped_by, settled, waits, waited_until, waited_once, waited, all_taken, followed, acted, reads_on, takes_commands, commanded, all_commanded, opened, input_ended, closed}
+use Rattle.fs_conn.specs.Play.{Play, switch_of, begun, ended, entered, repeated, worked_by, next_actor, worked_once, stopped_by, stopped, settled, waits, waited_until, waited_once, waited, all_taken, followed, acted, reads_on, takes_commands, commanded, all_commanded, opened, input_ended, closed}
+use Rattle.fs_conn.proofs.RoundLemmas.{repeated_more}
 
 -- what holds of a play holds still once an act of this kind was tried, once it has run away, and whatever the clock says; of this kind
 -- are the acts that a play enters by itself
@@ -46,6 +47,14 @@ pub kept_settled : (IsSuch : Act → Type 0) (Holds : Play → Type 0) → Keeps
 unfolding settled
 kept_settled IsSuch Holds keeps p holds =
     let q = repeated 100000 worked_once p in kept_stopped IsSuch Holds keeps (next_actor q) q (kept_all_worked IsSuch Holds keeps 100000 p holds)
+
+-- whatever was true once the first of it was worked is so behind all of it
+pub kept_behind : (IsSuch : Act → Type 0) (Holds : Play → Type 0) → Keeps IsSuch Holds → (p : Play) → Holds (worked_once p) → Holds (settled p)
+unfolding settled
+kept_behind IsSuch Holds keeps p holds =
+    let q = repeated 99999 worked_once (worked_once p) in
+    subst (λ (r : Play). Holds (stopped r)) (sym (repeated_more 99999 worked_once p))
+    (kept_stopped IsSuch Holds keeps (next_actor q) q (kept_all_worked IsSuch Holds keeps 99999 (worked_once p) holds))
 
 -- ---- replies that are owed
 

@@ -9,3 +9,4 @@ mod TurnLemmas
 mod EndLemmas
 pub mod LawLemmas
 mod DrainLemmas
+mod CloseLemmas

@@ -23,6 +23,7 @@ pub mod OwedLemmas
 pub mod OwedJobs
 pub mod OwedActs
 pub mod OwedLaws
+pub mod DueLaws
 pub mod PartnerLemmas
 pub mod IdentifierLemmas
 pub mod HeldLemmas

@@ -38,7 +38,7 @@ use Rattle.fs_machine.proofs.OwedLaws as owed_laws
 use Rattle.fs_machine.proofs.DueLaws.{AreKnown, run_is_known, slot_accepted, job_accepted, IsDue, comes_due}
 use Rattle.fs_conn.specs.declared.end.End.{End}
 use Rattle.fs_conn.specs.declared.end.End.TheVariants.{JournalFull, Runaway}
-use Rattle.fs_conn.specs.Play.{Play, switch_of, begun, is_over, ended, judged, entered, repeated, worked_by, next_actor, worked_once, stopped_by, settled, waits, waited_until, waited_once, waited, all_taken, followed, acted, reads_on, takes_commands, commanded, all_commanded, opened, input_ended, conversed, closed, farewell, end_behind, played}
+use Rattle.fs_conn.specs.Play.{Play, switch_of, begun, is_over, ended, judged, entered, repeated, worked_by, next_actor, worked_once, stopped_by, settled, waits, waited_until, waited_once, waited, all_taken, followed, acted, reads_on, takes_commands, commanded, all_commanded, opened, input_ended, conversed, closed, farewell, end_behind, played, all_taken_as, played_as, settled_as, waited_as}
 use Rattle.fs_conn.specs.Steps.{spent, act_of, is_early, entry_of}
 use Rattle.fs_conn.proofs.PlayLemmas.{goes_entered, goes_all_taken, goes_waited}
 use Rattle.fs_conn.proofs.RoundLemmas.{repeated_none}
@@ -220,7 +220,7 @@ idle_stopped (due.Later moment) p is = inr (ap act_of is)
 idle_stopped due.Never p is = inr (ap act_of is)
 
 idle_settled : (p : Play) → Idle (settled p)
-unfolding settled
+unfolding settled_as
 idle_settled p = let q = repeated 100000 worked_once p in idle_stopped (next_actor q) q refl
 
 -- ---- replies that are owed
@@ -315,7 +315,7 @@ rests_rounds config p (inr goes) = absurd (too_many config p goes)
 
 -- so a play that waits comes to rest
 pub rests_waited : (config : Configuration) (p : Play) → config.settings.journal_limit ≤ 1073741824 → IsRun config p → Rests (waited (settled p))
-unfolding waited
+unfolding waited_as
 rests_waited config p small run =
     by (going config 0 (settled p) (record { run = kept_settled Any (IsRun config) (keeps_run config) p run; paid = inr (omega arith) }) (idle_settled p))
   where
@@ -431,7 +431,7 @@ parted_repeated : (n : ℕ) (p : Play) → Parted p → Parted (repeated n (ente
 parted_repeated n p h = kept_repeated Parted n (entered (Take 1)) parted_entered p h
 
 parted_taken : (p : Play) → Parted p → Parted (all_taken p)
-unfolding all_taken
+unfolding all_taken_as
 parted_taken p h = parted_repeated (length (waiting_for (switch_of p) 1)) p h
 
 -- a connection that reads commands may end its input
@@ -525,7 +525,7 @@ sent_concluded how end p sent early is not_early = by (is_over p) refl is
 -- a play that ends with its connection closes it
 pub sent_played : (config : Configuration) (input : List ℕ) (read_failed : Bool) (end : End) → IsWithin config → (played config input read_failed).end ≡ Some end → is_early end ≡ false →
     EndsSent (played config input read_failed)
-unfolding played
+unfolding played_as
 sent_played config input read_failed end within is not_early =
     sent_concluded (end_behind (farewell (conversed config input)) (too_long (rest_of input)) read_failed) end (closed (conversed config input))
     (sent_entered (input_ended (conversed config input)) (fit_last config input within)) (early_closed config input) is not_early

@@ -24,7 +24,7 @@ use Rattle.fs_machine.proofs.RunLemmas.{run_more}
 use Rattle.fs_machine.proofs.FramesLaws.{handed_first, handed_sent, closed_waits_not, take_leaves_rest, IsUnfailed, AreUnfailed, unfailed_more, handed_unfailed}
 use Rattle.fs_conn.specs.declared.end.End.{End}
 use Rattle.fs_conn.specs.declared.end.End.TheVariants.{Exit, Eof, AuthRefused, ReadFault, WriteFault, TooLong, JournalFull, Memory, Runaway}
-use Rattle.fs_conn.specs.Play.{Play, switch_of, bytes_handed, begun, is_over, ended, judged, entered, repeated, settled, waited, all_taken, acted, reads_on, takes_commands, commanded, all_commanded, opened, input_ended, conversed, closed, farewell, end_behind, played}
+use Rattle.fs_conn.specs.Play.{Play, switch_of, bytes_handed, begun, is_over, ended, judged, entered, repeated, settled, waited, all_taken, acted, reads_on, takes_commands, commanded, all_commanded, opened, input_ended, conversed, closed, farewell, end_behind, played, all_taken_as, played_as}
 use Rattle.fs_conn.specs.Steps.{is_early, entry_of}
 use Rattle.fs_conn.proofs.PlayLemmas.{goes_entered, goes_taken}
 use Rattle.fs_conn.proofs.KeepLemmas.{Keeps, kept_settled, kept_waited, kept_opened, kept_commanded, kept_all_commanded, kept_input_ended}
@@ -61,17 +61,20 @@ unfolding refusal_of
 take_is p goes_on = ap (λ over. cond over p (judged (refusal_of (switch_of p) (entry_of (Take 1) p)) (entry_of (Take 1) p) p)) goes_on
 
 -- one that is entered leaves the others
-pub taken_one : (config : Configuration) (p : Play) → config.settings.journal_limit ≤ 1073741824 → IsRun config p → is_closed (phase_at (switch_of p) 1) ≡ false →
-    length (waits_in (record p { journal = p.journal ++ entry_of (Take 1) p ∷ [] })) ≤ length (waits_in p) - 1
-taken_one config p limit run is_open =
+pub taken_rest : (config : Configuration) (p : Play) → config.settings.journal_limit ≤ 1073741824 → IsRun config p → is_closed (phase_at (switch_of p) 1) ≡ false →
+    waits_in (record p { journal = p.journal ++ entry_of (Take 1) p ∷ [] }) ≡ drop 1 (waits_in p)
+taken_rest config p limit run is_open =
     let entry = entry_of (Take 1) p in
     let here = switch_is config p run in
     let left = (take_leaves_rest config p.journal p.clock 1 limit (run_of config p run) (ap (λ (s : Switch). is_closed (phase_at s 1)) here ∙ is_open)).0 in
-    let rest : waits_in (record p { journal = p.journal ++ entry ∷ [] }) ≡ drop 1 (waits_in p) =
     ap (λ (s : Switch). waiting_for s 1) (run_more (empty p.config) p.journal entry)
-    ∙ subst (λ (s : Switch). waiting_for (step s entry).state 1 ≡ drop 1 (waiting_for s 1)) here left in
+    ∙ subst (λ (s : Switch). waiting_for (step s entry).state 1 ≡ drop 1 (waiting_for s 1)) here left
+
+taken_one : (config : Configuration) (p : Play) → config.settings.journal_limit ≤ 1073741824 → IsRun config p → is_closed (phase_at (switch_of p) 1) ≡ false →
+    length (waits_in (record p { journal = p.journal ++ entry_of (Take 1) p ∷ [] })) ≤ length (waits_in p) - 1
+taken_one config p limit run is_open =
     let fewer = length-drop 1 (waits_in p) in
-    let same = ap length rest in omega (arith, fewer, same)
+    let same = ap length (taken_rest config p limit run is_open) in omega (arith, fewer, same)
 
 takes_judged : (config : Configuration) (p : Play) (full gone none : Bool) → config.settings.journal_limit ≤ 1073741824 → IsRun config p →
     is_closed (phase_at (switch_of p) 1) ≡ gone → (length (waits_in p) == 0) ≡ none → Takes p (take_judged full gone none p)
@@ -106,7 +109,7 @@ drained_all config (suc n) p limit run few =
     (λ less. drained_all config n (entered (Take 1) p) limit ((keeps_run config).enters (Take 1) tt p run) less)
 
 drained_taken : (config : Configuration) (p : Play) → config.settings.journal_limit ≤ 1073741824 → IsRun config p → Drained (all_taken p)
-unfolding all_taken
+unfolding all_taken_as
 drained_taken config p limit run = drained_all config (length (waits_in p)) p limit run (omega arith)
 
 -- ---- the conversation
@@ -260,7 +263,7 @@ whole_concluded config how end p whole early is not_early = by (is_over p) refl 
 
 whole_played : (config : Configuration) (input : List ℕ) (read_failed : Bool) (end : End) → config.settings.journal_limit ≤ 1073741824 →
     (played config input read_failed).end ≡ Some end → is_early end ≡ false → IsWhole config (played config input read_failed)
-unfolding played
+unfolding played_as
 whole_played config input read_failed end limit is not_early =
     whole_concluded config (end_behind (farewell (conversed config input)) (too_long (rest_of input)) read_failed) end (closed (conversed config input))
     (whole_closed config input limit) (early_closed config input) is not_early

@@ -18,7 +18,7 @@ use Rattle.fs_machine.proofs.FrameLemmas.{take_owes}
 use Rattle.fs_machine.proofs.HereLemmas.{ClosesNone, here_step, arrival_accepted, arrival_here}
 use Rattle.fs_conn.specs.declared.end.End.TheVariants.{Runaway}
 use Rattle.fs_conn.specs.declared.stop.Stop.{Stop}
-use Rattle.fs_conn.specs.Play.{Play, switch_of, is_over, judged, entered, repeated, all_taken, followed}
+use Rattle.fs_conn.specs.Play.{Play, switch_of, is_over, judged, entered, repeated, all_taken, followed, all_taken_as}
 use Rattle.fs_conn.specs.Steps.{play_of, entry_of, Does, Accepts, Rejects}
 use Rattle.fs_conn.proofs.StepLemmas.{longer}
 use Rattle.fs_conn.proofs.KeepLemmas.{Keeps, kept_repeated, kept_followed, kept_acted}
@@ -102,7 +102,7 @@ free_repeated : (n : ℕ) (p : Play) → Free p → Free (repeated n (entered (T
 free_repeated n p free = kept_repeated Free n (entered (Take 1)) free_entered p free
 
 pub free_taken : (p : Play) → Free p → Free (all_taken p)
-unfolding all_taken
+unfolding all_taken_as
 free_taken p free = free_repeated (length (waiting_for (switch_of p) 1)) p free
 
 -- taking frames leaves it so

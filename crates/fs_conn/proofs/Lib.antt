@@ -10,3 +10,4 @@ mod EndLemmas
 pub mod LawLemmas
 mod DrainLemmas
 mod CloseLemmas
+mod AgreeLemmas

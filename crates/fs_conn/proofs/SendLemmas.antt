@@ -9,7 +9,7 @@ use Rattle.fs_machine.specs.declared.reply.Reply.TheVariants as reply
 use Rattle.fs_machine.proofs.FrameLemmas.{take_answers, first_bytes}
 use Rattle.fs_conn.specs.declared.stop.Stop.{Stop}
 use Rattle.fs_conn.specs.declared.stop.Stop.TheVariants.{Over, OutOfMemory, WriteFault}
-use Rattle.fs_conn.specs.Play.{Play, switch_of, output_of, entered, repeated, all_taken}
+use Rattle.fs_conn.specs.Play.{Play, switch_of, output_of, entered, repeated, all_taken, all_taken_as}
 use Rattle.fs_conn.specs.Steps.{Halts, Accepts, Written, FailsAt, StoppedBy}
 use Rattle.fs_conn.proofs.PlayLemmas.{goes_entered}
 use Rattle.fs_conn.proofs.RoundLemmas.{round_stops_at}
@@ -50,7 +50,7 @@ stopped_same out0 out1 old new WriteFault same unwritten written = absurd (unwri
 
 -- a Take for each frame that waited is to be entered
 pub taken_first : (start : Play) → repeated (length (waiting_for (switch_of start) 1) - 0) (entered (Take 1)) start ≡ all_taken start
-unfolding all_taken
+unfolding all_taken_as
 taken_first start = ap (λ n. repeated n (entered (Take 1)) start) (none_done (length (waiting_for (switch_of start) 1)))
   where
     none_done : (n : ℕ) → n - 0 ≡ n

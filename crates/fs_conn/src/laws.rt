@@ -13,7 +13,7 @@ ghost use Rattle.fs_machine.specs.declared.entry.Closing.TheVariants.{Sent};
 ghost use Rattle.fs_machine.specs.Runs.{IsRunFrom};
 ghost use Rattle.fs_machine.specs.Frames.{commands_of, frames_from};
 ghost use Rattle.fs_conn.specs.declared.end.End.{End};
-ghost use Rattle.fs_conn.specs.Play.{switch_of, bytes_handed, played};
+ghost use Rattle.fs_conn.specs.Play.{switch_of, bytes_handed, by_room, played_as, played};
 ghost use Rattle.fs_conn.specs.Steps.{is_early};
 ghost use Rattle.fs_conn.specs.Ends.{HasCause};
 
@@ -54,4 +54,10 @@ pub fn closes_at_its_end()
     ensures { (config : Configuration) (input : List ℕ) (read_failed : Bool) (end : End) → IsWithin config → (played config input read_failed).end ≡ Some end
         → is_early end ≡ false → (before : List Entry) × (moment : ℕ)
         × ((played config input read_failed).journal ≡ before ++ record { moment = moment; act = Close 1 Sent } ∷ []) }
+{}
+
+/// No entry that a play tries is refused but for a full journal: judged by the room in the journal alone, so that each is entered until
+/// the journal is full, which ends all, the entries make the same play. Each configuration keeps its limits.
+pub fn refuses_only_when_full()
+    ensures { (config : Configuration) (input : List ℕ) (read_failed : Bool) → IsWithin config → played config input read_failed ≡ played_as by_room config input read_failed }
 {}

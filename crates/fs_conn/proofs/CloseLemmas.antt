@@ -1,18 +1,12 @@
 -- A play waits until no reply is owed, so its connection can be closed.
 use Rattle.std.proofs.Common.{◌≡◌, ◌≢◌, ℕ, zero, suc, ◌+◌, ◌-◌, ◌*◌, ◌^◌, ◌≤◌, ◌==◌, min, Bool, true, false, cond, not, ◌&&◌, ◌||◌, List, [], ◌∷◌, ◌++◌, length, Option, None, Some, is_some, ◌⊎◌, inl, inr, refl, sym, ap, ◌∙◌, subst, arith}
-use Rattle.std.specs.Option.{option_and_then}
 use Rattle.std.proofs.lemmas.Bool.{both_ways, ltb-false}
-use Rattle.std.proofs.lemmas.Option.{none-some}
 use Rattle.fs_doc.specs.Reading.{Configuration}
 use Rattle.fs_doc.specs.Limits.{IsWithin}
 use Rattle.fs_frame.specs.Block.{too_long}
 use Rattle.fs_frame.specs.Blocks.{blocks_of, rest_of}
-use Rattle.fs_places.specs.Rows.{place_of, row_of, with_row}
-use Rattle.fs_state.specs.declared.conn.Conn.{Conn}
-use Rattle.fs_state.specs.declared.conn.Phase.{Phase}
-use Rattle.fs_state.specs.declared.conn.Phase.TheVariants.{Fresh, Ready, Ending, Closed}
-use Rattle.fs_state.specs.declared.conn.Parting.TheVariants as way
-use Rattle.fs_state.specs.Switch.{Switch, empty, conn_of, waiting_for, advanced}
+use Rattle.fs_state.specs.declared.conn.Phase.TheVariants.{Ending}
+use Rattle.fs_state.specs.Switch.{Switch, empty, waiting_for, advanced}
 use Rattle.fs_machine.specs.declared.due.DueActor.{DueActor}
 use Rattle.fs_machine.specs.declared.due.DueActor.TheVariants as due
 use Rattle.fs_machine.specs.declared.entry.Entry.{Entry}
@@ -22,19 +16,19 @@ use Rattle.fs_machine.specs.declared.entry.Closing.TheVariants.{EndOfInput, Sent
 use Rattle.fs_machine.specs.declared.refusal.Refusal.{Refusal}
 use Rattle.fs_machine.specs.declared.refusal.Refusal.TheVariants as refusal
 use Rattle.fs_machine.specs.Entries.{cost_of, is_full}
-use Rattle.fs_machine.specs.Connections.{phase_of, phase_at, parted, conn_changed_from}
-use Rattle.fs_machine.specs.Questions.{owed_of, owed_to, owes}
+use Rattle.fs_machine.specs.Connections.{phase_at}
+use Rattle.fs_machine.specs.Questions.{owes}
 use Rattle.fs_machine.specs.Here.{IsHere}
-use Rattle.fs_machine.specs.Owed.{PartsIn, Parts, AreOwed}
-use Rattle.fs_machine.specs.Step.{step, acted as acted_by, reads, is_closed, is_ending, is_unsent, refused_where, refused_act, refused_close, refusal_of}
+use Rattle.fs_machine.specs.Owed.{AreOwed}
+use Rattle.fs_machine.specs.Step.{step, acted as acted_by, refused_where, refused_act, refusal_of}
 use Rattle.fs_machine.specs.Runs.{run_from, IsRunFrom}
 use Rattle.fs_machine.proofs.RunLemmas.{run_more}
-use Rattle.fs_machine.proofs.RowLemmas.{row_none, row_of-with_row_same}
 use Rattle.fs_machine.proofs.FrameLemmas.{some_cost, take_owes}
 use Rattle.fs_machine.proofs.OrderLemmas.{acted_cost, not_full}
 use Rattle.fs_machine.proofs.FramesLaws.{config_run}
 use Rattle.fs_machine.proofs.HereLemmas.{ClosesNone, arrival_accepted, arrival_here}
 use Rattle.fs_machine.proofs.OwedLaws as owed_laws
+use Rattle.fs_machine.proofs.CloseLaws.{ending_at, end_parts, take_leaves_phase, sent_accepted}
 use Rattle.fs_machine.proofs.DueLaws.{AreKnown, run_is_known, slot_accepted, job_accepted, IsDue, comes_due}
 use Rattle.fs_conn.specs.declared.end.End.{End}
 use Rattle.fs_conn.specs.declared.end.End.TheVariants.{JournalFull, Runaway}
@@ -294,16 +288,17 @@ rounds config zero moments p small goes = inr (subst (λ m. Goes config m p) (no
   where
     none : (m : ℕ) → m ≡ m + 0
     none m = omega arith
-rounds config (suc n) moments p small goes = by (once config moments p small goes)
+rounds config (suc n) moments p small goes = by (once config moments p small goes) (λ further. rounds config n (moments + 1) (waited_once p) small further)
   where
     more : (m k : ℕ) → (m + 1) + k ≡ m + suc k
     more m k = omega arith
 
-    by : Rests (waited_once p) ⊎ Goes config (moments + 1) (waited_once p) → Rests (repeated n waited_once (waited_once p)) ⊎ Goes config (moments + suc n) (repeated n waited_once (waited_once p))
-    by (inl rests) = inl (subst Rests (sym (repeated_none n waited_once (waited_once p) (rested (waited_once p) rests))) rests)
-    by (inr further) =
-        subst (λ m. Rests (repeated n waited_once (waited_once p)) ⊎ Goes config m (repeated n waited_once (waited_once p))) (more moments n)
-        (rounds config n (moments + 1) (waited_once p) small further)
+    by : Rests (waited_once p) ⊎ Goes config (moments + 1) (waited_once p) →
+        (Goes config (moments + 1) (waited_once p) → Rests (repeated n waited_once (waited_once p)) ⊎ Goes config ((moments + 1) + n) (repeated n waited_once (waited_once p))) →
+        Rests (repeated n waited_once (waited_once p)) ⊎ Goes config (moments + suc n) (repeated n waited_once (waited_once p))
+    by (inl rests) later = inl (subst Rests (sym (repeated_none n waited_once (waited_once p) (rested (waited_once p) rests))) rests)
+    by (inr further) later =
+        subst (λ m. Rests (repeated n waited_once (waited_once p)) ⊎ Goes config m (repeated n waited_once (waited_once p))) (more moments n) (later further)
 
 -- no play can pay for so many
 too_many : (config : Configuration) (p : Play) → Goes config (0 + 2 ^ 64) p → ⊥
@@ -367,54 +362,10 @@ pub record Parted (p : Play) : Type 0 where
   pub ending : phase_at (switch_of p) 1 ≡ Ending
   pub free : owes (switch_of p) 1 ≡ false
 
--- one that is there and reads no commands is ending
-ending_in : (c : Conn) → Parts c → reads c.phase ≡ false → c.phase ≡ Ending
-ending_in c parts none = by c.phase refl
-  where
-    by : (now : Phase) → c.phase ≡ now → now ≡ Ending
-    by Fresh is = let reading : reads Fresh ≡ false = ap reads (sym is) ∙ none in absurd (cc reading)
-    by Ready is = let reading : reads Ready ≡ false = ap reads (sym is) ∙ none in absurd (cc reading)
-    by Ending is = refl
-    by Closed is = absurd (subst (λ (now : Phase). PartsIn now c.parting) is parts)
-
-ending_at : (s : Switch) → AreOwed s → IsHere 1 s → reads (phase_at s 1) ≡ false → phase_at s 1 ≡ Ending
-ending_at s owed here none = by (conn_of s 1) refl
-  where
-    by : (found : Option Conn) → conn_of s 1 ≡ found → phase_at s 1 ≡ Ending
-    by None is = absurd (here.there is)
-    by (Some c) is = ap phase_of is ∙ ending_in c (owed.parted 1 c is) (sym (ap (λ found. reads (phase_of found)) is) ∙ none)
-
--- a connection that is there is changed
-changed_at : (s : Switch) (c d : Conn) → conn_of s 1 ≡ Some c → row_of (with_row s.conns 1 d) 1 ≡ Some d
-changed_at s c d is = by (place_of s.conns 1) refl
-  where
-    by : (found : Option ℕ) → place_of s.conns 1 ≡ found → row_of (with_row s.conns 1 d) 1 ≡ Some d
-    by None none = absurd (none-some c (sym (row_none s.conns 1 none) ∙ is))
-    by (Some place) there = row_of-with_row_same s.conns 1 place d there
-
-abbrev owed_in : Option Conn → Bool
-owed_in found = is_some (option_and_then owed_of found)
-
--- the end of its input parts one that reads commands
-parted_step : (s : Switch) (moment : ℕ) → reads (phase_at s 1) ≡ true → owes s 1 ≡ false →
-    (phase_at (step s (record { moment = moment; act = Close 1 EndOfInput })).state 1 ≡ Ending) × (owes (step s (record { moment = moment; act = Close 1 EndOfInput })).state 1 ≡ false)
-unfolding step
-parted_step s moment reading free = by (conn_of s 1) refl
-  where
-    by : (found : Option Conn) → conn_of s 1 ≡ found →
-        (phase_at (conn_changed_from (parted way.EndOfInput) 1 found (advanced moment s)) 1 ≡ Ending) × (owes (conn_changed_from (parted way.EndOfInput) 1 found (advanced moment s)) 1 ≡ false)
-    by None is = let closed : reads Closed ≡ true = ap (λ found. reads (phase_of found)) (sym is) ∙ reading in absurd (cc closed)
-    by (Some c) is =
-        let there = changed_at s c (parted way.EndOfInput c) is in (ap phase_of there, ap owed_in there ∙ sym (ap owed_in is) ∙ free)
-
 -- taking frames leaves it so
-phase_taken : (s : Switch) (moment : ℕ) → phase_at (step s (record { moment = moment; act = Take 1 })).state 1 ≡ phase_at s 1
-unfolding step
-phase_taken s moment = refl
-
 parted_judged : (cause : Option Refusal) (p : Play) → Parted p → Parted (judged cause (entry_of (Take 1) p) p)
 parted_judged None p h = record {
-  ending = ap (λ (s : Switch). phase_at s 1) (switch_longer (Take 1) p) ∙ phase_taken (switch_of p) p.clock ∙ h.ending;
+  ending = ap (λ (s : Switch). phase_at s 1) (switch_longer (Take 1) p) ∙ take_leaves_phase (switch_of p) p.clock 1 ∙ h.ending;
   free = ap (λ (s : Switch). owes s 1) (switch_longer (Take 1) p) ∙ take_owes (switch_of p) p.clock 1 1 ∙ h.free;
 }
 parted_judged (Some (refusal.JournalFull cost limit)) p h = record { ending = h.ending; free = h.free }
@@ -443,7 +394,7 @@ parted_end p goes_on reading free =
     subst (λ (q : Play). (is_over q ≡ true) ⊎ Parted q) (sym (fit_entered (Close 1 EndOfInput) p goes_on (fit_end p reading))) (by (is_full (switch_of p)))
   where
     parts : Parted (longer_by (Close 1 EndOfInput) p)
-    parts = let both = parted_step (switch_of p) p.clock reading free in record {
+    parts = let both = end_parts (switch_of p) p.clock 1 reading free in record {
       ending = ap (λ (s : Switch). phase_at s 1) (switch_longer (Close 1 EndOfInput) p) ∙ both.0;
       free = ap (λ (s : Switch). owes s 1) (switch_longer (Close 1 EndOfInput) p) ∙ both.1;
     }
@@ -471,21 +422,13 @@ parts_ended config p small run here rests = by (is_over p) refl rests (reads_on 
     by true over rests reading is = over_both reading over
     by false goes_on (inl over) reading is = over_both reading over
     by false goes_on (inr free) true is = parts_taken (entered (Close 1 EndOfInput) p) (parted_end p goes_on is free)
-    by false goes_on (inr free) false is = inr (record { ending = ending_at (switch_of p) (owed_of_run config p small run) (here goes_on) is; free = free })
+    by false goes_on (inr free) false is = inr (record { ending = ending_at (switch_of p) 1 (owed_of_run config p small run) (here goes_on).there is; free = free })
 
 -- ---- the closing
 
--- something is still to be sent, or it may give commands
-abbrev unsent_in : Phase → ℕ → Bool → Bool
-unsent_in now queued owed = not (is_ending now) || (not (queued == 0) || owed)
-
 -- one that has parted and for which nothing waits can be closed
 fit_sent : (p : Play) → Parted p → waiting_for (switch_of p) 1 ≡ [] → IsFit (Close 1 Sent) p
-fit_sent p h nothing =
-    let s = switch_of p in
-    ap (λ (now : Phase). refused_where (is_closed now) refusal.Gone (refused_where (unsent_in now (length (waiting_for s 1)) (owes s 1)) (refusal.Unsent (length (waiting_for s 1)) (owes s 1)) None)) h.ending
-    ∙ ap (λ (frames : List (List ℕ)). refused_where (unsent_in Ending (length frames) (owes s 1)) (refusal.Unsent (length frames) (owes s 1)) None) nothing
-    ∙ ap (λ (owed : Bool). refused_where (unsent_in Ending 0 owed) (refusal.Unsent 0 owed) None) h.free
+fit_sent p h nothing = sent_accepted (advanced p.clock (switch_of p)) 1 h.ending nothing h.free
 
 -- nothing speaks against the closing of a play that is not over
 fit_closing : (config : Configuration) (p : Play) → config.settings.journal_limit ≤ 1073741824 → IsRun config p → Here p → Rests p → Drained p → is_over (input_ended p) ≡ false → IsFit (Close 1 Sent) (input_ended p)

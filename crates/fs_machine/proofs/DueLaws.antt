@@ -170,11 +170,12 @@ lesser_never (Some a) (Some b) is = absurd (something_there (min a b) is)
 -- it is that of something at a place
 least_held : {T : Type 0} → (number : Option T → Option ℕ) (things : List (Option T)) (n : ℕ) → least_of number things ≡ Some n → (place : ℕ) × (number (held_in things place) ≡ Some n)
 least_held number [] n is = absurd (nothing_there n is)
-least_held {T} number (thing ∷ things) n is = by (lesser_is (number thing) (least_of number things) n is)
+least_held {T} number (thing ∷ things) n is = by (lesser_is (number thing) (least_of number things) n is) (λ there. least_held number things n there)
   where
-    by : (number thing ≡ Some n) ⊎ (least_of number things ≡ Some n) → (place : ℕ) × (number (held_in (thing ∷ things) place) ≡ Some n)
-    by (inl here) = (zero, here)
-    by (inr there) = let more = least_held number things n there in (suc more.0, more.1)
+    by : (number thing ≡ Some n) ⊎ (least_of number things ≡ Some n) → (least_of number things ≡ Some n → (place : ℕ) × (number (held_in things place) ≡ Some n)) →
+        (place : ℕ) × (number (held_in (thing ∷ things) place) ≡ Some n)
+    by (inl here) more = (zero, here)
+    by (inr there) more = let found = more there in (suc found.0, found.1)
 
 -- without one nothing has a number
 least_never : {T : Type 0} → (number : Option T → Option ℕ) (things : List (Option T)) → number None ≡ None → least_of number things ≡ None → (place : ℕ) → number (held_in things place) ≡ None

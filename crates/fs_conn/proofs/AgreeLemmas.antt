@@ -1,5 +1,5 @@
 -- In a play no entry is refused but for a full journal.
-use Rattle.std.proofs.Common.{◌≡◌, ◌≢◌, ℕ, zero, suc, ◌-◌, ◌^◌, ◌<◌, ◌≤◌, ◌==◌, Bool, true, false, cond, not, ◌&&◌, List, [], ◌∷◌, ◌++◌, length, Option, None, Some, is_some, ◌⊎◌, inl, inr, refl, sym, ap, ◌∙◌, subst, arith}
+use Rattle.std.proofs.Common.{◌≡◌, ◌≢◌, ℕ, zero, suc, ◌^◌, ◌≤◌, ◌==◌, Bool, true, false, cond, not, ◌&&◌, List, [], ◌∷◌, length, Option, None, Some, is_some, ◌⊎◌, inl, inr, refl, sym, ap, ◌∙◌, subst, arith}
 use Rattle.std.proofs.lemmas.Bool.{both_ways, ne_eqb}
 use Rattle.std.proofs.lemmas.List.{nil_from_length, length-drop}
 use Rattle.fs_doc.specs.Reading.{Configuration}
@@ -12,20 +12,18 @@ use Rattle.fs_machine.specs.declared.due.DueActor.TheVariants as due
 use Rattle.fs_machine.specs.declared.entry.Act.{Act}
 use Rattle.fs_machine.specs.declared.entry.Act.TheVariants.{Arrive, Command, Take, Close, Work, Job}
 use Rattle.fs_machine.specs.declared.entry.Closing.TheVariants.{EndOfInput, Sent}
-use Rattle.fs_machine.specs.declared.refusal.Refusal.{Refusal}
 use Rattle.fs_machine.specs.declared.refusal.Refusal.TheVariants as refusal
 use Rattle.fs_machine.specs.Entries.{is_full}
 use Rattle.fs_machine.specs.Connections.{phase_at}
-use Rattle.fs_machine.specs.Questions.{owed_to, owes}
-use Rattle.fs_machine.specs.Step.{reads, is_closed, refused_where, busy}
+use Rattle.fs_machine.specs.Questions.{owed_to}
+use Rattle.fs_machine.specs.Step.{is_closed, refused_where, busy}
 use Rattle.fs_machine.proofs.OrderLemmas.{not_refused}
 use Rattle.fs_machine.proofs.FramesLaws.{closed_waits_not}
 use Rattle.fs_machine.proofs.HereLemmas.{arrival_accepted}
-use Rattle.fs_conn.specs.declared.end.End.{End}
 use Rattle.fs_conn.specs.Play.{Play, switch_of, begun, is_over, ended, by_refusal, by_room, repeated, next_actor, stopped, waits, reads_on, takes_commands, farewell, end_behind, entered_as, worked_as, worked_once_as, settled_as, waited_until_as, waited_once_as, waited_as, all_taken_as, followed_as, acted_as, commanded_as, all_commanded_as, opened_as, input_ended_as, closed_as, conversed_as, played_as, entered, worked_once, settled, waited, waited_once, all_taken, followed, acted, commanded, all_commanded, opened, input_ended, closed, conversed, played}
 use Rattle.fs_conn.specs.Steps.{act_of, entry_of}
 use Rattle.fs_conn.proofs.PlayLemmas.{goes_entered}
-use Rattle.fs_conn.proofs.KeepLemmas.{kept_settled, kept_waited, kept_followed, kept_opened, kept_commanded, kept_worked_once, kept_waited_once}
+use Rattle.fs_conn.proofs.KeepLemmas.{kept_settled, kept_waited, kept_opened, kept_commanded, kept_worked_once, kept_waited_once}
 use Rattle.fs_conn.proofs.LawLemmas.{Any, IsRun, keeps_run}
 use Rattle.fs_conn.proofs.DrainLemmas.{run_of, switch_is, waits_in, taken_rest, run_begun, run_conversed}
 use Rattle.fs_conn.proofs.CloseLemmas.{IsFit, filled, longer_by, fit_entered, fit_due, fit_end, fit_last}

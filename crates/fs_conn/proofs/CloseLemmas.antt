@@ -1,5 +1,5 @@
 -- A play waits until no reply is owed, so its connection can be closed.
-use Rattle.std.proofs.Common.{◌≡◌, ◌≢◌, ℕ, zero, suc, ◌+◌, ◌-◌, ◌*◌, ◌^◌, ◌≤◌, ◌==◌, min, Bool, true, false, cond, not, ◌&&◌, ◌||◌, List, [], ◌∷◌, ◌++◌, length, Option, None, Some, is_some, ◌⊎◌, inl, inr, refl, sym, ap, ◌∙◌, subst, arith}
+use Rattle.std.proofs.Common.{◌≡◌, ℕ, zero, suc, ◌+◌, ◌-◌, ◌*◌, ◌^◌, ◌≤◌, Bool, true, false, cond, not, ◌&&◌, List, [], ◌∷◌, ◌++◌, length, Option, None, Some, ◌⊎◌, inl, inr, refl, sym, ap, ◌∙◌, subst, arith}
 use Rattle.std.proofs.lemmas.Bool.{both_ways, ltb-false}
 use Rattle.fs_doc.specs.Reading.{Configuration}
 use Rattle.fs_doc.specs.Limits.{IsWithin}
@@ -21,7 +21,7 @@ use Rattle.fs_machine.specs.Questions.{owes}
 use Rattle.fs_machine.specs.Here.{IsHere}
 use Rattle.fs_machine.specs.Owed.{AreOwed}
 use Rattle.fs_machine.specs.Step.{step, acted as acted_by, refused_where, refused_act, refusal_of}
-use Rattle.fs_machine.specs.Runs.{run_from, IsRunFrom}
+use Rattle.fs_machine.specs.Runs.{run_from}
 use Rattle.fs_machine.proofs.RunLemmas.{run_more}
 use Rattle.fs_machine.proofs.FrameLemmas.{some_cost, take_owes}
 use Rattle.fs_machine.proofs.OrderLemmas.{acted_cost, not_full}
@@ -32,14 +32,14 @@ use Rattle.fs_machine.proofs.CloseLaws.{ending_at, end_parts, take_leaves_phase,
 use Rattle.fs_machine.proofs.DueLaws.{AreKnown, run_is_known, slot_accepted, job_accepted, IsDue, comes_due}
 use Rattle.fs_conn.specs.declared.end.End.{End}
 use Rattle.fs_conn.specs.declared.end.End.TheVariants.{JournalFull, Runaway}
-use Rattle.fs_conn.specs.Play.{Play, switch_of, begun, is_over, ended, judged, entered, repeated, worked_by, next_actor, worked_once, stopped_by, settled, waits, waited_until, waited_once, waited, all_taken, followed, acted, reads_on, takes_commands, commanded, all_commanded, opened, input_ended, conversed, closed, farewell, end_behind, played, all_taken_as, played_as, settled_as, waited_as}
+use Rattle.fs_conn.specs.Play.{Play, switch_of, begun, is_over, ended, judged, entered, repeated, worked_by, next_actor, worked_once, stopped_by, settled, waited_until, waited_once, waited, all_taken, acted, reads_on, takes_commands, commanded, all_commanded, opened, input_ended, conversed, closed, farewell, end_behind, played, all_taken_as, played_as, settled_as, waited_as}
 use Rattle.fs_conn.specs.Steps.{spent, act_of, is_early, entry_of}
-use Rattle.fs_conn.proofs.PlayLemmas.{goes_entered, goes_all_taken, goes_waited}
+use Rattle.fs_conn.proofs.PlayLemmas.{goes_entered, goes_all_taken}
 use Rattle.fs_conn.proofs.RoundLemmas.{repeated_none}
-use Rattle.fs_conn.proofs.KeepLemmas.{Keeps, kept_repeated, kept_behind, kept_settled, kept_waited, kept_followed, kept_opened, kept_commanded, kept_all_commanded}
+use Rattle.fs_conn.proofs.KeepLemmas.{Keeps, kept_repeated, kept_behind, kept_settled, kept_followed, kept_opened, kept_commanded, kept_all_commanded}
 use Rattle.fs_conn.proofs.HereLemmas.{Here, keeps_here, Free, free_taken}
 use Rattle.fs_conn.proofs.LawLemmas.{Any, IsRun, keeps_run, EndsEarly, Early, early_closed}
-use Rattle.fs_conn.proofs.DrainLemmas.{run_of, switch_is, Drained, drained_conversed, drained_ended, run_begun, run_conversed, run_ended, nothing_waits, early_is}
+use Rattle.fs_conn.proofs.DrainLemmas.{run_of, switch_is, Drained, drained_conversed, drained_ended, run_begun, run_conversed, nothing_waits, early_is}
 
 -- ---- acts that nothing but a full journal speaks against
 

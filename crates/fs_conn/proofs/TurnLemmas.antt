@@ -12,7 +12,7 @@ use Rattle.fs_ports.proofs.Sides.{reads_both, reads_nothing, writes_nothing}
 use Rattle.fs_frame.specs.Block.{IsBlock, too_long}
 use Rattle.fs_frame.specs.Blocks.{HasNoBlock, blocks_of, rest_of}
 use Rattle.fs_frame.specs.Stream.{Stream, fresh, fed_with}
-use Rattle.fs_frame.specs.Next.{HandsOut, HandsOutNothing}
+use Rattle.fs_frame.specs.Next.{HandsOut}
 use Rattle.fs_frame.proofs.BlockLaws.{AllByRecursion-append, blocks_of-append, rest_of-append, blocks_of-no_block, rest_of-no_block, front_of-no_block}
 use Rattle.fs_state.specs.declared.conn.Conn.{Conn}
 use Rattle.fs_state.specs.declared.conn.Phase.{Phase}

@@ -24,31 +24,31 @@ use Rattle.fs_machine.proofs.RunLemmas.{run_more}
 use Rattle.fs_machine.proofs.FramesLaws.{handed_first, handed_sent, closed_waits_not, take_leaves_rest, IsUnfailed, AreUnfailed, unfailed_more, handed_unfailed}
 use Rattle.fs_conn.specs.declared.end.End.{End}
 use Rattle.fs_conn.specs.declared.end.End.TheVariants.{Exit, Eof, AuthRefused, ReadFault, WriteFault, TooLong, JournalFull, Memory, Runaway}
-use Rattle.fs_conn.specs.Play.{Play, switch_of, bytes_handed, begun, is_over, ended, judged, entered, repeated, settled, waited, all_taken, acted, reads_on, takes_commands, commanded, all_commanded, opened, input_ended, conversed, closed, farewell, end_behind, played}
+use Rattle.fs_conn.specs.Play.{Play, switch_of, bytes_handed, begun, is_over, ended, judged, entered, repeated, settled, waited, all_taken, acted, reads_on, takes_commands, commanded, all_commanded, opened, input_ended, conversed, closed, farewell, end_behind, played, all_taken_as, played_as}
 use Rattle.fs_conn.specs.Steps.{is_early, entry_of}
 use Rattle.fs_conn.proofs.PlayLemmas.{goes_entered, goes_taken}
 use Rattle.fs_conn.proofs.KeepLemmas.{Keeps, kept_settled, kept_waited, kept_opened, kept_commanded, kept_all_commanded, kept_input_ended}
 use Rattle.fs_conn.proofs.LawLemmas.{Any, IsRun, keeps_run, run_closed, run_played, EndsEarly, Early, early_closed}
 
 -- the run of a play, in terms of what it was configured by
-run_of : (config : Configuration) (p : Play) → IsRun config p → IsRunFrom (empty config) p.journal
+pub run_of : (config : Configuration) (p : Play) → IsRun config p → IsRunFrom (empty config) p.journal
 run_of config p h = subst (λ (c : Configuration). IsRunFrom (empty c) p.journal) h.config_is h.run
 
-switch_is : (config : Configuration) (p : Play) → IsRun config p → run_from (empty config) p.journal ≡ switch_of p
+pub switch_is : (config : Configuration) (p : Play) → IsRun config p → run_from (empty config) p.journal ≡ switch_of p
 switch_is config p h = ap (λ (c : Configuration). run_from (empty c) p.journal) (sym h.config_is)
 
 -- the frames that wait for the connection
-abbrev waits_in : Play → Frames
+abbrev pub waits_in : Play → Frames
 waits_in p = waiting_for (switch_of p) 1
 
 -- ---- taking frames
 
 -- the play is over, or nothing waits
-abbrev Drained : Play → Type 0
+abbrev pub Drained : Play → Type 0
 Drained p = (is_over p ≡ true) ⊎ (waits_in p ≡ [])
 
 -- the play is over, or one frame less waits
-abbrev Takes : Play → Play → Type 0
+abbrev pub Takes : Play → Play → Type 0
 Takes p q = (is_over q ≡ true) ⊎ (length (waits_in q) ≤ length (waits_in p) - 1)
 
 -- how a Take is judged
@@ -61,17 +61,20 @@ unfolding refusal_of
 take_is p goes_on = ap (λ over. cond over p (judged (refusal_of (switch_of p) (entry_of (Take 1) p)) (entry_of (Take 1) p) p)) goes_on
 
 -- one that is entered leaves the others
-taken_one : (config : Configuration) (p : Play) → config.settings.journal_limit ≤ 1073741824 → IsRun config p → is_closed (phase_at (switch_of p) 1) ≡ false →
-    length (waits_in (record p { journal = p.journal ++ entry_of (Take 1) p ∷ [] })) ≤ length (waits_in p) - 1
-taken_one config p limit run is_open =
+pub taken_rest : (config : Configuration) (p : Play) → config.settings.journal_limit ≤ 1073741824 → IsRun config p → is_closed (phase_at (switch_of p) 1) ≡ false →
+    waits_in (record p { journal = p.journal ++ entry_of (Take 1) p ∷ [] }) ≡ drop 1 (waits_in p)
+taken_rest config p limit run is_open =
     let entry = entry_of (Take 1) p in
     let here = switch_is config p run in
     let left = (take_leaves_rest config p.journal p.clock 1 limit (run_of config p run) (ap (λ (s : Switch). is_closed (phase_at s 1)) here ∙ is_open)).0 in
-    let rest : waits_in (record p { journal = p.journal ++ entry ∷ [] }) ≡ drop 1 (waits_in p) =
     ap (λ (s : Switch). waiting_for s 1) (run_more (empty p.config) p.journal entry)
-    ∙ subst (λ (s : Switch). waiting_for (step s entry).state 1 ≡ drop 1 (waiting_for s 1)) here left in
+    ∙ subst (λ (s : Switch). waiting_for (step s entry).state 1 ≡ drop 1 (waiting_for s 1)) here left
+
+taken_one : (config : Configuration) (p : Play) → config.settings.journal_limit ≤ 1073741824 → IsRun config p → is_closed (phase_at (switch_of p) 1) ≡ false →
+    length (waits_in (record p { journal = p.journal ++ entry_of (Take 1) p ∷ [] })) ≤ length (waits_in p) - 1
+taken_one config p limit run is_open =
     let fewer = length-drop 1 (waits_in p) in
-    let same = ap length rest in omega (arith, fewer, same)
+    let same = ap length (taken_rest config p limit run is_open) in omega (arith, fewer, same)
 
 takes_judged : (config : Configuration) (p : Play) (full gone none : Bool) → config.settings.journal_limit ≤ 1073741824 → IsRun config p →
     is_closed (phase_at (switch_of p) 1) ≡ gone → (length (waits_in p) == 0) ≡ none → Takes p (take_judged full gone none p)
@@ -84,7 +87,7 @@ takes_judged config p false true none limit run is_gone is_none =
 takes_judged config p false false true limit run is_gone is_none = let zero_long = eqb-true (length (waits_in p)) 0 is_none in inr (omega (arith, zero_long))
 takes_judged config p false false false limit run is_gone is_none = inr (taken_one config p limit run is_gone)
 
-takes_one : (config : Configuration) (p : Play) → config.settings.journal_limit ≤ 1073741824 → IsRun config p → Takes p (entered (Take 1) p)
+pub takes_one : (config : Configuration) (p : Play) → config.settings.journal_limit ≤ 1073741824 → IsRun config p → Takes p (entered (Take 1) p)
 takes_one config p limit run = by (is_over p) refl
   where
     by : (over : Bool) → is_over p ≡ over → Takes p (entered (Take 1) p)
@@ -106,7 +109,7 @@ drained_all config (suc n) p limit run few =
     (λ less. drained_all config n (entered (Take 1) p) limit ((keeps_run config).enters (Take 1) tt p run) less)
 
 drained_taken : (config : Configuration) (p : Play) → config.settings.journal_limit ≤ 1073741824 → IsRun config p → Drained (all_taken p)
-unfolding all_taken
+unfolding all_taken_as
 drained_taken config p limit run = drained_all config (length (waits_in p)) p limit run (omega arith)
 
 -- ---- the conversation
@@ -129,22 +132,22 @@ drained_all_commanded config [] p limit run drained = drained
 drained_all_commanded config (block ∷ blocks) p limit run drained =
     drained_all_commanded config blocks (commanded p block) limit (kept_commanded Any (IsRun config) (keeps_run config) block tt p run) (drained_commanded config block p limit run drained)
 
-run_begun : (config : Configuration) → IsRun config (begun config)
+pub run_begun : (config : Configuration) → IsRun config (begun config)
 run_begun config = record { config_is = refl; run = tt }
 
-run_conversed : (config : Configuration) (input : List ℕ) → IsRun config (conversed config input)
+pub run_conversed : (config : Configuration) (input : List ℕ) → IsRun config (conversed config input)
 run_conversed config input =
     kept_all_commanded Any (IsRun config) (keeps_run config) (λ block. tt) (blocks_of input) (opened config) (kept_opened Any (IsRun config) (keeps_run config) tt config (run_begun config))
 
-drained_conversed : (config : Configuration) (input : List ℕ) → config.settings.journal_limit ≤ 1073741824 → Drained (conversed config input)
+pub drained_conversed : (config : Configuration) (input : List ℕ) → config.settings.journal_limit ≤ 1073741824 → Drained (conversed config input)
 drained_conversed config input limit =
     drained_all_commanded config (blocks_of input) (opened config) limit (kept_opened Any (IsRun config) (keeps_run config) tt config (run_begun config))
     (drained_acted config Arrive (begun config) limit (run_begun config))
 
-run_ended : (config : Configuration) (input : List ℕ) → IsRun config (input_ended (conversed config input))
+pub run_ended : (config : Configuration) (input : List ℕ) → IsRun config (input_ended (conversed config input))
 run_ended config input = kept_input_ended Any (IsRun config) (keeps_run config) tt (conversed config input) (run_conversed config input)
 
-drained_ended : (config : Configuration) (p : Play) → config.settings.journal_limit ≤ 1073741824 → IsRun config p → Drained p → Drained (input_ended p)
+pub drained_ended : (config : Configuration) (p : Play) → config.settings.journal_limit ≤ 1073741824 → IsRun config p → Drained p → Drained (input_ended p)
 drained_ended config p limit run drained =
     elim (reads_on p) as (λ b. Drained (cond b (all_taken (entered (Close 1 EndOfInput) p)) p)) [
       | true ↦ drained_taken config (entered (Close 1 EndOfInput) p) limit ((keeps_run config).enters (Close 1 EndOfInput) tt p run)
@@ -215,7 +218,7 @@ not_over p goes_on = by (is_over p) refl
     by true over = sym (ap is_over ((goes_entered (Close 1 Sent)).over p over) ∙ over) ∙ goes_on
     by false over = refl
 
-nothing_waits : (p : Play) → Drained p → is_over p ≡ false → waits_in p ≡ []
+pub nothing_waits : (p : Play) → Drained p → is_over p ≡ false → waits_in p ≡ []
 nothing_waits p (inl over) goes_on = absurd (cc)
 nothing_waits p (inr nothing) goes_on = nothing
 
@@ -240,7 +243,7 @@ first_played config input read_failed limit =
     (concat first.0, ap concat first.1 ∙ concat-append (handed_from 1 (empty config) journal) first.0)
 
 -- an end before that of the connection is known as such
-early_is : (end : End) (s : Switch) → EndsEarly (Some end) s → is_early end ≡ true
+pub early_is : (end : End) (s : Switch) → EndsEarly (Some end) s → is_early end ≡ true
 early_is Exit s early = absurd early
 early_is Eof s early = absurd early
 early_is AuthRefused s early = absurd early
@@ -260,7 +263,7 @@ whole_concluded config how end p whole early is not_early = by (is_over p) refl 
 
 whole_played : (config : Configuration) (input : List ℕ) (read_failed : Bool) (end : End) → config.settings.journal_limit ≤ 1073741824 →
     (played config input read_failed).end ≡ Some end → is_early end ≡ false → IsWhole config (played config input read_failed)
-unfolding played
+unfolding played_as
 whole_played config input read_failed end limit is not_early =
     whole_concluded config (end_behind (farewell (conversed config input)) (too_long (rest_of input)) read_failed) end (closed (conversed config input))
     (whole_closed config input limit) (early_closed config input) is not_early

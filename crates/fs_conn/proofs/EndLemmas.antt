@@ -1,12 +1,15 @@
 -- From a conversation to the play.
-use Rattle.std.proofs.Common.{◌≡◌, ℕ, Bool, true, List, Option, None, Some, Result, Ok, Err, ◌⊎◌, inl, inr, refl, sym, ap, ◌∙◌, subst}
+use Rattle.std.proofs.Common.{◌≡◌, ℕ, Bool, true, false, cond, List, Option, None, Some, Result, Ok, Err, inl, inr, refl, sym, ap, ◌∙◌, subst}
 use Rattle.fs_doc.specs.Reading.{Configuration}
 use Rattle.fs_ports.specs.Ports.{Input, Output, Writes, Stopped}
 use Rattle.fs_frame.specs.Blocks.{blocks_of}
 use Rattle.fs_state.specs.Switch.{empty}
 use Rattle.fs_machine.specs.declared.entry.Entry.{Entry}
+use Rattle.fs_machine.specs.declared.entry.Act.{Act}
 use Rattle.fs_machine.specs.declared.entry.Act.TheVariants.{Arrive, Close}
 use Rattle.fs_machine.specs.declared.entry.Closing.TheVariants.{Failed}
+use Rattle.fs_machine.specs.declared.refusal.Refusal.{Refusal}
+use Rattle.fs_machine.specs.declared.refusal.Refusal.TheVariants as refusal
 use Rattle.fs_machine.specs.declared.reply.Reply.{Reply}
 use Rattle.fs_machine.specs.Step.{refusal_of}
 use Rattle.fs_machine.specs.Runs.{run_from}
@@ -14,10 +17,11 @@ use Rattle.fs_conn.specs.declared.end.End.{End}
 use Rattle.fs_conn.specs.declared.end.End.TheVariants as ends
 use Rattle.fs_conn.specs.declared.stop.Stop.{Stop}
 use Rattle.fs_conn.specs.declared.stop.Stop.TheVariants.{Over, OutOfMemory, WriteFault}
-use Rattle.fs_conn.specs.Play.{Play, begun, bytes_handed, output_of, opened, conversed, played}
-use Rattle.fs_conn.specs.Steps.{is_early, Begins, Enters}
-use Rattle.fs_conn.specs.Turns.{is_told, Concludes, Stops, Finishes, LacksMemory, failed_at, ClosesFailed, FailsToWrite, Plays}
+use Rattle.fs_conn.specs.Play.{Play, begun, bytes_handed, switch_of, output_of, is_over, judged, entered, opened, conversed, played}
+use Rattle.fs_conn.specs.Steps.{is_early, Begins, entry_of, Enters}
+use Rattle.fs_conn.specs.Turns.{is_told, Concludes, Stops, Finishes, failed_at, Fails, unless_refused, FailsToWrite, fault_by, Plays}
 use Rattle.fs_conn.proofs.PlayLemmas.{goes_acted, goes_all_commanded}
+use Rattle.fs_conn.proofs.StepLemmas.{does_enters}
 use Rattle.fs_conn.proofs.TurnLemmas.{played_is, goes_concluded}
 
 -- a play is of its configuration
@@ -98,33 +102,55 @@ config_memory config in0 in1 out0 out1 p stops = config_begins config stops.inpu
 pub config_write : (config : Configuration) (in0 in1 : Input) (out0 out1 : Output) (p : Play) → Stops config in0 out0 in1 out1 WriteFault p → p.config ≡ config
 config_write config in0 in1 out0 out1 p stops = config_begins config stops.input stops.read_failed p stops.halts
 
-pub lacks_memory : (config : Configuration) (in0 in1 : Input) (out0 out1 : Output) (p : Play) → Stops config in0 out0 in1 out1 OutOfMemory p → LacksMemory config in0 out0 in1 out1 p.journal
-lacks_memory config in0 in1 out0 out1 p stops = record {
+pub lacks_memory : (config : Configuration) (in0 in1 : Input) (out0 out1 : Output) (p : Play) → Stops config in0 out0 in1 out1 OutOfMemory p → Plays config in0 out0 in1 out1 p.journal ends.Memory
+lacks_memory config in0 in1 out0 out1 p stops = inl (record {
   breaks = record { input = stops.input; read_failed = stops.read_failed; has_read = stops.has_read; more = stops.halts.more; split = stops.halts.split };
   written = subst (λ (written : List ℕ). Writes out0 out1 written) (bytes_begins config stops.input stops.read_failed p stops.halts) stops.stopped;
-}
+})
 
--- the connection was closed as Failed, or that was refused
-closes_failed : (config : Configuration) (p new : Play) (result : Result (Option Reply) Stop) → p.config ≡ config → Enters (Close 1 Failed) p new result → (new.journal ≡ p.journal) ⊎ ClosesFailed config p.journal new.journal
-closes_failed config p new (Ok None) config_is enters = inl (ap (λ (q : Play). q.journal) enters.same)
-closes_failed config p new (Ok (Some reply)) config_is enters =
-    inr (record {
-      moment = p.clock;
-      defined = subst (λ (c : Configuration). refusal_of (run_from (empty c) p.journal) (failed_at p.clock) ≡ None) config_is enters.defined;
-      journal_is = ap (λ (q : Play). q.journal) enters.does;
-    })
-closes_failed config p new (Err (Over end)) config_is enters = inl (ap (λ (q : Play). q.journal) enters.0)
-closes_failed config p new (Err OutOfMemory) config_is enters = inl (ap (λ (q : Play). q.journal) enters)
-closes_failed config p new (Err WriteFault) config_is enters = absurd enters
+-- an act that is tried leaves its entry behind the others, unless it is refused
+journal_judged : (cause : Option Refusal) (entry : Entry) (p : Play) → (judged cause entry p).journal ≡ unless_refused cause entry p.journal
+journal_judged None entry p = refl
+journal_judged (Some (refusal.JournalFull cost limit)) entry p = refl
+journal_judged (Some _) entry p = refl
 
-pub fails_to_write : (config : Configuration) (in0 in1 : Input) (out0 out1 : Output) (p new : Play) (result : Result (Option Reply) Stop) →
-    Stops config in0 out0 in1 out1 WriteFault p → Enters (Close 1 Failed) p new result → FailsToWrite config in0 out0 in1 out1 new.journal
-fails_to_write config in0 in1 out0 out1 p new result stops enters = record {
-  before = p.journal;
+journal_entered : (act : Act) (p : Play) → is_over p ≡ false → (entered act p).journal ≡ unless_refused (refusal_of (switch_of p) (entry_of act p)) (entry_of act p) p.journal
+journal_entered act p goes_on =
+    ap (λ over. (cond over p (judged (refusal_of (switch_of p) (entry_of act p)) (entry_of act p) p)).journal) goes_on
+    ∙ journal_judged (refusal_of (switch_of p) (entry_of act p)) (entry_of act p) p
+
+-- a write failed
+fails : (config : Configuration) (in0 in1 : Input) (out0 out1 : Output) (p : Play) → Stops config in0 out0 in1 out1 WriteFault p → Fails config in0 out0 in1 out1 p.journal p.clock
+fails config in0 in1 out0 out1 p stops = record {
   breaks = record { input = stops.input; read_failed = stops.read_failed; has_read = stops.has_read; more = stops.halts.more; split = stops.halts.split };
-  stopped = subst (λ (written : List ℕ). Stopped out0 out1 written) (bytes_begins config stops.input stops.read_failed p stops.halts) stops.stopped;
-  closes = closes_failed config p new result (config_begins config stops.input stops.read_failed p stops.halts) enters;
+  stopped = subst (λ (written : List ℕ). Stopped out0 out1 written) (bytes_begins config stops.input stops.read_failed p stops.halts) stops.stopped.stopped;
+  earlier = stops.stopped.before;
+  taken = stops.stopped.taken;
 }
+
+-- and the connection was closed as Failed, or that was refused
+fails_to_write : (config : Configuration) (in0 in1 : Input) (out0 out1 : Output) (p new : Play) → Stops config in0 out0 in1 out1 WriteFault p → is_over p ≡ false → new.journal ≡ (entered (Close 1 Failed) p).journal →
+    FailsToWrite config in0 out0 in1 out1 new.journal
+fails_to_write config in0 in1 out0 out1 p new stops goes_on does = record {
+  before = p.journal;
+  moment = p.clock;
+  fails = fails config in0 in1 out0 out1 p stops;
+  closes =
+      does ∙ journal_entered (Close 1 Failed) p goes_on
+      ∙ ap (λ (c : Configuration). unless_refused (refusal_of (run_from (empty c) p.journal) (failed_at p.clock)) (failed_at p.clock) p.journal)
+      (config_begins config stops.input stops.read_failed p stops.halts);
+}
+
+-- or memory was wanting for that
+pub plays_failed : (config : Configuration) (in0 in1 : Input) (out0 out1 : Output) (p new : Play) (result : Result (Option Reply) Stop) → is_over p ≡ false →
+    Stops config in0 out0 in1 out1 WriteFault p → Enters (Close 1 Failed) p new result → Plays config in0 out0 in1 out1 new.journal (fault_by result)
+plays_failed config in0 in1 out0 out1 p new (Ok reply) goes_on stops enters =
+    fails_to_write config in0 in1 out0 out1 p new stops goes_on (ap (λ (q : Play). q.journal) (does_enters (Close 1 Failed) p new (Ok reply) goes_on enters))
+plays_failed config in0 in1 out0 out1 p new (Err (Over end)) goes_on stops enters =
+    fails_to_write config in0 in1 out0 out1 p new stops goes_on (sym (ap (λ (q : Play). q.journal) enters.1.1))
+plays_failed config in0 in1 out0 out1 p new (Err OutOfMemory) goes_on stops enters =
+    inr (p.clock, subst (λ (q : Play). Fails config in0 out0 in1 out1 q.journal p.clock) (sym enters) (fails config in0 in1 out0 out1 p stops))
+plays_failed config in0 in1 out0 out1 p new (Err WriteFault) goes_on stops enters = absurd enters
 
 -- entering keeps the configuration
 pub config_enters : (p new : Play) (result : Result (Option Reply) Stop) → Enters (Close 1 Failed) p new result → new.config ≡ p.config

@@ -18,14 +18,14 @@ use Rattle.fs_machine.proofs.FrameLemmas.{take_owes}
 use Rattle.fs_machine.proofs.HereLemmas.{ClosesNone, here_step, arrival_accepted, arrival_here}
 use Rattle.fs_conn.specs.declared.end.End.TheVariants.{Runaway}
 use Rattle.fs_conn.specs.declared.stop.Stop.{Stop}
-use Rattle.fs_conn.specs.Play.{Play, switch_of, is_over, judged, entered, repeated, all_taken, followed}
+use Rattle.fs_conn.specs.Play.{Play, switch_of, is_over, judged, entered, repeated, all_taken, followed, all_taken_as}
 use Rattle.fs_conn.specs.Steps.{play_of, entry_of, Does, Accepts, Rejects}
 use Rattle.fs_conn.proofs.StepLemmas.{longer}
 use Rattle.fs_conn.proofs.KeepLemmas.{Keeps, kept_repeated, kept_followed, kept_acted}
 
 -- ---- it is there
 
-abbrev Here : Play → Type 0
+abbrev pub Here : Play → Type 0
 Here p = is_over p ≡ false → IsHere 1 (switch_of p)
 
 here_judged : (cause : Option Refusal) (entry : Entry) (p : Play) → ClosesNone entry.act → IsHere 1 (switch_of p) → Here (judged cause entry p)
@@ -40,7 +40,7 @@ here_entered act such p here = by (is_over p) refl
     by true over = here
     by false goes_on = here_judged (refusal_of (switch_of p) (entry_of act p)) (entry_of act p) p such (here goes_on)
 
-keeps_here : Keeps ClosesNone Here
+pub keeps_here : Keeps ClosesNone Here
 keeps_here = record {
   works = λ slot. tt;
   jobs = λ number. tt;
@@ -82,7 +82,7 @@ here_arrived machine new clock reply begun within accepts =
 
 -- ---- it is owed nothing
 
-abbrev Free : Play → Type 0
+abbrev pub Free : Play → Type 0
 Free p = owes (switch_of p) 1 ≡ false
 
 free_judged : (cause : Option Refusal) (p : Play) → Free p → Free (judged cause (entry_of (Take 1) p) p)
@@ -101,8 +101,8 @@ free_entered p free =
 free_repeated : (n : ℕ) (p : Play) → Free p → Free (repeated n (entered (Take 1)) p)
 free_repeated n p free = kept_repeated Free n (entered (Take 1)) free_entered p free
 
-free_taken : (p : Play) → Free p → Free (all_taken p)
-unfolding all_taken
+pub free_taken : (p : Play) → Free p → Free (all_taken p)
+unfolding all_taken_as
 free_taken p free = free_repeated (length (waiting_for (switch_of p) 1)) p free
 
 -- taking frames leaves it so

@@ -1,5 +1,5 @@
 -- What holds of a play is kept by its steps.
-use Rattle.std.proofs.Common.{◌^◌, ℕ, zero, suc, true, false, cond, List, [], ◌∷◌, length}
+use Rattle.std.proofs.Common.{◌^◌, ℕ, zero, suc, true, false, cond, List, [], ◌∷◌, length, sym, subst}
 use Rattle.fs_doc.specs.Reading.{Configuration}
 use Rattle.fs_state.specs.Switch.{waiting_for}
 use Rattle.fs_machine.specs.declared.due.DueActor.{DueActor}
@@ -8,7 +8,8 @@ use Rattle.fs_machine.specs.declared.entry.Act.{Act}
 use Rattle.fs_machine.specs.declared.entry.Act.TheVariants.{Arrive, Command, Take, Close, Work, Job}
 use Rattle.fs_machine.specs.declared.entry.Closing.TheVariants.{EndOfInput, Sent}
 use Rattle.fs_conn.specs.declared.end.End.TheVariants.{Runaway}
-use Rattle.fs_conn.specs.Play.{Play, switch_of, begun, ended, entered, repeated, worked_by, next_actor, worked_once, stopped_by, settled, waits, waited_until, waited_once, waited, all_taken, followed, acted, reads_on, takes_commands, commanded, all_commanded, opened, input_ended, closed}
+use Rattle.fs_conn.specs.Play.{Play, switch_of, begun, ended, entered, repeated, worked_by, next_actor, worked_once, stopped_by, stopped, settled, waits, waited_until, waited_once, waited, all_taken, followed, acted, reads_on, takes_commands, commanded, all_commanded, opened, input_ended, closed, all_taken_as, settled_as, waited_as}
+use Rattle.fs_conn.proofs.RoundLemmas.{repeated_more}
 
 -- what holds of a play holds still once an act of this kind was tried, once it has run away, and whatever the clock says; of this kind
 -- are the acts that a play enters by itself
@@ -39,13 +40,24 @@ kept_stopped IsSuch Holds keeps (due.Job job) p holds = keeps.runs_away p holds
 kept_stopped IsSuch Holds keeps (due.Later moment) p holds = holds
 kept_stopped IsSuch Holds keeps due.Never p holds = holds
 
+pub kept_worked_once : (IsSuch : Act → Type 0) (Holds : Play → Type 0) → Keeps IsSuch Holds → (p : Play) → Holds p → Holds (worked_once p)
+kept_worked_once IsSuch Holds keeps p holds = kept_worked IsSuch Holds keeps (next_actor p) p holds
+
 kept_all_worked : (IsSuch : Act → Type 0) (Holds : Play → Type 0) → Keeps IsSuch Holds → (n : ℕ) (p : Play) → Holds p → Holds (repeated n worked_once p)
-kept_all_worked IsSuch Holds keeps n p holds = kept_repeated Holds n worked_once (λ q. kept_worked IsSuch Holds keeps (next_actor q) q) p holds
+kept_all_worked IsSuch Holds keeps n p holds = kept_repeated Holds n worked_once (kept_worked_once IsSuch Holds keeps) p holds
 
 pub kept_settled : (IsSuch : Act → Type 0) (Holds : Play → Type 0) → Keeps IsSuch Holds → (p : Play) → Holds p → Holds (settled p)
-unfolding settled
+unfolding settled_as
 kept_settled IsSuch Holds keeps p holds =
     let q = repeated 100000 worked_once p in kept_stopped IsSuch Holds keeps (next_actor q) q (kept_all_worked IsSuch Holds keeps 100000 p holds)
+
+-- whatever was true once the first of it was worked is so behind all of it
+pub kept_behind : (IsSuch : Act → Type 0) (Holds : Play → Type 0) → Keeps IsSuch Holds → (p : Play) → Holds (worked_once p) → Holds (settled p)
+unfolding settled_as
+kept_behind IsSuch Holds keeps p holds =
+    let q = repeated 99999 worked_once (worked_once p) in
+    subst (λ (r : Play). Holds (stopped r)) (sym (repeated_more 99999 worked_once p))
+    (kept_stopped IsSuch Holds keeps (next_actor q) q (kept_all_worked IsSuch Holds keeps 99999 (worked_once p) holds))
 
 -- ---- replies that are owed
 
@@ -55,7 +67,7 @@ kept_until IsSuch Holds keeps (due.Slot slot) p holds = holds
 kept_until IsSuch Holds keeps (due.Job job) p holds = holds
 kept_until IsSuch Holds keeps due.Never p holds = holds
 
-kept_waited_once : (IsSuch : Act → Type 0) (Holds : Play → Type 0) → Keeps IsSuch Holds → (p : Play) → Holds p → Holds (waited_once p)
+pub kept_waited_once : (IsSuch : Act → Type 0) (Holds : Play → Type 0) → Keeps IsSuch Holds → (p : Play) → Holds p → Holds (waited_once p)
 kept_waited_once IsSuch Holds keeps p holds =
     elim (waits p) as (λ b. Holds (cond b (waited_until (next_actor p) p) p)) [
       | true ↦ kept_until IsSuch Holds keeps (next_actor p) p holds
@@ -66,7 +78,7 @@ kept_all_waited : (IsSuch : Act → Type 0) (Holds : Play → Type 0) → Keeps 
 kept_all_waited IsSuch Holds keeps n p holds = kept_repeated Holds n waited_once (kept_waited_once IsSuch Holds keeps) p holds
 
 pub kept_waited : (IsSuch : Act → Type 0) (Holds : Play → Type 0) → Keeps IsSuch Holds → (p : Play) → Holds p → Holds (waited p)
-unfolding waited
+unfolding waited_as
 kept_waited IsSuch Holds keeps p holds = kept_all_waited IsSuch Holds keeps (2 ^ 64) p holds
 
 -- ---- frames, and all that comes of an act
@@ -75,7 +87,7 @@ pub kept_taken : (IsSuch : Act → Type 0) (Holds : Play → Type 0) → Keeps I
 kept_taken IsSuch Holds keeps n p holds = kept_repeated Holds n (entered (Take 1)) (keeps.enters (Take 1) keeps.takes) p holds
 
 pub kept_all_taken : (IsSuch : Act → Type 0) (Holds : Play → Type 0) → Keeps IsSuch Holds → (p : Play) → Holds p → Holds (all_taken p)
-unfolding all_taken
+unfolding all_taken_as
 kept_all_taken IsSuch Holds keeps p holds = kept_taken IsSuch Holds keeps (length (waiting_for (switch_of p) 1)) p holds
 
 pub kept_followed : (IsSuch : Act → Type 0) (Holds : Play → Type 0) → Keeps IsSuch Holds → (p : Play) → Holds p → Holds (followed p)

@@ -24,7 +24,7 @@ use Rattle.fs_machine.proofs.FrameLemmas.{command_refused}
 use Rattle.fs_machine.proofs.RefusalLemmas.{full_refused}
 use Rattle.fs_conn.specs.declared.end.End.{End}
 use Rattle.fs_conn.specs.declared.end.End.TheVariants.{Exit, AuthRefused, Eof, ReadFault, WriteFault, TooLong, JournalFull, Memory, Runaway}
-use Rattle.fs_conn.specs.Play.{Play, switch_of, bytes_handed, is_over, ended, judged, entered, followed, acted, reads_on, takes_commands, commanded, all_commanded, opened, conversed, closed, end_by, farewell, end_behind, played}
+use Rattle.fs_conn.specs.Play.{Play, switch_of, bytes_handed, is_over, ended, judged, entered, followed, acted, reads_on, takes_commands, commanded, all_commanded, opened, conversed, closed, end_by, farewell, end_behind, played, played_as}
 use Rattle.fs_conn.specs.Steps.{entry_of}
 use Rattle.fs_conn.specs.Ends.{IsFullAt, HasCause}
 use Rattle.fs_conn.proofs.PlayLemmas.{goes_followed, goes_all_commanded}
@@ -75,7 +75,7 @@ run_closed config input =
     (kept_opened Any (IsRun config) (keeps_run config) tt config (record { config_is = refl; run = tt })))
 
 run_whole : (config : Configuration) (input : List ℕ) (read_failed : Bool) → IsRun config (played config input read_failed)
-unfolding played
+unfolding played_as
 run_whole config input read_failed =
     run_concluded config (end_behind (farewell (conversed config input)) (too_long (rest_of input)) read_failed) (closed (conversed config input)) (run_closed config input)
 
@@ -180,7 +180,7 @@ cause_ended how end p is_too_long read_failed early cause is = by (is_over p) is
 
 pub cause_played : (config : Configuration) (input : List ℕ) (read_failed : Bool) (end : End) → (played config input read_failed).end ≡ Some end →
     HasCause end (switch_of (played config input read_failed)) (too_long (rest_of input)) read_failed
-unfolding played
+unfolding played_as
 cause_played config input read_failed end is =
     cause_ended (end_behind (farewell (conversed config input)) (too_long (rest_of input)) read_failed) end (closed (conversed config input)) (too_long (rest_of input)) read_failed
     (early_closed config input) (λ s. cause_behind (parting_at (switch_of (conversed config input)) 1) s (too_long (rest_of input)) read_failed) is
@@ -194,7 +194,7 @@ ended_some how p = by p.end refl
     by (Some end) is = (end, ap (λ over. (cond over p (record p { end = Some how })).end) (ap is_some is) ∙ is)
 
 pub ends_played : (config : Configuration) (input : List ℕ) (read_failed : Bool) → (end : End) × ((played config input read_failed).end ≡ Some end)
-unfolding played
+unfolding played_as
 ends_played config input read_failed = ended_some (end_behind (farewell (conversed config input)) (too_long (rest_of input)) read_failed) (closed (conversed config input))
 
 -- ---- commands
@@ -295,7 +295,7 @@ says_ended : (blocks : List (List ℕ)) (end : End) (p : Play) → Says blocks p
 says_ended blocks end p h = elim (is_over p) as (λ b. Says blocks (cond b p (record p { end = Some end }))) [ true ↦ h | false ↦ h ]
 
 pub commands_played : (config : Configuration) (input : List ℕ) (read_failed : Bool) → (more : List (List ℕ)) × (blocks_of input ≡ commands_of 1 (played config input read_failed).journal ++ more)
-unfolding played
+unfolding played_as
 commands_played config input read_failed =
     let first = kept_opened IsSilent (Says []) (keeps_says []) refl config refl in
     let all = commands_all (opened config) (blocks_of input) in

@@ -9,3 +9,5 @@ mod TurnLemmas
 mod EndLemmas
 pub mod LawLemmas
 mod DrainLemmas
+mod CloseLemmas
+mod AgreeLemmas

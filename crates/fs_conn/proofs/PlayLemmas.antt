@@ -13,7 +13,7 @@ use Rattle.fs_machine.specs.Questions.{owes}
 use Rattle.fs_machine.specs.Step.{refusal_of}
 use Rattle.fs_conn.specs.declared.end.End.{End}
 use Rattle.fs_conn.specs.declared.end.End.TheVariants.{Runaway}
-use Rattle.fs_conn.specs.Play.{Play, switch_of, is_over, ended, judged, tried, entered, repeated, worked_by, next_actor, worked_once, stopped_by, stopped, settled, waits, waited_until, waited_once, waited, all_taken, followed, acted, reads_on, takes_commands, commanded, all_commanded, input_ended, closed}
+use Rattle.fs_conn.specs.Play.{Play, switch_of, is_over, ended, judged, tried, entered, repeated, worked_by, next_actor, worked_once, stopped_by, stopped, settled, waits, waited_until, waited_once, waited, all_taken, followed, acted, reads_on, takes_commands, commanded, all_commanded, input_ended, closed, all_taken_as, settled_as, waited_as}
 use Rattle.fs_conn.specs.Steps.{Begins, entry_of}
 
 -- ---- fronts
@@ -121,7 +121,7 @@ pub goes_all_worked : (n : ℕ) → Goes (repeated n worked_once)
 goes_all_worked n = goes_repeated n worked_once goes_worked_once
 
 pub goes_settled : Goes settled
-unfolding settled
+unfolding settled_as
 goes_settled = goes_then (repeated 100000 worked_once) stopped (goes_all_worked 100000) goes_stopped
 
 -- ---- replies that are owed
@@ -144,7 +144,7 @@ pub goes_all_waited : (n : ℕ) → Goes (repeated n waited_once)
 goes_all_waited n = goes_repeated n waited_once goes_waited_once
 
 pub goes_waited : Goes waited
-unfolding waited
+unfolding waited_as
 goes_waited = goes_all_waited (2 ^ 64)
 
 -- ---- frames, and all that comes of an act
@@ -153,7 +153,7 @@ pub goes_taken : (n : ℕ) → Goes (repeated n (entered (Take 1)))
 goes_taken n = goes_repeated n (entered (Take 1)) (goes_entered (Take 1))
 
 pub goes_all_taken : Goes all_taken
-unfolding all_taken
+unfolding all_taken_as
 goes_all_taken = record {
   over = λ p over. (goes_taken (length (waiting_for (switch_of p) 1))).over p over;
   begins = λ p. (goes_taken (length (waiting_for (switch_of p) 1))).begins p;

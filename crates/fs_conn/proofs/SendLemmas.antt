@@ -1,5 +1,5 @@
 -- How frames are taken and written.
-use Rattle.std.proofs.Common.{◌≡◌, ◌≢◌, ℕ, ◌-◌, ◌<◌, List, [], ◌++◌, length, unwrap_or, slice_get, refl, sym, ap, ◌∙◌, subst, arith}
+use Rattle.std.proofs.Common.{◌≡◌, ◌≢◌, ℕ, ◌-◌, ◌<◌, List, [], ◌∷◌, ◌++◌, length, unwrap_or, slice_get, refl, sym, ap, ◌∙◌, subst, arith}
 use Rattle.fs_ports.specs.Ports.{Output, Writes, Stopped}
 use Rattle.fs_ports.proofs.Sides.{writes_both, stopped_later}
 use Rattle.fs_state.specs.Switch.{waiting_for}
@@ -9,8 +9,8 @@ use Rattle.fs_machine.specs.declared.reply.Reply.TheVariants as reply
 use Rattle.fs_machine.proofs.FrameLemmas.{take_answers, first_bytes}
 use Rattle.fs_conn.specs.declared.stop.Stop.{Stop}
 use Rattle.fs_conn.specs.declared.stop.Stop.TheVariants.{Over, OutOfMemory, WriteFault}
-use Rattle.fs_conn.specs.Play.{Play, switch_of, output_of, entered, repeated, all_taken}
-use Rattle.fs_conn.specs.Steps.{Halts, Accepts, Written, StoppedBy}
+use Rattle.fs_conn.specs.Play.{Play, switch_of, output_of, entered, repeated, all_taken, all_taken_as}
+use Rattle.fs_conn.specs.Steps.{Halts, Accepts, Written, FailsAt, StoppedBy}
 use Rattle.fs_conn.proofs.PlayLemmas.{goes_entered}
 use Rattle.fs_conn.proofs.RoundLemmas.{round_stops_at}
 
@@ -30,9 +30,14 @@ frame_written out0 out1 out2 old new frame hands written writes =
     subst (λ (bytes : List ℕ). Writes out0 out2 bytes) (sym hands) (writes_both out0 out1 out2 (output_of old) frame written writes)
 
 -- or that failed
-pub frame_stopped : (out0 out1 out2 : Output) (old new : Play) (frame : List ℕ) → output_of new ≡ output_of old ++ frame → Written out0 out1 old → Stopped out1 out2 frame → Stopped out0 out2 (output_of new)
-frame_stopped out0 out1 out2 old new frame hands written stopped =
-    subst (λ (bytes : List ℕ). Stopped out0 out2 bytes) (sym hands) (stopped_later out0 out1 out2 (output_of old) frame written stopped)
+pub frame_stopped : (out0 out1 out2 : Output) (old new : Play) (frame : List ℕ) → Accepts (Take 1) old new (reply.Frame frame) → Written out0 out1 old → Stopped out1 out2 frame → FailsAt out0 out2 new
+frame_stopped out0 out1 out2 old new frame accepts written stopped = record {
+  stopped = subst (λ (bytes : List ℕ). Stopped out0 out2 bytes) (sym (take_hands old new frame accepts)) (stopped_later out0 out1 out2 (output_of old) frame written stopped);
+  before = old.journal;
+  taken =
+      ap (λ (p : Play). p.journal) accepts.does
+      ∙ ap (λ (moment : ℕ). old.journal ++ record { moment = moment; act = Take 1 } ∷ []) (sym (ap (λ (p : Play). p.clock) accepts.does));
+}
 
 -- where no frame was handed out, what was written stands
 pub written_same : (out0 out1 : Output) (old new : Play) → output_of new ≡ output_of old → Written out0 out1 old → Written out0 out1 new
@@ -45,7 +50,7 @@ stopped_same out0 out1 old new WriteFault same unwritten written = absurd (unwri
 
 -- a Take for each frame that waited is to be entered
 pub taken_first : (start : Play) → repeated (length (waiting_for (switch_of start) 1) - 0) (entered (Take 1)) start ≡ all_taken start
-unfolding all_taken
+unfolding all_taken_as
 taken_first start = ap (λ n. repeated n (entered (Take 1)) start) (none_done (length (waiting_for (switch_of start) 1)))
   where
     none_done : (n : ℕ) → n - 0 ≡ n

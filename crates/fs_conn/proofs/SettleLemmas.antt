@@ -12,7 +12,7 @@ use Rattle.fs_machine.proofs.OwedLaws as owed_laws
 use Rattle.fs_conn.specs.declared.end.End.TheVariants.{Runaway}
 use Rattle.fs_conn.specs.declared.stop.Stop.{Stop}
 use Rattle.fs_conn.specs.declared.stop.Stop.TheVariants.{Over}
-use Rattle.fs_conn.specs.Play.{Play, switch_of, is_over, ended, entered, repeated, worked_by, next_actor, worked_once, stopped_by, stopped, settled, waited_until, waited_once, waited}
+use Rattle.fs_conn.specs.Play.{Play, switch_of, is_over, ended, entered, repeated, worked_by, next_actor, worked_once, stopped_by, stopped, settled, waited_until, waited_once, waited, settled_as, waited_as}
 use Rattle.fs_conn.specs.Steps.{Halts, Enters, Works, act_of}
 use Rattle.fs_conn.proofs.PlayLemmas.{goes_stopped, goes_worked_once, goes_all_waited}
 use Rattle.fs_conn.proofs.StepLemmas.{halts_on, does_enters, works_enters}
@@ -68,20 +68,20 @@ is_not_some (Some act) is = absurd (cc)
 
 -- nothing is due any more
 pub settled_rest : (left : ℕ) (start now : Play) → act_of (next_actor now) ≡ None → repeated left worked_once now ≡ repeated 100000 worked_once start → now ≡ settled start
-unfolding settled
+unfolding settled_as
 settled_rest left start now none reaches =
     sym (ap stopped (sym reaches) ∙ ap stopped (repeated_none left worked_once now (worked_none (next_actor now) now none)) ∙ stopped_none (next_actor now) now none)
 
 -- something is due still
 pub settled_runs : (start now : Play) → is_over now ≡ false → is_some (act_of (next_actor now)) ≡ true → now ≡ repeated 100000 worked_once start → Halts (Over (Runaway 100000)) now (settled start)
-unfolding settled
+unfolding settled_as
 settled_runs start now goes_on is reaches =
     (refl, ap stopped (sym reaches) ∙ stopped_act (next_actor now) now is ∙ ap (λ b. cond b now (record now { end = Some (Runaway 100000) })) goes_on)
 
 -- an entry was not made
 pub settled_stops : (done : ℕ) (act : Act) (start now next : Play) (stop : Stop) → is_over now ≡ false → act_of (next_actor now) ≡ Some act → done < 100000 →
     repeated (100000 - done) worked_once now ≡ repeated 100000 worked_once start → Enters act now next (Err stop) → Halts stop next (settled start)
-unfolding settled
+unfolding settled_as
 settled_stops done act start now next stop goes_on is some reaches enters =
     let halts = subst (λ (p : Play). Halts stop next p) (sym (worked_act (next_actor now) act now is)) (does_enters act now next (Err stop) goes_on enters) in
     halts_on stopped goes_stopped stop next (repeated 100000 worked_once start)
@@ -96,7 +96,7 @@ pub record Awaits (start now : Play) : Type 0 where
   pub reaches : repeated rounds waited_once now ≡ waited start
 
 pub awaits_first : (start : Play) → Awaits start start
-unfolding waited
+unfolding waited_as
 awaits_first start = record { rounds = 2 ^ 64; enough = omega arith; reaches = refl }
 
 waited_by : (p : Play) → is_over p ≡ false → owes (switch_of p) 1 ≡ true → waited_once p ≡ waited_until (next_actor p) p

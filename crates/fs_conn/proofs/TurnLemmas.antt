@@ -12,7 +12,7 @@ use Rattle.fs_ports.proofs.Sides.{reads_both, reads_nothing, writes_nothing}
 use Rattle.fs_frame.specs.Block.{IsBlock, too_long}
 use Rattle.fs_frame.specs.Blocks.{HasNoBlock, blocks_of, rest_of}
 use Rattle.fs_frame.specs.Stream.{Stream, fresh, fed_with}
-use Rattle.fs_frame.specs.Next.{HandsOut, HandsOutNothing}
+use Rattle.fs_frame.specs.Next.{HandsOut}
 use Rattle.fs_frame.proofs.BlockLaws.{AllByRecursion-append, blocks_of-append, rest_of-append, blocks_of-no_block, rest_of-no_block, front_of-no_block}
 use Rattle.fs_state.specs.declared.conn.Conn.{Conn}
 use Rattle.fs_state.specs.declared.conn.Phase.{Phase}
@@ -31,7 +31,7 @@ use Rattle.fs_conn.specs.declared.end.End.{End}
 use Rattle.fs_conn.specs.declared.end.End.TheVariants.{Exit, AuthRefused, Eof}
 use Rattle.fs_conn.specs.declared.stop.Stop.{Stop}
 use Rattle.fs_conn.specs.declared.stop.Stop.TheVariants.{OutOfMemory, WriteFault}
-use Rattle.fs_conn.specs.Play.{Play, switch_of, output_of, begun, is_over, ended, entered, all_taken, followed, acted, reads_on, takes_commands, commanded, all_commanded, opened, input_ended, conversed, closed, end_by, farewell, end_behind, played}
+use Rattle.fs_conn.specs.Play.{Play, switch_of, output_of, begun, is_over, ended, entered, all_taken, followed, acted, reads_on, takes_commands, commanded, all_commanded, opened, input_ended, conversed, closed, end_by, farewell, end_behind, played, played_as}
 use Rattle.fs_conn.specs.Steps.{spent, Begins, Halts, Costs, Enters, Written, StoppedBy}
 use Rattle.fs_conn.specs.Turns.{HasRead, Stands, is_told, Ends, Concludes, Stops, work_left}
 use Rattle.fs_conn.proofs.PlayLemmas.{begins_self, begins_trans, Goes, goes_entered, goes_ended, goes_all_taken, goes_followed, goes_all_commanded, goes_closed}
@@ -45,7 +45,7 @@ abbrev pub concluded : List ℕ → Bool → Play → Play
 concluded input read_failed p = ended (end_behind (farewell p) (too_long (rest_of input)) read_failed) (closed p)
 
 pub played_is : (config : Configuration) (input : List ℕ) (read_failed : Bool) → concluded input read_failed (conversed config input) ≡ played config input read_failed
-unfolding played
+unfolding played_as
 played_is config input read_failed = refl
 
 pub goes_concluded : (input : List ℕ) (read_failed : Bool) → Goes (concluded input read_failed)

@@ -6,7 +6,7 @@ use Rattle.fs_machine.specs.declared.due.DueActor.{DueActor}
 use Rattle.fs_machine.specs.declared.due.DueActor.TheVariants as actor
 use Rattle.fs_machine.specs.declared.entry.Entry.{Entry}
 use Rattle.fs_machine.specs.declared.entry.Act.{Act}
-use Rattle.fs_machine.specs.declared.entry.Act.TheVariants.{Work, Job}
+use Rattle.fs_machine.specs.declared.entry.Act.TheVariants.{Take, Work, Job}
 use Rattle.fs_machine.specs.declared.reply.Reply.{Reply}
 use Rattle.fs_machine.specs.Step.{step, refusal_of}
 use Rattle.fs_machine.specs.Runs.{View}
@@ -109,11 +109,17 @@ pub record Works (old new : Play) : Type 0 where
 abbrev pub Written : Output → Output → Play → Type 0
 Written out0 out1 p = Writes out0 out1 (output_of p)
 
--- or the last of these writes failed
+-- or the last of these writes failed, just behind the Take of its frame at the clock's moment
+pub record FailsAt (out0 out1 : Output) (p : Play) : Type 0 where
+  pub stopped : Stopped out0 out1 (output_of p)
+  pub before : List Entry
+  pub taken : p.journal ≡ before ++ entry_of (Take 1) p ∷ []
+
+-- what was written by a step that stopped
 abbrev pub StoppedBy : Stop → Output → Output → Play → Type 0
 StoppedBy (Over end) out0 out1 p = Written out0 out1 p
 StoppedBy OutOfMemory out0 out1 p = Written out0 out1 p
-StoppedBy WriteFault out0 out1 p = Stopped out0 out1 (output_of p)
+StoppedBy WriteFault out0 out1 p = FailsAt out0 out1 p
 
 -- what a step wrote
 abbrev pub Sends : {A : Type 0} → Output → Output → Play → Result A Stop → Type 0

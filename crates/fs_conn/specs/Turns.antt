@@ -1,5 +1,5 @@
 -- What stands of a played connection from turn to turn, and at its end.
-use Rattle.std.specs.Prelude.{◌≡◌, ℕ, ◌-◌, ◌*◌, ◌+◌, ◌<◌, Bool, true, false, List, [], ◌∷◌, ◌++◌, length, None, Some, Result, Ok, Err, ◌⊎◌, if◌then◌else◌}
+use Rattle.std.specs.Prelude.{◌≡◌, ℕ, ◌-◌, ◌*◌, ◌+◌, ◌<◌, Bool, true, false, List, [], ◌∷◌, ◌++◌, length, Option, None, Some, Result, Ok, Err, ◌⊎◌, if◌then◌else◌}
 use Rattle.std.specs.List.{AllByRecursion, concat}
 use Rattle.std.specs.Io.KnownBytes.{IsAtEnd}
 use Rattle.fs_text.specs.declared.memory.Memory.{Memory as NoMemory}
@@ -11,13 +11,15 @@ use Rattle.fs_frame.specs.Blocks.{rest_of}
 use Rattle.fs_frame.specs.Stream.{Stream, fed_with}
 use Rattle.fs_state.specs.Switch.{empty}
 use Rattle.fs_machine.specs.declared.entry.Entry.{Entry}
-use Rattle.fs_machine.specs.declared.entry.Act.TheVariants.{Close}
+use Rattle.fs_machine.specs.declared.entry.Act.TheVariants.{Take, Close}
 use Rattle.fs_machine.specs.declared.entry.Closing.TheVariants.{Failed}
+use Rattle.fs_machine.specs.declared.refusal.Refusal.{Refusal}
 use Rattle.fs_machine.specs.Step.{refusal_of}
 use Rattle.fs_machine.specs.Runs.{run_from}
 use Rattle.fs_conn.specs.declared.end.End.{End}
 use Rattle.fs_conn.specs.declared.end.End.TheVariants as ends
 use Rattle.fs_conn.specs.declared.stop.Stop.{Stop}
+use Rattle.fs_conn.specs.declared.stop.Stop.TheVariants.{Over, OutOfMemory, WriteFault}
 use Rattle.fs_conn.specs.declared.reading.Filled.{Filled}
 use Rattle.fs_conn.specs.declared.reading.Filled.TheVariants.{More, AtEnd, ReadFailed}
 use Rattle.fs_conn.specs.declared.conversation.Turn.{Turn}
@@ -141,26 +143,46 @@ pub record LacksMemory (config : Configuration) (in0 : Input) (out0 : Output) (i
   pub breaks : Breaks config in0 in1 journal
   pub written : Writes out0 out1 (bytes_handed config journal)
 
--- the connection was closed as Failed at this moment
+-- a frame is taken, and the connection is closed as Failed, at this moment
+abbrev pub taken_at : ℕ → Entry
+taken_at moment = record { moment = moment; act = Take 1 }
+
 abbrev pub failed_at : ℕ → Entry
 failed_at moment = record { moment = moment; act = Close 1 Failed }
 
--- behind these entries that was not refused
-pub record ClosesFailed (config : Configuration) (before journal : List Entry) : Type 0 where
-  pub moment : ℕ
-  pub defined : refusal_of (run_from (empty config) before) (failed_at moment) ≡ None
-  pub journal_is : journal ≡ before ++ failed_at moment ∷ []
+-- the last of these entries took a frame at this moment, and the write of that failed
+pub record Fails (config : Configuration) (in0 : Input) (out0 : Output) (in1 : Input) (out1 : Output) (journal : List Entry) (moment : ℕ) : Type 0 where
+  pub breaks : Breaks config in0 in1 journal
+  pub stopped : Stopped out0 out1 (bytes_handed config journal)
+  pub earlier : List Entry
+  pub taken : journal ≡ earlier ++ taken_at moment ∷ []
 
--- the write of the last frame that was handed out failed, and the connection was closed as Failed, or that was refused
+-- memory was wanting before a write failed, or a write failed and then memory was wanting to close the connection
+abbrev pub WantsMemory : Configuration → Input → Output → Input → Output → List Entry → Type 0
+WantsMemory config in0 out0 in1 out1 journal = LacksMemory config in0 out0 in1 out1 journal ⊎ ((moment : ℕ) × Fails config in0 out0 in1 out1 journal moment)
+
+-- an entry stands behind the others where the definition does not refuse it
+abbrev pub unless_refused : Option Refusal → Entry → List Entry → List Entry
+unless_refused None entry before = before ++ entry ∷ []
+unless_refused (Some refusal) entry before = before
+
+-- a write failed, and the connection was closed as Failed at the moment at which its frame was taken, unless the definition refuses that
 pub record FailsToWrite (config : Configuration) (in0 : Input) (out0 : Output) (in1 : Input) (out1 : Output) (journal : List Entry) : Type 0 where
   pub before : List Entry
-  pub breaks : Breaks config in0 in1 before
-  pub stopped : Stopped out0 out1 (bytes_handed config before)
-  pub closes : (journal ≡ before) ⊎ ClosesFailed config before journal
+  pub moment : ℕ
+  pub fails : Fails config in0 out0 in1 out1 before moment
+  pub closes : journal ≡ unless_refused (refusal_of (run_from (empty config) before) (failed_at moment)) (failed_at moment) before
+
+-- how a play ends behind a write that failed, by what entering the closing came to
+abbrev pub fault_by : {A : Type 0} → Result A Stop → End
+fault_by (Ok done) = ends.WriteFault
+fault_by (Err (Over end)) = ends.WriteFault
+fault_by (Err OutOfMemory) = ends.Memory
+fault_by (Err WriteFault) = ends.WriteFault
 
 -- what a play did, by its end
 abbrev pub Plays : Configuration → Input → Output → Input → Output → List Entry → End → Type 0
-Plays config in0 out0 in1 out1 journal ends.Memory = LacksMemory config in0 out0 in1 out1 journal
+Plays config in0 out0 in1 out1 journal ends.Memory = WantsMemory config in0 out0 in1 out1 journal
 Plays config in0 out0 in1 out1 journal ends.WriteFault = FailsToWrite config in0 out0 in1 out1 journal
 Plays config in0 out0 in1 out1 journal ends.Exit = Finishes config in0 out0 in1 out1 ends.Exit journal
 Plays config in0 out0 in1 out1 journal ends.Eof = Finishes config in0 out0 in1 out1 ends.Eof journal

@@ -7,7 +7,7 @@ ghost use Rattle.fs_machine.specs.Runs.{state_of};
 ghost use Rattle.fs_machine.specs.Step as step;
 ghost use Rattle.fs_conn.specs.Play.{closed, input_ended, end_by};
 ghost use Rattle.fs_conn.specs.Steps.{play_of, Does, Written, Sends};
-ghost use Rattle.fs_conn.specs.Turns.{Stands, Turns, Falls, OnGoOn, Converses, Plays};
+ghost use Rattle.fs_conn.specs.Turns.{Stands, Turns, Falls, OnGoOn, Converses, Plays, fault_by};
 
 use crate::end::End;
 use crate::entering::{CONN, arrive, command, enter};
@@ -15,7 +15,7 @@ use crate::reading::{Filled, fill};
 use crate::sending::{follow, send_frames};
 use crate::stop::Stop;
 use fs_frame::{Blocks, Next};
-use fs_machine::{Act, Closing, Machine};
+use fs_machine::{Act, Closing, Machine, Reply};
 use fs_ports::Link;
 use fs_state::{Parting, Phase};
 use std::alloc::Global;
@@ -46,10 +46,19 @@ pub fn play<L: Link>(alloc: Global, machine: &mut Machine, link: &mut L) -> End
         Stop::OutOfMemory => End::Memory,
         Stop::WriteFault => {
             let how = Closing::Failed;
-            // Where this entry is refused, the write fault is answered all the same.
-            let _ = enter(machine, clock, Act::Close { conn: CONN, how });
-            End::WriteFault
+            let closing = enter(machine, clock, Act::Close { conn: CONN, how });
+            fault_end(&closing)
         }
+    }
+}
+
+// How a play ends behind a write that failed: by that too where the closing is refused, but not where memory was wanting for it.
+fn fault_end(closing: &Result<Option<Reply>, Stop>) -> End
+    ensures { result ≡ fault_by closing.now }
+{
+    match closing {
+        Ok(_) | Err(Stop::Over(_) | Stop::WriteFault) => End::WriteFault,
+        Err(Stop::OutOfMemory) => End::Memory,
     }
 }
 

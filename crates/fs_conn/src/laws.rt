@@ -1,15 +1,19 @@
 //! What holds of every play. These functions do nothing: each stands for its contract.
 
-ghost use Rattle.std.specs.Prelude.{◌≡◌, ℕ, ◌≤◌, Bool, false, List, ◌++◌, Some};
+ghost use Rattle.std.specs.Prelude.{◌≡◌, ℕ, ◌≤◌, Bool, false, List, [], ◌∷◌, ◌++◌, Some};
 ghost use Rattle.std.specs.List.{concat};
+ghost use Rattle.fs_doc.specs.Limits.{IsWithin};
 ghost use Rattle.fs_doc.specs.Reading.{Configuration};
 ghost use Rattle.fs_frame.specs.Block.{too_long};
 ghost use Rattle.fs_frame.specs.Blocks.{blocks_of, rest_of};
 ghost use Rattle.fs_state.specs.Switch.{empty};
+ghost use Rattle.fs_machine.specs.declared.entry.Entry.{Entry};
+ghost use Rattle.fs_machine.specs.declared.entry.Act.TheVariants.{Close};
+ghost use Rattle.fs_machine.specs.declared.entry.Closing.TheVariants.{Sent};
 ghost use Rattle.fs_machine.specs.Runs.{IsRunFrom};
 ghost use Rattle.fs_machine.specs.Frames.{commands_of, frames_from};
 ghost use Rattle.fs_conn.specs.declared.end.End.{End};
-ghost use Rattle.fs_conn.specs.Play.{switch_of, bytes_handed, played};
+ghost use Rattle.fs_conn.specs.Play.{switch_of, bytes_handed, by_room, played_as, played};
 ghost use Rattle.fs_conn.specs.Steps.{is_early};
 ghost use Rattle.fs_conn.specs.Ends.{HasCause};
 
@@ -42,4 +46,18 @@ pub fn hands_out_its_frames()
     ensures all { (config : Configuration) (input : List ℕ) (read_failed : Bool) (end : End) → config.settings.journal_limit ≤ 1073741824
         → (played config input read_failed).end ≡ Some end → is_early end ≡ false
         → bytes_handed config (played config input read_failed).journal ≡ concat (frames_from 1 (empty config) (played config input read_failed).journal) }
+{}
+
+/// A play that comes to its end with its connection, and neither by a full journal nor since it ran away, ends its journal with the
+/// closing of that connection, of which all was sent.
+pub fn closes_at_its_end()
+    ensures { (config : Configuration) (input : List ℕ) (read_failed : Bool) (end : End) → IsWithin config → (played config input read_failed).end ≡ Some end
+        → is_early end ≡ false → (before : List Entry) × (moment : ℕ)
+        × ((played config input read_failed).journal ≡ before ++ record { moment = moment; act = Close 1 Sent } ∷ []) }
+{}
+
+/// No entry that a play tries is refused but for a full journal: judged by the room in the journal alone, so that each is entered until
+/// the journal is full, which ends all, the entries make the same play. Each configuration keeps its limits.
+pub fn refuses_only_when_full()
+    ensures { (config : Configuration) (input : List ℕ) (read_failed : Bool) → IsWithin config → played config input read_failed ≡ played_as by_room config input read_failed }
 {}

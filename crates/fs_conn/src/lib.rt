@@ -14,4 +14,7 @@ mod tests;
 
 pub use conversation::play;
 pub use end::End;
-pub use laws::{ends_for_a_cause, enters_commands_once, hands_out_its_frames, plays_a_run};
+pub use laws::{
+    closes_at_its_end, ends_for_a_cause, enters_commands_once, hands_out_its_frames, plays_a_run,
+    refuses_only_when_full,
+};

@@ -11,7 +11,7 @@ use Rattle.fs_api.specs.declared.api.Api.{Api}
 use Rattle.fs_api.specs.declared.api.Api.TheVariants as api
 use Rattle.fs_api.specs.declared.api.Winner.{Winner}
 use Rattle.fs_api.specs.declared.api.Winner.TheVariants.{App, Route}
-use Rattle.fs_api.specs.Readings.{expanded_api_of}
+use Rattle.fs_api.specs.Readings.{api_of, expanded_api_of}
 use Rattle.fs_chan.specs.declared.chan.Chan.{Chan}
 use Rattle.fs_chan.specs.Moments.{moment_after}
 use Rattle.fs_orig.specs.declared.endpoint.Endpoint.{Endpoint}
@@ -270,7 +270,7 @@ commanded_in_acts phase.Fresh conn (command.Api text) s = unseen s (replied conn
 commanded_in_acts phase.Fresh conn command.Unknown s = unseen s (replied conn not_found s) refl
 commanded_in_acts phase.Ready conn (command.Auth given) s = unseen s (replied conn not_found s) refl
 commanded_in_acts phase.Ready conn command.Exit s = dismissed_acts conn parting.Exit bye s
-commanded_in_acts phase.Ready conn (command.Api text) s = responded_acts conn s (done_by conn (expanded_api_of text) s) (done_acts conn (expanded_api_of text) s)
+commanded_in_acts phase.Ready conn (command.Api text) s = responded_acts conn s (done_by conn (api_of text) s) (done_acts conn (api_of text) s)
 commanded_in_acts phase.Ready conn command.Unknown s = unseen s (replied conn not_found s) refl
 commanded_in_acts phase.Ending conn c s = unseen s s refl
 commanded_in_acts phase.Closed conn c s = unseen s s refl

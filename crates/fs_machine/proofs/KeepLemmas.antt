@@ -11,7 +11,7 @@ use Rattle.fs_vars.specs.Expansion.{expanded}
 use Rattle.fs_api.specs.declared.api.Api.{Api}
 use Rattle.fs_api.specs.declared.api.Api.TheVariants as api
 use Rattle.fs_api.specs.declared.api.Winner.{Winner}
-use Rattle.fs_api.specs.Readings.{expanded_api_of}
+use Rattle.fs_api.specs.Readings.{api_of, expanded_api_of}
 use Rattle.fs_chan.specs.Moments.{moment_after}
 use Rattle.fs_orig.specs.declared.leg.OrigLeg.{OrigLeg}
 use Rattle.fs_orig.specs.declared.orig.Orig.{Orig}
@@ -332,7 +332,7 @@ commanded_in_keeps Fresh conn (spec.Api text) s = replied_keeps conn not_found s
 commanded_in_keeps Fresh conn spec.Unknown s = replied_keeps conn not_found s
 commanded_in_keeps Ready conn (spec.Auth given) s = replied_keeps conn not_found s
 commanded_in_keeps Ready conn spec.Exit s = dismissed_keeps conn parting.Exit bye s
-commanded_in_keeps Ready conn (spec.Api text) s = responded_keeps conn (done_by conn (expanded_api_of text) s) s (done_by_keeps conn (expanded_api_of text) s)
+commanded_in_keeps Ready conn (spec.Api text) s = responded_keeps conn (done_by conn (api_of text) s) s (done_by_keeps conn (api_of text) s)
 commanded_in_keeps Ready conn spec.Unknown s = replied_keeps conn not_found s
 commanded_in_keeps Ending conn command s = keeps_refl s
 commanded_in_keeps Closed conn command s = keeps_refl s

@@ -23,6 +23,8 @@ pub mod OwedLemmas
 pub mod OwedJobs
 pub mod OwedActs
 pub mod OwedLaws
+pub mod DueLaws
+pub mod CloseLaws
 pub mod PartnerLemmas
 pub mod IdentifierLemmas
 pub mod HeldLemmas

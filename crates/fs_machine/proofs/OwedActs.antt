@@ -12,7 +12,7 @@ use Rattle.fs_frame.specs.Block.{line_of}
 use Rattle.fs_api.specs.declared.api.Api.{Api}
 use Rattle.fs_api.specs.declared.api.Api.TheVariants as api
 use Rattle.fs_api.specs.declared.api.Winner.{Winner}
-use Rattle.fs_api.specs.Readings.{expanded_api_of}
+use Rattle.fs_api.specs.Readings.{api_of, expanded_api_of}
 use Rattle.fs_orig.specs.Endpoints.{is_one_leg}
 use Rattle.fs_places.specs.Places.{least_free}
 use Rattle.fs_state.specs.declared.conn.Conn.{Conn}
@@ -151,10 +151,10 @@ goes_commanded : (conn : ℕ) (command : spec.Command) (s : Switch) → reads (p
 unfolding commanded
 goes_commanded conn command s reading none few h = by (phase_at s conn) refl command
   where
-    responds : (text : Text) → Goes (books_of s) (books_of (responded conn (done_by conn (expanded_api_of text) s)))
+    responds : (text : Text) → Goes (books_of s) (books_of (responded conn (done_by conn (api_of text) s)))
     responds text =
         let giver = may_owe s conn reading none in
-        subst (λ (b : Books). Goes (books_of s) b) (sym (kept_responded conn (done_by conn (expanded_api_of text) s))) (goes_done_by (expanded_api_of text) s conn giver.0 giver.1 few h)
+        subst (λ (b : Books). Goes (books_of s) b) (sym (kept_responded conn (done_by conn (api_of text) s))) (goes_done_by (api_of text) s conn giver.0 giver.1 few h)
 
     by : (at : Phase) → phase_at s conn ≡ at → (given : spec.Command) → Goes (books_of s) (books_of (commanded_in at conn given s))
     by phase.Fresh is (spec.Auth password) = goes_offered conn password s is h

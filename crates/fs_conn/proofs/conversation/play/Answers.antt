@@ -1,6 +1,6 @@
-use Rattle.std.proofs.Common.{◌∙◌}
+use Rattle.std.proofs.Common.{refl, sym, subst, ◌∙◌}
 use Rattle.fs_conn.specs.Steps.{play_of}
-use Rattle.fs_conn.proofs.EndLemmas.{concludes_over, config_concludes, plays_end, config_memory, config_write, lacks_memory, fails_to_write, config_enters}
+use Rattle.fs_conn.proofs.EndLemmas.{concludes_over, config_concludes, plays_end, config_memory, config_write, lacks_memory, plays_failed, config_enters}
 use Rattle.fs_conn.proofs.conversation.play.Goals as goal
 
 pub returns-in-Ok : goal.returns-in-Ok
@@ -29,8 +29,8 @@ returns-in-OutOfMemory g c =
 pub returns-in-WriteFault : goal.returns-in-WriteFault
 returns-in-WriteFault g c =
     let p = play_of c.converse.new.machine c.converse.new.clock in
-    let new = play_of c.enter.new.machine c.converse.new.clock in
+    let new = play_of c.enter-closing.new.machine c.converse.new.clock in
     let stops = rw c.in-WriteFault.is at c.in-Err.ensures in record {
-      config = config_enters p new _ c.enter.ensures ∙ config_write c.args.machine.now.config _ _ _ _ p stops;
-      plays = fails_to_write c.args.machine.now.config _ _ _ _ p new _ stops c.enter.ensures;
+      config = config_enters p new _ c.enter-closing.ensures ∙ config_write c.args.machine.now.config _ _ _ _ p stops;
+      plays = rw c.fault_end.ensures (plays_failed c.args.machine.now.config _ _ _ _ p new _ refl stops c.enter-closing.ensures);
     }

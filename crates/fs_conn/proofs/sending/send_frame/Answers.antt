@@ -16,5 +16,4 @@ returns-in-All-clause-sends g c =
 pub returns-clause-sends : goal.returns-clause-sends
 returns-clause-sends g c =
     let accepts = rw c.in-Frame.is at (rw c.in-Some.is at c.in_ok-reply.ensures) in
-    let hands = take_hands (play_of c.args.machine.now c.args.clock) (play_of c.enter.new.machine c.args.clock) c.in-Frame.frame accepts in
-    λ out0 written. frame_stopped out0 _ _ (play_of c.args.machine.now c.args.clock) (play_of c.enter.new.machine c.args.clock) c.in-Frame.frame hands written (rw c.as_bytes.ensures at c.in-Failed.ensures.output)
+    λ out0 written. frame_stopped out0 _ _ (play_of c.args.machine.now c.args.clock) (play_of c.enter.new.machine c.args.clock) c.in-Frame.frame accepts written (rw c.as_bytes.ensures at c.in-Failed.ensures.output)

@@ -1,6 +1,9 @@
-use Rattle.std.proofs.Common.{◌≡◌, ◌+◌, ◌^◌, min, sym, ap, subst, ◌∙◌}
+use Rattle.std.proofs.Common.{◌≡◌, ◌+◌, ◌-◌, ◌^◌, min, [], ◌∷◌, ◌++◌, sym, ap, subst, ◌∙◌}
 use Rattle.fs_state.specs.Switch.{empty, closed}
 use Rattle.fs_state.specs.Drafts.{after}
+use Rattle.fs_state.specs.declared.delta.Delta.{Delta}
+use Rattle.fs_machine.specs.declared.entry.Entry.{Entry}
+use Rattle.fs_machine.specs.declared.reply.Reply.{Reply}
 use Rattle.fs_machine.specs.Entries.{cost_of}
 use Rattle.fs_machine.specs.Runs.{View, state_of, IsPrepared}
 use Rattle.fs_machine.proofs.RunLemmas.{stands_more, cost_more}
@@ -10,19 +13,27 @@ use Rattle.fs_machine.proofs.machine.Machine.apply.Goals as goal
 pub invariant_of-self : goal.invariant_of-self
 invariant_of-self c =
     let entry = c.args.change.entry in
-    let added = c.add.ensures in
-    let done = c.apply.ensures ∙ ap (λ cost. closed cost (after c.self.inside.core c.args.change.delta)) c.cost.ensures.exact in
+    let kept = c.self.inside.core in
+    let entries = c.self.inside.journal.entries in
+    let parts = c.into_parts-entry.ensures in
+    let added = c.add.ensures ∙ ap (λ (t : Entry × Delta × Reply). entries ++ t.0 ∷ []) parts in
+    let priced = c.apply.ensures ∙ ap (λ cost. closed cost (after kept c.into_parts-entry.result.1)) c.cost.ensures.exact in
+    let done = priced ∙ ap (λ (t : Entry × Delta × Reply). closed (cost_of t.0.act) (after kept t.1)) parts in
     let P : View → Type 0 = λ view. IsPrepared (state_of view) entry c.args.change.delta c.args.change.reply in
     rw (done, added)
-    (stands_more c.self.inside.core c.self.inside.journal.entries entry c.args.change.delta c.args.change.reply c.self.invariant.0 (subst P (sym c.self.view_is) c.requires.prepared), c.self.invariant.1, c.self.invariant.2)
+    (stands_more kept entries entry c.args.change.delta c.args.change.reply c.self.invariant.0 (subst P (sym c.self.view_is) c.requires.prepared), c.self.invariant.1, c.self.invariant.2)
 
 pub returns-clause-cost : goal.returns-clause-cost
 returns-clause-cost c =
     let entry = c.args.change.entry in
-    let added = c.add.ensures in
-    let done = c.apply.ensures ∙ ap (λ cost. closed cost (after c.self.inside.core c.args.change.delta)) c.cost.ensures.exact in
+    let kept = c.self.inside.core in
+    let entries = c.self.inside.journal.entries in
+    let parts = c.into_parts-entry.ensures in
+    let added = c.add.ensures ∙ ap (λ (t : Entry × Delta × Reply). entries ++ t.0 ∷ []) parts in
+    let priced = c.apply.ensures ∙ ap (λ cost. closed cost (after kept c.into_parts-entry.result.1)) c.cost.ensures.exact in
+    let done = priced ∙ ap (λ (t : Entry × Delta × Reply). closed (cost_of t.0.act) (after kept t.1)) parts in
     let P : View → Type 0 = λ view. IsPrepared (state_of view) entry c.args.change.delta c.args.change.reply in
-    let cost = cost_more (empty c.self.inside.core.config) c.self.inside.journal.entries entry c.args.change.delta c.args.change.reply (subst P (sym c.self.view_is) c.requires.prepared) in
+    let cost = cost_more (empty kept.config) entries entry c.args.change.delta c.args.change.reply (subst P (sym c.self.view_is) c.requires.prepared) in
     let Q : View → Type 0 = λ view. (state_of (record {
       config = c.apply.new.self.config;
       journal = c.add.new.self.entries;

@@ -15,7 +15,7 @@ use Rattle.fs_plan.specs.declared.fault.PlanFault.{PlanFault}
 use Rattle.fs_plan.specs.declared.fault.PlanFault.TheVariants.{PatternRefused, PatternTooLarge, Memory}
 use Rattle.fs_conn.specs.Turns.{HasRead}
 use Rattle.fs_top.specs.Told.{Told, Asked, file_of, told_words, told_read, told_asked}
-use Rattle.fs_top.specs.Runs.{Does, completes, fails_to_write, lacks_memory, Completes, LacksMemory, RefusesPattern, IsBuilt, Ran, HasReadings, IsGiven, NoneRose, DoesAll}
+use Rattle.fs_top.specs.Runs.{Does, completes, fails_to_write, lacks_memory, fails_for_memory, Completes, LacksMemory, RefusesPattern, IsBuilt, Ran, HasReadings, IsGiven, NoneRose, DoesAll}
 
 -- what holds of each element holds of the one behind a front
 at_seam : {X : Type 0} (P : X → Type 0) (front : List X) (x : X) (back : List X) → All P (front ++ x ∷ back) → P x
@@ -59,6 +59,7 @@ written_whole : (told : Told) (in1 : Input) (out0 out1 : Output) (line : List �
 written_whole told in1 out0 out1 line status rose (completes h) = inl h
 written_whole told in1 out0 out1 line status rose (fails_to_write h) = absurd (rose h.stopped.faults)
 written_whole told in1 out0 out1 line status rose (lacks_memory h) = inr h
+written_whole told in1 out0 out1 line status rose (fails_for_memory h) = absurd (rose h.stopped.faults)
 
 -- what is told then
 told_given : (asked : Option Asked) (of : Asked) (file : Load) (bytes : List ℕ) (c : Configuration) (built : Option PlanFault) (input : List ℕ) (read_failed : Bool) →

@@ -28,7 +28,7 @@ use Rattle.fs_conn.specs.Turns.{HasRead, Plays, Finishes, Breaks}
 use Rattle.fs_conn.specs.Ends.{IsFullAt, HasCause}
 use Rattle.fs_conn.proofs.LawLemmas.{config_kept, ends_played, cause_played, bytes_begin}
 use Rattle.fs_top.specs.Told.{Told, Asked, Check, Hunt, Play, file_of, told_words, told_file, told_read, told_built, told_asked, told_play, told_text, refused, is_eof, line_of_end, status_of_end, usage_line, cannot_read_line, fault_line, pattern_line}
-use Rattle.fs_top.specs.Runs.{line_of, status_of, PlaysTo, Does, completes, fails_to_write, lacks_memory, DoesAs, Answers, IsBuiltOf, IsBuilt, OverConfig, OverBytes, is_memory, not_read, not_built, Runs, RefusesPattern, Ran, HasConfig, HasFault, HasRefusal, CountRose, FillsJournal, MeetsTooLong, RunsAway}
+use Rattle.fs_top.specs.Runs.{line_of, status_of, PlaysTo, Does, completes, fails_to_write, lacks_memory, fails_for_memory, DoesAs, Answers, IsBuiltOf, IsBuilt, OverConfig, OverBytes, is_memory, not_read, not_built, Runs, RefusesPattern, Ran, HasConfig, HasFault, HasRefusal, CountRose, FillsJournal, MeetsTooLong, RunsAway}
 use Rattle.fs_top.specs.declared.outcome.Outcome.{Outcome}
 use Rattle.fs_top.specs.declared.outcome.Outcome.TheVariants.{Usage, CannotRead, BadDocument, BadPattern, Printed, Ended}
 
@@ -107,6 +107,13 @@ begins_output : (c : Configuration) (in0 in1 : Input) (journal : List Entry) (br
     bytes_handed c (played c breaks.input breaks.read_failed).journal ≡ bytes_handed c journal ++ concat (handed_from 1 (run_from (empty c) journal) breaks.more)
 begins_output c in0 in1 journal breaks = bytes_begin c (played c breaks.input breaks.read_failed).journal journal breaks.more breaks.split
 
+-- where a write of it failed, a write of the output did
+stopped_output : (c : Configuration) (in0 in1 : Input) (out0 out1 : Output) (journal : List Entry) (breaks : Breaks c in0 in1 journal) → Stopped out0 out1 (bytes_handed c journal) →
+    Stopped out0 out1 (bytes_handed c (played c breaks.input breaks.read_failed).journal)
+stopped_output c in0 in1 out0 out1 journal breaks stopped =
+    subst (λ (bytes : List ℕ). Stopped out0 out1 bytes) (sym (begins_output c in0 in1 journal breaks))
+    (stopped_sooner out0 out1 (bytes_handed c journal) (concat (handed_from 1 (run_from (empty c) journal) breaks.more)) stopped)
+
 -- the connection was played
 answers_ended : (c : Configuration) (file : List ℕ) (in0 in1 : Input) (out0 out1 : Output) (end : End) (journal : List Entry) → Plays c in0 out0 in1 out1 journal end →
     Answers (tells c) (Some (Play file)) in0 in1 out0 out1 (Ended end)
@@ -117,7 +124,7 @@ answers_ended c file in0 in1 out0 out1 ends.ReadFault journal plays = answers_fi
 answers_ended c file in0 in1 out0 out1 (ends.TooLong len) journal plays = answers_finished c file in0 in1 out0 out1 (ends.TooLong len) journal plays
 answers_ended c file in0 in1 out0 out1 (ends.JournalFull cost limit) journal plays = answers_finished c file in0 in1 out0 out1 (ends.JournalFull cost limit) journal plays
 answers_ended c file in0 in1 out0 out1 (ends.Runaway count) journal plays = answers_finished c file in0 in1 out0 out1 (ends.Runaway count) journal plays
-answers_ended c file in0 in1 out0 out1 ends.Memory journal plays = let b = plays.breaks in record {
+answers_ended c file in0 in1 out0 out1 ends.Memory journal (inl plays) = let b = plays.breaks in record {
   input = b.input;
   read_failed = b.read_failed;
   has_read = b.has_read;
@@ -131,17 +138,19 @@ answers_ended c file in0 in1 out0 out1 ends.Memory journal plays = let b = plays
     status_is = refl;
   });
 }
-answers_ended c file in0 in1 out0 out1 ends.WriteFault journal plays = let b = plays.breaks in record {
+answers_ended c file in0 in1 out0 out1 ends.Memory journal (inr plays) = let b = plays.1.breaks in record {
   input = b.input;
   read_failed = b.read_failed;
   has_read = b.has_read;
   quiet = λ none. absurd none;
-  does = fails_to_write (record {
-    stopped = subst (λ (bytes : List ℕ). Stopped out0 out1 bytes) (sym (begins_output c in0 in1 plays.before b))
-        (stopped_sooner out0 out1 (bytes_handed c plays.before) (concat (handed_from 1 (run_from (empty c) plays.before) b.more)) plays.stopped);
-    line_is = refl;
-    status_is = refl;
-  });
+  does = fails_for_memory (record { stopped = stopped_output c in0 in1 out0 out1 journal b plays.1.stopped; line_is = refl; status_is = refl });
+}
+answers_ended c file in0 in1 out0 out1 ends.WriteFault journal plays = let b = plays.fails.breaks in record {
+  input = b.input;
+  read_failed = b.read_failed;
+  has_read = b.has_read;
+  quiet = λ none. absurd none;
+  does = fails_to_write (record { stopped = stopped_output c in0 in1 out0 out1 plays.before b plays.fails.stopped; line_is = refl; status_is = refl });
 }
 
 pub answers_played : (c : Configuration) (file : List ℕ) (in0 in1 : Input) (out0 out1 : Output) (outcome : Outcome) → PlaysTo c in0 out0 in1 out1 outcome →
@@ -157,10 +166,10 @@ answers_played c file in0 in1 out0 out1 (Ended end) plays = answers_ended c file
 pub plays_none : (c : Configuration) (in0 : Input) (out0 : Output) → PlaysTo c in0 out0 in0 out0 (Ended ends.Memory)
 plays_none c in0 out0 = (
   [],
-  record {
+  inl (record {
     breaks = record { input = []; read_failed = false; has_read = reads_none in0; more = (played c [] false).journal; split = refl };
     written = writes_nothing out0;
-  },
+  }),
 )
 
 -- ---- over a configuration
@@ -441,6 +450,7 @@ status-done : (told : Told) (in1 : Input) (out0 out1 : Output) (line : List ℕ)
 status-done told in1 out0 out1 line status (completes h) not_1 not_5 = h.status_is
 status-done told in1 out0 out1 line status (fails_to_write h) not_1 not_5 = absurd (not_5 h.status_is)
 status-done told in1 out0 out1 line status (lacks_memory h) not_1 not_5 = absurd (not_1 h.status_is)
+status-done told in1 out0 out1 line status (fails_for_memory h) not_1 not_5 = absurd (not_1 h.status_is)
 
 status-told : (asked : Option Asked) (next_load : List ℕ → Option Load) (counts0 counts1 : LoadCounts) (sizes0 sizes1 : ℕ) (in0 in1 : Input) (out0 out1 : Output) (outcome : Outcome)
     (runs : Runs asked next_load counts0 counts1 sizes0 sizes1 in0 in1 out0 out1 outcome) → status_of outcome ≢ 1 → status_of outcome ≢ 5 →
@@ -529,6 +539,7 @@ failed_write : (told : Told) (in1 : Input) (out0 out1 : Output) (line : List ℕ
 failed_write told in1 out0 out1 line status (completes h) five never = absurd (never (sym h.status_is ∙ five))
 failed_write told in1 out0 out1 line status (fails_to_write h) five never = h.stopped.faults
 failed_write told in1 out0 out1 line status (lacks_memory h) five never = let one : 1 ≡ 5 = sym h.status_is ∙ five in absurd (cc)
+failed_write told in1 out0 out1 line status (fails_for_memory h) five never = h.stopped.faults
 
 -- what status 5 shows
 pub cause_write : (asked : Option Asked) (next_load : List ℕ → Option Load) (counts0 counts1 : LoadCounts) (sizes0 sizes1 : ℕ) (in0 in1 : Input) (out0 out1 : Output) (outcome : Outcome) →

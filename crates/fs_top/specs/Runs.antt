@@ -74,11 +74,18 @@ pub record LacksMemory (told : Told) (out0 out1 : Output) (line : List ℕ) (sta
   pub line_is : line ≡ memory_line
   pub status_is : status ≡ 1
 
--- one of these three
+-- a write failed behind a front of the output, and then memory was wanting
+pub record FailsForMemory (told : Told) (out0 out1 : Output) (line : List ℕ) (status : ℕ) : Type 0 where
+  pub stopped : Stopped out0 out1 told.output
+  pub line_is : line ≡ memory_line
+  pub status_is : status ≡ 1
+
+-- one of these four
 pub data Does (told : Told) (in1 : Input) (out0 out1 : Output) (line : List ℕ) (status : ℕ) : Type 0 where
   completes : Completes told in1 out0 out1 line status → Does told in1 out0 out1 line status
   fails_to_write : FailsToWrite told out0 out1 line status → Does told in1 out0 out1 line status
   lacks_memory : LacksMemory told out0 out1 line status → Does told in1 out0 out1 line status
+  fails_for_memory : FailsForMemory told out0 out1 line status → Does told in1 out0 out1 line status
 
 -- the outcome is one of these
 abbrev pub DoesAs : Told → Input → Output → Output → Outcome → Type 0

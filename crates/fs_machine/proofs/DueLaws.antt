@@ -1,5 +1,5 @@
 -- Whoever has something to do is not refused it, and what is due later is due once its moment has come.
-use Rattle.std.proofs.Common.{◌≡◌, ◌≢◌, ℕ, zero, suc, ◌+◌, ◌-◌, ◌*◌, ◌^◌, ◌<◌, ◌≤◌, min, max, nat_le, leb, if◌then◌else◌, Bool, true, false, List, [], ◌∷◌, Option, None, Some, ◌⊎◌, inl, inr, refl, sym, ap, subst, ◌∙◌, arith}
+use Rattle.std.proofs.Common.{◌≡◌, ℕ, zero, suc, ◌+◌, ◌-◌, ◌*◌, ◌^◌, ◌<◌, ◌≤◌, min, max, leb, if◌then◌else◌, Bool, true, false, List, [], ◌∷◌, Option, None, Some, ◌⊎◌, inl, inr, refl, sym, ap, subst, ◌∙◌, arith}
 use Rattle.std.specs.Option.{option_and_then}
 use Rattle.std.proofs.lemmas.Bool.{both_ways, leb-true, leb-false, le-leb, ltb-false}
 use Rattle.std.proofs.lemmas.List.{length-map}
@@ -20,7 +20,7 @@ use Rattle.fs_places.specs.Places.{held_in, no_places}
 use Rattle.fs_state.specs.declared.job.Job.{Job}
 use Rattle.fs_state.specs.declared.job.JobWork.{JobWork}
 use Rattle.fs_state.specs.declared.job.JobWork.TheVariants.{Sleep, Originate}
-use Rattle.fs_state.specs.Switch.{Switch, empty, chan_at, orig_of, job_of, advanced}
+use Rattle.fs_state.specs.Switch.{Switch, empty, orig_of, job_of, advanced}
 use Rattle.fs_state.proofs.SlotLemmas.{no_places_length}
 use Rattle.fs_machine.specs.declared.due.DueActor.{DueActor}
 use Rattle.fs_machine.specs.declared.due.DueActor.TheVariants as actor
@@ -28,14 +28,14 @@ use Rattle.fs_machine.specs.declared.entry.Entry.{Entry}
 use Rattle.fs_machine.specs.declared.entry.Act.TheVariants.{Work, Job as Works}
 use Rattle.fs_machine.specs.declared.refusal.Refusal.TheVariants as refusal
 use Rattle.fs_machine.specs.Entries.{cost_of, is_full}
-use Rattle.fs_machine.specs.Due.{chan_due, slot_due, orig_due, work_due, job_due, is_now, later_of, is_due, due_slot, lesser, least_of, chan_moment, row_due, row_moment, number_where, due_number, due_job, first_chan_moment, first_job_moment, actor_or, later_or_never, due_among_all, next_due}
+use Rattle.fs_machine.specs.Due.{slot_due, orig_due, work_due, job_due, is_now, later_of, is_due, due_slot, lesser, least_of, chan_moment, row_moment, number_where, due_number, due_job, first_chan_moment, first_job_moment, actor_or, later_or_never, due_among_all, next_due}
 use Rattle.fs_machine.specs.Step.{acted, step, not_due, refused_act, refusal_of}
 use Rattle.fs_machine.specs.Runs.{run_from, IsRunFrom}
 use Rattle.fs_machine.proofs.TableLemmas.{nothing_there, something_there, same_there, one_there, none_held, HasRow, row_is, row_of_held, number_at, numbers_in, numbers_held, taken_in, one_if, taken_numbers, none_taken}
 use Rattle.fs_machine.proofs.RowLemmas.{place_found, none_found}
 use Rattle.fs_machine.proofs.DueLemmas.{next_to_come}
 use Rattle.fs_machine.proofs.FrameLemmas.{some_cost}
-use Rattle.fs_machine.proofs.OwedBooks.{Books, books_of, Numbers, trying_in, Sound, Goes, Few, Paid}
+use Rattle.fs_machine.proofs.OwedBooks.{books_of, Numbers, trying_in, Sound, Goes, Few}
 use Rattle.fs_machine.proofs.OwedActs.{not_refused, goes_acted}
 use Rattle.fs_machine.proofs.OwedLaws.{Holds}
 

@@ -1,8 +1,7 @@
 -- Whoever has something to do is not refused it, and what is due later is due once its moment has come.
-use Rattle.std.proofs.Common.{◌≡◌, ℕ, zero, suc, ◌+◌, ◌-◌, ◌*◌, ◌^◌, ◌<◌, ◌≤◌, min, max, leb, if◌then◌else◌, Bool, true, false, List, [], ◌∷◌, Option, None, Some, ◌⊎◌, inl, inr, refl, sym, ap, subst, ◌∙◌, arith}
+use Rattle.std.proofs.Common.{◌≡◌, ℕ, zero, suc, ◌-◌, ◌<◌, ◌≤◌, min, max, leb, if◌then◌else◌, Bool, true, false, List, [], ◌∷◌, Option, None, Some, ◌⊎◌, inl, inr, refl, sym, ap, subst, ◌∙◌, arith}
 use Rattle.std.specs.Option.{option_and_then}
-use Rattle.std.proofs.lemmas.Bool.{both_ways, leb-true, leb-false, le-leb, ltb-false}
-use Rattle.std.proofs.lemmas.List.{length-map}
+use Rattle.std.proofs.lemmas.Bool.{both_ways, leb-true, leb-false, le-leb}
 use Rattle.fs_chan.specs.declared.chan.Chan.{Chan}
 use Rattle.fs_chan.specs.declared.due.Due.{Due}
 use Rattle.fs_chan.specs.declared.due.Due.TheVariants.{Now, At}
@@ -16,28 +15,23 @@ use Rattle.fs_orig.specs.Meaning.{is_timeout}
 use Rattle.fs_orig.specs.Verdicts as verdicts
 use Rattle.fs_orig.proofs.VerdictLemmas.{then_expires}
 use Rattle.fs_places.specs.declared.numbered.Numbered.{Numbered}
-use Rattle.fs_places.specs.Places.{held_in, no_places}
+use Rattle.fs_places.specs.Places.{held_in}
 use Rattle.fs_state.specs.declared.job.Job.{Job}
 use Rattle.fs_state.specs.declared.job.JobWork.{JobWork}
 use Rattle.fs_state.specs.declared.job.JobWork.TheVariants.{Sleep, Originate}
 use Rattle.fs_state.specs.Switch.{Switch, empty, orig_of, job_of, advanced}
-use Rattle.fs_state.proofs.SlotLemmas.{no_places_length}
 use Rattle.fs_machine.specs.declared.due.DueActor.{DueActor}
 use Rattle.fs_machine.specs.declared.due.DueActor.TheVariants as actor
 use Rattle.fs_machine.specs.declared.entry.Entry.{Entry}
 use Rattle.fs_machine.specs.declared.entry.Act.TheVariants.{Work, Job as Works}
-use Rattle.fs_machine.specs.declared.refusal.Refusal.TheVariants as refusal
-use Rattle.fs_machine.specs.Entries.{cost_of, is_full}
 use Rattle.fs_machine.specs.Due.{slot_due, orig_due, work_due, job_due, is_now, later_of, is_due, due_slot, lesser, least_of, chan_moment, row_moment, number_where, due_number, due_job, first_chan_moment, first_job_moment, actor_or, later_or_never, due_among_all, next_due}
-use Rattle.fs_machine.specs.Step.{acted, step, not_due, refused_act, refusal_of}
+use Rattle.fs_machine.specs.Step.{not_due, refused_act}
 use Rattle.fs_machine.specs.Runs.{run_from, IsRunFrom}
-use Rattle.fs_machine.proofs.TableLemmas.{nothing_there, something_there, same_there, one_there, none_held, HasRow, row_is, row_of_held, number_at, numbers_in, numbers_held, taken_in, one_if, taken_numbers, none_taken}
+use Rattle.fs_machine.proofs.TableLemmas.{nothing_there, something_there, same_there}
 use Rattle.fs_machine.proofs.RowLemmas.{place_found, none_found}
 use Rattle.fs_machine.proofs.DueLemmas.{next_to_come}
-use Rattle.fs_machine.proofs.FrameLemmas.{some_cost}
-use Rattle.fs_machine.proofs.OwedBooks.{books_of, Numbers, trying_in, Sound, Goes, Few}
-use Rattle.fs_machine.proofs.OwedActs.{not_refused, goes_acted}
-use Rattle.fs_machine.proofs.OwedLaws.{Holds}
+use Rattle.fs_machine.proofs.OwedBooks.{books_of, Sound}
+use Rattle.fs_machine.proofs.OwedLaws.{Holds, holds_empty, holds_run, job_is_known}
 
 -- ---- jobs are known by their numbers
 
@@ -45,101 +39,8 @@ use Rattle.fs_machine.proofs.OwedLaws.{Holds}
 pub record AreKnown (s : Switch) : Type 0 where
   pub known : (place : ℕ) (row : Numbered Job) → held_in s.jobs place ≡ Some row → job_of s row.number ≡ Some row.held
 
--- at no place of an empty table stands a number
-no_number : (T : Type 0) (count place number : ℕ) → held_in (numbers_in (no_places {T = Numbered T} count)) place ≡ Some number → ⊥
-no_number T count place number is =
-    by (held_in (no_places {T = Numbered T} count) place) refl (sym (numbers_held (no_places {T = Numbered T} count) place) ∙ is)
-  where
-    by : (held : Option (Numbered T)) → held_in (no_places {T = Numbered T} count) place ≡ held → number_at held ≡ Some number → ⊥
-    by None at e = nothing_there number e
-    by (Some row) at e = none_held count place row at
-
-none_numbered : {T : Type 0} → (count : ℕ) → Numbers (no_places {T = Numbered T} count) 0
-none_numbered count = record {
-  apart = λ p q a c is_a is_c e. absurd (none_held count p a is_a);
-  within = λ p a is. absurd (none_held count p a is);
-}
-
-none_tried : taken_in (numbers_in (no_places {T = Numbered Orig} 1280)) ≤ trying_in (no_places {T = Numbered Job} 1024)
-none_tried =
-    let same : taken_in (numbers_in (no_places {T = Numbered Orig} 1280)) ≡ taken_in (no_places {T = Numbered Orig} 1280) = taken_numbers (no_places {T = Numbered Orig} 1280) in
-    let none : taken_in (no_places {T = Numbered Orig} 1280) ≡ 0 = none_taken {T = Numbered Orig} one_if 1280 refl in
-    omega (arith, same, none)
-
-holds_empty : (config : Configuration) → config.settings.journal_limit ≤ 1073741824 → Holds (books_of (empty config))
-holds_empty config small = record {
-  sound = record {
-    linked = record {
-      numbers = none_numbered config.settings.max_connections;
-      parts = λ p a is. absurd (none_held config.settings.max_connections p a is);
-      job_numbers = none_numbered 1024;
-      owes = record {
-        owed = λ p a since is o. absurd (none_held config.settings.max_connections p a is);
-        owes = λ q job p a is_job is e. absurd (none_held 1024 q job is_job);
-        alone = λ q r a c is_a is_c e. absurd (none_held 1024 q a is_a);
-        within = λ q job is. absurd (none_held 1024 q job is);
-      };
-    };
-    tries = record {
-      there = λ q job number is t. absurd (none_held 1024 q job is);
-      alone = λ q r a c number is_a is_c ta tc. absurd (none_held 1024 q a is_a);
-      within = λ p number is. absurd (no_number Orig 1280 p number is);
-      fewer = none_tried;
-      job_places = no_places_length (Numbered Job) 1024;
-      orig_places = length-map (no_places {T = Numbered Orig} 1280) number_at ∙ no_places_length (Numbered Orig) 1280;
-    };
-  };
-  paid = record { conns = omega arith; jobs = omega arith; origs = omega arith; limit = small };
-}
-
--- an entry that is not refused keeps what is known of jobs and connections
-holds_step : (s : Switch) (entry : Entry) → refusal_of s entry ≡ None → Holds (books_of s) → Holds (books_of (step s entry).state)
-unfolding step refusal_of
-holds_step s entry accepts h =
-    let passed = not_refused (is_full s) (refusal.JournalFull s.cost s.config.settings.journal_limit) (refused_act entry.act (advanced entry.moment s)) accepts in
-    let room : s.cost + 65600 ≤ s.config.settings.journal_limit = ltb-false s.config.settings.journal_limit (s.cost + 65600) passed.0 in
-    let small : s.config.settings.journal_limit ≤ 1073741824 = h.paid.limit in
-    let paid_conns : 64 * s.drawn.conns ≤ s.cost = h.paid.conns in
-    let paid_jobs : 64 * s.drawn.jobs ≤ s.cost = h.paid.jobs in
-    let paid_origs : 64 * s.drawn.origs ≤ s.cost = h.paid.origs in
-    let few : Few (books_of s) = record {
-      conns = omega (arith, room, small, paid_conns);
-      jobs = omega (arith, room, small, paid_jobs);
-      origs = omega (arith, room, small, paid_origs);
-    } in
-    let goes : Goes (books_of s) (books_of (acted entry.act (advanced entry.moment s)).state) = goes_acted entry.act (advanced entry.moment s) passed.1 few h.sound in
-    after (acted entry.act (advanced entry.moment s)).state goes room small paid_conns paid_jobs paid_origs (some_cost entry.act)
-  where
-    after : (t : Switch) → Goes (books_of s) (books_of t) → s.cost + 65600 ≤ s.config.settings.journal_limit → s.config.settings.journal_limit ≤ 1073741824 →
-        64 * s.drawn.conns ≤ s.cost → 64 * s.drawn.jobs ≤ s.cost → 64 * s.drawn.origs ≤ s.cost → 64 ≤ cost_of entry.act →
-        Holds (record (books_of t) { cost = min (t.cost + cost_of entry.act) (2 ^ 64 - 1) })
-    after t goes room small paid_conns paid_jobs paid_origs some =
-        let conns : t.drawn.conns ≤ s.drawn.conns + 1 = goes.near.conns in
-        let jobs : t.drawn.jobs ≤ s.drawn.jobs + 1 = goes.near.jobs in
-        let origs : t.drawn.origs ≤ s.drawn.origs + 1 = goes.near.origs in
-        let cost : t.cost ≡ s.cost = goes.near.cost in
-        let limit : t.config.settings.journal_limit ≡ s.config.settings.journal_limit = goes.near.limit in
-        record {
-          sound = record { linked = goes.sound.linked; tries = goes.sound.tries };
-          paid = record {
-            conns = omega (arith, conns, cost, room, small, paid_conns, some);
-            jobs = omega (arith, jobs, cost, room, small, paid_jobs, some);
-            origs = omega (arith, origs, cost, room, small, paid_origs, some);
-            limit = omega (arith, limit, small);
-          };
-        }
-
-holds_run : (entries : List Entry) (s : Switch) → IsRunFrom s entries → Holds (books_of s) → Holds (books_of (run_from s entries))
-holds_run [] s run h = h
-holds_run (entry ∷ entries) s run h = holds_run entries (step s entry).state run.1 (holds_step s entry run.0 h)
-
 known_in : (s : Switch) → Sound (books_of s) → AreKnown s
-known_in s h = record {
-  known = λ place job is.
-      let row : HasRow s.jobs job.number = row_of_held s.jobs place job is in
-      let same : place ≡ row.0 = sym (h.linked.job_numbers.apart row.0 place row.1 job row.2.there is row.2.numbered) in
-      row_is s.jobs job.number row.0 row.1 row.2 ∙ ap (λ (j : Numbered Job). Some j.held) (one_there s.jobs row.0 place row.1 job row.2.there is same);
-}
+known_in s h = record { known = λ place job is. job_is_known s place job h is }
 
 -- behind every run they are so
 pub run_is_known : (config : Configuration) (entries : List Entry) → config.settings.journal_limit ≤ 1073741824 → IsRunFrom (empty config) entries → AreKnown (run_from (empty config) entries)

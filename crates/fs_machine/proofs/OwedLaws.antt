@@ -52,7 +52,7 @@ none_numbered count = record {
   within = λ p a is. absurd (none_held count p a is);
 }
 
-holds_empty : (config : Configuration) → config.settings.journal_limit ≤ 1073741824 → Holds (books_of (empty config))
+pub holds_empty : (config : Configuration) → config.settings.journal_limit ≤ 1073741824 → Holds (books_of (empty config))
 holds_empty config small = record {
   sound = record {
     linked = record {
@@ -121,7 +121,7 @@ holds_step s entry accepts h =
           };
         }
 
-holds_run : (entries : List Entry) (s : Switch) → IsRunFrom s entries → Holds (books_of s) → Holds (books_of (run_from s entries))
+pub holds_run : (entries : List Entry) (s : Switch) → IsRunFrom s entries → Holds (books_of s) → Holds (books_of (run_from s entries))
 holds_run [] s run h = h
 holds_run (entry ∷ entries) s run h = holds_run entries (step s entry).state run.1 (holds_step s entry run.0 h)
 
@@ -140,7 +140,7 @@ work_is_due s (Originate orig winner) there none =
     orig_is_due s.moment row.1.held (orig_of s orig) (row_is s.origs orig row.0 row.1 row.2) none
 
 -- each job is the one of its number
-job_is_known : (s : Switch) (q : ℕ) (job : Numbered Job) → Sound (books_of s) → held_in s.jobs q ≡ Some job → job_of s job.number ≡ Some job.held
+pub job_is_known : (s : Switch) (q : ℕ) (job : Numbered Job) → Sound (books_of s) → held_in s.jobs q ≡ Some job → job_of s job.number ≡ Some job.held
 job_is_known s q job h is =
     let row : HasRow s.jobs job.number = row_of_held s.jobs q job is in
     let place : q ≡ row.0 = sym (h.linked.job_numbers.apart row.0 q row.1 job row.2.there is row.2.numbered) in

@@ -44,7 +44,7 @@ fn words_that_are_missing(rt: HostRuntime) -> Result<(), Fail> {
     for (text, which) in USAGES {
         let api = Api::of(rt.alloc(), text.as_bytes())?;
         assert!(rt;
-            matches!(api, Api::Usage(found) if found == which),
+            matches!(&api, Api::Usage(found) if *found == which),
             "{text}"
         );
     }

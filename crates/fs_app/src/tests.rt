@@ -125,7 +125,8 @@ fn hangups(rt: HostRuntime) -> Result<(), Fail> {
 #[test]
 fn transfers(rt: HostRuntime) -> Result<(), Fail> {
     for (argument, exten, dialplan, context) in TRANSFERS {
-        let fits = match application(rt.alloc(), "transfer", argument)? {
+        let transfer = application(rt.alloc(), "transfer", argument)?;
+        let fits = match &transfer {
             Application::Transfer { to } => is_text(&to.exten, exten)
                 && is_named(&to.dialplan, dialplan)
                 && is_named(&to.context, context),
@@ -164,13 +165,13 @@ fn lengths_of_words(rt: HostRuntime) -> Result<(), Fail> {
 #[test]
 fn other_applications(rt: HostRuntime) -> Result<(), Fail> {
     let alloc = rt.alloc();
-    assert!(rt; matches!(application(alloc, "answer", "x")?, Application::Answer));
-    assert!(rt; matches!(application(alloc, "park", "x")?, Application::Park));
-    assert!(rt; matches!(application(alloc, "log", "INFO x")?, Application::Eval));
-    assert!(rt; matches!(application(alloc, "eval", "")?, Application::Eval));
+    assert!(rt; matches!(&application(alloc, "answer", "x")?, Application::Answer));
+    assert!(rt; matches!(&application(alloc, "park", "x")?, Application::Park));
+    assert!(rt; matches!(&application(alloc, "log", "INFO x")?, Application::Eval));
+    assert!(rt; matches!(&application(alloc, "eval", "")?, Application::Eval));
     for (name, argument) in UNKNOWN {
         assert!(rt;
-            matches!(application(alloc, name, argument)?, Application::Unknown),
+            matches!(&application(alloc, name, argument)?, Application::Unknown),
             "{name}({argument})"
         );
     }

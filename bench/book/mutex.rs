@@ -17,8 +17,8 @@ impl Tally {
 
 fn main() {
     let mut words = env::args().skip(1);
-    let depth: u32 = words.next().expect("how often to halve").parse().expect("a number");
     let count: u64 = words.next().expect("how many entries").parse().expect("a number");
+    let depth: u32 = words.next().expect("how often to halve").parse().expect("a number");
     let tally = Mutex::new(Tally { count: 0 });
     thread::scope(|scope| {
         for _ in 0..1 << depth {

@@ -1,5 +1,5 @@
 use Rattle.std.proofs.Common.{◌+◌, ◌*◌}
-use Rattle.bench_book.proofs.by_book.+fn-together-join+arg2+fn-together-join+arg3+together.Given as goal
+use Rattle.bench.proofs.by_book.+fn-together-join+arg2+fn-together-join+arg3+together.Given as goal
 
 abbrev pub decreases-join+arg2 : goal.decreases-join+arg2
 decreases-join+arg2 g l = 2 * l.deeper + 2

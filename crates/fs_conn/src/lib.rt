@@ -9,8 +9,6 @@ mod reading;
 mod sending;
 mod settling;
 mod stop;
-#[cfg(test)]
-mod tests;
 
 pub use conversation::play;
 pub use end::End;

@@ -6,7 +6,5 @@ mod documents;
 mod lines;
 mod outcome;
 mod program;
-#[cfg(test)]
-mod tests;
 
 pub use program::{Status, run};

@@ -7,7 +7,11 @@ pub mod FrameLemmas
 pub mod LegLemmas
 pub mod DueLemmas
 pub mod RowLemmas
-pub mod SocketLemmas
+pub mod Kept
+pub mod Walk
+pub mod RestLemmas
+pub mod FrontLemmas
+pub mod ActWalk
 pub mod KeepLemmas
 pub mod WaitingLemmas
 pub mod OrderLemmas
@@ -18,7 +22,6 @@ pub mod EventLemmas
 pub mod RefusalLemmas
 pub mod TableLemmas
 pub mod OwedBooks
-pub mod OwedMoves
 pub mod OwedLemmas
 pub mod OwedJobs
 pub mod OwedActs
@@ -29,8 +32,9 @@ pub mod PartnerLemmas
 pub mod IdentifierLemmas
 pub mod HeldLemmas
 pub mod SeenLemmas
-pub mod MoveLemmas
-pub mod WorkLemmas
-pub mod ActLemmas
+pub mod TieLemmas
+pub mod PartnerMoves
+pub mod IdentifierMoves
+pub mod DeadMoves
 pub mod SoundLemmas
 pub mod SoundLaws

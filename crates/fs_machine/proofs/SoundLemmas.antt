@@ -15,33 +15,36 @@ use Rattle.fs_machine.specs.Runs.{run_from, IsRunFrom}
 use Rattle.fs_machine.specs.Sound.{HasPartner, PartnersAgree, IdentifiersDiffer}
 use Rattle.fs_machine.proofs.IdentifierLemmas.{naming_none}
 use Rattle.fs_machine.proofs.HeldLemmas.{nothing_held}
-use Rattle.fs_machine.proofs.SeenLemmas.{seen, lives_as, uuid_of, partner_in, uuid_in, Agrees, Named, Goes}
-use Rattle.fs_machine.proofs.ActLemmas.{acted_goes}
+use Rattle.fs_machine.proofs.TieLemmas.{lives_as, named_in, Ties}
+use Rattle.fs_machine.proofs.ActWalk.{acted_kept}
+use Rattle.fs_machine.proofs.PartnerMoves.{Partners, partners_moves}
+use Rattle.fs_machine.proofs.SeenLemmas.{seen, uuid_of, uuid_in, Named, Numbers, numbers_stay}
+use Rattle.fs_machine.proofs.IdentifierMoves.{NumbersFrom, numbers_moves}
 
 -- ---- partners
 
 -- in a switch to which nothing has happened none is named
-nothing_named : (config : Configuration) → Agrees (empty config).channels
+nothing_named : (config : Configuration) → Ties partner_of (empty config).channels
 nothing_named config = record {
   back = λ a b e. absurd (none a b e);
   live = λ a b e. absurd (none a b e);
 }
   where
-    none : (a b : ℕ) → partner_in (empty config).channels a ≡ Some b → ⊥
+    none : (a b : ℕ) → named_in partner_of (empty config).channels a ≡ Some b → ⊥
     none a b e =
-        let nothing : partner_in (empty config).channels a ≡ None = ap (option_and_then partner_of) (nothing_held Chan (config.settings.max_sessions + 1) a) in
+        let nothing : named_in partner_of (empty config).channels a ≡ None = ap (option_and_then partner_of) (nothing_held Chan (config.settings.max_sessions + 1) a) in
         cc
 
-step_agrees : (s : Switch) (entry : Entry) → Agrees s.channels → Agrees (step s entry).state.channels
+step_agrees : (s : Switch) (entry : Entry) → Ties partner_of s.channels → Ties partner_of (step s entry).state.channels
 unfolding step
-step_agrees s entry h = (acted_goes entry.act (advanced entry.moment s)).agrees h
+step_agrees s entry h = acted_kept Partners partners_moves entry.act {s = advanced entry.moment s} h
 
-run_agrees : (s : Switch) (entries : List Entry) → Agrees s.channels → Agrees (run_from s entries).channels
+run_agrees : (s : Switch) (entries : List Entry) → Ties partner_of s.channels → Ties partner_of (run_from s entries).channels
 run_agrees s [] h = h
 run_agrees s (entry ∷ entries) h = run_agrees (step s entry).state entries (step_agrees s entry h)
 
 -- as the definition has it
-named_back : (s : Switch) → Agrees s.channels → PartnersAgree s
+named_back : (s : Switch) → Ties partner_of s.channels → PartnersAgree s
 named_back s h = record { back = λ slot other has. by_chan slot other has }
   where
     there_as : (slot other : ℕ) (found : Option Chan) → chan_at s other ≡ found → option_and_then partner_of found ≡ Some slot → lives_as found ≡ true → HasPartner s other slot
@@ -50,8 +53,8 @@ named_back s h = record { back = λ slot other has. by_chan slot other has }
 
     by_chan : (slot other : ℕ) → HasPartner s slot other → HasPartner s other slot
     by_chan slot other has =
-        let named : partner_in s.channels slot ≡ Some other = ap (option_and_then partner_of) has.there ∙ has.partner in
-        let back : partner_in s.channels other ≡ Some slot = h.back slot other named in
+        let named : named_in partner_of s.channels slot ≡ Some other = ap (option_and_then partner_of) has.there ∙ has.partner in
+        let back : named_in partner_of s.channels other ≡ Some slot = h.back slot other named in
         there_as slot other (chan_at s other) refl back (h.live other slot back)
 
 pub partners_agree : (config : Configuration) (entries : List Entry) → PartnersAgree (run_from (empty config) entries)
@@ -90,23 +93,26 @@ has_room s entry defined = ltb-false s.config.settings.journal_limit (s.cost + 6
     not_full false defined = refl
 
 -- one entry more, of which all that counts is known
-closed_counted : (s t : Switch) (cost : ℕ) → Goes 2 (seen s) (seen t) → 64 ≤ cost → s.cost + 65600 ≤ 1073741824 → Counted s → Counted (closed cost t)
-closed_counted s t cost goes least room h =
-    let most : t.drawn.identifiers ≤ s.drawn.identifiers + 2 = goes.numbers.most in
-    let same : t.cost ≡ s.cost = goes.numbers.cost in
+closed_counted : (s t : Switch) (cost : ℕ) → Numbers 2 (seen s) (seen t) → 64 ≤ cost → s.cost + 65600 ≤ 1073741824 → Counted s → Counted (closed cost t)
+closed_counted s t cost numbers least room h =
+    let most : t.drawn.identifiers ≤ s.drawn.identifiers + 2 = numbers.most in
+    let same : t.cost ≡ s.cost = numbers.cost in
     let paid : 32 * s.drawn.identifiers ≤ s.cost = h.paid in
     let few : t.drawn.identifiers < 2 ^ 62 - 1 = omega (arith, most, paid, room) in
-    record { named = goes.numbers.names few h.named; paid = omega (arith, most, same, paid, least, room) }
+    record { named = numbers.names few h.named; paid = omega (arith, most, same, paid, least, room) }
+
+acted_numbers : (a : Act) (s : Switch) → Numbers 2 (seen s) (seen (acted a s).state)
+acted_numbers a s = acted_kept (NumbersFrom (seen s)) (numbers_moves (seen s)) a {s = s} (numbers_stay (seen s))
 
 step_counted : (s : Switch) (entry : Entry) → s.cost + 65600 ≤ 1073741824 → Counted s → Counted (step s entry).state
 unfolding step
 step_counted s entry room h =
-    closed_counted (advanced entry.moment s) (acted entry.act (advanced entry.moment s)).state (cost_of entry.act) (acted_goes entry.act (advanced entry.moment s)) (least_cost entry.act) room
+    closed_counted (advanced entry.moment s) (acted entry.act (advanced entry.moment s)).state (cost_of entry.act) (acted_numbers entry.act (advanced entry.moment s)) (least_cost entry.act) room
     (record { named = h.named; paid = h.paid })
 
 step_config : (s : Switch) (entry : Entry) → (step s entry).state.config ≡ s.config
 unfolding step
-step_config s entry = (acted_goes entry.act (advanced entry.moment s)).numbers.config
+step_config s entry = (acted_numbers entry.act (advanced entry.moment s)).config
 
 run_counted : (s : Switch) (entries : List Entry) → s.config.settings.journal_limit ≤ 1073741824 → IsRunFrom s entries → Counted s → Counted (run_from s entries)
 run_counted s [] small run h = h

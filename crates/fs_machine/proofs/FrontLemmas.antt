@@ -5,6 +5,7 @@ use Rattle.fs_vars.specs.Variables.{Variables}
 use Rattle.fs_doc.specs.Reading.{Configuration}
 use Rattle.fs_api.specs.declared.api.Winner.{Winner}
 use Rattle.fs_chan.specs.declared.chan.Chan.{Chan}
+use Rattle.fs_orig.specs.declared.leg.OrigLeg.{OrigLeg}
 use Rattle.fs_orig.specs.declared.orig.Orig.{Orig}
 use Rattle.fs_state.specs.declared.conn.Conn.{Conn}
 use Rattle.fs_state.specs.declared.conn.Parting.TheVariants as parting
@@ -16,11 +17,11 @@ use Rattle.fs_state.specs.Switch.{Switch, conn_of, orig_of, next_orig, with_new_
 use Rattle.fs_state.specs.Moves.{orig_changed_from, orig_changed}
 use Rattle.fs_machine.specs.declared.jobs.Attempt.{Attempt}
 use Rattle.fs_machine.specs.declared.originations.Caller.{Caller}
-use Rattle.fs_machine.specs.Texts.{failed_text}
+use Rattle.fs_machine.specs.Texts.{made_text, failed_text}
 use Rattle.fs_machine.specs.Connections.{conn_changed_from, conn_changed, admitted, parted, owed_since, not_owed}
 use Rattle.fs_machine.specs.Originations.{Made, leg_made, won}
 use Rattle.fs_machine.specs.Jobs.{owing, ended, orig_begun, tried_by_job, originate_begun}
-use Rattle.fs_machine.proofs.Kept.{Fact, KeptByCalls, KeptByBirths, KeptByMoves}
+use Rattle.fs_machine.proofs.Kept.{Fact, KeptByCalls, KeptByBirths, DoesJob, HasLeg, KeptByMoves}
 use Rattle.fs_machine.proofs.Walk.{leg_made_kept}
 
 -- what is left of a switch without connections, jobs, originations and what they are given
@@ -69,8 +70,9 @@ ended_front : (number conn : ℕ) (answer : Text) (s : Switch) → front_of (end
 ended_front number conn answer s = conn_changed_front not_owed conn (without_job number s)
 
 -- a fact that holds wherever the front is the same is kept by all moves, if channels and births keep it, and a leg that wins
-module _ (P : Fact) (same : (b : Bool) (t u : Switch) → P b t → front_of u ≡ front_of t → P b u) (calls : KeptByCalls P) (births : KeptByBirths P)
-    (wins : (winner : Winner) (slot : ℕ) (s : Switch) → P false s → P false (won winner slot s)) where
+module _ (before : Switch) (P : Fact) (same : (b : Bool) (t u : Switch) → P b t → front_of u ≡ front_of t → P b u) (calls : KeptByCalls P) (births : KeptByBirths P)
+    (wins : (a : Attempt) (winner : Winner) (leg : OrigLeg) → DoesJob before a.job a.conn (Originate a.orig winner) → HasLeg before a.orig leg → P false before →
+    P false (won winner (unwrap_or leg.slot 0) before)) where
   changed_same : (change : Conn → Conn) (conn : ℕ) (s : Switch) → P false s → P false (conn_changed change conn s)
   changed_same change conn s h = same false s _ h (conn_changed_front change conn s)
 
@@ -91,13 +93,13 @@ module _ (P : Fact) (same : (b : Bool) (t u : Switch) → P b t → front_of u �
   originates_same conn endpoint winner caller timeout s h =
       tried_same conn endpoint winner (unwrap_or timeout 60) (next_orig s) (leg_made endpoint caller (next_orig s) s) (leg_made_kept P births endpoint caller (next_orig s) {s = s} h)
 
-  pub moves_by_front : KeptByMoves P
+  pub moves_by_front : KeptByMoves before P
   moves_by_front = record {
     calls = calls;
     jobs = record {
-      woken = λ number conn answer {s = s} does h. ended_same number conn answer s h;
-      failed = λ a cause {s = s} does h. over_same a (failed_text cause) s h;
-      wins = λ a winner slot answer {s = s} does h. over_same a answer (won winner slot s) (wins winner slot s h);
+      woken = λ number conn until answer {s = s} does h. ended_same number conn answer s h;
+      failed = λ a winner cause {s = s} does h. over_same a (failed_text cause) s h;
+      wins = λ a winner leg does has h. over_same a (made_text leg.uuid) (won winner (unwrap_or leg.slot 0) before) (wins a winner leg does has h);
     };
     commands = λ conn. record {
       spent = births.spent;
@@ -105,7 +107,7 @@ module _ (P : Fact) (same : (b : Bool) (t u : Switch) → P b t → front_of u �
       admitted = λ {s = s} fresh h. changed_same admitted conn s h;
       parted = λ why {s = s} leaves h. changed_same (parted why) conn s h;
       sleeps = λ until {s = s} room h. sleeps_same conn until s h;
-      originates = λ endpoint winner caller timeout {s = s} room h. originates_same conn endpoint winner caller timeout s h;
+      originates = λ endpoint winner caller timeout {s = s} short room h. originates_same conn endpoint winner caller timeout s h;
     };
     visits = record {
       arrived = λ h. same _ _ _ (births.spent h) refl;

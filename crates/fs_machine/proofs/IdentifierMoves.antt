@@ -1,5 +1,5 @@
 -- Each act draws two identifiers at most, and each of them stands in one slot.
-use Rattle.std.proofs.Common.{◌≡◌, ℕ, ◌+◌, ◌<◌, Bool, true, false, length, Option, None, Some, refl, sym, ap, subst, length-set}
+use Rattle.std.proofs.Common.{◌≡◌, ℕ, ◌+◌, ◌<◌, Bool, true, false, length, Option, None, Some, unwrap_or, refl, sym, ap, subst, length-set}
 use Rattle.fs_text.specs.declared.causes.Cause.{Cause}
 use Rattle.fs_api.specs.declared.api.Winner.{Winner}
 use Rattle.fs_api.specs.declared.api.Winner.TheVariants.{App, Route}
@@ -68,9 +68,9 @@ module _ (x : Seen) where
           state_told_kept (λ (t : Switch). Numbers 2 x (seen t)) (λ event t plain k. k) c.state (won_by winner c).state {s = with_chan slot (Some (won_by winner c)) s}
           (put_numbers 2 slot c (won_by winner c) s is (same_uuid winner c) h)
 
-  pub numbers_moves : KeptByMoves (NumbersFrom x)
-  numbers_moves =
-      moves_by_front (NumbersFrom x) (λ b t u h same. front_numbers (drawn_by b) t u same h)
+  pub numbers_moves : (before : Switch) → KeptByMoves before (NumbersFrom x)
+  numbers_moves before =
+      moves_by_front before (NumbersFrom x) (λ b t u h same. front_numbers (drawn_by b) t u same h)
       (record {
         told = λ event plain h. h;
         globals = λ globals h. h;
@@ -83,6 +83,6 @@ module _ (x : Seen) where
       })
       (record {
         spent = λ {s = s} h. numbers_fewer x (seen s) h;
-        pair = λ call orig a b {s = s} first second h. numbers_then 0 2 x (seen s) (seen (pair_made call orig a b s)) h (pair_numbers call orig a b s first second);
+        pair = λ call orig a b {s = s} short first second h. numbers_then 0 2 x (seen s) (seen (pair_made call orig a b s)) h (pair_numbers call orig a b s first second);
       })
-      won_numbers
+      (λ a winner leg does has h. won_numbers winner (unwrap_or leg.slot 0) before h)

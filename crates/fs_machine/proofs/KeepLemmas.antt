@@ -6,6 +6,7 @@ use Rattle.fs_text.specs.declared.causes.Cause.{Cause}
 use Rattle.fs_vars.specs.Pairs.{Text}
 use Rattle.fs_doc.specs.Reading.{Configuration}
 use Rattle.fs_api.specs.declared.api.Winner.{Winner}
+use Rattle.fs_orig.specs.declared.leg.OrigLeg.{OrigLeg}
 use Rattle.fs_places.specs.declared.numbered.Numbered.{Numbered}
 use Rattle.fs_places.specs.Places.{held_in}
 use Rattle.fs_places.specs.Rows.{has_number, place_of, row_of, with_row}
@@ -20,7 +21,7 @@ use Rattle.fs_state.specs.declared.job.JobWork.TheVariants.{Sleep, Originate}
 use Rattle.fs_state.specs.Switch.{Switch, conn_of, next_orig, is_full_of_jobs, with_new_job, without_job, without_orig, gave}
 use Rattle.fs_machine.specs.declared.jobs.Attempt.{Attempt}
 use Rattle.fs_machine.specs.declared.originations.Caller.{Caller}
-use Rattle.fs_machine.specs.Texts.{failed_text}
+use Rattle.fs_machine.specs.Texts.{made_text, failed_text}
 use Rattle.fs_machine.specs.Connections.{conn_changed_from, conn_changed, admitted, parted, owed_since, not_owed, phase_of, phase_at}
 use Rattle.fs_machine.specs.Questions.{parting_of, owed_of}
 use Rattle.fs_machine.specs.Originations.{Made, leg_made, won}
@@ -29,7 +30,7 @@ use Rattle.fs_machine.specs.Commands.{Command, commanded}
 use Rattle.fs_machine.specs.Work.{worked}
 use Rattle.fs_machine.specs.Step.{is_closed}
 use Rattle.fs_machine.proofs.RowLemmas.{each_put_at, length_put_at, SameNumbers, held_of, row_at, row_none, numbers-with_row, row_of-with_row_same, row_of-with_row_other}
-use Rattle.fs_machine.proofs.Kept.{Fact, KeptByCalls, DoesJob, KeptByJobs, LeavesBy, KeptByCommands}
+use Rattle.fs_machine.proofs.Kept.{Fact, KeptByCalls, KeptByJobs, LeavesBy, KeptByCommands}
 use Rattle.fs_machine.proofs.RestLemmas.{Rest, rest_of, calls_by_rest, leg_made_rest, worked_rest, won_rest}
 use Rattle.fs_machine.proofs.ActWalk.{job_kept, commanded_kept}
 
@@ -233,23 +234,22 @@ calls_keep who s = calls_by_rest (KeepsFrom who s) (λ b t u h same. keeps_on s 
 
 -- the jobs that end
 module _ (s : Switch) where
-  woken_keeps : (number conn : ℕ) (answer : Text) {t : Switch} → DoesJob t number conn None → Keeps None false s t → Keeps None false s (ended number conn answer t)
-  woken_keeps number conn answer {t} does h = keeps_trans s t (ended number conn answer t) h (ended_keeps number conn answer t)
-
   over_keeps : (a : Attempt) (answer : Text) (t u : Switch) → sockets_of u ≡ sockets_of t → Keeps None false s t → Keeps None false s (ended a.job a.conn answer (without_orig a.orig u))
   over_keeps a answer t u same h =
       keeps_trans s (without_orig a.orig u) (ended a.job a.conn answer (without_orig a.orig u)) (keeps_on s t (without_orig a.orig u) h same)
       (ended_keeps a.job a.conn answer (without_orig a.orig u))
 
-  failed_keeps : (a : Attempt) (cause : Cause) {t : Switch} → DoesJob t a.job a.conn (Some a.orig) → Keeps None false s t → Keeps None false s (failed a cause t)
-  failed_keeps a cause {t} does h = over_keeps a (failed_text cause) t t refl h
+  wins_keep : (a : Attempt) (winner : Winner) (leg : OrigLeg) → Keeps None false s s → Keeps None false s (ended a.job a.conn (made_text leg.uuid) (without_orig a.orig (won winner (unwrap_or leg.slot 0) s)))
+  wins_keep a winner leg h =
+      let t : Switch = won winner (unwrap_or leg.slot 0) s in
+      over_keeps a (made_text leg.uuid) s t (sockets_same s t (won_rest winner (unwrap_or leg.slot 0) s)) h
 
-  wins_keep : (a : Attempt) (winner : Winner) (slot : ℕ) (answer : Text) {t : Switch} → DoesJob t a.job a.conn (Some a.orig) → Keeps None false s t →
-      Keeps None false s (ended a.job a.conn answer (without_orig a.orig (won winner slot t)))
-  wins_keep a winner slot answer {t} does h = over_keeps a answer t (won winner slot t) (sockets_same t (won winner slot t) (won_rest winner slot t)) h
-
-  jobs_keep : KeptByJobs (KeepsFrom None s)
-  jobs_keep = record { woken = woken_keeps; failed = failed_keeps; wins = wins_keep }
+  jobs_keep : KeptByJobs s (KeepsFrom None s)
+  jobs_keep = record {
+    woken = λ number conn until answer {s = t} does h. keeps_trans s t (ended number conn answer t) h (ended_keeps number conn answer t);
+    failed = λ a winner cause {s = t} does h. over_keeps a (failed_text cause) t t refl h;
+    wins = λ a winner leg does has h. wins_keep a winner leg h;
+  }
 
 -- the commands of a connection
 module _ (conn : ℕ) (s : Switch) where
@@ -267,9 +267,9 @@ module _ (conn : ℕ) (s : Switch) where
   sleeps_keep : (until : ℕ) {t : Switch} → is_full_of_jobs t ≡ false → Keeps (Some conn) false s t → Keeps (Some conn) false s (owing conn (Sleep until) t)
   sleeps_keep until {t} room h = keeps_trans s t (owing conn (Sleep until) t) h (owing_keeps conn (Sleep until) t)
 
-  originates_keep : (endpoint : Text) (winner : Winner) (caller : Caller) (timeout : Option ℕ) {t : Switch} → is_full_of_jobs t ≡ false → Keeps (Some conn) false s t →
+  originates_keep : (endpoint : Text) (winner : Winner) (caller : Caller) (timeout : Option ℕ) {t : Switch} → Keeps (Some conn) false s t →
       Keeps (Some conn) false s (originate_begun conn endpoint winner caller timeout t)
-  originates_keep endpoint winner caller timeout {t} room h =
+  originates_keep endpoint winner caller timeout {t} h =
       keeps_trans s t (originate_begun conn endpoint winner caller timeout t) h
       (begun_keeps conn endpoint winner (unwrap_or timeout 60) (next_orig t) (leg_made endpoint caller (next_orig t) t) t
       (sockets_same t (leg_made endpoint caller (next_orig t) t).state (leg_made_rest endpoint caller (next_orig t) t)))
@@ -281,7 +281,7 @@ module _ (conn : ℕ) (s : Switch) where
     admitted = admitted_keeps;
     parted = leaves_keeps;
     sleeps = sleeps_keep;
-    originates = originates_keep;
+    originates = λ endpoint winner caller timeout short room h. originates_keep endpoint winner caller timeout h;
   }
 
 -- ---- what acts keep
@@ -290,7 +290,7 @@ pub work_keeps : (slot : ℕ) (s : Switch) → Keeps None false s (worked slot s
 work_keeps slot s = keeps_same s (worked slot s) (sockets_same s (worked slot s) (worked_rest slot s))
 
 pub job_done_keeps : (number : ℕ) (s : Switch) → Keeps None false s (job_done number s)
-job_done_keeps number s = job_kept (KeepsFrom None s) (calls_keep None s) (jobs_keep s) number {s = s} (keeps_refl s)
+job_done_keeps number s = job_kept s (KeepsFrom None s) (calls_keep None s) (jobs_keep s) number (keeps_refl s)
 
 pub commanded_keeps : (conn : ℕ) (command : Command) (s : Switch) → Keeps (Some conn) false s (commanded conn command s)
 commanded_keeps conn command s = commanded_kept conn (KeepsFrom (Some conn) s) (calls_keep (Some conn) s) (commands_keep conn s) command {s = s} (keeps_refl s)

@@ -1,27 +1,32 @@
 -- What a fact on switches has to bear for every entry to keep it: a case for each move that entries are made of.
-use Rattle.std.proofs.Common.{◌≡◌, ℕ, ◌+◌, Bool, true, false, Option, None, Some}
+use Rattle.std.proofs.Common.{◌≡◌, ℕ, ◌+◌, Bool, true, false, Option, None, Some, slice_get, unwrap_or}
 use Rattle.fs_text.specs.declared.causes.Cause.{Cause}
 use Rattle.fs_vars.specs.Pairs.{Text}
 use Rattle.fs_vars.specs.Variables.{Variables}
 use Rattle.fs_api.specs.declared.api.Winner.{Winner}
+use Rattle.fs_api.specs.declared.api.Winner.TheVariants.{App, Route}
 use Rattle.fs_chan.specs.declared.chan.Chan.{Chan}
 use Rattle.fs_chan.specs.declared.peer.Peer.{Peer}
-use Rattle.fs_chan.specs.Changes.{is_live}
+use Rattle.fs_chan.specs.Changes.{is_live, IsShort, HasShortFields}
+use Rattle.fs_orig.specs.declared.leg.OrigLeg.{OrigLeg}
+use Rattle.fs_orig.specs.declared.orig.Orig.{Orig}
+use Rattle.fs_orig.specs.Legs.{lives}
 use Rattle.fs_orig.specs.Changes.{with_answer}
+use Rattle.fs_orig.specs.Endpoints.{IsShortAddress}
 use Rattle.fs_state.specs.declared.conn.Phase.TheVariants.{Fresh}
 use Rattle.fs_state.specs.declared.conn.Parting.{Parting}
 use Rattle.fs_state.specs.declared.conn.Parting.TheVariants as parting
 use Rattle.fs_state.specs.declared.event.Event.{Event}
-use Rattle.fs_state.specs.declared.job.Job.{Job}
 use Rattle.fs_state.specs.declared.job.JobWork.{JobWork}
 use Rattle.fs_state.specs.declared.job.JobWork.TheVariants as work
-use Rattle.fs_state.specs.Switch.{Switch, chan_at, with_chan, free_slot, is_full_of_jobs, job_of, without_orig, without_conn, with_frame_taken, told, gave}
+use Rattle.fs_state.specs.Switch.{Switch, chan_at, with_chan, free_slot, is_full_of_jobs, orig_of, job_of, without_orig, without_conn, with_frame_taken, told, gave}
 use Rattle.fs_state.specs.Moves.{orig_changed, leg_changed, hung}
 use Rattle.fs_machine.specs.declared.jobs.Attempt.{Attempt}
 use Rattle.fs_machine.specs.declared.originations.Call.{Call}
 use Rattle.fs_machine.specs.declared.originations.Caller.{Caller}
 use Rattle.fs_machine.specs.Connections.{phase_at, conn_changed, admitted, parted}
-use Rattle.fs_machine.specs.Originations.{pair_made, won}
+use Rattle.fs_machine.specs.Texts.{made_text}
+use Rattle.fs_machine.specs.Originations.{pair_made, target_of, won}
 use Rattle.fs_machine.specs.Jobs.{owing, ended, originate_begun, failed}
 use Rattle.fs_machine.specs.Step.{arrived}
 
@@ -41,10 +46,11 @@ pub record Links : Type 0 where
 abbrev pub links_of : Chan → Links
 links_of c = record { uuid = c.uuid; partner = c.partner; peer = c.peer; leg_of = c.leg_of }
 
--- a channel keeps what others know of it, and lives if it lived
+-- a channel keeps what others know of it, lives just if it lived, and its texts stay within their limits
 pub record Stays (old new : Chan) : Type 0 where
   pub links : links_of new ≡ links_of old
-  pub live : is_live old ≡ true → is_live new ≡ true
+  pub live : is_live new ≡ is_live old
+  pub short : HasShortFields old.profile → HasShortFields new.profile
 
 -- what channels do, and what is done to them; no event tells of a bridge
 pub record KeptByCalls (P : Fact) : Type 0 where
@@ -58,28 +64,29 @@ pub record KeptByCalls (P : Fact) : Type 0 where
 -- how channels are born
 pub record KeptByBirths (P : Fact) : Type 0 where
   pub spent : {s : Switch} → P true s → P false s
-  pub pair : (call : Call) (orig a b : ℕ) {s : Switch} → free_slot 1 s ≡ Some a → free_slot (a + 1) s ≡ Some b → P true s → P false (pair_made call orig a b s)
+  pub pair : (call : Call) (orig a b : ℕ) {s : Switch} → IsShortAddress call.exten call.context → free_slot 1 s ≡ Some a → free_slot (a + 1) s ≡ Some b → P true s →
+      P false (pair_made call orig a b s)
 
 -- ---- moves of jobs
 
--- the origination that work tries, if it tries one
-abbrev pub tried_by : JobWork → Option ℕ
-tried_by (work.Sleep until) = None
-tried_by (work.Originate orig winner) = Some orig
+-- a job of this number does this work for this connection
+pub record DoesJob (s : Switch) (number conn : ℕ) (what : JobWork) : Type 0 where
+  pub there : job_of s number ≡ Some (record { conn = conn; work = what })
 
--- a job of this number is for this connection, and tries this origination, if any
-pub record DoesJob (s : Switch) (number conn : ℕ) (orig : Option ℕ) : Type 0 where
-  pub job : Job
-  pub there : job_of s number ≡ Some job
-  pub conn_is : job.conn ≡ conn
-  pub tries : tried_by job.work ≡ orig
+-- a leg of the origination of this number lives
+pub record HasLeg (s : Switch) (number : ℕ) (leg : OrigLeg) : Type 0 where
+  pub orig : Orig
+  pub there : orig_of s number ≡ Some orig
+  pub position : ℕ
+  pub at : slice_get orig.legs position ≡ Some leg
+  pub lives : lives leg ≡ true
 
--- the jobs that end
-pub record KeptByJobs (P : Fact) : Type 0 where
-  pub woken : (number conn : ℕ) (answer : Text) {s : Switch} → DoesJob s number conn None → P false s → P false (ended number conn answer s)
-  pub failed : (a : Attempt) (cause : Cause) {s : Switch} → DoesJob s a.job a.conn (Some a.orig) → P false s → P false (failed a cause s)
-  pub wins : (a : Attempt) (winner : Winner) (slot : ℕ) (answer : Text) {s : Switch} → DoesJob s a.job a.conn (Some a.orig) → P false s →
-      P false (ended a.job a.conn answer (without_orig a.orig (won winner slot s)))
+-- the jobs that end; a leg wins in the switch in which the entry begins
+pub record KeptByJobs (before : Switch) (P : Fact) : Type 0 where
+  pub woken : (number conn until : ℕ) (answer : Text) {s : Switch} → DoesJob s number conn (work.Sleep until) → P false s → P false (ended number conn answer s)
+  pub failed : (a : Attempt) (winner : Winner) (cause : Cause) {s : Switch} → DoesJob s a.job a.conn (work.Originate a.orig winner) → P false s → P false (failed a cause s)
+  pub wins : (a : Attempt) (winner : Winner) (leg : OrigLeg) → DoesJob before a.job a.conn (work.Originate a.orig winner) → HasLeg before a.orig leg → P false before →
+      P false (ended a.job a.conn (made_text leg.uuid) (without_orig a.orig (won winner (unwrap_or leg.slot 0) before)))
 
 -- ---- moves of a connection
 
@@ -89,6 +96,11 @@ LeavesBy parting.Exit = Unit {0}
 LeavesBy parting.AuthRefused = Unit {0}
 LeavesBy parting.EndOfInput = ⊥
 
+-- the texts that a winner is routed by can stand in a profile
+abbrev pub IsShortWinner : Winner → Type 0
+IsShortWinner (App application argument) = Unit {0}
+IsShortWinner (Route to) = IsShort (target_of to)
+
 -- what the commands of a connection do
 pub record KeptByCommands (conn : ℕ) (P : Fact) : Type 0 where
   pub spent : {s : Switch} → P true s → P false s
@@ -96,7 +108,7 @@ pub record KeptByCommands (conn : ℕ) (P : Fact) : Type 0 where
   pub admitted : {s : Switch} → phase_at s conn ≡ Fresh → P false s → P false (conn_changed admitted conn s)
   pub parted : (why : Parting) {s : Switch} → LeavesBy why → P false s → P false (conn_changed (parted why) conn s)
   pub sleeps : (until : ℕ) {s : Switch} → is_full_of_jobs s ≡ false → P true s → P false (owing conn (work.Sleep until) s)
-  pub originates : (endpoint : Text) (winner : Winner) (caller : Caller) (timeout : Option ℕ) {s : Switch} → is_full_of_jobs s ≡ false → P true s →
+  pub originates : (endpoint : Text) (winner : Winner) (caller : Caller) (timeout : Option ℕ) {s : Switch} → IsShortWinner winner → is_full_of_jobs s ≡ false → P true s →
       P false (originate_begun conn endpoint winner caller timeout s)
 
 -- how connections come and go, and take their frames
@@ -106,9 +118,9 @@ pub record KeptByVisits (P : Fact) : Type 0 where
   pub silent : (conn : ℕ) {s : Switch} → P false s → P false (conn_changed (parted parting.EndOfInput) conn s)
   pub left : (conn : ℕ) {s : Switch} → P false s → P false (without_conn conn s)
 
--- every move
-pub record KeptByMoves (P : Fact) : Type 0 where
+-- every move of an entry that begins in a switch
+pub record KeptByMoves (before : Switch) (P : Fact) : Type 0 where
   pub calls : KeptByCalls P
-  pub jobs : KeptByJobs P
+  pub jobs : KeptByJobs before P
   pub commands : (conn : ℕ) → KeptByCommands conn P
   pub visits : KeptByVisits P

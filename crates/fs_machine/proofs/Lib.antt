@@ -7,7 +7,9 @@ pub mod FrameLemmas
 pub mod LegLemmas
 pub mod DueLemmas
 pub mod RowLemmas
+pub mod HeldLemmas
 pub mod Kept
+pub mod ShortLemmas
 pub mod Walk
 pub mod RestLemmas
 pub mod FrontLemmas
@@ -30,11 +32,12 @@ pub mod DueLaws
 pub mod CloseLaws
 pub mod PartnerLemmas
 pub mod IdentifierLemmas
-pub mod HeldLemmas
 pub mod SeenLemmas
 pub mod TieLemmas
 pub mod PartnerMoves
 pub mod IdentifierMoves
-pub mod DeadMoves
+pub mod LegMoves
+pub mod WinnerMoves
+pub mod ChannelMoves
 pub mod SoundLemmas
 pub mod SoundLaws

@@ -1,11 +1,11 @@
 -- What entries do keeps the facts on connections, on jobs and on originations.
-use Rattle.std.proofs.Common.{◌≡◌, ℕ, Bool, true, false, not, Option, None, Some, is_none, refl, sym, ap, subst, ◌∙◌}
+use Rattle.std.proofs.Common.{◌≡◌, ℕ, Bool, true, false, not, Option, None, Some, is_none, unwrap_or, refl, sym, ap, subst, ◌∙◌}
 use Rattle.std.specs.Option.{option_and_then}
 use Rattle.std.proofs.lemmas.Bool.{false≢true, not-false}
-use Rattle.fs_text.specs.declared.causes.Cause.{Cause}
 use Rattle.fs_vars.specs.Pairs.{Text}
 use Rattle.fs_frame.specs.Block.{line_of}
 use Rattle.fs_api.specs.declared.api.Winner.{Winner}
+use Rattle.fs_orig.specs.declared.leg.OrigLeg.{OrigLeg}
 use Rattle.fs_places.specs.Places.{least_free}
 use Rattle.fs_places.specs.Rows.{row_of}
 use Rattle.fs_state.specs.declared.conn.Conn.{Conn}
@@ -23,11 +23,11 @@ use Rattle.fs_machine.specs.declared.jobs.Attempt.{Attempt}
 use Rattle.fs_machine.specs.declared.originations.Caller.{Caller}
 use Rattle.fs_machine.specs.declared.refusal.Refusal.{Refusal}
 use Rattle.fs_machine.specs.declared.refusal.Refusal.TheVariants as refusal
-use Rattle.fs_machine.specs.Texts.{failed_text}
+use Rattle.fs_machine.specs.Texts.{made_text, failed_text}
 use Rattle.fs_machine.specs.Connections.{phase_of, phase_at, conn_changed, admitted, parted}
 use Rattle.fs_machine.specs.Questions.{owed_of, owed_to}
 use Rattle.fs_machine.specs.Originations.{won}
-use Rattle.fs_machine.specs.Jobs.{owing, ended, originate_begun, failed}
+use Rattle.fs_machine.specs.Jobs.{owing, ended, originate_begun}
 use Rattle.fs_machine.specs.Commands.{command_of}
 use Rattle.fs_machine.specs.Step.{reads, busy, refused_where, refused_act, closed_by, acted}
 use Rattle.fs_machine.specs.Owed.{PartsIn}
@@ -80,20 +80,18 @@ goes_spent : (b : Books) → Sound b → (t : Switch) → books_of t ≡ b → G
 goes_spent b sound t same = subst (λ (x : Books). Goes b x) (sym same) (record { sound = sound; near = near_self b })
 
 -- the jobs that end
-module _ (b : Books) where
-  woken_goes : (number conn : ℕ) (answer : Text) {s : Switch} → DoesJob s number conn None → Goes b (books_of s) → Goes b (books_of (ended number conn answer s))
-  woken_goes number conn answer {s} does h = goes_woken b s number conn answer does h
+wins_go : (b : Books) (s : Switch) (a : Attempt) (winner : Winner) (leg : OrigLeg) → DoesJob s a.job a.conn (work.Originate a.orig winner) → Goes b (books_of s) →
+    Goes b (books_of (ended a.job a.conn (made_text leg.uuid) (without_orig a.orig (won winner (unwrap_or leg.slot 0) s))))
+wins_go b s a winner leg does h =
+    let slot : ℕ = unwrap_or leg.slot 0 in
+    goes_over b (won winner slot s) a.job a.conn a.orig winner (made_text leg.uuid) (does_same does (won_rest winner slot s)) (goes_same b false s (won winner slot s) h (won_rest winner slot s))
 
-  failed_goes : (a : Attempt) (cause : Cause) {s : Switch} → DoesJob s a.job a.conn (Some a.orig) → Goes b (books_of s) → Goes b (books_of (failed a cause s))
-  failed_goes a cause {s} does h = goes_over b s a.job a.conn a.orig (failed_text cause) does h
-
-  wins_go : (a : Attempt) (winner : Winner) (slot : ℕ) (answer : Text) {s : Switch} → DoesJob s a.job a.conn (Some a.orig) → Goes b (books_of s) →
-      Goes b (books_of (ended a.job a.conn answer (without_orig a.orig (won winner slot s))))
-  wins_go a winner slot answer {s} does h =
-      goes_over b (won winner slot s) a.job a.conn a.orig answer (does_same does (won_rest winner slot s)) (goes_same b false s (won winner slot s) h (won_rest winner slot s))
-
-  jobs_go : KeptByJobs (GoesFrom b)
-  jobs_go = record { woken = woken_goes; failed = failed_goes; wins = wins_go }
+jobs_go : (b : Books) (before : Switch) → KeptByJobs before (GoesFrom b)
+jobs_go b before = record {
+  woken = λ number conn until answer {s = s} does h. goes_woken b s number conn until answer does h;
+  failed = λ a winner cause {s = s} does h. goes_over b s a.job a.conn a.orig winner (failed_text cause) does h;
+  wins = λ a winner leg does has h. wins_go b before a winner leg does h;
+}
 
 -- the commands of a connection that is there and is owed nothing, where few numbers were drawn
 module _ (b : Books) (conn : ℕ) (c : Conn) (there : row_of b.conns conn ≡ Some c) (none : c.owed ≡ None) (few : Few b) (sound : Sound b) where
@@ -138,7 +136,7 @@ module _ (b : Books) (conn : ℕ) (c : Conn) (there : row_of b.conns conn ≡ So
     admitted = λ {s = s} new h. admitted_goes s new h;
     parted = λ why {s = s} leaves h. parted_goes why s h;
     sleeps = λ until {s = s} room h. sleeps_go until s room h;
-    originates = λ endpoint winner caller timeout {s = s} room h. originates_go endpoint winner caller timeout s room h;
+    originates = λ endpoint winner caller timeout {s = s} short room h. originates_go endpoint winner caller timeout s room h;
   }
 
 -- ---- acts
@@ -157,4 +155,4 @@ goes_acted (act.Command conn block) s accepts few h =
 goes_acted (act.Take conn) s accepts few h = goes_spent (books_of s) h s refl
 goes_acted (act.Close conn how) s accepts few h = closed_goes how conn s (goes_spent (books_of s) h s refl)
 goes_acted (act.Work slot) s accepts few h = worked_kept (GoesFrom (books_of s)) (calls_go (books_of s)) slot {b = false} {s = s} (goes_spent (books_of s) h s refl)
-goes_acted (act.Job number) s accepts few h = job_kept (GoesFrom (books_of s)) (calls_go (books_of s)) (jobs_go (books_of s)) number {s = s} (goes_spent (books_of s) h s refl)
+goes_acted (act.Job number) s accepts few h = job_kept s (GoesFrom (books_of s)) (calls_go (books_of s)) (jobs_go (books_of s) s) number (goes_spent (books_of s) h s refl)

@@ -5,10 +5,11 @@ use Rattle.fs_places.specs.declared.numbered.Numbered.{Numbered}
 use Rattle.fs_places.specs.Places.{held_in}
 use Rattle.fs_state.specs.declared.conn.Conn.{Conn}
 use Rattle.fs_state.specs.declared.job.Job.{Job}
+use Rattle.fs_state.specs.declared.job.JobWork.{JobWork}
+use Rattle.fs_state.specs.declared.job.JobWork.TheVariants.{Sleep, Originate}
 use Rattle.fs_state.specs.Switch.{Switch}
 use Rattle.fs_machine.specs.Owed.{Parts}
 use Rattle.fs_machine.proofs.TableLemmas.{numbers_in, one_if, taken_in}
-use Rattle.fs_machine.proofs.Kept.{tried_by}
 use Rattle.fs_machine.proofs.RestLemmas.{Rest, rest_of}
 
 abbrev pub Conns : Type 0
@@ -87,6 +88,11 @@ pub record Linked (conns : Conns) (jobs : Jobs) (drawn jobs_drawn : ℕ) : Type 
   pub owes : Owes conns jobs drawn
 
 -- ---- jobs and the originations that they try
+
+-- the origination that work tries, if it tries one
+abbrev pub tried_by : JobWork → Option ℕ
+tried_by (Sleep until) = None
+tried_by (Originate orig winner) = Some orig
 
 abbrev pub tried_in : Option (Numbered Job) → Option ℕ
 tried_in None = None

@@ -23,8 +23,8 @@ use Rattle.fs_machine.specs.Step.{fresh, arrived}
 use Rattle.fs_machine.specs.Owed.{Parts}
 use Rattle.fs_machine.proofs.RowLemmas.{free_least}
 use Rattle.fs_machine.proofs.TableLemmas.{something_there, IsRow, HasRow, row_found, no_row, row_written, row_removed, row_added, numbers_in, numbers_held, number_at, number_there, row_of_number, numbers_removed, numbers_added, taken_in, full_taken, taken_numbers}
-use Rattle.fs_machine.proofs.OwedBooks.{Conns, Jobs, Books, books_of, books_same, PartEach, Linked, HasNumber, trying_in, Tries, Sound, Near, Goes, Few}
-use Rattle.fs_machine.proofs.Kept.{tried_by, DoesJob}
+use Rattle.fs_machine.proofs.OwedBooks.{Conns, Jobs, Books, books_of, books_same, PartEach, Linked, HasNumber, tried_by, trying_in, Tries, Sound, Near, Goes, Few}
+use Rattle.fs_machine.proofs.Kept.{DoesJob}
 use Rattle.fs_machine.proofs.RestLemmas.{leg_made_rest}
 use Rattle.fs_machine.proofs.OwedLemmas.{linked_changed, linked_gone, linked_come, linked_more, linked_begun, linked_ended, linked_dropped, tries_slept, tries_begun, tries_woken, tries_ended, trying_most}
 
@@ -253,11 +253,11 @@ goes_ended b u number conn answer q row stands for linked tries near = by (conn_
         subst (λ (conns : Conns). Goes b (record (books_of u) { conns = conns; jobs = without_row u.jobs number })) (sym (row_written u.conns conn found.0 (not_owed c) found.2.at)) without_its_job
 
 -- a job that slept ends
-pub goes_woken : (b : Books) (s : Switch) (number conn : ℕ) (answer : Text) → DoesJob s number conn None → Goes b (books_of s) → Goes b (books_of (ended number conn answer s))
-goes_woken b s number conn answer does h =
-    let found = row_found s.jobs number does.job does.there in
-    goes_ended b s number conn answer found.0 found.1 found.2 (ap (λ (y : Job). y.conn) found.3 ∙ does.conn_is) h.sound.linked
-    (tries_woken s.jobs (numbers_in s.origs) s.drawn.origs found.0 found.1 found.2.there (ap (λ (y : Job). tried_by y.work) found.3 ∙ does.tries) h.sound.tries) h.near
+pub goes_woken : (b : Books) (s : Switch) (number conn until : ℕ) (answer : Text) → DoesJob s number conn (Sleep until) → Goes b (books_of s) → Goes b (books_of (ended number conn answer s))
+goes_woken b s number conn until answer does h =
+    let found = row_found s.jobs number (record { conn = conn; work = Sleep until }) does.there in
+    goes_ended b s number conn answer found.0 found.1 found.2 (ap (λ (y : Job). y.conn) found.3) h.sound.linked
+    (tries_woken s.jobs (numbers_in s.origs) s.drawn.origs found.0 found.1 found.2.there (ap (λ (y : Job). tried_by y.work) found.3) h.sound.tries) h.near
 
 -- a job ends with the row of the origination that it tried
 tries_without : (jobs : Jobs) (origs : List (Option (Numbered Orig))) (drawn q number : ℕ) (job : Numbered Job) → held_in jobs q ≡ Some job → tried_by job.held.work ≡ Some number →
@@ -273,11 +273,11 @@ tries_without jobs origs drawn q number job stands tried h = by (h.there q job n
     by had = at (row_of_number origs number had.0 had.1)
 
 -- a job ends with the origination that it tried
-pub goes_over : (b : Books) (s : Switch) (number conn orig : ℕ) (answer : Text) → DoesJob s number conn (Some orig) → Goes b (books_of s) →
+pub goes_over : (b : Books) (s : Switch) (number conn orig : ℕ) (winner : Winner) (answer : Text) → DoesJob s number conn (Originate orig winner) → Goes b (books_of s) →
     Goes b (books_of (ended number conn answer (without_orig orig s)))
-goes_over b s number conn orig answer does h =
-    let found = row_found s.jobs number does.job does.there in
+goes_over b s number conn orig winner answer does h =
+    let found = row_found s.jobs number (record { conn = conn; work = Originate orig winner }) does.there in
     let fits : Tries (with_held s.jobs found.0 None) (numbers_in (without_row s.origs orig)) s.drawn.origs =
-    tries_without s.jobs s.origs s.drawn.origs found.0 orig found.1 found.2.there (ap (λ (y : Job). tried_by y.work) found.3 ∙ does.tries) h.sound.tries in
-    goes_ended b (without_orig orig s) number conn answer found.0 found.1 found.2 (ap (λ (y : Job). y.conn) found.3 ∙ does.conn_is) h.sound.linked fits
+    tries_without s.jobs s.origs s.drawn.origs found.0 orig found.1 found.2.there (ap (λ (y : Job). tried_by y.work) found.3) h.sound.tries in
+    goes_ended b (without_orig orig s) number conn answer found.0 found.1 found.2 (ap (λ (y : Job). y.conn) found.3) h.sound.linked fits
     (record { conns = h.near.conns; jobs = h.near.jobs; origs = h.near.origs; cost = h.near.cost; limit = h.near.limit })

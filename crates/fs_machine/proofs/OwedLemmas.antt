@@ -8,8 +8,7 @@ use Rattle.fs_state.specs.declared.conn.Conn.{Conn}
 use Rattle.fs_state.specs.declared.job.Job.{Job}
 use Rattle.fs_machine.specs.Owed.{Parts}
 use Rattle.fs_machine.proofs.TableLemmas.{nothing_there, same_there, held_within, IsWrittenOrKept, written_or_kept, kept_without, held_here, held_there, not_free, one_there, one_if, taken_in}
-use Rattle.fs_machine.proofs.OwedBooks.{Conns, Jobs, Numbers, PartEach, HasJob, Owes, Linked, tried_in, tries, trying_in, HasNumber, Tries}
-use Rattle.fs_machine.proofs.Kept.{tried_by}
+use Rattle.fs_machine.proofs.OwedBooks.{Conns, Jobs, Numbers, PartEach, HasJob, Owes, Linked, tried_by, tried_in, tries, trying_in, HasNumber, Tries}
 
 -- ---- numbers
 

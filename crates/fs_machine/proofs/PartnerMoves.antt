@@ -1,5 +1,5 @@
 -- Each act keeps the agreement of loopback partners.
-use Rattle.std.proofs.Common.{◌≡◌, ℕ, ◌+◌, Bool, true, false, cond, nat_lt, [], ◌∷◌, Option, None, Some, option_and_then, refl, sym, ap, subst, ◌∙◌, arith}
+use Rattle.std.proofs.Common.{◌≡◌, ℕ, ◌+◌, Bool, true, false, cond, nat_lt, [], ◌∷◌, Option, None, Some, option_and_then, unwrap_or, refl, sym, ap, subst, ◌∙◌, arith}
 use Rattle.fs_text.specs.declared.causes.Cause.{Cause}
 use Rattle.fs_api.specs.declared.api.Winner.{Winner}
 use Rattle.fs_api.specs.declared.api.Winner.TheVariants.{App, Route}
@@ -62,16 +62,16 @@ won_partners winner slot s h = by (chan_at s slot) refl
 same_partners : (f g : Front) → g ≡ f → Ties partner_of f.channels → Ties partner_of g.channels
 same_partners f g same h = subst (λ (x : Front). Ties partner_of x.channels) (sym same) h
 
-pub partners_moves : KeptByMoves Partners
-partners_moves =
-    moves_by_front Partners (λ b t u h same. same_partners (front_of t) (front_of u) same h)
+pub partners_moves : (before : Switch) → KeptByMoves before Partners
+partners_moves before =
+    moves_by_front before Partners (λ b t u h same. same_partners (front_of t) (front_of u) same h)
     (record {
       told = λ event plain h. h;
       globals = λ globals h. h;
-      changed = λ slot old new {s = s} there stays h. put_partners slot old new s there (ap (λ (l : Links). l.partner) stays.links) stays.live h;
+      changed = λ slot old new {s = s} there stays h. put_partners slot old new s there (ap (λ (l : Links). l.partner) stays.links) (λ lived. stays.live ∙ lived) h;
       answers = λ place slot number {s = s} h. same_partners (front_of s) (front_of (orig_changed (leg_changed (λ position. with_answer position place) slot) number s)) (orig_changed_front (leg_changed (λ position. with_answer position place) slot) number s) h;
       hung = λ cause slot {s = s} h. hung_partners cause slot s h;
       gone = λ slot old {s = s} there dead h. ties_gone partner_of s.channels slot old there dead h;
     })
-    (record { spent = λ h. h; pair = λ call orig a b {s = s} first second h. pair_partners call orig a b s first second h })
-    (λ winner slot s h. won_partners winner slot s h)
+    (record { spent = λ h. h; pair = λ call orig a b {s = s} short first second h. pair_partners call orig a b s first second h })
+    (λ a winner leg does has h. won_partners winner (unwrap_or leg.slot 0) before h)

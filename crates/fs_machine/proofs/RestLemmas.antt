@@ -12,6 +12,7 @@ use Rattle.fs_places.specs.Rows.{row_of}
 use Rattle.fs_state.specs.declared.conn.Conn.{Conn}
 use Rattle.fs_state.specs.declared.gift.Gift.{Gift}
 use Rattle.fs_state.specs.declared.job.Job.{Job}
+use Rattle.fs_state.specs.declared.job.JobWork.{JobWork}
 use Rattle.fs_state.specs.Counts.{Tallies}
 use Rattle.fs_state.specs.Queues.{Frames}
 use Rattle.fs_state.specs.Switch.{Switch, chan_at, with_chan, orig_of}
@@ -64,7 +65,7 @@ whichever P false x y first second = second
 
 -- ---- single moves
 
-orig_changed_rest : (change : Orig → Orig) (number : ℕ) (s : Switch) → rest_of (orig_changed change number s) ≡ rest_of s
+pub orig_changed_rest : (change : Orig → Orig) (number : ℕ) (s : Switch) → rest_of (orig_changed change number s) ≡ rest_of s
 orig_changed_rest change number s = by (orig_of s number)
   where
     by : (orig : Option Orig) → rest_of (orig_changed_from change number orig s) ≡ rest_of s
@@ -122,14 +123,9 @@ won_rest winner slot s = moved_rest (won_by winner) slot s
 
 pub leg_made_rest : (endpoint : Text) (caller : Caller) (orig : ℕ) (s : Switch) → rest_of (leg_made endpoint caller orig s).state ≡ rest_of s
 leg_made_rest endpoint caller orig s =
-    leg_made_kept (SameRest s) (record { spent = λ h. h; pair = λ call orig a b first second h. h }) endpoint caller orig {s = s} refl
+    leg_made_kept (SameRest s) (record { spent = λ h. h; pair = λ call orig a b short first second h. h }) endpoint caller orig {s = s} refl
 
 -- ---- a job is the one that it was
 
-pub does_same : {s t : Switch} {number conn : ℕ} {orig : Option ℕ} → DoesJob s number conn orig → rest_of t ≡ rest_of s → DoesJob t number conn orig
-does_same {s} {t} {number} {conn} {orig} does same = record {
-  job = does.job;
-  there = ap (λ (r : Rest). row_of r.jobs number) same ∙ does.there;
-  conn_is = does.conn_is;
-  tries = does.tries;
-}
+pub does_same : {s t : Switch} {number conn : ℕ} {what : JobWork} → DoesJob s number conn what → rest_of t ≡ rest_of s → DoesJob t number conn what
+does_same {s} {t} {number} does same = record { there = ap (λ (r : Rest). row_of r.jobs number) same ∙ does.there }

@@ -28,9 +28,9 @@ use Rattle.fs_machine.specs.Runs.{run_from, IsRunFrom}
 use Rattle.fs_machine.specs.Frames.{frames_among, given_in, given_by, handed_in, command_in}
 use Rattle.fs_machine.specs.Concerns.{actor_of, IsOwn, IsOthers, Comes, Concerns}
 use Rattle.fs_machine.proofs.RowLemmas.{row_none, row_of-without_row_other, row_of-with_new_row_same, row_of-with_new_row_other}
-use Rattle.fs_machine.proofs.KeepLemmas.{Settles, settles_same, Keeps, parted_keeps, commanded_keeps, job_done_keeps}
+use Rattle.fs_machine.proofs.KeepLemmas.{Settles, settles_same, Keeps, parted_keeps, work_keeps, commanded_keeps, job_done_keeps}
 use Rattle.fs_machine.proofs.WaitingLemmas.{Ordered, none_closed, keeps_waiting, closed_waits, taken_other, without_other, number_new, arrived_ordered, arrived_waits}
-use Rattle.fs_machine.proofs.OrderLemmas.{Orderly, work_keeps, acted_ordered, none_refused, not_full, not_refused, room_left, advanced_orderly, run_orderly, empty_orderly}
+use Rattle.fs_machine.proofs.OrderLemmas.{Orderly, acted_ordered, none_refused, not_full, not_refused, room_left, advanced_orderly, run_orderly, empty_orderly}
 use Rattle.fs_machine.proofs.FramesLaws.{close_refused, Lost, entry_follows, none_waits, run_front}
 
 -- ---- whose act it is

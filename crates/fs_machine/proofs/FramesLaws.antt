@@ -22,10 +22,10 @@ use Rattle.fs_machine.specs.Runs.{run_from, IsRunFrom}
 use Rattle.fs_machine.specs.Frames.{given_in, given_by, frames_from, handed_in, handed_from}
 use Rattle.fs_machine.proofs.FrameLemmas.{handed_more}
 use Rattle.fs_machine.proofs.RowLemmas.{place_stands, place_of-without_row_same}
-use Rattle.fs_machine.proofs.SocketLemmas.{whichever}
-use Rattle.fs_machine.proofs.KeepLemmas.{Keeps, parted_keeps, commanded_keeps, job_done_keeps}
+use Rattle.fs_machine.proofs.RestLemmas.{whichever}
+use Rattle.fs_machine.proofs.KeepLemmas.{Keeps, parted_keeps, work_keeps, commanded_keeps, job_done_keeps}
 use Rattle.fs_machine.proofs.WaitingLemmas.{Ordered, none_closed, some_open, keeps_waiting, closed_waits, closed_quietly, none_given, nothing_given, taken_ordered, taken_same, taken_other, without_ordered, without_same, without_other, arrived_waits}
-use Rattle.fs_machine.proofs.OrderLemmas.{Orderly, work_keeps, acted_ordered, acted_config, acted_drawn, acted_gone, none_refused, not_full, not_refused, room_left, advanced_orderly, entry_orderly, run_orderly, empty_waits, empty_orderly}
+use Rattle.fs_machine.proofs.OrderLemmas.{Orderly, acted_ordered, acted_config, acted_drawn, acted_gone, none_refused, not_full, not_refused, room_left, advanced_orderly, entry_orderly, run_orderly, empty_waits, empty_orderly}
 
 -- ---- one act
 

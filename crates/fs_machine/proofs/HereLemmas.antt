@@ -21,8 +21,7 @@ use Rattle.fs_machine.specs.Jobs.{job_done}
 use Rattle.fs_machine.specs.Commands.{command_of, commanded}
 use Rattle.fs_machine.specs.Step.{refused_where, refusal_of, fresh, arrived, acted, step}
 use Rattle.fs_machine.proofs.RowLemmas.{row_none, row_gone, places_same, row_of-with_new_row, row_of-with_new_row_other}
-use Rattle.fs_machine.proofs.KeepLemmas.{Hears, Keeps, commanded_keeps, job_done_keeps}
-use Rattle.fs_machine.proofs.OrderLemmas.{work_keeps}
+use Rattle.fs_machine.proofs.KeepLemmas.{Hears, Keeps, work_keeps, commanded_keeps, job_done_keeps}
 
 -- ---- each act
 

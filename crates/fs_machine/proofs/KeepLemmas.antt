@@ -1,50 +1,55 @@
 -- Commands, work and jobs keep all connections in their places, with what waits for them, and end no input.
-use Rattle.std.proofs.Common.{◌≡◌, ◌≢◌, ℕ, ◌*◌, nat_lt, if◌then◌else◌, Bool, true, false, List, length, slice_get, Option, None, Some, unwrap_or, option_and_then, ◌⊎◌, inl, inr, refl, sym, ap, subst, ◌∙◌}
-use Rattle.std.specs.Str.{bytes_eq}
+use Rattle.std.proofs.Common.{◌≡◌, ◌≢◌, ℕ, Bool, true, false, List, length, Option, None, Some, unwrap_or, option_and_then, ◌⊎◌, inl, inr, refl, sym, ap, subst, ◌∙◌}
 use Rattle.std.proofs.lemmas.Bool.{cases_eq}
 use Rattle.std.proofs.lemmas.Option.{same_Some, none-some}
 use Rattle.fs_text.specs.declared.causes.Cause.{Cause}
-use Rattle.fs_text.specs.declared.causes.Cause.TheVariants.{NoAnswer, InvalidNumberFormat}
 use Rattle.fs_vars.specs.Pairs.{Text}
-use Rattle.fs_vars.specs.Variables.{can_set, set_to}
-use Rattle.fs_vars.specs.Expansion.{expanded}
-use Rattle.fs_api.specs.declared.api.Api.{Api}
-use Rattle.fs_api.specs.declared.api.Api.TheVariants as api
+use Rattle.fs_doc.specs.Reading.{Configuration}
 use Rattle.fs_api.specs.declared.api.Winner.{Winner}
-use Rattle.fs_api.specs.Readings.{api_of, expanded_api_of}
-use Rattle.fs_chan.specs.Moments.{moment_after}
 use Rattle.fs_orig.specs.declared.leg.OrigLeg.{OrigLeg}
-use Rattle.fs_orig.specs.declared.orig.Orig.{Orig}
-use Rattle.fs_orig.specs.declared.verdict.Verdict.{Verdict}
-use Rattle.fs_orig.specs.declared.verdict.Verdict.TheVariants as verdict
-use Rattle.fs_orig.specs.Endpoints.{is_one_leg}
-use Rattle.fs_orig.specs.Verdicts.{verdict_of}
 use Rattle.fs_places.specs.declared.numbered.Numbered.{Numbered}
 use Rattle.fs_places.specs.Places.{held_in}
 use Rattle.fs_places.specs.Rows.{has_number, place_of, row_of, with_row}
+use Rattle.fs_state.specs.Counts.{Tallies}
+use Rattle.fs_state.specs.Queues.{Frames}
 use Rattle.fs_state.specs.declared.conn.Conn.{Conn}
-use Rattle.fs_state.specs.declared.conn.Phase.{Phase}
-use Rattle.fs_state.specs.declared.conn.Phase.TheVariants.{Fresh, Ready, Ending, Closed}
+use Rattle.fs_state.specs.declared.conn.Phase.TheVariants.{Fresh}
 use Rattle.fs_state.specs.declared.conn.Parting.{Parting}
 use Rattle.fs_state.specs.declared.conn.Parting.TheVariants as parting
-use Rattle.fs_state.specs.declared.job.Job.{Job}
 use Rattle.fs_state.specs.declared.job.JobWork.{JobWork}
 use Rattle.fs_state.specs.declared.job.JobWork.TheVariants.{Sleep, Originate}
-use Rattle.fs_state.specs.Switch.{Switch, conn_of, orig_of, job_of, next_orig, slot_named, is_full_of_jobs, with_new_job, without_job, without_orig}
-use Rattle.fs_state.specs.Moves.{hung}
+use Rattle.fs_state.specs.Switch.{Switch, conn_of, next_orig, is_full_of_jobs, with_new_job, without_job, without_orig, gave}
 use Rattle.fs_machine.specs.declared.jobs.Attempt.{Attempt}
 use Rattle.fs_machine.specs.declared.originations.Caller.{Caller}
-use Rattle.fs_machine.specs.Texts.{ok, accepted, invalid, bye, not_found, limit_passed, too_long_text, too_many_jobs, failed_text, made_text}
+use Rattle.fs_machine.specs.Texts.{made_text, failed_text}
 use Rattle.fs_machine.specs.Connections.{conn_changed_from, conn_changed, admitted, parted, owed_since, not_owed, phase_of, phase_at}
 use Rattle.fs_machine.specs.Questions.{parting_of, owed_of}
 use Rattle.fs_machine.specs.Originations.{Made, leg_made, won}
-use Rattle.fs_machine.specs.Jobs.{owing, ended, sleep_begun, orig_begun, tried_by_job, originate_begun, living_slots, all_hung, failed, won_at, judged, judged_from, worked_by, job_done_from, job_done}
-use Rattle.fs_machine.specs.Api.{Done, says, owes, set_global, killed, slept, originated, done_plainly, done_expanded, done_by}
-use Rattle.fs_machine.specs.Commands as spec
-use Rattle.fs_machine.specs.Commands.{Command, replied, dismissed, offered, responded_with, responded, commanded_in, commanded}
+use Rattle.fs_machine.specs.Jobs.{owing, ended, orig_begun, tried_by_job, originate_begun, failed, job_done}
+use Rattle.fs_machine.specs.Commands.{Command, commanded}
+use Rattle.fs_machine.specs.Work.{worked}
 use Rattle.fs_machine.specs.Step.{is_closed}
 use Rattle.fs_machine.proofs.RowLemmas.{each_put_at, length_put_at, SameNumbers, held_of, row_at, row_none, numbers-with_row, row_of-with_row_same, row_of-with_row_other}
-use Rattle.fs_machine.proofs.SocketLemmas.{Sockets, sockets_of, whichever, hung_same, all_hung_same, leg_made_same, won_same}
+use Rattle.fs_machine.proofs.Kept.{Fact, KeptByCalls, KeptByJobs, LeavesBy, KeptByCommands}
+use Rattle.fs_machine.proofs.RestLemmas.{Rest, rest_of, calls_by_rest, leg_made_rest, worked_rest, won_rest}
+use Rattle.fs_machine.proofs.ActWalk.{job_kept, commanded_kept}
+
+-- the connections of a switch, with what waits for them and what numbers them, and what was counted and paid before the entry in hand
+pub record Sockets : Type 0 where
+  pub config : Configuration
+  pub conns : List (Option (Numbered Conn))
+  pub queues : List Frames
+  pub drawn : ℕ
+  pub cost : ℕ
+  pub counts : Tallies
+
+abbrev pub sockets_of : Switch → Sockets
+sockets_of s = record { config = s.config; conns = s.conns; queues = s.queues; drawn = s.drawn.conns; cost = s.cost; counts = s.counts }
+
+-- the rest tells them
+sockets_same : (s t : Switch) → rest_of t ≡ rest_of s → sockets_of t ≡ sockets_of s
+sockets_same s t same =
+    ap (λ (r : Rest). let sockets : Sockets = record { config = r.config; conns = r.conns; queues = r.queues; drawn = r.conns_drawn; cost = r.cost; counts = r.counts } in sockets) same
 
 -- a connection that is there, and is gone
 abbrev pub is_shut : Option (Numbered Conn) → Bool
@@ -204,139 +209,88 @@ owing_keeps conn work s =
     let begun : Switch = with_new_job (record { conn = conn; work = work }) s in
     keeps_trans s begun (conn_changed (owed_since s.entries) conn begun) (keeps_same s begun refl) (own_changed_keeps (owed_since s.entries) (λ c h. h) (λ none c heard. heard) conn begun)
 
-ended_keeps : (number conn : ℕ) (answer : Text) (s : Switch) → Keeps None false s (ended number conn answer s)
+ended_keeps : {who : Option ℕ} → (number conn : ℕ) (answer : Text) (s : Switch) → Keeps who false s (ended number conn answer s)
 ended_keeps number conn answer s =
     keeps_on s (conn_changed not_owed conn (without_job number s)) (ended number conn answer s)
     (keeps_trans s (without_job number s) (conn_changed not_owed conn (without_job number s)) (keeps_same s (without_job number s) refl)
     (conn_changed_keeps not_owed (λ c h. h) (λ none c heard. heard) conn (λ apart c. record { phase = refl; owed = λ none. refl }) (without_job number s)))
     refl
 
-tried_keeps : (conn : ℕ) (endpoint : Text) (winner : Winner) (timeout orig : ℕ) (made : Made) (s : Switch) → sockets_of made.state ≡ sockets_of s →
+begun_keeps : (conn : ℕ) (endpoint : Text) (winner : Winner) (timeout orig : ℕ) (made : Made) (s : Switch) → sockets_of made.state ≡ sockets_of s →
     Keeps (Some conn) false s (tried_by_job conn endpoint winner timeout orig made)
-tried_keeps conn endpoint winner timeout orig made s same =
+begun_keeps conn endpoint winner timeout orig made s same =
     keeps_trans s (orig_begun endpoint made.leg timeout made.state) (tried_by_job conn endpoint winner timeout orig made)
     (keeps_same s (orig_begun endpoint made.leg timeout made.state) same)
     (owing_keeps conn (Originate orig winner) (orig_begun endpoint made.leg timeout made.state))
 
-originate_begun_keeps : (conn : ℕ) (endpoint : Text) (winner : Winner) (caller : Caller) (timeout : Option ℕ) (s : Switch) →
-    Keeps (Some conn) false s (originate_begun conn endpoint winner caller timeout s)
-originate_begun_keeps conn endpoint winner caller timeout s =
-    tried_keeps conn endpoint winner (unwrap_or timeout 60) (next_orig s) (leg_made endpoint caller (next_orig s) s) s (leg_made_same endpoint caller (next_orig s) s)
+-- ---- every move
 
-failed_keeps : (a : Attempt) (cause : Cause) (s : Switch) → Keeps None false s (failed a cause s)
-failed_keeps a cause s =
-    keeps_trans s (without_orig a.orig s) (failed a cause s) (keeps_same s (without_orig a.orig s) refl) (ended_keeps a.job a.conn (failed_text cause) (without_orig a.orig s))
+-- what a switch keeps of an earlier one
+abbrev KeepsFrom : Option ℕ → Switch → Fact
+KeepsFrom who s b t = Keeps who false s t
 
-won_at_keeps : (a : Attempt) (winner : Winner) (leg : Option OrigLeg) (s : Switch) → Keeps None false s (won_at a winner leg s)
-won_at_keeps a winner None s = keeps_refl s
-won_at_keeps a winner (Some leg) s =
-    keeps_trans s (without_orig a.orig (won winner (unwrap_or leg.slot 0) s)) (won_at a winner (Some leg) s)
-    (keeps_same s (without_orig a.orig (won winner (unwrap_or leg.slot 0) s)) (won_same winner (unwrap_or leg.slot 0) s))
-    (ended_keeps a.job a.conn (made_text leg.uuid) (without_orig a.orig (won winner (unwrap_or leg.slot 0) s)))
+calls_keep : (who : Option ℕ) (s : Switch) → KeptByCalls (KeepsFrom who s)
+calls_keep who s = calls_by_rest (KeepsFrom who s) (λ b t u h same. keeps_on s t u h (sockets_same t u same))
 
-judged_keeps : (what : Verdict) (a : Attempt) (winner : Winner) (o : Orig) (s : Switch) → Keeps None false s (judged what a winner o s)
-judged_keeps (verdict.Won position) a winner o s = won_at_keeps a winner (slice_get o.legs position) s
-judged_keeps (verdict.Failed cause) a winner o s = failed_keeps a cause s
-judged_keeps verdict.Expired a winner o s =
-    keeps_trans s (all_hung NoAnswer (living_slots o.legs) s) (failed a NoAnswer (all_hung NoAnswer (living_slots o.legs) s))
-    (keeps_same s (all_hung NoAnswer (living_slots o.legs) s) (all_hung_same NoAnswer (living_slots o.legs) s))
-    (failed_keeps a NoAnswer (all_hung NoAnswer (living_slots o.legs) s))
-judged_keeps _ a winner o s = keeps_refl s
+-- the jobs that end
+module _ (s : Switch) where
+  over_keeps : (a : Attempt) (answer : Text) (t u : Switch) → sockets_of u ≡ sockets_of t → Keeps None false s t → Keeps None false s (ended a.job a.conn answer (without_orig a.orig u))
+  over_keeps a answer t u same h =
+      keeps_trans s (without_orig a.orig u) (ended a.job a.conn answer (without_orig a.orig u)) (keeps_on s t (without_orig a.orig u) h same)
+      (ended_keeps a.job a.conn answer (without_orig a.orig u))
 
-judged_from_keeps : (a : Attempt) (winner : Winner) (orig : Option Orig) (s : Switch) → Keeps None false s (judged_from a winner orig s)
-judged_from_keeps a winner None s = keeps_refl s
-judged_from_keeps a winner (Some o) s = judged_keeps (verdict_of s.moment o) a winner o s
+  wins_keep : (a : Attempt) (winner : Winner) (leg : OrigLeg) → Keeps None false s s → Keeps None false s (ended a.job a.conn (made_text leg.uuid) (without_orig a.orig (won winner (unwrap_or leg.slot 0) s)))
+  wins_keep a winner leg h =
+      let t : Switch = won winner (unwrap_or leg.slot 0) s in
+      over_keeps a (made_text leg.uuid) s t (sockets_same s t (won_rest winner (unwrap_or leg.slot 0) s)) h
 
-worked_by_keeps : (work : JobWork) (number conn : ℕ) (s : Switch) → Keeps None false s (worked_by work number conn s)
-worked_by_keeps (Sleep until) number conn s = ended_keeps number conn ok s
-worked_by_keeps (Originate orig winner) number conn s = judged_from_keeps (record { job = number; conn = conn; orig = orig }) winner (orig_of s orig) s
+  jobs_keep : KeptByJobs s (KeepsFrom None s)
+  jobs_keep = record {
+    woken = λ number conn until answer {s = t} does h. keeps_trans s t (ended number conn answer t) h (ended_keeps number conn answer t);
+    failed = λ a winner cause {s = t} does h. over_keeps a (failed_text cause) t t refl h;
+    wins = λ a winner leg does has h. wins_keep a winner leg h;
+  }
 
-job_done_from_keeps : (number : ℕ) (job : Option Job) (s : Switch) → Keeps None false s (job_done_from number job s)
-job_done_from_keeps number None s = keeps_refl s
-job_done_from_keeps number (Some job) s = worked_by_keeps job.work number job.conn s
+-- the commands of a connection
+module _ (conn : ℕ) (s : Switch) where
+  gave_keeps : (frame : Text) {t : Switch} → Keeps (Some conn) false s t → Keeps (Some conn) false s (gave conn frame t)
+  gave_keeps frame {t} h = keeps_on s t (gave conn frame t) h refl
+
+  admitted_keeps : {t : Switch} → phase_at t conn ≡ Fresh → Keeps (Some conn) false s t → Keeps (Some conn) false s (conn_changed admitted conn t)
+  admitted_keeps {t} fresh h = keeps_trans s t (conn_changed admitted conn t) h (own_changed_keeps admitted (λ c h. refl) (λ none c heard. heard) conn t)
+
+  leaves_keeps : (why : Parting) {t : Switch} → LeavesBy why → Keeps (Some conn) false s t → Keeps (Some conn) false s (conn_changed (parted why) conn t)
+  leaves_keeps parting.Exit {t} leaves h = keeps_trans s t (conn_changed (parted parting.Exit) conn t) h (parted_keeps parting.Exit conn t)
+  leaves_keeps parting.AuthRefused {t} leaves h = keeps_trans s t (conn_changed (parted parting.AuthRefused) conn t) h (parted_keeps parting.AuthRefused conn t)
+  leaves_keeps parting.EndOfInput leaves h = absurd leaves
+
+  sleeps_keep : (until : ℕ) {t : Switch} → is_full_of_jobs t ≡ false → Keeps (Some conn) false s t → Keeps (Some conn) false s (owing conn (Sleep until) t)
+  sleeps_keep until {t} room h = keeps_trans s t (owing conn (Sleep until) t) h (owing_keeps conn (Sleep until) t)
+
+  originates_keep : (endpoint : Text) (winner : Winner) (caller : Caller) (timeout : Option ℕ) {t : Switch} → Keeps (Some conn) false s t →
+      Keeps (Some conn) false s (originate_begun conn endpoint winner caller timeout t)
+  originates_keep endpoint winner caller timeout {t} h =
+      keeps_trans s t (originate_begun conn endpoint winner caller timeout t) h
+      (begun_keeps conn endpoint winner (unwrap_or timeout 60) (next_orig t) (leg_made endpoint caller (next_orig t) t) t
+      (sockets_same t (leg_made endpoint caller (next_orig t) t).state (leg_made_rest endpoint caller (next_orig t) t)))
+
+  commands_keep : KeptByCommands conn (KeepsFrom (Some conn) s)
+  commands_keep = record {
+    spent = λ h. h;
+    gave = λ frame h. gave_keeps frame h;
+    admitted = admitted_keeps;
+    parted = leaves_keeps;
+    sleeps = sleeps_keep;
+    originates = λ endpoint winner caller timeout short room h. originates_keep endpoint winner caller timeout h;
+  }
+
+-- ---- what acts keep
+
+pub work_keeps : (slot : ℕ) (s : Switch) → Keeps None false s (worked slot s)
+work_keeps slot s = keeps_same s (worked slot s) (sockets_same s (worked slot s) (worked_rest slot s))
 
 pub job_done_keeps : (number : ℕ) (s : Switch) → Keeps None false s (job_done number s)
-unfolding job_done
-job_done_keeps number s = job_done_from_keeps number (job_of s number) s
-
--- ---- api commands
-
-set_global_keeps : {who : Option ℕ} {may_end : Bool} → (name value : Text) (s : Switch) → Keeps who may_end s (set_global name value s).state
-set_global_keeps {who} {may_end} name value s =
-    whichever (λ (d : Done). Keeps who may_end s d.state) (can_set s.globals name value) (says ok (record s { globals = set_to s.globals name value })) (says limit_passed s)
-    (keeps_same s (record s { globals = set_to s.globals name value }) refl) (keeps_refl s)
-
-killed_keeps : {who : Option ℕ} {may_end : Bool} → (cause : Cause) (slot : Option ℕ) (s : Switch) → Keeps who may_end s (killed cause slot s).state
-killed_keeps cause None s = keeps_refl s
-killed_keeps cause (Some slot) s = keeps_same s (hung cause slot s) (hung_same cause slot s)
-
-slept_keeps : (conn milliseconds : ℕ) (s : Switch) → Keeps (Some conn) false s (slept conn milliseconds s).state
-slept_keeps conn milliseconds s =
-    whichever (λ (d : Done). Keeps (Some conn) false s d.state) (is_full_of_jobs s) (says too_many_jobs s) (owes (sleep_begun conn milliseconds s)) (keeps_refl s) (owing_keeps conn (Sleep (moment_after s.moment (milliseconds * 1000))) s)
-
-originated_keeps : (conn : ℕ) (url : Text) (winner : Winner) (caller : Caller) (timeout : Option ℕ) (s : Switch) → Keeps (Some conn) false s (originated conn url winner caller timeout s).state
-originated_keeps conn url winner caller timeout s =
-    whichever (λ (d : Done). Keeps (Some conn) false s d.state) (is_full_of_jobs s) (says too_many_jobs s)
-    (if is_one_leg url then owes (originate_begun conn url winner caller timeout s) else says (failed_text InvalidNumberFormat) s) (keeps_refl s)
-    (whichever (λ (d : Done). Keeps (Some conn) false s d.state) (is_one_leg url) (owes (originate_begun conn url winner caller timeout s)) (says (failed_text InvalidNumberFormat) s)
-    (originate_begun_keeps conn url winner caller timeout s) (keeps_refl s))
-
-done_plainly_keeps : (conn : ℕ) (what : Api) (s : Switch) → Keeps (Some conn) false s (done_plainly conn what s).state
-done_plainly_keeps conn (api.Echo text) s = keeps_refl s
-done_plainly_keeps conn (api.Expand text) s = keeps_refl s
-done_plainly_keeps conn (api.GlobalGetvar name) s = keeps_refl s
-done_plainly_keeps conn (api.GlobalSetvar name value) s = set_global_keeps name value s
-done_plainly_keeps conn (api.Msleep milliseconds) s = slept_keeps conn milliseconds s
-done_plainly_keeps conn (api.UuidExists uuid) s = keeps_refl s
-done_plainly_keeps conn (api.UuidKill uuid cause) s = killed_keeps cause (slot_named uuid s) s
-done_plainly_keeps conn (api.UuidGetvar uuid name) s = keeps_refl s
-done_plainly_keeps conn (api.Originate url winner cid_name cid_number timeout) s =
-    originated_keeps conn url winner (record { name = cid_name; number = cid_number }) timeout s
-done_plainly_keeps conn (api.Usage which) s = keeps_refl s
-done_plainly_keeps conn (api.Unknown name) s = keeps_refl s
-
-done_expanded_keeps : (conn : ℕ) (text : Text) (s : Switch) → Keeps (Some conn) false s (done_expanded conn text s).state
-done_expanded_keeps conn text s =
-    whichever (λ (d : Done). Keeps (Some conn) false s d.state) (nat_lt 65536 (length text)) (says too_long_text s) (done_plainly conn (expanded_api_of text) s)
-    (keeps_refl s) (done_plainly_keeps conn (expanded_api_of text) s)
-
-done_by_keeps : (conn : ℕ) (what : Api) (s : Switch) → Keeps (Some conn) false s (done_by conn what s).state
-done_by_keeps conn (api.Expand text) s = done_expanded_keeps conn (expanded s.globals.pairs text) s
-done_by_keeps conn other s = done_plainly_keeps conn other s
-
--- ---- commands
-
-replied_keeps : (conn : ℕ) (text : Text) (s : Switch) → Keeps (Some conn) false s (replied conn text s)
-replied_keeps conn text s = keeps_same s (replied conn text s) refl
-
-dismissed_keeps : (conn : ℕ) (why : Parting) (text : Text) (s : Switch) → Keeps (Some conn) (ends_input why) s (dismissed conn why text s)
-dismissed_keeps conn why text s = keeps_on s (conn_changed (parted why) conn s) (dismissed conn why text s) (parted_keeps why conn s) refl
-
-offered_keeps : (conn : ℕ) (given : Text) (s : Switch) → Keeps (Some conn) false s (offered conn given s)
-offered_keeps conn given s =
-    whichever (Keeps (Some conn) false s) (bytes_eq given s.config.settings.password) (replied conn accepted (conn_changed admitted conn s)) (dismissed conn parting.AuthRefused invalid s)
-    (keeps_on s (conn_changed admitted conn s) (replied conn accepted (conn_changed admitted conn s)) (own_changed_keeps admitted (λ c h. refl) (λ none c heard. heard) conn s) refl)
-    (dismissed_keeps conn parting.AuthRefused invalid s)
-
-responded_with_keeps : (conn : ℕ) (answer : Option Text) (s t : Switch) → Keeps (Some conn) false s t → Keeps (Some conn) false s (responded_with conn answer t)
-responded_with_keeps conn None s t keeps = keeps
-responded_with_keeps conn (Some answer) s t keeps = keeps_on s t (responded_with conn (Some answer) t) keeps refl
-
-responded_keeps : (conn : ℕ) (d : Done) (s : Switch) → Keeps (Some conn) false s d.state → Keeps (Some conn) false s (responded conn d)
-responded_keeps conn d s keeps = responded_with_keeps conn d.answer s d.state keeps
-
-commanded_in_keeps : (now : Phase) (conn : ℕ) (command : Command) (s : Switch) → Keeps (Some conn) false s (commanded_in now conn command s)
-commanded_in_keeps Fresh conn (spec.Auth given) s = offered_keeps conn given s
-commanded_in_keeps Fresh conn spec.Exit s = dismissed_keeps conn parting.Exit bye s
-commanded_in_keeps Fresh conn (spec.Api text) s = replied_keeps conn not_found s
-commanded_in_keeps Fresh conn spec.Unknown s = replied_keeps conn not_found s
-commanded_in_keeps Ready conn (spec.Auth given) s = replied_keeps conn not_found s
-commanded_in_keeps Ready conn spec.Exit s = dismissed_keeps conn parting.Exit bye s
-commanded_in_keeps Ready conn (spec.Api text) s = responded_keeps conn (done_by conn (api_of text) s) s (done_by_keeps conn (api_of text) s)
-commanded_in_keeps Ready conn spec.Unknown s = replied_keeps conn not_found s
-commanded_in_keeps Ending conn command s = keeps_refl s
-commanded_in_keeps Closed conn command s = keeps_refl s
+job_done_keeps number s = job_kept s (KeepsFrom None s) (calls_keep None s) (jobs_keep s) number (keeps_refl s)
 
 pub commanded_keeps : (conn : ℕ) (command : Command) (s : Switch) → Keeps (Some conn) false s (commanded conn command s)
-unfolding commanded
-commanded_keeps conn command s = commanded_in_keeps (phase_at s conn) conn command s
+commanded_keeps conn command s = commanded_kept conn (KeepsFrom (Some conn) s) (calls_keep (Some conn) s) (commands_keep conn s) command {s = s} (keeps_refl s)

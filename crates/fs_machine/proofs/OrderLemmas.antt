@@ -25,16 +25,11 @@ use Rattle.fs_machine.specs.Commands.{command_of, commanded}
 use Rattle.fs_machine.specs.Step.{refused_where, refused_act, refusal_of, acted, step}
 use Rattle.fs_machine.specs.Runs.{run_from, IsRunFrom}
 use Rattle.fs_machine.proofs.RowLemmas.{nowhere}
-use Rattle.fs_machine.proofs.SocketLemmas.{worked_same}
-use Rattle.fs_machine.proofs.KeepLemmas.{is_shut, Keeps, keeps_same, parted_keeps, commanded_keeps, job_done_keeps}
+use Rattle.fs_machine.proofs.KeepLemmas.{is_shut, keeps_same, parted_keeps, work_keeps, commanded_keeps, job_done_keeps}
 use Rattle.fs_machine.proofs.WaitingLemmas.{Ordered, keeps_ordered, keeps_place, closed_ordered, taken_ordered, without_ordered, arrived_ordered, arrived_gone, without_gone}
 use Rattle.fs_machine.proofs.FrameLemmas.{some_cost}
 
 -- ---- what each act keeps
-
--- a channel that works keeps the connections
-pub work_keeps : (slot : ℕ) (s : Switch) → Keeps None false s (worked slot s)
-work_keeps slot s = keeps_same s (worked slot s) (worked_same slot s)
 
 -- the connections that there are, and their queues
 pub acted_ordered : (act : Act) (s : Switch) → Ordered s → s.drawn.conns < 2 ^ 32 - 1 → Ordered (acted act s).state

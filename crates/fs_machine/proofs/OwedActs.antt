@@ -1,46 +1,43 @@
--- What commands and the other acts do keeps the facts on connections, on jobs and on originations.
-use Rattle.std.proofs.Common.{◌≡◌, ℕ, Bool, true, false, not, nat_lt, if◌then◌else◌, length, Option, None, Some, is_none, refl, sym, ap, subst, ◌∙◌}
+-- What entries do keeps the facts on connections, on jobs and on originations.
+use Rattle.std.proofs.Common.{◌≡◌, ℕ, Bool, true, false, not, Option, None, Some, is_none, unwrap_or, refl, sym, ap, subst, ◌∙◌}
 use Rattle.std.specs.Option.{option_and_then}
 use Rattle.std.proofs.lemmas.Bool.{false≢true, not-false}
-use Rattle.std.specs.Str.{bytes_eq}
-use Rattle.fs_text.specs.declared.causes.Cause.{Cause}
-use Rattle.fs_text.specs.declared.causes.Cause.TheVariants.{InvalidNumberFormat}
 use Rattle.fs_vars.specs.Pairs.{Text}
-use Rattle.fs_vars.specs.Variables.{can_set, set_to}
-use Rattle.fs_vars.specs.Expansion.{expanded}
 use Rattle.fs_frame.specs.Block.{line_of}
-use Rattle.fs_api.specs.declared.api.Api.{Api}
-use Rattle.fs_api.specs.declared.api.Api.TheVariants as api
 use Rattle.fs_api.specs.declared.api.Winner.{Winner}
-use Rattle.fs_api.specs.Readings.{api_of, expanded_api_of}
-use Rattle.fs_orig.specs.Endpoints.{is_one_leg}
+use Rattle.fs_orig.specs.declared.leg.OrigLeg.{OrigLeg}
 use Rattle.fs_places.specs.Places.{least_free}
+use Rattle.fs_places.specs.Rows.{row_of}
 use Rattle.fs_state.specs.declared.conn.Conn.{Conn}
 use Rattle.fs_state.specs.declared.conn.Phase.{Phase}
 use Rattle.fs_state.specs.declared.conn.Phase.TheVariants as phase
 use Rattle.fs_state.specs.declared.conn.Parting.{Parting}
 use Rattle.fs_state.specs.declared.conn.Parting.TheVariants as parting
-use Rattle.fs_state.specs.Switch.{Switch, conn_of, slot_named}
+use Rattle.fs_state.specs.declared.job.JobWork.TheVariants as work
+use Rattle.fs_state.specs.Switch.{Switch, conn_of, is_full_of_jobs, without_orig, gave}
 use Rattle.fs_machine.specs.declared.entry.Act.{Act}
 use Rattle.fs_machine.specs.declared.entry.Act.TheVariants as act
 use Rattle.fs_machine.specs.declared.entry.Closing.{Closing}
 use Rattle.fs_machine.specs.declared.entry.Closing.TheVariants as closing
+use Rattle.fs_machine.specs.declared.jobs.Attempt.{Attempt}
 use Rattle.fs_machine.specs.declared.originations.Caller.{Caller}
 use Rattle.fs_machine.specs.declared.refusal.Refusal.{Refusal}
 use Rattle.fs_machine.specs.declared.refusal.Refusal.TheVariants as refusal
-use Rattle.fs_machine.specs.Texts.{ok, limit_passed, too_long_text, too_many_jobs, failed_text, accepted, invalid}
+use Rattle.fs_machine.specs.Texts.{made_text, failed_text}
 use Rattle.fs_machine.specs.Connections.{phase_of, phase_at, conn_changed, admitted, parted}
 use Rattle.fs_machine.specs.Questions.{owed_of, owed_to}
-use Rattle.fs_machine.specs.Jobs.{sleep_begun, originate_begun}
-use Rattle.fs_machine.specs.Api.{Done, says, owes, set_global, killed, slept, originated, done_plainly, done_expanded, done_by}
-use Rattle.fs_machine.specs.Commands as spec
-use Rattle.fs_machine.specs.Commands.{replied, dismissed, offered, responded_with, responded, commanded_in, commanded, command_of}
+use Rattle.fs_machine.specs.Originations.{won}
+use Rattle.fs_machine.specs.Jobs.{owing, ended, originate_begun}
+use Rattle.fs_machine.specs.Commands.{command_of}
 use Rattle.fs_machine.specs.Step.{reads, busy, refused_where, refused_act, closed_by, acted}
-use Rattle.fs_machine.specs.Owed.{PartsIn, Parts}
+use Rattle.fs_machine.specs.Owed.{PartsIn}
 use Rattle.fs_machine.proofs.TableLemmas.{something_there}
-use Rattle.fs_machine.proofs.OwedBooks.{Books, books_of, Sound, Goes, Few}
-use Rattle.fs_machine.proofs.OwedMoves.{kept_hung, kept_worked}
-use Rattle.fs_machine.proofs.OwedJobs.{goes_same, parts_of, goes_conn, goes_gone, goes_arrived, goes_sleep, goes_originate, goes_job_done}
+use Rattle.fs_machine.proofs.Kept.{Fact, KeptByCalls, DoesJob, KeptByJobs, KeptByCommands}
+use Rattle.fs_machine.proofs.Walk.{worked_kept}
+use Rattle.fs_machine.proofs.RestLemmas.{rest_of, calls_by_rest, does_same, won_rest}
+use Rattle.fs_machine.proofs.ActWalk.{job_kept, commanded_kept}
+use Rattle.fs_machine.proofs.OwedBooks.{Books, books_of, books_same, Sound, Goes, Few}
+use Rattle.fs_machine.proofs.OwedJobs.{near_self, parts_of, goes_conn, goes_gone, goes_arrived, goes_sleep, goes_originate, goes_woken, goes_over}
 
 -- ---- refusals
 
@@ -65,123 +62,97 @@ may_owe s conn reading none = by (conn_of s conn) refl
     by None is = absurd (false≢true (sym (ap (λ (found : Option Conn). reads (phase_of found)) is) ∙ reading))
     by (Some c) is = (c, record { there = is; none = sym (ap (λ (found : Option Conn). option_and_then owed_of found) is) ∙ none })
 
--- ---- api commands
+-- ---- every move
 
-goes_slept : (s : Switch) (conn milliseconds : ℕ) (c : Conn) → MayOwe s conn c → Few (books_of s) → Sound (books_of s) → Goes (books_of s) (books_of (slept conn milliseconds s).state)
-goes_slept s conn milliseconds c may few h = by (least_free s.jobs 0) refl
-  where
-    by : (found : Option ℕ) → least_free s.jobs 0 ≡ found → Goes (books_of s) (books_of (if is_none found then says too_many_jobs s else owes (sleep_begun conn milliseconds s)).state)
-    by None is = goes_same (books_of s) (books_of s) refl h
-    by (Some q) is = goes_sleep s conn milliseconds c q may.there may.none is few h
+-- at first the books are what they were; once something has begun they are as they must be, near what they were
+abbrev GoesFrom : Books → Fact
+GoesFrom b true t = books_of t ≡ b
+GoesFrom b false t = Goes b (books_of t)
 
-goes_originated : (s : Switch) (conn : ℕ) (url : Text) (winner : Winner) (caller : Caller) (timeout : Option ℕ) (c : Conn) → MayOwe s conn c → Few (books_of s) →
-    Sound (books_of s) → Goes (books_of s) (books_of (originated conn url winner caller timeout s).state)
-goes_originated s conn url winner caller timeout c may few h = by (least_free s.jobs 0) refl (is_one_leg url)
-  where
-    by : (found : Option ℕ) → least_free s.jobs 0 ≡ found → (one : Bool) →
-        Goes (books_of s) (books_of (if is_none found then says too_many_jobs s else (if one then owes (originate_begun conn url winner caller timeout s) else says (failed_text InvalidNumberFormat) s)).state)
-    by None is one = goes_same (books_of s) (books_of s) refl h
-    by (Some q) is true = goes_originate s conn url winner caller timeout c q may.there may.none is few h
-    by (Some q) is false = goes_same (books_of s) (books_of s) refl h
+goes_same : (b : Books) (fresh : Bool) (t u : Switch) → GoesFrom b fresh t → rest_of u ≡ rest_of t → GoesFrom b fresh u
+goes_same b true t u h same = books_same t u same ∙ h
+goes_same b false t u h same = subst (λ (x : Books). Goes b x) (sym (books_same t u same)) h
 
-kept_set_global : (name value : Text) (s : Switch) → books_of (set_global name value s).state ≡ books_of s
-kept_set_global name value s = by (can_set s.globals name value)
-  where
-    by : (b : Bool) → books_of (if b then says ok (record s { globals = set_to s.globals name value }) else says limit_passed s).state ≡ books_of s
-    by true = refl
-    by false = refl
+calls_go : (b : Books) → KeptByCalls (GoesFrom b)
+calls_go b = calls_by_rest (GoesFrom b) (goes_same b)
 
-kept_killed : (cause : Cause) (slot : Option ℕ) (s : Switch) → books_of (killed cause slot s).state ≡ books_of s
-kept_killed cause None s = refl
-kept_killed cause (Some slot) s = kept_hung cause slot s
+goes_spent : (b : Books) → Sound b → (t : Switch) → books_of t ≡ b → Goes b (books_of t)
+goes_spent b sound t same = subst (λ (x : Books). Goes b x) (sym same) (record { sound = sound; near = near_self b })
 
-goes_done_plainly : (command : Api) (s : Switch) (conn : ℕ) (c : Conn) → MayOwe s conn c → Few (books_of s) → Sound (books_of s) →
-    Goes (books_of s) (books_of (done_plainly conn command s).state)
-goes_done_plainly (api.Echo text) s conn c may few h = goes_same (books_of s) (books_of s) refl h
-goes_done_plainly (api.Expand text) s conn c may few h = goes_same (books_of s) (books_of s) refl h
-goes_done_plainly (api.GlobalGetvar name) s conn c may few h = goes_same (books_of s) (books_of s) refl h
-goes_done_plainly (api.GlobalSetvar name value) s conn c may few h = goes_same (books_of s) (books_of (set_global name value s).state) (kept_set_global name value s) h
-goes_done_plainly (api.Msleep milliseconds) s conn c may few h = goes_slept s conn milliseconds c may few h
-goes_done_plainly (api.UuidExists uuid) s conn c may few h = goes_same (books_of s) (books_of s) refl h
-goes_done_plainly (api.UuidKill uuid cause) s conn c may few h =
-    goes_same (books_of s) (books_of (killed cause (slot_named uuid s) s).state) (kept_killed cause (slot_named uuid s) s) h
-goes_done_plainly (api.UuidGetvar uuid name) s conn c may few h = goes_same (books_of s) (books_of s) refl h
-goes_done_plainly (api.Originate url winner cid_name cid_number timeout) s conn c may few h =
-    goes_originated s conn url winner (record { name = cid_name; number = cid_number }) timeout c may few h
-goes_done_plainly (api.Usage which) s conn c may few h = goes_same (books_of s) (books_of s) refl h
-goes_done_plainly (api.Unknown name) s conn c may few h = goes_same (books_of s) (books_of s) refl h
+-- the jobs that end
+wins_go : (b : Books) (s : Switch) (a : Attempt) (winner : Winner) (leg : OrigLeg) → DoesJob s a.job a.conn (work.Originate a.orig winner) → Goes b (books_of s) →
+    Goes b (books_of (ended a.job a.conn (made_text leg.uuid) (without_orig a.orig (won winner (unwrap_or leg.slot 0) s))))
+wins_go b s a winner leg does h =
+    let slot : ℕ = unwrap_or leg.slot 0 in
+    goes_over b (won winner slot s) a.job a.conn a.orig winner (made_text leg.uuid) (does_same does (won_rest winner slot s)) (goes_same b false s (won winner slot s) h (won_rest winner slot s))
 
-goes_done_expanded : (text : Text) (s : Switch) (conn : ℕ) (c : Conn) → MayOwe s conn c → Few (books_of s) → Sound (books_of s) →
-    Goes (books_of s) (books_of (done_expanded conn text s).state)
-goes_done_expanded text s conn c may few h = by (nat_lt 65536 (length text))
-  where
-    by : (b : Bool) → Goes (books_of s) (books_of (if b then says too_long_text s else done_plainly conn (expanded_api_of text) s).state)
-    by true = goes_same (books_of s) (books_of s) refl h
-    by false = goes_done_plainly (expanded_api_of text) s conn c may few h
+jobs_go : (b : Books) (before : Switch) → KeptByJobs before (GoesFrom b)
+jobs_go b before = record {
+  woken = λ number conn until answer {s = s} does h. goes_woken b s number conn until answer does h;
+  failed = λ a winner cause {s = s} does h. goes_over b s a.job a.conn a.orig winner (failed_text cause) does h;
+  wins = λ a winner leg does has h. wins_go b before a winner leg does h;
+}
 
-goes_done_by : (command : Api) (s : Switch) (conn : ℕ) (c : Conn) → MayOwe s conn c → Few (books_of s) → Sound (books_of s) →
-    Goes (books_of s) (books_of (done_by conn command s).state)
-goes_done_by (api.Expand text) s conn c may few h = goes_done_expanded (expanded s.globals.pairs text) s conn c may few h
-goes_done_by other s conn c may few h = goes_done_plainly other s conn c may few h
+-- the commands of a connection that is there and is owed nothing, where few numbers were drawn
+module _ (b : Books) (conn : ℕ) (c : Conn) (there : row_of b.conns conn ≡ Some c) (none : c.owed ≡ None) (few : Few b) (sound : Sound b) where
+  parted_goes : (why : Parting) (s : Switch) → Goes b (books_of s) → Goes b (books_of (conn_changed (parted why) conn s))
+  parted_goes why s h = goes_conn b (parted why) conn s (λ x is. something_there why) (λ x. refl) h
 
--- ---- commands
+  admitted_goes : (s : Switch) → phase_at s conn ≡ phase.Fresh → Goes b (books_of s) → Goes b (books_of (conn_changed admitted conn s))
+  admitted_goes s fresh h =
+      goes_conn b admitted conn s (λ x is. subst (λ (at : Phase). PartsIn at x.parting) (sym (ap phase_of is) ∙ fresh) (parts_of s conn x h.sound.linked.parts is)) (λ x. refl) h
 
-kept_responded : (conn : ℕ) (d : Done) → books_of (responded conn d) ≡ books_of d.state
-kept_responded conn d = by d.answer
-  where
-    by : (answer : Option Text) → books_of (responded_with conn answer d.state) ≡ books_of d.state
-    by None = refl
-    by (Some answer) = refl
+  a_place : (s : Switch) → is_full_of_jobs s ≡ false → (q : ℕ) × (least_free s.jobs 0 ≡ Some q)
+  a_place s room = by (least_free s.jobs 0) refl room
+    where
+      by : (found : Option ℕ) → least_free s.jobs 0 ≡ found → is_none found ≡ false → (q : ℕ) × (least_free s.jobs 0 ≡ Some q)
+      by None is room = absurd (cc)
+      by (Some q) is room = (q, is)
 
-goes_parted : (why : Parting) (conn : ℕ) (s : Switch) → Sound (books_of s) → Goes (books_of s) (books_of (conn_changed (parted why) conn s))
-goes_parted why conn s h = goes_conn (parted why) conn s (λ c is. something_there why) (λ c. refl) h
+  -- what goes from a switch of these books goes from them
+  from : (s t : Switch) → books_of s ≡ b → (Few (books_of s) → Sound (books_of s) → Goes (books_of s) (books_of t)) → Goes b (books_of t)
+  from s t same goes = subst (λ (x : Books). Goes x (books_of t)) same (goes (subst Few (sym same) few) (subst Sound (sym same) sound))
 
-goes_offered : (conn : ℕ) (given : Text) (s : Switch) → phase_at s conn ≡ phase.Fresh → Sound (books_of s) → Goes (books_of s) (books_of (offered conn given s))
-goes_offered conn given s fresh h = by (bytes_eq given s.config.settings.password)
-  where
-    unparted : (c : Conn) → conn_of s conn ≡ Some c → Parts (admitted c)
-    unparted c is = subst (λ (at : Phase). PartsIn at c.parting) (sym (ap phase_of is) ∙ fresh) (parts_of s conn c h.linked.parts is)
+  sleeps_go : (until : ℕ) (s : Switch) → is_full_of_jobs s ≡ false → books_of s ≡ b → Goes b (books_of (owing conn (work.Sleep until) s))
+  sleeps_go until s room same =
+      let place = a_place s room in
+      from s (owing conn (work.Sleep until) s) same (goes_sleep s conn until c place.0 (ap (λ (x : Books). row_of x.conns conn) same ∙ there) none place.1)
 
-    by : (b : Bool) → Goes (books_of s) (books_of (if b then replied conn accepted (conn_changed admitted conn s) else dismissed conn parting.AuthRefused invalid s))
-    by true = goes_conn admitted conn s unparted (λ c. refl) h
-    by false = goes_parted parting.AuthRefused conn s h
+  originates_go : (endpoint : Text) (winner : Winner) (caller : Caller) (timeout : Option ℕ) (s : Switch) → is_full_of_jobs s ≡ false → books_of s ≡ b →
+      Goes b (books_of (originate_begun conn endpoint winner caller timeout s))
+  originates_go endpoint winner caller timeout s room same =
+      let place = a_place s room in
+      from s (originate_begun conn endpoint winner caller timeout s) same
+      (goes_originate s conn endpoint winner caller timeout c place.0 (ap (λ (x : Books). row_of x.conns conn) same ∙ there) none place.1)
 
-goes_commanded : (conn : ℕ) (command : spec.Command) (s : Switch) → reads (phase_at s conn) ≡ true → owed_to s conn ≡ None → Few (books_of s) →
-    Sound (books_of s) → Goes (books_of s) (books_of (commanded conn command s))
-unfolding commanded
-goes_commanded conn command s reading none few h = by (phase_at s conn) refl command
-  where
-    responds : (text : Text) → Goes (books_of s) (books_of (responded conn (done_by conn (api_of text) s)))
-    responds text =
-        let giver = may_owe s conn reading none in
-        subst (λ (b : Books). Goes (books_of s) b) (sym (kept_responded conn (done_by conn (api_of text) s))) (goes_done_by (api_of text) s conn giver.0 giver.1 few h)
+  gave_goes : (frame : Text) (fresh : Bool) (s : Switch) → GoesFrom b fresh s → GoesFrom b fresh (gave conn frame s)
+  gave_goes frame true s h = h
+  gave_goes frame false s h = h
 
-    by : (at : Phase) → phase_at s conn ≡ at → (given : spec.Command) → Goes (books_of s) (books_of (commanded_in at conn given s))
-    by phase.Fresh is (spec.Auth password) = goes_offered conn password s is h
-    by phase.Fresh is spec.Exit = goes_parted parting.Exit conn s h
-    by phase.Fresh is (spec.Api text) = goes_same (books_of s) (books_of s) refl h
-    by phase.Fresh is spec.Unknown = goes_same (books_of s) (books_of s) refl h
-    by phase.Ready is (spec.Auth password) = goes_same (books_of s) (books_of s) refl h
-    by phase.Ready is spec.Exit = goes_parted parting.Exit conn s h
-    by phase.Ready is (spec.Api text) = responds text
-    by phase.Ready is spec.Unknown = goes_same (books_of s) (books_of s) refl h
-    by phase.Ending is given = goes_same (books_of s) (books_of s) refl h
-    by phase.Closed is given = goes_same (books_of s) (books_of s) refl h
+  commands_go : KeptByCommands conn (GoesFrom b)
+  commands_go = record {
+    spent = λ {s = s} h. goes_spent b sound s h;
+    gave = λ frame {b = fresh} {s = s} h. gave_goes frame fresh s h;
+    admitted = λ {s = s} new h. admitted_goes s new h;
+    parted = λ why {s = s} leaves h. parted_goes why s h;
+    sleeps = λ until {s = s} room h. sleeps_go until s room h;
+    originates = λ endpoint winner caller timeout {s = s} short room h. originates_go endpoint winner caller timeout s room h;
+  }
 
 -- ---- acts
 
-goes_closed_by : (how : Closing) (conn : ℕ) (s : Switch) → Sound (books_of s) → Goes (books_of s) (books_of (closed_by how conn s))
-goes_closed_by closing.EndOfInput conn s h = goes_parted parting.EndOfInput conn s h
-goes_closed_by closing.Sent conn s h = goes_gone conn s h
-goes_closed_by closing.Failed conn s h = goes_gone conn s h
+closed_goes : (how : Closing) (conn : ℕ) (s : Switch) → Goes (books_of s) (books_of s) → Goes (books_of s) (books_of (closed_by how conn s))
+closed_goes closing.EndOfInput conn s h = goes_conn (books_of s) (parted parting.EndOfInput) conn s (λ c is. something_there parting.EndOfInput) (λ c. refl) h
+closed_goes closing.Sent conn s h = goes_gone (books_of s) conn s h
+closed_goes closing.Failed conn s h = goes_gone (books_of s) conn s h
 
-pub goes_acted : (what : Act) (s : Switch) → refused_act what s ≡ None → Few (books_of s) → Sound (books_of s) →
-    Goes (books_of s) (books_of (acted what s).state)
+pub goes_acted : (what : Act) (s : Switch) → refused_act what s ≡ None → Few (books_of s) → Sound (books_of s) → Goes (books_of s) (books_of (acted what s).state)
 goes_acted act.Arrive s accepts few h = goes_arrived s few h
 goes_acted (act.Command conn block) s accepts few h =
     let passed = not_refused (not (reads (phase_at s conn))) refusal.Gone (busy (owed_to s conn)) accepts in
-    goes_commanded conn (command_of (line_of block)) s (not-false (reads (phase_at s conn)) passed.0) (not_busy (owed_to s conn) passed.1) few h
-goes_acted (act.Take conn) s accepts few h = goes_same (books_of s) (books_of s) refl h
-goes_acted (act.Close conn how) s accepts few h = goes_closed_by how conn s h
-goes_acted (act.Work slot) s accepts few h = goes_same (books_of s) (books_of (acted (act.Work slot) s).state) (kept_worked slot s) h
-goes_acted (act.Job number) s accepts few h = goes_job_done number s h
+    let giver = may_owe s conn (not-false (reads (phase_at s conn)) passed.0) (not_busy (owed_to s conn) passed.1) in
+    commanded_kept conn (GoesFrom (books_of s)) (calls_go (books_of s)) (commands_go (books_of s) conn giver.0 giver.1.there giver.1.none few h) (command_of (line_of block)) {s = s} refl
+goes_acted (act.Take conn) s accepts few h = goes_spent (books_of s) h s refl
+goes_acted (act.Close conn how) s accepts few h = closed_goes how conn s (goes_spent (books_of s) h s refl)
+goes_acted (act.Work slot) s accepts few h = worked_kept (GoesFrom (books_of s)) (calls_go (books_of s)) slot {b = false} {s = s} (goes_spent (books_of s) h s refl)
+goes_acted (act.Job number) s accepts few h = job_kept s (GoesFrom (books_of s)) (calls_go (books_of s)) (jobs_go (books_of s) s) number (goes_spent (books_of s) h s refl)

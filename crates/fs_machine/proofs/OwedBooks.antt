@@ -1,5 +1,5 @@
 -- What is known of connections, of the jobs that owe them replies, and of the originations that these try.
-use Rattle.std.proofs.Common.{◌≡◌, ◌≢◌, ℕ, ◌+◌, ◌*◌, ◌^◌, ◌<◌, ◌≤◌, List, length, Option, None, Some}
+use Rattle.std.proofs.Common.{◌≡◌, ◌≢◌, ℕ, ◌+◌, ◌*◌, ◌^◌, ◌<◌, ◌≤◌, List, length, Option, None, Some, ap}
 use Rattle.std.specs.List.{sum_by}
 use Rattle.fs_places.specs.declared.numbered.Numbered.{Numbered}
 use Rattle.fs_places.specs.Places.{held_in}
@@ -10,6 +10,7 @@ use Rattle.fs_state.specs.declared.job.JobWork.TheVariants.{Sleep, Originate}
 use Rattle.fs_state.specs.Switch.{Switch}
 use Rattle.fs_machine.specs.Owed.{Parts}
 use Rattle.fs_machine.proofs.TableLemmas.{numbers_in, one_if, taken_in}
+use Rattle.fs_machine.proofs.RestLemmas.{Rest, rest_of}
 
 abbrev pub Conns : Type 0
 Conns = List (Option (Numbered Conn))
@@ -39,6 +40,22 @@ books_of s = record {
   cost = s.cost;
   limit = s.config.settings.journal_limit;
 }
+
+-- the rest of a switch tells them
+pub books_same : (s t : Switch) → rest_of t ≡ rest_of s → books_of t ≡ books_of s
+books_same s t same = ap books_in same
+  where
+    books_in : Rest → Books
+    books_in r = record {
+      conns = r.conns;
+      jobs = r.jobs;
+      origs = r.origs;
+      conns_drawn = r.conns_drawn;
+      jobs_drawn = r.jobs_drawn;
+      origs_drawn = r.origs_drawn;
+      cost = r.cost;
+      limit = r.config.settings.journal_limit;
+    }
 
 -- ---- connections
 
@@ -72,7 +89,7 @@ pub record Linked (conns : Conns) (jobs : Jobs) (drawn jobs_drawn : ℕ) : Type 
 
 -- ---- jobs and the originations that they try
 
--- the origination that is tried, if it is one
+-- the origination that work tries, if it tries one
 abbrev pub tried_by : JobWork → Option ℕ
 tried_by (Sleep until) = None
 tried_by (Originate orig winner) = Some orig

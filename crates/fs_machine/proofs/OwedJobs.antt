@@ -1,17 +1,12 @@
 -- Changes of connections, and jobs that begin and end, in a switch.
-use Rattle.std.proofs.Common.{◌≡◌, ◌≢◌, ℕ, ◌+◌, ◌-◌, ◌*◌, ◌^◌, ◌<◌, ◌≤◌, min, List, [], ◌∷◌, length, Option, None, Some, slice_get, unwrap_or, refl, sym, ap, subst, ◌∙◌, arith}
+use Rattle.std.proofs.Common.{◌≡◌, ◌≢◌, ℕ, ◌+◌, ◌-◌, ◌^◌, ◌<◌, ◌≤◌, min, List, [], ◌∷◌, length, Option, None, Some, unwrap_or, refl, sym, ap, subst, ◌∙◌, arith}
 use Rattle.std.proofs.lemmas.List.{length-map}
-use Rattle.fs_text.specs.declared.causes.Cause.TheVariants.{NoAnswer}
 use Rattle.fs_vars.specs.Pairs.{Text}
 use Rattle.fs_api.specs.declared.api.Winner.{Winner}
 use Rattle.fs_chan.specs.Moments.{moment_after}
-use Rattle.fs_orig.specs.declared.leg.OrigLeg.{OrigLeg}
 use Rattle.fs_orig.specs.declared.orig.Orig.{Orig}
 use Rattle.fs_orig.specs.declared.orig.Owner.TheVariants as owner
-use Rattle.fs_orig.specs.declared.verdict.Verdict.{Verdict}
-use Rattle.fs_orig.specs.declared.verdict.Verdict.TheVariants as verdict
 use Rattle.fs_orig.specs.Changes.{begun}
-use Rattle.fs_orig.specs.Verdicts.{verdict_of}
 use Rattle.fs_places.specs.declared.numbered.Numbered.{Numbered}
 use Rattle.fs_places.specs.Places.{held_in, with_held, least_free}
 use Rattle.fs_places.specs.Rows.{place_of, row_of, with_held_at, with_new_row, without_row}
@@ -19,18 +14,18 @@ use Rattle.fs_state.specs.declared.conn.Conn.{Conn}
 use Rattle.fs_state.specs.declared.job.Job.{Job}
 use Rattle.fs_state.specs.declared.job.JobWork.{JobWork}
 use Rattle.fs_state.specs.declared.job.JobWork.TheVariants.{Sleep, Originate}
-use Rattle.fs_state.specs.Switch.{Switch, next_orig, next_job, orig_of, job_of, conn_of, with_conn, with_new_job, with_new_orig, without_job, without_conn, without_orig}
+use Rattle.fs_state.specs.Switch.{Switch, next_orig, next_job, conn_of, with_conn, with_new_job, with_new_orig, without_job, without_conn, without_orig}
 use Rattle.fs_machine.specs.declared.originations.Caller.{Caller}
-use Rattle.fs_machine.specs.Texts.{ok, failed_text, made_text}
 use Rattle.fs_machine.specs.Connections.{conn_changed_from, conn_changed, owed_since, not_owed}
-use Rattle.fs_machine.specs.Originations.{Made, leg_made, won}
-use Rattle.fs_machine.specs.Jobs.{owing, ended, sleep_begun, seconds, tried_by_job, originate_begun, living_slots, all_hung, won_at, judged, judged_from, worked_by, job_done_from, job_done}
+use Rattle.fs_machine.specs.Originations.{Made, leg_made}
+use Rattle.fs_machine.specs.Jobs.{owing, ended, seconds, tried_by_job, originate_begun}
 use Rattle.fs_machine.specs.Step.{fresh, arrived}
 use Rattle.fs_machine.specs.Owed.{Parts}
 use Rattle.fs_machine.proofs.RowLemmas.{free_least}
 use Rattle.fs_machine.proofs.TableLemmas.{something_there, IsRow, HasRow, row_found, no_row, row_written, row_removed, row_added, numbers_in, numbers_held, number_at, number_there, row_of_number, numbers_removed, numbers_added, taken_in, full_taken, taken_numbers}
-use Rattle.fs_machine.proofs.OwedBooks.{Conns, Jobs, Books, books_of, PartEach, Linked, HasNumber, tried_by, trying_in, Tries, Sound, Near, Goes, Few}
-use Rattle.fs_machine.proofs.OwedMoves.{kept_all_hung, kept_made, kept_won}
+use Rattle.fs_machine.proofs.OwedBooks.{Conns, Jobs, Books, books_of, books_same, PartEach, Linked, HasNumber, tried_by, trying_in, Tries, Sound, Near, Goes, Few}
+use Rattle.fs_machine.proofs.Kept.{DoesJob}
+use Rattle.fs_machine.proofs.RestLemmas.{leg_made_rest}
 use Rattle.fs_machine.proofs.OwedLemmas.{linked_changed, linked_gone, linked_come, linked_more, linked_begun, linked_ended, linked_dropped, tries_slept, tries_begun, tries_woken, tries_ended, trying_most}
 
 -- ---- nothing of it changes
@@ -45,6 +40,20 @@ near_self b = near_same b b refl refl refl refl refl
 pub goes_same : (old new : Books) → new ≡ old → Sound old → Goes old new
 goes_same old new same h = subst (λ (b : Books). Goes old b) (sym same) (record { sound = h; near = near_self old })
 
+-- no number more is drawn, and the cost stays
+goes_by : (mid b new : Books) → Linked new.conns new.jobs new.conns_drawn new.jobs_drawn → Tries new.jobs new.origs new.origs_drawn → Goes b mid →
+    new.conns_drawn ≡ mid.conns_drawn → new.jobs_drawn ≡ mid.jobs_drawn → new.origs_drawn ≡ mid.origs_drawn → new.cost ≡ mid.cost → new.limit ≡ mid.limit → Goes b new
+goes_by mid b new linked tries h conns jobs origs cost limit = record {
+  sound = record { linked = linked; tries = tries };
+  near = record {
+    conns = omega (arith, h.near.conns, conns);
+    jobs = omega (arith, h.near.jobs, jobs);
+    origs = omega (arith, h.near.origs, origs);
+    cost = cost ∙ h.near.cost;
+    limit = limit ∙ h.near.limit;
+  };
+}
+
 -- ---- connections
 
 -- a connection that is there parts as its phase says
@@ -54,34 +63,29 @@ parts_of s conn c each is =
     subst (λ (y : Conn). Parts y) found.3 (each found.0 found.1 found.2.there)
 
 -- one is changed that is owed what it was owed before
-pub goes_conn : (change : Conn → Conn) (conn : ℕ) (s : Switch) → ((c : Conn) → conn_of s conn ≡ Some c → Parts (change c)) → ((c : Conn) → (change c).owed ≡ c.owed) →
-    Sound (books_of s) → Goes (books_of s) (books_of (conn_changed change conn s))
-goes_conn change conn s parts same h = by (conn_of s conn) refl
+pub goes_conn : (b : Books) (change : Conn → Conn) (conn : ℕ) (s : Switch) → ((c : Conn) → conn_of s conn ≡ Some c → Parts (change c)) → ((c : Conn) → (change c).owed ≡ c.owed) →
+    Goes b (books_of s) → Goes b (books_of (conn_changed change conn s))
+goes_conn b change conn s parts same h = by (conn_of s conn) refl
   where
-    by : (found : Option Conn) → conn_of s conn ≡ found → Goes (books_of s) (books_of (conn_changed_from change conn found s))
-    by None is = goes_same (books_of s) (books_of s) refl h
+    by : (found : Option Conn) → conn_of s conn ≡ found → Goes b (books_of (conn_changed_from change conn found s))
+    by None is = h
     by (Some c) is =
         let found = row_found s.conns conn c is in
         let new : Numbered Conn = record { number = conn; held = change c } in
-        let new_books : Books = record (books_of s) { conns = with_held s.conns found.0 (Some new) } in
         let fits : Linked (with_held s.conns found.0 (Some new)) s.jobs s.drawn.conns s.drawn.jobs =
-        linked_changed s.conns s.jobs s.drawn.conns s.drawn.jobs found.0 found.1 new found.2.there (sym found.2.numbered) (same c ∙ sym (ap (λ (y : Conn). y.owed) found.3)) (parts c is) h.linked in
-        let goes : Goes (books_of s) new_books = record {
-          sound = record { linked = fits; tries = h.tries };
-          near = near_same (books_of s) new_books refl refl refl refl refl;
-        } in
-        subst (λ (conns : Conns). Goes (books_of s) (record (books_of s) { conns = conns })) (sym (row_written s.conns conn found.0 (change c) found.2.at)) goes
+        linked_changed s.conns s.jobs s.drawn.conns s.drawn.jobs found.0 found.1 new found.2.there (sym found.2.numbered) (same c ∙ sym (ap (λ (y : Conn). y.owed) found.3)) (parts c is) h.sound.linked in
+        subst (λ (conns : Conns). Goes b (record (books_of s) { conns = conns })) (sym (row_written s.conns conn found.0 (change c) found.2.at))
+        (goes_by (books_of s) b (record (books_of s) { conns = with_held s.conns found.0 (Some new) }) fits h.sound.tries h refl refl refl refl refl)
 
 -- one is gone
-pub goes_gone : (conn : ℕ) (s : Switch) → Sound (books_of s) → Goes (books_of s) (books_of (without_conn conn s))
-goes_gone conn s h = by (place_of s.conns conn)
+pub goes_gone : (b : Books) (conn : ℕ) (s : Switch) → Goes b (books_of s) → Goes b (books_of (without_conn conn s))
+goes_gone b conn s h = by (place_of s.conns conn)
   where
-    by : (found : Option ℕ) → Goes (books_of s) (record (books_of s) { conns = with_held_at {T = Numbered Conn} s.conns None found })
-    by None = goes_same (books_of s) (books_of s) refl h
-    by (Some place) = record {
-      sound = record { linked = linked_gone s.conns s.jobs s.drawn.conns s.drawn.jobs place h.linked; tries = h.tries };
-      near = near_same (books_of s) (record (books_of s) { conns = with_held s.conns place None }) refl refl refl refl refl;
-    }
+    by : (found : Option ℕ) → Goes b (record (books_of s) { conns = with_held_at {T = Numbered Conn} s.conns None found })
+    by None = h
+    by (Some place) =
+        goes_by (books_of s) b (record (books_of s) { conns = with_held s.conns place None }) (linked_gone s.conns s.jobs s.drawn.conns s.drawn.jobs place h.sound.linked) h.sound.tries h
+        refl refl refl refl refl
 
 -- one comes
 pub goes_arrived : (s : Switch) → Few (books_of s) → Sound (books_of s) → Goes (books_of s) (books_of (arrived s).state)
@@ -138,13 +142,12 @@ goes_owing b u conn work c q is none is_free few same_jobs linked tries near =
     subst (λ (there : Option Conn). Goes b (books_of (conn_changed_from (owed_since u.entries) conn there (with_new_job held u)))) (sym is) with_both
 
 -- msleep
-pub goes_sleep : (s : Switch) (conn milliseconds : ℕ) (c : Conn) (q : ℕ) → conn_of s conn ≡ Some c → c.owed ≡ None → least_free s.jobs 0 ≡ Some q → Few (books_of s) →
-    Sound (books_of s) → Goes (books_of s) (books_of (sleep_begun conn milliseconds s))
-goes_sleep s conn milliseconds c q is none is_free few h =
+pub goes_sleep : (s : Switch) (conn until : ℕ) (c : Conn) (q : ℕ) → conn_of s conn ≡ Some c → c.owed ≡ None → least_free s.jobs 0 ≡ Some q → Few (books_of s) →
+    Sound (books_of s) → Goes (books_of s) (books_of (owing conn (Sleep until) s))
+goes_sleep s conn until c q is none is_free few h =
     let free = free_least s.jobs q is_free in
-    let work : JobWork = Sleep (moment_after s.moment (milliseconds * 1000)) in
-    goes_owing (books_of s) s conn work c q is none is_free few.jobs refl h.linked
-    (tries_slept s.jobs (numbers_in s.origs) s.drawn.origs q (job_for (next_job s) conn work) free.1 free.0 refl h.tries)
+    goes_owing (books_of s) s conn (Sleep until) c q is none is_free few.jobs refl h.linked
+    (tries_slept s.jobs (numbers_in s.origs) s.drawn.origs q (job_for (next_job s) conn (Sleep until)) free.1 free.0 refl h.tries)
     (near_self (books_of s))
 
 -- ---- an origination begins
@@ -213,7 +216,8 @@ pub goes_originate : (s : Switch) (conn : ℕ) (endpoint : Text) (winner : Winne
     conn_of s conn ≡ Some c → c.owed ≡ None → least_free s.jobs 0 ≡ Some q → Few (books_of s) → Sound (books_of s) →
     Goes (books_of s) (books_of (originate_begun conn endpoint winner caller timeout s))
 goes_originate s conn endpoint winner caller timeout c q is none is_free few h =
-    goes_tried s (leg_made endpoint caller (next_orig s) s) conn endpoint winner (unwrap_or timeout 60) c q (kept_made endpoint caller (next_orig s) s) is none is_free few h
+    goes_tried s (leg_made endpoint caller (next_orig s) s) conn endpoint winner (unwrap_or timeout 60) c q
+    (books_same s (leg_made endpoint caller (next_orig s) s).state (leg_made_rest endpoint caller (next_orig s) s)) is none is_free few h
 
 -- ---- a job ends
 
@@ -249,13 +253,11 @@ goes_ended b u number conn answer q row stands for linked tries near = by (conn_
         subst (λ (conns : Conns). Goes b (record (books_of u) { conns = conns; jobs = without_row u.jobs number })) (sym (row_written u.conns conn found.0 (not_owed c) found.2.at)) without_its_job
 
 -- a job that slept ends
-goes_woken : (s : Switch) (number conn : ℕ) (answer : Text) (job : Job) → job_of s number ≡ Some job → tried_by job.work ≡ None → job.conn ≡ conn →
-    Sound (books_of s) → Goes (books_of s) (books_of (ended number conn answer s))
-goes_woken s number conn answer job is none for h =
-    let found = row_found s.jobs number job is in
-    goes_ended (books_of s) s number conn answer found.0 found.1 found.2 (ap (λ (y : Job). y.conn) found.3 ∙ for) h.linked
-    (tries_woken s.jobs (numbers_in s.origs) s.drawn.origs found.0 found.1 found.2.there (ap (λ (y : Job). tried_by y.work) found.3 ∙ none) h.tries)
-    (near_self (books_of s))
+pub goes_woken : (b : Books) (s : Switch) (number conn until : ℕ) (answer : Text) → DoesJob s number conn (Sleep until) → Goes b (books_of s) → Goes b (books_of (ended number conn answer s))
+goes_woken b s number conn until answer does h =
+    let found = row_found s.jobs number (record { conn = conn; work = Sleep until }) does.there in
+    goes_ended b s number conn answer found.0 found.1 found.2 (ap (λ (y : Job). y.conn) found.3) h.sound.linked
+    (tries_woken s.jobs (numbers_in s.origs) s.drawn.origs found.0 found.1 found.2.there (ap (λ (y : Job). tried_by y.work) found.3) h.sound.tries) h.near
 
 -- a job ends with the row of the origination that it tried
 tries_without : (jobs : Jobs) (origs : List (Option (Numbered Orig))) (drawn q number : ℕ) (job : Numbered Job) → held_in jobs q ≡ Some job → tried_by job.held.work ≡ Some number →
@@ -270,49 +272,12 @@ tries_without jobs origs drawn q number job stands tried h = by (h.there q job n
     by : HasNumber (numbers_in origs) number → Tries (with_held jobs q None) (numbers_in (without_row origs number)) drawn
     by had = at (row_of_number origs number had.0 had.1)
 
--- a job ends with the origination that it tried, once channels were changed
-goes_tried_end : (s t : Switch) (number conn orig : ℕ) (answer : Text) (job : Job) → books_of t ≡ books_of s → job_of s number ≡ Some job → tried_by job.work ≡ Some orig → job.conn ≡ conn →
-    Sound (books_of s) → Goes (books_of s) (books_of (ended number conn answer (without_orig orig t)))
-goes_tried_end s t number conn orig answer job same is tried for h =
-    let sound : Sound (books_of t) = subst (λ (b : Books). Sound b) (sym same) h in
-    let found = row_found t.jobs number job (ap (λ (b : Books). row_of b.jobs number) same ∙ is) in
-    let fits : Tries (with_held t.jobs found.0 None) (numbers_in (without_row t.origs orig)) t.drawn.origs =
-    tries_without t.jobs t.origs t.drawn.origs found.0 orig found.1 found.2.there (ap (λ (y : Job). tried_by y.work) found.3 ∙ tried) sound.tries in
-    let near_t : Near (books_of t) (books_of (without_orig orig t)) = near_same (books_of t) (books_of (without_orig orig t)) refl refl refl refl refl in
-    goes_ended (books_of s) (without_orig orig t) number conn answer found.0 found.1 found.2 (ap (λ (y : Job). y.conn) found.3 ∙ for) sound.linked fits
-    (subst (λ (old : Books). Near old (books_of (without_orig orig t))) same near_t)
-
--- a leg has won, if there is one at that position
-goes_won_at : (leg : Option OrigLeg) (s : Switch) (number conn orig : ℕ) (winner : Winner) (job : Job) → job_of s number ≡ Some job → tried_by job.work ≡ Some orig → job.conn ≡ conn →
-    Sound (books_of s) → Goes (books_of s) (books_of (won_at (record { job = number; conn = conn; orig = orig }) winner leg s))
-goes_won_at None s number conn orig winner job is tried for h = goes_same (books_of s) (books_of s) refl h
-goes_won_at (Some leg) s number conn orig winner job is tried for h =
-    goes_tried_end s (won winner (unwrap_or leg.slot 0) s) number conn orig (made_text leg.uuid) job (kept_won winner (unwrap_or leg.slot 0) s) is tried for h
-
--- what comes of an origination
-goes_judged : (v : Verdict) (s : Switch) (number conn orig : ℕ) (winner : Winner) (o : Orig) (job : Job) → job_of s number ≡ Some job → tried_by job.work ≡ Some orig → job.conn ≡ conn →
-    Sound (books_of s) → Goes (books_of s) (books_of (judged v (record { job = number; conn = conn; orig = orig }) winner o s))
-goes_judged (verdict.Won position) s number conn orig winner o job is tried for h = goes_won_at (slice_get o.legs position) s number conn orig winner job is tried for h
-goes_judged (verdict.Failed cause) s number conn orig winner o job is tried for h = goes_tried_end s s number conn orig (failed_text cause) job refl is tried for h
-goes_judged verdict.Expired s number conn orig winner o job is tried for h =
-    goes_tried_end s (all_hung NoAnswer (living_slots o.legs) s) number conn orig (failed_text NoAnswer) job (kept_all_hung NoAnswer (living_slots o.legs) s) is tried for h
-goes_judged _ s number conn orig winner o job is tried for h = goes_same (books_of s) (books_of s) refl h
-
-goes_judged_from : (found : Option Orig) (s : Switch) (number conn orig : ℕ) (winner : Winner) (job : Job) → job_of s number ≡ Some job → tried_by job.work ≡ Some orig → job.conn ≡ conn →
-    Sound (books_of s) → Goes (books_of s) (books_of (judged_from (record { job = number; conn = conn; orig = orig }) winner found s))
-goes_judged_from None s number conn orig winner job is tried for h = goes_same (books_of s) (books_of s) refl h
-goes_judged_from (Some o) s number conn orig winner job is tried for h = goes_judged (verdict_of s.moment o) s number conn orig winner o job is tried for h
-
-goes_worked_by : (work : JobWork) (s : Switch) (number conn : ℕ) (job : Job) → job_of s number ≡ Some job → job.work ≡ work → job.conn ≡ conn →
-    Sound (books_of s) → Goes (books_of s) (books_of (worked_by work number conn s))
-goes_worked_by (Sleep until) s number conn job is works for h = goes_woken s number conn ok job is (ap tried_by works) for h
-goes_worked_by (Originate orig winner) s number conn job is works for h = goes_judged_from (orig_of s orig) s number conn orig winner job is (ap tried_by works) for h
-
--- what a job does
-pub goes_job_done : (number : ℕ) (s : Switch) → Sound (books_of s) → Goes (books_of s) (books_of (job_done number s))
-unfolding job_done
-goes_job_done number s h = by (job_of s number) refl
-  where
-    by : (found : Option Job) → job_of s number ≡ found → Goes (books_of s) (books_of (job_done_from number found s))
-    by None is = goes_same (books_of s) (books_of s) refl h
-    by (Some job) is = goes_worked_by job.work s number job.conn job is refl refl h
+-- a job ends with the origination that it tried
+pub goes_over : (b : Books) (s : Switch) (number conn orig : ℕ) (winner : Winner) (answer : Text) → DoesJob s number conn (Originate orig winner) → Goes b (books_of s) →
+    Goes b (books_of (ended number conn answer (without_orig orig s)))
+goes_over b s number conn orig winner answer does h =
+    let found = row_found s.jobs number (record { conn = conn; work = Originate orig winner }) does.there in
+    let fits : Tries (with_held s.jobs found.0 None) (numbers_in (without_row s.origs orig)) s.drawn.origs =
+    tries_without s.jobs s.origs s.drawn.origs found.0 orig found.1 found.2.there (ap (λ (y : Job). tried_by y.work) found.3) h.sound.tries in
+    goes_ended b (without_orig orig s) number conn answer found.0 found.1 found.2 (ap (λ (y : Job). y.conn) found.3) h.sound.linked fits
+    (record { conns = h.near.conns; jobs = h.near.jobs; origs = h.near.origs; cost = h.near.cost; limit = h.near.limit })

@@ -25,7 +25,7 @@ use Rattle.fs_machine.specs.Step.{acted, step, refused_act, refusal_of}
 use Rattle.fs_machine.specs.Runs.{run_from, IsRunFrom}
 use Rattle.fs_machine.specs.Owed.{HasOneJob, AreOwed}
 use Rattle.fs_machine.proofs.TableLemmas.{nothing_there, something_there, one_there, none_held, HasRow, row_is, row_found, row_of_held, row_of_number, number_at, numbers_in, numbers_held, taken_in, one_if, taken_numbers, none_taken}
-use Rattle.fs_machine.proofs.OwedBooks.{Books, books_of, Numbers, HasJob, HasNumber, tried_by, trying_in, Sound, Goes, Few, Paid}
+use Rattle.fs_machine.proofs.OwedBooks.{Books, books_of, tried_by, Numbers, HasJob, HasNumber, trying_in, Sound, Goes, Few, Paid}
 use Rattle.fs_machine.proofs.FrameLemmas.{some_cost}
 use Rattle.fs_machine.proofs.OwedJobs.{parts_of}
 use Rattle.fs_machine.proofs.OwedActs.{not_refused, goes_acted}
@@ -85,7 +85,7 @@ holds_empty config small = record {
         omega (arith, same, none)
 
 -- an entry that is not refused keeps them
-holds_step : (s : Switch) (entry : Entry) → refusal_of s entry ≡ None → Holds (books_of s) → Holds (books_of (step s entry).state)
+pub holds_step : (s : Switch) (entry : Entry) → refusal_of s entry ≡ None → Holds (books_of s) → Holds (books_of (step s entry).state)
 unfolding step refusal_of
 holds_step s entry accepts h =
     let passed = not_refused (is_full s) (refusal.JournalFull s.cost s.config.settings.journal_limit) (refused_act entry.act (advanced entry.moment s)) accepts in

@@ -1,47 +1,62 @@
--- In every run partners agree and identifiers differ.
-use Rattle.std.proofs.Common.{◌≡◌, ℕ, ◌+◌, ◌-◌, ◌*◌, ◌<◌, ◌≤◌, ◌^◌, Bool, true, false, List, [], ◌∷◌, Option, None, Some, option_and_then, option_map, refl, sym, ap, subst, ◌∙◌, arith}
-use Rattle.std.proofs.lemmas.Bool.{ltb-false}
+-- In every run live channels have partners, which agree, the texts of channels keep their limits, and identifiers differ.
+use Rattle.std.proofs.Common.{◌≡◌, ℕ, ◌+◌, ◌-◌, ◌*◌, ◌<◌, ◌≤◌, ◌^◌, min, Bool, true, false, IsSome, List, [], ◌∷◌, Option, None, Some, option_and_then, option_map, refl, sym, ap, subst, ◌∙◌, arith}
+use Rattle.std.proofs.lemmas.Bool.{both_ways, false≢true, ltb-false}
 use Rattle.fs_doc.specs.Reading.{Configuration}
 use Rattle.fs_chan.specs.declared.chan.Chan.{Chan}
+use Rattle.fs_chan.specs.Changes.{is_live}
+use Rattle.fs_orig.specs.declared.orig.Orig.{Orig}
+use Rattle.fs_places.specs.declared.numbered.Numbered.{Numbered}
+use Rattle.fs_places.specs.Places.{no_places, held_in}
+use Rattle.fs_places.specs.Rows.{has_number}
+use Rattle.fs_state.specs.declared.job.Job.{Job}
 use Rattle.fs_state.specs.Switch.{Switch, empty, chan_at, advanced, closed}
 use Rattle.fs_state.specs.Moves.{partner_of}
 use Rattle.fs_machine.specs.declared.entry.Entry.{Entry}
 use Rattle.fs_machine.specs.declared.entry.Act.{Act}
-use Rattle.fs_machine.specs.declared.entry.Act.TheVariants.{Arrive, Command, Take, Close, Work, Job}
 use Rattle.fs_machine.specs.declared.refusal.Refusal.TheVariants as refusal
 use Rattle.fs_machine.specs.Entries.{cost_of, is_full}
 use Rattle.fs_machine.specs.Step.{refused_where, refused_act, refusal_of, acted, step}
 use Rattle.fs_machine.specs.Runs.{run_from, IsRunFrom}
-use Rattle.fs_machine.specs.Sound.{HasPartner, PartnersAgree, IdentifiersDiffer}
+use Rattle.fs_machine.specs.Sound.{HasPartner, PartnersAgree, HasLivePartner, LiveHasPartner, ProfilesAreShort, IdentifiersDiffer}
 use Rattle.fs_machine.proofs.IdentifierLemmas.{naming_none}
 use Rattle.fs_machine.proofs.HeldLemmas.{nothing_held}
-use Rattle.fs_machine.proofs.SeenLemmas.{seen, lives_as, uuid_of, partner_in, uuid_in, Agrees, Named, Goes}
-use Rattle.fs_machine.proofs.ActLemmas.{acted_goes}
+use Rattle.fs_machine.proofs.TieLemmas.{lives_as, named_in, Ties}
+use Rattle.fs_machine.proofs.FrameLemmas.{some_cost}
+use Rattle.fs_machine.proofs.ActWalk.{acted_kept}
+use Rattle.fs_machine.proofs.OwedBooks.{books_of}
+use Rattle.fs_machine.proofs.OwedLaws.{Holds, holds_empty, holds_step}
+use Rattle.fs_machine.proofs.TableLemmas.{none_held}
+use Rattle.fs_machine.proofs.PartnerMoves.{Partners, partners_moves}
+use Rattle.fs_machine.proofs.SeenLemmas.{seen, uuid_of, uuid_in, Named, Numbers, numbers_stay}
+use Rattle.fs_machine.proofs.IdentifierMoves.{NumbersFrom, numbers_moves}
+use Rattle.fs_machine.proofs.LegMoves.{roles_of, LegsStand, Legs, legs_moves}
+use Rattle.fs_machine.proofs.WinnerMoves.{ShortIn, WinnersAreShort, Winners, winners_moves}
+use Rattle.fs_machine.proofs.ChannelMoves.{FitsIn, AllFit, Fit, fit_there, fit_moves}
 
 -- ---- partners
 
 -- in a switch to which nothing has happened none is named
-nothing_named : (config : Configuration) → Agrees (empty config).channels
+nothing_named : (config : Configuration) → Ties partner_of (empty config).channels
 nothing_named config = record {
   back = λ a b e. absurd (none a b e);
   live = λ a b e. absurd (none a b e);
 }
   where
-    none : (a b : ℕ) → partner_in (empty config).channels a ≡ Some b → ⊥
+    none : (a b : ℕ) → named_in partner_of (empty config).channels a ≡ Some b → ⊥
     none a b e =
-        let nothing : partner_in (empty config).channels a ≡ None = ap (option_and_then partner_of) (nothing_held Chan (config.settings.max_sessions + 1) a) in
+        let nothing : named_in partner_of (empty config).channels a ≡ None = ap (option_and_then partner_of) (nothing_held Chan (config.settings.max_sessions + 1) a) in
         cc
 
-step_agrees : (s : Switch) (entry : Entry) → Agrees s.channels → Agrees (step s entry).state.channels
+step_agrees : (s : Switch) (entry : Entry) → Ties partner_of s.channels → Ties partner_of (step s entry).state.channels
 unfolding step
-step_agrees s entry h = (acted_goes entry.act (advanced entry.moment s)).agrees h
+step_agrees s entry h = acted_kept (advanced entry.moment s) Partners (partners_moves (advanced entry.moment s)) entry.act h
 
-run_agrees : (s : Switch) (entries : List Entry) → Agrees s.channels → Agrees (run_from s entries).channels
+run_agrees : (s : Switch) (entries : List Entry) → Ties partner_of s.channels → Ties partner_of (run_from s entries).channels
 run_agrees s [] h = h
 run_agrees s (entry ∷ entries) h = run_agrees (step s entry).state entries (step_agrees s entry h)
 
 -- as the definition has it
-named_back : (s : Switch) → Agrees s.channels → PartnersAgree s
+named_back : (s : Switch) → Ties partner_of s.channels → PartnersAgree s
 named_back s h = record { back = λ slot other has. by_chan slot other has }
   where
     there_as : (slot other : ℕ) (found : Option Chan) → chan_at s other ≡ found → option_and_then partner_of found ≡ Some slot → lives_as found ≡ true → HasPartner s other slot
@@ -50,12 +65,73 @@ named_back s h = record { back = λ slot other has. by_chan slot other has }
 
     by_chan : (slot other : ℕ) → HasPartner s slot other → HasPartner s other slot
     by_chan slot other has =
-        let named : partner_in s.channels slot ≡ Some other = ap (option_and_then partner_of) has.there ∙ has.partner in
-        let back : partner_in s.channels other ≡ Some slot = h.back slot other named in
+        let named : named_in partner_of s.channels slot ≡ Some other = ap (option_and_then partner_of) has.there ∙ has.partner in
+        let back : named_in partner_of s.channels other ≡ Some slot = h.back slot other named in
         there_as slot other (chan_at s other) refl back (h.live other slot back)
 
 pub partners_agree : (config : Configuration) (entries : List Entry) → PartnersAgree (run_from (empty config) entries)
 partners_agree config entries = named_back (run_from (empty config) entries) (run_agrees (empty config) entries (nothing_named config))
+
+-- ---- legs, winners and channels
+
+record Stands (s : Switch) : Type 0 where
+  legs : LegsStand (roles_of s)
+  winners : WinnersAreShort s.jobs
+  fit : AllFit s.channels
+
+-- none stands in an empty table
+none_stands : (T : Type 0) (count number place : ℕ) → has_number number (held_in (no_places {T = Numbered T} count) place) ≡ true → ⊥
+none_stands T count number place stands = both_ways (has_number number (held_in (no_places {T = Numbered T} count) place)) (ap (has_number number) (nothing_held (Numbered T) count place)) stands
+
+nothing_stands : (config : Configuration) → Stands (empty config)
+nothing_stands config = record {
+  legs = record {
+    distinct = λ number p q is_p is_q. absurd (none_stands Orig 1280 number p is_p);
+    within = λ number p is. absurd (none_stands Orig 1280 number p is);
+    stand = λ place position number slot has. absurd (none_held 1280 place has.row has.there);
+    apart = λ place p q number slot first second. absurd (none_held 1280 place first.row first.there);
+  };
+  winners = λ place. subst ShortIn (sym (nothing_held (Numbered Job) 1024 place)) tt;
+  fit = λ slot. subst FitsIn (sym (nothing_held Chan (config.settings.max_sessions + 1) slot)) tt;
+}
+
+step_stands : (s : Switch) (entry : Entry) → Holds (books_of (step s entry).state) → Stands s → Stands (step s entry).state
+unfolding step
+step_stands s entry holds h =
+    let now : Switch = advanced entry.moment s in
+    let paid : 64 * (acted entry.act now).state.drawn.origs ≤ min ((acted entry.act now).state.cost + cost_of entry.act) (2 ^ 64 - 1) = holds.paid.origs in
+    record {
+      legs = acted_kept now Legs (legs_moves now) entry.act (λ few. h.legs) (omega (arith, paid));
+      winners = acted_kept now Winners (winners_moves now) entry.act h.winners;
+      fit = acted_kept now Fit (fit_moves now h.legs h.winners) entry.act h.fit;
+    }
+
+run_stands : (s : Switch) (entries : List Entry) → IsRunFrom s entries → Holds (books_of s) → Stands s → Stands (run_from s entries)
+run_stands s [] run holds h = h
+run_stands s (entry ∷ entries) run holds h =
+    let next : Holds (books_of (step s entry).state) = holds_step s entry run.0 holds in
+    run_stands (step s entry).state entries run.1 next (step_stands s entry next h)
+
+all_fit : (config : Configuration) (entries : List Entry) → config.settings.journal_limit ≤ 1073741824 → IsRunFrom (empty config) entries → AllFit (run_from (empty config) entries).channels
+all_fit config entries small run = (run_stands (empty config) entries run (holds_empty config small) (nothing_stands config)).fit
+
+-- as the definitions have it
+live_partner : (s : Switch) → PartnersAgree s → AllFit s.channels → LiveHasPartner s
+live_partner s agree fit = record { each = λ slot c there live. by slot c there live c.partner refl ((fit_there s slot c there fit).partner live) }
+  where
+    by : (slot : ℕ) (c : Chan) → chan_at s slot ≡ Some c → is_live c ≡ true → (partner : Option ℕ) → c.partner ≡ partner → IsSome partner → HasLivePartner s slot c
+    by slot c there live None is some = absurd (false≢true some)
+    by slot c there live (Some other) is some =
+        record { other = other; partner = is; back = agree.back slot other (record { chan = c; there = there; live = live; partner = is }) }
+
+pub live_has_partner : (config : Configuration) (entries : List Entry) → config.settings.journal_limit ≤ 1073741824 → IsRunFrom (empty config) entries →
+    LiveHasPartner (run_from (empty config) entries)
+live_has_partner config entries small run = live_partner (run_from (empty config) entries) (partners_agree config entries) (all_fit config entries small run)
+
+pub profiles_are_short : (config : Configuration) (entries : List Entry) → config.settings.journal_limit ≤ 1073741824 → IsRunFrom (empty config) entries →
+    ProfilesAreShort (run_from (empty config) entries)
+profiles_are_short config entries small run =
+    record { each = λ slot c there. (fit_there (run_from (empty config) entries) slot c there (all_fit config entries small run)).short }
 
 -- ---- identifiers
 
@@ -72,14 +148,6 @@ none_counted config = record {
   paid = omega arith;
 }
 
-least_cost : (a : Act) → 64 ≤ cost_of a
-least_cost Arrive = omega arith
-least_cost (Command conn block) = omega arith
-least_cost (Take conn) = omega arith
-least_cost (Close conn how) = omega arith
-least_cost (Work slot) = omega arith
-least_cost (Job number) = omega arith
-
 -- an entry that is not refused finds room for the largest one
 has_room : (s : Switch) (entry : Entry) → refusal_of s entry ≡ None → s.cost + 65600 ≤ s.config.settings.journal_limit
 unfolding refusal_of
@@ -90,23 +158,26 @@ has_room s entry defined = ltb-false s.config.settings.journal_limit (s.cost + 6
     not_full false defined = refl
 
 -- one entry more, of which all that counts is known
-closed_counted : (s t : Switch) (cost : ℕ) → Goes 2 (seen s) (seen t) → 64 ≤ cost → s.cost + 65600 ≤ 1073741824 → Counted s → Counted (closed cost t)
-closed_counted s t cost goes least room h =
-    let most : t.drawn.identifiers ≤ s.drawn.identifiers + 2 = goes.numbers.most in
-    let same : t.cost ≡ s.cost = goes.numbers.cost in
+closed_counted : (s t : Switch) (cost : ℕ) → Numbers 2 (seen s) (seen t) → 64 ≤ cost → s.cost + 65600 ≤ 1073741824 → Counted s → Counted (closed cost t)
+closed_counted s t cost numbers least room h =
+    let most : t.drawn.identifiers ≤ s.drawn.identifiers + 2 = numbers.most in
+    let same : t.cost ≡ s.cost = numbers.cost in
     let paid : 32 * s.drawn.identifiers ≤ s.cost = h.paid in
     let few : t.drawn.identifiers < 2 ^ 62 - 1 = omega (arith, most, paid, room) in
-    record { named = goes.numbers.names few h.named; paid = omega (arith, most, same, paid, least, room) }
+    record { named = numbers.names few h.named; paid = omega (arith, most, same, paid, least, room) }
+
+acted_numbers : (a : Act) (s : Switch) → Numbers 2 (seen s) (seen (acted a s).state)
+acted_numbers a s = acted_kept s (NumbersFrom (seen s)) (numbers_moves (seen s) s) a (numbers_stay (seen s))
 
 step_counted : (s : Switch) (entry : Entry) → s.cost + 65600 ≤ 1073741824 → Counted s → Counted (step s entry).state
 unfolding step
 step_counted s entry room h =
-    closed_counted (advanced entry.moment s) (acted entry.act (advanced entry.moment s)).state (cost_of entry.act) (acted_goes entry.act (advanced entry.moment s)) (least_cost entry.act) room
+    closed_counted (advanced entry.moment s) (acted entry.act (advanced entry.moment s)).state (cost_of entry.act) (acted_numbers entry.act (advanced entry.moment s)) (some_cost entry.act) room
     (record { named = h.named; paid = h.paid })
 
 step_config : (s : Switch) (entry : Entry) → (step s entry).state.config ≡ s.config
 unfolding step
-step_config s entry = (acted_goes entry.act (advanced entry.moment s)).numbers.config
+step_config s entry = (acted_numbers entry.act (advanced entry.moment s)).config
 
 run_counted : (s : Switch) (entries : List Entry) → s.config.settings.journal_limit ≤ 1073741824 → IsRunFrom s entries → Counted s → Counted (run_from s entries)
 run_counted s [] small run h = h

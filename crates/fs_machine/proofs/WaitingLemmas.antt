@@ -14,7 +14,7 @@ use Rattle.fs_machine.specs.Connections.{phase_of, phase_at}
 use Rattle.fs_machine.specs.Step.{is_closed, fresh, arrived}
 use Rattle.fs_machine.specs.Frames.{frames_among, given_in}
 use Rattle.fs_machine.proofs.RowLemmas.{IsFree, AreDistinct, AreWithin, held_of, row_at, row_none, each_put_at, length_put_at, place_stands, place_within, places_apart, free_apart, above_nowhere, places_same, distinct_same, distinct-without_row, within-without_row, place_of-without_row_same, place_of-without_row_other, distinct-with_new_row, within-with_new_row, place_of-with_new_row_other, new_stands, new_free, less_free}
-use Rattle.fs_machine.proofs.SocketLemmas.{whichever}
+use Rattle.fs_machine.proofs.RestLemmas.{whichever}
 use Rattle.fs_machine.proofs.KeepLemmas.{is_shut, AreOpen, Keeps}
 
 -- where no connection stands nothing waits

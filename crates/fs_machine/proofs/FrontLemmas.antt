@@ -1,0 +1,118 @@
+-- What happens to connections, jobs and originations leaves channels as they are, and all that channels see.
+use Rattle.std.proofs.Common.{◌≡◌, ℕ, Bool, true, false, List, Option, None, Some, unwrap_or, refl}
+use Rattle.fs_vars.specs.Pairs.{Text}
+use Rattle.fs_vars.specs.Variables.{Variables}
+use Rattle.fs_doc.specs.Reading.{Configuration}
+use Rattle.fs_api.specs.declared.api.Winner.{Winner}
+use Rattle.fs_chan.specs.declared.chan.Chan.{Chan}
+use Rattle.fs_orig.specs.declared.leg.OrigLeg.{OrigLeg}
+use Rattle.fs_orig.specs.declared.orig.Orig.{Orig}
+use Rattle.fs_state.specs.declared.conn.Conn.{Conn}
+use Rattle.fs_state.specs.declared.conn.Parting.TheVariants as parting
+use Rattle.fs_state.specs.declared.event.Event.{Event}
+use Rattle.fs_state.specs.declared.job.JobWork.{JobWork}
+use Rattle.fs_state.specs.declared.job.JobWork.TheVariants.{Sleep, Originate}
+use Rattle.fs_state.specs.Counts.{Tallies}
+use Rattle.fs_state.specs.Switch.{Switch, conn_of, orig_of, next_orig, with_new_job, without_job, without_orig}
+use Rattle.fs_state.specs.Moves.{orig_changed_from, orig_changed}
+use Rattle.fs_machine.specs.declared.jobs.Attempt.{Attempt}
+use Rattle.fs_machine.specs.declared.originations.Caller.{Caller}
+use Rattle.fs_machine.specs.Texts.{made_text, failed_text}
+use Rattle.fs_machine.specs.Connections.{conn_changed_from, conn_changed, admitted, parted, owed_since, not_owed}
+use Rattle.fs_machine.specs.Originations.{Made, leg_made, won}
+use Rattle.fs_machine.specs.Jobs.{owing, ended, orig_begun, tried_by_job, originate_begun}
+use Rattle.fs_machine.proofs.Kept.{Fact, KeptByCalls, KeptByBirths, DoesJob, HasLeg, KeptByMoves}
+use Rattle.fs_machine.proofs.Walk.{leg_made_kept}
+
+-- what is left of a switch without connections, jobs, originations and what they are given
+pub record Front : Type 0 where
+  pub config : Configuration
+  pub globals : Variables
+  pub channels : List (Option Chan)
+  pub identifiers : ℕ
+  pub moment : ℕ
+  pub entries : ℕ
+  pub cost : ℕ
+  pub counts : Tallies
+  pub news : List Event
+
+abbrev pub front_of : Switch → Front
+front_of s = record {
+  config = s.config;
+  globals = s.globals;
+  channels = s.channels;
+  identifiers = s.drawn.identifiers;
+  moment = s.moment;
+  entries = s.entries;
+  cost = s.cost;
+  counts = s.counts;
+  news = s.news;
+}
+
+pub orig_changed_front : (change : Orig → Orig) (number : ℕ) (s : Switch) → front_of (orig_changed change number s) ≡ front_of s
+orig_changed_front change number s = by (orig_of s number)
+  where
+    by : (found : Option Orig) → front_of (orig_changed_from change number found s) ≡ front_of s
+    by None = refl
+    by (Some o) = refl
+
+conn_changed_front : (change : Conn → Conn) (conn : ℕ) (s : Switch) → front_of (conn_changed change conn s) ≡ front_of s
+conn_changed_front change conn s = by (conn_of s conn)
+  where
+    by : (found : Option Conn) → front_of (conn_changed_from change conn found s) ≡ front_of s
+    by None = refl
+    by (Some c) = refl
+
+owing_front : (conn : ℕ) (work : JobWork) (s : Switch) → front_of (owing conn work s) ≡ front_of s
+owing_front conn work s = conn_changed_front (owed_since s.entries) conn (with_new_job (record { conn = conn; work = work }) s)
+
+ended_front : (number conn : ℕ) (answer : Text) (s : Switch) → front_of (ended number conn answer s) ≡ front_of s
+ended_front number conn answer s = conn_changed_front not_owed conn (without_job number s)
+
+-- a fact that holds wherever the front is the same is kept by all moves, if channels and births keep it, and a leg that wins
+module _ (before : Switch) (P : Fact) (same : (b : Bool) (t u : Switch) → P b t → front_of u ≡ front_of t → P b u) (calls : KeptByCalls P) (births : KeptByBirths P)
+    (wins : (a : Attempt) (winner : Winner) (leg : OrigLeg) → DoesJob before a.job a.conn (Originate a.orig winner) → HasLeg before a.orig leg → P false before →
+    P false (won winner (unwrap_or leg.slot 0) before)) where
+  changed_same : (change : Conn → Conn) (conn : ℕ) (s : Switch) → P false s → P false (conn_changed change conn s)
+  changed_same change conn s h = same false s _ h (conn_changed_front change conn s)
+
+  ended_same : (number conn : ℕ) (answer : Text) (s : Switch) → P false s → P false (ended number conn answer s)
+  ended_same number conn answer s h = same false s _ h (ended_front number conn answer s)
+
+  over_same : (a : Attempt) (answer : Text) (s : Switch) → P false s → P false (ended a.job a.conn answer (without_orig a.orig s))
+  over_same a answer s h = ended_same a.job a.conn answer (without_orig a.orig s) (same false s _ h refl)
+
+  sleeps_same : (conn until : ℕ) (s : Switch) → P true s → P false (owing conn (Sleep until) s)
+  sleeps_same conn until s h = same false s _ (births.spent h) (owing_front conn (Sleep until) s)
+
+  tried_same : (conn : ℕ) (endpoint : Text) (winner : Winner) (timeout orig : ℕ) (made : Made) → P false made.state → P false (tried_by_job conn endpoint winner timeout orig made)
+  tried_same conn endpoint winner timeout orig made h =
+      same false made.state _ h (owing_front conn (Originate orig winner) (orig_begun endpoint made.leg timeout made.state))
+
+  originates_same : (conn : ℕ) (endpoint : Text) (winner : Winner) (caller : Caller) (timeout : Option ℕ) (s : Switch) → P true s → P false (originate_begun conn endpoint winner caller timeout s)
+  originates_same conn endpoint winner caller timeout s h =
+      tried_same conn endpoint winner (unwrap_or timeout 60) (next_orig s) (leg_made endpoint caller (next_orig s) s) (leg_made_kept P births endpoint caller (next_orig s) {s = s} h)
+
+  pub moves_by_front : KeptByMoves before P
+  moves_by_front = record {
+    calls = calls;
+    jobs = record {
+      woken = λ number conn until answer {s = s} does h. ended_same number conn answer s h;
+      failed = λ a winner cause {s = s} does h. over_same a (failed_text cause) s h;
+      wins = λ a winner leg does has h. over_same a (made_text leg.uuid) (won winner (unwrap_or leg.slot 0) before) (wins a winner leg does has h);
+    };
+    commands = λ conn. record {
+      spent = births.spent;
+      gave = λ frame h. same _ _ _ h refl;
+      admitted = λ {s = s} fresh h. changed_same admitted conn s h;
+      parted = λ why {s = s} leaves h. changed_same (parted why) conn s h;
+      sleeps = λ until {s = s} room h. sleeps_same conn until s h;
+      originates = λ endpoint winner caller timeout {s = s} short room h. originates_same conn endpoint winner caller timeout s h;
+    };
+    visits = record {
+      arrived = λ h. same _ _ _ (births.spent h) refl;
+      taken = λ conn h. same _ _ _ h refl;
+      silent = λ conn {s = s} h. changed_same (parted parting.EndOfInput) conn s h;
+      left = λ conn h. same _ _ _ h refl;
+    };
+  }

@@ -1,0 +1,126 @@
+-- What a fact on switches has to bear for every entry to keep it: a case for each move that entries are made of.
+use Rattle.std.proofs.Common.{◌≡◌, ℕ, ◌+◌, Bool, true, false, Option, None, Some, slice_get, unwrap_or}
+use Rattle.fs_text.specs.declared.causes.Cause.{Cause}
+use Rattle.fs_vars.specs.Pairs.{Text}
+use Rattle.fs_vars.specs.Variables.{Variables}
+use Rattle.fs_api.specs.declared.api.Winner.{Winner}
+use Rattle.fs_api.specs.declared.api.Winner.TheVariants.{App, Route}
+use Rattle.fs_chan.specs.declared.chan.Chan.{Chan}
+use Rattle.fs_chan.specs.declared.peer.Peer.{Peer}
+use Rattle.fs_chan.specs.Changes.{is_live, IsShort, HasShortFields}
+use Rattle.fs_orig.specs.declared.leg.OrigLeg.{OrigLeg}
+use Rattle.fs_orig.specs.declared.orig.Orig.{Orig}
+use Rattle.fs_orig.specs.Legs.{lives}
+use Rattle.fs_orig.specs.Changes.{with_answer}
+use Rattle.fs_orig.specs.Endpoints.{IsShortAddress}
+use Rattle.fs_state.specs.declared.conn.Phase.TheVariants.{Fresh}
+use Rattle.fs_state.specs.declared.conn.Parting.{Parting}
+use Rattle.fs_state.specs.declared.conn.Parting.TheVariants as parting
+use Rattle.fs_state.specs.declared.event.Event.{Event}
+use Rattle.fs_state.specs.declared.job.JobWork.{JobWork}
+use Rattle.fs_state.specs.declared.job.JobWork.TheVariants as work
+use Rattle.fs_state.specs.Switch.{Switch, chan_at, with_chan, free_slot, is_full_of_jobs, orig_of, job_of, without_orig, without_conn, with_frame_taken, told, gave}
+use Rattle.fs_state.specs.Moves.{orig_changed, leg_changed, hung}
+use Rattle.fs_machine.specs.declared.jobs.Attempt.{Attempt}
+use Rattle.fs_machine.specs.declared.originations.Call.{Call}
+use Rattle.fs_machine.specs.declared.originations.Caller.{Caller}
+use Rattle.fs_machine.specs.Connections.{phase_at, conn_changed, admitted, parted}
+use Rattle.fs_machine.specs.Texts.{made_text}
+use Rattle.fs_machine.specs.Originations.{pair_made, target_of, won}
+use Rattle.fs_machine.specs.Jobs.{owing, ended, originate_begun, failed}
+use Rattle.fs_machine.specs.Step.{arrived}
+
+-- A fact on a switch while an entry is done. By true nothing has begun in this entry that draws a number, by false one such thing may have.
+abbrev pub Fact : Type 1
+Fact = Bool → Switch → Type 0
+
+-- ---- moves of channels
+
+-- what others know of a channel
+pub record Links : Type 0 where
+  pub uuid : Text
+  pub partner : Option ℕ
+  pub peer : Option Peer
+  pub leg_of : Option ℕ
+
+abbrev pub links_of : Chan → Links
+links_of c = record { uuid = c.uuid; partner = c.partner; peer = c.peer; leg_of = c.leg_of }
+
+-- a channel keeps what others know of it, lives just if it lived, and its texts stay within their limits
+pub record Stays (old new : Chan) : Type 0 where
+  pub links : links_of new ≡ links_of old
+  pub live : is_live new ≡ is_live old
+  pub short : HasShortFields old.profile → HasShortFields new.profile
+
+-- what channels do, and what is done to them; no event tells of a bridge
+pub record KeptByCalls (P : Fact) : Type 0 where
+  pub told : (event : Event) {b : Bool} {s : Switch} → event.bridge ≡ 0 → P b s → P b (told event s)
+  pub globals : (globals : Variables) {b : Bool} {s : Switch} → P b s → P b (record s { globals = globals })
+  pub changed : (slot : ℕ) (old new : Chan) {b : Bool} {s : Switch} → chan_at s slot ≡ Some old → Stays old new → P b s → P b (with_chan slot (Some new) s)
+  pub answers : (place slot number : ℕ) {b : Bool} {s : Switch} → P b s → P b (orig_changed (leg_changed (λ position. with_answer position place) slot) number s)
+  pub hung : (cause : Cause) (slot : ℕ) {b : Bool} {s : Switch} → P b s → P b (hung cause slot s)
+  pub gone : (slot : ℕ) (old : Chan) {b : Bool} {s : Switch} → chan_at s slot ≡ Some old → is_live old ≡ false → P b s → P b (with_chan slot None s)
+
+-- how channels are born
+pub record KeptByBirths (P : Fact) : Type 0 where
+  pub spent : {s : Switch} → P true s → P false s
+  pub pair : (call : Call) (orig a b : ℕ) {s : Switch} → IsShortAddress call.exten call.context → free_slot 1 s ≡ Some a → free_slot (a + 1) s ≡ Some b → P true s →
+      P false (pair_made call orig a b s)
+
+-- ---- moves of jobs
+
+-- a job of this number does this work for this connection
+pub record DoesJob (s : Switch) (number conn : ℕ) (what : JobWork) : Type 0 where
+  pub there : job_of s number ≡ Some (record { conn = conn; work = what })
+
+-- a leg of the origination of this number lives
+pub record HasLeg (s : Switch) (number : ℕ) (leg : OrigLeg) : Type 0 where
+  pub orig : Orig
+  pub there : orig_of s number ≡ Some orig
+  pub position : ℕ
+  pub at : slice_get orig.legs position ≡ Some leg
+  pub lives : lives leg ≡ true
+
+-- the jobs that end; a leg wins in the switch in which the entry begins
+pub record KeptByJobs (before : Switch) (P : Fact) : Type 0 where
+  pub woken : (number conn until : ℕ) (answer : Text) {s : Switch} → DoesJob s number conn (work.Sleep until) → P false s → P false (ended number conn answer s)
+  pub failed : (a : Attempt) (winner : Winner) (cause : Cause) {s : Switch} → DoesJob s a.job a.conn (work.Originate a.orig winner) → P false s → P false (failed a cause s)
+  pub wins : (a : Attempt) (winner : Winner) (leg : OrigLeg) → DoesJob before a.job a.conn (work.Originate a.orig winner) → HasLeg before a.orig leg → P false before →
+      P false (ended a.job a.conn (made_text leg.uuid) (without_orig a.orig (won winner (unwrap_or leg.slot 0) before)))
+
+-- ---- moves of a connection
+
+-- it parts for another reason than the end of its input
+abbrev pub LeavesBy : Parting → Type 0
+LeavesBy parting.Exit = Unit {0}
+LeavesBy parting.AuthRefused = Unit {0}
+LeavesBy parting.EndOfInput = ⊥
+
+-- the texts that a winner is routed by can stand in a profile
+abbrev pub IsShortWinner : Winner → Type 0
+IsShortWinner (App application argument) = Unit {0}
+IsShortWinner (Route to) = IsShort (target_of to)
+
+-- what the commands of a connection do
+pub record KeptByCommands (conn : ℕ) (P : Fact) : Type 0 where
+  pub spent : {s : Switch} → P true s → P false s
+  pub gave : (frame : Text) {b : Bool} {s : Switch} → P b s → P b (gave conn frame s)
+  pub admitted : {s : Switch} → phase_at s conn ≡ Fresh → P false s → P false (conn_changed admitted conn s)
+  pub parted : (why : Parting) {s : Switch} → LeavesBy why → P false s → P false (conn_changed (parted why) conn s)
+  pub sleeps : (until : ℕ) {s : Switch} → is_full_of_jobs s ≡ false → P true s → P false (owing conn (work.Sleep until) s)
+  pub originates : (endpoint : Text) (winner : Winner) (caller : Caller) (timeout : Option ℕ) {s : Switch} → IsShortWinner winner → is_full_of_jobs s ≡ false → P true s →
+      P false (originate_begun conn endpoint winner caller timeout s)
+
+-- how connections come and go, and take their frames
+pub record KeptByVisits (P : Fact) : Type 0 where
+  pub arrived : {s : Switch} → P true s → P false (arrived s).state
+  pub taken : (conn : ℕ) {s : Switch} → P false s → P false (with_frame_taken conn s)
+  pub silent : (conn : ℕ) {s : Switch} → P false s → P false (conn_changed (parted parting.EndOfInput) conn s)
+  pub left : (conn : ℕ) {s : Switch} → P false s → P false (without_conn conn s)
+
+-- every move of an entry that begins in a switch
+pub record KeptByMoves (before : Switch) (P : Fact) : Type 0 where
+  pub calls : KeptByCalls P
+  pub jobs : KeptByJobs before P
+  pub commands : (conn : ℕ) → KeptByCommands conn P
+  pub visits : KeptByVisits P

@@ -1,0 +1,131 @@
+-- What happens to channels leaves the rest of a switch as it is.
+use Rattle.std.proofs.Common.{◌≡◌, ℕ, Bool, true, false, if◌then◌else◌, List, Option, None, Some, refl, ap, ◌∙◌}
+use Rattle.fs_text.specs.declared.causes.Cause.{Cause}
+use Rattle.fs_vars.specs.Pairs.{Text}
+use Rattle.fs_doc.specs.Reading.{Configuration}
+use Rattle.fs_api.specs.declared.api.Winner.{Winner}
+use Rattle.fs_chan.specs.declared.chan.Chan.{Chan}
+use Rattle.fs_orig.specs.declared.orig.Orig.{Orig}
+use Rattle.fs_orig.specs.Changes.{with_answer}
+use Rattle.fs_places.specs.declared.numbered.Numbered.{Numbered}
+use Rattle.fs_places.specs.Rows.{row_of}
+use Rattle.fs_state.specs.declared.conn.Conn.{Conn}
+use Rattle.fs_state.specs.declared.gift.Gift.{Gift}
+use Rattle.fs_state.specs.declared.job.Job.{Job}
+use Rattle.fs_state.specs.declared.job.JobWork.{JobWork}
+use Rattle.fs_state.specs.Counts.{Tallies}
+use Rattle.fs_state.specs.Queues.{Frames}
+use Rattle.fs_state.specs.Switch.{Switch, chan_at, with_chan, orig_of}
+use Rattle.fs_state.specs.Moves.{moved_from, moved, orig_changed_from, orig_changed, leg_changed, hung}
+use Rattle.fs_machine.specs.declared.originations.Caller.{Caller}
+use Rattle.fs_machine.specs.Originations.{leg_made, won_by, won}
+use Rattle.fs_machine.specs.Jobs.{all_hung}
+use Rattle.fs_machine.specs.Work.{worked}
+use Rattle.fs_machine.proofs.TableLemmas.{numbers_in, numbers_kept}
+use Rattle.fs_machine.proofs.Kept.{Fact, KeptByCalls, DoesJob}
+use Rattle.fs_machine.proofs.Walk.{state_told_kept, hung_kept, all_hung_kept, worked_kept, leg_made_kept}
+
+-- what is left of a switch without channels, globals, news and identifiers; of originations that is their numbers
+pub record Rest : Type 0 where
+  pub config : Configuration
+  pub origs : List (Option ℕ)
+  pub jobs : List (Option (Numbered Job))
+  pub conns : List (Option (Numbered Conn))
+  pub queues : List Frames
+  pub origs_drawn : ℕ
+  pub jobs_drawn : ℕ
+  pub conns_drawn : ℕ
+  pub moment : ℕ
+  pub entries : ℕ
+  pub cost : ℕ
+  pub counts : Tallies
+  pub given : List Gift
+
+abbrev pub rest_of : Switch → Rest
+rest_of s = record {
+  config = s.config;
+  origs = numbers_in s.origs;
+  jobs = s.jobs;
+  conns = s.conns;
+  queues = s.queues;
+  origs_drawn = s.drawn.origs;
+  jobs_drawn = s.drawn.jobs;
+  conns_drawn = s.drawn.conns;
+  moment = s.moment;
+  entries = s.entries;
+  cost = s.cost;
+  counts = s.counts;
+  given = s.given;
+}
+
+-- what holds of both holds of the one that a test chooses
+pub whichever : {A : Type 0} → (P : A → Type 0) (b : Bool) (x y : A) → P x → P y → P (if b then x else y)
+whichever P true x y first second = first
+whichever P false x y first second = second
+
+-- ---- single moves
+
+pub orig_changed_rest : (change : Orig → Orig) (number : ℕ) (s : Switch) → rest_of (orig_changed change number s) ≡ rest_of s
+orig_changed_rest change number s = by (orig_of s number)
+  where
+    by : (orig : Option Orig) → rest_of (orig_changed_from change number orig s) ≡ rest_of s
+    by None = refl
+    by (Some o) = ap (λ (origs : List (Option ℕ)). record (rest_of s) { origs = origs }) (numbers_kept s.origs number (change o))
+
+moved_rest : (change : Chan → Chan) (slot : ℕ) (s : Switch) → rest_of (moved change slot s) ≡ rest_of s
+moved_rest change slot s = by (chan_at s slot)
+  where
+    by : (chan : Option Chan) → rest_of (moved_from change slot chan s) ≡ rest_of s
+    by None = refl
+    by (Some c) = state_told_kept (λ (t : Switch). rest_of t ≡ rest_of s) (λ event t plain h. h) c.state (change c).state {s = with_chan slot (Some (change c)) s} refl
+
+pub hung_rest : (cause : Cause) (slot : ℕ) (s : Switch) → rest_of (hung cause slot s) ≡ rest_of s
+hung_rest cause slot s =
+    hung_kept (λ (t : Switch). rest_of t ≡ rest_of s) (λ event t plain h. h) (λ why place c t is h. h) (λ change number t h. orig_changed_rest change number t ∙ h) cause slot s refl
+
+-- ---- facts on the rest
+
+-- a fact that holds wherever the rest is the same is kept by what happens to channels
+module _ (P : Fact) (same : (b : Bool) (t u : Switch) → P b t → rest_of u ≡ rest_of t → P b u) where
+  answers_same : (place slot number : ℕ) {b : Bool} {s : Switch} → P b s → P b (orig_changed (leg_changed (λ position. with_answer position place) slot) number s)
+  answers_same place slot number {b} {s} h = same b s _ h (orig_changed_rest (leg_changed (λ position. with_answer position place) slot) number s)
+
+  hung_same : (cause : Cause) (slot : ℕ) {b : Bool} {s : Switch} → P b s → P b (hung cause slot s)
+  hung_same cause slot {b} {s} h = same b s _ h (hung_rest cause slot s)
+
+  pub calls_by_rest : KeptByCalls P
+  calls_by_rest = record {
+    told = λ event plain h. same _ _ _ h refl;
+    globals = λ globals h. same _ _ _ h refl;
+    changed = λ slot old new there stays h. same _ _ _ h refl;
+    answers = answers_same;
+    hung = hung_same;
+    gone = λ slot old there dead h. same _ _ _ h refl;
+  }
+
+abbrev SameRest : Switch → Fact
+SameRest s b t = rest_of t ≡ rest_of s
+
+same_rest : (s : Switch) → KeptByCalls (SameRest s)
+same_rest s = calls_by_rest (SameRest s) (λ b t u h e. e ∙ h)
+
+pub all_hung_rest : (cause : Cause) (slots : List ℕ) (s : Switch) → rest_of (all_hung cause slots s) ≡ rest_of s
+all_hung_rest cause slots s = all_hung_kept (SameRest s) (same_rest s) cause slots {b = false} {s = s} refl
+
+pub worked_rest : (slot : ℕ) (s : Switch) → rest_of (worked slot s) ≡ rest_of s
+worked_rest slot s = worked_kept (SameRest s) (same_rest s) slot {b = false} {s = s} refl
+
+pub won_rest : (winner : Winner) (slot : ℕ) (s : Switch) → rest_of (won winner slot s) ≡ rest_of s
+unfolding won
+won_rest winner slot s = moved_rest (won_by winner) slot s
+
+-- ---- a leg is made
+
+pub leg_made_rest : (endpoint : Text) (caller : Caller) (orig : ℕ) (s : Switch) → rest_of (leg_made endpoint caller orig s).state ≡ rest_of s
+leg_made_rest endpoint caller orig s =
+    leg_made_kept (SameRest s) (record { spent = λ h. h; pair = λ call orig a b short first second h. h }) endpoint caller orig {s = s} refl
+
+-- ---- a job is the one that it was
+
+pub does_same : {s t : Switch} {number conn : ℕ} {what : JobWork} → DoesJob s number conn what → rest_of t ≡ rest_of s → DoesJob t number conn what
+does_same {s} {t} {number} does same = record { there = ap (λ (r : Rest). row_of r.jobs number) same ∙ does.there }

@@ -1,0 +1,289 @@
+-- Which texts can stand in the profile of a channel: those that commands and applications name, and those that a leg is made with.
+use Rattle.std.proofs.Common.{◌≡◌, ℕ, ◌≤◌, min, ◌==◌, Bool, true, false, not, ◌&&◌, if◌then◌else◌, nat_le, [], ◌∷◌, length, Option, None, Some, IfSome, unwrap_or, refl, codes, arith, length-append}
+use Rattle.std.specs.Str.{bytes_eq}
+use Rattle.std.proofs.lemmas.Bool.{leb-true, not-false}
+use Rattle.std.proofs.lemmas.List.{length-take}
+use Rattle.uuid.proofs.TextLemmas.{by_index_length}
+use Rattle.fs_text.specs.CoreId.{uuid, uuid_text}
+use Rattle.fs_text.specs.Number.{read_u64}
+use Rattle.fs_text.specs.declared.causes.Cause.TheVariants.{NoRouteDestination, DestinationOutOfOrder, InvalidNumberFormat}
+use Rattle.fs_vars.specs.Pairs.{Text}
+use Rattle.fs_vars.specs.declared.profile.Profile.{Profile}
+use Rattle.fs_api.specs.declared.api.Api.{Api}
+use Rattle.fs_api.specs.declared.api.Api.TheVariants as api
+use Rattle.fs_api.specs.declared.api.Winner.{Winner}
+use Rattle.fs_api.specs.declared.usages.Which.{Which}
+use Rattle.fs_api.specs.declared.usages.Which.TheVariants as which
+use Rattle.fs_api.specs.Originates as originates
+use Rattle.fs_api.specs.Words.{without_spaces, word_of, behind_word, quoted_word, behind_quoted}
+use Rattle.fs_api.specs.Readings as readings
+use Rattle.fs_api.specs.Readings.{api_named, api_of, expanded_api_of, without_expand}
+use Rattle.fs_app.specs.declared.application.Application.{Application}
+use Rattle.fs_app.specs.declared.application.Application.TheVariants as app
+use Rattle.fs_app.specs.Applications as apps
+use Rattle.fs_app.specs.Applications.{application_of}
+use Rattle.fs_chan.specs.declared.peer.Direction.{Direction}
+use Rattle.fs_chan.specs.declared.peer.Direction.TheVariants.{Inbound, Outbound}
+use Rattle.fs_chan.specs.declared.target.Target3.{Target3}
+use Rattle.fs_chan.specs.Changes.{sent_to, IsShort, HasShortFields}
+use Rattle.fs_orig.specs.declared.endpoint.Endpoint.{Endpoint}
+use Rattle.fs_orig.specs.declared.endpoint.Endpoint.TheVariants.{Loopback, Dead}
+use Rattle.fs_orig.specs.Endpoints as endpoints
+use Rattle.fs_orig.specs.Endpoints.{endpoint_of}
+use Rattle.fs_orig.proofs.EndpointLemmas.{part_or_short}
+use Rattle.fs_machine.specs.declared.originations.Call.{Call}
+use Rattle.fs_machine.specs.Originations.{cut, loopback_name, loopback_profile}
+use Rattle.fs_machine.proofs.Kept.{IsShortWinner}
+
+-- ---- tests
+
+left_holds : (a b : Bool) → (a && b) ≡ true → a ≡ true
+left_holds true b h = refl
+left_holds false b h = h
+
+right_holds : (a b : Bool) → (a && b) ≡ true → b ≡ true
+right_holds true b h = h
+right_holds false b h = absurd (cc)
+
+-- ---- a channel is routed anew
+
+or_short : (text : Option Text) (otherwise : Text) → IfSome text (λ t. length t ≤ 256) → length otherwise ≤ 256 → length (unwrap_or text otherwise) ≤ 256
+or_short None otherwise short other = other
+or_short (Some t) otherwise short other = short
+
+pub sent_short : (to : Target3) (p : Profile) → IsShort to → HasShortFields p → HasShortFields (sent_to to p)
+sent_short to p short h = record {
+  destination_number = short.exten;
+  caller_id_name = h.caller_id_name;
+  caller_id_number = h.caller_id_number;
+  ani = h.ani;
+  rdnis = h.rdnis;
+  context = or_short to.context p.context short.context h.context;
+  dialplan = or_short to.dialplan p.dialplan short.dialplan h.dialplan;
+  source = h.source;
+  uuid = h.uuid;
+  chan_name = h.chan_name;
+  network_addr = h.network_addr;
+  username = h.username;
+}
+
+-- ---- applications
+
+word_short : (word : Text) → length word ≤ 256 → IfSome (apps.word_named word) (λ text. length text ≤ 256)
+word_short [] short = tt
+word_short (byte ∷ bytes) short = short
+
+-- what holds of both applications, by what the test says, holds of the one that it chooses
+app_by : (test : Bool) (x y : Application) → (test ≡ true → apps.IsShort x) → (test ≡ false → apps.IsShort y) → apps.IsShort (if test then x else y)
+app_by true x y first second = first refl
+app_by false x y first second = second refl
+
+routing_short : (exten dialplan context : Text) → apps.IsShort (apps.routing exten dialplan context)
+routing_short exten dialplan context =
+    let first : Bool = apps.is_exten exten && originates.is_short exten in
+    let second : Bool = first && originates.is_short dialplan in
+    app_by (second && originates.is_short context) (apps.routed_to exten dialplan context) app.Unknown
+    (λ all.
+    let both : second ≡ true = left_holds second (originates.is_short context) all in
+    let one : first ≡ true = left_holds first (originates.is_short dialplan) both in
+    record {
+      exten = leb-true (length exten) 256 (right_holds (apps.is_exten exten) (originates.is_short exten) one);
+      dialplan = word_short dialplan (leb-true (length dialplan) 256 (right_holds first (originates.is_short dialplan) both));
+      context = word_short context (leb-true (length context) 256 (right_holds second (originates.is_short context) all));
+    })
+    (λ none. tt)
+
+-- whichever name it has
+app_short : (answers sets unsets exports sets_global evals sleeps hangs_up parks transfers : Bool) (argument : Text) → apps.IsShort
+    (if answers then app.Answer
+    else (if sets then app.Set (apps.name_in argument) (apps.value_in argument)
+    else (if unsets then app.Unset argument
+    else (if exports then app.Export (apps.name_in argument) (apps.value_in argument)
+    else (if sets_global then app.SetGlobal (apps.name_in argument) (apps.value_in argument)
+    else (if evals then app.Eval
+    else (if sleeps then apps.sleeping argument
+    else (if hangs_up then apps.hanging_up argument
+    else (if parks then app.Park
+    else (if transfers then apps.transferring (without_spaces argument)
+    else app.Unknown))))))))))
+app_short true sets unsets exports sets_global evals sleeps hangs_up parks transfers argument = tt
+app_short false true unsets exports sets_global evals sleeps hangs_up parks transfers argument = tt
+app_short false false true exports sets_global evals sleeps hangs_up parks transfers argument = tt
+app_short false false false true sets_global evals sleeps hangs_up parks transfers argument = tt
+app_short false false false false true evals sleeps hangs_up parks transfers argument = tt
+app_short false false false false false true sleeps hangs_up parks transfers argument = tt
+app_short false false false false false false true hangs_up parks transfers argument = tt
+app_short false false false false false false false true parks transfers argument = tt
+app_short false false false false false false false false true transfers argument = tt
+app_short false false false false false false false false false true argument =
+    let text = without_spaces argument in
+    routing_short (word_of text) (word_of (behind_word text)) (word_of (behind_word (behind_word text)))
+app_short false false false false false false false false false false argument = tt
+
+pub application_short : (name argument : Text) → apps.IsShort (application_of name argument)
+unfolding application_of
+application_short name argument = app_short _ _ _ _ _ _ _ _ _ _ argument
+
+-- ---- the winner that a command names
+
+abbrev pub NamesShort : Api → Type 0
+NamesShort (api.Originate url winner cid_name cid_number timeout) = IsShortWinner winner
+NamesShort _ = Unit {0}
+
+winner_by : (test : Bool) (x y : Option Winner) → (test ≡ true → IfSome x IsShortWinner) → (test ≡ false → IfSome y IsShortWinner) → IfSome (if test then x else y) IsShortWinner
+winner_by true x y first second = first refl
+winner_by false x y first second = second refl
+
+route_short : (exten dialplan context : Text) → length exten ≤ 256 → (originates.is_short dialplan && originates.is_short context) ≡ true → IsShortWinner (originates.routed exten dialplan context)
+route_short exten dialplan context short both = record {
+  exten = short;
+  dialplan = leb-true (length dialplan) 256 (left_holds (originates.is_short dialplan) (originates.is_short context) both);
+  context = leb-true (length context) 256 (right_holds (originates.is_short dialplan) (originates.is_short context) both);
+}
+
+winner_short : (exten dialplan context : Text) → IfSome (originates.winner_of exten dialplan context) IsShortWinner
+winner_short [] dialplan context =
+    winner_by (originates.is_short dialplan && originates.is_short context) (Some (originates.routed [] dialplan context)) None
+    (λ both. route_short [] dialplan context (omega arith) both) (λ none. tt)
+winner_short (byte ∷ bytes) dialplan context =
+    winner_by (originates.is_short dialplan && originates.is_short context) _ None
+    (λ both. winner_by (byte == 38) (Some (originates.application bytes)) _ (λ runs. tt)
+    (λ routes. winner_by (originates.is_short (byte ∷ bytes)) (Some (originates.routed (byte ∷ bytes) dialplan context)) None
+    (λ short. route_short (byte ∷ bytes) dialplan context (leb-true (length (byte ∷ bytes)) 256 short) both) (λ none. tt)))
+    (λ none. tt)
+
+originated_short : (url rest : Text) (winner : Option Winner) → IfSome winner IsShortWinner → NamesShort (originates.originated url winner rest)
+originated_short url rest None short = tt
+originated_short url rest (Some winner) short = short
+
+to_short : (url rest : Text) → NamesShort (originates.originate_to url rest)
+to_short url [] = tt
+to_short url (byte ∷ bytes) =
+    let exten : Text = byte ∷ bytes in
+    let dialplan : Text = behind_quoted exten in
+    let context : Text = behind_quoted dialplan in
+    originated_short url (behind_quoted context) _
+    (winner_short (originates.plain_word exten) (originates.word_or (codes "XML") dialplan) (originates.word_or (codes "default") context))
+
+originate_short : (arguments : Text) → NamesShort (originates.originate_of arguments)
+originate_short [] = tt
+originate_short (byte ∷ bytes) = to_short (quoted_word (byte ∷ bytes)) (behind_quoted (byte ∷ bytes))
+
+getting_short : (arguments : Text) → NamesShort (readings.getting arguments)
+getting_short [] = tt
+getting_short (byte ∷ bytes) = tt
+
+sleeping_short : (milliseconds : Option ℕ) → NamesShort (readings.sleeping_for milliseconds)
+sleeping_short None = tt
+sleeping_short (Some n) = by (nat_le n 3600000)
+  where
+    by : (test : Bool) → NamesShort (if test then api.Msleep n else api.Usage which.Msleep)
+    by true = tt
+    by false = tt
+
+-- a command with arguments, where there are any
+needs_short : (usage : Which) (read : Text → Api) (arguments : Text) → ((text : Text) → NamesShort (read text)) → NamesShort (readings.needs usage read arguments)
+needs_short usage read [] short = tt
+needs_short usage read (byte ∷ bytes) short = short (byte ∷ bytes)
+
+reading_short : (arguments : Text) → NamesShort (readings.reading arguments)
+reading_short arguments = needs_short which.UuidGetvar (λ name. api.UuidGetvar (word_of arguments) (word_of name)) (behind_word arguments) (λ name. tt)
+
+-- whichever name it has
+command_short : (echoes expands gets sets sleeps tries exists reads kills : Bool) (name arguments : Text) → NamesShort
+    (if echoes then api.Echo arguments
+    else (if expands then readings.needs which.Expand api.Expand arguments
+    else (if gets then readings.getting arguments
+    else (if sets then readings.needs which.GlobalSetvar readings.setting arguments
+    else (if sleeps then readings.sleeping arguments
+    else (if tries then originates.originate_of arguments
+    else (if exists then readings.needs which.UuidExists readings.asking arguments
+    else (if reads then readings.needs which.UuidGetvar readings.reading arguments
+    else (if kills then readings.needs which.UuidKill readings.killing arguments
+    else api.Unknown name)))))))))
+command_short true expands gets sets sleeps tries exists reads kills name arguments = tt
+command_short false true gets sets sleeps tries exists reads kills name arguments = needs_short which.Expand api.Expand arguments (λ text. tt)
+command_short false false true sets sleeps tries exists reads kills name arguments = getting_short arguments
+command_short false false false true sleeps tries exists reads kills name arguments = needs_short which.GlobalSetvar readings.setting arguments (λ text. tt)
+command_short false false false false true tries exists reads kills name arguments = sleeping_short (read_u64 (word_of arguments))
+command_short false false false false false true exists reads kills name arguments = originate_short arguments
+command_short false false false false false false true reads kills name arguments = needs_short which.UuidExists readings.asking arguments (λ text. tt)
+command_short false false false false false false false true kills name arguments = needs_short which.UuidGetvar readings.reading arguments reading_short
+command_short false false false false false false false false true name arguments = needs_short which.UuidKill readings.killing arguments (λ text. tt)
+command_short false false false false false false false false false name arguments = tt
+
+named_short : (name arguments : Text) → NamesShort (api_named name arguments)
+unfolding api_named
+named_short name arguments = command_short _ _ _ _ _ _ _ _ _ name arguments
+
+pub api_short : (text : Text) → NamesShort (api_of text)
+api_short text = named_short (word_of (without_spaces text)) (behind_word (without_spaces text))
+
+without_short : (command : Api) → NamesShort command → NamesShort (without_expand command)
+without_short (api.Expand text) short = tt
+without_short (api.Usage which.Expand) short = tt
+without_short other short = short
+
+pub expanded_short : (text : Text) → NamesShort (expanded_api_of text)
+expanded_short text = without_short (api_of text) (api_short text)
+
+-- ---- the endpoint of a leg
+
+end_by : (test : Bool) (x y : Endpoint) → (test ≡ true → endpoints.IsShort x) → (test ≡ false → endpoints.IsShort y) → endpoints.IsShort (if test then x else y)
+end_by true x y first second = first refl
+end_by false x y first second = second refl
+
+address_short : (exten context dialplan : Text) → endpoints.IsShort (endpoints.loopback_to exten context dialplan)
+address_short [] context dialplan = tt
+address_short (byte ∷ bytes) context dialplan =
+    let exten : Text = byte ∷ bytes in
+    let both : Bool = endpoints.is_short exten && endpoints.is_short context in
+    let plan : Text = endpoints.part_or (codes "XML") dialplan in
+    end_by (not (both && endpoints.is_short dialplan)) (Dead InvalidNumberFormat) _ (λ long. tt)
+    (λ all.
+    let short : both ≡ true = left_holds both (endpoints.is_short dialplan) (not-false (both && endpoints.is_short dialplan) all) in
+    end_by (bytes_eq plan (codes "XML")) (Loopback exten (endpoints.part_or (codes "default") context)) (Dead NoRouteDestination)
+    (λ same. record {
+      exten_there = omega arith;
+      exten_short = leb-true (length exten) 256 (left_holds (endpoints.is_short exten) (endpoints.is_short context) short);
+      context_short = part_or_short (codes "default") context 256 (omega arith) (leb-true (length context) 256 (right_holds (endpoints.is_short exten) (endpoints.is_short context) short));
+    })
+    (λ differs. tt))
+
+pub endpoint_short : (text : Text) → endpoints.IsShort (endpoint_of text)
+unfolding endpoint_of
+endpoint_short text =
+    let parts : Text = endpoints.other_parts text in
+    end_by (bytes_eq (endpoints.first_part text) (codes "error")) (endpoints.error_of (endpoints.first_part parts)) _ (λ fails. tt)
+    (λ other. end_by (bytes_eq (endpoints.first_part text) (codes "loopback")) (endpoints.loopback_of parts) (Dead DestinationOutOfOrder)
+    (λ loops. address_short (endpoints.first_part parts) (endpoints.first_part (endpoints.other_parts parts)) (endpoints.other_parts (endpoints.other_parts parts))) (λ none. tt))
+
+-- ---- the profile of a new channel
+
+cut_short : (text : Text) → length (cut text) ≤ 256
+cut_short text = omega (arith, length-take (min 256 (length text)) text)
+
+uuid_short : (core n : ℕ) → length (uuid core n) ≤ 256
+unfolding uuid uuid_text
+uuid_short core n = let long : length (uuid core n) ≡ 36 = by_index_length 36 _ in omega (arith, long)
+
+name_short : (exten : Text) (direction : Direction) → length exten ≤ 256 → length (loopback_name exten direction) ≤ 267
+name_short exten Outbound short = simp length-append (omega (arith, short))
+name_short exten Inbound short = simp length-append (omega (arith, short))
+
+pub profile_short : (call : Call) (direction : Direction) (core n : ℕ) → endpoints.IsShortAddress call.exten call.context →
+    HasShortFields (loopback_profile call direction (uuid core n))
+profile_short call direction core n short = record {
+  destination_number = short.exten_short;
+  caller_id_name = cut_short call.caller.name;
+  caller_id_number = cut_short call.caller.number;
+  ani = cut_short call.caller.number;
+  rdnis = omega arith;
+  context = short.context_short;
+  dialplan = omega arith;
+  source = omega arith;
+  uuid = uuid_short core n;
+  chan_name = name_short call.exten direction short.exten_short;
+  network_addr = omega arith;
+  username = omega arith;
+}

@@ -1,0 +1,379 @@
+-- The one walk through what channels do: a fact that bears each of their moves is kept by all that they do.
+use Rattle.std.proofs.Common.{◌≡◌, ℕ, ◌+◌, ◌==◌, nat_lt, Bool, true, false, if◌then◌else◌, List, [], ◌∷◌, length, Option, None, Some, option_map, option_and_then, is_none, refl, sym, ap, subst, ◌∙◌}
+use Rattle.fs_text.specs.declared.states.State.{State}
+use Rattle.fs_text.specs.declared.states.State.TheVariants.{CsNew, CsInit, CsRouting, CsExecute, CsPark, CsConsumeMedia, CsHangup, CsReporting}
+use Rattle.fs_text.specs.State.{state_row, state_number}
+use Rattle.fs_text.specs.declared.causes.Cause.{Cause}
+use Rattle.fs_text.specs.declared.causes.Cause.TheVariants.{NormalClearing, NormalTemporaryFailure, DestinationOutOfOrder, ExchangeRoutingError, NoRouteDestination}
+use Rattle.fs_text.specs.declared.event_names.EventName.TheVariants.{ChannelCreate, ChannelState, ChannelAnswer, ChannelExecute, ChannelExecuteComplete, ChannelPark, ChannelUnpark, ChannelHangupComplete, ChannelDestroy}
+use Rattle.fs_vars.specs.Pairs.{Text}
+use Rattle.fs_vars.specs.Variables.{Variables}
+use Rattle.fs_app.specs.declared.application.Application.{Application}
+use Rattle.fs_app.specs.declared.application.Application.TheVariants as app
+use Rattle.fs_app.specs.Applications as apps
+use Rattle.fs_app.specs.Applications.{application_of}
+use Rattle.fs_chan.specs.declared.action.Action.{Action}
+use Rattle.fs_chan.specs.declared.chan.Chan.{Chan}
+use Rattle.fs_chan.specs.declared.peer.Direction.{Direction}
+use Rattle.fs_chan.specs.declared.peer.Direction.TheVariants.{Inbound, Outbound}
+use Rattle.fs_chan.specs.declared.target.Target3.{Target3}
+use Rattle.fs_chan.specs.declared.wait.Wait.{Wait}
+use Rattle.fs_chan.specs.declared.wait.Wait.TheVariants.{Ready, Sleep, Parked, Socket}
+use Rattle.fs_chan.specs.Changes.{IsShort, is_live, entered, answered_at, gone_on, hung_up, transferred, parked, asleep, may_route, routed}
+use Rattle.fs_chan.specs.Exports.{with_set}
+use Rattle.fs_chan.specs.Work as chan
+use Rattle.fs_orig.specs.declared.endpoint.Endpoint.{Endpoint}
+use Rattle.fs_orig.specs.declared.endpoint.Endpoint.TheVariants.{Loopback, Dead}
+use Rattle.fs_orig.specs.declared.orig.Orig.{Orig}
+use Rattle.fs_orig.specs.Changes.{with_answer, with_death}
+use Rattle.fs_orig.specs.Endpoints as endpoints
+use Rattle.fs_orig.specs.Endpoints.{endpoint_of}
+use Rattle.fs_places.specs.Places.{held_in}
+use Rattle.fs_plan.specs.declared.hunt.Hunt.{Hunt}
+use Rattle.fs_state.specs.declared.event.Event.{Event}
+use Rattle.fs_state.specs.Switch.{Switch, chan_at, with_chan, free_slot, told}
+use Rattle.fs_state.specs.Moves.{happens, left_told, come_told, state_told, moved_from, moved, begun, running, run_on, completed, orig_changed, leg_changed, its_leg_changed, answered_from, one_answered, partner_at, for_slot, answered, hangup_of, hung_from, one_hung, hung_with, hung, reported, destroyed}
+use Rattle.fs_machine.specs.declared.originations.Call.{Call}
+use Rattle.fs_machine.specs.declared.originations.Caller.{Caller}
+use Rattle.fs_machine.specs.Applications.{with_variable, without_variable, with_export, sleeping, state_at, parking_in, effect, argument_in, executed_within, ran_next, ran_from, ran}
+use Rattle.fs_machine.specs.Work.{with_variables, routed_to, actions_for, too_long_cause, found_for, routed_by, routing_from, first_state, worked_waiting, worked_in, worked_from, worked}
+use Rattle.fs_machine.specs.Originations.{Made, made_in, with_second, free_pair, is_congested, made_of, leg_made}
+use Rattle.fs_machine.specs.Jobs.{all_hung}
+use Rattle.fs_machine.proofs.HeldLemmas.{held_here, held_within}
+use Rattle.fs_machine.proofs.ShortLemmas.{sent_short, application_short, endpoint_short}
+use Rattle.fs_machine.proofs.Kept.{Fact, Stays, KeptByCalls, KeptByBirths}
+
+-- ---- states that live
+
+abbrev pub Lives : State → Type 0
+Lives state = nat_lt (state_number state) (state_number CsHangup) ≡ true
+
+pub new_lives : Lives CsNew
+unfolding state_row
+new_lives = refl
+
+init_lives : Lives CsInit
+unfolding state_row
+init_lives = refl
+
+pub routing_lives : Lives CsRouting
+unfolding state_row
+routing_lives = refl
+
+pub execute_lives : Lives CsExecute
+unfolding state_row
+execute_lives = refl
+
+park_lives : Lives CsPark
+unfolding state_row
+park_lives = refl
+
+media_lives : Lives CsConsumeMedia
+unfolding state_row
+media_lives = refl
+
+pub hangup_dead : nat_lt (state_number CsHangup) (state_number CsHangup) ≡ false
+unfolding state_row
+hangup_dead = refl
+
+reporting_dead : nat_lt (state_number CsReporting) (state_number CsHangup) ≡ false
+unfolding state_row
+reporting_dead = refl
+
+-- a channel of a state lives as the state says
+live_by : (c : Chan) (state : State) (b : Bool) → c.state ≡ state → nat_lt (state_number state) (state_number CsHangup) ≡ b → is_live c ≡ b
+live_by c state b is lives = ap (λ (x : State). nat_lt (state_number x) (state_number CsHangup)) is ∙ lives
+
+first_lives : (direction : Direction) → Lives (first_state direction)
+first_lives Inbound = routing_lives
+first_lives Outbound = media_lives
+
+-- ---- changes of one channel that others do not see
+
+abbrev AllStay : (Chan → Chan) → Type 0
+AllStay change = (c : Chan) → Stays c (change c)
+
+without_first_stays : (messages : List Action) → AllStay (chan.without_first messages)
+without_first_stays [] c = record { links = refl; live = refl; short = λ h. h }
+without_first_stays (message ∷ messages) c = record { links = refl; live = refl; short = λ h. h }
+
+after_taking_stays : (line : List Action) → AllStay (chan.after_taking line)
+after_taking_stays [] c = record { links = refl; live = refl; short = λ h. h }
+after_taking_stays (next ∷ later) c = without_first_stays c.messages c
+
+after_next_stays : AllStay chan.after_next
+after_next_stays c = after_taking_stays (chan.line_of c) c
+
+running_stays : (action : Action) → AllStay (running action)
+running_stays action c = record { links = refl; live = refl; short = λ short. short }
+
+-- ---- a slot whose channel lives
+
+record LivesAt (channels : List (Option Chan)) (slot : ℕ) : Type 0 where
+  chan : Chan
+  there : held_in channels slot ≡ Some chan
+  live : is_live chan ≡ true
+
+lives_at : (channels : List (Option Chan)) (slot : ℕ) (c : Chan) (state : State) → held_in channels slot ≡ Some c → c.state ≡ state → Lives state → LivesAt channels slot
+lives_at channels slot c state there is lives = record { chan = c; there = there; live = live_by c state true is lives }
+
+-- it is the one that stands there
+is_alive : (channels : List (Option Chan)) (slot : ℕ) (c : Chan) → LivesAt channels slot → held_in channels slot ≡ Some c → is_live c ≡ true
+is_alive channels slot c at there =
+    let is : held_in channels slot ≡ Some at.chan = at.there in
+    let same : c ≡ at.chan = cc in
+    ap is_live same ∙ at.live
+
+-- ---- what is told of a change of state
+
+module _ (P : Switch → Type 0) (told_kept : (event : Event) (s : Switch) → event.bridge ≡ 0 → P s → P (told event s)) where
+  left_told_kept : (state : State) {s : Switch} → P s → P (left_told state s)
+  left_told_kept CsPark h = told_kept (happens ChannelUnpark) _ refl h
+  left_told_kept _ h = h
+
+  come_told_kept : (state : State) {s : Switch} → P s → P (come_told state s)
+  come_told_kept CsPark h = told_kept (happens ChannelPark) _ refl h
+  come_told_kept _ h = h
+
+  differing_kept : (b : Bool) {s t : Switch} → P s → P t → P (if b then s else t)
+  differing_kept true first second = first
+  differing_kept false first second = second
+
+  pub state_told_kept : (old new : State) {s : Switch} → P s → P (state_told old new s)
+  state_told_kept old new h = differing_kept (state_number old == state_number new) h (told_kept (happens ChannelState) _ refl (come_told_kept new (left_told_kept old h)))
+
+-- a change that others do not see leaves the slot's channel alive
+moved_lives : (change : Chan → Chan) (slot : ℕ) (s : Switch) → AllStay change → LivesAt s.channels slot → LivesAt (moved change slot s).channels slot
+moved_lives change slot s stays at =
+    let new : Chan = change at.chan in
+    subst (λ (found : Option Chan). LivesAt (moved_from change slot found s).channels slot) (sym at.there)
+    (record {
+      chan = new;
+      there = state_told_kept (λ (t : Switch). chan_at t slot ≡ Some new) (λ event t plain h. h) at.chan.state new.state {s = with_chan slot (Some new) s}
+          (held_here s.channels slot (Some new) (held_within s.channels slot at.chan at.there));
+      live = (stays at.chan).live ∙ at.live;
+    })
+
+-- ---- hangups, for what each channel that is hung up keeps alone
+
+module _ (P : Switch → Type 0) (told_kept : (event : Event) (s : Switch) → event.bridge ≡ 0 → P s → P (told event s))
+    (cut_kept : (cause : Cause) (slot : ℕ) (c : Chan) (s : Switch) → chan_at s slot ≡ Some c → P s → P (with_chan slot (Some (hung_up cause c)) s))
+    (leg_kept : (change : Orig → Orig) (number : ℕ) (s : Switch) → P s → P (orig_changed change number s)) where
+  dies_kept : (change : ℕ → Orig → Orig) (slot : ℕ) (leg_of : Option ℕ) (s : Switch) → P s → P (its_leg_changed change slot leg_of s)
+  dies_kept change slot None s h = h
+  dies_kept change slot (Some number) s h = leg_kept (leg_changed change slot) number s h
+
+  one_hung_kept : (cause : Cause) (slot : ℕ) (s : Switch) → P s → P (one_hung cause slot s)
+  one_hung_kept cause slot s h = by (chan_at s slot) refl
+    where
+      by : (found : Option Chan) → chan_at s slot ≡ found → P (hung_from cause slot found s)
+      by None is = h
+      by (Some c) is =
+          differing_kept P told_kept (is_live c)
+          (dies_kept (λ position. with_death position s.entries cause) slot c.leg_of _
+          (state_told_kept P told_kept c.state CsHangup (told_kept (hangup_of cause) _ refl (cut_kept cause slot c s is h)))) h
+
+  pub hung_kept : (cause : Cause) (slot : ℕ) (s : Switch) → P s → P (hung cause slot s)
+  hung_kept cause slot s h = by (partner_at s slot)
+    where
+      by : (partner : Option ℕ) → P (hung_with cause slot partner s)
+      by None = one_hung_kept cause slot s h
+      by (Some partner) =
+          differing_kept P told_kept (nat_lt slot partner) (one_hung_kept cause partner (one_hung cause slot s) (one_hung_kept cause slot s h))
+          (one_hung_kept cause slot (one_hung cause partner s) (one_hung_kept cause partner s h))
+
+-- ---- channels
+
+module _ (P : Fact) (kept : KeptByCalls P) where
+  -- what is kept by both is kept by the one that a test chooses
+  either : (test : Bool) {b : Bool} {s t : Switch} → P b s → P b t → P b (if test then s else t)
+  either true first second = first
+  either false first second = second
+
+  told_of : (old new : State) {b : Bool} {s : Switch} → P b s → P b (state_told old new s)
+  told_of old new {b} h = state_told_kept (P b) (λ event s plain k. kept.told event plain k) old new h
+
+  moved_there : (change : Chan → Chan) (slot : ℕ) {b : Bool} {s : Switch} → ((c : Chan) → chan_at s slot ≡ Some c → Stays c (change c)) → P b s → P b (moved change slot s)
+  moved_there change slot {b} {s} stays h = by (chan_at s slot) refl
+    where
+      by : (found : Option Chan) → chan_at s slot ≡ found → P b (moved_from change slot found s)
+      by None is = h
+      by (Some c) is = told_of c.state (change c).state (kept.changed slot c (change c) is (stays c is) h)
+
+  moved_kept : (change : Chan → Chan) (slot : ℕ) {b : Bool} {s : Switch} → AllStay change → P b s → P b (moved change slot s)
+  moved_kept change slot stays h = moved_there change slot (λ c is. stays c) h
+
+  -- a live channel is changed
+  moved_alive : (change : Chan → Chan) (slot : ℕ) {b : Bool} {s : Switch} → LivesAt s.channels slot → ((c : Chan) → is_live c ≡ true → Stays c (change c)) → P b s → P b (moved change slot s)
+  moved_alive change slot {b} {s} at stays h = moved_there change slot (λ c there. stays c (is_alive s.channels slot c at there)) h
+
+  begun_kept : (slot : ℕ) {b : Bool} {s : Switch} → LivesAt s.channels slot → P b s → P b (begun slot s)
+  begun_kept slot at h =
+      moved_alive (entered CsInit) slot at (λ c live. record { links = refl; live = init_lives ∙ sym live; short = λ short. short }) (kept.told (happens ChannelCreate) refl h)
+
+  run_on_kept : (action : Action) (slot : ℕ) {b : Bool} {s : Switch} → P b s → P b (run_on action slot s)
+  run_on_kept action slot h = kept.told (happens ChannelExecute) refl (moved_kept (running action) slot (running_stays action) h)
+
+  completed_kept : (slot : ℕ) {b : Bool} {s : Switch} → P b s → P b (completed slot s)
+  completed_kept slot h = kept.told (happens ChannelExecuteComplete) refl (moved_kept gone_on slot (λ c. record { links = refl; live = refl; short = λ short. short }) h)
+
+  -- ---- answers
+
+  its_leg_kept : (place slot : ℕ) (leg_of : Option ℕ) {b : Bool} {s : Switch} → P b s → P b (its_leg_changed (λ position. with_answer position place) slot leg_of s)
+  its_leg_kept place slot None h = h
+  its_leg_kept place slot (Some number) h = kept.answers place slot number h
+
+  one_answered_kept : (slot : ℕ) {b : Bool} {s : Switch} → P b s → P b (one_answered slot s)
+  one_answered_kept slot {b} {s} h = by (chan_at s slot) refl
+    where
+      by : (found : Option Chan) → chan_at s slot ≡ found → P b (answered_from slot found s)
+      by None is = h
+      by (Some c) is =
+          either (is_none c.answered)
+          (its_leg_kept s.entries slot c.leg_of (kept.told (happens ChannelAnswer) refl (kept.changed slot c (answered_at s.entries c) is (record { links = refl; live = refl; short = λ short. short }) h))) h
+
+  answered_kept : (slot : ℕ) {b : Bool} {s : Switch} → P b s → P b (answered slot s)
+  answered_kept slot {b} {s} h = by (partner_at s slot)
+    where
+      by : (partner : Option ℕ) → P b (for_slot one_answered partner (one_answered slot s))
+      by None = one_answered_kept slot h
+      by (Some partner) = one_answered_kept partner (one_answered_kept slot h)
+
+  -- ---- the end of channels
+
+  reported_kept : (slot : ℕ) (c : Chan) {b : Bool} {s : Switch} → chan_at s slot ≡ Some c → c.state ≡ CsHangup → P b s → P b (reported slot s)
+  reported_kept slot c {b} {s} is hangup h =
+      moved_there (entered CsReporting) slot (λ d there. record { links = refl; live = reporting_dead ∙ sym (dead d there); short = λ short. short })
+      (kept.told (happens ChannelHangupComplete) refl h)
+    where
+      dead : (d : Chan) → chan_at s slot ≡ Some d → is_live d ≡ false
+      dead d there =
+          let same : d ≡ c = cc in
+          live_by d CsHangup false (ap (λ (x : Chan). x.state) same ∙ hangup) hangup_dead
+
+  destroyed_kept : (slot : ℕ) (c : Chan) {b : Bool} {s : Switch} → chan_at s slot ≡ Some c → c.state ≡ CsReporting → P b s → P b (destroyed slot s)
+  destroyed_kept slot c is reporting h = kept.told (happens ChannelDestroy) refl (kept.told (happens ChannelState) refl (kept.gone slot c is (live_by c CsReporting false reporting reporting_dead) h))
+
+  pub all_hung_kept : (cause : Cause) (slots : List ℕ) {b : Bool} {s : Switch} → P b s → P b (all_hung cause slots s)
+  all_hung_kept cause [] h = h
+  all_hung_kept cause (slot ∷ slots) h = all_hung_kept cause slots (kept.hung cause slot h)
+
+  -- ---- applications
+
+  sleeping_kept : (milliseconds slot : ℕ) {b : Bool} {s : Switch} → P b s → P b (sleeping milliseconds slot s)
+  sleeping_kept milliseconds slot {b} {s} h =
+      either (milliseconds == 0) (completed_kept slot h) (moved_kept (asleep s.moment milliseconds) slot (λ c. record { links = refl; live = refl; short = λ short. short }) h)
+
+  parking_kept : (state : Option State) (slot : ℕ) {b : Bool} {s : Switch} → LivesAt s.channels slot → P b s → P b (parking_in state slot s)
+  parking_kept None slot at h = h
+  parking_kept (Some CsPark) slot at h = completed_kept slot h
+  parking_kept (Some _) slot at h = moved_alive parked slot at (λ c live. record { links = refl; live = park_lives ∙ sym live; short = λ short. short }) h
+
+  transferred_kept : (to : Target3) (slot : ℕ) {b : Bool} {s : Switch} → IsShort to → LivesAt s.channels slot → P b s → P b (moved (transferred to) slot s)
+  transferred_kept to slot short at h =
+      moved_alive (transferred to) slot at (λ c live. record { links = refl; live = routing_lives ∙ sym live; short = sent_short to c.profile short }) h
+
+  effect_kept : (what : Application) (slot : ℕ) {b : Bool} {s : Switch} → apps.IsShort what → LivesAt s.channels slot → P b s → P b (effect what slot s)
+  effect_kept app.Answer slot short at h = completed_kept slot (answered_kept slot h)
+  effect_kept (app.Set name value) slot short at h =
+      completed_kept slot (moved_kept (with_variable name value) slot (λ c. record { links = refl; live = refl; short = λ h. h }) h)
+  effect_kept (app.Unset name) slot short at h =
+      completed_kept slot (moved_kept (without_variable name) slot (λ c. record { links = refl; live = refl; short = λ h. h }) h)
+  effect_kept (app.Export name value) slot short at h =
+      completed_kept slot (moved_kept (with_export name value) slot (λ c. record { links = refl; live = refl; short = λ h. h }) h)
+  effect_kept (app.SetGlobal name value) slot {b} {s} short at h = completed_kept slot (kept.globals (with_set s.globals name value) h)
+  effect_kept app.Eval slot short at h = completed_kept slot h
+  effect_kept (app.Sleep milliseconds) slot short at h = sleeping_kept milliseconds slot h
+  effect_kept (app.Hangup cause) slot short at h = kept.hung cause slot h
+  effect_kept app.Park slot {b} {s} short at h = parking_kept (state_at slot s) slot at h
+  effect_kept (app.Transfer to) slot short at h = transferred_kept to slot short at h
+  effect_kept app.Unknown slot short at h = kept.hung DestinationOutOfOrder slot h
+
+  executed_kept : (application argument : Text) (slot : ℕ) {b : Bool} {s : Switch} → LivesAt s.channels slot → P b s → P b (executed_within application argument slot s)
+  executed_kept application argument slot {b} {s} at h =
+      let action : Action = record { application = application; argument = argument } in
+      either (nat_lt 65536 (length argument)) (kept.hung NormalTemporaryFailure slot h)
+      (effect_kept (application_of application argument) slot (application_short application argument) (moved_lives (running action) slot s (running_stays action) at) (run_on_kept action slot h))
+
+  ran_next_kept : (next : Option Action) (slot : ℕ) (c : Chan) {b : Bool} {s : Switch} → LivesAt s.channels slot → P b s → P b (ran_next next slot c s)
+  ran_next_kept None slot c at h = kept.hung NormalClearing slot h
+  ran_next_kept (Some action) slot c {b} {s} at h =
+      executed_kept action.application (argument_in (chan.after_next c) s action.argument) slot (moved_lives chan.after_next slot s after_next_stays at)
+      (moved_kept chan.after_next slot after_next_stays h)
+
+  ran_kept : (slot : ℕ) {b : Bool} {s : Switch} → LivesAt s.channels slot → P b s → P b (ran slot s)
+  unfolding ran
+  ran_kept slot {b} {s} at h = by (chan_at s slot)
+    where
+      by : (found : Option Chan) → P b (ran_from slot found s)
+      by None = h
+      by (Some c) = ran_next_kept (chan.next_of c) slot c at h
+
+  -- ---- work
+
+  routed_kept : (vars : Variables) (actions : List Action) (slot : ℕ) {b : Bool} {s : Switch} → LivesAt s.channels slot → P b s → P b (routed_to vars actions slot s)
+  routed_kept vars actions slot at h =
+      either (length actions == 0) (kept.hung NoRouteDestination slot (moved_kept (with_variables vars) slot (λ c. record { links = refl; live = refl; short = λ short. short }) h))
+      (moved_alive (routed vars actions) slot at (λ c live. record { links = refl; live = execute_lives ∙ sym live; short = λ short. short }) h)
+
+  routed_by_kept : (hunt : Option Hunt) (c : Chan) (slot : ℕ) {b : Bool} {s : Switch} → LivesAt s.channels slot → P b s → P b (routed_by hunt c slot s)
+  routed_by_kept None c slot at h = kept.hung (too_long_cause c) slot h
+  routed_by_kept (Some hunt) c slot at h = routed_kept hunt.vars (actions_for c hunt.actions) slot at (kept.globals hunt.globals h)
+
+  routing_kept : (slot : ℕ) (found : Option Chan) {b : Bool} {s : Switch} → LivesAt s.channels slot → P b s → P b (routing_from slot found s)
+  routing_kept slot None at h = h
+  routing_kept slot (Some c) {b} {s} at h = either (may_route c) (routed_by_kept (found_for c s) c slot at h) (kept.hung ExchangeRoutingError slot h)
+
+  waiting_kept : (wait : Wait) (slot : ℕ) {b : Bool} {s : Switch} → LivesAt s.channels slot → P b s → P b (worked_waiting wait slot s)
+  waiting_kept Ready slot at h = ran_kept slot at h
+  waiting_kept (Sleep until) slot at h = completed_kept slot h
+  waiting_kept Parked slot at h = ran_kept slot at h
+  waiting_kept (Socket conn) slot at h = ran_kept slot at h
+  waiting_kept _ slot at h = h
+
+  working_kept : (state : State) (slot : ℕ) (c : Chan) {b : Bool} {s : Switch} → chan_at s slot ≡ Some c → c.state ≡ state → P b s → P b (worked_in state slot c s)
+  working_kept CsNew slot c {b} {s} there is h = begun_kept slot (lives_at s.channels slot c CsNew there is new_lives) h
+  working_kept CsInit slot c {b} {s} there is h =
+      moved_alive (entered (first_state c.direction)) slot (lives_at s.channels slot c CsInit there is init_lives)
+      (λ d live. record { links = refl; live = first_lives c.direction ∙ sym live; short = λ short. short }) h
+  working_kept CsRouting slot c {b} {s} there is h = routing_kept slot (chan_at s slot) (lives_at s.channels slot c CsRouting there is routing_lives) h
+  working_kept CsExecute slot c {b} {s} there is h = waiting_kept c.wait slot (lives_at s.channels slot c CsExecute there is execute_lives) h
+  working_kept CsPark slot c {b} {s} there is h = waiting_kept c.wait slot (lives_at s.channels slot c CsPark there is park_lives) h
+  working_kept CsHangup slot c there is h = reported_kept slot c there is h
+  working_kept CsReporting slot c there is h = destroyed_kept slot c there is h
+  working_kept _ slot c there is h = h
+
+  pub worked_kept : (slot : ℕ) {b : Bool} {s : Switch} → P b s → P b (worked slot s)
+  unfolding worked
+  worked_kept slot {b} {s} h = by (chan_at s slot) refl
+    where
+      by : (found : Option Chan) → chan_at s slot ≡ found → P b (worked_from slot found s)
+      by None there = h
+      by (Some c) there = working_kept c.state slot c there refl h
+
+-- ---- births
+
+module _ (P : Fact) (births : KeptByBirths P) where
+  either_made : (test : Bool) (x y : Made) → P false x.state → P false y.state → P false (if test then x else y).state
+  either_made true x y first second = first
+  either_made false x y first second = second
+
+  pair_kept : (call : Call) (orig : ℕ) {s : Switch} → endpoints.IsShortAddress call.exten call.context → P true s → P false (made_in call orig (free_pair s) s).state
+  pair_kept call orig {s} short h = first (free_slot 1 s) refl
+    where
+      second : (a : ℕ) → free_slot 1 s ≡ Some a → (found : Option ℕ) → free_slot (a + 1) s ≡ found → P false (made_in call orig (option_map (λ b. (a, b)) found) s).state
+      second a is_a None is = births.spent h
+      second a is_a (Some b) is = births.pair call orig a b short is_a is h
+
+      first : (found : Option ℕ) → free_slot 1 s ≡ found → P false (made_in call orig (option_and_then (with_second s) found) s).state
+      first None is = births.spent h
+      first (Some a) is = second a is (free_slot (a + 1) s) refl
+
+  made_kept : (endpoint : Endpoint) (caller : Caller) (orig : ℕ) {s : Switch} → endpoints.IsShort endpoint → P true s → P false (made_of endpoint caller orig s).state
+  made_kept (Dead cause) caller orig short h = births.spent h
+  made_kept (Loopback exten context) caller orig {s} short h =
+      either_made (is_congested s) _ _ (births.spent h) (pair_kept (record { exten = exten; context = context; caller = caller }) orig short h)
+
+  pub leg_made_kept : (endpoint : Text) (caller : Caller) (orig : ℕ) {s : Switch} → P true s → P false (leg_made endpoint caller orig s).state
+  unfolding leg_made
+  leg_made_kept endpoint caller orig h = made_kept (endpoint_of endpoint) caller orig (endpoint_short endpoint) h

@@ -1,0 +1,101 @@
+-- Each act keeps the texts short by which the winners of originations are to be routed.
+use Rattle.std.proofs.Common.{◌≡◌, ℕ, List, Option, None, Some, unwrap_or, refl, sym, ap, subst}
+use Rattle.fs_vars.specs.Pairs.{Text}
+use Rattle.fs_api.specs.declared.api.Winner.{Winner}
+use Rattle.fs_places.specs.declared.numbered.Numbered.{Numbered}
+use Rattle.fs_places.specs.Places.{held_in, least_free}
+use Rattle.fs_places.specs.Rows.{place_of}
+use Rattle.fs_state.specs.declared.conn.Conn.{Conn}
+use Rattle.fs_state.specs.declared.conn.Parting.TheVariants as parting
+use Rattle.fs_state.specs.declared.job.Job.{Job}
+use Rattle.fs_state.specs.declared.job.JobWork.{JobWork}
+use Rattle.fs_state.specs.declared.job.JobWork.TheVariants.{Sleep, Originate}
+use Rattle.fs_state.specs.Switch.{Switch, conn_of, next_orig, next_job, with_new_job, without_job, without_orig}
+use Rattle.fs_machine.specs.declared.originations.Caller.{Caller}
+use Rattle.fs_machine.specs.Texts.{made_text, failed_text}
+use Rattle.fs_machine.specs.Connections.{conn_changed_from, conn_changed, admitted, parted, owed_since, not_owed}
+use Rattle.fs_machine.specs.Originations.{leg_made, won}
+use Rattle.fs_machine.specs.Jobs.{owing, ended, orig_begun, originate_begun}
+use Rattle.fs_machine.proofs.RowLemmas.{each_put_at}
+use Rattle.fs_machine.proofs.TableLemmas.{row_found}
+use Rattle.fs_machine.proofs.Kept.{Fact, DoesJob, IsShortWinner, KeptByMoves}
+use Rattle.fs_machine.proofs.RestLemmas.{Rest, rest_of, calls_by_rest, leg_made_rest, won_rest}
+
+-- the winner that work has is routed by short texts
+abbrev pub IsShortWork : JobWork → Type 0
+IsShortWork (Sleep until) = Unit {0}
+IsShortWork (Originate orig winner) = IsShortWinner winner
+
+abbrev pub ShortIn : Option (Numbered Job) → Type 0
+ShortIn None = Unit {0}
+ShortIn (Some job) = IsShortWork job.held.work
+
+abbrev pub WinnersAreShort : List (Option (Numbered Job)) → Type 0
+WinnersAreShort jobs = (place : ℕ) → ShortIn (held_in jobs place)
+
+abbrev pub Winners : Fact
+Winners b s = WinnersAreShort s.jobs
+
+-- so is that of a job that is there
+pub winner_of_job : (s : Switch) (number conn orig : ℕ) (winner : Winner) → DoesJob s number conn (Originate orig winner) → WinnersAreShort s.jobs → IsShortWinner winner
+winner_of_job s number conn orig winner does h =
+    let found = row_found s.jobs number (record { conn = conn; work = Originate orig winner }) does.there in
+    let there : IsShortWork found.1.held.work = subst ShortIn found.2.there (h found.0) in
+    subst (λ (job : Job). IsShortWork job.work) found.3 there
+
+conn_jobs : (change : Conn → Conn) (conn : ℕ) (s : Switch) → (conn_changed change conn s).jobs ≡ s.jobs
+conn_jobs change conn s = by (conn_of s conn)
+  where
+    by : (found : Option Conn) → (conn_changed_from change conn found s).jobs ≡ s.jobs
+    by None = refl
+    by (Some c) = refl
+
+same_winners : (s t : Switch) → t.jobs ≡ s.jobs → WinnersAreShort s.jobs → WinnersAreShort t.jobs
+same_winners s t same h = subst WinnersAreShort (sym same) h
+
+owing_winners : (conn : ℕ) (what : JobWork) (s : Switch) → IsShortWork what → WinnersAreShort s.jobs → WinnersAreShort (owing conn what s).jobs
+owing_winners conn what s short h =
+    let begun : Switch = with_new_job (record { conn = conn; work = what }) s in
+    same_winners begun (owing conn what s) (conn_jobs (owed_since s.entries) conn begun)
+    (each_put_at ShortIn s.jobs (Some (record { number = next_job s; held = record { conn = conn; work = what } })) (least_free s.jobs 0) h short)
+
+ended_winners : (number conn : ℕ) (answer : Text) (s : Switch) → WinnersAreShort s.jobs → WinnersAreShort (ended number conn answer s).jobs
+ended_winners number conn answer s h =
+    same_winners (without_job number s) (ended number conn answer s) (conn_jobs not_owed conn (without_job number s)) (each_put_at ShortIn s.jobs None (place_of s.jobs number) h tt)
+
+-- by what leaves the rest as it is
+rest_winners : (s t : Switch) → rest_of t ≡ rest_of s → WinnersAreShort s.jobs → WinnersAreShort t.jobs
+rest_winners s t same h = same_winners s t (ap (λ (r : Rest). r.jobs) same) h
+
+originates_winners : (conn : ℕ) (endpoint : Text) (winner : Winner) (caller : Caller) (timeout : Option ℕ) (s : Switch) → IsShortWinner winner → WinnersAreShort s.jobs →
+    WinnersAreShort (originate_begun conn endpoint winner caller timeout s).jobs
+originates_winners conn endpoint winner caller timeout s short h =
+    let made = leg_made endpoint caller (next_orig s) s in
+    owing_winners conn (Originate (next_orig s) winner) (orig_begun endpoint made.leg (unwrap_or timeout 60) made.state) short
+    (rest_winners s made.state (leg_made_rest endpoint caller (next_orig s) s) h)
+
+pub winners_moves : (before : Switch) → KeptByMoves before Winners
+winners_moves before = record {
+  calls = calls_by_rest Winners (λ b t u h same. rest_winners t u same h);
+  jobs = record {
+    woken = λ number conn until answer {s = s} does h. ended_winners number conn answer s h;
+    failed = λ a winner cause {s = s} does h. ended_winners a.job a.conn (failed_text cause) (without_orig a.orig s) h;
+    wins = λ a winner leg does has h.
+        ended_winners a.job a.conn (made_text leg.uuid) (without_orig a.orig (won winner (unwrap_or leg.slot 0) before))
+        (rest_winners before (won winner (unwrap_or leg.slot 0) before) (won_rest winner (unwrap_or leg.slot 0) before) h);
+  };
+  commands = λ conn. record {
+    spent = λ h. h;
+    gave = λ frame h. h;
+    admitted = λ {s = s} fresh h. same_winners s (conn_changed admitted conn s) (conn_jobs admitted conn s) h;
+    parted = λ why {s = s} leaves h. same_winners s (conn_changed (parted why) conn s) (conn_jobs (parted why) conn s) h;
+    sleeps = λ until {s = s} room h. owing_winners conn (Sleep until) s tt h;
+    originates = λ endpoint winner caller timeout {s = s} short room h. originates_winners conn endpoint winner caller timeout s short h;
+  };
+  visits = record {
+    arrived = λ h. h;
+    taken = λ conn h. h;
+    silent = λ conn {s = s} h. same_winners s (conn_changed (parted parting.EndOfInput) conn s) (conn_jobs (parted parting.EndOfInput) conn s) h;
+    left = λ conn h. h;
+  };
+}

@@ -1,4 +1,5 @@
 mod BuildLemmas
+mod FieldLemmas
 mod GroupLemmas
 mod MatchLemmas
 mod TextLemmas

@@ -6,13 +6,15 @@ use Rattle.std.specs.List.{range_with_len}
 use Rattle.std.proofs.Math.Path.{fun_ext}
 use Rattle.std.proofs.lemmas.Bool.{lt-ltb}
 use Rattle.std.proofs.lemmas.Option.{same_Some}
-use Rattle.regex.specs.Patterns.{Match, find, span, slot_of}
+use Rattle.regex.specs.Patterns.{Re, Match, find, span, slot_of}
 use Rattle.regex.specs.Writes.{both}
 use Rattle.regex.specs.Search.{group_span}
 use Rattle.regex.specs.Bytes.{regex_pattern, regex_names, captures_span, captures_haystack, IsCapturesOf}
 use Rattle.regex.specs.declared.bytes.regex.Regex.{Regex}
 use Rattle.regex.specs.declared.bytes.captures.Captures.{Captures}
 use Rattle.regex.proofs.ForCallers.{is_match_alike, found_alike, span_alike}
+use Rattle.fs_lead.specs.Leads.{IsLead, IsLeadOf}
+use Rattle.fs_lead.specs.declared.lead.Lead.{Lead}
 use Rattle.fs_vars.specs.Pairs.{Text}
 use Rattle.fs_ports.specs.Patterns.{Reading, reading, IsBuiltOf}
 use Rattle.fs_plan.specs.Matching.{Groups, groups_of, group_text, span_of, has_groups, match_gives, tested}
@@ -44,15 +46,15 @@ plain_tested text value regex holds built bytes few is =
 -- ---- a pattern with groups
 
 -- nothing is found
+none_gives : (pattern : Reading) (value : Text) (found : Option Match) → is_some found ≡ false → record { holds = false; groups = None } ≡ match_gives pattern value found
+none_gives pattern value None is = refl
+none_gives pattern value (Some m) is = absurd (true≢false is)
+
 pub none_tested : (text value : Text) (regex : Regex) → IsBuiltOf text regex → ((k : ℕ) → get_or value k 0 < 256) →
     find (regex_pattern regex) value 0 ≡ None → record { holds = false; groups = None } ≡ tested text value
 none_tested text value regex built bytes none =
     by_reading text value _ built.what built.is_read
-    (nothing (find built.what.re value 0) (sym (is_match_alike built.alike value bytes false 0) ∙ ap is_some none))
-  where
-    nothing : (found : Option Match) → is_some found ≡ false → record { holds = false; groups = None } ≡ match_gives built.what value found
-    nothing None is = refl
-    nothing (Some m) is = absurd (true≢false is)
+    (none_gives built.what value _ (sym (is_match_alike built.alike value bytes false 0) ∙ ap is_some none))
 
 -- the spans of a match, in captures of a match with the same slots
 same_spans : (value : Text) (m n : Match) (c : Captures) → IsCapturesOf value m c → slot_of n ≡ slot_of m → span n ≡ span m → (k : ℕ) → captures_span c k ≡ span_of n k
@@ -82,3 +84,23 @@ some_tested text value regex c groups built bytes many m found of same =
     same_Some _ _ (sym (ap (option_map span) other.1) ∙ sym (span_alike built.alike value bytes false 0) ∙ ap (option_map span) found) in
     by_reading text value _ built.what built.is_read
     (some_gives built.what value groups other.0 _ (lt-ltb 1 _ (rw built.names at many)) other.1 (same ∙ same_groups value m other.0 c of other.2 spans))
+
+-- ---- a pattern whose lead tells
+
+-- what is known of a text is known of the pattern that it is read as
+lead_read : (text : Text) (regex : Regex) (lead : Lead) (built : IsBuiltOf text regex) → IsLeadOf text lead → IsLead built.what.re lead
+lead_read text regex lead built leads = rw built.is_read at leads.is
+
+-- nothing is found
+pub missing_told : (text value : Text) (regex : Regex) (lead : Lead) → IsBuiltOf text regex → IsLeadOf text lead →
+    ((re : Re) → IsLead re lead → false ≡ is_some (find re value 0)) → record { holds = false; groups = None } ≡ tested text value
+missing_told text value regex lead built leads told =
+    by_reading text value _ built.what built.is_read
+    (none_gives built.what value _ (sym (told built.what.re (lead_read text regex lead built leads))))
+
+-- something is found, and the groups are not asked for
+pub found_told : (text value : Text) (regex : Regex) (lead : Lead) → IsBuiltOf text regex → IsLeadOf text lead → length (regex_names regex) < 2 →
+    ((re : Re) → IsLead re lead → true ≡ is_some (find re value 0)) → record { holds = true; groups = None } ≡ tested text value
+found_told text value regex lead built leads few told =
+    by_reading text value _ built.what built.is_read
+    (plain_gives built.what value _ (no_groups _ (rw built.names at few)) true (told built.what.re (lead_read text regex lead built leads)))

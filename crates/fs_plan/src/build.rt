@@ -45,7 +45,7 @@ fn children<P: Patterns>(
 {
     let mut built = Listed::new(alloc);
     for child in list {
-        let expression = Pattern::build(&child.expression, patterns)?;
+        let expression = Pattern::build(alloc, &child.expression, patterns)?;
         let field = child.field.copy()?;
         built.push(Child { field, expression })?;
     }
@@ -68,7 +68,7 @@ fn test<P: Patterns>(
     match given {
         Test::Always => Ok(Test::Always),
         Test::Plain { field, expression } => {
-            let expression = Pattern::build(expression, patterns)?;
+            let expression = Pattern::build(alloc, expression, patterns)?;
             let field = field.copy()?;
             Ok(Test::Plain { field, expression })
         }

@@ -7,14 +7,15 @@ use crate::hunt::Hunt;
 use crate::pattern::Pattern;
 use crate::tested::{Count, Tested};
 use fs_chan::Action;
-use fs_doc::{Break, Child, ConditionDef, ManyKind, PlanAction, Test};
+use fs_doc::{Break, Child, ConditionDef, ManyKind, PlanAction, Test, has_variable};
 use fs_ports::Gate;
 use fs_text::Txt;
 use fs_vars::{Profile, Refused};
 use std::alloc::Global;
 
 impl Hunt {
-    /// What a pattern finds in the value of a field.
+    /// What a pattern finds in the value of a field. That of the profile is lent, and only what it does not have is looked at for `${`.
+    #[tactic(auto, using(crate::proofs::FieldLemmas::own_value), unfolding(crate::specs::Hunting::field_value))]
     fn searched(
         &self,
         alloc: Global,
@@ -25,7 +26,13 @@ impl Hunt {
         ensures ok { IfOk result (λ t. spec.field_tested profile.now field.now expression.now self.now ≡ Ok t) }
         ensures err { IfErr result (IsFault (spec.field_tested profile.now field.now expression.now self.now)) }
     {
-        let value = self.field_value(alloc, profile, field)?;
+        if let Some(value) = profile.get(field.as_bytes()) {
+            return Ok(expression.tested(alloc, value.as_bytes())?);
+        }
+        if !has_variable(field.as_bytes()) {
+            return Ok(expression.tested(alloc, b"")?);
+        }
+        let value = self.expanded(alloc, profile, field)?;
         Ok(expression.tested(alloc, value.as_bytes())?)
     }
 

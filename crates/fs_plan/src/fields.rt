@@ -3,7 +3,6 @@ ghost use Rattle.fs_plan.specs.Outcomes.{IsFault};
 ghost use Rattle.fs_plan.specs.Hunting as spec;
 
 use crate::hunt::Hunt;
-use fs_doc::has_variable;
 use fs_text::Txt;
 use fs_vars::{Profile, Refused, Scope, expand};
 use std::alloc::Global;
@@ -26,25 +25,5 @@ impl Hunt {
             globals: &self.globals,
         };
         Ok(expand(alloc, &scope, text.as_bytes())?)
-    }
-
-    /// The value of a field: one with `${` is expanded, and any other is a field of the profile, or empty where it is none.
-    #[tactic(auto, unfolding(crate::specs::Hunting::field_value))]
-    pub(crate) fn field_value(
-        &self,
-        alloc: Global,
-        profile: &Profile,
-        field: &Txt,
-    ) -> Result<Txt, Refused>
-        ensures ok { IfOk result (λ value. spec.field_value profile.now field.now self.now ≡ Ok value) }
-        ensures err { IfErr result (IsFault (spec.field_value profile.now field.now self.now)) }
-    {
-        if has_variable(field.as_bytes()) {
-            return self.expanded(alloc, profile, field);
-        }
-        match profile.get(field.as_bytes()) {
-            Some(value) => Ok(value.copy()?),
-            None => Ok(Txt::of(alloc, b"")?),
-        }
     }
 }

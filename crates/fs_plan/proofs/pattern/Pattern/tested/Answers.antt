@@ -1,19 +1,15 @@
-use Rattle.std.proofs.Common.{arith, rules}
-use Rattle.fs_plan.proofs.MatchLemmas.{plain_tested, none_tested, some_tested}
+use Rattle.std.proofs.Common.{◌∙◌, sym, arith}
+use Rattle.fs_plan.proofs.MatchLemmas.{missing_told, found_told}
 use Rattle.fs_plan.proofs.pattern.Pattern.tested.Goals as goal
 
-pub returns-then-captures_len-lt2 : goal.returns-then-captures_len-lt2
-returns-then-captures_len-lt2 c =
-    rw (← c.self.view_is) (plain_tested _ _ c.self.inside.regex _ c.self.invariant (λ k. search (rules, c.type_inv.value k))
-    (omega (arith, c.captures_len.ensures.names)) (rw c.in_ok-matcher.ensures.pattern at c.is_match-holds.ensures.found))
+pub returns-in-Some-false : goal.returns-in-Some-false
+returns-in-Some-false c =
+    c.plain-in-Some-false.ensures
+    ∙ rw (← c.self.view_is) (missing_told _ _ c.self.inside.regex c.self.inside.lead c.self.invariant.0 c.self.invariant.1
+    (λ re is. sym c.in-Some-false.field-0-test ∙ c.in-Some-false.ensures re is))
 
-pub returns-in-Some : goal.returns-in-Some
-returns-in-Some c =
-    let found = c.in-Some.ensures.found in
-    rw (← c.self.view_is) (some_tested _ _ c.self.inside.regex c.in-Some.captures _ c.self.invariant (λ k. search (rules, c.type_inv.value k))
-    (omega (arith, c.captures_len.ensures.names)) found.0 (rw c.in_ok-matcher.ensures.pattern at found.1) found.2 c.in_ok-groups-in-Some.ensures)
-
-pub returns : goal.returns
-returns c =
-    rw (← c.self.view_is) (none_tested _ _ c.self.inside.regex c.self.invariant (λ k. search (rules, c.type_inv.value k))
-    (rw c.in_ok-matcher.ensures.pattern at c.in-None.ensures.found))
+pub returns-in-Some-true : goal.returns-in-Some-true
+returns-in-Some-true c =
+    c.plain.ensures
+    ∙ rw (← c.self.view_is) (found_told _ _ c.self.inside.regex c.self.inside.lead c.self.invariant.0 c.self.invariant.1
+    (omega (arith, c.captures_len.ensures.names)) (λ re is. sym c.in-Some-true.field-0-test ∙ c.in-Some-true.ensures re is))

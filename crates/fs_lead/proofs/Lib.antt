@@ -1,0 +1,2 @@
+mod LeadLemmas
+mod SharedLemmas

@@ -1,33 +1,51 @@
 //! The desk at which cases are answered.
 
 use crate::answer::Answer;
+use crate::applications::tell_app;
+use crate::channels::tell_channel;
+use crate::commands::{tell_api, tell_expanded};
+use crate::disk::{tell_build, tell_load};
+use crate::hunts::Hunts;
+use crate::legs::{Legs, tell_endpoint, tell_one_leg};
+use crate::links::{tell_reads, tell_sends, tell_writes};
+use crate::long::longer;
 use crate::plays::tell_play;
 use crate::runs::{tell_length, tell_run};
 use crate::table::Table;
 use crate::words::cut;
+use fs_ports::Files;
 use fs_text::Memory;
 use std::alloc::Global;
 
 /// What the lines so far laid out.
-pub(crate) struct Desk {
+pub(crate) struct Desk<D: Files + Drop> {
     alloc: Global,
+    disk: D,
     table: Table,
+    legs: Legs,
+    hunts: Hunts,
 }
 
-impl Drop for Desk {
+impl<D: Files + Drop> Drop for Desk<D> {
     fn drop(self) {
         let Desk {
             alloc: _alloc,
+            disk: _disk,
             table: _table,
+            legs: _legs,
+            hunts: _hunts,
         } = self;
     }
 }
 
-impl Desk {
-    pub(crate) fn new(alloc: Global) -> Result<Desk, Memory> {
+impl<D: Files + Drop> Desk<D> {
+    pub(crate) fn new(alloc: Global, disk: D) -> Result<Desk<D>, Memory> {
         Ok(Desk {
             alloc,
+            disk,
             table: Table::new(alloc),
+            legs: Legs::new(alloc),
+            hunts: Hunts::new(alloc),
         })
     }
 
@@ -35,7 +53,8 @@ impl Desk {
     pub(crate) fn answered(&mut self, line: &str) -> Result<Answer, Memory> {
         let mut answer = Answer::new(self.alloc);
         answer.echo(line)?;
-        let (verb, rest) = cut(line);
+        let long = longer(self.alloc, line)?;
+        let (verb, rest) = cut(long.as_deref().unwrap_or(line));
         let is_taken = verb == "" || verb.starts_with('#') || self.table.takes(verb, rest)?;
         if !is_taken && !self.tells(verb, rest, &mut answer)? {
             answer.line(&[b"no case"])?;
@@ -49,7 +68,29 @@ impl Desk {
             "run" => self.tell_once(rest, answer)?,
             "measure" => tell_length(self.alloc, &self.table, rest, answer)?,
             "play" => tell_play(self.alloc, &self.table, answer)?,
-            _ => return Ok(false),
+            "contexts" => self.hunts.build(&self.table, rest, answer)?,
+            "hunt" => self.hunts.tell_hunt(rest, answer)?,
+            "load" => tell_load(self.alloc, &mut self.disk, rest, answer)?,
+            "build" => tell_build(&mut self.disk, rest, answer)?,
+            _ => return self.tells_parts(verb, rest, answer),
+        }
+        Ok(true)
+    }
+
+    // Answers a case of a part of the switch, if it is one.
+    fn tells_parts(&mut self, verb: &str, rest: &str, answer: &mut Answer) -> Result<bool, Memory> {
+        let alloc = self.alloc;
+        match verb {
+            "api" => tell_api(alloc, rest, answer)?,
+            "expanded" => tell_expanded(alloc, rest, answer)?,
+            "app" => tell_app(alloc, rest, answer)?,
+            "channel" => tell_channel(alloc, rest, answer)?,
+            "endpoint" => tell_endpoint(alloc, rest, answer)?,
+            "one-leg" => tell_one_leg(alloc, rest, answer)?,
+            "reads" => tell_reads(alloc, &self.table, rest, answer)?,
+            "writes" => tell_writes(alloc, &self.table, rest, answer)?,
+            "sends" => tell_sends(alloc, &self.table, rest, answer)?,
+            _ => return self.legs.tells(verb, rest, answer),
         }
         Ok(true)
     }

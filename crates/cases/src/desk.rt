@@ -43,21 +43,16 @@ impl Desk {
         Ok(answer)
     }
 
-    // Answers a case, if it is one.
+    // Answers a case, if it is one. Behind a run and a play the table is cleared.
     fn tells(&mut self, verb: &str, rest: &str, answer: &mut Answer) -> Result<bool, Memory> {
         match verb {
-            "run" => self.tell_once(rest, answer)?,
+            "run" => tell_run(self.alloc, &self.table, rest, answer)?,
             "measure" => tell_length(self.alloc, &self.table, rest, answer)?,
-            "play" => tell_play(self.alloc, &self.table, answer)?,
+            "play" => tell_play(self.alloc, &self.table, false, answer)?,
+            "count" => tell_play(self.alloc, &self.table, true, answer)?,
             _ => return Ok(false),
         }
-        Ok(true)
-    }
-
-    // Answers a run, and clears the table behind it.
-    fn tell_once(&mut self, words: &str, answer: &mut Answer) -> Result<(), Memory> {
-        tell_run(self.alloc, &self.table, words, answer)?;
         self.table.clear();
-        Ok(())
+        Ok(true)
     }
 }

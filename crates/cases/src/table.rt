@@ -56,7 +56,8 @@ impl Table {
     ///
     /// `file TEXT` is the document `f`, to which `more TEXT` and `times COUNT TEXT` add, and `between TEXT` is one that stands
     /// between a `front TEXT` and a `back TEXT`. `input TEXT`, `inputs COUNT TEXT` and `command TEXT` add to what the link gives,
-    /// the last one with the empty line that ends a command. `cuts`, `failed-loads`, `large-builds`, `failed-reads` and
+    /// the last one with the empty line that ends a command, and `again COUNT PLACE` repeats so often what stands from a place
+    /// on. `cuts`, `failed-loads`, `large-builds`, `failed-reads` and
     /// `failed-writes` have numbers.
     pub(crate) fn takes(&mut self, verb: &str, rest: &str) -> Result<bool, Memory> {
         let alloc = self.alloc;
@@ -69,6 +70,7 @@ impl Table {
             "times" => push_often(alloc, &mut self.file, rest)?,
             "input" => self.input.extend_from_slice(&bytes_of(alloc, rest)?)?,
             "inputs" => push_often(alloc, &mut self.input, rest)?,
+            "again" => self.push_again(rest)?,
             "command" => self.push_command(rest)?,
             "cuts" => self.cuts = places_of(alloc, rest)?,
             _ => return self.takes_numbers(verb, rest),
@@ -102,6 +104,16 @@ impl Table {
         let bytes = bytes_of(self.alloc, text)?;
         self.input.extend_from_slice(&bytes)?;
         self.input.extend_from_slice(b"\n\n")?;
+        Ok(())
+    }
+
+    fn push_again(&mut self, rest: &str) -> Result<(), Memory> {
+        let (count, place) = cut(rest);
+        let from = usize::try_from(number_of(place)).unwrap_or(0);
+        let tail = Vec::from_slice(self.alloc, self.input.get(from..).unwrap_or_default())?;
+        for _ in 0..number_of(count) {
+            self.input.extend_from_slice(&tail)?;
+        }
         Ok(())
     }
 

@@ -62,18 +62,20 @@ impl<D: Files + Drop> Desk<D> {
         Ok(answer)
     }
 
-    // Answers a case, if it is one.
+    // Answers a case, if it is one. Behind one that finds what is laid out the table is cleared.
     fn tells(&mut self, verb: &str, rest: &str, answer: &mut Answer) -> Result<bool, Memory> {
         match verb {
-            "run" => self.tell_once(rest, answer)?,
+            "run" => tell_run(self.alloc, &self.table, rest, answer)?,
             "measure" => tell_length(self.alloc, &self.table, rest, answer)?,
-            "play" => tell_play(self.alloc, &self.table, answer)?,
+            "play" => tell_play(self.alloc, &self.table, false, answer)?,
+            "count" => tell_play(self.alloc, &self.table, true, answer)?,
             "contexts" => self.hunts.build(&self.table, rest, answer)?,
-            "hunt" => self.hunts.tell_hunt(rest, answer)?,
-            "load" => tell_load(self.alloc, &mut self.disk, rest, answer)?,
-            "build" => tell_build(&mut self.disk, rest, answer)?,
+            "reads" => tell_reads(self.alloc, &self.table, rest, answer)?,
+            "writes" => tell_writes(self.alloc, &self.table, rest, answer)?,
+            "sends" => tell_sends(self.alloc, &self.table, rest, answer)?,
             _ => return self.tells_parts(verb, rest, answer),
         }
+        self.table.clear();
         Ok(true)
     }
 
@@ -87,18 +89,11 @@ impl<D: Files + Drop> Desk<D> {
             "channel" => tell_channel(alloc, rest, answer)?,
             "endpoint" => tell_endpoint(alloc, rest, answer)?,
             "one-leg" => tell_one_leg(alloc, rest, answer)?,
-            "reads" => tell_reads(alloc, &self.table, rest, answer)?,
-            "writes" => tell_writes(alloc, &self.table, rest, answer)?,
-            "sends" => tell_sends(alloc, &self.table, rest, answer)?,
+            "hunt" => self.hunts.tell_hunt(rest, answer)?,
+            "load" => tell_load(alloc, &mut self.disk, rest, answer)?,
+            "build" => tell_build(&mut self.disk, rest, answer)?,
             _ => return self.legs.tells(verb, rest, answer),
         }
         Ok(true)
-    }
-
-    // Answers a run, and clears the table behind it.
-    fn tell_once(&mut self, words: &str, answer: &mut Answer) -> Result<(), Memory> {
-        tell_run(self.alloc, &self.table, words, answer)?;
-        self.table.clear();
-        Ok(())
     }
 }

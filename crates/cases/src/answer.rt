@@ -1,6 +1,6 @@
 //! The answer to a case: lines that are indented, with `%XX` for a byte that is no sign or mark of ASCII.
 
-use fs_text::Memory;
+use fs_text::{Memory, Txt};
 use percent_encoding::{AsciiSet, CONTROLS, ascii_set, percent_encode};
 use std::alloc::Global;
 
@@ -35,6 +35,19 @@ impl Answer {
         self.text.push_str("  ")?;
         for part in parts {
             percent_encode(part, ESCAPED).append_to(&mut self.text)?;
+        }
+        self.text.push('\n')?;
+        Ok(())
+    }
+
+    /// Adds an indented line of a name and of texts in brackets.
+    pub(crate) fn named(&mut self, name: &str, texts: &[&Txt]) -> Result<(), Memory> {
+        self.text.push_str("  ")?;
+        self.text.push_str(name)?;
+        for text in texts {
+            self.text.push_str(" [")?;
+            percent_encode(text.as_bytes(), ESCAPED).append_to(&mut self.text)?;
+            self.text.push(']')?;
         }
         self.text.push('\n')?;
         Ok(())

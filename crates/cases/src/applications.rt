@@ -1,7 +1,6 @@
 //! Applications, as their names and arguments are read.
 
 use crate::answer::Answer;
-use crate::shown::show;
 use crate::words::{bytes_of, cut};
 use fs_app::Application;
 use fs_chan::Target3;
@@ -21,53 +20,30 @@ fn tell_application(
     answer: &mut Answer,
 ) -> Result<(), Memory> {
     match application {
-        Application::Answer => show(alloc, "Answer", &[], answer),
-        Application::Set { name, value } => {
-            show(alloc, "Set", &[name.as_bytes(), value.as_bytes()], answer)
-        }
-        Application::Unset { name } => show(alloc, "Unset", &[name.as_bytes()], answer),
-        Application::Export { name, value } => {
-            show(
-                alloc,
-                "Export",
-                &[name.as_bytes(), value.as_bytes()],
-                answer,
-            )
-        }
-        Application::SetGlobal { name, value } => {
-            show(
-                alloc,
-                "SetGlobal",
-                &[name.as_bytes(), value.as_bytes()],
-                answer,
-            )
-        }
-        Application::Eval => show(alloc, "Eval", &[], answer),
+        Application::Answer => answer.named("Answer", &[]),
+        Application::Set { name, value } => answer.named("Set", &[name, value]),
+        Application::Unset { name } => answer.named("Unset", &[name]),
+        Application::Export { name, value } => answer.named("Export", &[name, value]),
+        Application::SetGlobal { name, value } => answer.named("SetGlobal", &[name, value]),
+        Application::Eval => answer.named("Eval", &[]),
         Application::Sleep { milliseconds } => {
-            show(
-                alloc,
-                "Sleep",
-                &[decimal(alloc, *milliseconds)?.as_bytes()],
-                answer,
-            )
+            answer.named("Sleep", &[&decimal(alloc, *milliseconds)?])
         }
-        Application::Hangup { cause } => {
-            show(alloc, "Hangup", &[cause.name().as_bytes()], answer)
-        }
-        Application::Park => show(alloc, "Park", &[], answer),
-        Application::Transfer { to } => tell_target(alloc, to, answer),
-        Application::Unknown => show(alloc, "Unknown", &[], answer),
+        Application::Hangup { cause } => answer.line(&[b"Hangup ", cause.name().as_bytes()]),
+        Application::Park => answer.named("Park", &[]),
+        Application::Transfer { to } => tell_target(to, answer),
+        Application::Unknown => answer.named("Unknown", &[]),
     }
 }
 
 // Adds the extension, and the dialplan and the context where they are named.
-fn tell_target(alloc: Global, to: &Target3, answer: &mut Answer) -> Result<(), Memory> {
-    show(alloc, "Transfer", &[to.exten.as_bytes()], answer)?;
+fn tell_target(to: &Target3, answer: &mut Answer) -> Result<(), Memory> {
+    answer.named("Transfer", &[&to.exten])?;
     if let Some(dialplan) = &to.dialplan {
-        show(alloc, "dialplan", &[dialplan.as_bytes()], answer)?;
+        answer.named("dialplan", &[dialplan])?;
     }
     if let Some(context) = &to.context {
-        show(alloc, "context", &[context.as_bytes()], answer)?;
+        answer.named("context", &[context])?;
     }
     Ok(())
 }

@@ -1,7 +1,6 @@
 //! Api commands, as their texts are read.
 
 use crate::answer::Answer;
-use crate::shown::show;
 use crate::words::bytes_of;
 use fs_api::{Api, Winner};
 use fs_text::{Memory, decimal};
@@ -21,96 +20,54 @@ pub(crate) fn tell_expanded(alloc: Global, text: &str, answer: &mut Answer) -> R
 
 fn tell_command(alloc: Global, api: &Api, answer: &mut Answer) -> Result<(), Memory> {
     match api {
-        Api::Echo { text } => show(alloc, "Echo", &[text.as_bytes()], answer),
-        Api::Expand { text } => show(alloc, "Expand", &[text.as_bytes()], answer),
-        Api::GlobalGetvar { name: None } => show(alloc, "GlobalGetvar", &[], answer),
-        Api::GlobalGetvar { name: Some(name) } => {
-            show(alloc, "GlobalGetvar", &[name.as_bytes()], answer)
-        }
-        Api::GlobalSetvar { name, value } => {
-            show(
-                alloc,
-                "GlobalSetvar",
-                &[name.as_bytes(), value.as_bytes()],
-                answer,
-            )
-        }
+        Api::Echo { text } => answer.named("Echo", &[text]),
+        Api::Expand { text } => answer.named("Expand", &[text]),
+        Api::GlobalGetvar { name: None } => answer.named("GlobalGetvar", &[]),
+        Api::GlobalGetvar { name: Some(name) } => answer.named("GlobalGetvar", &[name]),
+        Api::GlobalSetvar { name, value } => answer.named("GlobalSetvar", &[name, value]),
         Api::Msleep { milliseconds } => {
-            show(
-                alloc,
-                "Msleep",
-                &[decimal(alloc, *milliseconds)?.as_bytes()],
-                answer,
-            )
+            answer.named("Msleep", &[&decimal(alloc, *milliseconds)?])
         }
-        Api::UuidExists { uuid } => show(alloc, "UuidExists", &[uuid.as_bytes()], answer),
+        Api::UuidExists { uuid } => answer.named("UuidExists", &[uuid]),
         Api::UuidKill { uuid, cause } => {
-            show(
-                alloc,
-                "UuidKill",
-                &[uuid.as_bytes(), cause.name().as_bytes()],
-                answer,
-            )
+            answer.named("UuidKill", &[uuid])?;
+            answer.line(&[b"cause ", cause.name().as_bytes()])
         }
-        Api::UuidGetvar { uuid, name } => {
-            show(
-                alloc,
-                "UuidGetvar",
-                &[uuid.as_bytes(), name.as_bytes()],
-                answer,
-            )
+        Api::UuidGetvar { uuid, name } => answer.named("UuidGetvar", &[uuid, name]),
+        Api::Originate {
+            url,
+            winner,
+            cid_name,
+            cid_number,
+            timeout,
+        } => {
+            answer.named("Originate", &[url, cid_name, cid_number])?;
+            tell_timeout(alloc, *timeout, answer)?;
+            tell_winner(&winner.copy()?, answer)
         }
-        Api::Usage(which) => {
-            show(
-                alloc,
-                "Usage",
-                &[format!(in alloc; "{which:?}")?.as_bytes()],
-                answer,
-            )
-        }
-        Api::Unknown(name) => show(alloc, "Unknown", &[name.as_bytes()], answer),
-        Api::Originate { .. } => tell_originate(alloc, api, answer),
+        Api::Usage(which) => answer.line(&[format!(in alloc; "Usage {which:?}")?.as_bytes()]),
+        Api::Unknown(name) => answer.named("Unknown", &[name]),
     }
 }
 
-// Adds the url, the name and the number of the caller, the timeout, and what the winner does.
-fn tell_originate(alloc: Global, api: &Api, answer: &mut Answer) -> Result<(), Memory> {
-    let Api::Originate {
-        url,
-        winner,
-        cid_name,
-        cid_number,
-        timeout,
-    } = api
-    else {
-        return Ok(());
-    };
-    let timeout = format!(in alloc; "{timeout:?}")?;
-    let texts = [
-        url.as_bytes(),
-        cid_name.as_bytes(),
-        cid_number.as_bytes(),
-        timeout.as_bytes(),
-    ];
-    show(alloc, "Originate", &texts, answer)?;
-    tell_winner(alloc, &winner.copy()?, answer)
+// Adds the seconds that the legs have, where they are told.
+fn tell_timeout(alloc: Global, timeout: Option<u64>, answer: &mut Answer) -> Result<(), Memory> {
+    match timeout {
+        Some(seconds) => answer.named("timeout", &[&decimal(alloc, seconds)?]),
+        None => Ok(()),
+    }
 }
 
-fn tell_winner(alloc: Global, winner: &Winner, answer: &mut Answer) -> Result<(), Memory> {
+// Adds what the winner does.
+fn tell_winner(winner: &Winner, answer: &mut Answer) -> Result<(), Memory> {
     match winner {
         Winner::App {
             application,
             argument,
-        } => show(
-            alloc,
-            "App",
-            &[application.as_bytes(), argument.as_bytes()],
-            answer,
-        ),
+        } => answer.named("App", &[application, argument]),
         Winner::Route(route) => {
             let (exten, dialplan, context) = route.copy()?.into_texts();
-            let texts = [exten.as_bytes(), dialplan.as_bytes(), context.as_bytes()];
-            show(alloc, "Route", &texts, answer)
+            answer.named("Route", &[&exten, &dialplan, &context])
         }
     }
 }

@@ -1,7 +1,6 @@
 //! An origination with its legs, and what endpoints come to.
 
 use crate::answer::Answer;
-use crate::shown::show;
 use crate::words::{bytes_of, cut, number_of};
 use fs_orig::{
     Endpoint, LegGroup, LegPlan, LegPlans, Orig, OrigLeg, OrigLegs, Owner, is_one_leg, judge,
@@ -106,15 +105,8 @@ impl Legs {
 pub(crate) fn tell_endpoint(alloc: Global, text: &str, answer: &mut Answer) -> Result<(), Memory> {
     let endpoint = Endpoint::of(alloc, &bytes_of(alloc, text)?)?;
     match &endpoint {
-        Endpoint::Loopback { exten, context } => {
-            show(
-                alloc,
-                "Loopback",
-                &[exten.as_bytes(), context.as_bytes()],
-                answer,
-            )
-        }
-        Endpoint::Dead { cause } => show(alloc, "Dead", &[cause.name().as_bytes()], answer),
+        Endpoint::Loopback { exten, context } => answer.named("Loopback", &[exten, context]),
+        Endpoint::Dead { cause } => answer.line(&[b"Dead ", cause.name().as_bytes()]),
     }
 }
 

@@ -1,11 +1,10 @@
 //! Reads and writes of a link in memory.
 
 use crate::answer::Answer;
-use crate::shown::show;
 use crate::table::Table;
 use crate::words::{bytes_of, number_of};
 use fs_ports::{Read, Sink, Source, send_all};
-use fs_text::Memory;
+use fs_text::{Memory, Txt};
 use std::alloc::Global;
 
 // How many bytes a link takes.
@@ -22,13 +21,19 @@ pub(crate) fn tell_reads(
     let mut buf = [0; 3];
     for _ in 0..number_of(count) {
         let read = link.read(&mut buf);
-        let got = match read {
-            Read::Got(count) => buf.get(..count).unwrap_or(&[]),
-            _ => &[],
-        };
-        show(alloc, &format!(in alloc; "{read:?}")?, &[got], answer)?;
+        let got = Txt::of(alloc, front_of(read, &buf))?;
+        let told = format!(in alloc; "{read:?}")?;
+        answer.named(&told, &[&got])?;
     }
     Ok(())
+}
+
+// What a read put at the front of a buffer.
+fn front_of(read: Read, buf: &[u8]) -> &[u8] {
+    match read {
+        Read::Got(count) => buf.get(..count).unwrap_or(&[]),
+        _ => &[],
+    }
 }
 
 /// Answers `writes TEXT TEXT ..` with what each write answers, and with what is written in the end.

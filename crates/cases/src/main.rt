@@ -14,7 +14,6 @@ mod links;
 mod long;
 mod plays;
 mod runs;
-mod shown;
 mod table;
 mod words;
 

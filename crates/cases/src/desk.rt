@@ -1,9 +1,13 @@
 //! The desk at which cases are answered.
 
 use crate::answer::Answer;
+use crate::documents::{attributes, tell_config};
+use crate::frames::Frames;
+use crate::names::tell_text;
 use crate::plays::tell_play;
 use crate::runs::{tell_length, tell_run};
 use crate::table::Table;
+use crate::variables::Variables;
 use crate::words::cut;
 use fs_text::Memory;
 use std::alloc::Global;
@@ -12,6 +16,8 @@ use std::alloc::Global;
 pub(crate) struct Desk {
     alloc: Global,
     table: Table,
+    variables: Variables,
+    frames: Frames,
 }
 
 impl Drop for Desk {
@@ -19,6 +25,8 @@ impl Drop for Desk {
         let Desk {
             alloc: _alloc,
             table: _table,
+            variables: _variables,
+            frames: _frames,
         } = self;
     }
 }
@@ -28,6 +36,8 @@ impl Desk {
         Ok(Desk {
             alloc,
             table: Table::new(alloc),
+            frames: Frames::new(alloc)?,
+            variables: Variables::new(alloc)?,
         })
     }
 
@@ -49,9 +59,36 @@ impl Desk {
             "run" => self.tell_once(rest, answer)?,
             "measure" => tell_length(self.alloc, &self.table, rest, answer)?,
             "play" => tell_play(self.alloc, &self.table, answer)?,
+            _ => return self.tells_parts(verb, rest, answer),
+        }
+        Ok(true)
+    }
+
+    // Answers a case of the parts of a switch.
+    fn tells_parts(&mut self, verb: &str, rest: &str, answer: &mut Answer) -> Result<bool, Memory> {
+        match verb {
+            "vars" => self.variables.tell(rest, answer)?,
+            "read" => self.tell_document(rest, answer)?,
+            "config" => tell_config(self.alloc, self.table.file(), rest, answer)?,
+            "attributes" => self.add_attributes(rest)?,
+            "text" => tell_text(self.alloc, rest, answer)?,
+            "frames" => self.frames.tell(rest, answer)?,
             _ => return Ok(false),
         }
         Ok(true)
+    }
+
+    // Lays a document out, and says whether it is read.
+    fn tell_document(&mut self, text: &str, answer: &mut Answer) -> Result<(), Memory> {
+        let _is_taken = self.table.takes("file", text)?;
+        tell_config(self.alloc, self.table.file(), "", answer)
+    }
+
+    // Adds so many attributes to the document.
+    fn add_attributes(&mut self, count: &str) -> Result<(), Memory> {
+        let text = attributes(self.alloc, count)?;
+        let _is_taken = self.table.takes("more", &text)?;
+        Ok(())
     }
 
     // Answers a run, and clears the table behind it.

@@ -4,9 +4,13 @@
 
 mod answer;
 mod desk;
+mod documents;
+mod frames;
+mod names;
 mod plays;
 mod runs;
 mod table;
+mod variables;
 mod words;
 
 use desk::Desk;

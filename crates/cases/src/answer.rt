@@ -40,8 +40,11 @@ impl Answer {
         Ok(())
     }
 
-    /// Adds a text of several lines, each of them indented, and says where its last one has no end.
+    /// Adds a text of several lines, each of them indented, and says where its last one has no end. An empty text has none.
     pub(crate) fn lines(&mut self, bytes: &[u8]) -> Result<(), Memory> {
+        if bytes.is_empty() {
+            return Ok(());
+        }
         let whole = bytes.strip_suffix(b"\n");
         for line in whole.unwrap_or(bytes).split(|b| *b == b'\n') {
             self.line(&[line])?;

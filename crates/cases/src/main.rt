@@ -3,24 +3,34 @@
 #![tactic(auto)]
 
 mod answer;
+mod applications;
+mod channels;
+mod commands;
 mod desk;
+mod disk;
 mod documents;
 mod frames;
+mod hunts;
+mod legs;
+mod links;
+mod long;
 mod names;
 mod plays;
 mod runs;
+mod shown;
 mod table;
 mod variables;
 mod words;
 
 use desk::Desk;
-use fs_ports::{Sent, Stdio, send_all};
+use fs_ports::{DiskFiles, Sent, Stdio, send_all};
 use std::io::{self, ErrorKind};
 
 fn main(rt: HostRuntime) -> io::Result<()> {
     let alloc = rt.alloc();
     let mut out = Stdio::new(io::empty(), rt.stdout());
-    let mut desk = Desk::new(alloc).map_err(|_| ErrorKind::OutOfMemory)?;
+    let disk = DiskFiles::new(alloc, rt);
+    let mut desk = Desk::new(alloc, disk).map_err(|_| ErrorKind::OutOfMemory)?;
     for line in rt.lines(alloc) {
         let answer = desk
             .answered(line?.as_str())

@@ -12,9 +12,14 @@ use std::alloc::Global;
 // The most that is written.
 const ROOM: usize = 1_000_000;
 
-/// Answers `play` with the output, and with how it ended, at which moment, with how many commands in the journal and how many events
-/// of each name.
-pub(crate) fn tell_play(alloc: Global, table: &Table, answer: &mut Answer) -> Result<(), Memory> {
+/// Answers `play` with the output, and with how it ended, at which moment and with how many commands in the journal, and `count` also
+/// with how many events there were of each name.
+pub(crate) fn tell_play(
+    alloc: Global,
+    table: &Table,
+    counts: bool,
+    answer: &mut Answer,
+) -> Result<(), Memory> {
     let Some(mut machine) = machine_of(alloc, table)? else {
         return answer.line(&[b"no machine"]);
     };
@@ -27,7 +32,10 @@ pub(crate) fn tell_play(alloc: Global, table: &Table, answer: &mut Answer) -> Re
         commands_in(&machine)
     )?;
     answer.line(&[told.as_bytes()])?;
-    tell_events(alloc, &machine, answer)
+    if counts {
+        tell_events(alloc, &machine, answer)?;
+    }
+    Ok(())
 }
 
 // The machine of the document that is laid out, if that is read and built.

@@ -65,10 +65,7 @@ pub(crate) fn tell_length(
 
 // Adds the line on the error output, if there is one, and the status.
 fn tell_end(alloc: Global, came: &Came, answer: &mut Answer) -> Result<(), Memory> {
-    let err = came.err.written();
-    if !err.is_empty() {
-        answer.lines(err)?;
-    }
+    answer.lines(came.err.written())?;
     let status = format!(in alloc; "status {}", came.status)?;
     answer.line(&[status.as_bytes()])
 }

@@ -8,6 +8,8 @@ use std::alloc::Global;
 /// What runs and plays find.
 pub(crate) struct Table {
     alloc: Global,
+    front: Vec<u8>,
+    back: Vec<u8>,
     file: Vec<u8>,
     input: Vec<u8>,
     cuts: Vec<usize>,
@@ -21,6 +23,8 @@ impl Drop for Table {
     fn drop(self) {
         let Table {
             alloc: _alloc,
+            front: _front,
+            back: _back,
             file: _file,
             input: _input,
             cuts: _cuts,
@@ -36,6 +40,8 @@ impl Table {
     pub(crate) fn new(alloc: Global) -> Table {
         Table {
             alloc,
+            front: Vec::new(alloc),
+            back: Vec::new(alloc),
             file: Vec::new(alloc),
             input: Vec::new(alloc),
             cuts: Vec::new(alloc),
@@ -48,20 +54,25 @@ impl Table {
 
     /// Takes what a line lays out, if it lays out something.
     ///
-    /// `file TEXT` is the document `f`, to which `more TEXT` and `times COUNT TEXT` add; `input TEXT`, `inputs COUNT TEXT` and
-    /// `command TEXT` add to what the link gives, the last one with the empty line that ends a command; `cuts`, `failed-loads`,
-    /// `large-builds`, `failed-reads` and `failed-writes` have numbers. `clear` forgets all but the file.
+    /// `file TEXT` is the document `f`, to which `more TEXT` and `times COUNT TEXT` add, and `between TEXT` is one that stands
+    /// between a `front TEXT` and a `back TEXT`. `input TEXT`, `inputs COUNT TEXT` and `command TEXT` add to what the link gives,
+    /// the last one with the empty line that ends a command, and `again COUNT PLACE` repeats so often what stands from a place
+    /// on. `cuts`, `failed-loads`, `large-builds`, `failed-reads` and
+    /// `failed-writes` have numbers.
     pub(crate) fn takes(&mut self, verb: &str, rest: &str) -> Result<bool, Memory> {
         let alloc = self.alloc;
         match verb {
+            "front" => self.front = bytes_of(alloc, rest)?,
+            "back" => self.back = bytes_of(alloc, rest)?,
+            "between" => self.lay_between(rest)?,
             "file" => self.file = bytes_of(alloc, rest)?,
             "more" => self.file.extend_from_slice(&bytes_of(alloc, rest)?)?,
             "times" => push_often(alloc, &mut self.file, rest)?,
             "input" => self.input.extend_from_slice(&bytes_of(alloc, rest)?)?,
             "inputs" => push_often(alloc, &mut self.input, rest)?,
+            "again" => self.push_again(rest)?,
             "command" => self.push_command(rest)?,
             "cuts" => self.cuts = places_of(alloc, rest)?,
-            "clear" => self.clear(),
             _ => return self.takes_numbers(verb, rest),
         }
         Ok(true)
@@ -80,6 +91,15 @@ impl Table {
         Ok(true)
     }
 
+    // The file stands between the front and the back.
+    fn lay_between(&mut self, text: &str) -> Result<(), Memory> {
+        let mut file = Vec::from_slice(self.alloc, &self.front)?;
+        file.extend_from_slice(&bytes_of(self.alloc, text)?)?;
+        file.extend_from_slice(&self.back)?;
+        self.file = file;
+        Ok(())
+    }
+
     fn push_command(&mut self, text: &str) -> Result<(), Memory> {
         let bytes = bytes_of(self.alloc, text)?;
         self.input.extend_from_slice(&bytes)?;
@@ -87,7 +107,17 @@ impl Table {
         Ok(())
     }
 
-    /// Forgets all but the file.
+    fn push_again(&mut self, rest: &str) -> Result<(), Memory> {
+        let (count, place) = cut(rest);
+        let from = usize::try_from(number_of(place)).unwrap_or(0);
+        let tail = Vec::from_slice(self.alloc, self.input.get(from..).unwrap_or_default())?;
+        for _ in 0..number_of(count) {
+            self.input.extend_from_slice(&tail)?;
+        }
+        Ok(())
+    }
+
+    /// Forgets all but the file, its front and its back.
     pub(crate) fn clear(&mut self) {
         self.input.clear();
         self.cuts.clear();

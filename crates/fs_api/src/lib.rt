@@ -5,8 +5,6 @@ mod api;
 mod originate;
 mod reading;
 mod route;
-#[cfg(test)]
-mod tests;
 mod usages;
 mod words;
 

@@ -3,7 +3,5 @@
 
 mod application;
 mod reading;
-#[cfg(test)]
-mod tests;
 
 pub use application::Application;

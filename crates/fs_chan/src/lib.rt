@@ -10,8 +10,6 @@ mod left;
 mod moment;
 mod peer;
 mod target;
-#[cfg(test)]
-mod tests;
 mod variables;
 mod wait;
 mod work;

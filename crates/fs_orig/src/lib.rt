@@ -8,8 +8,6 @@ mod leg;
 mod orig;
 mod plan;
 mod search;
-#[cfg(test)]
-mod tests;
 mod verdict;
 
 pub use changes::changes_law;

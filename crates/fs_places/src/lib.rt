@@ -9,8 +9,6 @@ mod overlay;
 mod places;
 mod rows;
 mod sheet;
-#[cfg(test)]
-mod tests;
 
 pub use numbered::Numbered;
 pub use overlay::Overlay;

@@ -15,8 +15,6 @@ mod inline;
 mod pattern;
 mod plan;
 mod tested;
-#[cfg(test)]
-mod tests;
 
 pub use fault::PlanFault;
 pub use hunt::Hunt;

@@ -14,8 +14,6 @@ mod patterns;
 mod port;
 mod send;
 mod stdio;
-#[cfg(test)]
-mod tests;
 
 pub use disk_files::DiskFiles;
 pub use files::{Files, LOAD_LIMIT, Load};

@@ -5,13 +5,17 @@ use crate::applications::tell_app;
 use crate::channels::tell_channel;
 use crate::commands::{tell_api, tell_expanded};
 use crate::disk::{tell_build, tell_load};
+use crate::documents::{attributes, tell_config};
+use crate::frames::Frames;
 use crate::hunts::Hunts;
 use crate::legs::{Legs, tell_endpoint, tell_one_leg};
 use crate::links::{tell_reads, tell_sends, tell_writes};
 use crate::long::longer;
+use crate::names::tell_text;
 use crate::plays::tell_play;
 use crate::runs::{tell_length, tell_run};
 use crate::table::Table;
+use crate::variables::Variables;
 use crate::words::cut;
 use fs_ports::Files;
 use fs_text::Memory;
@@ -22,6 +26,8 @@ pub(crate) struct Desk<D: Files + Drop> {
     alloc: Global,
     disk: D,
     table: Table,
+    variables: Variables,
+    frames: Frames,
     legs: Legs,
     hunts: Hunts,
 }
@@ -32,6 +38,8 @@ impl<D: Files + Drop> Drop for Desk<D> {
             alloc: _alloc,
             disk: _disk,
             table: _table,
+            variables: _variables,
+            frames: _frames,
             legs: _legs,
             hunts: _hunts,
         } = self;
@@ -44,6 +52,8 @@ impl<D: Files + Drop> Desk<D> {
             alloc,
             disk,
             table: Table::new(alloc),
+            frames: Frames::new(alloc)?,
+            variables: Variables::new(alloc)?,
             legs: Legs::new(alloc),
             hunts: Hunts::new(alloc),
         })
@@ -92,8 +102,35 @@ impl<D: Files + Drop> Desk<D> {
             "hunt" => self.hunts.tell_hunt(rest, answer)?,
             "load" => tell_load(alloc, &mut self.disk, rest, answer)?,
             "build" => tell_build(&mut self.disk, rest, answer)?,
+            _ => return self.tells_low(verb, rest, answer),
+        }
+        Ok(true)
+    }
+
+    // Answers a case of the lower parts, if it is one.
+    fn tells_low(&mut self, verb: &str, rest: &str, answer: &mut Answer) -> Result<bool, Memory> {
+        match verb {
+            "vars" => self.variables.tell(rest, answer)?,
+            "document" => self.tell_document(rest, answer)?,
+            "config" => tell_config(self.alloc, self.table.file(), rest, answer)?,
+            "attributes" => self.add_attributes(rest)?,
+            "text" => tell_text(self.alloc, rest, answer)?,
+            "frames" => self.frames.tell(rest, answer)?,
             _ => return self.legs.tells(verb, rest, answer),
         }
         Ok(true)
+    }
+
+    // Lays a document out, and says whether it is read.
+    fn tell_document(&mut self, text: &str, answer: &mut Answer) -> Result<(), Memory> {
+        let _is_taken = self.table.takes("file", text)?;
+        tell_config(self.alloc, self.table.file(), "", answer)
+    }
+
+    // Adds so many attributes to the document.
+    fn add_attributes(&mut self, count: &str) -> Result<(), Memory> {
+        let text = attributes(self.alloc, count)?;
+        let _is_taken = self.table.takes("more", &text)?;
+        Ok(())
     }
 }

@@ -8,13 +8,17 @@ mod channels;
 mod commands;
 mod desk;
 mod disk;
+mod documents;
+mod frames;
 mod hunts;
 mod legs;
 mod links;
 mod long;
+mod names;
 mod plays;
 mod runs;
 mod table;
+mod variables;
 mod words;
 
 use desk::Desk;

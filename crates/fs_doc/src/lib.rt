@@ -16,8 +16,6 @@ mod globals;
 mod listed;
 mod settings;
 mod state;
-#[cfg(test)]
-mod tests;
 mod values;
 
 pub use attributes::has_variable;

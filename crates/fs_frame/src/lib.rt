@@ -12,8 +12,6 @@ mod laws;
 mod next;
 mod scan;
 mod span;
-#[cfg(test)]
-mod tests;
 
 pub use block::Block;
 pub use blocks::Blocks;

@@ -11,8 +11,6 @@ mod numbers;
 mod search;
 mod states;
 mod tables;
-#[cfg(test)]
-mod tests;
 mod text;
 
 pub use causes::Cause;

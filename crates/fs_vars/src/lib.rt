@@ -13,8 +13,6 @@ mod refused;
 mod scope;
 mod table;
 mod tally;
-#[cfg(test)]
-mod tests;
 mod vars;
 
 pub use bounds::Bounds;

@@ -10,8 +10,6 @@ mod entity;
 mod markup;
 mod stop;
 mod tag;
-#[cfg(test)]
-mod tests;
 mod value;
 
 pub use attribute::{Attr, Ending};

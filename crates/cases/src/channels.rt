@@ -1,0 +1,60 @@
+//! The headers of a channel.
+
+use crate::answer::Answer;
+use fs_chan::{Chan, Direction, Peer};
+use fs_text::{Cause, Memory, State, Txt};
+use fs_vars::{Bounds, Profile, Vars};
+use std::alloc::Global;
+
+/// Answers `channel answered` and `channel hung-up` with the headers of such a channel.
+pub(crate) fn tell_channel(alloc: Global, which: &str, answer: &mut Answer) -> Result<(), Memory> {
+    match which {
+        "answered" => tell_headers(alloc, &answered(alloc)?, answer),
+        "hung-up" => tell_headers(alloc, &hung_up(alloc)?, answer),
+        _ => answer.line(&[b"no channel"]),
+    }
+}
+
+fn tell_headers(alloc: Global, chan: &Chan, answer: &mut Answer) -> Result<(), Memory> {
+    let headers = chan.headers(alloc)?;
+    for (name, value) in headers.pairs() {
+        answer.line(&[name.as_bytes(), b": ", value.as_bytes()])?;
+    }
+    Ok(())
+}
+
+// The near end of a call from 1000 to 1001, which runs its actions.
+fn answered(alloc: Global) -> Result<Chan, Memory> {
+    let mut profile = profile(alloc, b"1001", b"loopback/1001-b")?;
+    profile.caller_id_name = Txt::of(alloc, b"Ann")?;
+    profile.caller_id_number = Txt::of(alloc, b"1000")?;
+    let uuid = Txt::of(alloc, b"46530000-0000-8000-8000-000000000002")?;
+    let mut chan = channel(alloc, Direction::Inbound, profile)?;
+    chan.peer = Some(Peer { slot: 2, uuid });
+    chan.enter(State::CsExecute);
+    let _is_new = chan.answer(7);
+    Ok(chan)
+}
+
+// The far end of a call to an extension that is busy.
+fn hung_up(alloc: Global) -> Result<Chan, Memory> {
+    let profile = profile(alloc, b"busy", b"loopback/busy-a")?;
+    let mut chan = channel(alloc, Direction::Outbound, profile)?;
+    chan.hang_up(Cause::UserBusy)?;
+    Ok(chan)
+}
+
+fn channel(alloc: Global, direction: Direction, profile: Profile) -> Result<Chan, Memory> {
+    let uuid = Txt::of(alloc, b"46530000-0000-8000-8000-000000000001")?;
+    let vars = Vars::new(alloc, Bounds::Channel)?;
+    Ok(Chan::new(alloc, uuid, 1, direction, profile, vars))
+}
+
+// Who was called at an extension, as a channel of this name.
+fn profile(alloc: Global, exten: &[u8], name: &[u8]) -> Result<Profile, Memory> {
+    let mut profile = Profile::empty(alloc)?;
+    profile.destination_number = Txt::of(alloc, exten)?;
+    profile.context = Txt::of(alloc, b"default")?;
+    profile.chan_name = Txt::of(alloc, name)?;
+    Ok(profile)
+}

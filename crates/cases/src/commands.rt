@@ -1,0 +1,73 @@
+//! Api commands, as their texts are read.
+
+use crate::answer::Answer;
+use crate::words::bytes_of;
+use fs_api::{Api, Winner};
+use fs_text::{Memory, decimal};
+use std::alloc::Global;
+
+/// Answers `api TEXT` with the command and its parts.
+pub(crate) fn tell_api(alloc: Global, text: &str, answer: &mut Answer) -> Result<(), Memory> {
+    let api = Api::of(alloc, &bytes_of(alloc, text)?)?;
+    tell_command(alloc, &api, answer)
+}
+
+/// Answers `expanded TEXT`, where `expand` gave the text, in the same way.
+pub(crate) fn tell_expanded(alloc: Global, text: &str, answer: &mut Answer) -> Result<(), Memory> {
+    let api = Api::of_expanded(alloc, &bytes_of(alloc, text)?)?;
+    tell_command(alloc, &api, answer)
+}
+
+fn tell_command(alloc: Global, api: &Api, answer: &mut Answer) -> Result<(), Memory> {
+    match api {
+        Api::Echo { text } => answer.named("Echo", &[text]),
+        Api::Expand { text } => answer.named("Expand", &[text]),
+        Api::GlobalGetvar { name: None } => answer.named("GlobalGetvar", &[]),
+        Api::GlobalGetvar { name: Some(name) } => answer.named("GlobalGetvar", &[name]),
+        Api::GlobalSetvar { name, value } => answer.named("GlobalSetvar", &[name, value]),
+        Api::Msleep { milliseconds } => {
+            answer.named("Msleep", &[&decimal(alloc, *milliseconds)?])
+        }
+        Api::UuidExists { uuid } => answer.named("UuidExists", &[uuid]),
+        Api::UuidKill { uuid, cause } => {
+            answer.named("UuidKill", &[uuid])?;
+            answer.line(&[b"cause ", cause.name().as_bytes()])
+        }
+        Api::UuidGetvar { uuid, name } => answer.named("UuidGetvar", &[uuid, name]),
+        Api::Originate {
+            url,
+            winner,
+            cid_name,
+            cid_number,
+            timeout,
+        } => {
+            answer.named("Originate", &[url, cid_name, cid_number])?;
+            tell_timeout(alloc, *timeout, answer)?;
+            tell_winner(&winner.copy()?, answer)
+        }
+        Api::Usage(which) => answer.line(&[format!(in alloc; "Usage {which:?}")?.as_bytes()]),
+        Api::Unknown(name) => answer.named("Unknown", &[name]),
+    }
+}
+
+// Adds the seconds that the legs have, where they are told.
+fn tell_timeout(alloc: Global, timeout: Option<u64>, answer: &mut Answer) -> Result<(), Memory> {
+    match timeout {
+        Some(seconds) => answer.named("timeout", &[&decimal(alloc, seconds)?]),
+        None => Ok(()),
+    }
+}
+
+// Adds what the winner does.
+fn tell_winner(winner: &Winner, answer: &mut Answer) -> Result<(), Memory> {
+    match winner {
+        Winner::App {
+            application,
+            argument,
+        } => answer.named("App", &[application, argument]),
+        Winner::Route(route) => {
+            let (exten, dialplan, context) = route.copy()?.into_texts();
+            answer.named("Route", &[&exten, &dialplan, &context])
+        }
+    }
+}

@@ -1,0 +1,36 @@
+//! Files of the system, and patterns built by them.
+
+use crate::answer::Answer;
+use crate::words::text_of;
+use fs_ports::{Built, Files, Load};
+use fs_text::Memory;
+use std::alloc::Global;
+
+/// Answers `load NAME` with what the load of a file gives.
+pub(crate) fn tell_load<D: Files>(
+    alloc: Global,
+    disk: &mut D,
+    name: &str,
+    answer: &mut Answer,
+) -> Result<(), Memory> {
+    match &disk.load(&text_of(alloc, name)?)? {
+        Load::Got(bytes) => answer.lines(bytes.as_bytes()),
+        Load::Absent => answer.line(&[b"absent"]),
+        Load::Failed => answer.line(&[b"failed"]),
+    }
+}
+
+/// Answers `build TEXT` with whether a text is built as a pattern.
+pub(crate) fn tell_build<D: Files>(
+    disk: &mut D,
+    text: &str,
+    answer: &mut Answer,
+) -> Result<(), Memory> {
+    let told = match &disk.build(text) {
+        Built::Regex(_) => "regex",
+        Built::NoReading => "no reading",
+        Built::TooLarge => "too large",
+        Built::Memory => return Err(Memory),
+    };
+    answer.line(&[told.as_bytes()])
+}

@@ -1,0 +1,115 @@
+//! Dialplans that are built, and what calls get from them.
+
+use crate::answer::Answer;
+use crate::table::Table;
+use crate::words::{bytes_of, cut, text_of};
+use fs_doc::read_config;
+use fs_plan::{Dialplan, Hunt};
+use fs_ports::NoGate;
+use fs_text::Memory;
+use fs_vars::{Bounds, Profile, Refused, Scope, Vars};
+use std::alloc::Global;
+
+// What a byte stands for, so that a line is short.
+const SHORT: &[(u8, &[u8])] = &[
+    (b'@', b"<extension><condition"),
+    (b'+', b"</condition><condition"),
+    (b';', b"</condition></extension>"),
+    (b'#', b" field='destination_number' expression='"),
+    (b'&', b"<action application='log' data='"),
+    (b'!', b"<anti-action application='log' data='"),
+    (b'~', b"<action inline='true' application='"),
+    (b'*', b"'/>"),
+];
+
+/// The dialplan that was built last.
+pub(crate) struct Hunts {
+    alloc: Global,
+    plan: Option<Dialplan>,
+}
+
+impl Drop for Hunts {
+    fn drop(self) {
+        let Hunts {
+            alloc: _alloc,
+            plan: _plan,
+        } = self;
+    }
+}
+
+impl Hunts {
+    /// No dialplan.
+    pub(crate) fn new(alloc: Global) -> Hunts {
+        Hunts { alloc, plan: None }
+    }
+
+    /// Builds the dialplan of contexts in short spelling, and says why where it is refused.
+    pub(crate) fn build(
+        &mut self,
+        table: &Table,
+        contexts: &str,
+        answer: &mut Answer,
+    ) -> Result<(), Memory> {
+        self.plan = None;
+        let Ok(config) = read_config(self.alloc, &document(self.alloc, contexts)?) else {
+            return answer.line(&[b"no document"]);
+        };
+        match Dialplan::build(self.alloc, &config, &mut table.files()?) {
+            Ok(plan) => self.plan = Some(plan),
+            Err(fault) => answer.line(&[format!(in self.alloc; "{fault}")?.as_bytes()])?,
+        }
+        Ok(())
+    }
+
+    /// Answers `hunt CONTEXT NUMBER` with the actions that a call for this number gets from a context.
+    pub(crate) fn tell_hunt(&self, rest: &str, answer: &mut Answer) -> Result<(), Memory> {
+        let Some(plan) = &self.plan else {
+            return answer.line(&[b"no dialplan"]);
+        };
+        let (context, number) = cut(rest);
+        match hunt(self.alloc, plan, &bytes_of(self.alloc, context)?, number) {
+            Ok(hunt) => tell_actions(&hunt, answer),
+            Err(Refused::TooLong { len }) => {
+                answer.line(&[format!(in self.alloc; "too long {len}")?.as_bytes()])
+            }
+            Err(Refused::Memory) => Err(Memory),
+        }
+    }
+}
+
+// The document of contexts in short spelling.
+fn document(alloc: Global, contexts: &str) -> Result<Vec<u8>, Memory> {
+    let mut text = Vec::from_slice(alloc, b"<document><section name='dialplan'>")?;
+    for byte in bytes_of(alloc, contexts)? {
+        match SHORT.iter().find(|word| word.0 == byte) {
+            Some(word) => text.extend_from_slice(word.1)?,
+            None => text.push(byte)?,
+        }
+    }
+    text.extend_from_slice(b"</section></document>")?;
+    Ok(text)
+}
+
+// What a call for this number gets from a context.
+fn hunt(alloc: Global, plan: &Dialplan, context: &[u8], number: &str) -> Result<Hunt, Refused> {
+    let mut profile = Profile::empty(alloc)?;
+    profile.destination_number = text_of(alloc, number)?;
+    let scope = Scope {
+        vars: &Vars::new(alloc, Bounds::Channel)?,
+        profile: &profile,
+        globals: &Vars::new(alloc, Bounds::Globals)?,
+    };
+    plan.hunt(alloc, &scope, context, &mut NoGate)
+}
+
+// Adds each action with its argument, or says that there is none.
+fn tell_actions(hunt: &Hunt, answer: &mut Answer) -> Result<(), Memory> {
+    if hunt.actions.is_empty() {
+        return answer.line(&[b"no actions"]);
+    }
+    for action in hunt.actions.iter() {
+        let argument = action.argument.as_bytes();
+        answer.line(&[action.application.as_bytes(), b" [", argument, b"]"])?;
+    }
+    Ok(())
+}

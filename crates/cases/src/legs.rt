@@ -1,0 +1,173 @@
+//! An origination with its legs, and what endpoints come to.
+
+use crate::answer::Answer;
+use crate::words::{bytes_of, cut, number_of};
+use fs_orig::{
+    Endpoint, LegGroup, LegPlan, LegPlans, Orig, OrigLeg, OrigLegs, Owner, is_one_leg, judge,
+};
+use fs_text::{Cause, Headers, Memory, Txt};
+use std::alloc::Global;
+
+/// The origination that the lines so far laid out, and changed.
+pub(crate) struct Legs {
+    alloc: Global,
+    orig: Orig,
+}
+
+impl Drop for Legs {
+    fn drop(self) {
+        let Legs {
+            alloc: _alloc,
+            orig: _orig,
+        } = self;
+    }
+}
+
+impl Legs {
+    /// An origination with no legs.
+    pub(crate) fn new(alloc: Global) -> Legs {
+        Legs {
+            alloc,
+            orig: orig_of(LegPlans::new(alloc), OrigLegs::new(alloc)),
+        }
+    }
+
+    /// Answers what is asked of an origination, if that is asked.
+    ///
+    /// `legs GROUPS LEG LEG ..` lays out one with the deadline 60, whose legs have the slots, deadlines, places and causes of words as
+    /// `slot=1,until=10,answered=5,died=6,of=USER_BUSY`. `judge MOMENT` asks for the verdict, `answered POSITION PLACE` and
+    /// `died POSITION PLACE CAUSE` change a leg, `in-slot SLOT` looks for one, and `next PLACE CAUSE` goes on to the next group, whose
+    /// leg died as it was made.
+    pub(crate) fn tells(
+        &mut self,
+        verb: &str,
+        rest: &str,
+        answer: &mut Answer,
+    ) -> Result<bool, Memory> {
+        let told = match verb {
+            "legs" => return self.lays_out(rest),
+            "judge" => self.judged(number_of(rest))?,
+            "answered" => self.answered(rest)?,
+            "died" => self.died(rest)?,
+            "in-slot" => self.in_slot(rest)?,
+            "next" => self.next(rest)?,
+            _ => return Ok(false),
+        };
+        answer.line(&[told.as_bytes()])?;
+        Ok(true)
+    }
+
+    fn lays_out(&mut self, rest: &str) -> Result<bool, Memory> {
+        let (count, words) = cut(rest);
+        let plans = plans(self.alloc, number_of(count))?;
+        self.orig = orig_of(plans, legs_of(self.alloc, words)?);
+        Ok(true)
+    }
+
+    fn judged(&self, now: u64) -> Result<String, Memory> {
+        let verdict = judge(&self.orig, now);
+        let due = self.orig.due(now);
+        Ok(format!(in self.alloc; "{verdict:?}, due {due}")?)
+    }
+
+    fn answered(&mut self, rest: &str) -> Result<String, Memory> {
+        let (position, place) = cut(rest);
+        let is_new = self
+            .orig
+            .leg_answered(position_of(position), number_of(place));
+        Ok(format!(in self.alloc; "{is_new}")?)
+    }
+
+    fn died(&mut self, rest: &str) -> Result<String, Memory> {
+        let (position, death) = cut(rest);
+        let (place, cause) = cut(death);
+        let is_new = self
+            .orig
+            .leg_died(position_of(position), number_of(place), cause_of(cause));
+        Ok(format!(in self.alloc; "{is_new}")?)
+    }
+
+    fn in_slot(&self, rest: &str) -> Result<String, Memory> {
+        let position = self.orig.legs.position_in(slot_of(rest));
+        Ok(format!(in self.alloc; "{position:?}")?)
+    }
+
+    fn next(&mut self, rest: &str) -> Result<String, Memory> {
+        let (place, cause) = cut(rest);
+        let mut legs = OrigLegs::new(self.alloc);
+        legs.push(OrigLeg::unmade(self.alloc, number_of(place), cause_of(cause))?)?;
+        let is_next = self.orig.enter_next_group(legs);
+        Ok(format!(in self.alloc; "{is_next}")?)
+    }
+}
+
+/// Answers `endpoint TEXT` with what the endpoint of a leg comes to.
+pub(crate) fn tell_endpoint(alloc: Global, text: &str, answer: &mut Answer) -> Result<(), Memory> {
+    let endpoint = Endpoint::of(alloc, &bytes_of(alloc, text)?)?;
+    match &endpoint {
+        Endpoint::Loopback { exten, context } => answer.named("Loopback", &[exten, context]),
+        Endpoint::Dead { cause } => answer.line(&[b"Dead ", cause.name().as_bytes()]),
+    }
+}
+
+/// Answers `one-leg TEXT` with whether a dial string is one leg without variables.
+pub(crate) fn tell_one_leg(alloc: Global, text: &str, answer: &mut Answer) -> Result<(), Memory> {
+    let is_one = is_one_leg(&bytes_of(alloc, text)?);
+    answer.line(&[format!(in alloc; "{is_one}")?.as_bytes()])
+}
+
+// The origination of a job, of these groups and legs, with the deadline 60.
+fn orig_of(plans: LegPlans, legs: OrigLegs) -> Orig {
+    Orig::new(Owner::Job(1), plans, legs, 60)
+}
+
+// So many groups of one leg each.
+fn plans(alloc: Global, count: u64) -> Result<LegPlans, Memory> {
+    let mut plans = LegPlans::new(alloc);
+    for _ in 0..count {
+        let endpoint = Txt::of(alloc, b"loopback/1001")?;
+        let pairs = Headers::new(alloc);
+        let mut group = LegGroup::new(alloc);
+        group.push(LegPlan { endpoint, pairs })?;
+        plans.push(group)?;
+    }
+    Ok(plans)
+}
+
+fn legs_of(alloc: Global, words: &str) -> Result<OrigLegs, Memory> {
+    let mut legs = OrigLegs::new(alloc);
+    for word in words.split_whitespace() {
+        legs.push(leg_of(alloc, word)?)?;
+    }
+    Ok(legs)
+}
+
+// The leg of a word.
+fn leg_of(alloc: Global, word: &str) -> Result<OrigLeg, Memory> {
+    let mut leg = OrigLeg::ringing(0, Txt::of(alloc, b"A")?, None);
+    for part in word.split(',') {
+        let (name, value) = part.split_once('=').unwrap_or((part, ""));
+        match name {
+            "slot" => leg.slot = Some(slot_of(value)),
+            "until" => leg.deadline = Some(number_of(value)),
+            "answered" => leg.answered = Some(number_of(value)),
+            "died" => leg.died = Some(number_of(value)),
+            "of" => leg.cause = Cause::of_name(value.as_bytes()),
+            _ => {}
+        }
+    }
+    Ok(leg)
+}
+
+fn slot_of(word: &str) -> u16 {
+    u16::try_from(number_of(word)).unwrap_or(u16::MAX)
+}
+
+fn position_of(word: &str) -> u32 {
+    u32::try_from(number_of(word)).unwrap_or(u32::MAX)
+}
+
+// The cause of a name, or NORMAL_CLEARING.
+fn cause_of(name: &str) -> Cause {
+    Cause::of_name(name.as_bytes()).unwrap_or(Cause::NormalClearing)
+}

@@ -1,0 +1,42 @@
+//! Answers the cases of its input, a line each: `api echo hi`, `check <document/>`, `run play f`. It prints each line as it is, and behind a
+//! case its answer, indented.
+#![tactic(auto)]
+
+mod answer;
+mod applications;
+mod channels;
+mod commands;
+mod desk;
+mod disk;
+mod documents;
+mod frames;
+mod hunts;
+mod legs;
+mod links;
+mod long;
+mod names;
+mod plays;
+mod runs;
+mod table;
+mod variables;
+mod words;
+
+use desk::Desk;
+use fs_ports::{DiskFiles, Sent, Stdio, send_all};
+use std::io::{self, ErrorKind};
+
+fn main(rt: HostRuntime) -> io::Result<()> {
+    let alloc = rt.alloc();
+    let mut out = Stdio::new(io::empty(), rt.stdout());
+    let disk = DiskFiles::new(alloc, rt);
+    let mut desk = Desk::new(alloc, disk).map_err(|_| ErrorKind::OutOfMemory)?;
+    for line in rt.lines(alloc) {
+        let answer = desk
+            .answered(line?.as_str())
+            .map_err(|_| ErrorKind::OutOfMemory)?;
+        if send_all(&mut out, answer.as_bytes()) != Sent::All {
+            return Err(ErrorKind::WriteZero.into());
+        }
+    }
+    Ok(())
+}

@@ -389,7 +389,7 @@ handed_unfailed config entries conn limit run unfailed =
 
 -- ---- what the switch was configured by
 
-config_step : (s : Switch) (entry : Entry) → (step s entry).state.config ≡ s.config
+pub config_step : (s : Switch) (entry : Entry) → (step s entry).state.config ≡ s.config
 unfolding step
 config_step s entry = acted_config entry.act (advanced entry.moment s)
 
@@ -399,16 +399,6 @@ config_run s [] = refl
 config_run s (entry ∷ entries) = config_run (step s entry).state entries ∙ config_step s entry
 
 -- ---- single steps behind a run
-
--- an entry that is over gives nothing more
-step_gives_none : (s : Switch) (entry : Entry) → (step s entry).state.given ≡ []
-unfolding step
-step_gives_none s entry = refl
-
--- behind entries nothing is left that they gave
-none_given_behind : (s : Switch) (entries : List Entry) → s.given ≡ [] → (run_from s entries).given ≡ []
-none_given_behind s [] none = none
-none_given_behind s (entry ∷ entries) none = none_given_behind (step s entry).state entries (step_gives_none s entry)
 
 -- nothing waits for a connection that is closed
 pub closed_waits_not : (config : Configuration) (entries : List Entry) (conn : ℕ) → config.settings.journal_limit ≤ 1073741824 → IsRunFrom (empty config) entries →

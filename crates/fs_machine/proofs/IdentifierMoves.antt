@@ -47,7 +47,7 @@ module _ (x : Seen) where
   front_numbers more t u same h = subst (λ (f : Front). Numbers more x (seen_in f)) (sym same) h
     where
       seen_in : Front → Seen
-      seen_in f = record { channels = f.channels; identifiers = f.identifiers; config = f.config; cost = f.cost }
+      seen_in f = record { channels = f.channels; identifiers = f.identifiers; config = f.config }
 
   hung_numbers : (more : ℕ) (cause : Cause) (slot : ℕ) (s : Switch) → Numbers more x (seen s) → Numbers more x (seen (hung cause slot s))
   hung_numbers more cause slot s h =

@@ -2,15 +2,12 @@
 use Rattle.std.proofs.Common.{◌≡◌, ◌≢◌, ℕ, Bool, true, false, List, length, Option, None, Some, unwrap_or, option_and_then, ◌⊎◌, inl, inr, refl, sym, ap, subst, ◌∙◌}
 use Rattle.std.proofs.lemmas.Bool.{cases_eq}
 use Rattle.std.proofs.lemmas.Option.{same_Some, none-some}
-use Rattle.fs_text.specs.declared.causes.Cause.{Cause}
 use Rattle.fs_vars.specs.Pairs.{Text}
-use Rattle.fs_doc.specs.Reading.{Configuration}
 use Rattle.fs_api.specs.declared.api.Winner.{Winner}
 use Rattle.fs_orig.specs.declared.leg.OrigLeg.{OrigLeg}
 use Rattle.fs_places.specs.declared.numbered.Numbered.{Numbered}
 use Rattle.fs_places.specs.Places.{held_in}
 use Rattle.fs_places.specs.Rows.{has_number, place_of, row_of, with_row}
-use Rattle.fs_state.specs.Counts.{Tallies}
 use Rattle.fs_state.specs.Queues.{Frames}
 use Rattle.fs_state.specs.declared.conn.Conn.{Conn}
 use Rattle.fs_state.specs.declared.conn.Phase.TheVariants.{Fresh}
@@ -25,7 +22,7 @@ use Rattle.fs_machine.specs.Texts.{made_text, failed_text}
 use Rattle.fs_machine.specs.Connections.{conn_changed_from, conn_changed, admitted, parted, owed_since, not_owed, phase_of, phase_at}
 use Rattle.fs_machine.specs.Questions.{parting_of, owed_of}
 use Rattle.fs_machine.specs.Originations.{Made, leg_made, won}
-use Rattle.fs_machine.specs.Jobs.{owing, ended, orig_begun, tried_by_job, originate_begun, failed, job_done}
+use Rattle.fs_machine.specs.Jobs.{owing, ended, orig_begun, tried_by_job, originate_begun, job_done}
 use Rattle.fs_machine.specs.Commands.{Command, commanded}
 use Rattle.fs_machine.specs.Work.{worked}
 use Rattle.fs_machine.specs.Step.{is_closed}
@@ -34,22 +31,19 @@ use Rattle.fs_machine.proofs.Kept.{Fact, KeptByCalls, KeptByJobs, LeavesBy, Kept
 use Rattle.fs_machine.proofs.RestLemmas.{Rest, rest_of, calls_by_rest, leg_made_rest, worked_rest, won_rest}
 use Rattle.fs_machine.proofs.ActWalk.{job_kept, commanded_kept}
 
--- the connections of a switch, with what waits for them and what numbers them, and what was counted and paid before the entry in hand
+-- the connections of a switch, with what waits for them and what numbers them
 pub record Sockets : Type 0 where
-  pub config : Configuration
   pub conns : List (Option (Numbered Conn))
   pub queues : List Frames
   pub drawn : ℕ
-  pub cost : ℕ
-  pub counts : Tallies
 
 abbrev pub sockets_of : Switch → Sockets
-sockets_of s = record { config = s.config; conns = s.conns; queues = s.queues; drawn = s.drawn.conns; cost = s.cost; counts = s.counts }
+sockets_of s = record { conns = s.conns; queues = s.queues; drawn = s.drawn.conns }
 
 -- the rest tells them
 sockets_same : (s t : Switch) → rest_of t ≡ rest_of s → sockets_of t ≡ sockets_of s
 sockets_same s t same =
-    ap (λ (r : Rest). let sockets : Sockets = record { config = r.config; conns = r.conns; queues = r.queues; drawn = r.conns_drawn; cost = r.cost; counts = r.counts } in sockets) same
+    ap (λ (r : Rest). let sockets : Sockets = record { conns = r.conns; queues = r.queues; drawn = r.conns_drawn } in sockets) same
 
 -- a connection that is there, and is gone
 abbrev pub is_shut : Option (Numbered Conn) → Bool
@@ -78,26 +72,20 @@ hears_same old new same heard = subst Hears (sym same) heard
 -- The connections of one switch stand where those of another do, and the same waits for them. All settle but the one, if there is one, whose
 -- act it is. No input ends, unless one may.
 pub record Keeps (who : Option ℕ) (may_end : Bool) (s t : Switch) : Type 0 where
-  pub config : t.config ≡ s.config
   pub numbers : SameNumbers s.conns t.conns
   pub places : length t.conns ≡ length s.conns
   pub queues : t.queues ≡ s.queues
   pub drawn : t.drawn.conns ≡ s.drawn.conns
-  pub cost : t.cost ≡ s.cost
-  pub counts : t.counts ≡ s.counts
   pub opened : AreOpen s.conns → AreOpen t.conns
   pub others : (number : ℕ) → (who ≡ Some number → ⊥) → Settles (conn_of s number) (conn_of t number)
   pub hears : may_end ≡ false → (number : ℕ) → Hears (conn_of s number) → Hears (conn_of t number)
 
 pub keeps_same : {who : Option ℕ} {may_end : Bool} → (s t : Switch) → sockets_of t ≡ sockets_of s → Keeps who may_end s t
 keeps_same s t same = record {
-  config = ap (λ (x : Sockets). x.config) same;
   numbers = λ number place. ap (λ (x : Sockets). has_number number (held_in x.conns place)) same;
   places = ap (λ (x : Sockets). length x.conns) same;
   queues = ap (λ (x : Sockets). x.queues) same;
   drawn = ap (λ (x : Sockets). x.drawn) same;
-  cost = ap (λ (x : Sockets). x.cost) same;
-  counts = ap (λ (x : Sockets). x.counts) same;
   opened = λ each place. ap (λ (x : Sockets). is_shut (held_in x.conns place)) same ∙ each place;
   others = λ number apart. settles_same (conn_of s number) (conn_of t number) (ap (λ (x : Sockets). row_of x.conns number) same);
   hears = λ none number. hears_same (conn_of s number) (conn_of t number) (ap (λ (x : Sockets). row_of x.conns number) same);
@@ -108,13 +96,10 @@ keeps_refl s = keeps_same s s refl
 
 pub keeps_trans : {who : Option ℕ} {may_end : Bool} → (s t u : Switch) → Keeps who may_end s t → Keeps who may_end t u → Keeps who may_end s u
 keeps_trans s t u first second = record {
-  config = second.config ∙ first.config;
   numbers = λ number place. second.numbers number place ∙ first.numbers number place;
   places = second.places ∙ first.places;
   queues = second.queues ∙ first.queues;
   drawn = second.drawn ∙ first.drawn;
-  cost = second.cost ∙ first.cost;
-  counts = second.counts ∙ first.counts;
   opened = λ each. second.opened (first.opened each);
   others = λ number apart. record {
     phase = (second.others number apart).phase ∙ (first.others number apart).phase;
@@ -170,13 +155,10 @@ conn_changed_keeps {who} {may_end} change stays hears number settles s = by (con
     by : (found : Option Conn) → conn_of s number ≡ found → Keeps who may_end s (conn_changed_from change number found s)
     by None is = keeps_refl s
     by (Some c) is = record {
-      config = refl;
       numbers = numbers-with_row s.conns number (change c);
       places = length_put_at s.conns (Some (record { number = number; held = change c })) (place_of s.conns number);
       queues = refl;
       drawn = refl;
-      cost = refl;
-      counts = refl;
       opened = λ each. each_put_at (λ held. is_shut held ≡ false) s.conns (Some (record { number = number; held = change c })) (place_of s.conns number) each
           (stays c (row_open s.conns number c each is));
       others = λ other apart. row_holds Settles settles_same s.conns number c (change c) is other (λ same. settles (λ own. apart (own ∙ ap Some same)) c);

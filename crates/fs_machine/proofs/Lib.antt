@@ -14,6 +14,7 @@ pub mod Walk
 pub mod RestLemmas
 pub mod FrontLemmas
 pub mod ActWalk
+pub mod ConstantMoves
 pub mod KeepLemmas
 pub mod WaitingLemmas
 pub mod OrderLemmas

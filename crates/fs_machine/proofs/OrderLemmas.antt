@@ -1,5 +1,5 @@
 -- Behind the entries of a run the connections and their queues fit together.
-use Rattle.std.proofs.Common.{◌≡◌, ℕ, zero, suc, ◌+◌, ◌*◌, ◌-◌, ◌^◌, ◌<◌, ◌≤◌, min, Bool, true, false, List, [], ◌∷◌, length, replicate, get_or, Option, None, refl, sym, ap, subst, ◌∙◌, arith}
+use Rattle.std.proofs.Common.{◌≡◌, ℕ, ◌+◌, ◌*◌, ◌-◌, ◌^◌, ◌<◌, ◌≤◌, min, Bool, true, false, List, [], ◌∷◌, length, Option, None, refl, sym, ap, subst, ◌∙◌, arith}
 use Rattle.std.proofs.lemmas.Bool.{both_ways, ltb-false}
 use Rattle.std.proofs.lemmas.List.{length-replicate}
 use Rattle.fs_frame.specs.Block.{line_of}
@@ -25,6 +25,8 @@ use Rattle.fs_machine.specs.Commands.{command_of, commanded}
 use Rattle.fs_machine.specs.Step.{refused_where, refused_act, refusal_of, acted, step}
 use Rattle.fs_machine.specs.Runs.{run_from, IsRunFrom}
 use Rattle.fs_machine.proofs.RowLemmas.{nowhere}
+use Rattle.fs_machine.proofs.HeldLemmas.{all_alike, nothing_held}
+use Rattle.fs_machine.proofs.ConstantMoves.{Constants, acted_constants}
 use Rattle.fs_machine.proofs.KeepLemmas.{is_shut, keeps_same, parted_keeps, work_keeps, commanded_keeps, job_done_keeps}
 use Rattle.fs_machine.proofs.WaitingLemmas.{Ordered, keeps_ordered, keeps_place, closed_ordered, taken_ordered, without_ordered, arrived_ordered, arrived_gone, without_gone}
 use Rattle.fs_machine.proofs.FrameLemmas.{some_cost}
@@ -45,34 +47,13 @@ acted_ordered (Job number) s ordered room = keeps_ordered s (job_done number s) 
 
 -- no act pays or counts by itself, nor changes what the switch was configured by
 pub acted_cost : (act : Act) (s : Switch) → (acted act s).state.cost ≡ s.cost
-acted_cost Arrive s = refl
-acted_cost (Command conn block) s = (commanded_keeps conn (command_of (line_of block)) s).cost
-acted_cost (Take conn) s = refl
-acted_cost (Close conn EndOfInput) s = (parted_keeps parting.EndOfInput conn s).cost
-acted_cost (Close conn Sent) s = refl
-acted_cost (Close conn Failed) s = refl
-acted_cost (Work slot) s = (work_keeps slot s).cost
-acted_cost (Job number) s = (job_done_keeps number s).cost
+acted_cost act s = ap (λ (c : Constants). c.cost) (acted_constants act s)
 
 pub acted_config : (act : Act) (s : Switch) → (acted act s).state.config ≡ s.config
-acted_config Arrive s = refl
-acted_config (Command conn block) s = (commanded_keeps conn (command_of (line_of block)) s).config
-acted_config (Take conn) s = refl
-acted_config (Close conn EndOfInput) s = (parted_keeps parting.EndOfInput conn s).config
-acted_config (Close conn Sent) s = refl
-acted_config (Close conn Failed) s = refl
-acted_config (Work slot) s = (work_keeps slot s).config
-acted_config (Job number) s = (job_done_keeps number s).config
+acted_config act s = ap (λ (c : Constants). c.config) (acted_constants act s)
 
 pub acted_counts : (act : Act) (s : Switch) → (acted act s).state.counts ≡ s.counts
-acted_counts Arrive s = refl
-acted_counts (Command conn block) s = (commanded_keeps conn (command_of (line_of block)) s).counts
-acted_counts (Take conn) s = refl
-acted_counts (Close conn EndOfInput) s = (parted_keeps parting.EndOfInput conn s).counts
-acted_counts (Close conn Sent) s = refl
-acted_counts (Close conn Failed) s = refl
-acted_counts (Work slot) s = (work_keeps slot s).counts
-acted_counts (Job number) s = (job_done_keeps number s).counts
+acted_counts act s = ap (λ (c : Constants). c.counts) (acted_constants act s)
 
 -- at most one number more is drawn
 abbrev pub IsNext : ℕ → ℕ → Type 0
@@ -173,16 +154,6 @@ run_orderly s (entry ∷ entries) orderly run = run_orderly (step s entry).state
 
 -- ---- the empty switch
 
--- what is repeated stands at each place
-all_alike : {A : Type 0} → (count place : ℕ) (a : A) → get_or (replicate count a) place a ≡ a
-all_alike zero place a = refl
-all_alike (suc count) zero a = refl
-all_alike (suc count) (suc place) a = all_alike count place a
-
-none_held : (T : Type 0) (count place : ℕ) → held_in (no_places {T = T} count) place ≡ None
-unfolding no_places
-none_held T count place = all_alike {A = Option T} count place None
-
 none_waits : (count place : ℕ) → queue_at (no_queues count) place ≡ []
 unfolding no_queues
 none_waits count place = all_alike {A = Frames} count place []
@@ -194,16 +165,16 @@ as_many T count = length-replicate {A = Frames} count [] ∙ sym (length-replica
 
 -- no connection is there
 pub empty_nowhere : (config : Configuration) (conn : ℕ) → place_of (empty config).conns conn ≡ None
-empty_nowhere config conn = nowhere (empty config).conns conn (λ place. ap (has_number conn) (none_held (Numbered Conn) config.settings.max_connections place))
+empty_nowhere config conn = nowhere (empty config).conns conn (λ place. ap (has_number conn) (nothing_held (Numbered Conn) config.settings.max_connections place))
 
 pub empty_waits : (config : Configuration) (conn : ℕ) → waiting_for (empty config) conn ≡ []
 empty_waits config conn = ap (waiting_at (empty config).queues) (empty_nowhere config conn)
 
 empty_ordered : (config : Configuration) → Ordered (empty config)
 empty_ordered config = record {
-  distinct = λ number p q first second. absurd (both_ways (has_number number (held_in (empty config).conns p)) (ap (has_number number) (none_held (Numbered Conn) config.settings.max_connections p)) first);
-  within = λ number place stands. absurd (both_ways (has_number number (held_in (empty config).conns place)) (ap (has_number number) (none_held (Numbered Conn) config.settings.max_connections place)) stands);
-  opened = λ place. ap is_shut (none_held (Numbered Conn) config.settings.max_connections place);
+  distinct = λ number p q first second. absurd (both_ways (has_number number (held_in (empty config).conns p)) (ap (has_number number) (nothing_held (Numbered Conn) config.settings.max_connections p)) first);
+  within = λ number place stands. absurd (both_ways (has_number number (held_in (empty config).conns place)) (ap (has_number number) (nothing_held (Numbered Conn) config.settings.max_connections place)) stands);
+  opened = λ place. ap is_shut (nothing_held (Numbered Conn) config.settings.max_connections place);
   places = as_many (Numbered Conn) config.settings.max_connections;
   quiet = λ place free. none_waits config.settings.max_connections place;
 }

@@ -21,7 +21,6 @@ use Rattle.fs_machine.specs.declared.entry.Closing.{Closing}
 use Rattle.fs_machine.specs.declared.entry.Closing.TheVariants as closing
 use Rattle.fs_machine.specs.declared.jobs.Attempt.{Attempt}
 use Rattle.fs_machine.specs.declared.originations.Caller.{Caller}
-use Rattle.fs_machine.specs.declared.refusal.Refusal.{Refusal}
 use Rattle.fs_machine.specs.declared.refusal.Refusal.TheVariants as refusal
 use Rattle.fs_machine.specs.Texts.{made_text, failed_text}
 use Rattle.fs_machine.specs.Connections.{phase_of, phase_at, conn_changed, admitted, parted}
@@ -29,22 +28,18 @@ use Rattle.fs_machine.specs.Questions.{owed_of, owed_to}
 use Rattle.fs_machine.specs.Originations.{won}
 use Rattle.fs_machine.specs.Jobs.{owing, ended, originate_begun}
 use Rattle.fs_machine.specs.Commands.{command_of}
-use Rattle.fs_machine.specs.Step.{reads, busy, refused_where, refused_act, closed_by, acted}
+use Rattle.fs_machine.specs.Step.{reads, busy, refused_act, closed_by, acted}
 use Rattle.fs_machine.specs.Owed.{PartsIn}
 use Rattle.fs_machine.proofs.TableLemmas.{something_there}
 use Rattle.fs_machine.proofs.Kept.{Fact, KeptByCalls, DoesJob, KeptByJobs, KeptByCommands}
 use Rattle.fs_machine.proofs.Walk.{worked_kept}
 use Rattle.fs_machine.proofs.RestLemmas.{rest_of, calls_by_rest, does_same, won_rest}
+use Rattle.fs_machine.proofs.OrderLemmas.{none_refused}
 use Rattle.fs_machine.proofs.ActWalk.{job_kept, commanded_kept}
 use Rattle.fs_machine.proofs.OwedBooks.{Books, books_of, books_same, Sound, Goes, Few}
 use Rattle.fs_machine.proofs.OwedJobs.{near_self, parts_of, goes_conn, goes_gone, goes_arrived, goes_sleep, goes_originate, goes_woken, goes_over}
 
 -- ---- refusals
-
--- what is not refused passes each test
-pub not_refused : (test : Bool) (why : Refusal) (otherwise : Option Refusal) → refused_where test why otherwise ≡ None → (test ≡ false) × (otherwise ≡ None)
-not_refused true why otherwise is = absurd (something_there why is)
-not_refused false why otherwise is = (refl, is)
 
 not_busy : (owed : Option ℕ) → busy owed ≡ None → owed ≡ None
 not_busy None is = refl
@@ -149,7 +144,7 @@ closed_goes closing.Failed conn s h = goes_gone (books_of s) conn s h
 pub goes_acted : (what : Act) (s : Switch) → refused_act what s ≡ None → Few (books_of s) → Sound (books_of s) → Goes (books_of s) (books_of (acted what s).state)
 goes_acted act.Arrive s accepts few h = goes_arrived s few h
 goes_acted (act.Command conn block) s accepts few h =
-    let passed = not_refused (not (reads (phase_at s conn))) refusal.Gone (busy (owed_to s conn)) accepts in
+    let passed = none_refused (not (reads (phase_at s conn))) refusal.Gone (busy (owed_to s conn)) accepts in
     let giver = may_owe s conn (not-false (reads (phase_at s conn)) passed.0) (not_busy (owed_to s conn) passed.1) in
     commanded_kept conn (GoesFrom (books_of s)) (calls_go (books_of s)) (commands_go (books_of s) conn giver.0 giver.1.there giver.1.none few h) (command_of (line_of block)) {s = s} refl
 goes_acted (act.Take conn) s accepts few h = goes_spent (books_of s) h s refl

@@ -37,9 +37,6 @@ near_same old new conns jobs origs cost limit = record { conns = omega (arith, c
 pub near_self : (b : Books) → Near b b
 near_self b = near_same b b refl refl refl refl refl
 
-pub goes_same : (old new : Books) → new ≡ old → Sound old → Goes old new
-goes_same old new same h = subst (λ (b : Books). Goes old b) (sym same) (record { sound = h; near = near_self old })
-
 -- no number more is drawn, and the cost stays
 goes_by : (mid b new : Books) → Linked new.conns new.jobs new.conns_drawn new.jobs_drawn → Tries new.jobs new.origs new.origs_drawn → Goes b mid →
     new.conns_drawn ≡ mid.conns_drawn → new.jobs_drawn ≡ mid.jobs_drawn → new.origs_drawn ≡ mid.origs_drawn → new.cost ≡ mid.cost → new.limit ≡ mid.limit → Goes b new

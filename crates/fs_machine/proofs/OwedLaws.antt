@@ -17,18 +17,18 @@ use Rattle.fs_state.specs.Switch.{Switch, empty, orig_of, job_of, conn_of, advan
 use Rattle.fs_state.proofs.SlotLemmas.{no_places_length}
 use Rattle.fs_machine.specs.declared.due.DueActor.TheVariants as actor
 use Rattle.fs_machine.specs.declared.entry.Entry.{Entry}
-use Rattle.fs_machine.specs.declared.refusal.Refusal.TheVariants as refusal
-use Rattle.fs_machine.specs.Entries.{cost_of, is_full}
+use Rattle.fs_machine.specs.Entries.{cost_of}
 use Rattle.fs_machine.specs.Questions.{owed_of, owed_to, owes}
 use Rattle.fs_machine.specs.Due.{orig_due, work_due, job_due, is_now, later_of, lesser, least_of, row_moment, due_number, due_slot, due_job, first_chan_moment, first_job_moment, actor_or, later_or_never, due_among_all, next_due}
-use Rattle.fs_machine.specs.Step.{acted, step, refused_act, refusal_of}
+use Rattle.fs_machine.specs.Step.{acted, step, refusal_of}
 use Rattle.fs_machine.specs.Runs.{run_from, IsRunFrom}
 use Rattle.fs_machine.specs.Owed.{HasOneJob, AreOwed}
 use Rattle.fs_machine.proofs.TableLemmas.{nothing_there, something_there, one_there, none_held, HasRow, row_is, row_found, row_of_held, row_of_number, number_at, numbers_in, numbers_held, taken_in, one_if, taken_numbers, none_taken}
 use Rattle.fs_machine.proofs.OwedBooks.{Books, books_of, tried_by, Numbers, HasJob, HasNumber, trying_in, Sound, Goes, Few, Paid}
 use Rattle.fs_machine.proofs.FrameLemmas.{some_cost}
 use Rattle.fs_machine.proofs.OwedJobs.{parts_of}
-use Rattle.fs_machine.proofs.OwedActs.{not_refused, goes_acted}
+use Rattle.fs_machine.proofs.OrderLemmas.{not_full, not_refused}
+use Rattle.fs_machine.proofs.OwedActs.{goes_acted}
 
 -- ---- runs
 
@@ -86,10 +86,9 @@ holds_empty config small = record {
 
 -- an entry that is not refused keeps them
 pub holds_step : (s : Switch) (entry : Entry) → refusal_of s entry ≡ None → Holds (books_of s) → Holds (books_of (step s entry).state)
-unfolding step refusal_of
+unfolding step
 holds_step s entry accepts h =
-    let passed = not_refused (is_full s) (refusal.JournalFull s.cost s.config.settings.journal_limit) (refused_act entry.act (advanced entry.moment s)) accepts in
-    let room : s.cost + 65600 ≤ s.config.settings.journal_limit = ltb-false s.config.settings.journal_limit (s.cost + 65600) passed.0 in
+    let room : s.cost + 65600 ≤ s.config.settings.journal_limit = ltb-false s.config.settings.journal_limit (s.cost + 65600) (not_full s entry accepts) in
     let small : s.config.settings.journal_limit ≤ 1073741824 = h.paid.limit in
     let paid_conns : 64 * s.drawn.conns ≤ s.cost = h.paid.conns in
     let paid_jobs : 64 * s.drawn.jobs ≤ s.cost = h.paid.jobs in
@@ -99,7 +98,7 @@ holds_step s entry accepts h =
       jobs = omega (arith, room, small, paid_jobs);
       origs = omega (arith, room, small, paid_origs);
     } in
-    let goes : Goes (books_of s) (books_of (acted entry.act (advanced entry.moment s)).state) = goes_acted entry.act (advanced entry.moment s) passed.1 few h.sound in
+    let goes : Goes (books_of s) (books_of (acted entry.act (advanced entry.moment s)).state) = goes_acted entry.act (advanced entry.moment s) (not_refused s entry accepts) few h.sound in
     after (acted entry.act (advanced entry.moment s)).state goes room small paid_conns paid_jobs paid_origs (some_cost entry.act)
   where
     after : (t : Switch) → Goes (books_of s) (books_of t) → s.cost + 65600 ≤ s.config.settings.journal_limit → s.config.settings.journal_limit ≤ 1073741824 →

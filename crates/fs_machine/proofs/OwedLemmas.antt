@@ -7,7 +7,8 @@ use Rattle.fs_places.specs.Places.{held_in, with_held}
 use Rattle.fs_state.specs.declared.conn.Conn.{Conn}
 use Rattle.fs_state.specs.declared.job.Job.{Job}
 use Rattle.fs_machine.specs.Owed.{Parts}
-use Rattle.fs_machine.proofs.TableLemmas.{nothing_there, same_there, held_within, IsWrittenOrKept, written_or_kept, kept_without, held_here, held_there, not_free, one_there, one_if, taken_in}
+use Rattle.fs_machine.proofs.HeldLemmas.{held_here, held_within}
+use Rattle.fs_machine.proofs.TableLemmas.{nothing_there, same_there, IsWrittenOrKept, written_or_kept, kept_without, still_there, not_free, one_there, one_if, taken_in}
 use Rattle.fs_machine.proofs.OwedBooks.{Conns, Jobs, Numbers, PartEach, HasJob, Owes, Linked, tried_by, tried_in, tries, trying_in, HasNumber, Tries}
 
 -- ---- numbers
@@ -168,7 +169,7 @@ owes_begun conns jobs drawn p q old new job there none same now within free for 
     owed k x since (inl here) o = (q, job, held_here jobs q (Some job) within, for ∙ sym (number_of x here.1))
     owed k x since (inr kept) o =
         let had : HasJob jobs x.number = h.owed k x since kept.1 o in
-        (had.0, had.1, held_there jobs q (Some job) had.0 had.1 (not_free jobs q had.0 had.1 free had.2) had.2, had.3)
+        (had.0, had.1, still_there jobs q (Some job) had.0 had.1 (not_free jobs q had.0 had.1 free had.2) had.2, had.3)
 
     owes : (r : ℕ) (j : Numbered Job) (k : ℕ) (x : Numbered Conn) → IsWrittenOrKept jobs q (Some job) r j →
         IsWrittenOrKept conns p (Some new) k x → x.number ≡ j.held.conn → x.held.owed ≢ None
@@ -208,7 +209,7 @@ owes_ended conns jobs drawn p q old new job stands there for same none n h = rec
         let is : had.0 ≡ q → job ≡ had.1 = λ at. one_there jobs q had.0 job had.1 stands had.2 at in
         let number : had.0 ≡ q → x.number ≡ old.number = λ at. sym had.3 ∙ (sym (ap (λ (j : Numbered Job). j.held.conn) (is at)) ∙ sym for) in
         let other : had.0 ≢ q = λ at. kept.0 (n.apart k p x old kept.1 there (number at)) in
-        (had.0, had.1, held_there jobs q None had.0 had.1 other had.2, had.3)
+        (had.0, had.1, still_there jobs q None had.0 had.1 other had.2, had.3)
 
     owes : (r : ℕ) (j : Numbered Job) (k : ℕ) (x : Numbered Conn) → (r ≢ q) × (held_in jobs r ≡ Some j) →
         IsWrittenOrKept conns p (Some new) k x → x.number ≡ j.held.conn → x.held.owed ≢ None
@@ -231,7 +232,7 @@ owes_dropped conns jobs drawn q job stands gone h = record {
         let had : HasJob jobs x.number = h.owed k x since e o in
         let is : had.0 ≡ q → job ≡ had.1 = λ at. one_there jobs q had.0 job had.1 stands had.2 at in
         let other : had.0 ≢ q = λ at. gone k x e (sym had.3 ∙ sym (ap (λ (j : Numbered Job). j.held.conn) (is at))) in
-        (had.0, had.1, held_there jobs q None had.0 had.1 other had.2, had.3)
+        (had.0, had.1, still_there jobs q None had.0 had.1 other had.2, had.3)
 
 -- ---- connections and jobs
 
@@ -391,7 +392,7 @@ tries_begun jobs origs drawn q p job within free orig_within orig_free new h = r
     there r j number (inl begun) t = (p, held_here origs p (Some (drawn + 1)) orig_within ∙ ap Some (sym (number_of j number begun.1 t)))
     there r j number (inr before) t =
         let had : HasNumber origs number = h.there r j number before.1 t in
-        (had.0, held_there origs p (Some (drawn + 1)) had.0 number (not_free origs p had.0 number orig_free had.1) had.1)
+        (had.0, still_there origs p (Some (drawn + 1)) had.0 number (not_free origs p had.0 number orig_free had.1) had.1)
 
     alone : (r t : ℕ) (x z : Numbered Job) (number : ℕ) → IsWrittenOrKept jobs q (Some job) r x →
         IsWrittenOrKept jobs q (Some job) t z → tried_by x.held.work ≡ Some number → tried_by z.held.work ≡ Some number → r ≡ t
@@ -454,7 +455,7 @@ tries_ended jobs origs drawn q p number job stands tried orig_stands h = record 
         let had : HasNumber origs other = h.there r j other before.1 t in
         let is : had.0 ≡ p → number ≡ other = λ at. one_there origs p had.0 number other orig_stands had.1 at in
         let elsewhere : had.0 ≢ p = λ at. before.0 (h.alone r q j job number before.1 stands (t ∙ ap Some (sym (is at))) tried) in
-        (had.0, held_there origs p None had.0 other elsewhere had.1)
+        (had.0, still_there origs p None had.0 other elsewhere had.1)
 
     fewer : taken_in (with_held origs p None) ≤ trying_in (with_held jobs q None)
     fewer =

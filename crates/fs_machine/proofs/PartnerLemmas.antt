@@ -143,23 +143,6 @@ two_closed a b P forth back c d named is = by (one_of c a (b ∷ []) is)
         subst (λ n. among n (a ∷ b ∷ []) ≡ true) other (among_later b a (b ∷ []) (among_first b []))
     by (inr later) = second (one_of c b [] later)
 
--- two that name none any more, where nothing else changed
-pub not_either : (a b : ℕ) (P Q : ℕ → Option ℕ) (L M : ℕ → Bool) → Q a ≡ None → Q b ≡ None → ((q : ℕ) → (q ≡ a → ⊥) → (q ≡ b → ⊥) → Q q ≡ P q) →
-    ((q : ℕ) → (q ≡ a → ⊥) → (q ≡ b → ⊥) → M q ≡ L q) → CutsAll (a ∷ b ∷ []) P Q L M
-not_either a b P Q L M none_a none_b partners lives = record {
-  here = λ q is. here q (one_of q a (b ∷ []) is);
-  partners = λ q isnt. let rest = none_of q a (b ∷ []) isnt in partners q rest.0 (none_of q b [] rest.1).0;
-  lives = λ q isnt. let rest = none_of q a (b ∷ []) isnt in lives q rest.0 (none_of q b [] rest.1).0;
-}
-  where
-    second : (q : ℕ) → (q ≡ b) ⊎ (false ≡ true) → Q q ≡ None
-    second q (inl same) = ap Q same ∙ none_b
-    second q (inr never) = absurd (true≢false (sym never))
-
-    here : (q : ℕ) → (q ≡ a) ⊎ (among q (b ∷ []) ≡ true) → Q q ≡ None
-    here q (inl same) = ap Q same ∙ none_a
-    here q (inr later) = second q (one_of q b [] later)
-
 -- ---- two slots are joined
 
 -- two that named none, and were named by none, name each other

@@ -354,7 +354,7 @@ within-without_row rows number bound within = by (place_of rows number)
 -- ---- a new thing
 
 -- what is none is None
-is_nothing : {T : Type 0} → (held : Option T) → is_none held ≡ true → held ≡ None
+pub is_nothing : {T : Type 0} → (held : Option T) → is_none held ≡ true → held ≡ None
 is_nothing None is = refl
 is_nothing (Some x) is = absurd (cc)
 

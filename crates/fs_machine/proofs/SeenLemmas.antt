@@ -1,5 +1,5 @@
 -- What of a switch tells identifiers, and what becomes of it.
-use Rattle.std.proofs.Common.{◌≡◌, ℕ, ◌+◌, ◌-◌, ◌<◌, ◌≤◌, ◌^◌, min, List, length, Option, None, Some, option_map, refl, sym, ap, ◌∙◌, arith}
+use Rattle.std.proofs.Common.{◌≡◌, ℕ, ◌+◌, ◌-◌, ◌<◌, ◌≤◌, ◌^◌, min, List, length, Option, None, Some, option_map, sym, ap, ◌∙◌, arith}
 use Rattle.fs_text.specs.CoreId.{uuid}
 use Rattle.fs_vars.specs.Pairs.{Text}
 use Rattle.fs_doc.specs.Reading.{Configuration}
@@ -14,10 +14,9 @@ pub record Seen : Type 0 where
   pub channels : List (Option Chan)
   pub identifiers : ℕ
   pub config : Configuration
-  pub cost : ℕ
 
 abbrev pub seen : Switch → Seen
-seen s = record { channels = s.channels; identifiers = s.drawn.identifiers; config = s.config; cost = s.cost }
+seen s = record { channels = s.channels; identifiers = s.drawn.identifiers; config = s.config }
 
 -- with something else in a slot
 abbrev pub put : ℕ → Option Chan → Seen → Seen
@@ -38,19 +37,15 @@ pub record Numbers (more : ℕ) (x y : Seen) : Type 0 where
   pub names : y.identifiers < 2 ^ 62 - 1 → Named x → Named y
   pub few : y.identifiers < 2 ^ 62 - 1 → x.identifiers < 2 ^ 62 - 1
   pub most : y.identifiers ≤ x.identifiers + more
-  pub config : y.config ≡ x.config
-  pub cost : y.cost ≡ x.cost
 
 pub numbers_stay : (x : Seen) → Numbers 0 x x
-numbers_stay x = record { names = λ few h. h; few = λ few. few; most = omega arith; config = refl; cost = refl }
+numbers_stay x = record { names = λ few h. h; few = λ few. few; most = omega arith }
 
 pub numbers_then : (j k : ℕ) (x y z : Seen) → Numbers j x y → Numbers k y z → Numbers (j + k) x z
 numbers_then j k x y z first then = record {
   names = λ few h. then.names few (first.names (then.few few) h);
   few = λ few. first.few (then.few few);
   most = omega (arith, first.most, then.most);
-  config = then.config ∙ first.config;
-  cost = then.cost ∙ first.cost;
 }
 
 -- and then something that draws none
@@ -59,13 +54,11 @@ numbers_quietly more x y z first then = record {
   names = λ few h. then.names few (first.names (then.few few) h);
   few = λ few. first.few (then.few few);
   most = omega (arith, first.most, then.most);
-  config = then.config ∙ first.config;
-  cost = then.cost ∙ first.cost;
 }
 
 -- where none is drawn, at most two are
 pub numbers_fewer : (x y : Seen) → Numbers 0 x y → Numbers 2 x y
-numbers_fewer x y numbers = record { names = numbers.names; few = numbers.few; most = omega (arith, numbers.most); config = numbers.config; cost = numbers.cost }
+numbers_fewer x y numbers = record { names = numbers.names; few = numbers.few; most = omega (arith, numbers.most) }
 
 -- ---- something else stands in a slot
 
@@ -76,8 +69,6 @@ numbers_put x slot new had = record {
   names = λ few h. naming_kept x.config.settings.core_uuid x.identifiers (uuid_in x.channels) (uuid_in (with_held x.channels slot new)) had h;
   few = λ few. few;
   most = omega arith;
-  config = refl;
-  cost = refl;
 }
 
 -- the same channel, changed
@@ -109,6 +100,4 @@ numbers_new x slot new within named = record {
       (λ q other. ap (option_map uuid_of) (held_there x.channels slot q (Some new) other)) h;
   few = λ few. omega (arith, few);
   most = omega arith;
-  config = refl;
-  cost = refl;
 }

@@ -1,5 +1,5 @@
 -- In every run live channels have partners, which agree, the texts of channels keep their limits, and identifiers differ.
-use Rattle.std.proofs.Common.{◌≡◌, ℕ, ◌+◌, ◌-◌, ◌*◌, ◌<◌, ◌≤◌, ◌^◌, min, Bool, true, false, IsSome, List, [], ◌∷◌, Option, None, Some, option_and_then, option_map, refl, sym, ap, subst, ◌∙◌, arith}
+use Rattle.std.proofs.Common.{◌≡◌, ℕ, ◌+◌, ◌-◌, ◌*◌, ◌<◌, ◌≤◌, ◌^◌, min, true, IsSome, List, [], ◌∷◌, Option, None, Some, option_and_then, option_map, refl, sym, ap, subst, ◌∙◌, arith}
 use Rattle.std.proofs.lemmas.Bool.{both_ways, false≢true, ltb-false}
 use Rattle.fs_doc.specs.Reading.{Configuration}
 use Rattle.fs_chan.specs.declared.chan.Chan.{Chan}
@@ -13,15 +13,16 @@ use Rattle.fs_state.specs.Switch.{Switch, empty, chan_at, advanced, closed}
 use Rattle.fs_state.specs.Moves.{partner_of}
 use Rattle.fs_machine.specs.declared.entry.Entry.{Entry}
 use Rattle.fs_machine.specs.declared.entry.Act.{Act}
-use Rattle.fs_machine.specs.declared.refusal.Refusal.TheVariants as refusal
-use Rattle.fs_machine.specs.Entries.{cost_of, is_full}
-use Rattle.fs_machine.specs.Step.{refused_where, refused_act, refusal_of, acted, step}
+use Rattle.fs_machine.specs.Entries.{cost_of}
+use Rattle.fs_machine.specs.Step.{refusal_of, acted, step}
 use Rattle.fs_machine.specs.Runs.{run_from, IsRunFrom}
 use Rattle.fs_machine.specs.Sound.{HasPartner, PartnersAgree, HasLivePartner, LiveHasPartner, ProfilesAreShort, IdentifiersDiffer}
 use Rattle.fs_machine.proofs.IdentifierLemmas.{naming_none}
 use Rattle.fs_machine.proofs.HeldLemmas.{nothing_held}
 use Rattle.fs_machine.proofs.TieLemmas.{lives_as, named_in, Ties}
 use Rattle.fs_machine.proofs.FrameLemmas.{some_cost}
+use Rattle.fs_machine.proofs.OrderLemmas.{acted_cost, not_full}
+use Rattle.fs_machine.proofs.FramesLaws.{config_step}
 use Rattle.fs_machine.proofs.ActWalk.{acted_kept}
 use Rattle.fs_machine.proofs.OwedBooks.{books_of}
 use Rattle.fs_machine.proofs.OwedLaws.{Holds, holds_empty, holds_step}
@@ -150,18 +151,12 @@ none_counted config = record {
 
 -- an entry that is not refused finds room for the largest one
 has_room : (s : Switch) (entry : Entry) → refusal_of s entry ≡ None → s.cost + 65600 ≤ s.config.settings.journal_limit
-unfolding refusal_of
-has_room s entry defined = ltb-false s.config.settings.journal_limit (s.cost + 65600) (not_full (is_full s) defined)
-  where
-    not_full : (full : Bool) → refused_where full (refusal.JournalFull s.cost s.config.settings.journal_limit) (refused_act entry.act (advanced entry.moment s)) ≡ None → full ≡ false
-    not_full true defined = absurd (cc)
-    not_full false defined = refl
+has_room s entry defined = ltb-false s.config.settings.journal_limit (s.cost + 65600) (not_full s entry defined)
 
 -- one entry more, of which all that counts is known
-closed_counted : (s t : Switch) (cost : ℕ) → Numbers 2 (seen s) (seen t) → 64 ≤ cost → s.cost + 65600 ≤ 1073741824 → Counted s → Counted (closed cost t)
-closed_counted s t cost numbers least room h =
+closed_counted : (s t : Switch) (cost : ℕ) → Numbers 2 (seen s) (seen t) → t.cost ≡ s.cost → 64 ≤ cost → s.cost + 65600 ≤ 1073741824 → Counted s → Counted (closed cost t)
+closed_counted s t cost numbers same least room h =
     let most : t.drawn.identifiers ≤ s.drawn.identifiers + 2 = numbers.most in
-    let same : t.cost ≡ s.cost = numbers.cost in
     let paid : 32 * s.drawn.identifiers ≤ s.cost = h.paid in
     let few : t.drawn.identifiers < 2 ^ 62 - 1 = omega (arith, most, paid, room) in
     record { named = numbers.names few h.named; paid = omega (arith, most, same, paid, least, room) }
@@ -172,19 +167,16 @@ acted_numbers a s = acted_kept s (NumbersFrom (seen s)) (numbers_moves (seen s) 
 step_counted : (s : Switch) (entry : Entry) → s.cost + 65600 ≤ 1073741824 → Counted s → Counted (step s entry).state
 unfolding step
 step_counted s entry room h =
-    closed_counted (advanced entry.moment s) (acted entry.act (advanced entry.moment s)).state (cost_of entry.act) (acted_numbers entry.act (advanced entry.moment s)) (some_cost entry.act) room
+    closed_counted (advanced entry.moment s) (acted entry.act (advanced entry.moment s)).state (cost_of entry.act) (acted_numbers entry.act (advanced entry.moment s)) (acted_cost entry.act (advanced entry.moment s))
+    (some_cost entry.act) room
     (record { named = h.named; paid = h.paid })
-
-step_config : (s : Switch) (entry : Entry) → (step s entry).state.config ≡ s.config
-unfolding step
-step_config s entry = (acted_numbers entry.act (advanced entry.moment s)).config
 
 run_counted : (s : Switch) (entries : List Entry) → s.config.settings.journal_limit ≤ 1073741824 → IsRunFrom s entries → Counted s → Counted (run_from s entries)
 run_counted s [] small run h = h
 run_counted s (entry ∷ entries) small run h =
     let room : s.cost + 65600 ≤ s.config.settings.journal_limit = has_room s entry run.0 in
     run_counted (step s entry).state entries
-    (subst (λ (config : Configuration). config.settings.journal_limit ≤ 1073741824) (sym (step_config s entry)) small)
+    (subst (λ (config : Configuration). config.settings.journal_limit ≤ 1073741824) (sym (config_step s entry)) small)
     run.1 (step_counted s entry (omega (arith, room, small)) h)
 
 -- as the definition has it

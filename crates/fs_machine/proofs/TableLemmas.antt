@@ -1,13 +1,13 @@
 -- What stands at the places of a table, behind one write too, and how many places are taken.
-use Rattle.std.proofs.Common.{◌≡◌, ◌≢◌, ◌⊎◌, ℕ, zero, suc, ◌+◌, ◌<◌, true, false, List, [], ◌∷◌, length, map, Option, None, Some, is_none, refl, sym, ap, subst, ◌∙◌, inl, inr, ⊎_elim, arith}
+use Rattle.std.proofs.Common.{◌≡◌, ◌≢◌, ◌⊎◌, ℕ, zero, suc, ◌+◌, true, false, List, [], ◌∷◌, length, map, Option, None, Some, is_none, refl, sym, ap, subst, ◌∙◌, inl, inr, ⊎_elim, arith}
 use Rattle.std.specs.List.{slice_set, sum_by}
-use Rattle.std.proofs.lemmas.List.{get_or-set_same, get_or-set_other, get_or-replicate, set-get_or, map-set}
+use Rattle.std.proofs.lemmas.List.{get_or-set_other, set-get_or, map-set}
 use Rattle.std.proofs.lemmas.List.Sums.{sum_by-cons}
 use Rattle.std.proofs.lemmas.Bool.{eqb-true, eqb-false}
 use Rattle.fs_places.specs.declared.numbered.Numbered.{Numbered}
 use Rattle.fs_places.specs.Places.{no_places, held_in, with_held, first_place, least_free}
 use Rattle.fs_places.specs.Rows.{has_number, place_of, row_of, with_held_at, with_row, without_row, with_new_row}
-use Rattle.fs_state.proofs.SlotLemmas.{no_places_length}
+use Rattle.fs_machine.proofs.HeldLemmas.{nothing_held}
 use Rattle.fs_machine.proofs.RowLemmas.{held_of, row_at, row_none, place_stands, none_stands}
 
 -- ---- values that are there
@@ -22,12 +22,6 @@ pub same_there : {T : Type 0} → (x y : T) → Some x ≡ Some y → x ≡ y
 same_there x y is = cc is
 
 -- ---- one write
-
--- what stands somewhere stands within the table
-pub held_within : {T : Type 0} → (places : List (Option T)) (place : ℕ) (x : T) → held_in places place ≡ Some x → place < length places
-held_within [] place x is = absurd (nothing_there x is)
-held_within (held ∷ more) zero x is = omega arith
-held_within (held ∷ more) (suc place) x is = let later : place < length more = held_within more place x is in omega (arith, later)
 
 -- this was written there, or stands at another place
 abbrev pub IsWrittenOrKept : {T : Type 0} → List (Option T) → ℕ → Option T → ℕ → T → Type 0
@@ -55,12 +49,10 @@ kept_without places place other x is =
     (λ (there : (other ≢ place) × (held_in places other ≡ Some x)). there)
     (written_or_kept places place None other x is)
 
-pub held_here : {T : Type 0} → (places : List (Option T)) (place : ℕ) (held : Option T) → place < length places → held_in (with_held places place held) place ≡ held
-held_here places place held within = get_or-set_same places place held None within
-
-pub held_there : {T : Type 0} → (places : List (Option T)) (place : ℕ) (held : Option T) (other : ℕ) (x : T) → other ≢ place → held_in places other ≡ Some x →
+-- what stands at another place stands there still
+pub still_there : {T : Type 0} → (places : List (Option T)) (place : ℕ) (held : Option T) (other : ℕ) (x : T) → other ≢ place → held_in places other ≡ Some x →
     held_in (with_held places place held) other ≡ Some x
-held_there places place held other x apart is = get_or-set_other places place other held None apart ∙ is
+still_there places place held other x apart is = get_or-set_other places place other held None apart ∙ is
 
 -- what stands somewhere does not stand at a free place
 pub not_free : {T : Type 0} → (places : List (Option T)) (place other : ℕ) (x : T) → held_in places place ≡ None → held_in places other ≡ Some x → other ≢ place
@@ -73,9 +65,7 @@ one_there places place other x y is is_other same = same_there x y (sym is ∙ (
 -- nothing stands in a table of empty places
 pub none_held : {T : Type 0} → (count place : ℕ) (x : T) → held_in (no_places {T = T} count) place ≡ Some x → ⊥
 unfolding no_places
-none_held {T} count place x is =
-    let within : place < count = subst (λ (n : ℕ). place < n) (no_places_length T count) (held_within (no_places {T = T} count) place x is) in
-    nothing_there x (sym (get_or-replicate count place None None within) ∙ is)
+none_held {T} count place x is = nothing_there x (sym (nothing_held T count place) ∙ is)
 
 -- ---- numbers
 

@@ -1,9 +1,8 @@
--- Channels that name each other in pairs, as loopback partners do, and as the two ends of a bridge will.
-use Rattle.std.proofs.Common.{◌≡◌, ℕ, ◌<◌, Bool, true, false, cond, List, [], ◌∷◌, length, Option, None, Some, option_map, option_and_then, ◌⊎◌, inl, inr, refl, sym, ap, subst, ◌∙◌, length-set}
+-- Channels that name each other in pairs.
+use Rattle.std.proofs.Common.{◌≡◌, ℕ, ◌<◌, Bool, true, false, cond, List, [], ◌∷◌, length, Option, None, Some, option_and_then, ◌⊎◌, inl, inr, refl, sym, ap, subst, ◌∙◌, length-set}
 use Rattle.fs_text.specs.declared.states.State.TheVariants.{CsHangup}
 use Rattle.fs_text.specs.declared.causes.Cause.{Cause}
 use Rattle.fs_chan.specs.declared.chan.Chan.{Chan}
-use Rattle.fs_chan.specs.declared.peer.Peer.{Peer}
 use Rattle.fs_chan.specs.Changes.{is_live, hung_up}
 use Rattle.fs_orig.specs.declared.orig.Orig.{Orig}
 use Rattle.fs_orig.specs.Changes.{with_death}
@@ -11,7 +10,7 @@ use Rattle.fs_places.specs.Places.{held_in, with_held}
 use Rattle.fs_state.specs.Switch.{Switch, chan_at, with_chan, told}
 use Rattle.fs_state.specs.Moves.{state_told, leg_changed, its_leg_changed, hangup_of, hung_from, one_hung}
 use Rattle.fs_machine.proofs.HeldLemmas.{held_here, held_there, held_within, at_each}
-use Rattle.fs_machine.proofs.PartnerLemmas.{LiveNamers, Agree, lone, agree_kept, Cuts, live_cut, CutsAll, AreClosed, none_cut, one_more_cut, all_cut, one_closed, two_closed, joined, not_either}
+use Rattle.fs_machine.proofs.PartnerLemmas.{LiveNamers, Agree, lone, agree_kept, Cuts, live_cut, CutsAll, AreClosed, none_cut, one_more_cut, all_cut, joined}
 use Rattle.fs_machine.proofs.Walk.{state_told_kept}
 use Rattle.fs_machine.proofs.FrontLemmas.{Front, orig_changed_front}
 
@@ -109,16 +108,6 @@ module _ (names : Chan → Option ℕ) where
       (ap (option_and_then names) w.at_a ∙ names_a) (ap (option_and_then names) w.at_b ∙ names_b) (ap lives_as w.at_a ∙ live_a) (ap lives_as w.at_b ∙ live_b)
       (λ q not_a not_b. ap (option_and_then names) (w.elsewhere q not_a not_b)) (λ q not_a not_b. ap lives_as (w.elsewhere q not_a not_b))
 
-  -- two that named each other name none any more
-  pub ties_parted : (channels : List (Option Chan)) (a b : ℕ) (first second : Chan) → (a ≡ b → ⊥) → a < length channels → b < length channels →
-      named_in channels a ≡ Some b → names first ≡ None → names second ≡ None → Ties channels → Ties (with_held (with_held channels a (Some first)) b (Some second))
-  ties_parted channels a b first second apart within_a within_b named none_a none_b h =
-      let new : List (Option Chan) = with_held (with_held channels a (Some first)) b (Some second) in
-      let w : Wrote channels new a b (Some first) (Some second) = wrote channels a b (Some first) (Some second) apart within_a within_b in
-      all_cut (a ∷ b ∷ []) (named_in channels) (named_in new) (lives_in channels) (lives_in new) (two_closed a b (named_in channels) named (h.back a b named))
-      (not_either a b (named_in channels) (named_in new) (lives_in channels) (lives_in new) (ap (option_and_then names) w.at_a ∙ none_a) (ap (option_and_then names) w.at_b ∙ none_b)
-      (λ q not_a not_b. ap (option_and_then names) (w.elsewhere q not_a not_b)) (λ q not_a not_b. ap lives_as (w.elsewhere q not_a not_b))) h
-
   -- one that names none any more
   put_cuts : (channels : List (Option Chan)) (slot : ℕ) (old new : Chan) → held_in channels slot ≡ Some old → names new ≡ None →
       Cuts slot (named_in channels) (named_in (with_held channels slot (Some new))) (lives_in channels) (lives_in (with_held channels slot (Some new)))
@@ -163,86 +152,3 @@ module _ (names : Chan → Option ℕ) where
     pub cut_off_ties : (cause : Cause) (slots : List ℕ) (s : Switch) → AreClosed slots (named_in s.channels) → Ties s.channels → Ties (cut_off cause slots s).channels
     cut_off_ties cause slots s closed h =
         all_cut slots (named_in s.channels) (named_in (cut_off cause slots s).channels) (lives_in s.channels) (lives_in (cut_off cause slots s).channels) closed (all_cuts cause slots s h.live) h
-
-    -- ---- hangups of any list: whom a channel names forgets it first
-
-    module _ (forget : Chan → Chan) (forgets : (c : Chan) → names (forget c) ≡ None) where
-      abbrev pub forgotten_by : ℕ → Option Chan → Switch → Switch
-      forgotten_by slot None s = s
-      forgotten_by slot (Some c) s = with_chan slot (Some (forget c)) s
-
-      abbrev pub forgotten : Option ℕ → Switch → Switch
-      forgotten None s = s
-      forgotten (Some slot) s = forgotten_by slot (chan_at s slot) s
-
-      abbrev pub severed : Cause → ℕ → Switch → Switch
-      severed cause slot s = one_hung cause slot (forgotten (named_in s.channels slot) s)
-
-      pub severed_ties : (cause : Cause) (slot : ℕ) (s : Switch) → Ties s.channels → Ties (severed cause slot s).channels
-      severed_ties cause slot s h = by (named_in s.channels slot) refl
-        where
-          -- the other one is there, since it names this one
-          both : (other : ℕ) → named_in s.channels slot ≡ Some other → (found : Option Chan) → chan_at s other ≡ found → Ties (one_hung cause slot (forgotten_by other found s)).channels
-          both other named None there =
-              let back : named_in s.channels other ≡ Some slot = h.back slot other named in
-              let none : named_in s.channels other ≡ None = ap (option_and_then names) there in
-              absurd (cc)
-          both other named (Some d) there =
-              let t : Switch = with_chan other (Some (forget d)) s in
-              let u : Switch = one_hung cause slot t in
-              let first : Cuts other (named_in s.channels) (named_in t.channels) (lives_in s.channels) (lives_in t.channels) = put_cuts s.channels other d (forget d) there (forgets d) in
-              let live : LiveNamers (named_in t.channels) (lives_in t.channels) = live_cut other (named_in s.channels) (named_in t.channels) (lives_in s.channels) (lives_in t.channels) first h.live in
-              let second : Cuts slot (named_in t.channels) (named_in u.channels) (lives_in t.channels) (lives_in u.channels) = one_cuts cause slot t live in
-              all_cut (other ∷ slot ∷ []) (named_in s.channels) (named_in u.channels) (lives_in s.channels) (lives_in u.channels)
-              (two_closed other slot (named_in s.channels) (h.back slot other named) named)
-              (one_more_cut other (slot ∷ []) (named_in s.channels) (named_in t.channels) (named_in u.channels) (lives_in s.channels) (lives_in t.channels) (lives_in u.channels) first
-              (one_more_cut slot [] (named_in t.channels) (named_in u.channels) (named_in u.channels) (lives_in t.channels) (lives_in u.channels) (lives_in u.channels) second
-              (none_cut (named_in u.channels) (lives_in u.channels)))) h
-
-          by : (found : Option ℕ) → named_in s.channels slot ≡ found → Ties (one_hung cause slot (forgotten found s)).channels
-          by None none = cut_off_ties cause (slot ∷ []) s (one_closed slot (named_in s.channels) none) h
-          by (Some other) named = both other named (chan_at s other) refl
-
-      abbrev pub all_severed : Cause → List ℕ → Switch → Switch
-      all_severed cause [] s = s
-      all_severed cause (slot ∷ slots) s = all_severed cause slots (severed cause slot s)
-
-      pub all_severed_ties : (cause : Cause) (slots : List ℕ) (s : Switch) → Ties s.channels → Ties (all_severed cause slots s).channels
-      all_severed_ties cause [] s h = h
-      all_severed_ties cause (slot ∷ slots) s h = all_severed_ties cause slots (severed cause slot s) (severed_ties cause slot s h)
-
--- ---- bridges, as they would be
-
-abbrev pub peer_slot : Chan → Option ℕ
-peer_slot c = option_map (λ (p : Peer). p.slot) c.peer
-
-abbrev pub with_peer : ℕ → Chan → Chan → Chan
-with_peer slot other c = record c { peer = Some (record { slot = slot; uuid = other.uuid }) }
-
-abbrev pub alone : Chan → Chan
-alone c = record c { peer = None }
-
--- the channels in two slots are joined, and are parted again
-abbrev pub joined_at : ℕ → ℕ → Chan → Chan → Switch → Switch
-joined_at a b c d s = with_chan b (Some (with_peer a c d)) (with_chan a (Some (with_peer b d c)) s)
-
-abbrev pub parted_at : ℕ → ℕ → Chan → Chan → Switch → Switch
-parted_at a b c d s = with_chan b (Some (alone d)) (with_chan a (Some (alone c)) s)
-
-pub joined_peers : (s : Switch) (a b : ℕ) (c d : Chan) → (a ≡ b → ⊥) → chan_at s a ≡ Some c → chan_at s b ≡ Some d → c.peer ≡ None → d.peer ≡ None →
-    is_live c ≡ true → is_live d ≡ true → Ties peer_slot s.channels → Ties peer_slot (joined_at a b c d s).channels
-joined_peers s a b c d apart is_c is_d none_c none_d live_c live_d =
-    ties_joined peer_slot s.channels a b (with_peer b d c) (with_peer a c d) apart (held_within s.channels a c is_c) (held_within s.channels b d is_d)
-    (ap (option_and_then peer_slot) is_c ∙ ap (option_map (λ (p : Peer). p.slot)) none_c) (ap (option_and_then peer_slot) is_d ∙ ap (option_map (λ (p : Peer). p.slot)) none_d) refl refl live_c live_d
-
-pub parted_peers : (s : Switch) (a b : ℕ) (c d : Chan) → (a ≡ b → ⊥) → chan_at s a ≡ Some c → chan_at s b ≡ Some d → peer_slot c ≡ Some b →
-    Ties peer_slot s.channels → Ties peer_slot (parted_at a b c d s).channels
-parted_peers s a b c d apart is_c is_d named =
-    ties_parted peer_slot s.channels a b (alone c) (alone d) apart (held_within s.channels a c is_c) (held_within s.channels b d is_d) (ap (option_and_then peer_slot) is_c ∙ named) refl refl
-
-pub fallen_peers : (cause : Cause) (slots : List ℕ) (s : Switch) → AreClosed slots (named_in peer_slot s.channels) → Ties peer_slot s.channels → Ties peer_slot (cut_off cause slots s).channels
-fallen_peers cause slots s closed = cut_off_ties peer_slot (λ cause c. refl) cause slots s closed
-
--- whatever list of channels is hung up, once each is forgotten by the other leg of its bridge
-pub severed_peers : (cause : Cause) (slots : List ℕ) (s : Switch) → Ties peer_slot s.channels → Ties peer_slot (all_severed peer_slot (λ why c. refl) alone (λ c. refl) cause slots s).channels
-severed_peers cause slots s h = all_severed_ties peer_slot (λ why c. refl) alone (λ c. refl) cause slots s h

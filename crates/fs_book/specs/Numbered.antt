@@ -1,10 +1,11 @@
--- Numbers by place: an entry that opens a number opens that of its place in the journal. No two entries then open one number.
+-- Numbers by place, and by count: no two entries then open one number.
 use Rattle.std.specs.Prelude.{◌≡◌, ℕ, Bool, true, false, if◌then◌else◌, List, [], ◌∷◌, length, take, Option, Some, None, slice_get}
 use Prim.Native.Nat.{zero, suc}
 use mathlib.Core.Path.{refl, sym, ap, ◌∙◌}
 use Rattle.fs_book.specs.Opened.{OpensAt}
 
--- what the entry opens after these, if it opens a number
+-- ---- an entry that opens a number opens that of its place in the journal
+
 abbrev pub by_place : {E : Type 0} → (E → Bool) → List E → E → Option ℕ
 by_place test log entry = if test entry then Some (length log) else None
 
@@ -21,3 +22,50 @@ pub by_place_once : {B E : Type 0} (test : E → Bool) (origin : B) (log : List 
     → OpensAt (λ _ before entry. by_place test before entry) origin log q number → p ≡ q
 by_place_once test origin log p q number h h' =
     sym (taken log p h.0 h.1) ∙ opened (test h.0) (length (take p log)) number h.2 ∙ sym (opened (test h'.0) (length (take q log)) number h'.2) ∙ taken log q h'.0 h'.1
+
+-- ---- an entry that opens a number opens one more than so many entries before it did
+
+abbrev pub counted_where : Bool → ℕ → ℕ
+counted_where b count = if b then suc count else count
+
+-- how many of the entries meet the test
+abbrev pub counted : {E : Type 0} → (E → Bool) → List E → ℕ
+counted test [] = 0
+counted test (entry ∷ entries) = counted_where (test entry) (counted test entries)
+
+-- what the entry opens after these, if it opens a number
+abbrev pub by_count : {E : Type 0} → (E → Bool) → List E → E → Option ℕ
+by_count test log entry = if test entry then Some (suc (counted test log)) else None
+
+next_opened : (b : Bool) (count number : ℕ) → ◌≡◌ {A = Option ℕ} (if b then Some (suc count) else None) (Some number) → (b ≡ true) × (suc count ≡ number)
+next_opened true count number is = (refl, cc is)
+next_opened false count number is = absurd (cc is)
+
+some_before : (b : Bool) (count : ℕ) → b ≡ true → 0 ≡ counted_where b count → ⊥
+some_before true count is none = absurd (cc none)
+some_before false count is none = absurd (cc is)
+
+cancel : (b : Bool) (m n : ℕ) → counted_where b m ≡ counted_where b n → m ≡ n
+cancel true m n is = cc is
+cancel false m n is = is
+
+one_less : (m n : ℕ) → suc m ≡ suc n → m ≡ n
+one_less m n is = cc is
+
+same_place : {E : Type 0} (test : E → Bool) (log : List E) (p q : ℕ) (entry other : E) → slice_get log p ≡ Some entry → test entry ≡ true
+    → slice_get log q ≡ Some other → test other ≡ true → counted test (take p log) ≡ counted test (take q log) → p ≡ q
+same_place test [] p q entry other at holds at' holds' same = absurd cc
+same_place test (x ∷ xs) zero zero entry other at holds at' holds' same = refl
+same_place test (x ∷ xs) zero (suc q) entry other at holds at' holds' same =
+    let e : x ≡ entry = cc at in absurd (some_before (test x) (counted test (take q xs)) (ap test e ∙ holds) same)
+same_place test (x ∷ xs) (suc p) zero entry other at holds at' holds' same =
+    let e : x ≡ other = cc at' in absurd (some_before (test x) (counted test (take p xs)) (ap test e ∙ holds') (sym same))
+same_place test (x ∷ xs) (suc p) (suc q) entry other at holds at' holds' same =
+    ap suc (same_place test xs p q entry other at holds at' holds' (cancel (test x) (counted test (take p xs)) (counted test (take q xs)) same))
+
+pub by_count_once : {B E : Type 0} (test : E → Bool) (origin : B) (log : List E) (p q number : ℕ) → OpensAt (λ _ before entry. by_count test before entry) origin log p number
+    → OpensAt (λ _ before entry. by_count test before entry) origin log q number → p ≡ q
+by_count_once test origin log p q number h h' =
+    let a = next_opened (test h.0) (counted test (take p log)) number h.2 in
+    let b = next_opened (test h'.0) (counted test (take q log)) number h'.2 in
+    same_place test log p q h.0 h'.0 h.1 a.0 h'.1 b.0 (one_less (counted test (take p log)) (counted test (take q log)) (a.1 ∙ sym b.1))

@@ -1,5 +1,6 @@
 ghost use Rattle.std.specs.Prelude.{◌≡◌};
 
+use crate::bells::Bells;
 use crate::rule::Desk;
 use crate::turned::Turned;
 
@@ -7,5 +8,6 @@ use crate::turned::Turned;
 #[derive(Drop)]
 pub struct Book<M: Turned> {
     pub(crate) desk: Desk<M>,
+    pub(crate) bells: Bells,
     ghost sized: { (desk.shared.table_id.words ≡ 2) × (desk.shared.table_id.slots ≡ 1) },
 }

@@ -50,7 +50,7 @@ impl<M: Turned> Book<M> {
         ensures book { IsPassOf M.start self.now pass.new }
         ensures kept { KeepsLists pass.old pass.new }
         ensures later { IsPrefix (seen pass.old) (seen pass.new) }
-        ensures answer { result ≡ Q.tells question.now (M.start (first_state self.now)) (seen pass.new) }
+        ensures answer { Q.tells question.now (M.start (first_state self.now)) (seen pass.new) result }
     {
         let seat = &mut pass.seat;
         let state = self.enter(rt, seat);

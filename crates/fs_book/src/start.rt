@@ -4,6 +4,7 @@ ghost use Rattle.fs_book.specs.Counts.{total, times, once_below};
 ghost use Rattle.fs_book.specs.Opened.{Owned};
 ghost use Rattle.fs_book.specs.Passes.{seen, mine, met, parts, first_state, IsPassOf};
 
+use crate::bells::Bells;
 use crate::book::Book;
 use crate::pass::Pass;
 use crate::rule::Desk;
@@ -27,7 +28,10 @@ impl<M: Turned> Book<M> {
         let slots = slot_of(alloc, state)?;
         match Table::new(alloc, &[0, 0], slots, &about) {
             Ok((desk, seat)) => Ok((
-                Book { desk },
+                Book {
+                    desk,
+                    bells: Bells::new(),
+                },
                 Pass {
                     seat,
                     parts: ALL_PARTS,
@@ -46,7 +50,7 @@ impl<M: Turned> Book<M> {
         ensures owned { Owned M.opens M.names (Some (M.start result)) (mine pass ∷ met pass) (M.journal result) }
         ensures lists { (p : ℕ) → total (times p) (mine pass ∷ met pass) ≡ once_below p (length (seen pass)) }
     {
-        let Book { desk } = self;
+        let Book { desk, bells: _ } = self;
         let Pass { seat, parts: _ } = pass;
         let mut closed = desk.close_with(seat);
         let slot = closed.take(0);

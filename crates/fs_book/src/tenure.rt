@@ -5,19 +5,16 @@ ghost use Rattle.fs_book.specs.Opened.{IsOwn};
 ghost use Rattle.fs_book.specs.Turns.{Sound};
 ghost use Rattle.fs_book.specs.Tenures.{IsIn};
 
+use crate::bells::Patience;
 use crate::book::Book;
 use crate::rule::{Add, Come, Draw, Leave, Place};
 use crate::turned::Turned;
 use std::sync::Wait;
-use std::{hint, thread};
 
 // The words of the lock: the tickets drawn, and the ticket whose turn it is.
 pub const TICKETS: usize = 0;
 
 pub const TURN: usize = 1;
-
-// How often a caller reads the turn before it yields its processor at each read.
-const QUICK_READS: u32 = 100;
 
 impl<M: Turned> Book<M> {
     // Draws a ticket, waits for its turn, and takes the state.
@@ -29,20 +26,16 @@ impl<M: Turned> Book<M> {
     {
         let shared = &self.desk.shared;
         let ticket = shared.fetch_add::<Draw>(seat, TICKETS, 1);
-        let mut reads = 0;
+        let mut patience = Patience::new();
         for _ in rt.forever() {
-            if shared.load::<Come>(seat, TURN) == ticket {
+            let turn = shared.load::<Come>(seat, TURN);
+            if turn == ticket {
                 let Some(state) = shared.exchange(seat, 0, None) else {
                     unreachable!()
                 };
                 return state;
             }
-            if reads < QUICK_READS {
-                reads += 1;
-                hint::spin_loop();
-            } else {
-                thread::yield_now();
-            }
+            self.bells.wait(rt, &mut patience, ticket, turn);
         }
         unreachable!()
     }
@@ -70,7 +63,8 @@ impl<M: Turned> Book<M> {
         ensures left { seat.new.me ≡ (record seat.old.me.0 { stage = Idle }, []) }
     {
         self.put_back(seat, state);
-        self.desk.shared.fetch_add::<Leave>(seat, TURN, 1);
+        let turn = self.desk.shared.fetch_add::<Leave>(seat, TURN, 1);
+        self.bells.ring(turn.wrapping_add(1));
     }
 
     // Gives the state back with one entry more, and passes the turn on.
@@ -86,6 +80,7 @@ impl<M: Turned> Book<M> {
         ensures left { seat.new.me ≡ (record seat.old.me.0 { stage = Idle; seen = M.journal state; mine = seat.old.me.0.mine ++ length seat.old.me.0.seen ∷ [] }, []) }
     {
         self.put_back(seat, state);
-        self.desk.shared.fetch_add::<Add>(seat, TURN, 1);
+        let turn = self.desk.shared.fetch_add::<Add>(seat, TURN, 1);
+        self.bells.ring(turn.wrapping_add(1));
     }
 }

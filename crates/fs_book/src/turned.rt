@@ -67,11 +67,11 @@ pub trait Turned: Drop {
 pub trait Ask<M: Turned> {
     type Answer;
 
-    // The answer at a state that started so and took these entries.
-    ghost tells: { Self → M.Start → List M.Logged → Self.Answer };
+    // At a state that started so and took these entries, this is an answer.
+    ghost tells: { Self → M.Start → List M.Logged → Self.Answer → Type 0 };
 
     fn ask(&self, state: &M) -> Self::Answer
-        ensures { result ≡ tells self.now (M.start state.now) (M.journal state.now) };
+        ensures { tells self.now (M.start state.now) (M.journal state.now) result };
 }
 
 /// What a submitted entry got: its place in the journal, and its answer.

@@ -80,11 +80,11 @@ impl Turned for Notes {
 struct HowMany;
 
 impl Ask<Notes> for HowMany {
-    ghost use Rattle.std.specs.Prelude.{length};
+    ghost use Rattle.std.specs.Prelude.{◌≡◌, length};
 
     type Answer = usize;
 
-    ghost tells = { λ _ _ log. length log };
+    ghost tells = { λ _ _ log count. count ≡ length log };
 
     fn ask(&self, state: &Notes) -> usize {
         state.log.len()

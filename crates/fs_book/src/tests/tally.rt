@@ -68,11 +68,11 @@ impl Turned for Tally {
 pub struct HowMany;
 
 impl Ask<Tally> for HowMany {
-    ghost use Rattle.std.specs.Prelude.{length};
+    ghost use Rattle.std.specs.Prelude.{◌≡◌, length};
 
     type Answer = u64;
 
-    ghost tells = { λ _ _ log. length log };
+    ghost tells = { λ _ _ log count. count ≡ length log };
 
     fn ask(&self, state: &Tally) -> u64 {
         state.log.len() as u64

@@ -112,17 +112,21 @@ fn are_all_below(mut places: Vec<u64>, count: u64) -> Result<bool, Memory> {
 #[test]
 fn all_places_are_told_once(rt: HostRuntime) -> Result<(), Fail> {
     let two = Work {
-        entries: 1000,
+        entries: 16_384,
         looks: false,
     };
     let eight = Work {
-        entries: 250,
+        entries: 4096,
         looks: true,
     };
-    for (work, depth) in [(two, 1), (eight, 3)] {
+    let many = Work {
+        entries: 512,
+        looks: true,
+    };
+    for (work, depth) in [(two, 1), (eight, 3), (many, 6)] {
         let (state, places) = ran(&rt, rt.alloc(), work, depth)?;
-        assert_eq!(rt; state.log.len(), 2000);
-        assert!(rt; are_all_below(places, 2000)?);
+        assert_eq!(rt; state.log.len(), 32_768);
+        assert!(rt; are_all_below(places, 32_768)?);
     }
     Ok(())
 }

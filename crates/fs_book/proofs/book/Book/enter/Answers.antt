@@ -9,8 +9,8 @@ fetch_add-ticket-requires g c = (
   draws g.M.Turned.start g.M.Turned.journal g.M.Turned.opens g.M.Turned.names g.met.M.Turned.opens_once _ _ _ _ c.requires.rests.1 c.requires.rests.2,
 )
 
-pub load-requires : goal.load-requires
-load-requires g c =
+pub load-turn-requires : goal.load-turn-requires
+load-turn-requires g c =
     let waits = c.loop.invariant.1 in (
       search rules,
       search rules,
@@ -21,5 +21,5 @@ load-requires g c =
 pub exchange-requires : goal.exchange-requires
 exchange-requires g c =
     let waits = c.loop.invariant.1 in
-    let took = (c.load.ensures.2 waits.0 (ap (λ m. m.0.stage) waits.2)).0 (c.if-load-ticket.true ∙ waits.1) in
+    let took = (c.load-turn.ensures.2 waits.0 (ap (λ m. m.0.stage) waits.2)).0 (c.if-turn-ticket.true ∙ waits.1) in
     (search rules, (Some took.0, taken_last _ _ 0 (Some took.0) (ap (λ m. m.1) took.4)))

@@ -32,11 +32,12 @@ use Rattle.fs_machine.specs.declared.entry.Act.{Act}
 use Rattle.fs_machine.specs.declared.entry.Act.TheVariants as act
 use Rattle.fs_machine.specs.declared.entry.Closing.{Closing}
 use Rattle.fs_machine.specs.declared.entry.Closing.TheVariants as closing
-use Rattle.fs_machine.specs.declared.jobs.Attempt.{Attempt}
+use Rattle.fs_machine.specs.declared.attempts.Attempt.{Attempt}
 use Rattle.fs_machine.specs.declared.originations.Caller.{Caller}
 use Rattle.fs_machine.specs.Texts.{ok, accepted, invalid, bye, not_found, notice, command_reply, api_response, spoken, too_many_jobs, failed_text}
 use Rattle.fs_machine.specs.Connections.{phase_at, conn_changed, admitted}
-use Rattle.fs_machine.specs.Jobs.{sleep_begun, originate_begun, living_slots, won_at, judged, judged_from, worked_by, job_done_from, job_done}
+use Rattle.fs_machine.specs.Attempts.{originate_begun, living_slots, won_at, judged, judged_from}
+use Rattle.fs_machine.specs.Jobs.{sleep_begun, worked_by, job_done_from, job_done}
 use Rattle.fs_machine.specs.Api.{Done, says, owes, killed, slept, originated, done_plainly, done_by}
 use Rattle.fs_machine.specs.Commands as command
 use Rattle.fs_machine.specs.Commands.{Command, command_of, dismissed, offered, responded_with, commanded_in, commanded}

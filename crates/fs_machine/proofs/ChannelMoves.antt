@@ -12,7 +12,7 @@ use Rattle.fs_places.specs.Places.{held_in}
 use Rattle.fs_state.specs.declared.job.JobWork.TheVariants.{Originate}
 use Rattle.fs_state.specs.Switch.{Switch, chan_at, with_chan, identified, identifier_of}
 use Rattle.fs_state.specs.Moves.{moved_from, orig_changed, leg_changed, hung}
-use Rattle.fs_machine.specs.declared.jobs.Attempt.{Attempt}
+use Rattle.fs_machine.specs.declared.attempts.Attempt.{Attempt}
 use Rattle.fs_machine.specs.declared.originations.Call.{Call}
 use Rattle.fs_machine.specs.declared.originations.End.{End}
 use Rattle.fs_machine.specs.Originations.{target_of, end_of, end_made, leg_end, far_end, pair_made, won_by, won}

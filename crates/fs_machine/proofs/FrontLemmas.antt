@@ -15,12 +15,13 @@ use Rattle.fs_state.specs.declared.job.JobWork.TheVariants.{Sleep, Originate}
 use Rattle.fs_state.specs.Counts.{Tallies}
 use Rattle.fs_state.specs.Switch.{Switch, conn_of, orig_of, next_orig, with_new_job, without_job, without_orig}
 use Rattle.fs_state.specs.Moves.{orig_changed_from, orig_changed}
-use Rattle.fs_machine.specs.declared.jobs.Attempt.{Attempt}
+use Rattle.fs_machine.specs.declared.attempts.Attempt.{Attempt}
 use Rattle.fs_machine.specs.declared.originations.Caller.{Caller}
 use Rattle.fs_machine.specs.Texts.{made_text, failed_text}
 use Rattle.fs_machine.specs.Connections.{conn_changed_from, conn_changed, admitted, parted, owed_since, not_owed}
 use Rattle.fs_machine.specs.Originations.{Made, leg_made, won}
-use Rattle.fs_machine.specs.Jobs.{owing, ended, orig_begun, tried_by_job, originate_begun}
+use Rattle.fs_machine.specs.Attempts.{orig_begun, tried_by_job, originate_begun}
+use Rattle.fs_machine.specs.Owing.{owing, ended}
 use Rattle.fs_machine.proofs.Kept.{Fact, KeptByCalls, KeptByBirths, DoesJob, HasLeg, KeptByMoves}
 use Rattle.fs_machine.proofs.Walk.{leg_made_kept}
 

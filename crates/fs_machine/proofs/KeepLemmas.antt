@@ -16,13 +16,15 @@ use Rattle.fs_state.specs.declared.conn.Parting.TheVariants as parting
 use Rattle.fs_state.specs.declared.job.JobWork.{JobWork}
 use Rattle.fs_state.specs.declared.job.JobWork.TheVariants.{Sleep, Originate}
 use Rattle.fs_state.specs.Switch.{Switch, conn_of, next_orig, is_full_of_jobs, with_new_job, without_job, without_orig, gave}
-use Rattle.fs_machine.specs.declared.jobs.Attempt.{Attempt}
+use Rattle.fs_machine.specs.declared.attempts.Attempt.{Attempt}
 use Rattle.fs_machine.specs.declared.originations.Caller.{Caller}
 use Rattle.fs_machine.specs.Texts.{made_text, failed_text}
 use Rattle.fs_machine.specs.Connections.{conn_changed_from, conn_changed, admitted, parted, owed_since, not_owed, phase_of, phase_at}
 use Rattle.fs_machine.specs.Questions.{parting_of, owed_of}
 use Rattle.fs_machine.specs.Originations.{Made, leg_made, won}
-use Rattle.fs_machine.specs.Jobs.{owing, ended, orig_begun, tried_by_job, originate_begun, job_done}
+use Rattle.fs_machine.specs.Attempts.{orig_begun, tried_by_job, originate_begun}
+use Rattle.fs_machine.specs.Jobs.{job_done}
+use Rattle.fs_machine.specs.Owing.{owing, ended}
 use Rattle.fs_machine.specs.Commands.{Command, commanded}
 use Rattle.fs_machine.specs.Work.{worked}
 use Rattle.fs_machine.specs.Step.{is_closed}

@@ -21,13 +21,14 @@ use Rattle.fs_state.specs.declared.job.JobWork.{JobWork}
 use Rattle.fs_state.specs.declared.job.JobWork.TheVariants as work
 use Rattle.fs_state.specs.Switch.{Switch, chan_at, with_chan, free_slot, is_full_of_jobs, orig_of, job_of, without_orig, without_conn, with_frame_taken, told, gave}
 use Rattle.fs_state.specs.Moves.{orig_changed, leg_changed, hung}
-use Rattle.fs_machine.specs.declared.jobs.Attempt.{Attempt}
+use Rattle.fs_machine.specs.declared.attempts.Attempt.{Attempt}
 use Rattle.fs_machine.specs.declared.originations.Call.{Call}
 use Rattle.fs_machine.specs.declared.originations.Caller.{Caller}
 use Rattle.fs_machine.specs.Connections.{phase_at, conn_changed, admitted, parted}
 use Rattle.fs_machine.specs.Texts.{made_text}
 use Rattle.fs_machine.specs.Originations.{pair_made, target_of, won}
-use Rattle.fs_machine.specs.Jobs.{owing, ended, originate_begun, failed}
+use Rattle.fs_machine.specs.Attempts.{originate_begun, failed}
+use Rattle.fs_machine.specs.Owing.{owing, ended}
 use Rattle.fs_machine.specs.Step.{arrived}
 
 -- A fact on a switch while an entry is done. By true nothing has begun in this entry that draws a number, by false one such thing may have.

@@ -26,13 +26,14 @@ use Rattle.fs_state.specs.declared.conn.Parting.TheVariants as parting
 use Rattle.fs_state.specs.declared.job.JobWork.TheVariants.{Sleep, Originate}
 use Rattle.fs_state.specs.Switch.{Switch, chan_at, with_chan, free_slot, identified, identifier_of, next_orig, orig_of, with_orig, with_new_orig, without_orig, with_new_job, without_job, conn_of, told}
 use Rattle.fs_state.specs.Moves.{state_told, moved_from, orig_changed_from, orig_changed, leg_changed_at, leg_changed, its_leg_changed, partner_at, hangup_of, hung_from, one_hung, hung_with, hung}
-use Rattle.fs_machine.specs.declared.jobs.Attempt.{Attempt}
+use Rattle.fs_machine.specs.declared.attempts.Attempt.{Attempt}
 use Rattle.fs_machine.specs.declared.originations.Call.{Call}
 use Rattle.fs_machine.specs.declared.originations.Caller.{Caller}
 use Rattle.fs_machine.specs.Texts.{made_text, failed_text}
 use Rattle.fs_machine.specs.Connections.{conn_changed_from, conn_changed, admitted, parted, owed_since, not_owed}
 use Rattle.fs_machine.specs.Originations.{end_of, end_made, leg_end, far_end, pair_made, Made, made_dead, is_congested, made_in, with_second, free_pair, made_of, leg_made, won_by, won}
-use Rattle.fs_machine.specs.Jobs.{owing, ended, orig_begun, tried_by_job, originate_begun}
+use Rattle.fs_machine.specs.Attempts.{orig_begun, tried_by_job, originate_begun}
+use Rattle.fs_machine.specs.Owing.{owing, ended}
 use Rattle.fs_machine.proofs.HeldLemmas.{IsFree, free_place, held_here, held_there, held_within}
 use Rattle.fs_machine.proofs.RowLemmas.{AreDistinct, AreWithin, place_stands, none_stands, above_nowhere, distinct_same, numbers-with_row, place_of-without_row_same, distinct-without_row, within-without_row, distinct-with_new_row, within-with_new_row}
 use Rattle.fs_machine.proofs.TableLemmas.{nothing_there, same_there, IsWrittenOrKept, written_or_kept, kept_without, IsRow, row_found, no_row, row_written}

@@ -19,14 +19,15 @@ use Rattle.fs_machine.specs.declared.entry.Act.{Act}
 use Rattle.fs_machine.specs.declared.entry.Act.TheVariants as act
 use Rattle.fs_machine.specs.declared.entry.Closing.{Closing}
 use Rattle.fs_machine.specs.declared.entry.Closing.TheVariants as closing
-use Rattle.fs_machine.specs.declared.jobs.Attempt.{Attempt}
+use Rattle.fs_machine.specs.declared.attempts.Attempt.{Attempt}
 use Rattle.fs_machine.specs.declared.originations.Caller.{Caller}
 use Rattle.fs_machine.specs.declared.refusal.Refusal.TheVariants as refusal
 use Rattle.fs_machine.specs.Texts.{made_text, failed_text}
 use Rattle.fs_machine.specs.Connections.{phase_of, phase_at, conn_changed, admitted, parted}
 use Rattle.fs_machine.specs.Questions.{owed_of, owed_to}
 use Rattle.fs_machine.specs.Originations.{won}
-use Rattle.fs_machine.specs.Jobs.{owing, ended, originate_begun}
+use Rattle.fs_machine.specs.Attempts.{originate_begun}
+use Rattle.fs_machine.specs.Owing.{owing, ended}
 use Rattle.fs_machine.specs.Commands.{command_of}
 use Rattle.fs_machine.specs.Step.{reads, busy, refused_act, closed_by, acted}
 use Rattle.fs_machine.specs.Owed.{PartsIn}

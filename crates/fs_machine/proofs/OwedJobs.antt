@@ -18,7 +18,8 @@ use Rattle.fs_state.specs.Switch.{Switch, next_orig, next_job, conn_of, with_con
 use Rattle.fs_machine.specs.declared.originations.Caller.{Caller}
 use Rattle.fs_machine.specs.Connections.{conn_changed_from, conn_changed, owed_since, not_owed}
 use Rattle.fs_machine.specs.Originations.{Made, leg_made}
-use Rattle.fs_machine.specs.Jobs.{owing, ended, seconds, tried_by_job, originate_begun}
+use Rattle.fs_machine.specs.Attempts.{seconds, tried_by_job, originate_begun}
+use Rattle.fs_machine.specs.Owing.{owing, ended}
 use Rattle.fs_machine.specs.Step.{fresh, arrived}
 use Rattle.fs_machine.specs.Owed.{Parts}
 use Rattle.fs_machine.proofs.RowLemmas.{free_least}

@@ -19,7 +19,7 @@ use Rattle.fs_state.specs.Switch.{Switch, chan_at, with_chan, orig_of}
 use Rattle.fs_state.specs.Moves.{moved_from, moved, orig_changed_from, orig_changed, leg_changed, hung}
 use Rattle.fs_machine.specs.declared.originations.Caller.{Caller}
 use Rattle.fs_machine.specs.Originations.{leg_made, won_by, won}
-use Rattle.fs_machine.specs.Jobs.{all_hung}
+use Rattle.fs_machine.specs.Attempts.{all_hung}
 use Rattle.fs_machine.specs.Work.{worked}
 use Rattle.fs_machine.proofs.TableLemmas.{numbers_in, numbers_kept}
 use Rattle.fs_machine.proofs.Kept.{Fact, KeptByCalls, DoesJob}

@@ -38,7 +38,7 @@ use Rattle.fs_machine.specs.declared.originations.Caller.{Caller}
 use Rattle.fs_machine.specs.Applications.{with_variable, without_variable, with_export, sleeping, state_at, parking_in, effect, argument_in, executed_within, ran_next, ran_from, ran}
 use Rattle.fs_machine.specs.Work.{with_variables, routed_to, actions_for, too_long_cause, found_for, routed_by, routing_from, first_state, worked_waiting, worked_in, worked_from, worked}
 use Rattle.fs_machine.specs.Originations.{Made, made_in, with_second, free_pair, is_congested, made_of, leg_made}
-use Rattle.fs_machine.specs.Jobs.{all_hung}
+use Rattle.fs_machine.specs.Attempts.{all_hung}
 use Rattle.fs_machine.proofs.HeldLemmas.{held_here, held_within}
 use Rattle.fs_machine.proofs.ShortLemmas.{sent_short, application_short, endpoint_short}
 use Rattle.fs_machine.proofs.Kept.{Fact, Stays, KeptByCalls, KeptByBirths}

@@ -15,7 +15,8 @@ use Rattle.fs_machine.specs.declared.originations.Caller.{Caller}
 use Rattle.fs_machine.specs.Texts.{made_text, failed_text}
 use Rattle.fs_machine.specs.Connections.{conn_changed_from, conn_changed, admitted, parted, owed_since, not_owed}
 use Rattle.fs_machine.specs.Originations.{leg_made, won}
-use Rattle.fs_machine.specs.Jobs.{owing, ended, orig_begun, originate_begun}
+use Rattle.fs_machine.specs.Attempts.{orig_begun, originate_begun}
+use Rattle.fs_machine.specs.Owing.{owing, ended}
 use Rattle.fs_machine.proofs.RowLemmas.{each_put_at}
 use Rattle.fs_machine.proofs.TableLemmas.{row_found}
 use Rattle.fs_machine.proofs.Kept.{Fact, DoesJob, IsShortWinner, KeptByMoves}

@@ -18,7 +18,8 @@ use Rattle.fs_state.specs.Switch.{Switch, chan_at, slot_named, is_full_of_jobs}
 use Rattle.fs_state.specs.Moves.{hung}
 use Rattle.fs_machine.specs.Texts.{ok, yes, no, limit_passed, too_long_text, usage_text, api_not_found, no_channel, undefined, too_many_jobs, failed_text}
 use Rattle.fs_machine.specs.declared.originations.Caller.{Caller}
-use Rattle.fs_machine.specs.Jobs.{sleep_begun, originate_begun}
+use Rattle.fs_machine.specs.Attempts.{originate_begun}
+use Rattle.fs_machine.specs.Jobs.{sleep_begun}
 
 -- the switch after an api command, and its answer, unless that is owed
 pub record Done : Type 0 where

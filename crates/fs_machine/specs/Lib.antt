@@ -8,6 +8,8 @@ pub mod Here
 pub mod Applications
 pub mod Work
 pub mod Originations
+pub mod Owing
+pub mod Attempts
 pub mod Jobs
 pub mod Api
 pub mod Commands

@@ -6,7 +6,8 @@ ghost use Rattle.fs_state.specs.Drafts.{drafted};
 ghost use Rattle.fs_state.specs.Switch.{slot_named};
 ghost use Rattle.fs_machine.specs.Api as spec;
 
-use crate::jobs::{begin_originate, begin_sleep};
+use crate::attempts::begin_originate;
+use crate::jobs::begin_sleep;
 use crate::originations::Caller;
 use crate::texts::{api_not_found, failed_text, usage_text};
 use fs_api::{Api, Winner, usage};

@@ -1,46 +1,13 @@
-ghost use Rattle.std.specs.Prelude.{◌≡◌, Some, slice_get, IfOk, OnOk};
-ghost use Rattle.fs_text.specs.declared.causes.Cause.TheVariants.{NoAnswer};
+//! What jobs do: a sleep that is over is answered, and an origination is judged.
+ghost use Rattle.std.specs.Prelude.{◌≡◌, OnOk};
 ghost use Rattle.fs_state.specs.Drafts.{drafted};
-ghost use Rattle.fs_state.specs.Switch.{orig_of};
 ghost use Rattle.fs_machine.specs.Jobs as spec;
 
-use crate::connections::{owe, settle};
-use crate::originations::{Caller, make_leg, win};
-use crate::texts::{failed_text, made_text, speak};
-use fs_api::Winner;
+use crate::attempts::{Attempt, judge_attempt};
+use crate::owing::{begin_job, end_job};
 use fs_chan::moment_after;
-use fs_orig::{LegGroup, LegPlan, LegPlans, Orig, OrigLeg, OrigLegs, Owner, Verdict, judge};
-use fs_state::{Draft, Job, JobWork};
-use fs_text::{Cause, Headers, Memory, Txt};
-use std::alloc::Global;
-
-/// How many seconds an origination has without a timeout.
-const DEFAULT_TIMEOUT: u64 = 60;
-
-// ---- replies that are owed
-
-// A job begins, and the reply to the command in hand is owed until it ends.
-fn begin_job(draft: &mut Draft<'_>, conn: u32, work: JobWork) -> Result<(), Memory>
-    ensures base { draft.new.base ≡ draft.old.base }
-    ensures ok { OnOk result (drafted draft.new ≡ spec.owing conn work (drafted draft.old)) }
-{
-    let place = draft.place();
-    let _number = draft.add_job(Job { conn, work })?;
-    owe(draft, conn, place)
-}
-
-// A job ends, and the reply is given.
-fn end_job(draft: &mut Draft<'_>, number: u64, conn: u32, answer: &[u8]) -> Result<(), Memory>
-    ensures base { draft.new.base ≡ draft.old.base }
-    ensures ok { OnOk result (drafted draft.new ≡ spec.ended number conn answer.now (drafted draft.old)) }
-{
-    draft.drop_job(number)?;
-    settle(draft, conn)?;
-    let frame = speak(draft.alloc(), answer)?;
-    draft.give(conn, frame)
-}
-
-// ---- msleep
+use fs_state::{Draft, JobWork};
+use fs_text::Memory;
 
 /// A connection is to wait so many milliseconds for its reply.
 pub(crate) fn begin_sleep(draft: &mut Draft<'_>, conn: u32, milliseconds: u64) -> Result<(), Memory>
@@ -49,63 +16,6 @@ pub(crate) fn begin_sleep(draft: &mut Draft<'_>, conn: u32, milliseconds: u64) -
 {
     let until = moment_after(draft.moment(), milliseconds.saturating_mul(1_000));
     begin_job(draft, conn, JobWork::Sleep { until })
-}
-
-// ---- originate
-
-/// An origination of one leg begins, to which the reply is owed.
-pub(crate) fn begin_originate(
-    draft: &mut Draft<'_>,
-    conn: u32,
-    url: &Txt,
-    winner: &Winner,
-    caller: Caller,
-    timeout: Option<u64>,
-) -> Result<(), Memory>
-    ensures base { draft.new.base ≡ draft.old.base }
-    ensures ok { OnOk result (drafted draft.new ≡ spec.originate_begun conn url.now winner.now caller timeout (drafted draft.old)) }
-{
-    let orig = draft.next_orig();
-    let leg = make_leg(draft, url, caller, orig)?;
-    begin_orig(draft, url.copy()?, leg, timeout.unwrap_or(DEFAULT_TIMEOUT))?;
-    let winner = winner.copy()?;
-    begin_job(draft, conn, JobWork::Originate { orig, winner })
-}
-
-// The origination of the next number begins: one leg is tried, until a deadline.
-fn begin_orig(
-    draft: &mut Draft<'_>,
-    endpoint: Txt,
-    leg: OrigLeg,
-    timeout: u64,
-) -> Result<(), Memory>
-    ensures base { draft.new.base ≡ draft.old.base }
-    ensures ok { OnOk result (drafted draft.new ≡ spec.orig_begun endpoint leg timeout (drafted draft.old)) }
-{
-    let alloc = draft.alloc();
-    let mut group = LegGroup::new(alloc);
-    group.push(LegPlan {
-        endpoint,
-        pairs: Headers::new(alloc),
-    })?;
-    let mut groups = LegPlans::new(alloc);
-    groups.push(group)?;
-    let mut legs = OrigLegs::new(alloc);
-    legs.push(leg)?;
-    let owner = Owner::Job(draft.next_job());
-    let deadline = moment_after(draft.moment(), timeout.saturating_mul(1_000_000));
-    let _number = draft.add_orig(Orig::new(owner, groups, legs, deadline))?;
-    Ok(())
-}
-
-// ---- jobs
-
-// An origination that a job tries, and the connection that is owed the reply.
-#[derive(Clone, Copy, Debug)]
-pub(crate) struct Attempt {
-    pub(crate) job: u64,
-    pub(crate) conn: u32,
-    pub(crate) orig: u64,
 }
 
 /// Does what a job has to do.
@@ -139,106 +49,4 @@ fn do_work(draft: &mut Draft<'_>, number: u64, conn: u32, work: &JobWork) -> Res
             judge_attempt(draft, attempt, winner)
         }
     }
-}
-
-// Does what the verdict on an origination says.
-fn judge_attempt(draft: &mut Draft<'_>, attempt: Attempt, winner: &Winner) -> Result<(), Memory>
-    ensures base { draft.new.base ≡ draft.old.base }
-    ensures ok { OnOk result (drafted draft.new ≡ spec.judged_from attempt winner.now (orig_of (drafted draft.old) attempt.orig) (drafted draft.old)) }
-{
-    let Some(orig) = draft.orig(attempt.orig) else {
-        return Ok(());
-    };
-    match judge(orig, draft.moment()) {
-        Verdict::Won { position } => {
-            let leg = leg_at(orig, position as usize)?;
-            win_attempt(draft, attempt, winner, leg)
-        }
-        Verdict::Failed(cause) => fail(draft, attempt, cause),
-        Verdict::Expired => {
-            let slots = living_slots(draft.alloc(), orig)?;
-            expire(draft, attempt, &slots)
-        }
-        _ => Ok(()),
-    }
-}
-
-// The leg of an origination at a position.
-fn leg_at(orig: &Orig, position: usize) -> Result<Option<OrigLeg>, Memory>
-    ensures { IfOk result (λ leg. leg ≡ slice_get orig.now.legs position) }
-{
-    match orig.legs.as_slice().get(position) {
-        Some(leg) => Ok(Some(leg.copy()?)),
-        None => Ok(None),
-    }
-}
-
-// A leg has won, if there is one.
-fn win_attempt(
-    draft: &mut Draft<'_>,
-    attempt: Attempt,
-    winner: &Winner,
-    leg: Option<OrigLeg>,
-) -> Result<(), Memory>
-    ensures base { draft.new.base ≡ draft.old.base }
-    ensures ok { OnOk result (drafted draft.new ≡ spec.won_at attempt winner.now leg (drafted draft.old)) }
-{
-    let Some(leg) = leg else {
-        return Ok(());
-    };
-    win(draft, leg.slot.unwrap_or(0), winner)?;
-    draft.drop_orig(attempt.orig)?;
-    let answer = made_text(draft.alloc(), leg.uuid.as_bytes())?;
-    end_job(draft, attempt.job, attempt.conn, answer.as_bytes())
-}
-
-// An origination comes to its deadline: its legs in these slots are hung up.
-fn expire(draft: &mut Draft<'_>, attempt: Attempt, slots: &[u16]) -> Result<(), Memory>
-    ensures base { draft.new.base ≡ draft.old.base }
-    ensures ok { OnOk result (drafted draft.new ≡ spec.failed attempt NoAnswer (spec.all_hung NoAnswer slots.now (drafted draft.old))) }
-{
-    hang_up_all(draft, slots, Cause::NoAnswer)?;
-    fail(draft, attempt, Cause::NoAnswer)
-}
-
-// An origination has failed.
-fn fail(draft: &mut Draft<'_>, attempt: Attempt, cause: Cause) -> Result<(), Memory>
-    ensures base { draft.new.base ≡ draft.old.base }
-    ensures ok { OnOk result (drafted draft.new ≡ spec.failed attempt cause (drafted draft.old)) }
-{
-    draft.drop_orig(attempt.orig)?;
-    let answer = failed_text(draft.alloc(), cause)?;
-    end_job(draft, attempt.job, attempt.conn, answer.as_bytes())
-}
-
-// The slots of the legs of an origination that live.
-#[tactic(auto, using(crate::proofs::LegLemmas::living_there, crate::proofs::LegLemmas::living_elsewhere, crate::proofs::LegLemmas::living_done))]
-fn living_slots(alloc: Global, orig: &Orig) -> Result<Vec<u16>, Memory>
-    ensures { IfOk result (λ slots. slots.items ≡ spec.living_slots orig.now.legs) }
-{
-    let mut slots = Vec::new(alloc);
-    for leg in orig.legs.as_slice() {
-        if let Some(slot) = living_slot(leg) {
-            slots.push(slot)?;
-        }
-    }
-    Ok(slots)
-}
-
-// The slot of a leg, if it lives.
-fn living_slot(leg: &OrigLeg) -> Option<u16>
-    ensures { result ≡ spec.living_slot leg.now }
-{
-    if leg.lives() { leg.slot } else { None }
-}
-
-// The channels in these slots are hung up, one after another.
-fn hang_up_all(draft: &mut Draft<'_>, slots: &[u16], cause: Cause) -> Result<(), Memory>
-    ensures base { draft.new.base ≡ draft.old.base }
-    ensures ok { OnOk result (drafted draft.new ≡ spec.all_hung cause slots.now (drafted draft.old)) }
-{
-    for slot in slots {
-        draft.hang_up(*slot, cause)?;
-    }
-    Ok(())
 }

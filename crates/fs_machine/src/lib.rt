@@ -4,6 +4,7 @@
 mod acts;
 mod api;
 mod applications;
+mod attempts;
 mod blocks;
 mod commands;
 mod connections;
@@ -14,6 +15,7 @@ mod journal;
 mod laws;
 mod machine;
 mod originations;
+mod owing;
 mod questions;
 mod refusal;
 mod refused;

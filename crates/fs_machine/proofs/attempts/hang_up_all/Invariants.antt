@@ -1,7 +1,7 @@
 use Rattle.std.proofs.Common.{◌≡◌, drop}
 use Rattle.fs_state.specs.Drafts.{drafted}
-use Rattle.fs_machine.specs.Jobs.{all_hung}
-use Rattle.fs_machine.proofs.jobs.hang_up_all.Given as goal
+use Rattle.fs_machine.specs.Attempts.{all_hung}
+use Rattle.fs_machine.proofs.attempts.hang_up_all.Given as goal
 
 abbrev pub invariant-loop-slot : goal.invariant-loop-slot
 invariant-loop-slot l =

@@ -1,0 +1,35 @@
+//! Replies that are owed: a job begins with one, and ends as it is given.
+ghost use Rattle.std.specs.Prelude.{◌≡◌, OnOk};
+ghost use Rattle.fs_state.specs.Drafts.{drafted};
+ghost use Rattle.fs_machine.specs.Owing as spec;
+
+use crate::connections::{owe, settle};
+use crate::texts::speak;
+use fs_state::{Draft, Job, JobWork};
+use fs_text::Memory;
+
+/// A job begins, and the reply to the command in hand is owed until it ends.
+pub(crate) fn begin_job(draft: &mut Draft<'_>, conn: u32, work: JobWork) -> Result<(), Memory>
+    ensures base { draft.new.base ≡ draft.old.base }
+    ensures ok { OnOk result (drafted draft.new ≡ spec.owing conn work (drafted draft.old)) }
+{
+    let place = draft.place();
+    let _number = draft.add_job(Job { conn, work })?;
+    owe(draft, conn, place)
+}
+
+/// A job ends, and the reply is given.
+pub(crate) fn end_job(
+    draft: &mut Draft<'_>,
+    number: u64,
+    conn: u32,
+    answer: &[u8],
+) -> Result<(), Memory>
+    ensures base { draft.new.base ≡ draft.old.base }
+    ensures ok { OnOk result (drafted draft.new ≡ spec.ended number conn answer.now (drafted draft.old)) }
+{
+    draft.drop_job(number)?;
+    settle(draft, conn)?;
+    let frame = speak(draft.alloc(), answer)?;
+    draft.give(conn, frame)
+}

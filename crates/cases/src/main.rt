@@ -1,5 +1,5 @@
-//! Answers the cases of its input, a line each: `api echo hi`, `check <document/>`, `run play f`. It prints each line as it is, and behind a
-//! case its answer, indented.
+//! Answers the cases of its input, a line each: `api echo hi`, `document <document/>`, `run play f`. It prints each line as it is, and
+//! behind a case its answer, indented.
 #![tactic(auto)]
 
 mod answer;

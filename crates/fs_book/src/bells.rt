@@ -6,32 +6,33 @@ use std::{hint, thread};
 // How many bells there are. Callers whose tickets are a multiple of that apart share one.
 const BELLS: usize = 64;
 
-// How often the next caller reads the turn before it yields its processor at each read, and before it sleeps.
+// How often who is next reads the turn before it yields its processor at each read.
 const QUICK_READS: u32 = 100;
 
+// How often it reads the turn before it sleeps.
 const AWAKE_READS: u32 = 120;
 
-// What a bell shows that nobody has set. A ticket's mark is odd.
+// What a bell shows that nobody has set.
 const SILENT: u64 = 0;
 
-// How long a caller has waited awake, and whether its bell was set before it read the turn the last time.
+// How often a caller has read the turn as the next one, and whether it has set its bell since it last slept.
 #[derive(Drop)]
 pub struct Patience {
     reads: u32,
-    has_set: bool,
+    has_set_bell: bool,
 }
 
 impl Patience {
     pub fn new() -> Patience {
         Patience {
             reads: 0,
-            has_set: false,
+            has_set_bell: false,
         }
     }
 }
 
-// A caller sets the bell of its ticket, reads the turn again, and sleeps while the bell shows its mark. Whoever passes the turn on rings
-// afterwards. So a caller that read the turn too early is rung, or finds that its mark is gone.
+// A caller sets the bell of its ticket to the ticket's mark, reads the turn again, and sleeps while the mark is there. Whoever passes
+// the turn on rings afterwards. So a caller that read the turn too early is woken, or finds its mark gone.
 #[derive(Drop)]
 pub struct Bells {
     bells: [AtomicU64; BELLS],
@@ -44,7 +45,7 @@ impl Bells {
         }
     }
 
-    // Lets a caller wait that read the turn and has a later ticket. Only who is next stays awake for a while.
+    // Lets a caller wait that has a ticket, and read the turn of an earlier one. Only who is next stays awake for a while.
     pub fn wait(&self, rt: &impl Wait, patience: &mut Patience, ticket: u64, turn: u64) {
         let is_next = turn.wrapping_add(1) == ticket;
         if is_next && patience.reads < AWAKE_READS {
@@ -54,19 +55,20 @@ impl Bells {
                 thread::yield_now();
             }
             patience.reads += 1;
-        } else if patience.has_set {
-            self.of(ticket).park(rt, mark(ticket));
-            patience.has_set = false;
+        } else if patience.has_set_bell {
+            self.bell(ticket).park(rt, mark(ticket));
+            patience.has_set_bell = false;
         } else {
-            self.of(ticket).store(mark(ticket) as u64, Ordering::SeqCst);
-            patience.has_set = true;
+            self.bell(ticket)
+                .store(mark(ticket) as u64, Ordering::SeqCst);
+            patience.has_set_bell = true;
         }
     }
 
-    // The turn was passed on: wakes who is next, and who then is, so that it is awake by its turn.
+    // Wakes the caller to whom the turn was passed, and the one behind, so that it is awake by its own turn.
     pub fn ring(&self, turn: u64) {
         for ticket in [turn, turn.wrapping_add(1)] {
-            let bell = self.of(ticket);
+            let bell = self.bell(ticket);
             if bell.load(Ordering::SeqCst) != SILENT {
                 bell.store(SILENT, Ordering::SeqCst);
                 bell.wake_all();
@@ -74,12 +76,12 @@ impl Bells {
         }
     }
 
-    fn of(&self, ticket: u64) -> &AtomicU64 {
+    fn bell(&self, ticket: u64) -> &AtomicU64 {
         &self.bells[(ticket % BELLS as u64) as usize]
     }
 }
 
-// What the bell of a ticket shows once it is set.
+// What the bell of a ticket shows once it is set: an odd number, and another one for each caller that waits.
 fn mark(ticket: u64) -> u32 {
     (ticket % (1 << 31)) as u32 * 2 + 1
 }

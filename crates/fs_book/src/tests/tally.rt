@@ -22,7 +22,7 @@ impl Tally {
 
 impl Turned for Tally {
     ghost use Rattle.std.specs.Prelude.{◌≡◌, ◌+◌, false, length, None};
-    ghost use Rattle.fs_book.specs.Numbered.{by_place, by_place_once};
+    ghost use Rattle.fs_book.specs.Numbered.{by_count, by_count_once};
 
     type Start = ();
 
@@ -46,11 +46,11 @@ impl Turned for Tally {
 
     ghost refuses = { λ _ _ _ _. Unit {0} };
 
-    ghost opens = { λ _ log entry. by_place (λ _. false) log entry };
+    ghost opens = { λ _ log entry. by_count (λ _. false) log entry };
 
     ghost names = { λ _. None };
 
-    ghost opens_once = { by_place_once (λ _. false) };
+    ghost opens_once = { by_count_once (λ _. false) };
 
     ghost fits_longer = { λ _ _ _ _ _ fit. fit };
 

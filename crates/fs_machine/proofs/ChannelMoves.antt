@@ -22,6 +22,7 @@ use Rattle.fs_machine.proofs.Kept.{Fact, Links, Stays, DoesJob, HasLeg, IsShortW
 use Rattle.fs_machine.proofs.ShortLemmas.{sent_short, profile_short}
 use Rattle.fs_machine.proofs.Walk.{hangup_dead, state_told_kept, hung_kept}
 use Rattle.fs_machine.proofs.FrontLemmas.{Front, front_of, orig_changed_front, moves_by_front}
+use Rattle.fs_machine.proofs.LegTables.{seated}
 use Rattle.fs_machine.proofs.LegMoves.{roles_of, IsLegOf, LegsStand, has_leg}
 use Rattle.fs_machine.proofs.WinnerMoves.{WinnersAreShort, winner_of_job}
 
@@ -90,7 +91,7 @@ won_at_fit winner slot s short live h = by (chan_at s slot) refl
 wins_fit : (a : Attempt) (winner : Winner) (leg : OrigLeg) (s : Switch) → DoesJob s a.job a.conn (Originate a.orig winner) → HasLeg s a.orig leg → LegsStand (roles_of s) → WinnersAreShort s.jobs →
     AllFit s.channels → AllFit (won winner (unwrap_or leg.slot 0) s).channels
 wins_fit a winner leg s does has stand short h =
-    let stands : IsLegOf s.channels leg.slot a.orig = has_leg s a.orig leg has stand in
+    let stands : IsLegOf s.channels (seated a.orig leg.slot) = has_leg s a.orig leg has stand in
     let same : unwrap_or leg.slot 0 ≡ stands.at = ap (λ (slot : Option ℕ). unwrap_or slot 0) stands.is in
     won_at_fit winner (unwrap_or leg.slot 0) s (winner_of_job s a.job a.conn a.orig winner does short)
     (λ c is. ap is_live (same_there c stands.chan (sym is ∙ (ap (chan_at s) same ∙ stands.there))) ∙ stands.live) h

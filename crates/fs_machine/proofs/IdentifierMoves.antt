@@ -6,12 +6,12 @@ use Rattle.fs_api.specs.declared.api.Winner.TheVariants.{App, Route}
 use Rattle.fs_chan.specs.declared.chan.Chan.{Chan}
 use Rattle.fs_chan.specs.Changes.{hung_up}
 use Rattle.fs_orig.specs.Changes.{with_answer}
-use Rattle.fs_state.specs.Switch.{Switch, chan_at, with_chan, free_slot, identified, identifier_of}
+use Rattle.fs_state.specs.Switch.{Switch, chan_at, with_chan, identified, identifier_of}
 use Rattle.fs_state.specs.Moves.{moved_from, orig_changed, leg_changed, hung}
 use Rattle.fs_machine.specs.declared.originations.Call.{Call}
 use Rattle.fs_machine.specs.declared.originations.End.{End}
 use Rattle.fs_machine.specs.Originations.{end_of, end_made, leg_end, far_end, pair_made, won_by, won}
-use Rattle.fs_machine.proofs.HeldLemmas.{IsFree, free_place}
+use Rattle.fs_machine.proofs.HeldLemmas.{IsFree}
 use Rattle.fs_machine.proofs.Kept.{Fact, Links, KeptByMoves}
 use Rattle.fs_machine.proofs.Walk.{state_told_kept, hung_kept}
 use Rattle.fs_machine.proofs.FrontLemmas.{Front, front_of, orig_changed_front, moves_by_front}
@@ -29,10 +29,8 @@ NumbersFrom x b t = Numbers (drawn_by b) x (seen t)
 end_numbers : (call : Call) (end : End) (s : Switch) → end.slot < length s.channels → Numbers 1 (seen s) (seen (end_made call end s))
 end_numbers call end s within = numbers_new (seen s) end.slot (end_of call end (identifier_of (identified s))) within refl
 
-pair_numbers : (call : Call) (orig a b : ℕ) (s : Switch) → free_slot 1 s ≡ Some a → free_slot (a + 1) s ≡ Some b → Numbers 2 (seen s) (seen (pair_made call orig a b s))
-pair_numbers call orig a b s first second =
-    let free_a : IsFree Chan s.channels 1 a = free_place Chan s.channels 1 a first in
-    let free_b : IsFree Chan s.channels (a + 1) b = free_place Chan s.channels (a + 1) b second in
+pair_numbers : (call : Call) (orig a b : ℕ) (s : Switch) → IsFree Chan s.channels 1 a → IsFree Chan s.channels (a + 1) b → Numbers 2 (seen s) (seen (pair_made call orig a b s))
+pair_numbers call orig a b s free_a free_b =
     let t : Switch = end_made call (leg_end orig a b) s in
     let u : Switch = end_made call (far_end a b) t in
     let leg : Chan = end_of call (leg_end orig a b) (identifier_of (identified s)) in

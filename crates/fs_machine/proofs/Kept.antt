@@ -19,7 +19,7 @@ use Rattle.fs_state.specs.declared.conn.Parting.TheVariants as parting
 use Rattle.fs_state.specs.declared.event.Event.{Event}
 use Rattle.fs_state.specs.declared.job.JobWork.{JobWork}
 use Rattle.fs_state.specs.declared.job.JobWork.TheVariants as work
-use Rattle.fs_state.specs.Switch.{Switch, chan_at, with_chan, free_slot, is_full_of_jobs, orig_of, job_of, without_orig, without_conn, with_frame_taken, told, gave}
+use Rattle.fs_state.specs.Switch.{Switch, chan_at, with_chan, is_full_of_jobs, orig_of, job_of, without_orig, without_conn, with_frame_taken, told, gave}
 use Rattle.fs_state.specs.Moves.{orig_changed, leg_changed, hung}
 use Rattle.fs_machine.specs.declared.attempts.Attempt.{Attempt}
 use Rattle.fs_machine.specs.declared.originations.Call.{Call}
@@ -30,6 +30,7 @@ use Rattle.fs_machine.specs.Originations.{pair_made, target_of, won}
 use Rattle.fs_machine.specs.Attempts.{originate_begun, failed}
 use Rattle.fs_machine.specs.Owing.{owing, ended}
 use Rattle.fs_machine.specs.Step.{arrived}
+use Rattle.fs_machine.proofs.HeldLemmas.{IsFree}
 
 -- A fact on a switch while an entry is done. By true nothing has begun in this entry that draws a number, by false one such thing may have.
 abbrev pub Fact : Type 1
@@ -65,7 +66,7 @@ pub record KeptByCalls (P : Fact) : Type 0 where
 -- how channels are born
 pub record KeptByBirths (P : Fact) : Type 0 where
   pub spent : {s : Switch} → P true s → P false s
-  pub pair : (call : Call) (orig a b : ℕ) {s : Switch} → IsShortAddress call.exten call.context → free_slot 1 s ≡ Some a → free_slot (a + 1) s ≡ Some b → P true s →
+  pub pair : (call : Call) (orig a b : ℕ) {s : Switch} → IsShortAddress call.exten call.context → IsFree Chan s.channels 1 a → IsFree Chan s.channels (a + 1) b → P true s →
       P false (pair_made call orig a b s)
 
 -- ---- moves of jobs

@@ -37,6 +37,7 @@ pub mod SeenLemmas
 pub mod TieLemmas
 pub mod PartnerMoves
 pub mod IdentifierMoves
+pub mod LegTables
 pub mod LegMoves
 pub mod WinnerMoves
 pub mod ChannelMoves

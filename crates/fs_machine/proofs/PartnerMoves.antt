@@ -6,11 +6,11 @@ use Rattle.fs_api.specs.declared.api.Winner.TheVariants.{App, Route}
 use Rattle.fs_chan.specs.declared.chan.Chan.{Chan}
 use Rattle.fs_chan.specs.Changes.{is_live}
 use Rattle.fs_orig.specs.Changes.{with_answer}
-use Rattle.fs_state.specs.Switch.{Switch, chan_at, with_chan, free_slot, identified, identifier_of}
+use Rattle.fs_state.specs.Switch.{Switch, chan_at, with_chan, identified, identifier_of}
 use Rattle.fs_state.specs.Moves.{moved_from, orig_changed, leg_changed, partner_of, partner_at, one_hung, hung_with, hung}
 use Rattle.fs_machine.specs.declared.originations.Call.{Call}
 use Rattle.fs_machine.specs.Originations.{end_of, end_made, leg_end, far_end, pair_made, won_by, won}
-use Rattle.fs_machine.proofs.HeldLemmas.{IsFree, free_place, held_within}
+use Rattle.fs_machine.proofs.HeldLemmas.{IsFree, held_within}
 use Rattle.fs_machine.proofs.Kept.{Fact, Links, KeptByMoves}
 use Rattle.fs_machine.proofs.Walk.{new_lives, execute_lives, routing_lives, state_told_kept}
 use Rattle.fs_machine.proofs.FrontLemmas.{Front, front_of, orig_changed_front, moves_by_front}
@@ -39,10 +39,8 @@ hung_partners cause slot s h = by (partner_at s slot) refl
     by (Some partner) is = in_order partner is (nat_lt slot partner)
 
 -- the two ends of a pair name each other
-pair_partners : (call : Call) (orig a b : ℕ) (s : Switch) → free_slot 1 s ≡ Some a → free_slot (a + 1) s ≡ Some b → Ties partner_of s.channels → Ties partner_of (pair_made call orig a b s).channels
-pair_partners call orig a b s first second h =
-    let free_a : IsFree Chan s.channels 1 a = free_place Chan s.channels 1 a first in
-    let free_b : IsFree Chan s.channels (a + 1) b = free_place Chan s.channels (a + 1) b second in
+pair_partners : (call : Call) (orig a b : ℕ) (s : Switch) → IsFree Chan s.channels 1 a → IsFree Chan s.channels (a + 1) b → Ties partner_of s.channels → Ties partner_of (pair_made call orig a b s).channels
+pair_partners call orig a b s free_a free_b h =
     let t : Switch = end_made call (leg_end orig a b) s in
     ties_joined partner_of s.channels a b (end_of call (leg_end orig a b) (identifier_of (identified s))) (end_of call (far_end a b) (identifier_of (identified t))) (λ same. omega (arith, free_b.behind, same))
     free_a.within free_b.within (ap (option_and_then partner_of) free_a.free) (ap (option_and_then partner_of) free_b.free) refl refl new_lives new_lives h

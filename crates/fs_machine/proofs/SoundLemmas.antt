@@ -26,10 +26,10 @@ use Rattle.fs_machine.proofs.FramesLaws.{config_step}
 use Rattle.fs_machine.proofs.ActWalk.{acted_kept}
 use Rattle.fs_machine.proofs.OwedBooks.{books_of}
 use Rattle.fs_machine.proofs.OwedLaws.{Holds, holds_empty, holds_step}
-use Rattle.fs_machine.proofs.TableLemmas.{none_held}
 use Rattle.fs_machine.proofs.PartnerMoves.{Partners, partners_moves}
 use Rattle.fs_machine.proofs.SeenLemmas.{seen, uuid_of, uuid_in, Named, Numbers, numbers_stay}
 use Rattle.fs_machine.proofs.IdentifierMoves.{NumbersFrom, numbers_moves}
+use Rattle.fs_machine.proofs.LegTables.{Seat, seat_at, seat_number}
 use Rattle.fs_machine.proofs.LegMoves.{roles_of, LegsStand, Legs, legs_moves}
 use Rattle.fs_machine.proofs.WinnerMoves.{ShortIn, WinnersAreShort, Winners, winners_moves}
 use Rattle.fs_machine.proofs.ChannelMoves.{FitsIn, AllFit, Fit, fit_there, fit_moves}
@@ -84,13 +84,16 @@ record Stands (s : Switch) : Type 0 where
 none_stands : (T : Type 0) (count number place : ℕ) → has_number number (held_in (no_places {T = Numbered T} count) place) ≡ true → ⊥
 none_stands T count number place stands = both_ways (has_number number (held_in (no_places {T = Numbered T} count) place)) (ap (has_number number) (nothing_held (Numbered T) count place)) stands
 
+none_seated : (place position : ℕ) (seat : Seat) → seat_at (no_places {T = Numbered Orig} 1280) place position ≡ Some seat → ⊥
+none_seated place position seat h = none_stands Orig 1280 seat.number place (seat_number position (held_in (no_places {T = Numbered Orig} 1280) place) seat h)
+
 nothing_stands : (config : Configuration) → Stands (empty config)
 nothing_stands config = record {
   legs = record {
     distinct = λ number p q is_p is_q. absurd (none_stands Orig 1280 number p is_p);
     within = λ number p is. absurd (none_stands Orig 1280 number p is);
-    stand = λ place position number slot has. absurd (none_held 1280 place has.row has.there);
-    apart = λ place p q number slot first second. absurd (none_held 1280 place first.row first.there);
+    stand = λ place position seat has. absurd (none_seated place position seat has);
+    apart = λ place p q seat first second. absurd (none_seated place p seat first);
   };
   winners = λ place. subst ShortIn (sym (nothing_held (Numbered Job) 1024 place)) tt;
   fit = λ slot. subst FitsIn (sym (nothing_held Chan (config.settings.max_sessions + 1) slot)) tt;

@@ -39,7 +39,7 @@ use Rattle.fs_machine.specs.Applications.{with_variable, without_variable, with_
 use Rattle.fs_machine.specs.Work.{with_variables, routed_to, actions_for, too_long_cause, found_for, routed_by, routing_from, first_state, worked_waiting, worked_in, worked_from, worked}
 use Rattle.fs_machine.specs.Originations.{Made, made_in, with_second, free_pair, is_congested, made_of, leg_made}
 use Rattle.fs_machine.specs.Attempts.{all_hung}
-use Rattle.fs_machine.proofs.HeldLemmas.{held_here, held_within}
+use Rattle.fs_machine.proofs.HeldLemmas.{held_here, held_within, free_place}
 use Rattle.fs_machine.proofs.ShortLemmas.{sent_short, application_short, endpoint_short}
 use Rattle.fs_machine.proofs.Kept.{Fact, Stays, KeptByCalls, KeptByBirths}
 
@@ -154,7 +154,22 @@ moved_lives change slot s stays at =
       live = (stays at.chan).live ∙ at.live;
     })
 
--- ---- hangups, for what each channel that is hung up keeps alone
+-- ---- hangups
+
+-- for what is kept where one channel is hung up
+module _ (P : Switch → Type 0) (one_kept : (cause : Cause) (slot : ℕ) (s : Switch) → P s → P (one_hung cause slot s)) where
+  pub pair_hung_kept : (cause : Cause) (slot : ℕ) (s : Switch) → P s → P (hung cause slot s)
+  pair_hung_kept cause slot s h = by (partner_at s slot)
+    where
+      in_order : (partner : ℕ) (test : Bool) → P (if test then one_hung cause partner (one_hung cause slot s) else one_hung cause slot (one_hung cause partner s))
+      in_order partner true = one_kept cause partner (one_hung cause slot s) (one_kept cause slot s h)
+      in_order partner false = one_kept cause slot (one_hung cause partner s) (one_kept cause partner s h)
+
+      by : (partner : Option ℕ) → P (hung_with cause slot partner s)
+      by None = one_kept cause slot s h
+      by (Some partner) = in_order partner (nat_lt slot partner)
+
+-- for what is kept where a channel is cut off, and where its leg is changed
 
 module _ (P : Switch → Type 0) (told_kept : (event : Event) (s : Switch) → event.bridge ≡ 0 → P s → P (told event s))
     (cut_kept : (cause : Cause) (slot : ℕ) (c : Chan) (s : Switch) → chan_at s slot ≡ Some c → P s → P (with_chan slot (Some (hung_up cause c)) s))
@@ -174,13 +189,7 @@ module _ (P : Switch → Type 0) (told_kept : (event : Event) (s : Switch) → e
           (state_told_kept P told_kept c.state CsHangup (told_kept (hangup_of cause) _ refl (cut_kept cause slot c s is h)))) h
 
   pub hung_kept : (cause : Cause) (slot : ℕ) (s : Switch) → P s → P (hung cause slot s)
-  hung_kept cause slot s h = by (partner_at s slot)
-    where
-      by : (partner : Option ℕ) → P (hung_with cause slot partner s)
-      by None = one_hung_kept cause slot s h
-      by (Some partner) =
-          differing_kept P told_kept (nat_lt slot partner) (one_hung_kept cause partner (one_hung cause slot s) (one_hung_kept cause slot s h))
-          (one_hung_kept cause slot (one_hung cause partner s) (one_hung_kept cause partner s h))
+  hung_kept cause slot s h = pair_hung_kept P one_hung_kept cause slot s h
 
 -- ---- channels
 
@@ -363,7 +372,7 @@ module _ (P : Fact) (births : KeptByBirths P) where
     where
       second : (a : ℕ) → free_slot 1 s ≡ Some a → (found : Option ℕ) → free_slot (a + 1) s ≡ found → P false (made_in call orig (option_map (λ b. (a, b)) found) s).state
       second a is_a None is = births.spent h
-      second a is_a (Some b) is = births.pair call orig a b short is_a is h
+      second a is_a (Some b) is = births.pair call orig a b short (free_place Chan s.channels 1 a is_a) (free_place Chan s.channels (a + 1) b is) h
 
       first : (found : Option ℕ) → free_slot 1 s ≡ found → P false (made_in call orig (option_and_then (with_second s) found) s).state
       first None is = births.spent h

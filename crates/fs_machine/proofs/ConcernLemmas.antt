@@ -2,13 +2,11 @@
 use Rattle.std.proofs.Common.{◌≡◌, ◌≢◌, ℕ, ◌-◌, ◌^◌, ◌<◌, ◌≤◌, ◌==◌, Bool, true, false, not, if◌then◌else◌, List, [], ◌∷◌, ◌++◌, length, take, Option, None, Some, is_none, ◌⊎◌, inl, inr, refl, ap, subst, ◌∙◌}
 use Rattle.std.proofs.lemmas.Bool.{both_ways, eq-eqb, ne_eqb, cases_eq}
 use Rattle.std.proofs.lemmas.Option.{same_Some, none-some}
-use Rattle.fs_frame.specs.Block.{line_of}
 use Rattle.fs_doc.specs.Reading.{Configuration}
 use Rattle.fs_places.specs.Places.{least_free}
 use Rattle.fs_places.specs.Rows.{place_of, row_of, with_new_row}
 use Rattle.fs_state.specs.declared.conn.Phase.{Phase}
 use Rattle.fs_state.specs.declared.conn.Phase.TheVariants.{Fresh, Ready, Ending, Closed}
-use Rattle.fs_state.specs.declared.conn.Parting.TheVariants as parting
 use Rattle.fs_state.specs.Drawn as numbers
 use Rattle.fs_state.specs.Switch.{Switch, empty, conn_of, waiting_for, without_conn, is_full_of_conns, advanced}
 use Rattle.fs_machine.specs.declared.entry.Entry.{Entry}
@@ -18,17 +16,14 @@ use Rattle.fs_machine.specs.declared.entry.Closing.TheVariants.{EndOfInput, Sent
 use Rattle.fs_machine.specs.declared.refusal.Refusal.TheVariants as refusal
 use Rattle.fs_machine.specs.Texts.{auth_request}
 use Rattle.fs_machine.specs.Entries.{cost_of}
-use Rattle.fs_machine.specs.Connections.{phase_of, phase_at, conn_changed, parted}
+use Rattle.fs_machine.specs.Connections.{phase_of, phase_at}
 use Rattle.fs_machine.specs.Questions.{owed_to}
-use Rattle.fs_machine.specs.Work.{worked}
-use Rattle.fs_machine.specs.Jobs.{job_done}
-use Rattle.fs_machine.specs.Commands.{command_of, commanded}
 use Rattle.fs_machine.specs.Step.{reads, is_closed, busy, refused_where, refused_act, refusal_of, places_for_conns, fresh, arrived, acted, step}
 use Rattle.fs_machine.specs.Runs.{run_from, IsRunFrom}
 use Rattle.fs_machine.specs.Frames.{frames_among, given_in, given_by, handed_in, command_in}
 use Rattle.fs_machine.specs.Concerns.{actor_of, IsOwn, IsOthers, Comes, Concerns}
 use Rattle.fs_machine.proofs.RowLemmas.{row_none, row_of-without_row_other, row_of-with_new_row_same, row_of-with_new_row_other}
-use Rattle.fs_machine.proofs.KeepLemmas.{Settles, settles_same, Keeps, parted_keeps, work_keeps, commanded_keeps, job_done_keeps}
+use Rattle.fs_machine.proofs.KeepLemmas.{Settles, settles_same, Keeps, act_keeps}
 use Rattle.fs_machine.proofs.WaitingLemmas.{Ordered, none_closed, keeps_waiting, closed_waits, taken_other, without_other, number_new, arrived_ordered, arrived_waits}
 use Rattle.fs_machine.proofs.OrderLemmas.{Orderly, acted_ordered, none_refused, not_full, not_refused, room_left, advanced_orderly, run_orderly, empty_orderly}
 use Rattle.fs_machine.proofs.FramesLaws.{close_refused, Lost, entry_follows, none_waits, run_front}
@@ -67,18 +62,13 @@ act_spares conn Arrive s ordered room apart = record {
       (row_of-with_new_row_other s.conns (numbers.with_conn s.drawn).conns fresh conn (λ same. apart (ap Some same)));
   waits = arrived_waits s conn ordered room;
 }
-act_spares conn (Command giver block) s ordered room apart =
-    keeps_spares conn s (commanded giver (command_of (line_of block)) s) (commanded_keeps giver (command_of (line_of block)) s) apart
 act_spares conn (Take taker) s ordered room apart = record {
   settles = settles_same (conn_of s conn) (conn_of s conn) refl;
   waits = taken_other taker conn s (λ same. apart (ap Some same));
 }
-act_spares conn (Close gone EndOfInput) s ordered room apart =
-    keeps_spares conn s (conn_changed (parted parting.EndOfInput) gone s) (parted_keeps parting.EndOfInput gone s) apart
 act_spares conn (Close gone Sent) s ordered room apart = without_spares conn gone s (λ same. apart (ap Some same))
 act_spares conn (Close gone Failed) s ordered room apart = without_spares conn gone s (λ same. apart (ap Some same))
-act_spares conn (Work slot) s ordered room apart = keeps_spares conn s (worked slot s) (work_keeps slot s) apart
-act_spares conn (Job number) s ordered room apart = keeps_spares conn s (job_done number s) (job_done_keeps number s) apart
+act_spares conn act s ordered room apart = keeps_spares conn s (acted act s).state (act_keeps act s) apart
 
 -- it is no act of the connection
 others_actor : (conn : ℕ) (act : Act) (s : Switch) → (whose act s ≡ Some conn → ⊥) → actor_of act ≢ Some conn

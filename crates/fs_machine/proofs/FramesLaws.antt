@@ -2,28 +2,25 @@
 use Rattle.std.proofs.Common.{◌≡◌, ℕ, ◌-◌, ◌^◌, ◌<◌, ◌≤◌, ◌==◌, Bool, true, false, if◌then◌else◌, not, ◌||◌, List, [], ◌∷◌, ◌++◌, length, take, drop, Option, None, Some, is_some, ◌⊎◌, inl, inr, refl, sym, ap, subst, ◌∙◌, append_assoc, append-nil, take-append-drop, arith}
 use Rattle.std.proofs.lemmas.Bool.{both_ways, eqb-true, eqb-false, cases_eq, or_parts, not-false}
 use Rattle.std.proofs.lemmas.List.{nil_from_length}
-use Rattle.fs_frame.specs.Block.{line_of}
 use Rattle.fs_doc.specs.Reading.{Configuration}
 use Rattle.fs_places.specs.Rows.{place_of}
-use Rattle.fs_state.specs.declared.conn.Parting.TheVariants as parting
 use Rattle.fs_state.specs.Queues.{Frames}
 use Rattle.fs_state.specs.Switch.{Switch, empty, waiting_at, waiting_for, with_frame_taken, without_conn, advanced, closed}
 use Rattle.fs_machine.specs.declared.entry.Entry.{Entry}
 use Rattle.fs_machine.specs.declared.entry.Act.{Act}
-use Rattle.fs_machine.specs.declared.entry.Act.TheVariants.{Arrive, Command, Take, Close, Work, Job}
-use Rattle.fs_machine.specs.declared.entry.Closing.TheVariants.{EndOfInput, Sent, Failed}
+use Rattle.fs_machine.specs.declared.entry.Act.TheVariants.{Arrive, Take, Close}
+use Rattle.fs_machine.specs.declared.entry.Closing.TheVariants.{Sent, Failed}
 use Rattle.fs_machine.specs.declared.refusal.Refusal.TheVariants as refusal
 use Rattle.fs_machine.specs.Entries.{cost_of}
 use Rattle.fs_machine.specs.Connections.{phase_at}
 use Rattle.fs_machine.specs.Questions.{owed_to}
-use Rattle.fs_machine.specs.Commands.{command_of}
 use Rattle.fs_machine.specs.Step.{is_closed, is_ending, is_unsent, refused_where, refused_act, refusal_of, acted, step}
 use Rattle.fs_machine.specs.Runs.{run_from, IsRunFrom}
 use Rattle.fs_machine.specs.Frames.{given_in, given_by, frames_from, handed_in, handed_from}
 use Rattle.fs_machine.proofs.FrameLemmas.{handed_more}
 use Rattle.fs_machine.proofs.RowLemmas.{place_stands, place_of-without_row_same}
 use Rattle.fs_machine.proofs.RestLemmas.{whichever}
-use Rattle.fs_machine.proofs.KeepLemmas.{Keeps, parted_keeps, work_keeps, commanded_keeps, job_done_keeps}
+use Rattle.fs_machine.proofs.KeepLemmas.{Keeps, act_keeps}
 use Rattle.fs_machine.proofs.WaitingLemmas.{Ordered, none_closed, some_open, keeps_waiting, closed_waits, closed_quietly, none_given, nothing_given, taken_ordered, taken_same, taken_other, without_ordered, without_same, without_other, arrived_waits}
 use Rattle.fs_machine.proofs.OrderLemmas.{Orderly, acted_ordered, acted_config, acted_drawn, acted_gone, none_refused, not_full, not_refused, room_left, advanced_orderly, entry_orderly, run_orderly, empty_waits, empty_orderly}
 
@@ -125,41 +122,22 @@ failed_follows conn gone s orderly none = by (cases_eq gone conn)
 
 -- an act that closes no connection as failed
 abbrev pub IsUnfailed : Act → Type 0
-IsUnfailed Arrive = Unit {0}
-IsUnfailed (Command giver block) = Unit {0}
-IsUnfailed (Take taker) = Unit {0}
-IsUnfailed (Close gone EndOfInput) = Unit {0}
-IsUnfailed (Close gone Sent) = Unit {0}
 IsUnfailed (Close gone Failed) = ⊥
-IsUnfailed (Work slot) = Unit {0}
-IsUnfailed (Job number) = Unit {0}
+IsUnfailed _ = Unit {0}
 
 -- each such act that is not refused
 unfailed_follows : (conn : ℕ) (act : Act) (s : Switch) → IsUnfailed act → Orderly s → s.drawn.conns < 2 ^ 32 - 1 → refused_act act s ≡ None → Follows conn act s
 unfailed_follows conn Arrive s such orderly room none =
     quiet_follows conn Arrive s refl (acted_ordered Arrive s orderly.ordered room) (arrived_waits s conn orderly.ordered room)
-unfailed_follows conn (Command giver block) s such orderly room none =
-    keeps_follows conn (Command giver block) s refl (acted_ordered (Command giver block) s orderly.ordered room) (commanded_keeps giver (command_of (line_of block)) s)
 unfailed_follows conn (Take taker) s such orderly room none = take_follows conn taker s orderly
-unfailed_follows conn (Close gone EndOfInput) s such orderly room none =
-    keeps_follows conn (Close gone EndOfInput) s refl (acted_ordered (Close gone EndOfInput) s orderly.ordered room) (parted_keeps parting.EndOfInput gone s)
 unfailed_follows conn (Close gone Sent) s such orderly room none = sent_follows conn gone s orderly none
 unfailed_follows conn (Close gone Failed) s such orderly room none = absurd such
-unfailed_follows conn (Work slot) s such orderly room none =
-    keeps_follows conn (Work slot) s refl (acted_ordered (Work slot) s orderly.ordered room) (work_keeps slot s)
-unfailed_follows conn (Job number) s such orderly room none =
-    keeps_follows conn (Job number) s refl (acted_ordered (Job number) s orderly.ordered room) (job_done_keeps number s)
+unfailed_follows conn act s such orderly room none = keeps_follows conn act s refl (acted_ordered act s orderly.ordered room) (act_keeps act s)
 
 -- each act that is not refused
 act_follows : (conn : ℕ) (act : Act) (s : Switch) → Orderly s → s.drawn.conns < 2 ^ 32 - 1 → refused_act act s ≡ None → Follows conn act s ⊎ Drops conn act s
-act_follows conn Arrive s orderly room none = inl (unfailed_follows conn Arrive s tt orderly room none)
-act_follows conn (Command giver block) s orderly room none = inl (unfailed_follows conn (Command giver block) s tt orderly room none)
-act_follows conn (Take taker) s orderly room none = inl (unfailed_follows conn (Take taker) s tt orderly room none)
-act_follows conn (Close gone EndOfInput) s orderly room none = inl (unfailed_follows conn (Close gone EndOfInput) s tt orderly room none)
-act_follows conn (Close gone Sent) s orderly room none = inl (unfailed_follows conn (Close gone Sent) s tt orderly room none)
 act_follows conn (Close gone Failed) s orderly room none = failed_follows conn gone s orderly none
-act_follows conn (Work slot) s orderly room none = inl (unfailed_follows conn (Work slot) s tt orderly room none)
-act_follows conn (Job number) s orderly room none = inl (unfailed_follows conn (Job number) s tt orderly room none)
+act_follows conn act s orderly room none = inl (unfailed_follows conn act s tt orderly room none)
 
 -- ---- one entry
 

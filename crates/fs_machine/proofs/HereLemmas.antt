@@ -2,7 +2,6 @@
 use Rattle.std.proofs.Common.{◌≡◌, ℕ, zero, suc, ◌+◌, ◌-◌, ◌^◌, min, ◌≤◌, false, Option, None, Some, is_none, length, ◌⊎◌, inl, inr, refl, sym, ap, subst, ◌∙◌, arith}
 use Rattle.std.proofs.lemmas.Bool.{cases_eq, le-ltb}
 use Rattle.std.proofs.lemmas.Option.{none-some}
-use Rattle.fs_frame.specs.Block.{line_of}
 use Rattle.fs_doc.specs.Reading.{Configuration}
 use Rattle.fs_doc.specs.Limits.{IsWithin}
 use Rattle.fs_places.specs.declared.numbered.Numbered.{Numbered}
@@ -13,26 +12,19 @@ use Rattle.fs_state.specs.Drawn as numbers
 use Rattle.fs_state.specs.Switch.{Switch, empty, conn_of, advanced}
 use Rattle.fs_machine.specs.declared.entry.Entry.{Entry}
 use Rattle.fs_machine.specs.declared.entry.Act.{Act}
-use Rattle.fs_machine.specs.declared.entry.Act.TheVariants.{Arrive, Command, Take, Close, Work, Job}
+use Rattle.fs_machine.specs.declared.entry.Act.TheVariants.{Arrive, Take, Close}
 use Rattle.fs_machine.specs.declared.refusal.Refusal.TheVariants as refusal
 use Rattle.fs_machine.specs.Here.{IsHere}
-use Rattle.fs_machine.specs.Work.{worked}
-use Rattle.fs_machine.specs.Jobs.{job_done}
-use Rattle.fs_machine.specs.Commands.{command_of, commanded}
 use Rattle.fs_machine.specs.Step.{refused_where, refusal_of, fresh, arrived, acted, step}
 use Rattle.fs_machine.proofs.RowLemmas.{row_none, row_gone, places_same, row_of-with_new_row, row_of-with_new_row_other}
-use Rattle.fs_machine.proofs.KeepLemmas.{Hears, Keeps, work_keeps, commanded_keeps, job_done_keeps}
+use Rattle.fs_machine.proofs.KeepLemmas.{Hears, Keeps, act_keeps}
 
 -- ---- each act
 
 -- an act that closes no connection, nor ends its input
 abbrev pub ClosesNone : Act → Type 0
-ClosesNone Arrive = Unit {0}
-ClosesNone (Command conn block) = Unit {0}
-ClosesNone (Take conn) = Unit {0}
 ClosesNone (Close conn how) = ⊥
-ClosesNone (Work slot) = Unit {0}
-ClosesNone (Job number) = Unit {0}
+ClosesNone _ = Unit {0}
 
 -- connections that are kept in their places, and whose input does not end
 keeps_here : {who : Option ℕ} → (conn : ℕ) (s t : Switch) → Keeps who false s t → IsHere conn s → IsHere conn t
@@ -75,12 +67,9 @@ arrived_here conn s here = by (cases_eq (numbers.with_conn s.drawn).conns conn)
 
 acted_here : (conn : ℕ) (act : Act) (s : Switch) → ClosesNone act → IsHere conn s → IsHere conn (acted act s).state
 acted_here conn Arrive s such here = arrived_here conn s here
-acted_here conn (Command giver block) s such here =
-    keeps_here conn s (commanded giver (command_of (line_of block)) s) (commanded_keeps giver (command_of (line_of block)) s) here
 acted_here conn (Take taker) s such here = record { there = here.there; hears = here.hears }
 acted_here conn (Close gone how) s such here = absurd such
-acted_here conn (Work slot) s such here = keeps_here conn s (worked slot s) (work_keeps slot s) here
-acted_here conn (Job number) s such here = keeps_here conn s (job_done number s) (job_done_keeps number s) here
+acted_here conn act s such here = keeps_here conn s (acted act s).state (act_keeps act s) here
 
 -- a connection that is here is so behind each entry that closes none
 pub here_step : (conn : ℕ) (s : Switch) (entry : Entry) → ClosesNone entry.act → IsHere conn s → IsHere conn (step s entry).state

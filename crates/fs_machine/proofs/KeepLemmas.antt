@@ -3,6 +3,7 @@ use Rattle.std.proofs.Common.{◌≡◌, ◌≢◌, ℕ, Bool, true, false, List
 use Rattle.std.proofs.lemmas.Bool.{cases_eq}
 use Rattle.std.proofs.lemmas.Option.{same_Some, none-some}
 use Rattle.fs_vars.specs.Pairs.{Text}
+use Rattle.fs_frame.specs.Block.{line_of}
 use Rattle.fs_api.specs.declared.api.Winner.{Winner}
 use Rattle.fs_orig.specs.declared.leg.OrigLeg.{OrigLeg}
 use Rattle.fs_places.specs.declared.numbered.Numbered.{Numbered}
@@ -16,6 +17,9 @@ use Rattle.fs_state.specs.declared.conn.Parting.TheVariants as parting
 use Rattle.fs_state.specs.declared.job.JobWork.{JobWork}
 use Rattle.fs_state.specs.declared.job.JobWork.TheVariants.{Sleep, Originate}
 use Rattle.fs_state.specs.Switch.{Switch, conn_of, next_orig, is_full_of_jobs, with_new_job, without_job, without_orig, gave}
+use Rattle.fs_machine.specs.declared.entry.Act.{Act}
+use Rattle.fs_machine.specs.declared.entry.Act.TheVariants as act
+use Rattle.fs_machine.specs.declared.entry.Closing.TheVariants as closing
 use Rattle.fs_machine.specs.declared.attempts.Attempt.{Attempt}
 use Rattle.fs_machine.specs.declared.originations.Caller.{Caller}
 use Rattle.fs_machine.specs.Texts.{made_text, failed_text}
@@ -25,9 +29,9 @@ use Rattle.fs_machine.specs.Originations.{Made, leg_made, won}
 use Rattle.fs_machine.specs.Attempts.{orig_begun, tried_by_job, originate_begun}
 use Rattle.fs_machine.specs.Jobs.{job_done}
 use Rattle.fs_machine.specs.Owing.{owing, ended}
-use Rattle.fs_machine.specs.Commands.{Command, commanded}
+use Rattle.fs_machine.specs.Commands.{Command, command_of, commanded}
 use Rattle.fs_machine.specs.Work.{worked}
-use Rattle.fs_machine.specs.Step.{is_closed}
+use Rattle.fs_machine.specs.Step.{is_closed, acted}
 use Rattle.fs_machine.proofs.RowLemmas.{each_put_at, length_put_at, SameNumbers, held_of, row_at, row_none, numbers-with_row, row_of-with_row_same, row_of-with_row_other}
 use Rattle.fs_machine.proofs.Kept.{Fact, KeptByCalls, KeptByJobs, LeavesBy, KeptByCommands}
 use Rattle.fs_machine.proofs.RestLemmas.{Rest, rest_of, calls_by_rest, leg_made_rest, worked_rest, won_rest}
@@ -183,7 +187,7 @@ parted_hears parting.Exit none c heard same = cc
 parted_hears parting.AuthRefused none c heard same = cc
 parted_hears parting.EndOfInput none c heard same = cc
 
-pub parted_keeps : (why : Parting) (conn : ℕ) (s : Switch) → Keeps (Some conn) (ends_input why) s (conn_changed (parted why) conn s)
+parted_keeps : (why : Parting) (conn : ℕ) (s : Switch) → Keeps (Some conn) (ends_input why) s (conn_changed (parted why) conn s)
 parted_keeps why conn s = own_changed_keeps (parted why) (λ c h. refl) (parted_hears why) conn s
 
 -- ---- jobs
@@ -270,11 +274,28 @@ module _ (conn : ℕ) (s : Switch) where
 
 -- ---- what acts keep
 
-pub work_keeps : (slot : ℕ) (s : Switch) → Keeps None false s (worked slot s)
+work_keeps : (slot : ℕ) (s : Switch) → Keeps None false s (worked slot s)
 work_keeps slot s = keeps_same s (worked slot s) (sockets_same s (worked slot s) (worked_rest slot s))
 
-pub job_done_keeps : (number : ℕ) (s : Switch) → Keeps None false s (job_done number s)
+job_done_keeps : (number : ℕ) (s : Switch) → Keeps None false s (job_done number s)
 job_done_keeps number s = job_kept s (KeepsFrom None s) (calls_keep None s) (jobs_keep s) number (keeps_refl s)
 
-pub commanded_keeps : (conn : ℕ) (command : Command) (s : Switch) → Keeps (Some conn) false s (commanded conn command s)
+commanded_keeps : (conn : ℕ) (command : Command) (s : Switch) → Keeps (Some conn) false s (commanded conn command s)
 commanded_keeps conn command s = commanded_kept conn (KeepsFrom (Some conn) s) (calls_keep (Some conn) s) (commands_keep conn s) command {s = s} (keeps_refl s)
+
+-- those that open no connection, close none, and take no frame
+abbrev pub ActKeeps : Act → Switch → Type 0
+ActKeeps act.Arrive s = Unit {0}
+ActKeeps (act.Take conn) s = Unit {0}
+ActKeeps (act.Close conn closing.Sent) s = Unit {0}
+ActKeeps (act.Close conn closing.Failed) s = Unit {0}
+ActKeeps (act.Close conn closing.EndOfInput) s = Keeps (Some conn) true s (acted (act.Close conn closing.EndOfInput) s).state
+ActKeeps (act.Command conn block) s = Keeps (Some conn) false s (acted (act.Command conn block) s).state
+ActKeeps other s = Keeps None false s (acted other s).state
+
+pub act_keeps : (a : Act) (s : Switch) → ActKeeps a s
+act_keeps (act.Command conn block) s = commanded_keeps conn (command_of (line_of block)) s
+act_keeps (act.Close conn closing.EndOfInput) s = parted_keeps parting.EndOfInput conn s
+act_keeps (act.Work slot) s = work_keeps slot s
+act_keeps (act.Job number) s = job_done_keeps number s
+act_keeps _ s = tt

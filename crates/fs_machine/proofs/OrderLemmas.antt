@@ -2,32 +2,26 @@
 use Rattle.std.proofs.Common.{◌≡◌, ℕ, ◌+◌, ◌*◌, ◌-◌, ◌^◌, ◌<◌, ◌≤◌, min, Bool, true, false, List, [], ◌∷◌, length, Option, None, refl, sym, ap, subst, ◌∙◌, arith}
 use Rattle.std.proofs.lemmas.Bool.{both_ways, ltb-false}
 use Rattle.std.proofs.lemmas.List.{length-replicate}
-use Rattle.fs_frame.specs.Block.{line_of}
 use Rattle.fs_doc.specs.Reading.{Configuration}
 use Rattle.fs_places.specs.declared.numbered.Numbered.{Numbered}
 use Rattle.fs_places.specs.Places.{no_places, held_in}
 use Rattle.fs_places.specs.Rows.{has_number, place_of}
 use Rattle.fs_state.specs.declared.conn.Conn.{Conn}
-use Rattle.fs_state.specs.declared.conn.Parting.TheVariants as parting
 use Rattle.fs_state.specs.Queues.{Frames, queue_at, no_queues}
 use Rattle.fs_state.specs.Switch.{Switch, empty, waiting_at, waiting_for, advanced, closed}
 use Rattle.fs_machine.specs.declared.entry.Entry.{Entry}
 use Rattle.fs_machine.specs.declared.entry.Act.{Act}
-use Rattle.fs_machine.specs.declared.entry.Act.TheVariants.{Arrive, Command, Take, Close, Work, Job}
-use Rattle.fs_machine.specs.declared.entry.Closing.TheVariants.{EndOfInput, Sent, Failed}
+use Rattle.fs_machine.specs.declared.entry.Act.TheVariants.{Arrive, Take, Close}
+use Rattle.fs_machine.specs.declared.entry.Closing.TheVariants.{Sent, Failed}
 use Rattle.fs_machine.specs.declared.refusal.Refusal.{Refusal}
 use Rattle.fs_machine.specs.declared.refusal.Refusal.TheVariants as refusal
 use Rattle.fs_machine.specs.Entries.{cost_of, is_full}
-use Rattle.fs_machine.specs.Connections.{conn_changed, parted}
-use Rattle.fs_machine.specs.Work.{worked}
-use Rattle.fs_machine.specs.Jobs.{job_done}
-use Rattle.fs_machine.specs.Commands.{command_of, commanded}
 use Rattle.fs_machine.specs.Step.{refused_where, refused_act, refusal_of, acted, step}
 use Rattle.fs_machine.specs.Runs.{run_from, IsRunFrom}
 use Rattle.fs_machine.proofs.RowLemmas.{nowhere}
 use Rattle.fs_machine.proofs.HeldLemmas.{all_alike, nothing_held}
 use Rattle.fs_machine.proofs.ConstantMoves.{Constants, acted_constants}
-use Rattle.fs_machine.proofs.KeepLemmas.{is_shut, keeps_same, parted_keeps, work_keeps, commanded_keeps, job_done_keeps}
+use Rattle.fs_machine.proofs.KeepLemmas.{is_shut, keeps_same, act_keeps}
 use Rattle.fs_machine.proofs.WaitingLemmas.{Ordered, keeps_ordered, keeps_place, closed_ordered, taken_ordered, without_ordered, arrived_ordered, arrived_gone, without_gone}
 use Rattle.fs_machine.proofs.FrameLemmas.{some_cost}
 
@@ -36,14 +30,10 @@ use Rattle.fs_machine.proofs.FrameLemmas.{some_cost}
 -- the connections that there are, and their queues
 pub acted_ordered : (act : Act) (s : Switch) → Ordered s → s.drawn.conns < 2 ^ 32 - 1 → Ordered (acted act s).state
 acted_ordered Arrive s ordered room = arrived_ordered s ordered room
-acted_ordered (Command conn block) s ordered room =
-    keeps_ordered s (commanded conn (command_of (line_of block)) s) (commanded_keeps conn (command_of (line_of block)) s) ordered
 acted_ordered (Take conn) s ordered room = taken_ordered conn s ordered
-acted_ordered (Close conn EndOfInput) s ordered room = keeps_ordered s (conn_changed (parted parting.EndOfInput) conn s) (parted_keeps parting.EndOfInput conn s) ordered
 acted_ordered (Close conn Sent) s ordered room = without_ordered conn s ordered
 acted_ordered (Close conn Failed) s ordered room = without_ordered conn s ordered
-acted_ordered (Work slot) s ordered room = keeps_ordered s (worked slot s) (work_keeps slot s) ordered
-acted_ordered (Job number) s ordered room = keeps_ordered s (job_done number s) (job_done_keeps number s) ordered
+acted_ordered act s ordered room = keeps_ordered s (acted act s).state (act_keeps act s) ordered
 
 -- no act pays or counts by itself, nor changes what the switch was configured by
 pub acted_cost : (act : Act) (s : Switch) → (acted act s).state.cost ≡ s.cost
@@ -67,29 +57,19 @@ next_more drawn room = (omega (arith, room), omega arith)
 
 pub acted_drawn : (act : Act) (s : Switch) → s.drawn.conns < 2 ^ 32 - 1 → IsNext s.drawn.conns (acted act s).state.drawn.conns
 acted_drawn Arrive s room = next_more s.drawn.conns room
-acted_drawn (Command conn block) s room =
-    next_same s.drawn.conns (commanded conn (command_of (line_of block)) s).drawn.conns (commanded_keeps conn (command_of (line_of block)) s).drawn
 acted_drawn (Take conn) s room = next_same s.drawn.conns s.drawn.conns refl
-acted_drawn (Close conn EndOfInput) s room =
-    next_same s.drawn.conns (conn_changed (parted parting.EndOfInput) conn s).drawn.conns (parted_keeps parting.EndOfInput conn s).drawn
 acted_drawn (Close conn Sent) s room = next_same s.drawn.conns s.drawn.conns refl
 acted_drawn (Close conn Failed) s room = next_same s.drawn.conns s.drawn.conns refl
-acted_drawn (Work slot) s room = next_same s.drawn.conns (worked slot s).drawn.conns (work_keeps slot s).drawn
-acted_drawn (Job number) s room = next_same s.drawn.conns (job_done number s).drawn.conns (job_done_keeps number s).drawn
+acted_drawn act s room = next_same s.drawn.conns (acted act s).state.drawn.conns (act_keeps act s).drawn
 
 -- a connection that had its number and is gone stays so
 pub acted_gone : (act : Act) (s : Switch) (conn : ℕ) → Ordered s → s.drawn.conns < 2 ^ 32 - 1 → place_of s.conns conn ≡ None → conn ≤ s.drawn.conns →
     place_of (acted act s).state.conns conn ≡ None
 acted_gone Arrive s conn ordered room none below = arrived_gone s conn room none below
-acted_gone (Command giver block) s conn ordered room none below =
-    keeps_place s (commanded giver (command_of (line_of block)) s) (commanded_keeps giver (command_of (line_of block)) s) conn ∙ none
 acted_gone (Take taker) s conn ordered room none below = none
-acted_gone (Close gone EndOfInput) s conn ordered room none below =
-    keeps_place s (conn_changed (parted parting.EndOfInput) gone s) (parted_keeps parting.EndOfInput gone s) conn ∙ none
 acted_gone (Close gone Sent) s conn ordered room none below = without_gone gone s conn ordered none
 acted_gone (Close gone Failed) s conn ordered room none below = without_gone gone s conn ordered none
-acted_gone (Work slot) s conn ordered room none below = keeps_place s (worked slot s) (work_keeps slot s) conn ∙ none
-acted_gone (Job number) s conn ordered room none below = keeps_place s (job_done number s) (job_done_keeps number s) conn ∙ none
+acted_gone act s conn ordered room none below = keeps_place s (acted act s).state (act_keeps act s) conn ∙ none
 
 -- ---- refusals
 

@@ -2,7 +2,7 @@
 
 use crate::answer::Answer;
 use crate::table::Table;
-use fs_conn::play;
+use fs_conn::{End, play};
 use fs_doc::read_config;
 use fs_machine::{Act, Machine};
 use fs_plan::Dialplan;
@@ -20,34 +20,28 @@ pub(crate) fn tell_play(
     counts: bool,
     answer: &mut Answer,
 ) -> Result<(), Memory> {
-    let Some(mut machine) = machine_of(alloc, table)? else {
-        return answer.line(&[b"no machine"]);
+    let Ok(config) = read_config(alloc, table.file()) else {
+        return answer.line(&[b"no document"]);
     };
+    let Ok(plan) = Dialplan::build(alloc, &config, &mut table.files()?) else {
+        return answer.line(&[b"no dialplan"]);
+    };
+    let mut machine = Machine::new(alloc, config, plan)?;
     let mut link = table.link(ROOM)?;
     let end = play(alloc, &mut machine, &mut link);
     answer.lines(link.written())?;
-    let told = format!(in alloc;
-        "{end:?} at {}, {} commands",
-        machine.moment(),
-        commands_in(&machine)
-    )?;
-    answer.line(&[told.as_bytes()])?;
+    tell_end(alloc, &machine, end, answer)?;
     if counts {
         tell_events(alloc, &machine, answer)?;
     }
     Ok(())
 }
 
-// The machine of the document that is laid out, if that is read and built.
-fn machine_of(alloc: Global, table: &Table) -> Result<Option<Machine>, Memory> {
-    let Ok(config) = read_config(alloc, table.file()) else {
-        return Ok(None);
-    };
-    let mut files = table.files()?;
-    let Ok(plan) = Dialplan::build(alloc, &config, &mut files) else {
-        return Ok(None);
-    };
-    Ok(Some(Machine::new(alloc, config, plan)?))
+fn tell_end(alloc: Global, machine: &Machine, end: End, answer: &mut Answer) -> Result<(), Memory> {
+    let moment = machine.moment();
+    let commands = commands_in(machine);
+    let told = format!(in alloc; "{end:?} at {moment}, {commands} commands")?;
+    answer.line(&[told.as_bytes()])
 }
 
 // How many commands stand in a machine's journal.

@@ -31,8 +31,8 @@ impl Patience {
     }
 }
 
-// A caller sets the bell of its ticket to the ticket's mark, reads the turn again, and sleeps while the mark is there. Whoever passes
-// the turn on rings afterwards. So a caller that read the turn too early is woken, or finds its mark gone.
+// A caller sets the bell of its ticket to the ticket's mark, reads the turn again, and sleeps while the mark is there.
+// Whoever passes the turn on rings afterwards. So a caller that read the turn too early is woken, or finds its mark gone.
 #[derive(Drop)]
 pub struct Bells {
     bells: [AtomicU64; BELLS],
@@ -45,7 +45,7 @@ impl Bells {
         }
     }
 
-    // Lets a caller wait that has a ticket, and read the turn of an earlier one. Only who is next stays awake for a while.
+    // Lets a caller wait that has a ticket, and read the turn of an earlier one. Only who is next stays awake a while.
     pub fn wait(&self, rt: &impl Wait, patience: &mut Patience, ticket: u64, turn: u64) {
         let is_next = turn.wrapping_add(1) == ticket;
         if is_next && patience.reads < AWAKE_READS {

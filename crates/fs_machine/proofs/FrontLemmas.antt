@@ -7,6 +7,8 @@ use Rattle.fs_api.specs.declared.api.Winner.{Winner}
 use Rattle.fs_chan.specs.declared.chan.Chan.{Chan}
 use Rattle.fs_orig.specs.declared.leg.OrigLeg.{OrigLeg}
 use Rattle.fs_orig.specs.declared.orig.Orig.{Orig}
+use Rattle.fs_places.specs.declared.numbered.Numbered.{Numbered}
+use Rattle.fs_places.specs.Rows.{with_row}
 use Rattle.fs_state.specs.declared.conn.Conn.{Conn}
 use Rattle.fs_state.specs.declared.conn.Parting.TheVariants as parting
 use Rattle.fs_state.specs.declared.event.Event.{Event}
@@ -57,12 +59,17 @@ orig_changed_front change number s = by (orig_of s number)
     by None = refl
     by (Some o) = refl
 
-conn_changed_front : (change : Conn → Conn) (conn : ℕ) (s : Switch) → front_of (conn_changed change conn s) ≡ front_of s
-conn_changed_front change conn s = by (conn_of s conn)
+-- what reads no connections does not tell a change of one
+pub conn_unread : {A : Type 0} → (read : Switch → A) → ((conns : List (Option (Numbered Conn))) (t : Switch) → read (record t { conns = conns }) ≡ read t) →
+    (change : Conn → Conn) (conn : ℕ) (s : Switch) → read (conn_changed change conn s) ≡ read s
+conn_unread read same change conn s = by (conn_of s conn)
   where
-    by : (found : Option Conn) → front_of (conn_changed_from change conn found s) ≡ front_of s
+    by : (found : Option Conn) → read (conn_changed_from change conn found s) ≡ read s
     by None = refl
-    by (Some c) = refl
+    by (Some c) = same (with_row s.conns conn (change c)) s
+
+conn_changed_front : (change : Conn → Conn) (conn : ℕ) (s : Switch) → front_of (conn_changed change conn s) ≡ front_of s
+conn_changed_front change conn s = conn_unread front_of (λ conns t. refl) change conn s
 
 owing_front : (conn : ℕ) (work : JobWork) (s : Switch) → front_of (owing conn work s) ≡ front_of s
 owing_front conn work s = conn_changed_front (owed_since s.entries) conn (with_new_job (record { conn = conn; work = work }) s)

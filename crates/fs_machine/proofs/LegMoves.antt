@@ -20,13 +20,13 @@ use Rattle.fs_places.specs.Rows.{has_number, place_of, row_of, with_row, without
 use Rattle.fs_state.specs.declared.conn.Conn.{Conn}
 use Rattle.fs_state.specs.declared.conn.Parting.TheVariants as parting
 use Rattle.fs_state.specs.declared.job.JobWork.TheVariants.{Sleep, Originate}
-use Rattle.fs_state.specs.Switch.{Switch, chan_at, with_chan, free_slot, identified, identifier_of, next_orig, orig_of, with_orig, with_new_orig, without_orig, with_new_job, without_job, conn_of, told}
+use Rattle.fs_state.specs.Switch.{Switch, chan_at, with_chan, free_slot, identified, identifier_of, next_orig, orig_of, with_orig, with_new_orig, without_orig, with_new_job, without_job, told}
 use Rattle.fs_state.specs.Moves.{state_told, moved_from, orig_changed_from, orig_changed, leg_changed, its_leg_changed, hangup_of, hung_from, one_hung, hung}
 use Rattle.fs_machine.specs.declared.attempts.Attempt.{Attempt}
 use Rattle.fs_machine.specs.declared.originations.Call.{Call}
 use Rattle.fs_machine.specs.declared.originations.Caller.{Caller}
 use Rattle.fs_machine.specs.Texts.{made_text, failed_text}
-use Rattle.fs_machine.specs.Connections.{conn_changed_from, conn_changed, admitted, parted, owed_since, not_owed}
+use Rattle.fs_machine.specs.Connections.{conn_changed, admitted, parted, owed_since, not_owed}
 use Rattle.fs_machine.specs.Originations.{end_of, end_made, leg_end, far_end, pair_made, Made, made_dead, is_congested, made_in, with_second, free_pair, made_of, leg_made, won_by, won}
 use Rattle.fs_machine.specs.Attempts.{orig_begun, tried_by_job, originate_begun}
 use Rattle.fs_machine.specs.Owing.{owing, ended}
@@ -36,6 +36,7 @@ use Rattle.fs_machine.proofs.TableLemmas.{nothing_there, same_there}
 use Rattle.fs_machine.proofs.Kept.{Fact, Links, KeptByCalls, KeptByBirths, HasLeg, KeptByMoves}
 use Rattle.fs_machine.proofs.LegTables.{Origs, Seat, seated, seat_if, seat_of, seat_in, seat_at, in_slot, Fewer, seat_number, seat_its, answer_spares, death_spares, touched_spares, row_there, changed_fewer, without_fewer, death_leaves_none, new_or_old}
 use Rattle.fs_machine.proofs.Walk.{new_lives, state_told_kept, pair_hung_kept, leg_made_kept}
+use Rattle.fs_machine.proofs.FrontLemmas.{conn_unread}
 use Rattle.fs_machine.proofs.RestLemmas.{Rest, rest_of, orig_changed_rest, hung_rest, leg_made_rest, won_rest}
 
 abbrev pub Channels : Type 0
@@ -293,11 +294,7 @@ new_orig_legs o leg t one few mine h = record {
 -- ---- what leaves the roles as they are
 
 conn_roles : (change : Conn → Conn) (conn : ℕ) (s : Switch) → roles_of (conn_changed change conn s) ≡ roles_of s
-conn_roles change conn s = by (conn_of s conn)
-  where
-    by : (found : Option Conn) → roles_of (conn_changed_from change conn found s) ≡ roles_of s
-    by None = refl
-    by (Some c) = refl
+conn_roles change conn s = conn_unread roles_of (λ conns t. refl) change conn s
 
 -- as long as few originations were tried, so that the next number is new
 abbrev Stand : Roles → Type 0

@@ -10,16 +10,17 @@ use Rattle.fs_state.specs.declared.conn.Parting.TheVariants as parting
 use Rattle.fs_state.specs.declared.job.Job.{Job}
 use Rattle.fs_state.specs.declared.job.JobWork.{JobWork}
 use Rattle.fs_state.specs.declared.job.JobWork.TheVariants.{Sleep, Originate}
-use Rattle.fs_state.specs.Switch.{Switch, conn_of, next_orig, next_job, with_new_job, without_job, without_orig}
+use Rattle.fs_state.specs.Switch.{Switch, next_orig, next_job, with_new_job, without_job, without_orig}
 use Rattle.fs_machine.specs.declared.originations.Caller.{Caller}
 use Rattle.fs_machine.specs.Texts.{made_text, failed_text}
-use Rattle.fs_machine.specs.Connections.{conn_changed_from, conn_changed, admitted, parted, owed_since, not_owed}
+use Rattle.fs_machine.specs.Connections.{conn_changed, admitted, parted, owed_since, not_owed}
 use Rattle.fs_machine.specs.Originations.{leg_made, won}
 use Rattle.fs_machine.specs.Attempts.{orig_begun, originate_begun}
 use Rattle.fs_machine.specs.Owing.{owing, ended}
 use Rattle.fs_machine.proofs.RowLemmas.{each_put_at}
 use Rattle.fs_machine.proofs.TableLemmas.{row_found}
 use Rattle.fs_machine.proofs.Kept.{Fact, DoesJob, IsShortWinner, KeptByMoves}
+use Rattle.fs_machine.proofs.FrontLemmas.{conn_unread}
 use Rattle.fs_machine.proofs.RestLemmas.{Rest, rest_of, calls_by_rest, leg_made_rest, won_rest}
 
 -- the winner that work has is routed by short texts
@@ -45,11 +46,7 @@ winner_of_job s number conn orig winner does h =
     subst (λ (job : Job). IsShortWork job.work) found.3 there
 
 conn_jobs : (change : Conn → Conn) (conn : ℕ) (s : Switch) → (conn_changed change conn s).jobs ≡ s.jobs
-conn_jobs change conn s = by (conn_of s conn)
-  where
-    by : (found : Option Conn) → (conn_changed_from change conn found s).jobs ≡ s.jobs
-    by None = refl
-    by (Some c) = refl
+conn_jobs change conn s = conn_unread (λ (t : Switch). t.jobs) (λ conns t. refl) change conn s
 
 same_winners : (s t : Switch) → t.jobs ≡ s.jobs → WinnersAreShort s.jobs → WinnersAreShort t.jobs
 same_winners s t same h = subst WinnersAreShort (sym same) h

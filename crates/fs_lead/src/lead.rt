@@ -4,7 +4,7 @@ ghost use Rattle.fs_lead.specs.Leads.{IsLead, IsLeadOf, begins_with_any};
 
 use crate::tree::lead_of;
 use fs_text::Memory;
-use regex_syntax::Config;
+use regex_syntax::{Config, ErrorKind};
 use std::alloc::Global;
 
 /// What is known of the values in which a pattern finds something.
@@ -27,11 +27,11 @@ impl Lead {
             utf8: false,
             ..Config::default()
         };
-        let Ok(parsed) = regex_syntax::parse(alloc, text, &config) else {
-            return Ok(Lead::Unknown);
-        };
-        let lead = lead_of(alloc, &parsed.hir)?;
-        Ok(lead)
+        match regex_syntax::parse(alloc, text, &config) {
+            Ok(parsed) => Ok(lead_of(alloc, &parsed.hir)?),
+            Err(error) if error.kind == ErrorKind::OutOfMemory => Err(Memory),
+            Err(_) => Ok(Lead::Unknown),
+        }
     }
 
     /// Whether the pattern finds something in a value, where the lead tells.

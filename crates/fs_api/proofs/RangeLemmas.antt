@@ -13,8 +13,8 @@ use Rattle.fs_api.specs.declared.usages.Which.{Which}
 use Rattle.fs_api.specs.declared.usages.Which.TheVariants as which
 use Rattle.fs_api.specs.Words.{word_of, behind_word, behind_quoted, quoted_word}
 use Rattle.fs_api.specs.Routes.{Text}
-use Rattle.fs_api.specs.Originates.{seconds_within, plain_word, originated, originate_to, originate_of}
-use Rattle.fs_api.specs.Readings.{needs, setting, getting, sleeping_for, asking, killing, reading, api_named}
+use Rattle.fs_api.specs.Originates.{seconds_within, plain_word, originate_with, originate_to, originate_of}
+use Rattle.fs_api.specs.Readings.{needs, global_setvar_of, global_getvar_of, msleep_for, uuid_exists_of, uuid_kill_of, uuid_getvar_of, api_named}
 use Rattle.fs_api.specs.Ranges.{IsTimeout, IsInRange}
 
 -- what holds of both parts of a choice holds of the choice
@@ -31,7 +31,7 @@ timeout_within : (number : Option ℕ) → IfSome (option_and_then seconds_withi
 timeout_within None = tt
 timeout_within (Some n) = either (λ t. IfSome t IsTimeout) (nat_le 1 n && nat_le n 3600) _ _ (timeout_of n) (λ _. tt)
 
-originated_in_range : (url : Text) (winner : Option Winner) (rest : Text) → IsInRange (originated url winner rest)
+originated_in_range : (url : Text) (winner : Option Winner) (rest : Text) → IsInRange (originate_with url winner rest)
 originated_in_range url None rest = tt
 originated_in_range url (Some winner) rest = timeout_within (read_u64 (plain_word (behind_quoted (behind_quoted rest))))
 
@@ -49,18 +49,18 @@ needs_in_range : (usage : Which) (read : Text → Api) (arguments : Text) → ((
 needs_in_range usage read [] each = tt
 needs_in_range usage read (byte ∷ bytes) each = each (byte ∷ bytes)
 
-getting_in_range : (arguments : Text) → IsInRange (getting arguments)
+getting_in_range : (arguments : Text) → IsInRange (global_getvar_of arguments)
 getting_in_range [] = tt
 getting_in_range (byte ∷ bytes) = tt
 
 hour_of : (n : ℕ) → nat_le n 3600000 ≡ true → n ≤ 3600000
 hour_of n within = grind (arith, nat_tests)
 
-sleeping_in_range : (number : Option ℕ) → IsInRange (sleeping_for number)
+sleeping_in_range : (number : Option ℕ) → IsInRange (msleep_for number)
 sleeping_in_range None = tt
 sleeping_in_range (Some n) = either IsInRange (nat_le n 3600000) _ _ (hour_of n) (λ _. tt)
 
-reading_in_range : (arguments : Text) → IsInRange (reading arguments)
+reading_in_range : (arguments : Text) → IsInRange (uuid_getvar_of arguments)
 reading_in_range arguments = needs_in_range which.UuidGetvar (λ name. UuidGetvar (word_of arguments) (word_of name)) (behind_word arguments) (λ _. tt)
 
 named_in_range : (name arguments : Text) → IsInRange (api_named name arguments)
@@ -69,12 +69,14 @@ named_in_range name arguments =
     either IsInRange (bytes_eq name (codes "echo")) _ _ (λ _. tt)
     (λ _. either IsInRange (bytes_eq name (codes "expand")) _ _ (λ _. needs_in_range which.Expand Expand arguments (λ _. tt))
     (λ _. either IsInRange (bytes_eq name (codes "global_getvar")) _ _ (λ _. getting_in_range arguments)
-    (λ _. either IsInRange (bytes_eq name (codes "global_setvar")) _ _ (λ _. needs_in_range which.GlobalSetvar setting arguments (λ _. tt))
+    (λ _. either IsInRange (bytes_eq name (codes "global_setvar")) _ _ (λ _. needs_in_range which.GlobalSetvar global_setvar_of arguments
+    (λ _. tt))
     (λ _. either IsInRange (bytes_eq name (codes "msleep")) _ _ (λ _. sleeping_in_range (read_u64 (word_of arguments)))
     (λ _. either IsInRange (bytes_eq name (codes "originate")) _ _ (λ _. originate_in_range arguments)
-    (λ _. either IsInRange (bytes_eq name (codes "uuid_exists")) _ _ (λ _. needs_in_range which.UuidExists asking arguments (λ _. tt))
-    (λ _. either IsInRange (bytes_eq name (codes "uuid_getvar")) _ _ (λ _. needs_in_range which.UuidGetvar reading arguments reading_in_range)
-    (λ _. either IsInRange (bytes_eq name (codes "uuid_kill")) _ _ (λ _. needs_in_range which.UuidKill killing arguments (λ _. tt)) (λ _. tt)))))))))
+    (λ _. either IsInRange (bytes_eq name (codes "uuid_exists")) _ _ (λ _. needs_in_range which.UuidExists uuid_exists_of arguments
+    (λ _. tt))
+    (λ _. either IsInRange (bytes_eq name (codes "uuid_getvar")) _ _ (λ _. needs_in_range which.UuidGetvar uuid_getvar_of arguments reading_in_range)
+    (λ _. either IsInRange (bytes_eq name (codes "uuid_kill")) _ _ (λ _. needs_in_range which.UuidKill uuid_kill_of arguments (λ _. tt)) (λ _. tt)))))))))
 
 -- what is read of a name and its arguments, once it is read
 pub IfOk-in_range : (name arguments : Text) (result : Result Api Memory) → IfOk result (λ api. api ≡ api_named name arguments) → IfOk result IsInRange

@@ -46,8 +46,8 @@ abbrev pub application : Text → Winner
 application text = App (before_first is_open text) (up_to_close (after_first is_open text))
 
 -- routed to these
-abbrev pub routed : Text → Text → Text → Winner
-routed exten dialplan context = Route (record { exten = exten; dialplan = dialplan; context = context })
+abbrev pub route_winner : Text → Text → Text → Winner
+route_winner exten dialplan context = Route (record { exten = exten; dialplan = dialplan; context = context })
 
 -- the text has at most 256 bytes
 abbrev pub is_short : Text → Bool
@@ -55,10 +55,10 @@ is_short text = nat_le (length text) 256
 
 -- what the winner does, where these are within their length
 abbrev pub winner_of : Text → Text → Text → Option Winner
-winner_of [] dialplan context = if is_short dialplan && is_short context then Some (routed [] dialplan context) else None
+winner_of [] dialplan context = if is_short dialplan && is_short context then Some (route_winner [] dialplan context) else None
 winner_of (byte ∷ bytes) dialplan context =
     if is_short dialplan && is_short context
-    then (if byte == 38 then Some (application bytes) else (if is_short (byte ∷ bytes) then Some (routed (byte ∷ bytes) dialplan context) else None))
+    then (if byte == 38 then Some (application bytes) else (if is_short (byte ∷ bytes) then Some (route_winner (byte ∷ bytes) dialplan context) else None))
     else None
 
 -- ---- the timeout
@@ -72,9 +72,9 @@ seconds_of text = option_and_then seconds_within (read_u64 text)
 
 -- ---- all of it
 
-abbrev pub originated : Text → Option Winner → Text → Api
-originated url None rest = Usage which.Originate
-originated url (Some winner) rest =
+abbrev pub originate_with : Text → Option Winner → Text → Api
+originate_with url None rest = Usage which.Originate
+originate_with url (Some winner) rest =
     let number = behind_quoted rest in
     let timeout = behind_quoted number in
     Originate url winner (plain_word rest) (plain_word number) (seconds_of (plain_word timeout))
@@ -82,7 +82,7 @@ originated url (Some winner) rest =
 -- the words behind the url
 abbrev pub originate_words : Text → Text → Text → Text → Api
 originate_words url exten dialplan context =
-    originated url (winner_of (plain_word exten) (word_or (codes "XML") dialplan) (word_or (codes "default") context)) (behind_quoted context)
+    originate_with url (winner_of (plain_word exten) (word_or (codes "XML") dialplan) (word_or (codes "default") context)) (behind_quoted context)
 
 -- behind the url
 abbrev pub originate_to : Text → Text → Api

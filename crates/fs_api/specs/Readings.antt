@@ -23,46 +23,46 @@ needs usage read [] = Usage usage
 needs usage read (byte ∷ bytes) = read (byte ∷ bytes)
 
 -- a word that sets a global: what stands before its first `=`, to what stands behind it
-abbrev pub setting : Text → Api
-setting arguments = GlobalSetvar (before_first is_equals (word_of arguments)) (after_first is_equals (word_of arguments))
+abbrev pub global_setvar_of : Text → Api
+global_setvar_of arguments = GlobalSetvar (before_first is_equals (word_of arguments)) (after_first is_equals (word_of arguments))
 
-abbrev pub getting : Text → Api
-getting [] = GlobalGetvar None
-getting (byte ∷ bytes) = GlobalGetvar (Some (word_of (byte ∷ bytes)))
+abbrev pub global_getvar_of : Text → Api
+global_getvar_of [] = GlobalGetvar None
+global_getvar_of (byte ∷ bytes) = GlobalGetvar (Some (word_of (byte ∷ bytes)))
 
 -- a number of milliseconds up to an hour
-abbrev pub sleeping_for : Option ℕ → Api
-sleeping_for None = Usage which.Msleep
-sleeping_for (Some n) = if nat_le n 3600000 then Msleep n else Usage which.Msleep
+abbrev pub msleep_for : Option ℕ → Api
+msleep_for None = Usage which.Msleep
+msleep_for (Some n) = if nat_le n 3600000 then Msleep n else Usage which.Msleep
 
-abbrev pub sleeping : Text → Api
-sleeping arguments = sleeping_for (read_u64 (word_of arguments))
+abbrev pub msleep_of : Text → Api
+msleep_of arguments = msleep_for (read_u64 (word_of arguments))
 
-abbrev pub asking : Text → Api
-asking arguments = UuidExists (word_of arguments)
+abbrev pub uuid_exists_of : Text → Api
+uuid_exists_of arguments = UuidExists (word_of arguments)
 
 -- the cause of a name; NORMAL_CLEARING where there is no such name
 abbrev pub cause_named : Text → Cause
 cause_named name = unwrap_or (cause_of_name name) NormalClearing
 
-abbrev pub killing : Text → Api
-killing arguments = UuidKill (word_of arguments) (cause_named (word_of (behind_word arguments)))
+abbrev pub uuid_kill_of : Text → Api
+uuid_kill_of arguments = UuidKill (word_of arguments) (cause_named (word_of (behind_word arguments)))
 
-abbrev pub reading : Text → Api
-reading arguments = needs which.UuidGetvar (λ name. UuidGetvar (word_of arguments) (word_of name)) (behind_word arguments)
+abbrev pub uuid_getvar_of : Text → Api
+uuid_getvar_of arguments = needs which.UuidGetvar (λ name. UuidGetvar (word_of arguments) (word_of name)) (behind_word arguments)
 
 -- the api command of a name with these arguments
 unfoldable pub api_named : Text → Text → Api
 api_named name arguments =
     if bytes_eq name (codes "echo") then Echo arguments
     else (if bytes_eq name (codes "expand") then needs which.Expand Expand arguments
-    else (if bytes_eq name (codes "global_getvar") then getting arguments
-    else (if bytes_eq name (codes "global_setvar") then needs which.GlobalSetvar setting arguments
-    else (if bytes_eq name (codes "msleep") then sleeping arguments
+    else (if bytes_eq name (codes "global_getvar") then global_getvar_of arguments
+    else (if bytes_eq name (codes "global_setvar") then needs which.GlobalSetvar global_setvar_of arguments
+    else (if bytes_eq name (codes "msleep") then msleep_of arguments
     else (if bytes_eq name (codes "originate") then originate_of arguments
-    else (if bytes_eq name (codes "uuid_exists") then needs which.UuidExists asking arguments
-    else (if bytes_eq name (codes "uuid_getvar") then needs which.UuidGetvar reading arguments
-    else (if bytes_eq name (codes "uuid_kill") then needs which.UuidKill killing arguments
+    else (if bytes_eq name (codes "uuid_exists") then needs which.UuidExists uuid_exists_of arguments
+    else (if bytes_eq name (codes "uuid_getvar") then needs which.UuidGetvar uuid_getvar_of arguments
+    else (if bytes_eq name (codes "uuid_kill") then needs which.UuidKill uuid_kill_of arguments
     else Unknown name))))))))
 
 -- the api command that a text is

@@ -53,7 +53,7 @@ fn originated(
     winner: Option<Winner>,
     behind: &[u8],
 ) -> Result<Api, Memory>
-    ensures { IfOk result (λ api. api ≡ spec.originated url.now winner behind.now) }
+    ensures { IfOk result (λ api. api ≡ spec.originate_with url.now winner behind.now) }
 {
     let Some(winner) = winner else {
         return Ok(Api::Usage(Which::Originate));

@@ -53,19 +53,19 @@ fn named(alloc: Global, name: &[u8], arguments: &[u8]) -> Result<Api, Memory>
     } else if name == b"expand".as_slice() {
         expanding(alloc, arguments)
     } else if name == b"global_getvar".as_slice() {
-        getting(alloc, arguments)
+        global_getvar_of(alloc, arguments)
     } else if name == b"global_setvar".as_slice() {
-        setting(alloc, arguments)
+        global_setvar_of(alloc, arguments)
     } else if name == b"msleep".as_slice() {
-        Ok(sleeping(arguments))
+        Ok(msleep_of(arguments))
     } else if name == b"originate".as_slice() {
         originate_of(alloc, arguments)
     } else if name == b"uuid_exists".as_slice() {
-        asking(alloc, arguments)
+        uuid_exists_of(alloc, arguments)
     } else if name == b"uuid_getvar".as_slice() {
-        reading(alloc, arguments)
+        uuid_getvar_of(alloc, arguments)
     } else if name == b"uuid_kill".as_slice() {
-        killing(alloc, arguments)
+        uuid_kill_of(alloc, arguments)
     } else {
         Ok(Api::Unknown(Txt::of(alloc, name)?))
     }
@@ -81,8 +81,8 @@ fn expanding(alloc: Global, arguments: &[u8]) -> Result<Api, Memory>
     Ok(Api::Expand { text })
 }
 
-fn getting(alloc: Global, arguments: &[u8]) -> Result<Api, Memory>
-    ensures { IfOk result (λ api. api ≡ spec.getting arguments.now) }
+fn global_getvar_of(alloc: Global, arguments: &[u8]) -> Result<Api, Memory>
+    ensures { IfOk result (λ api. api ≡ spec.global_getvar_of arguments.now) }
 {
     if arguments.is_empty() {
         return Ok(Api::GlobalGetvar { name: None });
@@ -92,8 +92,8 @@ fn getting(alloc: Global, arguments: &[u8]) -> Result<Api, Memory>
     Ok(Api::GlobalGetvar { name })
 }
 
-fn setting(alloc: Global, arguments: &[u8]) -> Result<Api, Memory>
-    ensures { IfOk result (λ api. api ≡ spec.needs which.GlobalSetvar spec.setting arguments.now) }
+fn global_setvar_of(alloc: Global, arguments: &[u8]) -> Result<Api, Memory>
+    ensures { IfOk result (λ api. api ≡ spec.needs which.GlobalSetvar spec.global_setvar_of arguments.now) }
 {
     if arguments.is_empty() {
         return Ok(Api::Usage(Which::GlobalSetvar));
@@ -105,8 +105,8 @@ fn setting(alloc: Global, arguments: &[u8]) -> Result<Api, Memory>
     Ok(Api::GlobalSetvar { name, value })
 }
 
-fn sleeping(arguments: &[u8]) -> Api
-    ensures { result ≡ spec.sleeping arguments.now }
+fn msleep_of(arguments: &[u8]) -> Api
+    ensures { result ≡ spec.msleep_of arguments.now }
 {
     let (word, _) = cut_word(arguments);
     match read_u64(word) {
@@ -115,8 +115,8 @@ fn sleeping(arguments: &[u8]) -> Api
     }
 }
 
-fn asking(alloc: Global, arguments: &[u8]) -> Result<Api, Memory>
-    ensures { IfOk result (λ api. api ≡ spec.needs which.UuidExists spec.asking arguments.now) }
+fn uuid_exists_of(alloc: Global, arguments: &[u8]) -> Result<Api, Memory>
+    ensures { IfOk result (λ api. api ≡ spec.needs which.UuidExists spec.uuid_exists_of arguments.now) }
 {
     if arguments.is_empty() {
         return Ok(Api::Usage(Which::UuidExists));
@@ -126,8 +126,8 @@ fn asking(alloc: Global, arguments: &[u8]) -> Result<Api, Memory>
     Ok(Api::UuidExists { uuid })
 }
 
-fn reading(alloc: Global, arguments: &[u8]) -> Result<Api, Memory>
-    ensures { IfOk result (λ api. api ≡ spec.needs which.UuidGetvar spec.reading arguments.now) }
+fn uuid_getvar_of(alloc: Global, arguments: &[u8]) -> Result<Api, Memory>
+    ensures { IfOk result (λ api. api ≡ spec.needs which.UuidGetvar spec.uuid_getvar_of arguments.now) }
 {
     let (word, behind) = cut_word(arguments);
     if arguments.is_empty() || behind.is_empty() {
@@ -139,8 +139,8 @@ fn reading(alloc: Global, arguments: &[u8]) -> Result<Api, Memory>
     Ok(Api::UuidGetvar { uuid, name })
 }
 
-fn killing(alloc: Global, arguments: &[u8]) -> Result<Api, Memory>
-    ensures { IfOk result (λ api. api ≡ spec.needs which.UuidKill spec.killing arguments.now) }
+fn uuid_kill_of(alloc: Global, arguments: &[u8]) -> Result<Api, Memory>
+    ensures { IfOk result (λ api. api ≡ spec.needs which.UuidKill spec.uuid_kill_of arguments.now) }
 {
     if arguments.is_empty() {
         return Ok(Api::Usage(Which::UuidKill));

@@ -27,12 +27,12 @@ abbrev pub within_hour : Option ℕ → ℕ
 within_hour None = 0
 within_hour (Some n) = if nat_le n 3600000 then n else 0
 
-abbrev pub sleeping : Text → Application
-sleeping argument = app.Sleep (within_hour (read_u64 argument))
+abbrev pub sleep_application : Text → Application
+sleep_application argument = app.Sleep (within_hour (read_u64 argument))
 
 -- the cause of the first word
-abbrev pub hanging_up : Text → Application
-hanging_up argument = app.Hangup (cause_named (word_of (without_spaces argument)))
+abbrev pub hangup_application : Text → Application
+hangup_application argument = app.Hangup (cause_named (word_of (without_spaces argument)))
 
 -- ---- routing
 
@@ -47,18 +47,18 @@ is_exten [] = false
 is_exten (byte ∷ bytes) = not (byte == 45)
 
 -- to be routed to these words
-abbrev pub routed_to : Text → Text → Text → Application
-routed_to exten dialplan context =
+abbrev pub transfer_to : Text → Text → Text → Application
+transfer_to exten dialplan context =
     app.Transfer (record { exten = exten; dialplan = word_named dialplan; context = word_named context })
 
 -- the same where there is an extension, and each word has at most 256 bytes
-abbrev pub routing : Text → Text → Text → Application
-routing exten dialplan context =
-    if is_exten exten && is_short exten && is_short dialplan && is_short context then routed_to exten dialplan context else app.Unknown
+abbrev pub transfer : Text → Text → Text → Application
+transfer exten dialplan context =
+    if is_exten exten && is_short exten && is_short dialplan && is_short context then transfer_to exten dialplan context else app.Unknown
 
 -- the first three words of a text that begins with no space
-abbrev pub transferring : Text → Application
-transferring text = routing (word_of text) (word_of (behind_word text)) (word_of (behind_word (behind_word text)))
+abbrev pub transfer_application : Text → Application
+transfer_application text = transfer (word_of text) (word_of (behind_word text)) (word_of (behind_word (behind_word text)))
 
 -- ---- all of them
 
@@ -70,13 +70,13 @@ application_of name argument =
     else (if bytes_eq name (codes "export") then app.Export (name_in argument) (value_in argument)
     else (if bytes_eq name (codes "set_global") then app.SetGlobal (name_in argument) (value_in argument)
     else (if bytes_eq name (codes "log") || bytes_eq name (codes "eval") then app.Eval
-    else (if bytes_eq name (codes "sleep") then sleeping argument
-    else (if bytes_eq name (codes "hangup") then hanging_up argument
+    else (if bytes_eq name (codes "sleep") then sleep_application argument
+    else (if bytes_eq name (codes "hangup") then hangup_application argument
     else (if bytes_eq name (codes "park") then app.Park
-    else (if bytes_eq name (codes "transfer") then transferring (without_spaces argument)
+    else (if bytes_eq name (codes "transfer") then transfer_application (without_spaces argument)
     else app.Unknown)))))))))
 
 -- the texts of a transfer can stand in a profile
-abbrev pub IsShort : Application → Type 0
-IsShort (app.Transfer to) = changes.IsShort to
-IsShort _ = Unit {0}
+abbrev pub IsShortApplication : Application → Type 0
+IsShortApplication (app.Transfer to) = changes.IsShortTarget to
+IsShortApplication _ = Unit {0}

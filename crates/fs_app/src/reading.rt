@@ -23,7 +23,7 @@ impl Application {
     #[tactic(auto, unfolding(crate::specs::Applications::application_of))]
     pub fn of(alloc: Global, name: &[u8], argument: &[u8]) -> Result<Application, Memory>
         ensures application { IfOk result (λ application. application ≡ spec.application_of name.now argument.now) }
-        ensures short { IfOk result spec.IsShort }
+        ensures short { IfOk result spec.IsShortApplication }
     {
         if name == b"answer".as_slice() {
             Ok(Application::Answer)
@@ -42,13 +42,13 @@ impl Application {
         } else if name == b"log".as_slice() || name == b"eval".as_slice() {
             Ok(Application::Eval)
         } else if name == b"sleep".as_slice() {
-            Ok(sleeping(argument))
+            Ok(sleep_application(argument))
         } else if name == b"hangup".as_slice() {
-            Ok(hanging_up(argument))
+            Ok(hangup_application(argument))
         } else if name == b"park".as_slice() {
             Ok(Application::Park)
         } else if name == b"transfer".as_slice() {
-            transferring(alloc, without_spaces(argument))
+            transfer_application(alloc, without_spaces(argument))
         } else {
             Ok(Application::Unknown)
         }
@@ -63,8 +63,8 @@ fn name_and_value(alloc: Global, argument: &[u8]) -> Result<(Txt, Txt), Memory>
     Ok((Txt::of(alloc, name)?, Txt::of(alloc, value)?))
 }
 
-fn sleeping(argument: &[u8]) -> Application
-    ensures { result ≡ spec.sleeping argument.now }
+fn sleep_application(argument: &[u8]) -> Application
+    ensures { result ≡ spec.sleep_application argument.now }
 {
     let milliseconds = match read_u64(argument) {
         Some(milliseconds) if milliseconds <= LONGEST_SLEEP => milliseconds,
@@ -73,8 +73,8 @@ fn sleeping(argument: &[u8]) -> Application
     Application::Sleep { milliseconds }
 }
 
-fn hanging_up(argument: &[u8]) -> Application
-    ensures { result ≡ spec.hanging_up argument.now }
+fn hangup_application(argument: &[u8]) -> Application
+    ensures { result ≡ spec.hangup_application argument.now }
 {
     let (name, _) = cut_word(without_spaces(argument));
     let cause = Cause::of_name(name).unwrap_or(Cause::NormalClearing);
@@ -82,25 +82,25 @@ fn hanging_up(argument: &[u8]) -> Application
 }
 
 // The words of `transfer`, in a text that begins with no space.
-fn transferring(alloc: Global, words: &[u8]) -> Result<Application, Memory>
-    ensures application { IfOk result (λ application. application ≡ spec.transferring words.now) }
-    ensures short { IfOk result spec.IsShort }
+fn transfer_application(alloc: Global, words: &[u8]) -> Result<Application, Memory>
+    ensures application { IfOk result (λ application. application ≡ spec.transfer_application words.now) }
+    ensures short { IfOk result spec.IsShortApplication }
 {
     let (exten, behind) = cut_word(words);
     let (dialplan, behind) = cut_word(behind);
     let (context, _) = cut_word(behind);
-    routing(alloc, exten, dialplan, context)
+    transfer(alloc, exten, dialplan, context)
 }
 
 #[tactic(auto, using(crate::proofs::WordLemmas::word_named_short))]
-fn routing(
+fn transfer(
     alloc: Global,
     exten: &[u8],
     dialplan: &[u8],
     context: &[u8],
 ) -> Result<Application, Memory>
-    ensures application { IfOk result (λ application. application ≡ spec.routing exten.now dialplan.now context.now) }
-    ensures short { IfOk result spec.IsShort }
+    ensures application { IfOk result (λ application. application ≡ spec.transfer exten.now dialplan.now context.now) }
+    ensures short { IfOk result spec.IsShortApplication }
 {
     if !is_exten(exten) || !is_short(exten) || !is_short(dialplan) || !is_short(context) {
         return Ok(Application::Unknown);

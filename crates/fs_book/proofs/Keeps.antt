@@ -13,8 +13,8 @@ use Rattle.fs_book.specs.declared.view.Stage.{Stage}
 use Rattle.fs_book.specs.declared.view.Stage.TheVariants.{Idle, Waiting, Out}
 use Rattle.fs_book.specs.declared.view.View.{View}
 use Rattle.fs_book.specs.Counts.{total, times, once_below}
-use Rattle.fs_book.specs.Opened.{OpensAt, NamesAt, IsOwn, Rises, Closed, Owned}
-use Rattle.fs_book.specs.Turns.{all_parts, tickets_of, HasTicket, parts_of, drawn_by, lists_of, held, longer, shorter, spent, opening_view, cut_left, cut_right, both, Sound, AtStage, Fits, Fair, drew, Took, came, left, added, learned}
+use Rattle.fs_book.specs.Opened.{OpensAt, NamesAt, NamesOwn, Rises, Closed, Owned}
+use Rattle.fs_book.specs.Turns.{all_parts, tickets_of, HasTicket, parts_of, drawn_by, lists_of, held, longer, shorter, spent_view, opening_view, cut_left, cut_right, both, Sound, AtStage, Fits, Fair, DrawsTicket, Took, ReadsTurn, LeavesTurn, LeavesLonger, LearnsRule}
 use Rattle.fs_book.proofs.Lists.{prefix_self, prefix_trans, prefix_shorter, prefix_whole, prefix_length, get_below, total_set, total_push, total_append, one_le_total, two_le_total, total_le, total_only, total_alone, find, times_push, once_more}
 use Rattle.fs_book.proofs.Opening.{opens_up, names_up, names_down, closed_up, closed_push, rises_push}
 
@@ -163,18 +163,19 @@ module _ {S B E : Type 0} (start : S → B) (journal : S → List E) (opens : B 
 
   -- a pass with a part is not spent
   fits : (s : State (Option S) (View B E)) (r : Rule s) (j : ℕ) (v : View B E) → get_elem? s.views j ≡ some v → 0 < v.parts → Fits opens names origin r.log r.served r.drawn s.homes v
-  fits s r j v at part = ⊎_elim (λ (e : v ≡ spent). let p : v.parts ≡ 0 = ap parts_of e in absurd (omega arith)) (λ f. f) (r.each j v at)
+  fits s r j v at part =
+      ⊎_elim (λ (e : v ≡ spent_view). let p : v.parts ≡ 0 = ap parts_of e in absurd (omega arith)) (λ f. f) (r.each j v at)
 
   ticket_below : (s : State (Option S) (View B E)) (r : Rule s) (j k : ℕ) (v : View B E) → get_elem? s.views j ≡ some v → HasTicket v.stage k → (r.served ≤ k) × (k < r.drawn)
   ticket_below s r j k v at h =
-      ⊎_elim (λ (e : v ≡ spent). absurd (no_ticket v.stage k (ap (λ (u : View B E). u.stage) e) h))
+      ⊎_elim (λ (e : v ≡ spent_view). absurd (no_ticket v.stage k (ap (λ (u : View B E). u.stage) e) h))
       (λ (f : Fits opens names origin r.log r.served r.drawn s.homes v). in_queue r.log r.log r.served r.drawn s.homes s.homes v.seen v.stage k f.stage h) (r.each j v at)
 
   -- a ticket costs a part
   few : (s : State (Option S) (View B E)) (r : Rule s) → r.drawn ≤ r.served + all_parts
   few s r =
       let costs = total_le drawn_by parts_of s.views
-      (λ j v at. ⊎_elim (λ (e : v ≡ spent). let d : drawn_by v ≡ 0 = ap drawn_by e in omega arith)
+      (λ j v at. ⊎_elim (λ (e : v ≡ spent_view). let d : drawn_by v ≡ 0 = ap drawn_by e in omega arith)
       (λ (f : Fits opens names origin r.log r.served r.drawn s.homes v). let t = tickets_le v.stage in let p = f.some_part in omega arith) (r.each j v at)) in
       let q = r.queue in let p = r.parts in omega arith
 
@@ -193,7 +194,7 @@ module _ {S B E : Type 0} (start : S → B) (journal : S → List E) (opens : B 
 
   -- a pass that has a place is not spent
   fits_held : (s : State (Option S) (View B E)) (r : Rule s) (p i : ℕ) (u : View B E) → get_elem? s.views i ≡ some u → 0 < held p u → Fits opens names origin r.log r.served r.drawn s.homes u
-  fits_held s r p i u at has = ⊎_elim (λ (e : u ≡ spent). let none_held : held p u ≡ 0 = ap (held p) e in absurd (omega arith)) (λ f. f) (r.each i u at)
+  fits_held s r p i u at has = ⊎_elim (λ (e : u ≡ spent_view). let none_held : held p u ≡ 0 = ap (held p) e in absurd (omega arith)) (λ f. f) (r.each i u at)
 
   -- a pass that has the opening of a number has the place of any entry that names it, which stands in some list of some pass
   has_named : (s : State (Option S) (View B E)) (r : Rule s) (b : B) (j k q number p : ℕ) (v : View B E) (l : List ℕ) → get_elem? s.views j ≡ some v → Fits opens names origin r.log r.served r.drawn s.homes v
@@ -263,8 +264,8 @@ module _ {S B E : Type 0} (start : S → B) (journal : S → List E) (opens : B 
         words_are = words;
         queue = (let t = total_set drawn_by s.views id v w at in let q = r.queue in omega arith);
         parts = (let t = total_set parts_of s.views id v w at in let p = r.parts in omega arith);
-        each = each_set (λ (u : View B E). (u ≡ spent) ⊎ Fits opens names origin log' served' drawn' homes' u) s.views id w (inr mine)
-            (λ j u n at_u. ⊎_elim (λ (e : u ≡ spent). inl e) (λ (f : Fits opens names origin r.log r.served r.drawn s.homes u). inr (others j u n at_u f)) (r.each j u at_u));
+        each = each_set (λ (u : View B E). (u ≡ spent_view) ⊎ Fits opens names origin log' served' drawn' homes' u) s.views id w (inr mine)
+            (λ j u n at_u. ⊎_elim (λ (e : u ≡ spent_view). inl e) (λ (f : Fits opens names origin r.log r.served r.drawn s.homes u). inr (others j u n at_u f)) (r.each j u at_u));
         apart = apart_set s r id w apart;
         once = (λ p. let t = total_set (held p) s.views id v w at in let o = r.once p in let c = once p in omega arith);
         home = home;
@@ -282,7 +283,7 @@ module _ {S B E : Type 0} (start : S → B) (journal : S → List E) (opens : B 
 
   -- a ticket is drawn
   pub draws : (slots id : ℕ) (m : Me (Option S) (View B E)) → m.0.stage ≡ Idle → 0 < m.0.parts
-      → Allows Rule slots id m 0 (λ n. (n + 1) % (2 ^ 64)) (drew start journal opens names (step slots 0 1 0 none) m)
+      → Allows Rule slots id m 0 (λ n. (n + 1) % (2 ^ 64)) (DrawsTicket start journal opens names (step slots 0 1 0 none) m)
   draws slots id m idle part s r len at small =
       let v = m.0 in
       let w : View B E = record v { stage = Waiting r.drawn } in
@@ -367,7 +368,7 @@ module _ {S B E : Type 0} (start : S → B) (journal : S → List E) (opens : B 
       (x, h.1, (x, f.origin_is ∙ ap (λ (y : B). Some y) (sym h.2), pre, sound _ kept id w (set_here s.views id w (at_below s.views id v at)) part, refl), kept)
 
   -- the turn is read by one who waits
-  pub comes : (slots id : ℕ) (m : Me (Option S) (View B E)) (k : ℕ) → m.0.stage ≡ Waiting k → 0 < m.0.parts → Allows Rule slots id m 1 (λ n. n) (came start journal opens names (step slots 1 0 0 none) m)
+  pub comes : (slots id : ℕ) (m : Me (Option S) (View B E)) (k : ℕ) → m.0.stage ≡ Waiting k → 0 < m.0.parts → Allows Rule slots id m 1 (λ n. n) (ReadsTurn start journal opens names (step slots 1 0 0 none) m)
   comes slots id m k waits part s r len at small =
       let found : slice_index s.words 1 ≡ r.served % (2 ^ 64) = ap (λ (ws : List ℕ). slice_index ws 1) r.words_are in
       let b = ticket_below s r id k m.0 at (subst (λ (y : Stage). HasTicket y k) (sym waits) refl) in
@@ -416,7 +417,7 @@ module _ {S B E : Type 0} (start : S → B) (journal : S → List E) (opens : B 
 
   -- the state is given back as it was, and the turn passed on
   pub leaves : (slots id : ℕ) (m : Me (Option S) (View B E)) (k : ℕ) (x : S) → m.0.stage ≡ Out k → 0 < m.0.parts → m.1 ≡ (0, Some x) ∷ [] → m.0.start ≡ Some (start x) → journal x ≡ m.0.seen
-      → Allows Rule slots id m 1 (λ n. (n + 1) % (2 ^ 64)) (left start journal opens names (step slots 1 1 0 none) m)
+      → Allows Rule slots id m 1 (λ n. (n + 1) % (2 ^ 64)) (LeavesTurn start journal opens names (step slots 1 1 0 none) m)
   leaves slots id m k x out part carries start_is same s r len at small =
       let v = m.0 in
       let w : View B E = record v { stage = Idle } in
@@ -442,8 +443,8 @@ module _ {S B E : Type 0} (start : S → B) (journal : S → List E) (opens : B 
 
   -- the state is given back with one entry more, which the pass that gives it owns
   pub adds : (slots id : ℕ) (m : Me (Option S) (View B E)) (k : ℕ) (x : S) (entry : E) → m.0.stage ≡ Out k → 0 < m.0.parts → m.1 ≡ (0, Some x) ∷ [] → m.0.start ≡ Some (start x)
-      → journal x ≡ m.0.seen ++ entry ∷ [] → IsOwn opens names (start x) m.0.seen m.0.mine entry
-      → Allows Rule slots id m 1 (λ n. (n + 1) % (2 ^ 64)) (added start journal opens names (step slots 1 1 0 none) m)
+      → journal x ≡ m.0.seen ++ entry ∷ [] → NamesOwn opens names (start x) m.0.seen m.0.mine entry
+      → Allows Rule slots id m 1 (λ n. (n + 1) % (2 ^ 64)) (LeavesLonger start journal opens names (step slots 1 1 0 none) m)
   adds slots id m k x entry out part carries start_is more own s r len at small =
       let v = m.0 in
       let w : View B E = record v { stage = Idle; seen = journal x; mine = v.mine ++ length v.seen ∷ [] } in
@@ -457,7 +458,7 @@ module _ {S B E : Type 0} (start : S → B) (journal : S → List E) (opens : B 
       let len_x : length (journal x) ≡ length v.seen + 1 = ap length more ∙ length-append v.seen (entry ∷ []) in
       let len_log : length v.seen ≡ length r.log = ap length t.1 in
       let counts : (p : ℕ) → held p w ≡ held p v + cond {A = ℕ} (eqb (length v.seen) p) 1 0 = λ p. let c = times_push p (length v.seen) v.mine in omega arith in
-      let own_all : (b : B) → v.start ≡ Some b → IsOwn opens names b v.seen v.mine entry = λ b is. subst (λ (y : B). IsOwn opens names y v.seen v.mine entry) (Some_is (start x) b (sym start_is ∙ is)) own in
+      let own_all : (b : B) → v.start ≡ Some b → NamesOwn opens names b v.seen v.mine entry = λ b is. subst (λ (y : B). NamesOwn opens names y v.seen v.mine entry) (Some_is (start x) b (sym start_is ∙ is)) own in
       let mine : Fits opens names origin (journal x) (r.served + 1) r.drawn homes' w =
       record {
         some_part = f.some_part;
@@ -490,7 +491,7 @@ module _ {S B E : Type 0} (start : S → B) (journal : S → List E) (opens : B 
       )
 
   -- what is known of a pass by itself is read
-  pub learns : (slots id : ℕ) (m : Me (Option S) (View B E)) → 0 < m.0.parts → Allows Rule slots id m 1 (λ n. n) (learned start journal opens names (step slots 1 0 0 none) m)
+  pub learns : (slots id : ℕ) (m : Me (Option S) (View B E)) → 0 < m.0.parts → Allows Rule slots id m 1 (λ n. n) (LearnsRule start journal opens names (step slots 1 0 0 none) m)
   learns slots id m part s r len at small =
       let f = fits s r id m.0 at part in
       let n = one_le_total parts_of s.views id m.0 at in
@@ -560,7 +561,7 @@ module _ {S B E : Type 0} (start : S → B) (journal : S → List E) (opens : B 
         queue = (let t = split_total drawn_by in let q = r.queue in omega arith);
         parts = (let t = split_total parts_of in let p = r.parts in omega arith);
         each = λ j u at_u. ⊎_elim
-            (λ at_vs. each_set (λ (y : View B E). (y ≡ spent) ⊎ Fits opens names origin r.log r.served r.drawn s.homes y) s.views id l (inr left_fits) (λ i y _ at_y. r.each i y at_y) j u at_vs)
+            (λ at_vs. each_set (λ (y : View B E). (y ≡ spent_view) ⊎ Fits opens names origin r.log r.served r.drawn s.homes y) s.views id l (inr left_fits) (λ i y _ at_y. r.each i y at_y) j u at_vs)
             (λ (is : w ≡ u). inr (subst (Fits opens names origin r.log r.served r.drawn s.homes) is right_fits))
             (at_snoc vs w u j at_u);
         apart = λ i j k u u' at_u at_u' h h'. r.apart i j k u u' (old i k u at_u h) (old j k u' at_u' h') h h';
@@ -594,19 +595,19 @@ module _ {S B E : Type 0} (start : S → B) (journal : S → List E) (opens : B 
       }
 
   -- a pass is met into another
-  pub joins : (id other : ℕ) (v w : View B E) → v.stage ≡ Idle → w.stage ≡ Idle → 0 < v.parts → 0 < w.parts → Joins Rule id v other w (both v w) spent
+  pub joins : (id other : ℕ) (v w : View B E) → v.stage ≡ Idle → w.stage ≡ Idle → 0 < v.parts → 0 < w.parts → Joins Rule id v other w (both v w) spent_view
   joins id other v w idle idle' part part' s r at n at' =
       let b = both v w in
       let vs = set s.views id b in
       let was : get_elem? s.views other ≡ some w = sym (set_else s.views id other b n) ∙ at' in
       let f = fits s r id v at part in
       let g = fits s r other w was part' in
-      let old : (i k : ℕ) (u : View B E) → get_elem? (set vs other spent) i ≡ some u → HasTicket u.stage k → get_elem? s.views i ≡ some u = λ i k u at_u h.
-      ⊎_elim (λ (x : (i ≡ other) × (spent ≡ u)). absurd (no_ticket u.stage k (ap (λ (y : View B E). y.stage) (sym x.1)) h))
+      let old : (i k : ℕ) (u : View B E) → get_elem? (set vs other spent_view) i ≡ some u → HasTicket u.stage k → get_elem? s.views i ≡ some u = λ i k u at_u h.
+      ⊎_elim (λ (x : (i ≡ other) × (spent_view ≡ u)). absurd (no_ticket u.stage k (ap (λ (y : View B E). y.stage) (sym x.1)) h))
       (λ (x : (i ≢ other) × (get_elem? vs i ≡ some u)).
       ⊎_elim (λ (y : (i ≡ id) × (b ≡ u)). absurd (no_ticket u.stage k (ap (λ (z : View B E). z.stage) (sym y.1) ∙ idle) h)) (λ (y : (i ≢ id) × (get_elem? s.views i ≡ some u)). y.1) (at_set s.views id i b u x.1))
-      (at_set vs other i spent u at_u) in
-      let met_total : (h : View B E → ℕ) → total h (set vs other spent) + h w + h v ≡ total h s.views + h b + h spent = λ h. let x = total_set h s.views id v b at in let y = total_set h vs other w spent at' in omega arith in
+      (at_set vs other i spent_view u at_u) in
+      let met_total : (h : View B E → ℕ) → total h (set vs other spent_view) + h w + h v ≡ total h s.views + h b + h spent_view = λ h. let x = total_set h s.views id v b at in let y = total_set h vs other w spent_view at' in omega arith in
       record {
         log = r.log;
         served = r.served;
@@ -614,14 +615,15 @@ module _ {S B E : Type 0} (start : S → B) (journal : S → List E) (opens : B 
         words_are = r.words_are;
         queue = (let t = met_total drawn_by in let q = r.queue in let i : drawn_by w ≡ 0 = ap tickets_of idle' in omega arith);
         parts = (let t = met_total parts_of in let p = r.parts in omega arith);
-        each = each_set (λ (y : View B E). (y ≡ spent) ⊎ Fits opens names origin r.log r.served r.drawn s.homes y) vs other spent (inl refl)
-            (λ j u _ at_u. each_set (λ (y : View B E). (y ≡ spent) ⊎ Fits opens names origin r.log r.served r.drawn s.homes y) s.views id b (inr (both_fit s r v w f g idle)) (λ i y _ at_y. r.each i y at_y) j u at_u);
+        each = each_set (λ (y : View B E). (y ≡ spent_view) ⊎ Fits opens names origin r.log r.served r.drawn s.homes y) vs other spent_view
+            (inl refl)
+            (λ j u _ at_u. each_set (λ (y : View B E). (y ≡ spent_view) ⊎ Fits opens names origin r.log r.served r.drawn s.homes y) s.views id b (inr (both_fit s r v w f g idle)) (λ i y _ at_y. r.each i y at_y) j u at_u);
         apart = λ i j k u u' at_u at_u' h h'. r.apart i j k u u' (old i k u at_u h) (old j k u' at_u' h') h h';
         once = (λ p. let t = met_total (held p) in let o = r.once p in let a = total_append (times p) (lists_of v) (lists_of w) in omega arith);
         home = ⊎_elim (λ h. inl h)
             (λ (h : (j : ℕ) × (u : View B E) × (get_elem? vs j ≡ some u) × (u.stage ≡ Out r.served) × (s.homes ≡ none ∷ [])).
             let m : h.0 ≢ other = λ e. idle_out r.served (sym idle' ∙ ap (λ (z : View B E). z.stage) (sym (same_at vs h.0 other h.1 w h.2 at' e)) ∙ h.3) in
-            inr (h.0, h.1, set_else vs other h.0 spent m ∙ h.2, h.3, h.4))
+            inr (h.0, h.1, set_else vs other h.0 spent_view m ∙ h.2, h.3, h.4))
             (home_set s r id v b at (λ k e. idle_out k (sym idle ∙ e)));
       }
 
@@ -634,7 +636,7 @@ module _ {S B E : Type 0} (start : S → B) (journal : S → List E) (opens : B 
       let at = final.1.1 in
       let f = fits s r id v at (omega arith) in
       let whole = r.parts in
-      let others : (j : ℕ) (u : View B E) → id ≢ j → get_elem? s.views j ≡ some u → u ≡ spent = λ j u n at_u.
+      let others : (j : ℕ) (u : View B E) → id ≢ j → get_elem? s.views j ≡ some u → u ≡ spent_view = λ j u n at_u.
       let z = total_only parts_of s.views id j v u at (omega arith) n at_u in
       ⊎_elim (λ e. e) (λ (g : Fits opens names origin r.log r.served r.drawn s.homes u). let p = g.some_part in absurd (omega arith)) (r.each j u at_u) in
       let alone_held : (p : ℕ) → held p v ≡ once_below p (length r.log) = λ p.

@@ -6,7 +6,7 @@ use mathlib.Core.Logic.{dite}
 use mathlib.Core.Option.{some-injective}
 use native.Mathlib.Decide.{dec_lt, ℕ_discrete}
 use Rattle.fs_book.specs.Counts.{total, times}
-use Rattle.fs_book.specs.Opened.{OpensAt, NamesAt, Owns, IsOwn, Rises, Closed}
+use Rattle.fs_book.specs.Opened.{OpensAt, NamesAt, OwnsNumber, NamesOwn, Rises, Closed}
 use Rattle.fs_book.proofs.Lists.{prefix_get, prefix_got, prefix_take, get_below, get_last, last_get, last_take, one_le_total, times_here, times_before, times_more}
 
 -- what stands in a list is counted there
@@ -44,22 +44,22 @@ module _ {B E : Type 0} (opens : B → List E → E → Option ℕ) where
       (h.0, prefix_get xs ys p h.0 pre h.1, ap (λ (log : List E). opens origin log h.0) before ∙ h.2)
 
   -- what is owned stays owned where more is seen
-  pub owns_up : (origin : B) (number : ℕ) (xs ys : List E) (places : List ℕ) → IsPrefix xs ys → Owns opens origin number xs places → Owns opens origin number ys places
+  pub owns_up : (origin : B) (number : ℕ) (xs ys : List E) (places : List ℕ) → IsPrefix xs ys → OwnsNumber opens origin number xs places → OwnsNumber opens origin number ys places
   owns_up origin number xs ys places pre h = (h.0, h.1, opens_up origin xs ys h.0 number pre h.2)
 
   -- so it does where a place is added
-  pub owns_more : (origin : B) (number : ℕ) (log : List E) (places : List ℕ) (p : ℕ) → Owns opens origin number log places → Owns opens origin number log (places ++ p ∷ [])
+  pub owns_more : (origin : B) (number : ℕ) (log : List E) (places : List ℕ) (p : ℕ) → OwnsNumber opens origin number log places → OwnsNumber opens origin number log (places ++ p ∷ [])
   owns_more origin number log places p h = (h.0, times_more h.0 p places h.1, h.2)
 
   -- the number that the last entry opened is one's own
   pub own_new : (origin : B) (number : ℕ) (log : List E) (entry : E) (places : List ℕ) → opens origin log entry ≡ Some number
-      → Owns opens origin number (log ++ entry ∷ []) (places ++ length log ∷ [])
+      → OwnsNumber opens origin number (log ++ entry ∷ []) (places ++ length log ∷ [])
   own_new origin number log entry places is =
       (length log, times_here (length log) places, (entry, last_get log entry, ap (λ (before : List E). opens origin before entry) (last_take log entry) ∙ is))
 
 module _ {B E : Type 0} (opens : B → List E → E → Option ℕ) (names : E → Option ℕ) where
   -- an entry that is one's own stays so where more is seen
-  pub own_up : (origin : B) (xs ys : List E) (places : List ℕ) (entry : E) → IsPrefix xs ys → IsOwn opens names origin xs places entry → IsOwn opens names origin ys places entry
+  pub own_up : (origin : B) (xs ys : List E) (places : List ℕ) (entry : E) → IsPrefix xs ys → NamesOwn opens names origin xs places entry → NamesOwn opens names origin ys places entry
   own_up origin xs ys places entry pre own number is = owns_up opens origin number xs ys places pre (own number is)
 
   pub closed_up : (start : Option B) (lists : List (List ℕ)) (xs ys : List E) → IsPrefix xs ys → ((p : ℕ) → 0 < total (times p) lists → p < length xs)
@@ -71,7 +71,7 @@ module _ {B E : Type 0} (opens : B → List E → E → Option ℕ) (names : E �
   -- an entry that is one's own is appended
   pub closed_push : (start : Option B) (mine : List ℕ) (met : List (List ℕ)) (log : List E) (entry : E)
       → ((p : ℕ) → 0 < total (times p) (mine ∷ met) → p < length log)
-      → ((origin : B) → start ≡ Some origin → IsOwn opens names origin log mine entry)
+      → ((origin : B) → start ≡ Some origin → NamesOwn opens names origin log mine entry)
       → Closed opens names start (mine ∷ met) log → Closed opens names start ((mine ++ length log ∷ []) ∷ met) (log ++ entry ∷ [])
   closed_push start mine met log entry below own closed origin is (suc k) l at p number in_l named =
       let whole : IsPrefix log (log ++ entry ∷ []) = (entry ∷ [], refl) in
@@ -80,7 +80,7 @@ module _ {B E : Type 0} (opens : B → List E → E → Option ℕ) (names : E �
       let whole : IsPrefix log (log ++ entry ∷ []) = (entry ∷ [], refl) in
       let l_is : mine ++ length log ∷ [] ≡ l = some-injective _ _ at in
       let counted : 0 < times p (mine ++ length log ∷ []) = subst (λ (x : List ℕ). 0 < times p x) (sym l_is) in_l in
-      subst (Owns opens origin number (log ++ entry ∷ [])) l_is
+      subst (OwnsNumber opens origin number (log ++ entry ∷ [])) l_is
       (dite (ℕ_discrete p (length log))
       (λ here.
       let last : entry ≡ named.0 = get_last log entry named.0 (subst (λ (n : ℕ). slice_get (log ++ entry ∷ []) n ≡ Some named.0) here named.1) in

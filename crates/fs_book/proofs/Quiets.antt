@@ -4,7 +4,7 @@ use mathlib.Core.List.{IsPrefix}
 use mathlib.Core.Option.{some}
 use lib.ListN.{get_elem?}
 use Rattle.fs_book.specs.Counts.{times}
-use Rattle.fs_book.specs.Opened.{NamesAt, Owns, Owned, NoneNames, Quiet}
+use Rattle.fs_book.specs.Opened.{NamesAt, OwnsNumber, Owned, NoneNames, Quiet}
 use Rattle.fs_book.proofs.Lists.{get_below, last_get, times_before}
 use Rattle.fs_book.proofs.Opening.{opens_up, names_up, owns_up, owns_more}
 
@@ -32,19 +32,19 @@ module _ {E : Type 0} (names : E → Option ℕ) (number : ℕ) where
 module _ {B E : Type 0} (opens : B → List E → E → Option ℕ) (names : E → Option ℕ) (origin : B) (number : ℕ) where
   -- a list of any pass that opened the number, and all of whose places were seen before
   pub quiet_owned : (start : Option B) (lists : List (List ℕ)) (k : ℕ) (places : List ℕ) (old new : List E) → start ≡ Some origin → get_elem? lists k ≡ some places
-      → IsPrefix old new → ((p : ℕ) → 0 < times p places → p < length old) → Owned opens names start lists new → Owns opens origin number old places → Quiet names number old new
+      → IsPrefix old new → ((p : ℕ) → 0 < times p places → p < length old) → Owned opens names start lists new → OwnsNumber opens origin number old places → Quiet names number old new
   quiet_owned start lists k places old new is at pre below owned own =
       quiet_places names number old new pre (λ p named. below p (owned origin is k places at own.0 number own.1 (opens_up opens origin old new own.0 number pre own.2) p named))
 
   -- from a pass's last call to its next look
   pub quiet_look : (start : Option B) (mine : List ℕ) (met : List (List ℕ)) (old new : List E) → start ≡ Some origin
-      → IsPrefix old new → ((p : ℕ) → 0 < times p mine → p < length old) → Owned opens names start (mine ∷ met) new → Owns opens origin number old mine → Quiet names number old new
+      → IsPrefix old new → ((p : ℕ) → 0 < times p mine → p < length old) → Owned opens names start (mine ∷ met) new → OwnsNumber opens origin number old mine → Quiet names number old new
   quiet_look start mine met old new is pre below owned own = quiet_owned start (mine ∷ met) 0 mine old new is refl pre below owned own
 
   -- from a pass's last call to its next entry, which came right after `before`
   pub quiet_submit : (start : Option B) (mine : List ℕ) (met : List (List ℕ)) (old before : List E) (entry : E) → start ≡ Some origin
       → IsPrefix old before → ((p : ℕ) → 0 < times p mine → p < length old) → Owned opens names start ((mine ++ length before ∷ []) ∷ met) (before ++ entry ∷ [])
-      → Owns opens origin number old mine → Quiet names number old before
+      → OwnsNumber opens origin number old mine → Quiet names number old before
   quiet_submit start mine met old before entry is pre below owned own =
       let whole : IsPrefix before (before ++ entry ∷ []) = (entry ∷ [], refl) in
       let own' = owns_more opens origin number before mine (length before) (owns_up opens origin number old before mine pre own) in

@@ -29,13 +29,13 @@ abbrev pub counted_where : Bool → ℕ → ℕ
 counted_where b count = if b then suc count else count
 
 -- how many of the entries meet the test
-abbrev pub counted : {E : Type 0} → (E → Bool) → List E → ℕ
-counted test [] = 0
-counted test (entry ∷ entries) = counted_where (test entry) (counted test entries)
+abbrev pub count_among : {E : Type 0} → (E → Bool) → List E → ℕ
+count_among test [] = 0
+count_among test (entry ∷ entries) = counted_where (test entry) (count_among test entries)
 
 -- what the entry opens after these, if it opens a number
 abbrev pub by_count : {E : Type 0} → (E → Bool) → List E → E → Option ℕ
-by_count test log entry = if test entry then Some (suc (counted test log)) else None
+by_count test log entry = if test entry then Some (suc (count_among test log)) else None
 
 next_opened : (b : Bool) (count number : ℕ) → ◌≡◌ {A = Option ℕ} (if b then Some (suc count) else None) (Some number) → (b ≡ true) × (suc count ≡ number)
 next_opened true count number is = (refl, cc is)
@@ -53,19 +53,20 @@ one_less : (m n : ℕ) → suc m ≡ suc n → m ≡ n
 one_less m n is = cc is
 
 same_place : {E : Type 0} (test : E → Bool) (log : List E) (p q : ℕ) (entry other : E) → slice_get log p ≡ Some entry → test entry ≡ true
-    → slice_get log q ≡ Some other → test other ≡ true → counted test (take p log) ≡ counted test (take q log) → p ≡ q
+    → slice_get log q ≡ Some other → test other ≡ true → count_among test (take p log) ≡ count_among test (take q log) → p ≡ q
 same_place test [] p q entry other at holds at' holds' same = absurd cc
 same_place test (x ∷ xs) zero zero entry other at holds at' holds' same = refl
 same_place test (x ∷ xs) zero (suc q) entry other at holds at' holds' same =
-    let e : x ≡ entry = cc at in absurd (some_before (test x) (counted test (take q xs)) (ap test e ∙ holds) same)
+    let e : x ≡ entry = cc at in absurd (some_before (test x) (count_among test (take q xs)) (ap test e ∙ holds) same)
 same_place test (x ∷ xs) (suc p) zero entry other at holds at' holds' same =
-    let e : x ≡ other = cc at' in absurd (some_before (test x) (counted test (take p xs)) (ap test e ∙ holds') (sym same))
+    let e : x ≡ other = cc at' in absurd (some_before (test x) (count_among test (take p xs)) (ap test e ∙ holds') (sym same))
 same_place test (x ∷ xs) (suc p) (suc q) entry other at holds at' holds' same =
-    ap suc (same_place test xs p q entry other at holds at' holds' (cancel (test x) (counted test (take p xs)) (counted test (take q xs)) same))
+    ap suc (same_place test xs p q entry other at holds at' holds' (cancel (test x) (count_among test (take p xs)) (count_among test (take q xs)) same))
 
 pub by_count_once : {B E : Type 0} (test : E → Bool) (origin : B) (log : List E) (p q number : ℕ) → OpensAt (λ _ before entry. by_count test before entry) origin log p number
     → OpensAt (λ _ before entry. by_count test before entry) origin log q number → p ≡ q
 by_count_once test origin log p q number h h' =
-    let a = next_opened (test h.0) (counted test (take p log)) number h.2 in
-    let b = next_opened (test h'.0) (counted test (take q log)) number h'.2 in
-    same_place test log p q h.0 h'.0 h.1 a.0 h'.1 b.0 (one_less (counted test (take p log)) (counted test (take q log)) (a.1 ∙ sym b.1))
+    let a = next_opened (test h.0) (count_among test (take p log)) number h.2 in
+    let b = next_opened (test h'.0) (count_among test (take q log)) number h'.2 in
+    same_place test log p q h.0 h'.0 h.1 a.0 h'.1 b.0 (one_less (count_among test (take p log)) (count_among test (take q log))
+    (a.1 ∙ sym b.1))

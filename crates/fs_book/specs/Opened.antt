@@ -13,12 +13,12 @@ abbrev pub NamesAt : {E : Type 0} → (E → Option ℕ) → List E → ℕ → 
 NamesAt {E} names log p number = (entry : E) × (slice_get log p ≡ Some entry) × (names entry ≡ Some number)
 
 -- one of the places opens the number
-abbrev pub Owns : {B E : Type 0} → (B → List E → E → Option ℕ) → B → ℕ → List E → List ℕ → Type 0
-Owns opens origin number log places = (p : ℕ) × (0 < times p places) × OpensAt opens origin log p number
+abbrev pub OwnsNumber : {B E : Type 0} → (B → List E → E → Option ℕ) → B → ℕ → List E → List ℕ → Type 0
+OwnsNumber opens origin number log places = (p : ℕ) × (0 < times p places) × OpensAt opens origin log p number
 
 -- where the entry names a number, one of the places opens it
-abbrev pub IsOwn : {B E : Type 0} → (B → List E → E → Option ℕ) → (E → Option ℕ) → B → List E → List ℕ → E → Type 0
-IsOwn opens names origin log places entry = (number : ℕ) → names entry ≡ Some number → Owns opens origin number log places
+abbrev pub NamesOwn : {B E : Type 0} → (B → List E → E → Option ℕ) → (E → Option ℕ) → B → List E → List ℕ → E → Type 0
+NamesOwn opens names origin log places entry = (number : ℕ) → names entry ≡ Some number → OwnsNumber opens origin number log places
 
 -- each later place is the larger
 abbrev pub Rises : List ℕ → Type 0
@@ -27,12 +27,12 @@ Rises places = (i j p q : ℕ) → i < j → slice_get places i ≡ Some p → s
 module _ {B E : Type 0} (opens : B → List E → E → Option ℕ) (names : E → Option ℕ) (start : Option B) (lists : List (List ℕ)) (seen : List E) where
   -- what names a number stands in a list that opens it
   abbrev pub Closed : Type 0
-  Closed = (origin : B) → start ≡ Some origin → (k : ℕ) (l : List ℕ) → get_elem? lists k ≡ some l → (p number : ℕ) → 0 < times p l → NamesAt names seen p number → Owns opens origin number seen l
+  Closed = (origin : B) → start ≡ Some origin → (k : ℕ) (l : List ℕ) → get_elem? lists k ≡ some l → (p number : ℕ) → 0 < times p l → NamesAt names seen p number → OwnsNumber opens origin number seen l
 
   -- the same, as a fact and no data
   abbrev pub NoStray : Type 0
   NoStray = (origin : B) → start ≡ Some origin → (k : ℕ) (l : List ℕ) → get_elem? lists k ≡ some l → (p number : ℕ) → 0 < times p l → NamesAt names seen p number
-      → (Owns opens origin number seen l → ⊥) → ⊥
+      → (OwnsNumber opens origin number seen l → ⊥) → ⊥
 
   -- a list that opens a number has each place that names it
   abbrev pub Owned : Type 0

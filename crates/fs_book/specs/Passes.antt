@@ -25,9 +25,9 @@ module _ {M B O E A R : Type 0} {g : Ghosts M B O E A R} where
   KeepsLists old new = (mine new ≡ mine old) × (met new ≡ met old) × (parts new ≡ parts old)
 
 -- the state with which the book was started
-abbrev pub first_state : {M B O E A R : Type 0} → Book M B O E A R → M
-first_state book = book.desk.shared.key.value
+abbrev pub opening_state : {M B O E A R : Type 0} → Book M B O E A R → M
+opening_state book = book.desk.shared.key.value
 
 -- the pass is of this book
 abbrev pub IsPassOf : {M B O E A R : Type 0} {g : Ghosts M B O E A R} → (M → B) → Book M B O E A R → Pass M B O E A R g → Type 0
-IsPassOf start book pass = (pass.seat.table_id ≡ book.desk.shared.table_id) × (pass.seat.me.0.start ≡ Some (start (first_state book)))
+IsPassOf start book pass = (pass.seat.table_id ≡ book.desk.shared.table_id) × (pass.seat.me.0.start ≡ Some (start (opening_state book)))

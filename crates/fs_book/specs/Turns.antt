@@ -47,8 +47,8 @@ module _ {B E : Type 0} where
   held p v = total (times p) (lists_of v)
 
   -- what a pass that was met into another leaves
-  abbrev pub spent : View B E
-  spent = record { parts = 0; start = None; stage = Idle; seen = []; told = []; mine = []; met = [] }
+  abbrev pub spent_view : View B E
+  spent_view = record { parts = 0; start = None; stage = Idle; seen = []; told = []; mine = []; met = [] }
 
   -- the first pass
   abbrev pub opening_view : B → View B E
@@ -97,33 +97,33 @@ module _ {S B E : Type 0} (start : S → B) (journal : S → List E) (opens : B 
     pub words_are : s.words ≡ (drawn % (2 ^ 64)) ∷ (served % (2 ^ 64)) ∷ []
     pub queue : served + total drawn_by s.views ≡ drawn
     pub parts : total parts_of s.views ≡ all_parts
-    pub each : (j : ℕ) (v : View B E) → get_elem? s.views j ≡ some v → (v ≡ spent) ⊎ Fits opens names origin log served drawn s.homes v
+    pub each : (j : ℕ) (v : View B E) → get_elem? s.views j ≡ some v → (v ≡ spent_view) ⊎ Fits opens names origin log served drawn s.homes v
     pub apart : (i j k : ℕ) (v w : View B E) → get_elem? s.views i ≡ some v → get_elem? s.views j ≡ some w → HasTicket v.stage k → HasTicket w.stage k → i ≡ j
     pub once : (p : ℕ) → total (held p) s.views ≡ once_below p (length log)
     pub home : ((m : S) × (s.homes ≡ some (Some m) ∷ []) × (start m ≡ origin) × (journal m ≡ log))
         ⊎ ((j : ℕ) × (v : View B E) × (get_elem? s.views j ≡ some v) × (v.stage ≡ Out served) × (s.homes ≡ none ∷ []))
 
   -- a ticket was drawn
-  abbrev pub drew : Step (Option S) → Me (Option S) (View B E) → ℕ → Me (Option S) (View B E) → Type 0
-  drew step m n m' = (k : ℕ) × (n ≡ k % (2 ^ 64)) × (m' ≡ (record m.0 { stage = Waiting k }, m.1))
+  abbrev pub DrawsTicket : Step (Option S) → Me (Option S) (View B E) → ℕ → Me (Option S) (View B E) → Type 0
+  DrawsTicket step m n m' = (k : ℕ) × (n ≡ k % (2 ^ 64)) × (m' ≡ (record m.0 { stage = Waiting k }, m.1))
 
   -- the turn was this ticket's, and the state was taken
   abbrev pub Took : ℕ → Me (Option S) (View B E) → Me (Option S) (View B E) → Type 0
   Took k m m' = (x : S) × (m.0.start ≡ Some (start x)) × IsPrefix m.0.seen (journal x) × Sound opens names m'.0 × (m' ≡ (record m.0 { stage = Out k; seen = journal x }, (0, Some x) ∷ m.1))
 
   -- the turn was read by one who waits
-  abbrev pub came : Step (Option S) → Me (Option S) (View B E) → ℕ → Me (Option S) (View B E) → Type 0
-  came step m n m' = (k : ℕ) → m.0.stage ≡ Waiting k → (n ≡ k % (2 ^ 64) → Took k m m') × (n ≢ k % (2 ^ 64) → m' ≡ m)
+  abbrev pub ReadsTurn : Step (Option S) → Me (Option S) (View B E) → ℕ → Me (Option S) (View B E) → Type 0
+  ReadsTurn step m n m' = (k : ℕ) → m.0.stage ≡ Waiting k → (n ≡ k % (2 ^ 64) → Took k m m') × (n ≢ k % (2 ^ 64) → m' ≡ m)
 
   -- the state was given back as it was, and the turn passed on
-  abbrev pub left : Step (Option S) → Me (Option S) (View B E) → ℕ → Me (Option S) (View B E) → Type 0
-  left step m n m' = m' ≡ (record m.0 { stage = Idle }, [])
+  abbrev pub LeavesTurn : Step (Option S) → Me (Option S) (View B E) → ℕ → Me (Option S) (View B E) → Type 0
+  LeavesTurn step m n m' = m' ≡ (record m.0 { stage = Idle }, [])
 
   -- the state was given back with one entry more, and the turn passed on
-  abbrev pub added : Step (Option S) → Me (Option S) (View B E) → ℕ → Me (Option S) (View B E) → Type 0
-  added step m n m' = Sound opens names m'.0
+  abbrev pub LeavesLonger : Step (Option S) → Me (Option S) (View B E) → ℕ → Me (Option S) (View B E) → Type 0
+  LeavesLonger step m n m' = Sound opens names m'.0
       × ((x : S) → m.1 ≡ (0, Some x) ∷ [] → m' ≡ (record m.0 { stage = Idle; seen = journal x; mine = m.0.mine ++ length m.0.seen ∷ [] }, []))
 
   -- what a meeting could not tell by itself
-  abbrev pub learned : Step (Option S) → Me (Option S) (View B E) → ℕ → Me (Option S) (View B E) → Type 0
-  learned step m n m' = (m' ≡ m) × (m.0.parts ≤ all_parts) × IsPrefix m.0.told m.0.seen × Sound opens names m.0
+  abbrev pub LearnsRule : Step (Option S) → Me (Option S) (View B E) → ℕ → Me (Option S) (View B E) → Type 0
+  LearnsRule step m n m' = (m' ≡ m) × (m.0.parts ≤ all_parts) × IsPrefix m.0.told m.0.seen × Sound opens names m.0

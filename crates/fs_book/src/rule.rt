@@ -32,45 +32,45 @@ pub type Place<M> = Seat<Option<M>, View<<M as Turned>::Start, <M as Turned>::Lo
 pub struct Draw;
 
 impl<M: Turned> Play<Option<M>, View<M::Start, M::Logged>> for Draw {
-    ghost use Rattle.fs_book.specs.Turns.{drew};
+    ghost use Rattle.fs_book.specs.Turns.{DrawsTicket};
 
-    ghost then = { drew M.start M.journal M.opens M.names };
+    ghost then = { DrawsTicket M.start M.journal M.opens M.names };
 }
 
 // The turn is read, and the state taken where it is one's own turn.
 pub struct Come;
 
 impl<M: Turned> Play<Option<M>, View<M::Start, M::Logged>> for Come {
-    ghost use Rattle.fs_book.specs.Turns.{came};
+    ghost use Rattle.fs_book.specs.Turns.{ReadsTurn};
 
-    ghost then = { came M.start M.journal M.opens M.names };
+    ghost then = { ReadsTurn M.start M.journal M.opens M.names };
 }
 
 // The state is given back as it was, and the turn passed on.
 pub struct Leave;
 
 impl<M: Turned> Play<Option<M>, View<M::Start, M::Logged>> for Leave {
-    ghost use Rattle.fs_book.specs.Turns.{left};
+    ghost use Rattle.fs_book.specs.Turns.{LeavesTurn};
 
-    ghost then = { left M.start M.journal M.opens M.names };
+    ghost then = { LeavesTurn M.start M.journal M.opens M.names };
 }
 
 // The state is given back with one entry more, and the turn passed on.
 pub struct Add;
 
 impl<M: Turned> Play<Option<M>, View<M::Start, M::Logged>> for Add {
-    ghost use Rattle.fs_book.specs.Turns.{added};
+    ghost use Rattle.fs_book.specs.Turns.{LeavesLonger};
 
-    ghost then = { added M.start M.journal M.opens M.names };
+    ghost then = { LeavesLonger M.start M.journal M.opens M.names };
 }
 
 // A pass learns what a meeting could not tell it.
 pub struct Learn;
 
 impl<M: Turned> Play<Option<M>, View<M::Start, M::Logged>> for Learn {
-    ghost use Rattle.fs_book.specs.Turns.{learned};
+    ghost use Rattle.fs_book.specs.Turns.{LearnsRule};
 
-    ghost then = { learned M.start M.journal M.opens M.names };
+    ghost then = { LearnsRule M.start M.journal M.opens M.names };
 }
 
 // How many parts a split gives away. Each call picks it.
@@ -98,9 +98,9 @@ impl<B, E, N: Count> Split<View<B, E>> for Cut<N> {
 pub struct Meet;
 
 impl<B, E> Join<View<B, E>> for Meet {
-    ghost use Rattle.fs_book.specs.Turns.{both, spent};
+    ghost use Rattle.fs_book.specs.Turns.{both, spent_view};
 
     ghost both = { both };
 
-    ghost spent = { spent };
+    ghost spent = { spent_view };
 }

@@ -1,7 +1,7 @@
 // A caller's time with the state: from the ticket to the turn that is passed on.
 ghost use Rattle.std.specs.Prelude.{◌≡◌, ℕ, ◌<◌, [], ◌∷◌, ◌++◌, length, Some, None};
 ghost use Rattle.fs_book.specs.declared.view.Stage.TheVariants.{Idle, Out};
-ghost use Rattle.fs_book.specs.Opened.{IsOwn};
+ghost use Rattle.fs_book.specs.Opened.{NamesOwn};
 ghost use Rattle.fs_book.specs.Turns.{Sound};
 ghost use Rattle.fs_book.specs.Tenures.{IsIn};
 
@@ -74,7 +74,7 @@ impl<M: Turned> Book<M> {
         requires some_part { 0 < seat.old.me.0.parts }
         requires carries { seat.old.me.1 ≡ (0, None) ∷ [] }
         requires same_start { seat.old.me.0.start ≡ Some (M.start state) }
-        requires longer { (e : M.Logged) × (M.journal state ≡ seat.old.me.0.seen ++ e ∷ []) × IsOwn M.opens M.names (M.start state) seat.old.me.0.seen seat.old.me.0.mine e }
+        requires longer { (e : M.Logged) × (M.journal state ≡ seat.old.me.0.seen ++ e ∷ []) × NamesOwn M.opens M.names (M.start state) seat.old.me.0.seen seat.old.me.0.mine e }
         ensures same { (seat.new.table_id ≡ seat.old.table_id) × (seat.new.id ≡ seat.old.id) }
         ensures sound { Sound M.opens M.names seat.new.me.0 }
         ensures left { seat.new.me ≡ (record seat.old.me.0 { stage = Idle; seen = M.journal state; mine = seat.old.me.0.mine ++ length seat.old.me.0.seen ∷ [] }, []) }

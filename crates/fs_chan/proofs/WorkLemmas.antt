@@ -8,7 +8,7 @@ use Rattle.fs_chan.specs.declared.chan.Chan.{Chan}
 use Rattle.fs_chan.specs.declared.due.Due.TheVariants.{Now, At}
 use Rattle.fs_chan.specs.declared.wait.Wait.{Wait}
 use Rattle.fs_chan.specs.declared.wait.Wait.TheVariants.{Ready, Sleep, Parked, Socket}
-use Rattle.fs_chan.specs.Work.{due_at, due_in_wait, due_in, due_of, runs_actions, line_in, next_of, first_of}
+use Rattle.fs_chan.specs.Work.{due_at, due_in_wait, due_in, due_of, runs_actions, pending_in, next_action, first_of}
 
 -- ---- a moment that is slept to
 
@@ -78,7 +78,7 @@ stays_in now later CsExecute wait messages more h = stays_wait now later CsExecu
 stays_in now later CsPark wait messages more h = stays_wait now later CsPark wait messages more h
 stays_in now later _ wait messages more h = h
 
-next_in : (now : ℕ) (state : State) (wait : Wait) (messages actions : List Action) → is_some (first_of (line_in state wait messages actions)) ≡ true → due_in now state wait messages ≡ Some Now
+next_in : (now : ℕ) (state : State) (wait : Wait) (messages actions : List Action) → is_some (first_of (pending_in state wait messages actions)) ≡ true → due_in now state wait messages ≡ Some Now
 next_in now CsExecute Ready messages actions h = refl
 next_in now CsExecute Parked [] actions h = absurd (cc)
 next_in now CsExecute Parked (message ∷ messages) actions h = refl
@@ -103,5 +103,5 @@ pub stays_due : (now later : ℕ) (c : Chan) → now ≤ later → due_of now c 
 stays_due now later c more h = stays_in now later c.state c.wait c.messages more h
 
 -- what is run next is to be run at once
-pub next_is_due : (now : ℕ) (c : Chan) → is_some (next_of c) ≡ true → due_of now c ≡ Some Now
+pub next_is_due : (now : ℕ) (c : Chan) → is_some (next_action c) ≡ true → due_of now c ≡ Some Now
 next_is_due now c h = next_in now c.state c.wait c.messages c.actions h

@@ -44,12 +44,12 @@ new_channel uuid slot direction profile vars = record {
 }
 
 -- in another state
-abbrev pub entered : State → Chan → Chan
-entered state c = record c { state = state }
+abbrev pub in_state : State → Chan → Chan
+in_state state c = record c { state = state }
 
 -- answered at a place; what is answered keeps its place
-abbrev pub answered_at : ℕ → Chan → Chan
-answered_at place c = record c { answered = Some (unwrap_or c.answered place) }
+abbrev pub with_answer_place : ℕ → Chan → Chan
+with_answer_place place c = record c { answered = Some (unwrap_or c.answered place) }
 
 -- ---- routing
 
@@ -66,7 +66,7 @@ abbrev pub transferred : Target3 → Chan → Chan
 transferred to c = record c { profile = sent_to to c.profile; actions = []; running = None; wait = Ready; state = CsRouting }
 
 -- the texts of a target can stand in a profile
-pub record IsShort (to : Target3) : Type 0 where
+pub record IsShortTarget (to : Target3) : Type 0 where
   pub exten : length to.exten ≤ 256
   pub dialplan : IfSome to.dialplan (λ text. length text ≤ 256)
   pub context : IfSome to.context (λ text. length text ≤ 256)
@@ -97,18 +97,18 @@ routed vars actions c = record c { vars = vars; actions = actions; hops = c.hops
 -- ---- waiting
 
 -- what a channel waits for while it runs nothing: its outbound connection, or a command in CS_PARK
-abbrev pub rest_of : Option ℕ → State → Wait
-rest_of (Some conn) state = Socket conn
-rest_of None CsPark = Parked
-rest_of None _ = Ready
+abbrev pub wait_at_rest : Option ℕ → State → Wait
+wait_at_rest (Some conn) state = Socket conn
+wait_at_rest None CsPark = Parked
+wait_at_rest None _ = Ready
 
 -- the running application is complete
-abbrev pub gone_on : Chan → Chan
-gone_on c = record c { running = None; wait = rest_of c.socket c.state }
+abbrev pub at_rest : Chan → Chan
+at_rest c = record c { running = None; wait = wait_at_rest c.socket c.state }
 
 -- at rest in CS_PARK; messages stay
 abbrev pub parked : Chan → Chan
-parked c = gone_on (record c { actions = []; state = CsPark })
+parked c = at_rest (record c { actions = []; state = CsPark })
 
 -- asleep for so many milliseconds
 abbrev pub asleep : ℕ → ℕ → Chan → Chan

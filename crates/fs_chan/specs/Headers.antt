@@ -40,9 +40,9 @@ all_headers c =
     ∷ []
 
 -- those headers that have a value
-abbrev pub given : Pairs → Pairs
-given headers = filter (λ header. not (length header.1 == 0)) headers
+abbrev pub with_values : Pairs → Pairs
+with_values headers = filter (λ header. not (length header.1 == 0)) headers
 
 -- the headers of a channel, without those of an empty value
 unfoldable pub channel_headers : Chan → Pairs
-channel_headers c = given (all_headers c)
+channel_headers c = with_values (all_headers c)

@@ -26,12 +26,12 @@ runs_messages CsPark (Socket conn) = true
 runs_messages _ _ = false
 
 -- what is in line to be run as a channel stands: its messages, and then its actions
-abbrev pub line_in : State → Wait → List Action → List Action → List Action
-line_in state wait messages actions =
+abbrev pub pending_in : State → Wait → List Action → List Action → List Action
+pending_in state wait messages actions =
     (if runs_messages state wait then messages else []) ++ (if runs_actions state wait then actions else [])
 
-abbrev pub line_of : Chan → List Action
-line_of c = line_in c.state c.wait c.messages c.actions
+abbrev pub pending_of : Chan → List Action
+pending_of c = pending_in c.state c.wait c.messages c.actions
 
 -- the first of a list
 abbrev pub first_of : {A : Type 0} → List A → Option A
@@ -39,8 +39,8 @@ first_of [] = None
 first_of (x ∷ xs) = Some x
 
 -- what it runs next
-abbrev pub next_of : Chan → Option Action
-next_of c = first_of (line_of c)
+abbrev pub next_action : Chan → Option Action
+next_action c = first_of (pending_of c)
 
 -- the channel without its first message, or without its first action where it has no message
 abbrev pub without_first : List Action → Chan → Chan
@@ -53,7 +53,7 @@ after_taking [] c = c
 after_taking (next ∷ later) c = without_first c.messages c
 
 abbrev pub after_next : Chan → Chan
-after_next c = after_taking (line_of c) c
+after_next c = after_taking (pending_of c) c
 
 -- ---- when it has something to do
 

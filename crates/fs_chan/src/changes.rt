@@ -13,7 +13,7 @@ use fs_vars::Vars;
 impl Chan {
     /// Comes into a state; nothing else changes.
     pub fn enter(&mut self, state: State)
-        ensures { self.new ≡ spec.entered state self.old }
+        ensures { self.new ≡ spec.in_state state self.old }
     {
         self.state = state;
     }
@@ -21,7 +21,7 @@ impl Chan {
     /// Is answered by the entry at a place, where it was not answered before, and says whether it is now.
     pub fn answer(&mut self, place: u64) -> bool
         ensures answer { result ≡ is_none self.old.answered }
-        ensures answered { self.new ≡ spec.answered_at place self.old }
+        ensures answered { self.new ≡ spec.with_answer_place place self.old }
     {
         if self.answered.is_some() {
             return false;
@@ -32,7 +32,7 @@ impl Chan {
 
     /// Begins to be routed to a target. What it ran, waited for and was still to run as actions is dropped; messages stay.
     pub fn transfer(&mut self, to: Target3)
-        requires { spec.IsShort to }
+        requires { spec.IsShortTarget to }
         ensures to { self.new ≡ spec.transferred to self.old }
         ensures short { spec.HasShortFields self.old.profile → spec.HasShortFields self.new.profile }
     {
@@ -70,7 +70,7 @@ impl Chan {
     ///
     /// It then waits for its outbound connection, if it has one, or else rests in CS_PARK, or else is ready.
     pub fn go_on(&mut self)
-        ensures { self.new ≡ spec.gone_on self.old }
+        ensures { self.new ≡ spec.at_rest self.old }
     {
         self.running = None;
         self.wait = self.rest();
@@ -78,7 +78,7 @@ impl Chan {
 
     /// What it waits for while it runs nothing.
     fn rest(&self) -> Wait
-        ensures { result ≡ spec.rest_of self.now.socket self.now.state }
+        ensures { result ≡ spec.wait_at_rest self.now.socket self.now.state }
     {
         match (self.socket, self.state) {
             (Some(conn), _) => Wait::Socket { conn },

@@ -74,7 +74,7 @@ struct Given {
 impl Given {
     /// Adds a header, unless its value is empty.
     fn add(&mut self, name: &str, value: &[u8]) -> Result<(), Memory>
-        ensures { OnOk result (self.new.headers ≡ self.old.headers ++ spec.given ((name.now, value.now) ∷ [])) }
+        ensures { OnOk result (self.new.headers ≡ self.old.headers ++ spec.with_values ((name.now, value.now) ∷ [])) }
     {
         if value.is_empty() {
             return Ok(());

@@ -16,7 +16,7 @@ impl Chan {
     /// Messages are run where it is ready in CS_EXECUTE, and where it is parked or held by a connection in CS_EXECUTE or CS_PARK;
     /// actions only where it is ready in CS_EXECUTE.
     pub fn next_action(&self) -> Option<&Action>
-        ensures { option_copied result ≡ spec.next_of self.now }
+        ensures { option_copied result ≡ spec.next_action self.now }
     {
         if !self.runs_messages() {
             return None;
@@ -101,5 +101,5 @@ pub fn due_law()
     ensures stays { (now later : ℕ) (c : Chan) → now ≤ later → spec.due_of now c ≡ Some due.Now → spec.due_of later c ≡ Some due.Now }
 
     // Where there is anything to run next, it is to be done at once.
-    ensures next { (now : ℕ) (c : Chan) → is_some (spec.next_of c) ≡ true → spec.due_of now c ≡ Some due.Now }
+    ensures next { (now : ℕ) (c : Chan) → is_some (spec.next_action c) ≡ true → spec.due_of now c ≡ Some due.Now }
 {}

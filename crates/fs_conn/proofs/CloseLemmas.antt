@@ -6,7 +6,7 @@ use Rattle.fs_doc.specs.Limits.{IsWithin}
 use Rattle.fs_frame.specs.Block.{too_long}
 use Rattle.fs_frame.specs.Blocks.{blocks_of, rest_of}
 use Rattle.fs_state.specs.declared.conn.Phase.TheVariants.{Ending}
-use Rattle.fs_state.specs.Switch.{Switch, empty, waiting_for, advanced}
+use Rattle.fs_state.specs.Switch.{Switch, empty, waiting_for, at_moment}
 use Rattle.fs_machine.specs.declared.due.DueActor.{DueActor}
 use Rattle.fs_machine.specs.declared.due.DueActor.TheVariants as due
 use Rattle.fs_machine.specs.declared.entry.Entry.{Entry}
@@ -20,7 +20,7 @@ use Rattle.fs_machine.specs.Connections.{phase_at}
 use Rattle.fs_machine.specs.Questions.{owes}
 use Rattle.fs_machine.specs.Here.{IsHere}
 use Rattle.fs_machine.specs.Owed.{AreOwed}
-use Rattle.fs_machine.specs.Step.{step, acted as acted_by, refused_where, refused_act, refusal_of}
+use Rattle.fs_machine.specs.Step.{step, act_done as acted_by, refused_where, refused_act, refusal_of}
 use Rattle.fs_machine.specs.Runs.{run_from}
 use Rattle.fs_machine.proofs.RunLemmas.{run_more}
 use Rattle.fs_machine.proofs.FrameLemmas.{some_cost, take_owes}
@@ -32,7 +32,7 @@ use Rattle.fs_machine.proofs.CloseLaws.{ending_at, end_parts, take_leaves_phase,
 use Rattle.fs_machine.proofs.DueLaws.{AreKnown, run_is_known, slot_accepted, job_accepted, IsDue, comes_due}
 use Rattle.fs_conn.specs.declared.end.End.{End}
 use Rattle.fs_conn.specs.declared.end.End.TheVariants.{JournalFull, Runaway}
-use Rattle.fs_conn.specs.Play.{Play, switch_of, begun, is_over, ended, judged, entered, repeated, worked_by, next_actor, worked_once, stopped_by, settled, waited_until, waited_once, waited, all_taken, acted, reads_on, takes_commands, commanded, all_commanded, opened, input_ended, conversed, closed, farewell, end_behind, played, all_taken_as, played_as, settled_as, waited_as}
+use Rattle.fs_conn.specs.Play.{Play, switch_of, new_play, is_over, with_end, after_judging, after_trying_act, repeated, after_due_work, next_actor, after_due_step, with_runaway_end_by, after_settling, after_waiting_until, after_waiting_once, after_waiting, after_taking_all, after_act, reads_on, takes_commands, after_command, after_commands, after_opening, after_input_end, after_conversing, after_closing, farewell, end_behind, played, after_taking_all_as, played_as, after_settling_as, after_waiting_as}
 use Rattle.fs_conn.specs.Steps.{spent, act_of, is_early, entry_of}
 use Rattle.fs_conn.proofs.PlayLemmas.{goes_entered, goes_all_taken}
 use Rattle.fs_conn.proofs.RoundLemmas.{repeated_none}
@@ -44,14 +44,14 @@ use Rattle.fs_conn.proofs.DrainLemmas.{run_of, switch_is, Drained, drained_conve
 -- ---- acts that nothing but a full journal speaks against
 
 -- why an entry is refused against which nothing else speaks
-pub refusal_is : (s : Switch) (entry : Entry) → refused_act entry.act (advanced entry.moment s) ≡ None →
+pub refusal_is : (s : Switch) (entry : Entry) → refused_act entry.act (at_moment entry.moment s) ≡ None →
     refusal_of s entry ≡ refused_where (is_full s) (refusal.JournalFull s.cost s.config.settings.journal_limit) None
 unfolding refusal_of
 refusal_is s entry none = ap (refused_where (is_full s) (refusal.JournalFull s.cost s.config.settings.journal_limit)) none
 
 -- nothing speaks against an act of this play
 abbrev pub IsFit : Act → Play → Type 0
-IsFit act p = refused_act act (advanced p.clock (switch_of p)) ≡ None
+IsFit act p = refused_act act (at_moment p.clock (switch_of p)) ≡ None
 
 -- it ends for its full journal
 abbrev pub filled : Play → Play
@@ -61,16 +61,16 @@ filled p = record p { end = Some (JournalFull (switch_of p).cost (switch_of p).c
 abbrev pub longer_by : Act → Play → Play
 longer_by act p = record p { journal = p.journal ++ entry_of act p ∷ [] }
 
-pub fit_judged : (act : Act) (p : Play) → IsFit act p → judged (refusal_of (switch_of p) (entry_of act p)) (entry_of act p) p ≡ cond (is_full (switch_of p)) (filled p) (longer_by act p)
-fit_judged act p fit = ap (λ cause. judged cause (entry_of act p) p) (refusal_is (switch_of p) (entry_of act p) fit) ∙ by (is_full (switch_of p))
+pub fit_judged : (act : Act) (p : Play) → IsFit act p → after_judging (refusal_of (switch_of p) (entry_of act p)) (entry_of act p) p ≡ cond (is_full (switch_of p)) (filled p) (longer_by act p)
+fit_judged act p fit = ap (λ cause. after_judging cause (entry_of act p) p) (refusal_is (switch_of p) (entry_of act p) fit) ∙ by (is_full (switch_of p))
   where
-    by : (full : Bool) → judged (refused_where full (refusal.JournalFull (switch_of p).cost (switch_of p).config.settings.journal_limit) None) (entry_of act p) p ≡ cond full (filled p) (longer_by act p)
+    by : (full : Bool) → after_judging (refused_where full (refusal.JournalFull (switch_of p).cost (switch_of p).config.settings.journal_limit) None) (entry_of act p) p ≡ cond full (filled p) (longer_by act p)
     by true = refl
     by false = refl
 
 -- such an act ends the play where its journal is full, and is entered otherwise
-pub fit_entered : (act : Act) (p : Play) → is_over p ≡ false → IsFit act p → entered act p ≡ cond (is_full (switch_of p)) (filled p) (longer_by act p)
-fit_entered act p goes_on fit = ap (λ over. cond over p (judged (refusal_of (switch_of p) (entry_of act p)) (entry_of act p) p)) goes_on ∙ fit_judged act p fit
+pub fit_entered : (act : Act) (p : Play) → is_over p ≡ false → IsFit act p → after_trying_act act p ≡ cond (is_full (switch_of p)) (filled p) (longer_by act p)
+fit_entered act p goes_on fit = ap (λ over. cond over p (after_judging (refusal_of (switch_of p) (entry_of act p)) (entry_of act p) p)) goes_on ∙ fit_judged act p fit
 
 switch_longer : (act : Act) (p : Play) → switch_of (longer_by act p) ≡ (step (switch_of p) (entry_of act p)).state
 switch_longer act p = run_more (empty p.config) p.journal (entry_of act p)
@@ -89,7 +89,7 @@ cost_bound (entry ∷ entries) s bound = cost_bound entries (step s entry).state
 cost_more : (s : Switch) (entry : Entry) → is_full s ≡ false → s.config.settings.journal_limit ≤ 1073741824 → s.cost + 64 ≤ (step s entry).state.cost
 unfolding step
 cost_more s entry below small =
-    let same : (acted_by entry.act (advanced entry.moment s)).state.cost ≡ s.cost = acted_cost entry.act (advanced entry.moment s) in
+    let same : (acted_by entry.act (at_moment entry.moment s)).state.cost ≡ s.cost = acted_cost entry.act (at_moment entry.moment s) in
     let some : 64 ≤ cost_of entry.act = some_cost entry.act in
     let room : s.cost + 65600 ≤ s.config.settings.journal_limit = ltb-false s.config.settings.journal_limit (s.cost + 65600) below in
     omega (arith, same, some, room, small)
@@ -112,7 +112,7 @@ spent_longer config act p small run below =
     subst (λ (s : Switch). spent p + 64 ≤ s.cost) (sym (switch_longer act p)) (cost_more (switch_of p) (entry_of act p) below (limit_of config p small run))
 
 paid_judged : (config : Configuration) (least : ℕ) (act : Act) (cause : Option Refusal) (p : Play) → config.settings.journal_limit ≤ 1073741824 → IsRun config p →
-    refusal_of (switch_of p) (entry_of act p) ≡ cause → Pays least p → Pays least (judged cause (entry_of act p) p)
+    refusal_of (switch_of p) (entry_of act p) ≡ cause → Pays least p → Pays least (after_judging cause (entry_of act p) p)
 paid_judged config least act None p small run is (inl over) = inl over
 paid_judged config least act None p small run is (inr paid) =
     let more = spent_longer config act p small run (not_full (switch_of p) (entry_of act p) is) in inr (omega (arith, more, paid))
@@ -127,7 +127,7 @@ keeps_spent config least small = record {
   enters = λ act such p h. record {
     run = (keeps_run config).enters act tt p h.run;
     paid =
-        elim (is_over p) as (λ b. Pays least (cond b p (judged (refusal_of (switch_of p) (entry_of act p)) (entry_of act p) p))) [
+        elim (is_over p) as (λ b. Pays least (cond b p (after_judging (refusal_of (switch_of p) (entry_of act p)) (entry_of act p) p))) [
           | true ↦ h.paid
           | false ↦ paid_judged config least act (refusal_of (switch_of p) (entry_of act p)) p small h.run refl h.paid
         ];
@@ -163,10 +163,10 @@ fit_due config act p small run is = by (next_actor p) refl is
     by (due.Later moment) at e = absurd (cc e)
     by due.Never at e = absurd (cc e)
 
-paid_entered : (config : Configuration) (act : Act) (p : Play) → config.settings.journal_limit ≤ 1073741824 → IsRun config p → IsFit act p → Pays (spent p + 64) (entered act p)
+paid_entered : (config : Configuration) (act : Act) (p : Play) → config.settings.journal_limit ≤ 1073741824 → IsRun config p → IsFit act p → Pays (spent p + 64) (after_trying_act act p)
 paid_entered config act p small run fit = by (is_over p) refl (is_full (switch_of p)) refl
   where
-    by : (over : Bool) → is_over p ≡ over → (full : Bool) → is_full (switch_of p) ≡ full → Pays (spent p + 64) (entered act p)
+    by : (over : Bool) → is_over p ≡ over → (full : Bool) → is_full (switch_of p) ≡ full → Pays (spent p + 64) (after_trying_act act p)
     by true over full at = inl (ap is_over ((goes_entered act).over p over) ∙ over)
     by false goes_on true full =
         subst (Pays (spent p + 64)) (sym (fit_entered act p goes_on fit ∙ ap (λ b. cond b (filled p) (longer_by act p)) full)) (inl refl)
@@ -180,17 +180,17 @@ act_due (due.Job number) is = (Job number, refl)
 act_due (due.Later moment) is = absurd is
 act_due due.Never is = absurd is
 
-worked_due : (who : DueActor) (act : Act) (p : Play) → act_of who ≡ Some act → worked_by who p ≡ entered act p
-worked_due (due.Slot slot) act p is = let same : Work slot ≡ act = cc is in ap (λ a. entered a p) same
-worked_due (due.Job number) act p is = let same : Job number ≡ act = cc is in ap (λ a. entered a p) same
+worked_due : (who : DueActor) (act : Act) (p : Play) → act_of who ≡ Some act → after_due_work who p ≡ after_trying_act act p
+worked_due (due.Slot slot) act p is = let same : Work slot ≡ act = cc is in ap (λ a. after_trying_act a p) same
+worked_due (due.Job number) act p is = let same : Job number ≡ act = cc is in ap (λ a. after_trying_act a p) same
 worked_due (due.Later moment) act p is = absurd (cc is)
 worked_due due.Never act p is = absurd (cc is)
 
 -- where something is due, all that is due costs something
-spent_settled : (config : Configuration) (p : Play) → config.settings.journal_limit ≤ 1073741824 → IsRun config p → IsDue (next_actor p) → Spent config (spent p + 64) (settled p)
+spent_settled : (config : Configuration) (p : Play) → config.settings.journal_limit ≤ 1073741824 → IsRun config p → IsDue (next_actor p) → Spent config (spent p + 64) (after_settling p)
 spent_settled config p small run is =
     let does = act_due (next_actor p) is in
-    let first : Spent config (spent p + 64) (entered does.0 p) = record {
+    let first : Spent config (spent p + 64) (after_trying_act does.0 p) = record {
       run = (keeps_run config).enters does.0 tt p run;
       paid = paid_entered config does.0 p small run (fit_due config does.0 p small run does.1);
     } in
@@ -200,22 +200,22 @@ spent_settled config p small run is =
 abbrev Idle : Play → Type 0
 Idle p = (is_over p ≡ true) ⊎ (act_of (next_actor p) ≡ None)
 
-over_ended : (end : End) (p : Play) → is_over (ended end p) ≡ true
+over_ended : (end : End) (p : Play) → is_over (with_end end p) ≡ true
 over_ended end p = by (is_over p) refl
   where
     by : (over : Bool) → is_over p ≡ over → is_over (cond over p (record p { end = Some end })) ≡ true
     by true over = over
     by false goes_on = refl
 
-idle_stopped : (who : DueActor) (p : Play) → next_actor p ≡ who → Idle (stopped_by who p)
+idle_stopped : (who : DueActor) (p : Play) → next_actor p ≡ who → Idle (with_runaway_end_by who p)
 idle_stopped (due.Slot slot) p is = inl (over_ended (Runaway 100000) p)
 idle_stopped (due.Job number) p is = inl (over_ended (Runaway 100000) p)
 idle_stopped (due.Later moment) p is = inr (ap act_of is)
 idle_stopped due.Never p is = inr (ap act_of is)
 
-idle_settled : (p : Play) → Idle (settled p)
-unfolding settled_as
-idle_settled p = let q = repeated 100000 worked_once p in idle_stopped (next_actor q) q refl
+idle_settled : (p : Play) → Idle (after_settling p)
+unfolding after_settling_as
+idle_settled p = let q = repeated 100000 after_due_step p in idle_stopped (next_actor q) q refl
 
 -- ---- replies that are owed
 
@@ -240,65 +240,68 @@ going config moments p h idle = by (is_over p) refl h.paid idle
     by false goes_on (inr paid) (inr idle) = inr (record { run = h.run; goes_on = goes_on; idle = idle; paid = paid })
 
 -- a play that rests waits no longer
-rested : (p : Play) → Rests p → waited_once p ≡ p
-rested p (inl over) = ap (λ b. cond (not b && owes (switch_of p) 1) (waited_until (next_actor p) p) p) over
+rested : (p : Play) → Rests p → after_waiting_once p ≡ p
+rested p (inl over) = ap (λ b. cond (not b && owes (switch_of p) 1) (after_waiting_until (next_actor p) p) p) over
 rested p (inr free) = by (is_over p)
   where
-    by : (over : Bool) → cond (not over && owes (switch_of p) 1) (waited_until (next_actor p) p) p ≡ p
+    by : (over : Bool) → cond (not over && owes (switch_of p) 1) (after_waiting_until (next_actor p) p) p ≡ p
     by true = refl
-    by false = ap (λ b. cond b (waited_until (next_actor p) p) p) free
+    by false = ap (λ b. cond b (after_waiting_until (next_actor p) p) p) free
 
 -- at the next moment something is due, which costs something
 spent_waited : (config : Configuration) (moments moment : ℕ) (p : Play) → config.settings.journal_limit ≤ 1073741824 → Goes config moments p → next_actor p ≡ due.Later moment →
-    Spent config (64 * (moments + 1)) (settled (record p { clock = moment }))
+    Spent config (64 * (moments + 1)) (after_settling (record p { clock = moment }))
 spent_waited config moments moment p small goes later =
     let next = spent_settled config (record p { clock = moment }) small ((keeps_run config).goes_on moment p goes.run) (comes_due (switch_of p) p.clock moment later) in
     record { run = next.run; paid = by next.paid }
   where
-    by : Pays (spent p + 64) (settled (record p { clock = moment })) → Pays (64 * (moments + 1)) (settled (record p { clock = moment }))
+    by : Pays (spent p + 64) (after_settling (record p { clock = moment })) →
+        Pays (64 * (moments + 1)) (after_settling (record p { clock = moment }))
     by (inl over) = inl over
     by (inr paid) = inr (omega (arith, paid, goes.paid))
 
-once : (config : Configuration) (moments : ℕ) (p : Play) → config.settings.journal_limit ≤ 1073741824 → Goes config moments p → Rests (waited_once p) ⊎ Goes config (moments + 1) (waited_once p)
+once : (config : Configuration) (moments : ℕ) (p : Play) → config.settings.journal_limit ≤ 1073741824 → Goes config moments p → Rests (after_waiting_once p) ⊎ Goes config (moments + 1) (after_waiting_once p)
 once config moments p small goes = by (owes (switch_of p) 1) refl
   where
     later : (q : Play) → (is_over q ≡ true) ⊎ Goes config (moments + 1) q → Rests q ⊎ Goes config (moments + 1) q
     later q (inl over) = inl (inl over)
     later q (inr goes) = inr goes
 
-    at : owes (switch_of p) 1 ≡ true → (who : DueActor) → next_actor p ≡ who → Rests (waited_until who p) ⊎ Goes config (moments + 1) (waited_until who p)
+    at : owes (switch_of p) 1 ≡ true → (who : DueActor) → next_actor p ≡ who → Rests (after_waiting_until who p) ⊎ Goes config (moments + 1) (after_waiting_until who p)
     at owed (due.Slot slot) is = let none : act_of (due.Slot slot) ≡ None = ap act_of (sym is) ∙ goes.idle in absurd (cc none)
     at owed (due.Job number) is = let none : act_of (due.Job number) ≡ None = ap act_of (sym is) ∙ goes.idle in absurd (cc none)
     at owed (due.Later moment) is =
-        later (settled (record p { clock = moment }))
-        (going config (moments + 1) (settled (record p { clock = moment })) (spent_waited config moments moment p small goes is) (idle_settled (record p { clock = moment })))
+        later (after_settling (record p { clock = moment }))
+        (going config (moments + 1) (after_settling (record p { clock = moment })) (spent_waited config moments moment p small goes is) (idle_settled (record p { clock = moment })))
     at owed due.Never is = absurd (owed_laws.goes_on (switch_of p) 1 p.clock (owed_of_run config p small goes.run) owed is)
 
-    by : (owed : Bool) → owes (switch_of p) 1 ≡ owed → Rests (waited_once p) ⊎ Goes config (moments + 1) (waited_once p)
+    by : (owed : Bool) → owes (switch_of p) 1 ≡ owed → Rests (after_waiting_once p) ⊎ Goes config (moments + 1) (after_waiting_once p)
     by false free = inl (subst Rests (sym (rested p (inr free))) (inr free))
     by true owed =
         subst (λ q. Rests q ⊎ Goes config (moments + 1) q)
-        (sym (ap (λ b. cond (not b && owes (switch_of p) 1) (waited_until (next_actor p) p) p) goes.goes_on ∙ ap (λ b. cond b (waited_until (next_actor p) p) p) owed))
+        (sym (ap (λ b. cond (not b && owes (switch_of p) 1) (after_waiting_until (next_actor p) p) p) goes.goes_on ∙ ap (λ b. cond b (after_waiting_until (next_actor p) p) p) owed))
         (at owed (next_actor p) refl)
 
 rounds : (config : Configuration) (n moments : ℕ) (p : Play) → config.settings.journal_limit ≤ 1073741824 → Goes config moments p →
-    Rests (repeated n waited_once p) ⊎ Goes config (moments + n) (repeated n waited_once p)
+    Rests (repeated n after_waiting_once p) ⊎ Goes config (moments + n) (repeated n after_waiting_once p)
 unfolding repeated
 rounds config zero moments p small goes = inr (subst (λ m. Goes config m p) (none moments) goes)
   where
     none : (m : ℕ) → m ≡ m + 0
     none m = omega arith
-rounds config (suc n) moments p small goes = by (once config moments p small goes) (λ further. rounds config n (moments + 1) (waited_once p) small further)
+rounds config (suc n) moments p small goes = by (once config moments p small goes) (λ further. rounds config n (moments + 1) (after_waiting_once p) small further)
   where
     more : (m k : ℕ) → (m + 1) + k ≡ m + suc k
     more m k = omega arith
 
-    by : Rests (waited_once p) ⊎ Goes config (moments + 1) (waited_once p) →
-        (Goes config (moments + 1) (waited_once p) → Rests (repeated n waited_once (waited_once p)) ⊎ Goes config ((moments + 1) + n) (repeated n waited_once (waited_once p))) →
-        Rests (repeated n waited_once (waited_once p)) ⊎ Goes config (moments + suc n) (repeated n waited_once (waited_once p))
-    by (inl rests) later = inl (subst Rests (sym (repeated_none n waited_once (waited_once p) (rested (waited_once p) rests))) rests)
+    by : Rests (after_waiting_once p) ⊎ Goes config (moments + 1) (after_waiting_once p) →
+        (Goes config (moments + 1) (after_waiting_once p) → Rests (repeated n after_waiting_once (after_waiting_once p)) ⊎ Goes config ((moments + 1) + n) (repeated n after_waiting_once (after_waiting_once p))) →
+        Rests (repeated n after_waiting_once (after_waiting_once p)) ⊎ Goes config (moments + suc n)
+        (repeated n after_waiting_once (after_waiting_once p))
+    by (inl rests) later =
+        inl (subst Rests (sym (repeated_none n after_waiting_once (after_waiting_once p) (rested (after_waiting_once p) rests))) rests)
     by (inr further) later =
-        subst (λ m. Rests (repeated n waited_once (waited_once p)) ⊎ Goes config m (repeated n waited_once (waited_once p))) (more moments n) (later further)
+        subst (λ m. Rests (repeated n after_waiting_once (after_waiting_once p)) ⊎ Goes config m (repeated n after_waiting_once (after_waiting_once p))) (more moments n) (later further)
 
 -- no play can pay for so many
 too_many : (config : Configuration) (p : Play) → Goes config (0 + 2 ^ 64) p → ⊥
@@ -309,51 +312,57 @@ rests_rounds config p (inl rests) = rests
 rests_rounds config p (inr goes) = absurd (too_many config p goes)
 
 -- so a play that waits comes to rest
-pub rests_waited : (config : Configuration) (p : Play) → config.settings.journal_limit ≤ 1073741824 → IsRun config p → Rests (waited (settled p))
-unfolding waited_as
+pub rests_waited : (config : Configuration) (p : Play) → config.settings.journal_limit ≤ 1073741824 → IsRun config p → Rests (after_waiting (after_settling p))
+unfolding after_waiting_as
 rests_waited config p small run =
-    by (going config 0 (settled p) (record { run = kept_settled Any (IsRun config) (keeps_run config) p run; paid = inr (omega arith) }) (idle_settled p))
+    by (going config 0 (after_settling p) (record { run = kept_settled Any (IsRun config) (keeps_run config) p run; paid = inr (omega arith) }) (idle_settled p))
   where
-    by : (is_over (settled p) ≡ true) ⊎ Goes config 0 (settled p) → Rests (repeated (2 ^ 64) waited_once (settled p))
-    by (inl over) = subst Rests (sym (repeated_none (2 ^ 64) waited_once (settled p) (rested (settled p) (inl over)))) (inl over)
-    by (inr goes) = rests_rounds config (repeated (2 ^ 64) waited_once (settled p)) (rounds config (2 ^ 64) 0 (settled p) small goes)
+    by : (is_over (after_settling p) ≡ true) ⊎ Goes config 0 (after_settling p) →
+        Rests (repeated (2 ^ 64) after_waiting_once (after_settling p))
+    by (inl over) =
+        subst Rests (sym (repeated_none (2 ^ 64) after_waiting_once (after_settling p) (rested (after_settling p) (inl over)))) (inl over)
+    by (inr goes) = rests_rounds config (repeated (2 ^ 64) after_waiting_once (after_settling p))
+        (rounds config (2 ^ 64) 0 (after_settling p) small goes)
 
-rests_taken : (p : Play) → Rests p → Rests (all_taken p)
+rests_taken : (p : Play) → Rests p → Rests (after_taking_all p)
 rests_taken p (inl over) = inl (ap is_over (goes_all_taken.over p over) ∙ over)
 rests_taken p (inr free) = inr (free_taken p free)
 
-pub rests_acted : (config : Configuration) (act : Act) (p : Play) → config.settings.journal_limit ≤ 1073741824 → IsRun config p → Rests (acted act p)
-rests_acted config act p small run = rests_taken (waited (settled (entered act p))) (rests_waited config (entered act p) small ((keeps_run config).enters act tt p run))
+pub rests_acted : (config : Configuration) (act : Act) (p : Play) → config.settings.journal_limit ≤ 1073741824 → IsRun config p → Rests (after_act act p)
+rests_acted config act p small run = rests_taken (after_waiting (after_settling (after_trying_act act p))) (rests_waited config (after_trying_act act p) small ((keeps_run config).enters act tt p run))
 
 -- ---- the conversation
 
-rests_commanded : (config : Configuration) (block : List ℕ) (p : Play) → config.settings.journal_limit ≤ 1073741824 → IsRun config p → Rests p → Rests (commanded p block)
+rests_commanded : (config : Configuration) (block : List ℕ) (p : Play) → config.settings.journal_limit ≤ 1073741824 → IsRun config p → Rests p → Rests (after_command p block)
 rests_commanded config block p small run rests =
-    elim (takes_commands p) as (λ b. Rests (cond b (acted (Command 1 block) p) p)) [
+    elim (takes_commands p) as (λ b. Rests (cond b (after_act (Command 1 block) p) p)) [
       | true ↦ rests_acted config (Command 1 block) p small run
       | false ↦ rests
     ]
 
-rests_all_commanded : (config : Configuration) (blocks : List (List ℕ)) (p : Play) → config.settings.journal_limit ≤ 1073741824 → IsRun config p → Rests p → Rests (all_commanded p blocks)
+rests_all_commanded : (config : Configuration) (blocks : List (List ℕ)) (p : Play) → config.settings.journal_limit ≤ 1073741824 → IsRun config p → Rests p → Rests (after_commands p blocks)
 rests_all_commanded config [] p small run rests = rests
 rests_all_commanded config (block ∷ blocks) p small run rests =
-    rests_all_commanded config blocks (commanded p block) small (kept_commanded Any (IsRun config) (keeps_run config) block tt p run) (rests_commanded config block p small run rests)
+    rests_all_commanded config blocks (after_command p block) small (kept_commanded Any (IsRun config) (keeps_run config) block tt p run) (rests_commanded config block p small run rests)
 
-rests_conversed : (config : Configuration) (input : List ℕ) → config.settings.journal_limit ≤ 1073741824 → Rests (conversed config input)
+rests_conversed : (config : Configuration) (input : List ℕ) → config.settings.journal_limit ≤ 1073741824 →
+    Rests (after_conversing config input)
 rests_conversed config input small =
-    rests_all_commanded config (blocks_of input) (opened config) small (kept_opened Any (IsRun config) (keeps_run config) tt config (run_begun config))
-    (rests_acted config Arrive (begun config) small (run_begun config))
+    rests_all_commanded config (blocks_of input) (after_opening config) small (kept_opened Any (IsRun config) (keeps_run config) tt config (run_begun config))
+    (rests_acted config Arrive (new_play config) small (run_begun config))
 
 -- it may come, and then it is there
-pub fit_arrival : (config : Configuration) → IsWithin config → entered Arrive (begun config) ≡ longer_by Arrive (begun config)
-fit_arrival config within = ap (λ cause. judged cause (entry_of Arrive (begun config)) (begun config)) (arrival_accepted config 0 within)
+pub fit_arrival : (config : Configuration) → IsWithin config →
+    after_trying_act Arrive (new_play config) ≡ longer_by Arrive (new_play config)
+fit_arrival config within =
+    ap (λ cause. after_judging cause (entry_of Arrive (new_play config)) (new_play config)) (arrival_accepted config 0 within)
 
-here_first : (config : Configuration) → IsWithin config → Here (entered Arrive (begun config))
+here_first : (config : Configuration) → IsWithin config → Here (after_trying_act Arrive (new_play config))
 here_first config within goes_on = subst (λ (p : Play). IsHere 1 (switch_of p)) (sym (fit_arrival config within)) (arrival_here config 0 within)
 
-here_conversed : (config : Configuration) (input : List ℕ) → IsWithin config → Here (conversed config input)
+here_conversed : (config : Configuration) (input : List ℕ) → IsWithin config → Here (after_conversing config input)
 here_conversed config input within =
-    kept_all_commanded ClosesNone Here keeps_here (λ block. tt) (blocks_of input) (opened config) (kept_followed ClosesNone Here keeps_here (entered Arrive (begun config)) (here_first config within))
+    kept_all_commanded ClosesNone Here keeps_here (λ block. tt) (blocks_of input) (after_opening config) (kept_followed ClosesNone Here keeps_here (after_trying_act Arrive (new_play config)) (here_first config within))
 
 -- ---- the end of the input
 
@@ -363,7 +372,7 @@ pub record Parted (p : Play) : Type 0 where
   pub free : owes (switch_of p) 1 ≡ false
 
 -- taking frames leaves it so
-parted_judged : (cause : Option Refusal) (p : Play) → Parted p → Parted (judged cause (entry_of (Take 1) p) p)
+parted_judged : (cause : Option Refusal) (p : Play) → Parted p → Parted (after_judging cause (entry_of (Take 1) p) p)
 parted_judged None p h = record {
   ending = ap (λ (s : Switch). phase_at s 1) (switch_longer (Take 1) p) ∙ take_leaves_phase (switch_of p) p.clock 1 ∙ h.ending;
   free = ap (λ (s : Switch). owes s 1) (switch_longer (Take 1) p) ∙ take_owes (switch_of p) p.clock 1 1 ∙ h.free;
@@ -371,25 +380,25 @@ parted_judged None p h = record {
 parted_judged (Some (refusal.JournalFull cost limit)) p h = record { ending = h.ending; free = h.free }
 parted_judged (Some _) p h = h
 
-parted_entered : (p : Play) → Parted p → Parted (entered (Take 1) p)
+parted_entered : (p : Play) → Parted p → Parted (after_trying_act (Take 1) p)
 parted_entered p h =
-    elim (is_over p) as (λ b. Parted (cond b p (judged (refusal_of (switch_of p) (entry_of (Take 1) p)) (entry_of (Take 1) p) p))) [
+    elim (is_over p) as (λ b. Parted (cond b p (after_judging (refusal_of (switch_of p) (entry_of (Take 1) p)) (entry_of (Take 1) p) p))) [
       | true ↦ h
       | false ↦ parted_judged (refusal_of (switch_of p) (entry_of (Take 1) p)) p h
     ]
 
-parted_repeated : (n : ℕ) (p : Play) → Parted p → Parted (repeated n (entered (Take 1)) p)
-parted_repeated n p h = kept_repeated Parted n (entered (Take 1)) parted_entered p h
+parted_repeated : (n : ℕ) (p : Play) → Parted p → Parted (repeated n (after_trying_act (Take 1)) p)
+parted_repeated n p h = kept_repeated Parted n (after_trying_act (Take 1)) parted_entered p h
 
-parted_taken : (p : Play) → Parted p → Parted (all_taken p)
-unfolding all_taken_as
+parted_taken : (p : Play) → Parted p → Parted (after_taking_all p)
+unfolding after_taking_all_as
 parted_taken p h = parted_repeated (length (waiting_for (switch_of p) 1)) p h
 
 -- a connection that reads commands may end its input
 pub fit_end : (p : Play) → reads_on p ≡ true → IsFit (Close 1 EndOfInput) p
 fit_end p reading = ap (λ b. refused_where (not b) refusal.Gone None) reading
 
-parted_end : (p : Play) → is_over p ≡ false → reads_on p ≡ true → Free p → (is_over (entered (Close 1 EndOfInput) p) ≡ true) ⊎ Parted (entered (Close 1 EndOfInput) p)
+parted_end : (p : Play) → is_over p ≡ false → reads_on p ≡ true → Free p → (is_over (after_trying_act (Close 1 EndOfInput) p) ≡ true) ⊎ Parted (after_trying_act (Close 1 EndOfInput) p)
 parted_end p goes_on reading free =
     subst (λ (q : Play). (is_over q ≡ true) ⊎ Parted q) (sym (fit_entered (Close 1 EndOfInput) p goes_on (fit_end p reading))) (by (is_full (switch_of p)))
   where
@@ -407,58 +416,59 @@ parted_end p goes_on reading free =
 abbrev PartsOrOver : Play → Type 0
 PartsOrOver p = (is_over p ≡ true) ⊎ Parted p
 
-parts_taken : (p : Play) → PartsOrOver p → PartsOrOver (all_taken p)
+parts_taken : (p : Play) → PartsOrOver p → PartsOrOver (after_taking_all p)
 parts_taken p (inl over) = inl (ap is_over (goes_all_taken.over p over) ∙ over)
 parts_taken p (inr h) = inr (parted_taken p h)
 
-parts_ended : (config : Configuration) (p : Play) → config.settings.journal_limit ≤ 1073741824 → IsRun config p → Here p → Rests p → PartsOrOver (input_ended p)
+parts_ended : (config : Configuration) (p : Play) → config.settings.journal_limit ≤ 1073741824 → IsRun config p → Here p → Rests p → PartsOrOver (after_input_end p)
 parts_ended config p small run here rests = by (is_over p) refl rests (reads_on p) refl
   where
-    over_both : (reading : Bool) → is_over p ≡ true → PartsOrOver (cond reading (all_taken (entered (Close 1 EndOfInput) p)) p)
-    over_both true over = parts_taken (entered (Close 1 EndOfInput) p) (inl (ap is_over ((goes_entered (Close 1 EndOfInput)).over p over) ∙ over))
+    over_both : (reading : Bool) → is_over p ≡ true →
+        PartsOrOver (cond reading (after_taking_all (after_trying_act (Close 1 EndOfInput) p)) p)
+    over_both true over = parts_taken (after_trying_act (Close 1 EndOfInput) p) (inl (ap is_over ((goes_entered (Close 1 EndOfInput)).over p over) ∙ over))
     over_both false over = inl over
 
-    by : (over : Bool) → is_over p ≡ over → Rests p → (reading : Bool) → reads_on p ≡ reading → PartsOrOver (cond reading (all_taken (entered (Close 1 EndOfInput) p)) p)
+    by : (over : Bool) → is_over p ≡ over → Rests p → (reading : Bool) → reads_on p ≡ reading → PartsOrOver (cond reading (after_taking_all (after_trying_act (Close 1 EndOfInput) p)) p)
     by true over rests reading is = over_both reading over
     by false goes_on (inl over) reading is = over_both reading over
-    by false goes_on (inr free) true is = parts_taken (entered (Close 1 EndOfInput) p) (parted_end p goes_on is free)
+    by false goes_on (inr free) true is = parts_taken (after_trying_act (Close 1 EndOfInput) p) (parted_end p goes_on is free)
     by false goes_on (inr free) false is = inr (record { ending = ending_at (switch_of p) 1 (owed_of_run config p small run) (here goes_on).there is; free = free })
 
 -- ---- the closing
 
 -- one that has parted and for which nothing waits can be closed
 fit_sent : (p : Play) → Parted p → waiting_for (switch_of p) 1 ≡ [] → IsFit (Close 1 Sent) p
-fit_sent p h nothing = sent_accepted (advanced p.clock (switch_of p)) 1 h.ending nothing h.free
+fit_sent p h nothing = sent_accepted (at_moment p.clock (switch_of p)) 1 h.ending nothing h.free
 
 -- nothing speaks against the closing of a play that is not over
-fit_closing : (config : Configuration) (p : Play) → config.settings.journal_limit ≤ 1073741824 → IsRun config p → Here p → Rests p → Drained p → is_over (input_ended p) ≡ false → IsFit (Close 1 Sent) (input_ended p)
+fit_closing : (config : Configuration) (p : Play) → config.settings.journal_limit ≤ 1073741824 → IsRun config p → Here p → Rests p → Drained p → is_over (after_input_end p) ≡ false → IsFit (Close 1 Sent) (after_input_end p)
 fit_closing config p small run here rests drained goes_on = by (parts_ended config p small run here rests)
   where
-    by : PartsOrOver (input_ended p) → IsFit (Close 1 Sent) (input_ended p)
-    by (inl over) = absurd (both_ways (is_over (input_ended p)) goes_on over)
-    by (inr h) = fit_sent (input_ended p) h (nothing_waits (input_ended p) (drained_ended config p small run drained) goes_on)
+    by : PartsOrOver (after_input_end p) → IsFit (Close 1 Sent) (after_input_end p)
+    by (inl over) = absurd (both_ways (is_over (after_input_end p)) goes_on over)
+    by (inr h) = fit_sent (after_input_end p) h (nothing_waits (after_input_end p) (drained_ended config p small run drained) goes_on)
 
-pub fit_last : (config : Configuration) (input : List ℕ) → IsWithin config → is_over (input_ended (conversed config input)) ≡ false → IsFit (Close 1 Sent) (input_ended (conversed config input))
+pub fit_last : (config : Configuration) (input : List ℕ) → IsWithin config → is_over (after_input_end (after_conversing config input)) ≡ false → IsFit (Close 1 Sent) (after_input_end (after_conversing config input))
 fit_last config input within goes_on =
     let small = within.settings.journal.1 in
-    fit_closing config (conversed config input) small (run_conversed config input) (here_conversed config input within) (rests_conversed config input small) (drained_conversed config input small) goes_on
+    fit_closing config (after_conversing config input) small (run_conversed config input) (here_conversed config input within) (rests_conversed config input small) (drained_conversed config input small) goes_on
 
 -- the journal ends with the Close as Sent of the connection
 abbrev pub EndsSent : Play → Type 0
 EndsSent p = (before : List Entry) × (moment : ℕ) × (p.journal ≡ before ++ record { moment = moment; act = Close 1 Sent } ∷ [])
 
-sent_entered : (p : Play) → (is_over p ≡ false → IsFit (Close 1 Sent) p) → is_over (entered (Close 1 Sent) p) ≡ false → EndsSent (entered (Close 1 Sent) p)
+sent_entered : (p : Play) → (is_over p ≡ false → IsFit (Close 1 Sent) p) → is_over (after_trying_act (Close 1 Sent) p) ≡ false → EndsSent (after_trying_act (Close 1 Sent) p)
 sent_entered p fit goes_on = by (is_over p) refl (is_full (switch_of p)) refl
   where
-    by : (over : Bool) → is_over p ≡ over → (full : Bool) → is_full (switch_of p) ≡ full → EndsSent (entered (Close 1 Sent) p)
-    by true over full is = absurd (both_ways (is_over (entered (Close 1 Sent) p)) goes_on (ap is_over ((goes_entered (Close 1 Sent)).over p over) ∙ over))
+    by : (over : Bool) → is_over p ≡ over → (full : Bool) → is_full (switch_of p) ≡ full → EndsSent (after_trying_act (Close 1 Sent) p)
+    by true over full is = absurd (both_ways (is_over (after_trying_act (Close 1 Sent) p)) goes_on (ap is_over ((goes_entered (Close 1 Sent)).over p over) ∙ over))
     by false still true is =
-        absurd (both_ways (is_over (entered (Close 1 Sent) p)) goes_on
+        absurd (both_ways (is_over (after_trying_act (Close 1 Sent) p)) goes_on
         (ap is_over (fit_entered (Close 1 Sent) p still (fit still) ∙ ap (λ b. cond b (filled p) (longer_by (Close 1 Sent) p)) is)))
     by false still false is =
         subst EndsSent (sym (fit_entered (Close 1 Sent) p still (fit still) ∙ ap (λ b. cond b (filled p) (longer_by (Close 1 Sent) p)) is)) (p.journal, p.clock, refl)
 
-sent_concluded : (how end : End) (p : Play) → (is_over p ≡ false → EndsSent p) → Early p → (ended how p).end ≡ Some end → is_early end ≡ false → EndsSent (ended how p)
+sent_concluded : (how end : End) (p : Play) → (is_over p ≡ false → EndsSent p) → Early p → (with_end how p).end ≡ Some end → is_early end ≡ false → EndsSent (with_end how p)
 sent_concluded how end p sent early is not_early = by (is_over p) refl is
   where
     by : (over : Bool) → is_over p ≡ over → (cond over p (record p { end = Some how })).end ≡ Some end → EndsSent (cond over p (record p { end = Some how }))
@@ -470,5 +480,5 @@ pub sent_played : (config : Configuration) (input : List ℕ) (read_failed : Boo
     EndsSent (played config input read_failed)
 unfolding played_as
 sent_played config input read_failed end within is not_early =
-    sent_concluded (end_behind (farewell (conversed config input)) (too_long (rest_of input)) read_failed) end (closed (conversed config input))
-    (sent_entered (input_ended (conversed config input)) (fit_last config input within)) (early_closed config input) is not_early
+    sent_concluded (end_behind (farewell (after_conversing config input)) (too_long (rest_of input)) read_failed) end (after_closing (after_conversing config input))
+    (sent_entered (after_input_end (after_conversing config input)) (fit_last config input within)) (early_closed config input) is not_early

@@ -24,7 +24,7 @@ use Rattle.fs_machine.proofs.RunLemmas.{run_more}
 use Rattle.fs_machine.proofs.FramesLaws.{handed_first, handed_sent, closed_waits_not, take_leaves_rest, IsUnfailed, AreUnfailed, unfailed_more, handed_unfailed}
 use Rattle.fs_conn.specs.declared.end.End.{End}
 use Rattle.fs_conn.specs.declared.end.End.TheVariants.{Exit, Eof, AuthRefused, ReadFault, WriteFault, TooLong, JournalFull, Memory, Runaway}
-use Rattle.fs_conn.specs.Play.{Play, switch_of, bytes_handed, begun, is_over, ended, judged, entered, repeated, settled, waited, all_taken, acted, reads_on, takes_commands, commanded, all_commanded, opened, input_ended, conversed, closed, farewell, end_behind, played, all_taken_as, played_as}
+use Rattle.fs_conn.specs.Play.{Play, switch_of, bytes_handed, new_play, is_over, with_end, after_judging, after_trying_act, repeated, after_settling, after_waiting, after_taking_all, after_act, reads_on, takes_commands, after_command, after_commands, after_opening, after_input_end, after_conversing, after_closing, farewell, end_behind, played, after_taking_all_as, played_as}
 use Rattle.fs_conn.specs.Steps.{is_early, entry_of}
 use Rattle.fs_conn.proofs.PlayLemmas.{goes_entered, goes_taken}
 use Rattle.fs_conn.proofs.KeepLemmas.{Keeps, kept_settled, kept_waited, kept_opened, kept_commanded, kept_all_commanded, kept_input_ended}
@@ -54,11 +54,12 @@ Takes p q = (is_over q ≡ true) ⊎ (length (waits_in q) ≤ length (waits_in p
 -- how a Take is judged
 abbrev take_judged : Bool → Bool → Bool → Play → Play
 take_judged full gone none p =
-    judged (refused_where full (refusal.JournalFull (switch_of p).cost (switch_of p).config.settings.journal_limit) (refused_where gone refusal.Gone (refused_where none refusal.Empty None))) (entry_of (Take 1) p) p
+    after_judging (refused_where full (refusal.JournalFull (switch_of p).cost (switch_of p).config.settings.journal_limit) (refused_where gone refusal.Gone (refused_where none refusal.Empty None))) (entry_of (Take 1) p) p
 
-take_is : (p : Play) → is_over p ≡ false → entered (Take 1) p ≡ take_judged (is_full (switch_of p)) (is_closed (phase_at (switch_of p) 1)) (length (waits_in p) == 0) p
+take_is : (p : Play) → is_over p ≡ false → after_trying_act (Take 1) p ≡ take_judged (is_full (switch_of p)) (is_closed (phase_at (switch_of p) 1)) (length (waits_in p) == 0) p
 unfolding refusal_of
-take_is p goes_on = ap (λ over. cond over p (judged (refusal_of (switch_of p) (entry_of (Take 1) p)) (entry_of (Take 1) p) p)) goes_on
+take_is p goes_on =
+    ap (λ over. cond over p (after_judging (refusal_of (switch_of p) (entry_of (Take 1) p)) (entry_of (Take 1) p) p)) goes_on
 
 -- one that is entered leaves the others
 pub taken_rest : (config : Configuration) (p : Play) → config.settings.journal_limit ≤ 1073741824 → IsRun config p → is_closed (phase_at (switch_of p) 1) ≡ false →
@@ -87,70 +88,73 @@ takes_judged config p false true none limit run is_gone is_none =
 takes_judged config p false false true limit run is_gone is_none = let zero_long = eqb-true (length (waits_in p)) 0 is_none in inr (omega (arith, zero_long))
 takes_judged config p false false false limit run is_gone is_none = inr (taken_one config p limit run is_gone)
 
-pub takes_one : (config : Configuration) (p : Play) → config.settings.journal_limit ≤ 1073741824 → IsRun config p → Takes p (entered (Take 1) p)
+pub takes_one : (config : Configuration) (p : Play) → config.settings.journal_limit ≤ 1073741824 → IsRun config p → Takes p (after_trying_act (Take 1) p)
 takes_one config p limit run = by (is_over p) refl
   where
-    by : (over : Bool) → is_over p ≡ over → Takes p (entered (Take 1) p)
+    by : (over : Bool) → is_over p ≡ over → Takes p (after_trying_act (Take 1) p)
     by true over = inl (ap is_over ((goes_entered (Take 1)).over p over) ∙ over)
     by false goes_on =
         subst (Takes p) (sym (take_is p goes_on))
         (takes_judged config p (is_full (switch_of p)) (is_closed (phase_at (switch_of p) 1)) (length (waits_in p) == 0) limit run refl refl)
 
 -- so many are taken
-drained_by : (n : ℕ) (p q : Play) → Takes p q → length (waits_in p) ≤ suc n → (length (waits_in q) ≤ n → Drained (repeated n (entered (Take 1)) q)) → Drained (repeated n (entered (Take 1)) q)
+drained_by : (n : ℕ) (p q : Play) → Takes p q → length (waits_in p) ≤ suc n → (length (waits_in q) ≤ n → Drained (repeated n (after_trying_act (Take 1)) q)) → Drained (repeated n (after_trying_act (Take 1)) q)
 drained_by n p q (inl over) few others = inl (ap is_over ((goes_taken n).over q over) ∙ over)
 drained_by n p q (inr fewer) few others = others (omega (arith, fewer, few))
 
-drained_all : (config : Configuration) (n : ℕ) (p : Play) → config.settings.journal_limit ≤ 1073741824 → IsRun config p → length (waits_in p) ≤ n → Drained (repeated n (entered (Take 1)) p)
+drained_all : (config : Configuration) (n : ℕ) (p : Play) → config.settings.journal_limit ≤ 1073741824 → IsRun config p → length (waits_in p) ≤ n → Drained (repeated n (after_trying_act (Take 1)) p)
 unfolding repeated
 drained_all config zero p limit run few = inr (nil_from_length (waits_in p) (omega (arith, few)))
 drained_all config (suc n) p limit run few =
-    drained_by n p (entered (Take 1) p) (takes_one config p limit run) few
-    (λ less. drained_all config n (entered (Take 1) p) limit ((keeps_run config).enters (Take 1) tt p run) less)
+    drained_by n p (after_trying_act (Take 1) p) (takes_one config p limit run) few
+    (λ less. drained_all config n (after_trying_act (Take 1) p) limit ((keeps_run config).enters (Take 1) tt p run) less)
 
-drained_taken : (config : Configuration) (p : Play) → config.settings.journal_limit ≤ 1073741824 → IsRun config p → Drained (all_taken p)
-unfolding all_taken_as
+drained_taken : (config : Configuration) (p : Play) → config.settings.journal_limit ≤ 1073741824 → IsRun config p →
+    Drained (after_taking_all p)
+unfolding after_taking_all_as
 drained_taken config p limit run = drained_all config (length (waits_in p)) p limit run (omega arith)
 
 -- ---- the conversation
 
-drained_acted : (config : Configuration) (act : Act) (p : Play) → config.settings.journal_limit ≤ 1073741824 → IsRun config p → Drained (acted act p)
+drained_acted : (config : Configuration) (act : Act) (p : Play) → config.settings.journal_limit ≤ 1073741824 → IsRun config p → Drained (after_act act p)
 drained_acted config act p limit run =
     let first = (keeps_run config).enters act tt p run in
-    let then = kept_settled Any (IsRun config) (keeps_run config) (entered act p) first in
-    drained_taken config (waited (settled (entered act p))) limit (kept_waited Any (IsRun config) (keeps_run config) (settled (entered act p)) then)
+    let then = kept_settled Any (IsRun config) (keeps_run config) (after_trying_act act p) first in
+    drained_taken config (after_waiting (after_settling (after_trying_act act p))) limit (kept_waited Any (IsRun config) (keeps_run config) (after_settling (after_trying_act act p)) then)
 
-drained_commanded : (config : Configuration) (block : List ℕ) (p : Play) → config.settings.journal_limit ≤ 1073741824 → IsRun config p → Drained p → Drained (commanded p block)
+drained_commanded : (config : Configuration) (block : List ℕ) (p : Play) → config.settings.journal_limit ≤ 1073741824 → IsRun config p → Drained p → Drained (after_command p block)
 drained_commanded config block p limit run drained =
-    elim (takes_commands p) as (λ b. Drained (cond b (acted (Command 1 block) p) p)) [
+    elim (takes_commands p) as (λ b. Drained (cond b (after_act (Command 1 block) p) p)) [
       | true ↦ drained_acted config (Command 1 block) p limit run
       | false ↦ drained
     ]
 
-drained_all_commanded : (config : Configuration) (blocks : List (List ℕ)) (p : Play) → config.settings.journal_limit ≤ 1073741824 → IsRun config p → Drained p → Drained (all_commanded p blocks)
+drained_all_commanded : (config : Configuration) (blocks : List (List ℕ)) (p : Play) → config.settings.journal_limit ≤ 1073741824 → IsRun config p → Drained p → Drained (after_commands p blocks)
 drained_all_commanded config [] p limit run drained = drained
 drained_all_commanded config (block ∷ blocks) p limit run drained =
-    drained_all_commanded config blocks (commanded p block) limit (kept_commanded Any (IsRun config) (keeps_run config) block tt p run) (drained_commanded config block p limit run drained)
+    drained_all_commanded config blocks (after_command p block) limit (kept_commanded Any (IsRun config) (keeps_run config) block tt p run) (drained_commanded config block p limit run drained)
 
-pub run_begun : (config : Configuration) → IsRun config (begun config)
+pub run_begun : (config : Configuration) → IsRun config (new_play config)
 run_begun config = record { config_is = refl; run = tt }
 
-pub run_conversed : (config : Configuration) (input : List ℕ) → IsRun config (conversed config input)
+pub run_conversed : (config : Configuration) (input : List ℕ) → IsRun config (after_conversing config input)
 run_conversed config input =
-    kept_all_commanded Any (IsRun config) (keeps_run config) (λ block. tt) (blocks_of input) (opened config) (kept_opened Any (IsRun config) (keeps_run config) tt config (run_begun config))
+    kept_all_commanded Any (IsRun config) (keeps_run config) (λ block. tt) (blocks_of input) (after_opening config) (kept_opened Any (IsRun config) (keeps_run config) tt config (run_begun config))
 
-pub drained_conversed : (config : Configuration) (input : List ℕ) → config.settings.journal_limit ≤ 1073741824 → Drained (conversed config input)
+pub drained_conversed : (config : Configuration) (input : List ℕ) → config.settings.journal_limit ≤ 1073741824 → Drained (after_conversing config input)
 drained_conversed config input limit =
-    drained_all_commanded config (blocks_of input) (opened config) limit (kept_opened Any (IsRun config) (keeps_run config) tt config (run_begun config))
-    (drained_acted config Arrive (begun config) limit (run_begun config))
+    drained_all_commanded config (blocks_of input) (after_opening config) limit (kept_opened Any (IsRun config) (keeps_run config) tt config (run_begun config))
+    (drained_acted config Arrive (new_play config) limit (run_begun config))
 
-pub run_ended : (config : Configuration) (input : List ℕ) → IsRun config (input_ended (conversed config input))
-run_ended config input = kept_input_ended Any (IsRun config) (keeps_run config) tt (conversed config input) (run_conversed config input)
+pub run_ended : (config : Configuration) (input : List ℕ) → IsRun config (after_input_end (after_conversing config input))
+run_ended config input =
+    kept_input_ended Any (IsRun config) (keeps_run config) tt (after_conversing config input) (run_conversed config input)
 
-pub drained_ended : (config : Configuration) (p : Play) → config.settings.journal_limit ≤ 1073741824 → IsRun config p → Drained p → Drained (input_ended p)
+pub drained_ended : (config : Configuration) (p : Play) → config.settings.journal_limit ≤ 1073741824 → IsRun config p → Drained p → Drained (after_input_end p)
 drained_ended config p limit run drained =
-    elim (reads_on p) as (λ b. Drained (cond b (all_taken (entered (Close 1 EndOfInput) p)) p)) [
-      | true ↦ drained_taken config (entered (Close 1 EndOfInput) p) limit ((keeps_run config).enters (Close 1 EndOfInput) tt p run)
+    elim (reads_on p) as (λ b. Drained (cond b (after_taking_all (after_trying_act (Close 1 EndOfInput) p)) p)) [
+      | true ↦ drained_taken config (after_trying_act (Close 1 EndOfInput) p) limit
+          ((keeps_run config).enters (Close 1 EndOfInput) tt p run)
       | false ↦ drained
     ]
 
@@ -159,7 +163,8 @@ drained_ended config p limit run drained =
 abbrev Unfailed : Play → Type 0
 Unfailed p = AreUnfailed p.journal
 
-unfailed_judged : (cause : Option Refusal) (entry : Entry) (p : Play) → IsUnfailed entry.act → Unfailed p → Unfailed (judged cause entry p)
+unfailed_judged : (cause : Option Refusal) (entry : Entry) (p : Play) → IsUnfailed entry.act → Unfailed p →
+    Unfailed (after_judging cause entry p)
 unfailed_judged None entry p such h = unfailed_more p.journal entry h such
 unfailed_judged (Some (refusal.JournalFull cost limit)) entry p such h = h
 unfailed_judged (Some _) entry p such h = h
@@ -170,7 +175,7 @@ keeps_unfailed = record {
   jobs = λ number. tt;
   takes = tt;
   enters =
-      λ act such p h. elim (is_over p) as (λ b. Unfailed (cond b p (judged (refusal_of (switch_of p) (entry_of act p)) (entry_of act p) p))) [
+      λ act such p h. elim (is_over p) as (λ b. Unfailed (cond b p (after_judging (refusal_of (switch_of p) (entry_of act p)) (entry_of act p) p))) [
         | true ↦ h
         | false ↦ unfailed_judged (refusal_of (switch_of p) (entry_of act p)) (entry_of act p) p such h
       ];
@@ -178,10 +183,10 @@ keeps_unfailed = record {
   goes_on = λ moment p h. h;
 }
 
-unfailed_ended : (config : Configuration) (input : List ℕ) → Unfailed (input_ended (conversed config input))
+unfailed_ended : (config : Configuration) (input : List ℕ) → Unfailed (after_input_end (after_conversing config input))
 unfailed_ended config input =
-    kept_input_ended IsUnfailed Unfailed keeps_unfailed tt (conversed config input)
-    (kept_all_commanded IsUnfailed Unfailed keeps_unfailed (λ block. tt) (blocks_of input) (opened config) (kept_opened IsUnfailed Unfailed keeps_unfailed tt config tt))
+    kept_input_ended IsUnfailed Unfailed keeps_unfailed tt (after_conversing config input)
+    (kept_all_commanded IsUnfailed Unfailed keeps_unfailed (λ block. tt) (blocks_of input) (after_opening config) (kept_opened IsUnfailed Unfailed keeps_unfailed tt config tt))
 
 -- ---- frames
 
@@ -204,14 +209,14 @@ whole_before config p limit run unfailed nothing =
     ∙ append-nil (handed_to config p.journal)
 
 -- once it is closed, or that was refused
-whole_judged : (config : Configuration) (cause : Option Refusal) (p : Play) → config.settings.journal_limit ≤ 1073741824 → IsRun config p → IsRun config (judged cause (entry_of (Close 1 Sent) p) p) → Unfailed p →
-    waits_in p ≡ [] → is_over (judged cause (entry_of (Close 1 Sent) p) p) ≡ false → IsWhole config (judged cause (entry_of (Close 1 Sent) p) p)
+whole_judged : (config : Configuration) (cause : Option Refusal) (p : Play) → config.settings.journal_limit ≤ 1073741824 → IsRun config p → IsRun config (after_judging cause (entry_of (Close 1 Sent) p) p) → Unfailed p →
+    waits_in p ≡ [] → is_over (after_judging cause (entry_of (Close 1 Sent) p) p) ≡ false → IsWhole config (after_judging cause (entry_of (Close 1 Sent) p) p)
 whole_judged config None p limit run later unfailed nothing goes_on = handed_sent config p.journal p.clock 1 limit (run_of config (record p { journal = p.journal ++ entry_of (Close 1 Sent) p ∷ [] }) later)
 whole_judged config (Some (refusal.JournalFull cost most)) p limit run later unfailed nothing goes_on = absurd (cc)
 whole_judged config (Some _) p limit run later unfailed nothing goes_on = whole_before config p limit run unfailed nothing
 
 -- a play that is not over was not before
-not_over : (p : Play) → is_over (entered (Close 1 Sent) p) ≡ false → is_over p ≡ false
+not_over : (p : Play) → is_over (after_trying_act (Close 1 Sent) p) ≡ false → is_over p ≡ false
 not_over p goes_on = by (is_over p) refl
   where
     by : (over : Bool) → is_over p ≡ over → over ≡ false
@@ -222,13 +227,13 @@ pub nothing_waits : (p : Play) → Drained p → is_over p ≡ false → waits_i
 nothing_waits p (inl over) goes_on = absurd (cc)
 nothing_waits p (inr nothing) goes_on = nothing
 
-whole_closed : (config : Configuration) (input : List ℕ) → config.settings.journal_limit ≤ 1073741824 → is_over (closed (conversed config input)) ≡ false → IsWhole config (closed (conversed config input))
+whole_closed : (config : Configuration) (input : List ℕ) → config.settings.journal_limit ≤ 1073741824 → is_over (after_closing (after_conversing config input)) ≡ false → IsWhole config (after_closing (after_conversing config input))
 whole_closed config input limit goes_on =
-    let q = input_ended (conversed config input) in
+    let q = after_input_end (after_conversing config input) in
     let still : is_over q ≡ false = not_over q goes_on in
     let cause = refusal_of (switch_of q) (entry_of (Close 1 Sent) q) in
-    let nothing = nothing_waits q (drained_ended config (conversed config input) limit (run_conversed config input) (drained_conversed config input limit)) still in
-    let is : closed (conversed config input) ≡ judged cause (entry_of (Close 1 Sent) q) q = ap (λ b. cond b q (judged cause (entry_of (Close 1 Sent) q) q)) still in
+    let nothing = nothing_waits q (drained_ended config (after_conversing config input) limit (run_conversed config input) (drained_conversed config input limit)) still in
+    let is : after_closing (after_conversing config input) ≡ after_judging cause (entry_of (Close 1 Sent) q) q = ap (λ b. cond b q (after_judging cause (entry_of (Close 1 Sent) q) q)) still in
     subst (λ (p : Play). IsWhole config p) (sym is)
     (whole_judged config cause q limit (run_ended config input) (subst (λ (p : Play). IsRun config p) is (run_closed config input)) (unfailed_ended config input) nothing (ap is_over (sym is) ∙ goes_on))
 
@@ -254,7 +259,7 @@ early_is (JournalFull cost limit) s early = refl
 early_is Memory s early = absurd early
 early_is (Runaway count) s early = refl
 
-whole_concluded : (config : Configuration) (how end : End) (p : Play) → (is_over p ≡ false → IsWhole config p) → Early p → (ended how p).end ≡ Some end → is_early end ≡ false → IsWhole config (ended how p)
+whole_concluded : (config : Configuration) (how end : End) (p : Play) → (is_over p ≡ false → IsWhole config p) → Early p → (with_end how p).end ≡ Some end → is_early end ≡ false → IsWhole config (with_end how p)
 whole_concluded config how end p whole early is not_early = by (is_over p) refl is
   where
     by : (over : Bool) → is_over p ≡ over → (cond over p (record p { end = Some how })).end ≡ Some end → IsWhole config (cond over p (record p { end = Some how }))
@@ -265,7 +270,7 @@ whole_played : (config : Configuration) (input : List ℕ) (read_failed : Bool) 
     (played config input read_failed).end ≡ Some end → is_early end ≡ false → IsWhole config (played config input read_failed)
 unfolding played_as
 whole_played config input read_failed end limit is not_early =
-    whole_concluded config (end_behind (farewell (conversed config input)) (too_long (rest_of input)) read_failed) end (closed (conversed config input))
+    whole_concluded config (end_behind (farewell (after_conversing config input)) (too_long (rest_of input)) read_failed) end (after_closing (after_conversing config input))
     (whole_closed config input limit) (early_closed config input) is not_early
 
 -- all is handed out, unless the play ends before the connection

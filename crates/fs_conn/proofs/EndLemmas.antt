@@ -17,9 +17,9 @@ use Rattle.fs_conn.specs.declared.end.End.{End}
 use Rattle.fs_conn.specs.declared.end.End.TheVariants as ends
 use Rattle.fs_conn.specs.declared.stop.Stop.{Stop}
 use Rattle.fs_conn.specs.declared.stop.Stop.TheVariants.{Over, OutOfMemory, WriteFault}
-use Rattle.fs_conn.specs.Play.{Play, begun, bytes_handed, switch_of, output_of, is_over, judged, entered, opened, conversed, played}
-use Rattle.fs_conn.specs.Steps.{is_early, Begins, entry_of, Enters}
-use Rattle.fs_conn.specs.Turns.{is_told, Concludes, Stops, Finishes, failed_at, Fails, unless_refused, FailsToWrite, fault_by, Plays}
+use Rattle.fs_conn.specs.Play.{Play, new_play, bytes_handed, switch_of, output_of, is_over, after_judging, after_trying_act, after_opening, after_conversing, played}
+use Rattle.fs_conn.specs.Steps.{is_early, IsPlayFront, entry_of, Enters}
+use Rattle.fs_conn.specs.Turns.{is_told, Concludes, Stops, Finishes, failed_at, Fails, unless_refused, FailsToWrite, end_after_fault, Plays}
 use Rattle.fs_conn.proofs.PlayLemmas.{goes_acted, goes_all_commanded}
 use Rattle.fs_conn.proofs.StepLemmas.{does_enters}
 use Rattle.fs_conn.proofs.TurnLemmas.{played_is, goes_concluded}
@@ -27,8 +27,8 @@ use Rattle.fs_conn.proofs.TurnLemmas.{played_is, goes_concluded}
 -- a play is of its configuration
 config_played : (config : Configuration) (input : List ℕ) (read_failed : Bool) → (played config input read_failed).config ≡ config
 config_played config input read_failed =
-    ap (λ (p : Play). p.config) (sym (played_is config input read_failed)) ∙ ((goes_concluded input read_failed).begins (conversed config input)).config
-    ∙ ((goes_all_commanded (blocks_of input)).begins (opened config)).config ∙ ((goes_acted Arrive).begins (begun config)).config
+    ap (λ (p : Play). p.config) (sym (played_is config input read_failed)) ∙ ((goes_concluded input read_failed).begins (after_conversing config input)).config
+    ∙ ((goes_all_commanded (blocks_of input)).begins (after_opening config)).config ∙ ((goes_acted Arrive).begins (new_play config)).config
 
 -- ---- ends
 
@@ -90,10 +90,10 @@ plays_end config in0 in1 out0 out1 end p done = plays_told config in0 in1 out0 o
 
 -- ---- a play that broke off
 
-config_begins : (config : Configuration) (input : List ℕ) (read_failed : Bool) (p : Play) → Begins p (played config input read_failed) → p.config ≡ config
+config_begins : (config : Configuration) (input : List ℕ) (read_failed : Bool) (p : Play) → IsPlayFront p (played config input read_failed) → p.config ≡ config
 config_begins config input read_failed p begins = sym begins.config ∙ config_played config input read_failed
 
-bytes_begins : (config : Configuration) (input : List ℕ) (read_failed : Bool) (p : Play) → Begins p (played config input read_failed) → output_of p ≡ bytes_handed config p.journal
+bytes_begins : (config : Configuration) (input : List ℕ) (read_failed : Bool) (p : Play) → IsPlayFront p (played config input read_failed) → output_of p ≡ bytes_handed config p.journal
 bytes_begins config input read_failed p begins = ap (λ c. bytes_handed c p.journal) (config_begins config input read_failed p begins)
 
 pub config_memory : (config : Configuration) (in0 in1 : Input) (out0 out1 : Output) (p : Play) → Stops config in0 out0 in1 out1 OutOfMemory p → p.config ≡ config
@@ -109,14 +109,15 @@ lacks_memory config in0 in1 out0 out1 p stops = inl (record {
 })
 
 -- an act that is tried leaves its entry behind the others, unless it is refused
-journal_judged : (cause : Option Refusal) (entry : Entry) (p : Play) → (judged cause entry p).journal ≡ unless_refused cause entry p.journal
+journal_judged : (cause : Option Refusal) (entry : Entry) (p : Play) →
+    (after_judging cause entry p).journal ≡ unless_refused cause entry p.journal
 journal_judged None entry p = refl
 journal_judged (Some (refusal.JournalFull cost limit)) entry p = refl
 journal_judged (Some _) entry p = refl
 
-journal_entered : (act : Act) (p : Play) → is_over p ≡ false → (entered act p).journal ≡ unless_refused (refusal_of (switch_of p) (entry_of act p)) (entry_of act p) p.journal
+journal_entered : (act : Act) (p : Play) → is_over p ≡ false → (after_trying_act act p).journal ≡ unless_refused (refusal_of (switch_of p) (entry_of act p)) (entry_of act p) p.journal
 journal_entered act p goes_on =
-    ap (λ over. (cond over p (judged (refusal_of (switch_of p) (entry_of act p)) (entry_of act p) p)).journal) goes_on
+    ap (λ over. (cond over p (after_judging (refusal_of (switch_of p) (entry_of act p)) (entry_of act p) p)).journal) goes_on
     ∙ journal_judged (refusal_of (switch_of p) (entry_of act p)) (entry_of act p) p
 
 -- a write failed
@@ -129,7 +130,7 @@ fails config in0 in1 out0 out1 p stops = record {
 }
 
 -- and the connection was closed as Failed, or that was refused
-fails_to_write : (config : Configuration) (in0 in1 : Input) (out0 out1 : Output) (p new : Play) → Stops config in0 out0 in1 out1 WriteFault p → is_over p ≡ false → new.journal ≡ (entered (Close 1 Failed) p).journal →
+fails_to_write : (config : Configuration) (in0 in1 : Input) (out0 out1 : Output) (p new : Play) → Stops config in0 out0 in1 out1 WriteFault p → is_over p ≡ false → new.journal ≡ (after_trying_act (Close 1 Failed) p).journal →
     FailsToWrite config in0 out0 in1 out1 new.journal
 fails_to_write config in0 in1 out0 out1 p new stops goes_on does = record {
   before = p.journal;
@@ -143,7 +144,7 @@ fails_to_write config in0 in1 out0 out1 p new stops goes_on does = record {
 
 -- or memory was wanting for that
 pub plays_failed : (config : Configuration) (in0 in1 : Input) (out0 out1 : Output) (p new : Play) (result : Result (Option Reply) Stop) → is_over p ≡ false →
-    Stops config in0 out0 in1 out1 WriteFault p → Enters (Close 1 Failed) p new result → Plays config in0 out0 in1 out1 new.journal (fault_by result)
+    Stops config in0 out0 in1 out1 WriteFault p → Enters (Close 1 Failed) p new result → Plays config in0 out0 in1 out1 new.journal (end_after_fault result)
 plays_failed config in0 in1 out0 out1 p new (Ok reply) goes_on stops enters =
     fails_to_write config in0 in1 out0 out1 p new stops goes_on (ap (λ (q : Play). q.journal) (does_enters (Close 1 Failed) p new (Ok reply) goes_on enters))
 plays_failed config in0 in1 out0 out1 p new (Err (Over end)) goes_on stops enters =

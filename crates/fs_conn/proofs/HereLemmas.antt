@@ -18,7 +18,7 @@ use Rattle.fs_machine.proofs.FrameLemmas.{take_owes}
 use Rattle.fs_machine.proofs.HereLemmas.{ClosesNone, here_step, arrival_accepted, arrival_here}
 use Rattle.fs_conn.specs.declared.end.End.TheVariants.{Runaway}
 use Rattle.fs_conn.specs.declared.stop.Stop.{Stop}
-use Rattle.fs_conn.specs.Play.{Play, switch_of, is_over, judged, entered, repeated, all_taken, followed, all_taken_as}
+use Rattle.fs_conn.specs.Play.{Play, switch_of, is_over, after_judging, after_trying_act, repeated, after_taking_all, after_following, after_taking_all_as}
 use Rattle.fs_conn.specs.Steps.{play_of, entry_of, Does, Accepts, Rejects}
 use Rattle.fs_conn.proofs.StepLemmas.{longer}
 use Rattle.fs_conn.proofs.KeepLemmas.{Keeps, kept_repeated, kept_followed, kept_acted}
@@ -28,15 +28,16 @@ use Rattle.fs_conn.proofs.KeepLemmas.{Keeps, kept_repeated, kept_followed, kept_
 abbrev pub Here : Play → Type 0
 Here p = is_over p ≡ false → IsHere 1 (switch_of p)
 
-here_judged : (cause : Option Refusal) (entry : Entry) (p : Play) → ClosesNone entry.act → IsHere 1 (switch_of p) → Here (judged cause entry p)
+here_judged : (cause : Option Refusal) (entry : Entry) (p : Play) → ClosesNone entry.act → IsHere 1 (switch_of p) → Here (after_judging cause entry p)
 here_judged None entry p such here goes_on = subst (IsHere 1) (sym (run_more (empty p.config) p.journal entry)) (here_step 1 (switch_of p) entry such here)
 here_judged (Some (refusal.JournalFull cost limit)) entry p such here goes_on = absurd (cc)
 here_judged (Some _) entry p such here goes_on = here
 
-here_entered : (act : Act) → ClosesNone act → (p : Play) → Here p → Here (entered act p)
+here_entered : (act : Act) → ClosesNone act → (p : Play) → Here p → Here (after_trying_act act p)
 here_entered act such p here = by (is_over p) refl
   where
-    by : (over : Bool) → is_over p ≡ over → Here (cond over p (judged (refusal_of (switch_of p) (entry_of act p)) (entry_of act p) p))
+    by : (over : Bool) → is_over p ≡ over →
+        Here (cond over p (after_judging (refusal_of (switch_of p) (entry_of act p)) (entry_of act p) p))
     by true over = here
     by false goes_on = here_judged (refusal_of (switch_of p) (entry_of act p)) (entry_of act p) p such (here goes_on)
 
@@ -55,13 +56,14 @@ keeps_here = record {
 }
 
 -- what comes of an act leaves it there
-pub here_followed : (mid new : Play) → IsHere 1 (switch_of mid) → new ≡ followed mid → is_over new ≡ false → IsHere 1 (switch_of new)
+pub here_followed : (mid new : Play) → IsHere 1 (switch_of mid) → new ≡ after_following mid → is_over new ≡ false → IsHere 1 (switch_of new)
 here_followed mid new here is goes_on = subst Here (sym is) (kept_followed ClosesNone Here keeps_here mid (λ still. here)) goes_on
 
 -- a command with all that comes of it too
-pub here_commanded : (old mid new : Play) (block : List ℕ) → IsHere 1 (switch_of old) → mid ≡ entered (Command 1 block) old → new ≡ followed mid → is_over new ≡ false → IsHere 1 (switch_of new)
+pub here_commanded : (old mid new : Play) (block : List ℕ) → IsHere 1 (switch_of old) → mid ≡ after_trying_act (Command 1 block) old → new ≡ after_following mid → is_over new ≡ false → IsHere 1 (switch_of new)
 here_commanded old mid new block here mid_is new_is goes_on =
-    subst Here (sym (new_is ∙ ap followed mid_is)) (kept_acted ClosesNone Here keeps_here (Command 1 block) tt old (λ still. here)) goes_on
+    subst Here (sym (new_is ∙ ap after_following mid_is)) (kept_acted ClosesNone Here keeps_here (Command 1 block) tt old (λ still. here))
+    goes_on
 
 -- ---- it comes
 
@@ -71,7 +73,7 @@ never_turned_away machine clock new begun within refused =
     let p = play_of machine clock in
     let none : refusal_of (state_of machine) (entry_of Arrive p) ≡ None =
     ap (λ (entries : List Entry). refusal_of (run_from (empty machine.config) entries) (entry_of Arrive p)) begun ∙ arrival_accepted machine.config clock within in
-    longer p (entry_of Arrive p) (sym refused.same ∙ refused.does ∙ ap (λ cause. judged cause (entry_of Arrive p) p) none)
+    longer p (entry_of Arrive p) (sym refused.same ∙ refused.does ∙ ap (λ cause. after_judging cause (entry_of Arrive p) p) none)
 
 -- and then it is there
 pub here_arrived : (machine new : View) (clock : ℕ) (reply : Reply) → machine.journal ≡ [] → IsWithin machine.config → Accepts Arrive (play_of machine clock) (play_of new clock) reply → IsHere 1 (state_of new)
@@ -85,27 +87,27 @@ here_arrived machine new clock reply begun within accepts =
 abbrev pub Free : Play → Type 0
 Free p = owes (switch_of p) 1 ≡ false
 
-free_judged : (cause : Option Refusal) (p : Play) → Free p → Free (judged cause (entry_of (Take 1) p) p)
+free_judged : (cause : Option Refusal) (p : Play) → Free p → Free (after_judging cause (entry_of (Take 1) p) p)
 free_judged None p free =
     ap (λ (s : Switch). owes s 1) (run_more (empty p.config) p.journal (entry_of (Take 1) p)) ∙ take_owes (switch_of p) p.clock 1 1 ∙ free
 free_judged (Some (refusal.JournalFull cost limit)) p free = free
 free_judged (Some _) p free = free
 
-free_entered : (p : Play) → Free p → Free (entered (Take 1) p)
+free_entered : (p : Play) → Free p → Free (after_trying_act (Take 1) p)
 free_entered p free =
-    elim (is_over p) as (λ b. Free (cond b p (judged (refusal_of (switch_of p) (entry_of (Take 1) p)) (entry_of (Take 1) p) p))) [
+    elim (is_over p) as (λ b. Free (cond b p (after_judging (refusal_of (switch_of p) (entry_of (Take 1) p)) (entry_of (Take 1) p) p))) [
       | true ↦ free
       | false ↦ free_judged (refusal_of (switch_of p) (entry_of (Take 1) p)) p free
     ]
 
-free_repeated : (n : ℕ) (p : Play) → Free p → Free (repeated n (entered (Take 1)) p)
-free_repeated n p free = kept_repeated Free n (entered (Take 1)) free_entered p free
+free_repeated : (n : ℕ) (p : Play) → Free p → Free (repeated n (after_trying_act (Take 1)) p)
+free_repeated n p free = kept_repeated Free n (after_trying_act (Take 1)) free_entered p free
 
-pub free_taken : (p : Play) → Free p → Free (all_taken p)
-unfolding all_taken_as
+pub free_taken : (p : Play) → Free p → Free (after_taking_all p)
+unfolding after_taking_all_as
 free_taken p free = free_repeated (length (waiting_for (switch_of p) 1)) p free
 
 -- taking frames leaves it so
-pub free_sent : {A : Type 0} → (mid new : Play) (result : Result A Stop) → Does all_taken mid new result → owes (switch_of mid) 1 ≡ false → OnOk result (owes (switch_of new) 1 ≡ false)
+pub free_sent : {A : Type 0} → (mid new : Play) (result : Result A Stop) → Does after_taking_all mid new result → owes (switch_of mid) 1 ≡ false → OnOk result (owes (switch_of new) 1 ≡ false)
 free_sent mid new (Ok done) does free = ap (λ (p : Play). owes (switch_of p) 1) does ∙ free_taken mid free
 free_sent mid new (Err stop) does free = tt

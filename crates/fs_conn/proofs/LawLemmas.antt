@@ -24,11 +24,11 @@ use Rattle.fs_machine.proofs.FrameLemmas.{command_refused}
 use Rattle.fs_machine.proofs.RefusalLemmas.{full_refused}
 use Rattle.fs_conn.specs.declared.end.End.{End}
 use Rattle.fs_conn.specs.declared.end.End.TheVariants.{Exit, AuthRefused, Eof, ReadFault, WriteFault, TooLong, JournalFull, Memory, Runaway}
-use Rattle.fs_conn.specs.Play.{Play, switch_of, bytes_handed, is_over, ended, judged, entered, followed, acted, reads_on, takes_commands, commanded, all_commanded, opened, conversed, closed, end_by, farewell, end_behind, played, played_as}
+use Rattle.fs_conn.specs.Play.{Play, switch_of, bytes_handed, is_over, with_end, after_judging, after_trying_act, after_following, after_act, reads_on, takes_commands, after_command, after_commands, after_opening, after_conversing, after_closing, end_by, farewell, end_behind, played, played_as}
 use Rattle.fs_conn.specs.Steps.{entry_of}
 use Rattle.fs_conn.specs.Ends.{IsFullAt, HasCause}
 use Rattle.fs_conn.proofs.PlayLemmas.{goes_followed, goes_all_commanded}
-use Rattle.fs_conn.proofs.TurnLemmas.{all_commanded-none}
+use Rattle.fs_conn.proofs.TurnLemmas.{after_commands-none}
 use Rattle.fs_conn.proofs.KeepLemmas.{Keeps, kept_followed, kept_opened, kept_all_commanded, kept_closed}
 
 -- every act
@@ -41,7 +41,7 @@ pub record IsRun (config : Configuration) (p : Play) : Type 0 where
   pub config_is : p.config ≡ config
   pub run : IsRunFrom (empty p.config) p.journal
 
-run_judged : (config : Configuration) (cause : Option Refusal) (entry : Entry) (p : Play) → refusal_of (switch_of p) entry ≡ cause → IsRun config p → IsRun config (judged cause entry p)
+run_judged : (config : Configuration) (cause : Option Refusal) (entry : Entry) (p : Play) → refusal_of (switch_of p) entry ≡ cause → IsRun config p → IsRun config (after_judging cause entry p)
 run_judged config None entry p is h = record { config_is = h.config_is; run = is_run_more (empty p.config) p.journal entry h.run is }
 run_judged config (Some (refusal.JournalFull cost limit)) entry p is h = record { config_is = h.config_is; run = h.run }
 run_judged config (Some _) entry p is h = h
@@ -52,7 +52,7 @@ keeps_run config = record {
   jobs = λ number. tt;
   takes = tt;
   enters =
-      λ act such p h. elim (is_over p) as (λ b. IsRun config (cond b p (judged (refusal_of (switch_of p) (entry_of act p)) (entry_of act p) p))) [
+      λ act such p h. elim (is_over p) as (λ b. IsRun config (cond b p (after_judging (refusal_of (switch_of p) (entry_of act p)) (entry_of act p) p))) [
         | true ↦ h
         | false ↦ run_judged config (refusal_of (switch_of p) (entry_of act p)) (entry_of act p) p refl h
       ];
@@ -64,20 +64,20 @@ keeps_run config = record {
   goes_on = λ moment p h. record { config_is = h.config_is; run = h.run };
 }
 
-run_concluded : (config : Configuration) (end : End) (p : Play) → IsRun config p → IsRun config (ended end p)
+run_concluded : (config : Configuration) (end : End) (p : Play) → IsRun config p → IsRun config (with_end end p)
 run_concluded config end p h =
     elim (is_over p) as (λ b. IsRun config (cond b p (record p { end = Some end }))) [ true ↦ h | false ↦ record { config_is = h.config_is; run = h.run } ]
 
-pub run_closed : (config : Configuration) (input : List ℕ) → IsRun config (closed (conversed config input))
+pub run_closed : (config : Configuration) (input : List ℕ) → IsRun config (after_closing (after_conversing config input))
 run_closed config input =
-    kept_closed Any (IsRun config) (keeps_run config) tt tt (conversed config input)
-    (kept_all_commanded Any (IsRun config) (keeps_run config) (λ block. tt) (blocks_of input) (opened config)
+    kept_closed Any (IsRun config) (keeps_run config) tt tt (after_conversing config input)
+    (kept_all_commanded Any (IsRun config) (keeps_run config) (λ block. tt) (blocks_of input) (after_opening config)
     (kept_opened Any (IsRun config) (keeps_run config) tt config (record { config_is = refl; run = tt })))
 
 run_whole : (config : Configuration) (input : List ℕ) (read_failed : Bool) → IsRun config (played config input read_failed)
 unfolding played_as
 run_whole config input read_failed =
-    run_concluded config (end_behind (farewell (conversed config input)) (too_long (rest_of input)) read_failed) (closed (conversed config input)) (run_closed config input)
+    run_concluded config (end_behind (farewell (after_conversing config input)) (too_long (rest_of input)) read_failed) (after_closing (after_conversing config input)) (run_closed config input)
 
 pub config_played : (config : Configuration) (input : List ℕ) (read_failed : Bool) → (played config input read_failed).config ≡ config
 config_played config input read_failed = (run_whole config input read_failed).config_is
@@ -113,20 +113,21 @@ early_none : (end : Option End) (s : Switch) → is_some end ≡ false → EndsE
 early_none None s none = tt
 early_none (Some end) s none = absurd (cc)
 
-early_judged : (cause : Option Refusal) (entry : Entry) (p : Play) → refusal_of (switch_of p) entry ≡ cause → is_over p ≡ false → Early p → Early (judged cause entry p)
+early_judged : (cause : Option Refusal) (entry : Entry) (p : Play) → refusal_of (switch_of p) entry ≡ cause → is_over p ≡ false → Early p → Early (after_judging cause entry p)
 early_judged None entry p is goes_on h = early_none p.end _ goes_on
 early_judged (Some (refusal.JournalFull cost limit)) entry p is goes_on h =
     let full = full_refused (switch_of p) entry cost limit is in record { full = full.0; cost_is = full.1; limit_is = full.2 }
 early_judged (Some _) entry p is goes_on h = h
 
-early_entered : (act : Act) (p : Play) → Early p → Early (entered act p)
+early_entered : (act : Act) (p : Play) → Early p → Early (after_trying_act act p)
 early_entered act p h = by (is_over p) refl
   where
-    by : (over : Bool) → is_over p ≡ over → Early (cond over p (judged (refusal_of (switch_of p) (entry_of act p)) (entry_of act p) p))
+    by : (over : Bool) → is_over p ≡ over →
+        Early (cond over p (after_judging (refusal_of (switch_of p) (entry_of act p)) (entry_of act p) p))
     by true is = h
     by false is = early_judged (refusal_of (switch_of p) (entry_of act p)) (entry_of act p) p refl is h
 
-early_away : (p : Play) → Early p → Early (ended (Runaway 100000) p)
+early_away : (p : Play) → Early p → Early (with_end (Runaway 100000) p)
 early_away p h = elim (is_over p) as (λ b. Early (cond b p (record p { end = Some (Runaway 100000) }))) [ true ↦ h | false ↦ refl ]
 
 keeps_early : Keeps Any Early
@@ -139,10 +140,10 @@ keeps_early = record {
   goes_on = λ moment p h. h;
 }
 
-pub early_closed : (config : Configuration) (input : List ℕ) → Early (closed (conversed config input))
+pub early_closed : (config : Configuration) (input : List ℕ) → Early (after_closing (after_conversing config input))
 early_closed config input =
-    kept_closed Any Early keeps_early tt tt (conversed config input)
-    (kept_all_commanded Any Early keeps_early (λ block. tt) (blocks_of input) (opened config) (kept_opened Any Early keeps_early tt config tt))
+    kept_closed Any Early keeps_early tt tt (after_conversing config input)
+    (kept_all_commanded Any Early keeps_early (λ block. tt) (blocks_of input) (after_opening config) (kept_opened Any Early keeps_early tt config tt))
 
 -- ---- the cause of each end
 
@@ -170,8 +171,8 @@ cause_behind None s false true = (refl, refl)
 cause_behind None s false false = (refl, refl)
 
 -- a play that was over stays so, and any other ends in this way
-cause_ended : (how end : End) (p : Play) (is_too_long read_failed : Bool) → Early p → ((s : Switch) → HasCause how s is_too_long read_failed) → (ended how p).end ≡ Some end →
-    HasCause end (switch_of (ended how p)) is_too_long read_failed
+cause_ended : (how end : End) (p : Play) (is_too_long read_failed : Bool) → Early p → ((s : Switch) → HasCause how s is_too_long read_failed) → (with_end how p).end ≡ Some end →
+    HasCause end (switch_of (with_end how p)) is_too_long read_failed
 cause_ended how end p is_too_long read_failed early cause is = by (is_over p) is
   where
     by : (over : Bool) → (cond over p (record p { end = Some how })).end ≡ Some end → HasCause end (switch_of (cond over p (record p { end = Some how }))) is_too_long read_failed
@@ -182,20 +183,20 @@ pub cause_played : (config : Configuration) (input : List ℕ) (read_failed : Bo
     HasCause end (switch_of (played config input read_failed)) (too_long (rest_of input)) read_failed
 unfolding played_as
 cause_played config input read_failed end is =
-    cause_ended (end_behind (farewell (conversed config input)) (too_long (rest_of input)) read_failed) end (closed (conversed config input)) (too_long (rest_of input)) read_failed
-    (early_closed config input) (λ s. cause_behind (parting_at (switch_of (conversed config input)) 1) s (too_long (rest_of input)) read_failed) is
+    cause_ended (end_behind (farewell (after_conversing config input)) (too_long (rest_of input)) read_failed) end (after_closing (after_conversing config input)) (too_long (rest_of input)) read_failed
+    (early_closed config input) (λ s. cause_behind (parting_at (switch_of (after_conversing config input)) 1) s (too_long (rest_of input)) read_failed) is
 
 -- and every play ends
-ended_some : (how : End) (p : Play) → (end : End) × ((ended how p).end ≡ Some end)
+ended_some : (how : End) (p : Play) → (end : End) × ((with_end how p).end ≡ Some end)
 ended_some how p = by p.end refl
   where
-    by : (last : Option End) → p.end ≡ last → (end : End) × ((ended how p).end ≡ Some end)
+    by : (last : Option End) → p.end ≡ last → (end : End) × ((with_end how p).end ≡ Some end)
     by None is = (how, ap (λ over. (cond over p (record p { end = Some how })).end) (ap is_some is))
     by (Some end) is = (end, ap (λ over. (cond over p (record p { end = Some how })).end) (ap is_some is) ∙ is)
 
 pub ends_played : (config : Configuration) (input : List ℕ) (read_failed : Bool) → (end : End) × ((played config input read_failed).end ≡ Some end)
 unfolding played_as
-ends_played config input read_failed = ended_some (end_behind (farewell (conversed config input)) (too_long (rest_of input)) read_failed) (closed (conversed config input))
+ends_played config input read_failed = ended_some (end_behind (farewell (after_conversing config input)) (too_long (rest_of input)) read_failed) (after_closing (after_conversing config input))
 
 -- ---- commands
 
@@ -215,7 +216,7 @@ commands_more [] entry = append-nil (command_in 1 entry.act)
 commands_more (first ∷ entries) entry =
     ap (λ blocks. command_in 1 first.act ++ blocks) (commands_more entries entry) ∙ sym (append_assoc (command_in 1 first.act) (commands_of 1 entries) (command_in 1 entry.act))
 
-says_judged : (blocks : List (List ℕ)) (cause : Option Refusal) (entry : Entry) (p : Play) → IsSilent entry.act → Says blocks p → Says blocks (judged cause entry p)
+says_judged : (blocks : List (List ℕ)) (cause : Option Refusal) (entry : Entry) (p : Play) → IsSilent entry.act → Says blocks p → Says blocks (after_judging cause entry p)
 says_judged blocks None entry p silent h = commands_more p.journal entry ∙ ap (λ more. commands p ++ more) silent ∙ append-nil (commands p) ∙ h
 says_judged blocks (Some (refusal.JournalFull cost limit)) entry p silent h = h
 says_judged blocks (Some _) entry p silent h = h
@@ -226,7 +227,7 @@ keeps_says blocks = record {
   jobs = λ number. refl;
   takes = refl;
   enters =
-      λ act such p h. elim (is_over p) as (λ b. Says blocks (cond b p (judged (refusal_of (switch_of p) (entry_of act p)) (entry_of act p) p))) [
+      λ act such p h. elim (is_over p) as (λ b. Says blocks (cond b p (after_judging (refusal_of (switch_of p) (entry_of act p)) (entry_of act p) p))) [
         | true ↦ h
         | false ↦ says_judged blocks (refusal_of (switch_of p) (entry_of act p)) (entry_of act p) p such h
       ];
@@ -236,21 +237,21 @@ keeps_says blocks = record {
 
 -- a block became a command, or no command comes any more
 abbrev Spoke : List ℕ → Play → Play → Type 0
-Spoke block p q = (commands q ≡ commands p ++ block ∷ []) ⊎ ((commands q ≡ commands p) × ((blocks : List (List ℕ)) → all_commanded q blocks ≡ q))
+Spoke block p q = (commands q ≡ commands p ++ block ∷ []) ⊎ ((commands q ≡ commands p) × ((blocks : List (List ℕ)) → after_commands q blocks ≡ q))
 
 -- a block became a command, or the play is over
 abbrev Gives : List ℕ → Play → Play → Type 0
 Gives block p q = (commands q ≡ commands p ++ block ∷ []) ⊎ ((commands q ≡ commands p) × (is_over q ≡ true))
 
 -- what follows adds no command, and leaves a play that is over as it is
-spoke_followed : (block : List ℕ) (p q : Play) → Gives block p q → Spoke block p (followed q)
+spoke_followed : (block : List ℕ) (p q : Play) → Gives block p q → Spoke block p (after_following q)
 spoke_followed block p q (inl said) = inl (kept_followed IsSilent (Says (commands p ++ block ∷ [])) (keeps_says (commands p ++ block ∷ [])) q said)
 spoke_followed block p q (inr (same, over)) =
-    let still = goes_followed.over q over in inr (ap commands still ∙ same, λ blocks. (goes_all_commanded blocks).over (followed q) (ap is_over still ∙ over))
+    let still = goes_followed.over q over in inr (ap commands still ∙ same, λ blocks. (goes_all_commanded blocks).over (after_following q) (ap is_over still ∙ over))
 
 -- a command that is refused is so since the journal is full
 gives_judged : (block : List ℕ) (p : Play) (full : Bool) →
-    Gives block p (judged (refused_where full (refusal.JournalFull (switch_of p).cost (switch_of p).config.settings.journal_limit) None) (entry_of (Command 1 block) p) p)
+    Gives block p (after_judging (refused_where full (refusal.JournalFull (switch_of p).cost (switch_of p).config.settings.journal_limit) None) (entry_of (Command 1 block) p) p)
 gives_judged block p true = inr (refl, refl)
 gives_judged block p false = inl (commands_more p.journal (entry_of (Command 1 block) p))
 
@@ -261,46 +262,47 @@ both_hold true false e = (refl, refl)
 both_hold false b e = absurd (cc)
 
 -- a connection that takes commands gives one, unless the play is over
-gives_entered : (block : List ℕ) (p : Play) → takes_commands p ≡ true → Gives block p (entered (Command 1 block) p)
+gives_entered : (block : List ℕ) (p : Play) → takes_commands p ≡ true → Gives block p (after_trying_act (Command 1 block) p)
 gives_entered block p takes = by (is_over p) refl
   where
-    by : (over : Bool) → is_over p ≡ over → Gives block p (cond over p (judged (refusal_of (switch_of p) (entry_of (Command 1 block) p)) (entry_of (Command 1 block) p) p))
+    by : (over : Bool) → is_over p ≡ over → Gives block p (cond over p (after_judging (refusal_of (switch_of p) (entry_of (Command 1 block) p)) (entry_of (Command 1 block) p) p))
     by true over = inr (refl, over)
     by false over =
         let parts = both_hold (reads_on p) (owes (switch_of p) 1) takes in
-        subst (λ (cause : Option Refusal). Gives block p (judged cause (entry_of (Command 1 block) p) p)) (sym (command_refused (switch_of p) p.clock 1 block parts.0 parts.1))
+        subst (λ (cause : Option Refusal). Gives block p (after_judging cause (entry_of (Command 1 block) p) p)) (sym (command_refused (switch_of p) p.clock 1 block parts.0 parts.1))
         (gives_judged block p (is_full (switch_of p)))
 
-spoke : (block : List ℕ) (p : Play) → Spoke block p (commanded p block)
+spoke : (block : List ℕ) (p : Play) → Spoke block p (after_command p block)
 spoke block p = by (takes_commands p) refl
   where
-    by : (takes : Bool) → takes_commands p ≡ takes → Spoke block p (cond takes (acted (Command 1 block) p) p)
-    by true takes = spoke_followed block p (entered (Command 1 block) p) (gives_entered block p takes)
-    by false takes = inr (refl, λ blocks. all_commanded-none p blocks takes)
+    by : (takes : Bool) → takes_commands p ≡ takes → Spoke block p (cond takes (after_act (Command 1 block) p) p)
+    by true takes = spoke_followed block p (after_trying_act (Command 1 block) p) (gives_entered block p takes)
+    by false takes = inr (refl, λ blocks. after_commands-none p blocks takes)
 
 -- so the commands are the first blocks
 abbrev AreFirst : Play → List (List ℕ) → Play → Type 0
 AreFirst p blocks q = (more : List (List ℕ)) × (commands p ++ blocks ≡ commands q ++ more)
 
-commands_by : (block : List ℕ) (blocks : List (List ℕ)) (p q : Play) → Spoke block p q → AreFirst q blocks (all_commanded q blocks) → AreFirst p (block ∷ blocks) (all_commanded q blocks)
+commands_by : (block : List ℕ) (blocks : List (List ℕ)) (p q : Play) → Spoke block p q → AreFirst q blocks (after_commands q blocks) → AreFirst p (block ∷ blocks) (after_commands q blocks)
 commands_by block blocks p q (inl said) rest =
     (rest.0, sym (append_assoc (commands p) (block ∷ []) blocks) ∙ ap (λ first. first ++ blocks) (sym said) ∙ rest.1)
 commands_by block blocks p q (inr (same, still)) rest = (block ∷ blocks, ap (λ first. first ++ block ∷ blocks) (sym same ∙ ap commands (sym (still blocks))))
 
-commands_all : (p : Play) (blocks : List (List ℕ)) → AreFirst p blocks (all_commanded p blocks)
+commands_all : (p : Play) (blocks : List (List ℕ)) → AreFirst p blocks (after_commands p blocks)
 commands_all p [] = ([], refl)
-commands_all p (block ∷ blocks) = commands_by block blocks p (commanded p block) (spoke block p) (commands_all (commanded p block) blocks)
+commands_all p (block ∷ blocks) =
+    commands_by block blocks p (after_command p block) (spoke block p) (commands_all (after_command p block) blocks)
 
-says_ended : (blocks : List (List ℕ)) (end : End) (p : Play) → Says blocks p → Says blocks (ended end p)
+says_ended : (blocks : List (List ℕ)) (end : End) (p : Play) → Says blocks p → Says blocks (with_end end p)
 says_ended blocks end p h = elim (is_over p) as (λ b. Says blocks (cond b p (record p { end = Some end }))) [ true ↦ h | false ↦ h ]
 
 pub commands_played : (config : Configuration) (input : List ℕ) (read_failed : Bool) → (more : List (List ℕ)) × (blocks_of input ≡ commands_of 1 (played config input read_failed).journal ++ more)
 unfolding played_as
 commands_played config input read_failed =
     let first = kept_opened IsSilent (Says []) (keeps_says []) refl config refl in
-    let all = commands_all (opened config) (blocks_of input) in
-    let last = conversed config input in
-    let same = says_ended (commands last) (end_behind (farewell last) (too_long (rest_of input)) read_failed) (closed last)
+    let all = commands_all (after_opening config) (blocks_of input) in
+    let last = after_conversing config input in
+    let same = says_ended (commands last) (end_behind (farewell last) (too_long (rest_of input)) read_failed) (after_closing last)
     (kept_closed IsSilent (Says (commands last)) (keeps_says (commands last)) refl refl last refl) in
     (all.0, ap (λ blocks. blocks ++ blocks_of input) (sym first) ∙ all.1 ∙ ap (λ blocks. blocks ++ all.0) (sym same))
 

@@ -13,15 +13,15 @@ use Rattle.fs_machine.specs.Questions.{owes}
 use Rattle.fs_machine.specs.Step.{refusal_of}
 use Rattle.fs_conn.specs.declared.end.End.{End}
 use Rattle.fs_conn.specs.declared.end.End.TheVariants.{Runaway}
-use Rattle.fs_conn.specs.Play.{Play, switch_of, is_over, ended, judged, tried, entered, repeated, worked_by, next_actor, worked_once, stopped_by, stopped, settled, waits, waited_until, waited_once, waited, all_taken, followed, acted, reads_on, takes_commands, commanded, all_commanded, input_ended, closed, all_taken_as, settled_as, waited_as}
-use Rattle.fs_conn.specs.Steps.{Begins, entry_of}
+use Rattle.fs_conn.specs.Play.{Play, switch_of, is_over, with_end, after_judging, after_trying, after_trying_act, repeated, after_due_work, next_actor, after_due_step, with_runaway_end_by, with_runaway_end, after_settling, waits, after_waiting_until, after_waiting_once, after_waiting, after_taking_all, after_following, after_act, reads_on, takes_commands, after_command, after_commands, after_input_end, after_closing, after_taking_all_as, after_settling_as, after_waiting_as}
+use Rattle.fs_conn.specs.Steps.{IsPlayFront, entry_of}
 
 -- ---- fronts
 
-pub begins_self : (p : Play) → Begins p p
+pub begins_self : (p : Play) → IsPlayFront p p
 begins_self p = record { config = refl; more = []; split = sym (append-nil p.journal) }
 
-pub begins_trans : (a b c : Play) → Begins a b → Begins b c → Begins a c
+pub begins_trans : (a b c : Play) → IsPlayFront a b → IsPlayFront b c → IsPlayFront a c
 begins_trans a b c first then = record {
   config = then.config ∙ first.config;
   more = first.more ++ then.more;
@@ -29,7 +29,7 @@ begins_trans a b c first then = record {
 }
 
 -- whatever the clock says
-begins_at : (p whole : Play) (moment : ℕ) → Begins (record p { clock = moment }) whole → Begins p whole
+begins_at : (p whole : Play) (moment : ℕ) → IsPlayFront (record p { clock = moment }) whole → IsPlayFront p whole
 begins_at p whole moment begins = record { config = begins.config; more = begins.more; split = begins.split }
 
 -- ---- steps
@@ -37,7 +37,7 @@ begins_at p whole moment begins = record { config = begins.config; more = begins
 -- a step leaves a play that is over as it is, and only adds entries
 pub record Goes (step : Play → Play) : Type 0 where
   pub over : (p : Play) → is_over p ≡ true → step p ≡ p
-  pub begins : (p : Play) → Begins p (step p)
+  pub begins : (p : Play) → IsPlayFront p (step p)
 
 pub goes_then : (f g : Play → Play) → Goes f → Goes g → Goes (λ p. g (f p))
 goes_then f g first then = record {
@@ -49,7 +49,7 @@ goes_then f g first then = record {
 goes_where : (test : Play → Bool) (f : Play → Play) → Goes f → Goes (λ p. cond (test p) (f p) p)
 goes_where test f goes = record {
   over = λ p over. elim (test p) as (λ b. cond b (f p) p ≡ p) [ true ↦ goes.over p over | false ↦ refl ];
-  begins = λ p. elim (test p) as (λ b. Begins p (cond b (f p) p)) [ true ↦ goes.begins p | false ↦ begins_self p ];
+  begins = λ p. elim (test p) as (λ b. IsPlayFront p (cond b (f p) p)) [ true ↦ goes.begins p | false ↦ begins_self p ];
 }
 
 pub goes_repeated : (n : ℕ) (f : Play → Play) → Goes f → Goes (repeated n f)
@@ -60,32 +60,32 @@ goes_repeated (suc n) f goes = record {
   begins = λ p. begins_trans p (f p) (repeated n f (f p)) (goes.begins p) ((goes_repeated n f goes).begins (f p));
 }
 
-begins_judged : (cause : Option Refusal) (entry : Entry) (p : Play) → Begins p (judged cause entry p)
+begins_judged : (cause : Option Refusal) (entry : Entry) (p : Play) → IsPlayFront p (after_judging cause entry p)
 begins_judged None entry p = record { config = refl; more = entry ∷ []; split = refl }
 begins_judged (Some (refusal.JournalFull cost limit)) entry p = record { config = refl; more = []; split = sym (append-nil p.journal) }
 begins_judged (Some _) entry p = begins_self p
 
-goes_tried : (entry : Entry) → Goes (tried entry)
+goes_tried : (entry : Entry) → Goes (after_trying entry)
 goes_tried entry = record {
-  over = λ p over. ap (λ b. cond b p (judged (refusal_of (switch_of p) entry) entry p)) over;
+  over = λ p over. ap (λ b. cond b p (after_judging (refusal_of (switch_of p) entry) entry p)) over;
   begins =
-      λ p. elim (is_over p) as (λ b. Begins p (cond b p (judged (refusal_of (switch_of p) entry) entry p))) [
+      λ p. elim (is_over p) as (λ b. IsPlayFront p (cond b p (after_judging (refusal_of (switch_of p) entry) entry p))) [
         | true ↦ begins_self p
         | false ↦ begins_judged (refusal_of (switch_of p) entry) entry p
       ];
 }
 
-pub goes_entered : (act : Act) → Goes (entered act)
+pub goes_entered : (act : Act) → Goes (after_trying_act act)
 goes_entered act = record {
   over = λ p over. (goes_tried (entry_of act p)).over p over;
   begins = λ p. (goes_tried (entry_of act p)).begins p;
 }
 
-pub goes_ended : (end : End) → Goes (ended end)
+pub goes_ended : (end : End) → Goes (with_end end)
 goes_ended end = record {
   over = λ p over. ap (λ b. cond b p (record p { end = Some end })) over;
   begins =
-      λ p. elim (is_over p) as (λ b. Begins p (cond b p (record p { end = Some end }))) [
+      λ p. elim (is_over p) as (λ b. IsPlayFront p (cond b p (record p { end = Some end }))) [
         | true ↦ begins_self p
         | false ↦ record { config = refl; more = []; split = sym (append-nil p.journal) }
       ];
@@ -93,90 +93,91 @@ goes_ended end = record {
 
 -- ---- what is due
 
-goes_worked_by : (actor : DueActor) → Goes (worked_by actor)
+goes_worked_by : (actor : DueActor) → Goes (after_due_work actor)
 goes_worked_by (due.Slot slot) = goes_entered (Work slot)
 goes_worked_by (due.Job job) = goes_entered (Job job)
 goes_worked_by (due.Later moment) = record { over = λ p over. refl; begins = begins_self }
 goes_worked_by due.Never = record { over = λ p over. refl; begins = begins_self }
 
-pub goes_worked_once : Goes worked_once
+pub goes_worked_once : Goes after_due_step
 goes_worked_once = record {
   over = λ p over. (goes_worked_by (next_actor p)).over p over;
   begins = λ p. (goes_worked_by (next_actor p)).begins p;
 }
 
-goes_stopped_by : (actor : DueActor) → Goes (stopped_by actor)
+goes_stopped_by : (actor : DueActor) → Goes (with_runaway_end_by actor)
 goes_stopped_by (due.Slot slot) = goes_ended (Runaway 100000)
 goes_stopped_by (due.Job job) = goes_ended (Runaway 100000)
 goes_stopped_by (due.Later moment) = record { over = λ p over. refl; begins = begins_self }
 goes_stopped_by due.Never = record { over = λ p over. refl; begins = begins_self }
 
-pub goes_stopped : Goes stopped
+pub goes_stopped : Goes with_runaway_end
 goes_stopped = record {
   over = λ p over. (goes_stopped_by (next_actor p)).over p over;
   begins = λ p. (goes_stopped_by (next_actor p)).begins p;
 }
 
-pub goes_all_worked : (n : ℕ) → Goes (repeated n worked_once)
-goes_all_worked n = goes_repeated n worked_once goes_worked_once
+pub goes_all_worked : (n : ℕ) → Goes (repeated n after_due_step)
+goes_all_worked n = goes_repeated n after_due_step goes_worked_once
 
-pub goes_settled : Goes settled
-unfolding settled_as
-goes_settled = goes_then (repeated 100000 worked_once) stopped (goes_all_worked 100000) goes_stopped
+pub goes_settled : Goes after_settling
+unfolding after_settling_as
+goes_settled = goes_then (repeated 100000 after_due_step) with_runaway_end (goes_all_worked 100000) goes_stopped
 
 -- ---- replies that are owed
 
-begins_waited : (actor : DueActor) (p : Play) → Begins p (waited_until actor p)
-begins_waited (due.Later moment) p = begins_at p (settled (record p { clock = moment })) moment (goes_settled.begins (record p { clock = moment }))
+begins_waited : (actor : DueActor) (p : Play) → IsPlayFront p (after_waiting_until actor p)
+begins_waited (due.Later moment) p = begins_at p (after_settling (record p { clock = moment })) moment (goes_settled.begins (record p { clock = moment }))
 begins_waited _ p = begins_self p
 
-pub goes_waited_once : Goes waited_once
+pub goes_waited_once : Goes after_waiting_once
 goes_waited_once = record {
-  over = λ p over. ap (λ b. cond (not b && owes (switch_of p) 1) (waited_until (next_actor p) p) p) over;
+  over = λ p over. ap (λ b. cond (not b && owes (switch_of p) 1) (after_waiting_until (next_actor p) p) p) over;
   begins =
-      λ p. elim (waits p) as (λ b. Begins p (cond b (waited_until (next_actor p) p) p)) [
+      λ p. elim (waits p) as (λ b. IsPlayFront p (cond b (after_waiting_until (next_actor p) p) p)) [
         | true ↦ begins_waited (next_actor p) p
         | false ↦ begins_self p
       ];
 }
 
-pub goes_all_waited : (n : ℕ) → Goes (repeated n waited_once)
-goes_all_waited n = goes_repeated n waited_once goes_waited_once
+pub goes_all_waited : (n : ℕ) → Goes (repeated n after_waiting_once)
+goes_all_waited n = goes_repeated n after_waiting_once goes_waited_once
 
-pub goes_waited : Goes waited
-unfolding waited_as
+pub goes_waited : Goes after_waiting
+unfolding after_waiting_as
 goes_waited = goes_all_waited (2 ^ 64)
 
 -- ---- frames, and all that comes of an act
 
-pub goes_taken : (n : ℕ) → Goes (repeated n (entered (Take 1)))
-goes_taken n = goes_repeated n (entered (Take 1)) (goes_entered (Take 1))
+pub goes_taken : (n : ℕ) → Goes (repeated n (after_trying_act (Take 1)))
+goes_taken n = goes_repeated n (after_trying_act (Take 1)) (goes_entered (Take 1))
 
-pub goes_all_taken : Goes all_taken
-unfolding all_taken_as
+pub goes_all_taken : Goes after_taking_all
+unfolding after_taking_all_as
 goes_all_taken = record {
   over = λ p over. (goes_taken (length (waiting_for (switch_of p) 1))).over p over;
   begins = λ p. (goes_taken (length (waiting_for (switch_of p) 1))).begins p;
 }
 
-pub goes_followed : Goes followed
-goes_followed = goes_then (λ p. waited (settled p)) all_taken (goes_then settled waited goes_settled goes_waited) goes_all_taken
+pub goes_followed : Goes after_following
+goes_followed = goes_then (λ p. after_waiting (after_settling p)) after_taking_all
+    (goes_then after_settling after_waiting goes_settled goes_waited) goes_all_taken
 
-pub goes_acted : (act : Act) → Goes (acted act)
-goes_acted act = goes_then (entered act) followed (goes_entered act) goes_followed
+pub goes_acted : (act : Act) → Goes (after_act act)
+goes_acted act = goes_then (after_trying_act act) after_following (goes_entered act) goes_followed
 
 -- ---- the conversation
 
-pub goes_commanded : (block : List ℕ) → Goes (λ p. commanded p block)
-goes_commanded block = goes_where takes_commands (acted (Command 1 block)) (goes_acted (Command 1 block))
+pub goes_commanded : (block : List ℕ) → Goes (λ p. after_command p block)
+goes_commanded block = goes_where takes_commands (after_act (Command 1 block)) (goes_acted (Command 1 block))
 
-pub goes_all_commanded : (blocks : List (List ℕ)) → Goes (λ p. all_commanded p blocks)
+pub goes_all_commanded : (blocks : List (List ℕ)) → Goes (λ p. after_commands p blocks)
 goes_all_commanded [] = record { over = λ p over. refl; begins = begins_self }
-goes_all_commanded (block ∷ blocks) = goes_then (λ p. commanded p block) (λ p. all_commanded p blocks) (goes_commanded block) (goes_all_commanded blocks)
+goes_all_commanded (block ∷ blocks) = goes_then (λ p. after_command p block) (λ p. after_commands p blocks) (goes_commanded block) (goes_all_commanded blocks)
 
-pub goes_input_ended : Goes input_ended
+pub goes_input_ended : Goes after_input_end
 goes_input_ended =
-    goes_where reads_on (λ p. all_taken (entered (Close 1 EndOfInput) p)) (goes_then (entered (Close 1 EndOfInput)) all_taken (goes_entered (Close 1 EndOfInput)) goes_all_taken)
+    goes_where reads_on (λ p. after_taking_all (after_trying_act (Close 1 EndOfInput) p)) (goes_then (after_trying_act (Close 1 EndOfInput)) after_taking_all (goes_entered (Close 1 EndOfInput)) goes_all_taken)
 
-pub goes_closed : Goes closed
-goes_closed = goes_then input_ended (entered (Close 1 Sent)) goes_input_ended (goes_entered (Close 1 Sent))
+pub goes_closed : Goes after_closing
+goes_closed = goes_then after_input_end (after_trying_act (Close 1 Sent)) goes_input_ended (goes_entered (Close 1 Sent))

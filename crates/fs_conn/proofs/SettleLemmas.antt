@@ -12,7 +12,7 @@ use Rattle.fs_machine.proofs.OwedLaws as owed_laws
 use Rattle.fs_conn.specs.declared.end.End.TheVariants.{Runaway}
 use Rattle.fs_conn.specs.declared.stop.Stop.{Stop}
 use Rattle.fs_conn.specs.declared.stop.Stop.TheVariants.{Over}
-use Rattle.fs_conn.specs.Play.{Play, switch_of, is_over, ended, entered, repeated, worked_by, next_actor, worked_once, stopped_by, stopped, settled, waited_until, waited_once, waited, settled_as, waited_as}
+use Rattle.fs_conn.specs.Play.{Play, switch_of, is_over, with_end, after_trying_act, repeated, after_due_work, next_actor, after_due_step, with_runaway_end_by, with_runaway_end, after_settling, after_waiting_until, after_waiting_once, after_waiting, after_settling_as, after_waiting_as}
 use Rattle.fs_conn.specs.Steps.{Halts, Enters, Works, act_of}
 use Rattle.fs_conn.proofs.PlayLemmas.{goes_stopped, goes_worked_once, goes_all_waited}
 use Rattle.fs_conn.proofs.StepLemmas.{halts_on, does_enters, works_enters}
@@ -20,25 +20,25 @@ use Rattle.fs_conn.proofs.RoundLemmas.{repeated_none, repeated_more, round_stops
 
 -- ---- what is due
 
-worked_act : (actor : DueActor) (act : Act) (p : Play) → act_of actor ≡ Some act → worked_by actor p ≡ entered act p
-worked_act (due.Slot slot) act p is = let same : Work slot ≡ act = cc in ap (λ a. entered a p) same
-worked_act (due.Job job) act p is = let same : Job job ≡ act = cc in ap (λ a. entered a p) same
+worked_act : (actor : DueActor) (act : Act) (p : Play) → act_of actor ≡ Some act → after_due_work actor p ≡ after_trying_act act p
+worked_act (due.Slot slot) act p is = let same : Work slot ≡ act = cc in ap (λ a. after_trying_act a p) same
+worked_act (due.Job job) act p is = let same : Job job ≡ act = cc in ap (λ a. after_trying_act a p) same
 worked_act (due.Later moment) act p is = absurd (cc)
 worked_act due.Never act p is = absurd (cc)
 
-worked_none : (actor : DueActor) (p : Play) → act_of actor ≡ None → worked_by actor p ≡ p
+worked_none : (actor : DueActor) (p : Play) → act_of actor ≡ None → after_due_work actor p ≡ p
 worked_none (due.Slot slot) p is = absurd (cc)
 worked_none (due.Job job) p is = absurd (cc)
 worked_none (due.Later moment) p is = refl
 worked_none due.Never p is = refl
 
-stopped_none : (actor : DueActor) (p : Play) → act_of actor ≡ None → stopped_by actor p ≡ p
+stopped_none : (actor : DueActor) (p : Play) → act_of actor ≡ None → with_runaway_end_by actor p ≡ p
 stopped_none (due.Slot slot) p is = absurd (cc)
 stopped_none (due.Job job) p is = absurd (cc)
 stopped_none (due.Later moment) p is = refl
 stopped_none due.Never p is = refl
 
-stopped_act : (actor : DueActor) (p : Play) → is_some (act_of actor) ≡ true → stopped_by actor p ≡ ended (Runaway 100000) p
+stopped_act : (actor : DueActor) (p : Play) → is_some (act_of actor) ≡ true → with_runaway_end_by actor p ≡ with_end (Runaway 100000) p
 stopped_act (due.Slot slot) p is = refl
 stopped_act (due.Job job) p is = refl
 stopped_act (due.Later moment) p is = absurd (cc)
@@ -54,7 +54,7 @@ hands_none due.Never act p is = absurd (cc)
 pub works_round : (act : Act) (now next : Play) (result : Result (Option Reply) Stop) → act_of (next_actor now) ≡ Some act → Enters act now next result → Works now next
 works_round act now next result is enters = works_enters act now next result (hands_none (next_actor now) act now is) enters
 
-pub round_worked : (act : Act) (now next : Play) (reply : Option Reply) → is_over now ≡ false → act_of (next_actor now) ≡ Some act → Enters act now next (Ok reply) → next ≡ worked_once now
+pub round_worked : (act : Act) (now next : Play) (reply : Option Reply) → is_over now ≡ false → act_of (next_actor now) ≡ Some act → Enters act now next (Ok reply) → next ≡ after_due_step now
 round_worked act now next reply goes_on is enters = does_enters act now next (Ok reply) goes_on enters ∙ sym (worked_act (next_actor now) act now is)
 
 -- an option that is nothing else
@@ -67,25 +67,25 @@ is_not_some None is = refl
 is_not_some (Some act) is = absurd (cc)
 
 -- nothing is due any more
-pub settled_rest : (left : ℕ) (start now : Play) → act_of (next_actor now) ≡ None → repeated left worked_once now ≡ repeated 100000 worked_once start → now ≡ settled start
-unfolding settled_as
+pub settled_rest : (left : ℕ) (start now : Play) → act_of (next_actor now) ≡ None → repeated left after_due_step now ≡ repeated 100000 after_due_step start → now ≡ after_settling start
+unfolding after_settling_as
 settled_rest left start now none reaches =
-    sym (ap stopped (sym reaches) ∙ ap stopped (repeated_none left worked_once now (worked_none (next_actor now) now none)) ∙ stopped_none (next_actor now) now none)
+    sym (ap with_runaway_end (sym reaches) ∙ ap with_runaway_end (repeated_none left after_due_step now (worked_none (next_actor now) now none)) ∙ stopped_none (next_actor now) now none)
 
 -- something is due still
-pub settled_runs : (start now : Play) → is_over now ≡ false → is_some (act_of (next_actor now)) ≡ true → now ≡ repeated 100000 worked_once start → Halts (Over (Runaway 100000)) now (settled start)
-unfolding settled_as
+pub settled_runs : (start now : Play) → is_over now ≡ false → is_some (act_of (next_actor now)) ≡ true → now ≡ repeated 100000 after_due_step start → Halts (Over (Runaway 100000)) now (after_settling start)
+unfolding after_settling_as
 settled_runs start now goes_on is reaches =
-    (refl, ap stopped (sym reaches) ∙ stopped_act (next_actor now) now is ∙ ap (λ b. cond b now (record now { end = Some (Runaway 100000) })) goes_on)
+    (refl, ap with_runaway_end (sym reaches) ∙ stopped_act (next_actor now) now is ∙ ap (λ b. cond b now (record now { end = Some (Runaway 100000) })) goes_on)
 
 -- an entry was not made
 pub settled_stops : (done : ℕ) (act : Act) (start now next : Play) (stop : Stop) → is_over now ≡ false → act_of (next_actor now) ≡ Some act → done < 100000 →
-    repeated (100000 - done) worked_once now ≡ repeated 100000 worked_once start → Enters act now next (Err stop) → Halts stop next (settled start)
-unfolding settled_as
+    repeated (100000 - done) after_due_step now ≡ repeated 100000 after_due_step start → Enters act now next (Err stop) → Halts stop next (after_settling start)
+unfolding after_settling_as
 settled_stops done act start now next stop goes_on is some reaches enters =
     let halts = subst (λ (p : Play). Halts stop next p) (sym (worked_act (next_actor now) act now is)) (does_enters act now next (Err stop) goes_on enters) in
-    halts_on stopped goes_stopped stop next (repeated 100000 worked_once start)
-    (round_stops_at 100000 done worked_once goes_worked_once now next (repeated 100000 worked_once start) stop some reaches halts)
+    halts_on with_runaway_end goes_stopped stop next (repeated 100000 after_due_step start)
+    (round_stops_at 100000 done after_due_step goes_worked_once now next (repeated 100000 after_due_step start) stop some reaches halts)
 
 -- ---- replies that are owed
 
@@ -93,21 +93,21 @@ settled_stops done act start now next stop goes_on is some reaches enters =
 pub record Awaits (start now : Play) : Type 0 where
   pub rounds : ℕ
   pub enough : 2 ^ 64 ≤ now.clock + rounds
-  pub reaches : repeated rounds waited_once now ≡ waited start
+  pub reaches : repeated rounds after_waiting_once now ≡ after_waiting start
 
 pub awaits_first : (start : Play) → Awaits start start
-unfolding waited_as
+unfolding after_waiting_as
 awaits_first start = record { rounds = 2 ^ 64; enough = omega arith; reaches = refl }
 
-waited_by : (p : Play) → is_over p ≡ false → owes (switch_of p) 1 ≡ true → waited_once p ≡ waited_until (next_actor p) p
+waited_by : (p : Play) → is_over p ≡ false → owes (switch_of p) 1 ≡ true → after_waiting_once p ≡ after_waiting_until (next_actor p) p
 waited_by p goes_on owed =
-    ap (λ b. cond (not b && owes (switch_of p) 1) (waited_until (next_actor p) p) p) goes_on ∙ ap (λ b. cond b (waited_until (next_actor p) p) p) owed
+    ap (λ b. cond (not b && owes (switch_of p) 1) (after_waiting_until (next_actor p) p) p) goes_on ∙ ap (λ b. cond b (after_waiting_until (next_actor p) p) p) owed
 
 -- nothing is owed
-pub waited_rest : (start now : Play) → Awaits start now → is_over now ≡ false → owes (switch_of now) 1 ≡ false → now ≡ waited start
+pub waited_rest : (start now : Play) → Awaits start now → is_over now ≡ false → owes (switch_of now) 1 ≡ false → now ≡ after_waiting start
 waited_rest start now awaits goes_on owed =
-    let same = ap (λ b. cond (not b && owes (switch_of now) 1) (waited_until (next_actor now) now) now) goes_on ∙ ap (λ b. cond b (waited_until (next_actor now) now) now) owed in
-    sym (repeated_none awaits.rounds waited_once now same) ∙ awaits.reaches
+    let same = ap (λ b. cond (not b && owes (switch_of now) 1) (after_waiting_until (next_actor now) now) now) goes_on ∙ ap (λ b. cond b (after_waiting_until (next_actor now) now) now) owed in
+    sym (repeated_none awaits.rounds after_waiting_once now same) ∙ awaits.reaches
 
 -- somebody has something to do while a reply is owed, and where nobody has it now it is later
 pub never_stuck : (now : Play) → AreOwed (switch_of now) → owes (switch_of now) 1 ≡ true → act_of (next_actor now) ≡ None → ((moment : ℕ) → next_actor now ≡ due.Later moment → ⊥) → ⊥
@@ -120,28 +120,30 @@ never_stuck now sound owed idle never = by (next_actor now) refl
     by due.Never is = owed_laws.goes_on (switch_of now) 1 now.clock sound owed is
 
 -- the clock went on
-waited_later : (now : Play) (moment : ℕ) → is_over now ≡ false → owes (switch_of now) 1 ≡ true → next_actor now ≡ due.Later moment → waited_once now ≡ settled (record now { clock = moment })
-waited_later now moment goes_on owed later = waited_by now goes_on owed ∙ ap (λ actor. waited_until actor now) later
+waited_later : (now : Play) (moment : ℕ) → is_over now ≡ false → owes (switch_of now) 1 ≡ true → next_actor now ≡ due.Later moment → after_waiting_once now ≡ after_settling (record now { clock = moment })
+waited_later now moment goes_on owed later = waited_by now goes_on owed ∙ ap (λ actor. after_waiting_until actor now) later
 
 one_less : (rounds : ℕ) → 0 < rounds → rounds ≡ suc (rounds - 1)
 one_less rounds some = omega (arith, some)
 
 pub awaits_on : (start now next : Play) (moment : ℕ) → Awaits start now → is_over now ≡ false → owes (switch_of now) 1 ≡ true → next_actor now ≡ due.Later moment →
-    now.clock < moment → now.clock < 2 ^ 64 → next.clock ≡ moment → next ≡ settled (record now { clock = moment }) → Awaits start next
+    now.clock < moment → now.clock < 2 ^ 64 → next.clock ≡ moment → next ≡ after_settling (record now { clock = moment }) → Awaits start
+    next
 awaits_on start now next moment awaits goes_on owed later comes within clock next_is =
     let some : 0 < awaits.rounds = omega (arith, awaits.enough, comes, within) in record {
       rounds = awaits.rounds - 1;
       enough = omega (arith, awaits.enough, comes, clock, some);
       reaches =
-          ap (repeated (awaits.rounds - 1) waited_once) (next_is ∙ sym (waited_later now moment goes_on owed later)) ∙ sym (repeated_more (awaits.rounds - 1) waited_once now)
-          ∙ sym (ap (λ n. repeated n waited_once now) (one_less awaits.rounds some)) ∙ awaits.reaches;
+          ap (repeated (awaits.rounds - 1) after_waiting_once) (next_is ∙ sym (waited_later now moment goes_on owed later)) ∙ sym (repeated_more (awaits.rounds - 1) after_waiting_once now)
+          ∙ sym (ap (λ n. repeated n after_waiting_once now) (one_less awaits.rounds some)) ∙ awaits.reaches;
     }
 
 -- what came to be due then was not all worked
 pub waited_stops : (start now next : Play) (moment : ℕ) (stop : Stop) → Awaits start now → is_over now ≡ false → owes (switch_of now) 1 ≡ true → next_actor now ≡ due.Later moment →
-    now.clock < moment → now.clock < 2 ^ 64 → Halts stop next (settled (record now { clock = moment })) → Halts stop next (waited start)
+    now.clock < moment → now.clock < 2 ^ 64 → Halts stop next (after_settling (record now { clock = moment })) → Halts stop next
+    (after_waiting start)
 waited_stops start now next moment stop awaits goes_on owed later comes within halts =
     let some : 0 < awaits.rounds = omega (arith, awaits.enough, comes, within) in
     let once = subst (λ (p : Play). Halts stop next p) (sym (waited_later now moment goes_on owed later)) halts in
-    round_stops (awaits.rounds - 1) waited_once (goes_all_waited (awaits.rounds - 1)) now next (waited start) stop
-    (sym (ap (λ n. repeated n waited_once now) (one_less awaits.rounds some)) ∙ awaits.reaches) once
+    round_stops (awaits.rounds - 1) after_waiting_once (goes_all_waited (awaits.rounds - 1)) now next (after_waiting start) stop
+    (sym (ap (λ n. repeated n after_waiting_once now) (one_less awaits.rounds some)) ∙ awaits.reaches) once

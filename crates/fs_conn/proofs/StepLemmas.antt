@@ -17,8 +17,8 @@ use Rattle.fs_machine.proofs.FrameLemmas.{some_cost, handed_more, command_refuse
 use Rattle.fs_conn.specs.declared.end.End.{End}
 use Rattle.fs_conn.specs.declared.stop.Stop.{Stop}
 use Rattle.fs_conn.specs.declared.stop.Stop.TheVariants.{Over, OutOfMemory, WriteFault}
-use Rattle.fs_conn.specs.Play.{Play, switch_of, output_of, is_over, judged, entered, reads_on}
-use Rattle.fs_conn.specs.Steps.{play_of, spent, Begins, Halts, Does, entry_of, Accepts, Rejects, Enters, Works}
+use Rattle.fs_conn.specs.Play.{Play, switch_of, output_of, is_over, after_judging, after_trying_act, reads_on}
+use Rattle.fs_conn.specs.Steps.{play_of, spent, IsPlayFront, Halts, Does, entry_of, Accepts, Rejects, Enters, Works}
 use Rattle.fs_conn.proofs.PlayLemmas.{begins_trans, Goes, goes_entered}
 
 -- ---- one step after another
@@ -53,15 +53,16 @@ pub rejects : (old new : View) (clock : ℕ) → IsSame old new → play_of new 
 rejects old new clock same = rw (same.config, same.journal) refl
 
 -- whatever entering did, the step of the definition was done or halted
-does_accepts : (act : Act) (old new : Play) (reply : Reply) → Accepts act old new reply → is_over old ≡ false → new ≡ entered act old
+does_accepts : (act : Act) (old new : Play) (reply : Reply) → Accepts act old new reply → is_over old ≡ false →
+    new ≡ after_trying_act act old
 does_accepts act old new reply accepts goes_on =
-    accepts.does ∙ sym (ap (λ over. cond over old (judged (refusal_of (switch_of old) (entry_of act old)) (entry_of act old) old)) goes_on ∙ ap (λ cause. judged cause (entry_of act old) old) accepts.defined)
+    accepts.does ∙ sym (ap (λ over. cond over old (after_judging (refusal_of (switch_of old) (entry_of act old)) (entry_of act old) old)) goes_on ∙ ap (λ cause. after_judging cause (entry_of act old) old) accepts.defined)
 
-pub does_enters : (act : Act) (old new : Play) (result : Result (Option Reply) Stop) → is_over old ≡ false → Enters act old new result → Does (entered act) old new result
+pub does_enters : (act : Act) (old new : Play) (result : Result (Option Reply) Stop) → is_over old ≡ false → Enters act old new result → Does (after_trying_act act) old new result
 does_enters act old new (Ok None) goes_on enters = enters.does
 does_enters act old new (Ok (Some reply)) goes_on enters = does_accepts act old new reply enters goes_on
 does_enters act old new (Err (Over end)) goes_on enters = enters.1
-does_enters act old new (Err OutOfMemory) goes_on enters = subst (λ (p : Play). Begins p (entered act old)) (sym enters) ((goes_entered act).begins old)
+does_enters act old new (Err OutOfMemory) goes_on enters = subst (λ (p : Play). IsPlayFront p (after_trying_act act old)) (sym enters) ((goes_entered act).begins old)
 does_enters act old new (Err WriteFault) goes_on enters = absurd enters
 
 pub works_same : (old new : Play) → new ≡ old → Works old new
@@ -100,8 +101,8 @@ pub never_rejects : (machine : View) (clock : ℕ) (new : Play) (block : List �
 never_rejects machine clock new block is_reading owes_none refused =
     by (is_full (state_of machine))
     (sym refused.same ∙ refused.does
-    ∙ ap (λ cause. judged cause (entry_of (Command 1 block) (play_of machine clock)) (play_of machine clock)) (command_refused (state_of machine) clock 1 block is_reading owes_none))
+    ∙ ap (λ cause. after_judging cause (entry_of (Command 1 block) (play_of machine clock)) (play_of machine clock)) (command_refused (state_of machine) clock 1 block is_reading owes_none))
   where
-    by : (full : Bool) → play_of machine clock ≡ judged (refused_where full (refusal.JournalFull (state_of machine).cost (state_of machine).config.settings.journal_limit) None) (entry_of (Command 1 block) (play_of machine clock)) (play_of machine clock) → ⊥
+    by : (full : Bool) → play_of machine clock ≡ after_judging (refused_where full (refusal.JournalFull (state_of machine).cost (state_of machine).config.settings.journal_limit) None) (entry_of (Command 1 block) (play_of machine clock)) (play_of machine clock) → ⊥
     by true same = absurd (never_over _ (ap (λ (q : Play). q.end) same))
     by false same = longer (play_of machine clock) (entry_of (Command 1 block) (play_of machine clock)) same

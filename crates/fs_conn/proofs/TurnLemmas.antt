@@ -11,7 +11,7 @@ use Rattle.fs_ports.specs.Ports.{Input, Output, Reads}
 use Rattle.fs_ports.proofs.Sides.{reads_both, reads_nothing, writes_nothing}
 use Rattle.fs_frame.specs.Block.{IsBlock, too_long}
 use Rattle.fs_frame.specs.Blocks.{HasNoBlock, blocks_of, rest_of}
-use Rattle.fs_frame.specs.Stream.{Stream, fresh, fed_with}
+use Rattle.fs_frame.specs.Stream.{Stream, new_stream, fed_with}
 use Rattle.fs_frame.specs.Next.{HandsOut}
 use Rattle.fs_frame.proofs.BlockLaws.{AllByRecursion-append, blocks_of-append, rest_of-append, blocks_of-no_block, rest_of-no_block, front_of-no_block}
 use Rattle.fs_state.specs.declared.conn.Conn.{Conn}
@@ -31,8 +31,8 @@ use Rattle.fs_conn.specs.declared.end.End.{End}
 use Rattle.fs_conn.specs.declared.end.End.TheVariants.{Exit, AuthRefused, Eof}
 use Rattle.fs_conn.specs.declared.stop.Stop.{Stop}
 use Rattle.fs_conn.specs.declared.stop.Stop.TheVariants.{OutOfMemory, WriteFault}
-use Rattle.fs_conn.specs.Play.{Play, switch_of, output_of, begun, is_over, ended, entered, all_taken, followed, acted, reads_on, takes_commands, commanded, all_commanded, opened, input_ended, conversed, closed, end_by, farewell, end_behind, played, played_as}
-use Rattle.fs_conn.specs.Steps.{spent, Begins, Halts, Costs, Enters, Written, StoppedBy}
+use Rattle.fs_conn.specs.Play.{Play, switch_of, output_of, new_play, is_over, with_end, after_trying_act, after_taking_all, after_following, after_act, reads_on, takes_commands, after_command, after_commands, after_opening, after_input_end, after_conversing, after_closing, end_by, farewell, end_behind, played, played_as}
+use Rattle.fs_conn.specs.Steps.{spent, IsPlayFront, Halts, Costs, Enters, WritesFrames, StoppedBy}
 use Rattle.fs_conn.specs.Turns.{HasRead, Stands, is_told, Ends, Concludes, Stops, work_left}
 use Rattle.fs_conn.proofs.PlayLemmas.{begins_self, begins_trans, Goes, goes_entered, goes_ended, goes_all_taken, goes_followed, goes_all_commanded, goes_closed}
 use Rattle.fs_conn.proofs.StepLemmas.{halts_on, does_enters}
@@ -42,9 +42,9 @@ use Rattle.fs_conn.proofs.SendLemmas.{written_same, stopped_same}
 -- ---- what follows the last command
 
 abbrev pub concluded : List ℕ → Bool → Play → Play
-concluded input read_failed p = ended (end_behind (farewell p) (too_long (rest_of input)) read_failed) (closed p)
+concluded input read_failed p = with_end (end_behind (farewell p) (too_long (rest_of input)) read_failed) (after_closing p)
 
-pub played_is : (config : Configuration) (input : List ℕ) (read_failed : Bool) → concluded input read_failed (conversed config input) ≡ played config input read_failed
+pub played_is : (config : Configuration) (input : List ℕ) (read_failed : Bool) → concluded input read_failed (after_conversing config input) ≡ played config input read_failed
 unfolding played_as
 played_is config input read_failed = refl
 
@@ -52,10 +52,10 @@ pub goes_concluded : (input : List ℕ) (read_failed : Bool) → Goes (concluded
 goes_concluded input read_failed = record {
   over =
       λ p over. let end = end_behind (farewell p) (too_long (rest_of input)) read_failed in
-      ap (ended end) (goes_closed.over p over) ∙ (goes_ended end).over p over;
+      ap (with_end end) (goes_closed.over p over) ∙ (goes_ended end).over p over;
   begins =
       λ p. let end = end_behind (farewell p) (too_long (rest_of input)) read_failed in
-      begins_trans p (closed p) (ended end (closed p)) (goes_closed.begins p) ((goes_ended end).begins (closed p));
+      begins_trans p (after_closing p) (with_end end (after_closing p)) (goes_closed.begins p) ((goes_ended end).begins (after_closing p));
 }
 
 -- ---- where a connection stands
@@ -116,24 +116,24 @@ reads_no_more s end sound last = by (conn_of s 1) refl
 
 -- ---- commands
 
-all_commanded-append : (p : Play) (xs ys : List (List ℕ)) → all_commanded p (xs ++ ys) ≡ all_commanded (all_commanded p xs) ys
-all_commanded-append p [] ys = refl
-all_commanded-append p (x ∷ xs) ys = all_commanded-append (commanded p x) xs ys
+after_commands-append : (p : Play) (xs ys : List (List ℕ)) → after_commands p (xs ++ ys) ≡ after_commands (after_commands p xs) ys
+after_commands-append p [] ys = refl
+after_commands-append p (x ∷ xs) ys = after_commands-append (after_command p x) xs ys
 
 -- a connection that takes no further command gives none
-pub all_commanded-none : (p : Play) (blocks : List (List ℕ)) → takes_commands p ≡ false → all_commanded p blocks ≡ p
-all_commanded-none p [] none = refl
-all_commanded-none p (block ∷ blocks) none =
-    ap (λ q. all_commanded q blocks) (ap (λ b. cond b (acted (Command 1 block) p) p) none) ∙ all_commanded-none p blocks none
+pub after_commands-none : (p : Play) (blocks : List (List ℕ)) → takes_commands p ≡ false → after_commands p blocks ≡ p
+after_commands-none p [] none = refl
+after_commands-none p (block ∷ blocks) none =
+    ap (λ q. after_commands q blocks) (ap (λ b. cond b (after_act (Command 1 block) p) p) none) ∙ after_commands-none p blocks none
 
-pub commanded_takes : (p : Play) (block : List ℕ) → takes_commands p ≡ true → commanded p block ≡ acted (Command 1 block) p
-commanded_takes p block is = ap (λ b. cond b (acted (Command 1 block) p) p) is
+pub commanded_takes : (p : Play) (block : List ℕ) → takes_commands p ≡ true → after_command p block ≡ after_act (Command 1 block) p
+commanded_takes p block is = ap (λ b. cond b (after_act (Command 1 block) p) p) is
 
 -- what these blocks and what is behind them come to
-conversed-append : (config : Configuration) (blocks : List (List ℕ)) (rest : List ℕ) → AllByRecursion IsBlock blocks →
-    all_commanded (all_commanded (opened config) blocks) (blocks_of rest) ≡ conversed config (concat blocks ++ rest)
-conversed-append config blocks rest are_blocks =
-    sym (ap (all_commanded (opened config)) (blocks_of-append blocks rest are_blocks) ∙ all_commanded-append (opened config) blocks (blocks_of rest))
+after_conversing-append : (config : Configuration) (blocks : List (List ℕ)) (rest : List ℕ) → AllByRecursion IsBlock blocks →
+    after_commands (after_commands (after_opening config) blocks) (blocks_of rest) ≡ after_conversing config (concat blocks ++ rest)
+after_conversing-append config blocks rest are_blocks =
+    sym (ap (after_commands (after_opening config)) (blocks_of-append blocks rest are_blocks) ∙ after_commands-append (after_opening config) blocks (blocks_of rest))
 
 -- the blocks so far, with the one that was handed out
 snoc_whole : (blocks : List (List ℕ)) (block rest old : List ℕ) → old ≡ block ++ rest → concat blocks ++ old ≡ concat (blocks ++ block ∷ []) ++ rest
@@ -142,22 +142,23 @@ snoc_whole blocks block rest old e =
     ∙ ap (λ xs. (concat blocks ++ xs) ++ rest) (sym (append-nil block)) ∙ ap (λ xs. xs ++ rest) (sym (concat-append blocks (block ∷ [])))
 
 -- the play of the blocks so far, with the one that was handed out
-snoc_play : (config : Configuration) (p : Play) (blocks : List (List ℕ)) (block : List ℕ) → p ≡ all_commanded (opened config) blocks → takes_commands p ≡ true →
-    acted (Command 1 block) p ≡ all_commanded (opened config) (blocks ++ block ∷ [])
+snoc_play : (config : Configuration) (p : Play) (blocks : List (List ℕ)) (block : List ℕ) → p ≡ after_commands (after_opening config) blocks → takes_commands p ≡ true →
+    after_act (Command 1 block) p ≡ after_commands (after_opening config) (blocks ++ block ∷ [])
 snoc_play config p blocks block is reading =
-    sym (commanded_takes p block reading) ∙ ap (λ q. commanded q block) is ∙ sym (all_commanded-append (opened config) blocks (block ∷ []))
+    sym (commanded_takes p block reading) ∙ ap (λ q. after_command q block) is ∙ sym
+    (after_commands-append (after_opening config) blocks (block ∷ []))
 
 -- ---- how a conversation stops
 
 -- a play that is a front of what these blocks give stopped, whatever follows in its input
 pub stops_short : (config : Configuration) (in0 in1 : Input) (out0 out1 : Output) (stop : Stop) (p : Play) (blocks : List (List ℕ)) (rest : List ℕ) →
-    AllByRecursion IsBlock blocks → HasRead in0 in1 (concat blocks ++ rest) false → Halts stop p (all_commanded (opened config) blocks) → StoppedBy stop out0 out1 p →
+    AllByRecursion IsBlock blocks → HasRead in0 in1 (concat blocks ++ rest) false → Halts stop p (after_commands (after_opening config) blocks) → StoppedBy stop out0 out1 p →
     Stops config in0 out0 in1 out1 stop p
 stops_short config in0 in1 out0 out1 stop p blocks rest are_blocks has_read halts stopped =
     let input = concat blocks ++ rest in
-    let further = halts_on (λ q. all_commanded q (blocks_of rest)) (goes_all_commanded (blocks_of rest)) stop p (all_commanded (opened config) blocks) halts in
-    let all = subst (λ (q : Play). Halts stop p q) (conversed-append config blocks rest are_blocks) further in
-    let whole = halts_on (concluded input false) (goes_concluded input false) stop p (conversed config input) all in record {
+    let further = halts_on (λ q. after_commands q (blocks_of rest)) (goes_all_commanded (blocks_of rest)) stop p (after_commands (after_opening config) blocks) halts in
+    let all = subst (λ (q : Play). Halts stop p q) (after_conversing-append config blocks rest are_blocks) further in
+    let whole = halts_on (concluded input false) (goes_concluded input false) stop p (after_conversing config input) all in record {
       input = input;
       read_failed = false;
       has_read = has_read;
@@ -165,8 +166,8 @@ stops_short config in0 in1 out0 out1 stop p blocks rest are_blocks has_read halt
       stopped = stopped;
     }
 
-begins_is : (p whole : Play) → p ≡ whole → Begins p whole
-begins_is p whole is = subst (λ (q : Play). Begins p q) is (begins_self p)
+begins_is : (p whole : Play) → p ≡ whole → IsPlayFront p whole
+begins_is p whole is = subst (λ (q : Play). IsPlayFront p q) is (begins_self p)
 
 -- memory was wanting for what was read
 pub stops_reading : (config : Configuration) (in0 in1 in2 : Input) (out0 out1 : Output) (stream : Stream) (p : Play) (piece : List ℕ) →
@@ -177,11 +178,11 @@ stops_reading config in0 in1 in2 out0 out1 stream p piece stands reads faults =
       reads = subst (λ (xs : List ℕ). Reads in0 in2 xs) (append_assoc (concat stands.blocks) stream.rest piece) (reads_both in0 in1 in2 _ piece stands.reads reads);
       faults = faults ∙ stands.read_faults;
     })
-    (begins_is p (all_commanded (opened config) stands.blocks) stands.play_is) stands.written
+    (begins_is p (after_commands (after_opening config) stands.blocks) stands.play_is) stands.written
 
 -- what a block gives stopped
 pub stops_behind : (config : Configuration) (in0 in1 : Input) (out0 out1 out2 : Output) (stop : Stop) (old new : Stream) (p later : Play) (block : List ℕ) →
-    Stands config in0 out0 in1 out1 old p → HandsOut old new block → takes_commands p ≡ true → Halts stop later (acted (Command 1 block) p) → StoppedBy stop out0 out2 later →
+    Stands config in0 out0 in1 out1 old p → HandsOut old new block → takes_commands p ≡ true → Halts stop later (after_act (Command 1 block) p) → StoppedBy stop out0 out2 later →
     Stops config in0 out0 in1 out2 stop later
 stops_behind config in0 in1 out0 out1 out2 stop old new p later block stands hands_out reading halts stopped =
     stops_short config in0 in1 out0 out2 stop later (stands.blocks ++ block ∷ []) new.rest
@@ -194,43 +195,43 @@ stops_behind config in0 in1 out0 out1 out2 stop old new p later block stands han
 
 -- the command of a block was not entered
 pub stops_command : (config : Configuration) (in0 in1 : Input) (out0 out1 : Output) (stop : Stop) (old new : Stream) (p later : Play) (block : List ℕ) →
-    Stands config in0 out0 in1 out1 old p → HandsOut old new block → takes_commands p ≡ true → Halts stop later (entered (Command 1 block) p) → output_of later ≡ output_of p → stop ≢ WriteFault →
+    Stands config in0 out0 in1 out1 old p → HandsOut old new block → takes_commands p ≡ true → Halts stop later (after_trying_act (Command 1 block) p) → output_of later ≡ output_of p → stop ≢ WriteFault →
     Stops config in0 out0 in1 out1 stop later
 stops_command config in0 in1 out0 out1 stop old new p later block stands hands_out reading halts output unwritten =
-    stops_behind config in0 in1 out0 out1 out1 stop old new p later block stands hands_out reading (halts_on followed goes_followed stop later (entered (Command 1 block) p) halts)
+    stops_behind config in0 in1 out0 out1 out1 stop old new p later block stands hands_out reading (halts_on after_following goes_followed stop later (after_trying_act (Command 1 block) p) halts)
     (stopped_same out0 out1 p later stop output unwritten stands.written)
 
 -- or not all that comes of it
 pub stops_following : (config : Configuration) (in0 in1 : Input) (out0 out1 out2 : Output) (stop : Stop) (old new : Stream) (p mid later : Play) (block : List ℕ) →
-    Stands config in0 out0 in1 out1 old p → HandsOut old new block → takes_commands p ≡ true → mid ≡ entered (Command 1 block) p → Halts stop later (followed mid) → StoppedBy stop out0 out2 later →
+    Stands config in0 out0 in1 out1 old p → HandsOut old new block → takes_commands p ≡ true → mid ≡ after_trying_act (Command 1 block) p → Halts stop later (after_following mid) → StoppedBy stop out0 out2 later →
     Stops config in0 out0 in1 out2 stop later
 stops_following config in0 in1 out0 out1 out2 stop old new p mid later block stands hands_out reading mid_is halts stopped =
-    stops_behind config in0 in1 out0 out1 out2 stop old new p later block stands hands_out reading (subst (λ (q : Play). Halts stop later (followed q)) mid_is halts) stopped
+    stops_behind config in0 in1 out0 out1 out2 stop old new p later block stands hands_out reading (subst (λ (q : Play). Halts stop later (after_following q)) mid_is halts) stopped
 
 -- ---- how it goes on
 
 -- the connection came, and nothing was read yet
 pub stands_first : (config : Configuration) (in0 in1 : Input) (out0 out1 : Output) (stream : Stream) (mid p : Play) →
-    in1 ≡ in0 → stream ≡ fresh → mid ≡ entered Arrive (begun config) → p ≡ followed mid → Written out0 out1 p → Stands config in0 out0 in1 out1 stream p
+    in1 ≡ in0 → stream ≡ new_stream → mid ≡ after_trying_act Arrive (new_play config) → p ≡ after_following mid → WritesFrames out0 out1 p → Stands config in0 out0 in1 out1 stream p
 stands_first config in0 in1 out0 out1 stream mid p in_is stream_is mid_is p_is written = record {
   blocks = [];
   are_blocks = tt;
   reads = rw (in_is, stream_is) (reads_nothing in0);
   read_faults = ap (λ i. i.faults) in_is;
-  play_is = p_is ∙ ap followed mid_is;
+  play_is = p_is ∙ ap after_following mid_is;
   written = written;
 }
 
 -- a block was answered
 pub goes_on_behind : (config : Configuration) (in0 in1 : Input) (out0 out1 out2 : Output) (old new : Stream) (p mid later : Play) (block : List ℕ) →
-    Stands config in0 out0 in1 out1 old p → HandsOut old new block → takes_commands p ≡ true → mid ≡ entered (Command 1 block) p → later ≡ followed mid → Written out0 out2 later →
+    Stands config in0 out0 in1 out1 old p → HandsOut old new block → takes_commands p ≡ true → mid ≡ after_trying_act (Command 1 block) p → later ≡ after_following mid → WritesFrames out0 out2 later →
     Stands config in0 out0 in1 out2 new later
 goes_on_behind config in0 in1 out0 out1 out2 old new p mid later block stands hands_out reading mid_is later_is written = record {
   blocks = stands.blocks ++ block ∷ [];
   are_blocks = AllByRecursion-append IsBlock stands.blocks (block ∷ []) stands.are_blocks (hands_out.is_block, tt);
   reads = subst (λ (xs : List ℕ). Reads in0 in1 xs) (snoc_whole stands.blocks block new.rest old.rest hands_out.rest) stands.reads;
   read_faults = stands.read_faults;
-  play_is = later_is ∙ ap followed mid_is ∙ snoc_play config p stands.blocks block stands.play_is reading;
+  play_is = later_is ∙ ap after_following mid_is ∙ snoc_play config p stands.blocks block stands.play_is reading;
   written = written;
 }
 
@@ -255,8 +256,8 @@ ends_by_farewell config in0 in1 out0 out1 end stream p stands sound last =
       read_failed = false;
       has_read = record { reads = stands.reads; faults = stands.read_faults };
       play_is =
-          sym (all_commanded-none p (blocks_of stream.rest) (ap (λ b. b && not (owes (switch_of p) 1)) (reads_no_more (switch_of p) end sound last))) ∙ ap (λ q. all_commanded q (blocks_of stream.rest)) stands.play_is
-          ∙ conversed-append config stands.blocks stream.rest stands.are_blocks;
+          sym (after_commands-none p (blocks_of stream.rest) (ap (λ b. b && not (owes (switch_of p) 1)) (reads_no_more (switch_of p) end sound last))) ∙ ap (λ q. after_commands q (blocks_of stream.rest)) stands.play_is
+          ∙ after_conversing-append config stands.blocks stream.rest stands.are_blocks;
       written = stands.written;
       end_is = sym (ap (λ last. end_behind last (too_long (rest_of (concat stands.blocks ++ stream.rest))) false) last);
       told = told.0;
@@ -277,8 +278,9 @@ ends_between config in0 in1 in2 out0 out1 end old p read_failed stands no_block 
         faults = faults ∙ ap (λ n. if read_failed then raised n else n) stands.read_faults;
       };
       play_is =
-          ap (all_commanded p) (sym (blocks_of-no_block old.rest no_block)) ∙ ap (λ q. all_commanded q (blocks_of old.rest)) stands.play_is
-          ∙ conversed-append config stands.blocks old.rest stands.are_blocks;
+          ap (after_commands p) (sym (blocks_of-no_block old.rest no_block)) ∙ ap (λ q. after_commands q (blocks_of old.rest))
+          stands.play_is
+          ∙ after_conversing-append config stands.blocks old.rest stands.are_blocks;
       written = stands.written;
       end_is = end_is ∙ ap (λ long. end_behind None long read_failed) rest ∙ ap (λ last. end_behind last (too_long (rest_of input)) read_failed) (sym none);
       told = told;
@@ -292,7 +294,7 @@ reads_failed in0 = let nothing = reads_nothing in0 in record { taken = nothing.t
 -- ---- how a turn leaves less to do
 
 -- a block that was entered
-pub falls_behind : (old mid new : Play) (stream later : Stream) (block : List ℕ) → mid ≡ entered (Command 1 block) old → new ≡ followed mid → Costs old mid → spent mid ≤ spent new →
+pub falls_behind : (old mid new : Play) (stream later : Stream) (block : List ℕ) → mid ≡ after_trying_act (Command 1 block) old → new ≡ after_following mid → Costs old mid → spent mid ≤ spent new →
     work_left new later < work_left old stream
 falls_behind old mid new stream later block mid_is new_is costs spent =
     let config : new.config ≡ old.config =
@@ -322,12 +324,13 @@ falls_fed p old new piece no_block short same some =
 
 -- a connection that came to its end was closed
 pub concludes : (config : Configuration) (in0 in1 : Input) (out0 out1 out2 : Output) (end : End) (p later : Play) →
-    Ends config in0 out0 in1 out1 end p → is_over later ≡ false → later ≡ closed p → Written out0 out2 later → Concludes config in0 out0 in1 out2 end later
+    Ends config in0 out0 in1 out1 end p → is_over later ≡ false → later ≡ after_closing p → WritesFrames out0 out2 later → Concludes config in0 out0 in1 out2 end later
 concludes config in0 in1 out0 out1 out2 end p later ends goes_on later_is written =
-    let same = ap closed ends.play_is in
-    let whole : ended end later ≡ played config ends.input ends.read_failed =
-    ap (λ how. ended how later) (ends.end_is ∙ ap (λ q. end_behind (farewell q) (too_long (rest_of ends.input)) ends.read_failed) ends.play_is)
-    ∙ ap (ended (end_behind (farewell (conversed config ends.input)) (too_long (rest_of ends.input)) ends.read_failed)) (later_is ∙ same)
+    let same = ap after_closing ends.play_is in
+    let whole : with_end end later ≡ played config ends.input ends.read_failed =
+    ap (λ how. with_end how later) (ends.end_is ∙ ap (λ q. end_behind (farewell q) (too_long (rest_of ends.input)) ends.read_failed) ends.play_is)
+    ∙ ap (with_end (end_behind (farewell (after_conversing config ends.input)) (too_long (rest_of ends.input)) ends.read_failed))
+    (later_is ∙ same)
     ∙ played_is config ends.input ends.read_failed in record {
       input = ends.input;
       read_failed = ends.read_failed;
@@ -340,10 +343,10 @@ concludes config in0 in1 out0 out1 out2 end p later ends goes_on later_is writte
 
 -- the closing of a connection stopped
 pub stops_closing : (config : Configuration) (in0 in1 : Input) (out0 out1 out2 : Output) (end : End) (stop : Stop) (p later : Play) →
-    Ends config in0 out0 in1 out1 end p → Halts stop later (closed p) → StoppedBy stop out0 out2 later → Stops config in0 out0 in1 out2 stop later
+    Ends config in0 out0 in1 out1 end p → Halts stop later (after_closing p) → StoppedBy stop out0 out2 later → Stops config in0 out0 in1 out2 stop later
 stops_closing config in0 in1 out0 out1 out2 end stop p later ends halts stopped =
     let how = end_behind (farewell p) (too_long (rest_of ends.input)) ends.read_failed in
-    let whole = halts_on (ended how) (goes_ended how) stop later (closed p) halts in record {
+    let whole = halts_on (with_end how) (goes_ended how) stop later (after_closing p) halts in record {
       input = ends.input;
       read_failed = ends.read_failed;
       has_read = ends.has_read;
@@ -354,41 +357,43 @@ stops_closing config in0 in1 out0 out1 out2 end stop p later ends halts stopped 
 
 -- it stopped as it came
 stops_first : (config : Configuration) (in0 in1 : Input) (out0 out1 : Output) (stop : Stop) (p : Play) →
-    in1 ≡ in0 → Halts stop p (opened config) → StoppedBy stop out0 out1 p → Stops config in0 out0 in1 out1 stop p
+    in1 ≡ in0 → Halts stop p (after_opening config) → StoppedBy stop out0 out1 p → Stops config in0 out0 in1 out1 stop p
 stops_first config in0 in1 out0 out1 stop p in_is halts stopped =
     stops_short config in0 in1 out0 out1 stop p [] [] tt (record { reads = rw in_is (reads_nothing in0); faults = ap (λ i. i.faults) in_is }) halts stopped
 
 -- its coming was not entered
 pub stops_coming : (config : Configuration) (in0 : Input) (out0 : Output) (stop : Stop) (first p : Play) →
-    first ≡ begun config → Halts stop p (entered Arrive first) → output_of p ≡ output_of first → stop ≢ WriteFault → Stops config in0 out0 in0 out0 stop p
+    first ≡ new_play config → Halts stop p (after_trying_act Arrive first) → output_of p ≡ output_of first → stop ≢ WriteFault → Stops config in0 out0 in0 out0 stop p
 stops_coming config in0 out0 stop first p first_is halts output unwritten =
-    let halts_begun = subst (λ (q : Play). Halts stop p (entered Arrive q)) first_is halts in
-    stops_first config in0 in0 out0 out0 stop p refl (halts_on followed goes_followed stop p (entered Arrive (begun config)) halts_begun)
-    (stopped_same out0 out0 (begun config) p stop (output ∙ ap output_of first_is) unwritten (writes_nothing out0))
+    let halts_begun = subst (λ (q : Play). Halts stop p (after_trying_act Arrive q)) first_is halts in
+    stops_first config in0 in0 out0 out0 stop p refl (halts_on after_following goes_followed stop p
+    (after_trying_act Arrive (new_play config)) halts_begun)
+    (stopped_same out0 out0 (new_play config) p stop (output ∙ ap output_of first_is) unwritten (writes_nothing out0))
 
 -- it came
-pub came : (config : Configuration) (first mid : Play) → first ≡ begun config → mid ≡ entered Arrive first → mid ≡ entered Arrive (begun config)
-came config first mid first_is mid_is = mid_is ∙ ap (entered Arrive) first_is
+pub came : (config : Configuration) (first mid : Play) → first ≡ new_play config → mid ≡ after_trying_act Arrive first → mid ≡ after_trying_act Arrive (new_play config)
+came config first mid first_is mid_is = mid_is ∙ ap (after_trying_act Arrive) first_is
 
 -- and nothing was written yet
-pub written_came : (config : Configuration) (out0 : Output) (first mid : Play) → first ≡ begun config → output_of mid ≡ output_of first → Written out0 out0 mid
-written_came config out0 first mid first_is output = written_same out0 out0 (begun config) mid (output ∙ ap output_of first_is) (writes_nothing out0)
+pub written_came : (config : Configuration) (out0 : Output) (first mid : Play) → first ≡ new_play config → output_of mid ≡ output_of first → WritesFrames out0 out0 mid
+written_came config out0 first mid first_is output = written_same out0 out0 (new_play config) mid (output ∙ ap output_of first_is) (writes_nothing out0)
 
 -- what comes of that stopped
 pub stops_opening : (config : Configuration) (in0 in1 : Input) (out0 out1 : Output) (stop : Stop) (mid p : Play) →
-    mid ≡ entered Arrive (begun config) → in1 ≡ in0 → Halts stop p (followed mid) → StoppedBy stop out0 out1 p → Stops config in0 out0 in1 out1 stop p
+    mid ≡ after_trying_act Arrive (new_play config) → in1 ≡ in0 → Halts stop p (after_following mid) → StoppedBy stop out0 out1 p → Stops config in0 out0 in1 out1 stop p
 stops_opening config in0 in1 out0 out1 stop mid p mid_is in_is halts stopped =
-    stops_first config in0 in1 out0 out1 stop p in_is (subst (λ (q : Play). Halts stop p (followed q)) mid_is halts) stopped
+    stops_first config in0 in1 out0 out1 stop p in_is (subst (λ (q : Play). Halts stop p (after_following q)) mid_is halts) stopped
 
 -- memory was wanting before anything was read
 pub stops_opened : (config : Configuration) (in0 in1 : Input) (out0 out1 : Output) (mid p : Play) →
-    in1 ≡ in0 → mid ≡ entered Arrive (begun config) → p ≡ followed mid → Written out0 out1 p → Stops config in0 out0 in1 out1 OutOfMemory p
+    in1 ≡ in0 → mid ≡ after_trying_act Arrive (new_play config) → p ≡ after_following mid → WritesFrames out0 out1 p → Stops config in0 out0
+    in1 out1 OutOfMemory p
 stops_opened config in0 in1 out0 out1 mid p in_is mid_is p_is written =
-    stops_first config in0 in1 out0 out1 OutOfMemory p in_is (begins_is p (opened config) (p_is ∙ ap followed mid_is)) written
+    stops_first config in0 in1 out0 out1 OutOfMemory p in_is (begins_is p (after_opening config) (p_is ∙ ap after_following mid_is)) written
 
 -- the end of the input was not entered
-pub input_ended_stops : (p later : Play) (stop : Stop) → is_over p ≡ false → reads_on p ≡ true → Enters (Close 1 EndOfInput) p later (Err stop) → Halts stop later (input_ended p)
+pub input_ended_stops : (p later : Play) (stop : Stop) → is_over p ≡ false → reads_on p ≡ true → Enters (Close 1 EndOfInput) p later (Err stop) → Halts stop later (after_input_end p)
 input_ended_stops p later stop goes_on reading enters =
-    let end = entered (Close 1 EndOfInput) p in
-    subst (λ (q : Play). Halts stop later q) (sym (ap (λ b. cond b (all_taken end) p) reading))
-    (halts_on all_taken goes_all_taken stop later end (does_enters (Close 1 EndOfInput) p later (Err stop) goes_on enters))
+    let end = after_trying_act (Close 1 EndOfInput) p in
+    subst (λ (q : Play). Halts stop later q) (sym (ap (λ b. cond b (after_taking_all end) p) reading))
+    (halts_on after_taking_all goes_all_taken stop later end (does_enters (Close 1 EndOfInput) p later (Err stop) goes_on enters))

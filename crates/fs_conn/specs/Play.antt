@@ -33,8 +33,8 @@ pub record Play : Type 0 where
   pub end : Option End
 
 -- nothing is entered yet
-abbrev pub begun : Configuration → Play
-begun config = record { config = config; journal = []; clock = 0; end = None }
+abbrev pub new_play : Configuration → Play
+new_play config = record { config = config; journal = []; clock = 0; end = None }
 
 -- the switch that it has come to
 abbrev pub switch_of : Play → Switch
@@ -51,8 +51,8 @@ abbrev pub is_over : Play → Bool
 is_over p = is_some p.end
 
 -- it ends so, unless it is over
-abbrev pub ended : End → Play → Play
-ended end p = if is_over p then p else record p { end = Some end }
+abbrev pub with_end : End → Play → Play
+with_end end p = if is_over p then p else record p { end = Some end }
 
 -- ---- entries
 
@@ -61,14 +61,14 @@ abbrev pub Judge : Type 0
 Judge = Entry → Play → Play
 
 -- an entry stands behind the others where it is not refused; a journal that is full ends all, and of any other refusal nothing comes
-abbrev pub judged : Option Refusal → Entry → Play → Play
-judged None entry p = record p { journal = p.journal ++ entry ∷ [] }
-judged (Some (refusal.JournalFull cost limit)) entry p = record p { end = Some (JournalFull cost limit) }
-judged (Some _) entry p = p
+abbrev pub after_judging : Option Refusal → Entry → Play → Play
+after_judging None entry p = record p { journal = p.journal ++ entry ∷ [] }
+after_judging (Some (refusal.JournalFull cost limit)) entry p = record p { end = Some (JournalFull cost limit) }
+after_judging (Some _) entry p = p
 
 -- by what the machine refuses it for
 abbrev pub by_refusal : Judge
-by_refusal entry p = judged (refusal_of (switch_of p) entry) entry p
+by_refusal entry p = after_judging (refusal_of (switch_of p) entry) entry p
 
 -- by the room in the journal alone: each entry stands behind the others until the journal is full, which ends all
 abbrev pub by_room : Judge
@@ -76,12 +76,12 @@ by_room entry p =
     if is_full (switch_of p) then record p { end = Some (JournalFull (switch_of p).cost (switch_of p).config.settings.journal_limit) }
     else record p { journal = p.journal ++ entry ∷ [] }
 
-abbrev pub tried_as : Judge → Entry → Play → Play
-tried_as judge entry p = if is_over p then p else judge entry p
+abbrev pub after_trying_as : Judge → Entry → Play → Play
+after_trying_as judge entry p = if is_over p then p else judge entry p
 
 -- an act is tried at the clock's moment
-abbrev pub entered_as : Judge → Act → Play → Play
-entered_as judge act p = tried_as judge (record { moment = p.clock; act = act }) p
+abbrev pub after_trying_act_as : Judge → Act → Play → Play
+after_trying_act_as judge act p = after_trying_as judge (record { moment = p.clock; act = act }) p
 
 -- ---- what is due is worked
 
@@ -91,31 +91,31 @@ repeated zero act a = a
 repeated (suc n) act a = repeated n act (act a)
 
 -- the least slot, or else the least job, that has something to do does it
-abbrev pub worked_as : Judge → DueActor → Play → Play
-worked_as judge (actor.Slot slot) p = entered_as judge (Work slot) p
-worked_as judge (actor.Job job) p = entered_as judge (Job job) p
-worked_as judge (actor.Later moment) p = p
-worked_as judge actor.Never p = p
+abbrev pub after_due_work_as : Judge → DueActor → Play → Play
+after_due_work_as judge (actor.Slot slot) p = after_trying_act_as judge (Work slot) p
+after_due_work_as judge (actor.Job job) p = after_trying_act_as judge (Job job) p
+after_due_work_as judge (actor.Later moment) p = p
+after_due_work_as judge actor.Never p = p
 
 abbrev pub next_actor : Play → DueActor
 next_actor p = next_due p.clock (switch_of p)
 
-abbrev pub worked_once_as : Judge → Play → Play
-worked_once_as judge p = worked_as judge (next_actor p) p
+abbrev pub after_due_step_as : Judge → Play → Play
+after_due_step_as judge p = after_due_work_as judge (next_actor p) p
 
 -- a play that has still something to do has run away
-abbrev pub stopped_by : DueActor → Play → Play
-stopped_by (actor.Slot slot) p = ended (Runaway 100000) p
-stopped_by (actor.Job job) p = ended (Runaway 100000) p
-stopped_by (actor.Later moment) p = p
-stopped_by actor.Never p = p
+abbrev pub with_runaway_end_by : DueActor → Play → Play
+with_runaway_end_by (actor.Slot slot) p = with_end (Runaway 100000) p
+with_runaway_end_by (actor.Job job) p = with_end (Runaway 100000) p
+with_runaway_end_by (actor.Later moment) p = p
+with_runaway_end_by actor.Never p = p
 
-abbrev pub stopped : Play → Play
-stopped p = stopped_by (next_actor p) p
+abbrev pub with_runaway_end : Play → Play
+with_runaway_end p = with_runaway_end_by (next_actor p) p
 
 -- all that is due is worked, as long as that takes no more than 100,000 entries
-unfoldable pub settled_as : Judge → Play → Play
-settled_as judge p = stopped (repeated 100000 (worked_once_as judge) p)
+unfoldable pub after_settling_as : Judge → Play → Play
+after_settling_as judge p = with_runaway_end (repeated 100000 (after_due_step_as judge) p)
 
 -- ---- replies that are owed
 
@@ -124,30 +124,30 @@ abbrev pub waits : Play → Bool
 waits p = not (is_over p) && owes (switch_of p) 1
 
 -- the clock goes on to the next moment at which something is due, and that is worked
-abbrev pub waited_until_as : Judge → DueActor → Play → Play
-waited_until_as judge (actor.Later moment) p = settled_as judge (record p { clock = moment })
-waited_until_as judge _ p = p
+abbrev pub after_waiting_until_as : Judge → DueActor → Play → Play
+after_waiting_until_as judge (actor.Later moment) p = after_settling_as judge (record p { clock = moment })
+after_waiting_until_as judge _ p = p
 
-abbrev pub waited_once_as : Judge → Play → Play
-waited_once_as judge p = if waits p then waited_until_as judge (next_actor p) p else p
+abbrev pub after_waiting_once_as : Judge → Play → Play
+after_waiting_once_as judge p = if waits p then after_waiting_until_as judge (next_actor p) p else p
 
 -- that goes on while a reply is owed; there are no more than 2^64 moments
-unfoldable pub waited_as : Judge → Play → Play
-waited_as judge p = repeated (2 ^ 64) (waited_once_as judge) p
+unfoldable pub after_waiting_as : Judge → Play → Play
+after_waiting_as judge p = repeated (2 ^ 64) (after_waiting_once_as judge) p
 
 -- ---- frames
 
 -- a Take for each frame that waits
-unfoldable pub all_taken_as : Judge → Play → Play
-all_taken_as judge p = repeated (length (waiting_for (switch_of p) 1)) (entered_as judge (Take 1)) p
+unfoldable pub after_taking_all_as : Judge → Play → Play
+after_taking_all_as judge p = repeated (length (waiting_for (switch_of p) 1)) (after_trying_act_as judge (Take 1)) p
 
 -- what comes of an act
-abbrev pub followed_as : Judge → Play → Play
-followed_as judge p = all_taken_as judge (waited_as judge (settled_as judge p))
+abbrev pub after_following_as : Judge → Play → Play
+after_following_as judge p = after_taking_all_as judge (after_waiting_as judge (after_settling_as judge p))
 
 -- an act with all that comes of it
-abbrev pub acted_as : Judge → Act → Play → Play
-acted_as judge act p = followed_as judge (entered_as judge act p)
+abbrev pub after_act_as : Judge → Act → Play → Play
+after_act_as judge act p = after_following_as judge (after_trying_act_as judge act p)
 
 -- ---- the conversation
 
@@ -160,24 +160,24 @@ abbrev pub takes_commands : Play → Bool
 takes_commands p = reads_on p && not (owes (switch_of p) 1)
 
 -- the next block is a command, unless the connection takes none any more
-abbrev pub commanded_as : Judge → Play → List ℕ → Play
-commanded_as judge p block = if takes_commands p then acted_as judge (Command 1 block) p else p
+abbrev pub after_command_as : Judge → Play → List ℕ → Play
+after_command_as judge p block = if takes_commands p then after_act_as judge (Command 1 block) p else p
 
-abbrev pub all_commanded_as : Judge → Play → List (List ℕ) → Play
-all_commanded_as judge p [] = p
-all_commanded_as judge p (block ∷ blocks) = all_commanded_as judge (commanded_as judge p block) blocks
+abbrev pub after_commands_as : Judge → Play → List (List ℕ) → Play
+after_commands_as judge p [] = p
+after_commands_as judge p (block ∷ blocks) = after_commands_as judge (after_command_as judge p block) blocks
 
 -- the connection has come
-abbrev pub opened_as : Judge → Configuration → Play
-opened_as judge config = acted_as judge Arrive (begun config)
+abbrev pub after_opening_as : Judge → Configuration → Play
+after_opening_as judge config = after_act_as judge Arrive (new_play config)
 
 -- its input has ended
-abbrev pub input_ended_as : Judge → Play → Play
-input_ended_as judge p = if reads_on p then all_taken_as judge (entered_as judge (Close 1 EndOfInput) p) else p
+abbrev pub after_input_end_as : Judge → Play → Play
+after_input_end_as judge p = if reads_on p then after_taking_all_as judge (after_trying_act_as judge (Close 1 EndOfInput) p) else p
 
 -- it is closed
-abbrev pub closed_as : Judge → Play → Play
-closed_as judge p = entered_as judge (Close 1 Sent) (input_ended_as judge p)
+abbrev pub after_closing_as : Judge → Play → Play
+after_closing_as judge p = after_trying_act_as judge (Close 1 Sent) (after_input_end_as judge p)
 
 -- ---- how it ends
 
@@ -197,67 +197,67 @@ end_behind (Some end) is_too_long read_failed = end
 end_behind None is_too_long read_failed = if is_too_long then TooLong 65537 else (if read_failed then ReadFault else Eof)
 
 -- the play of these bytes up to the last command
-abbrev pub conversed_as : Judge → Configuration → List ℕ → Play
-conversed_as judge config input = all_commanded_as judge (opened_as judge config) (blocks_of input)
+abbrev pub after_conversing_as : Judge → Configuration → List ℕ → Play
+after_conversing_as judge config input = after_commands_as judge (after_opening_as judge config) (blocks_of input)
 
 -- what these bytes of a link play over a switch of this configuration, where the reading ended or failed behind them
 unfoldable pub played_as : Judge → Configuration → List ℕ → Bool → Play
 played_as judge config input read_failed =
-    let p = conversed_as judge config input in
-    ended (end_behind (farewell p) (too_long (rest_of input)) read_failed) (closed_as judge p)
+    let p = after_conversing_as judge config input in
+    with_end (end_behind (farewell p) (too_long (rest_of input)) read_failed) (after_closing_as judge p)
 
 -- ---- the play of a machine, which judges each entry by what it refuses it for
 
-abbrev pub tried : Entry → Play → Play
-tried = tried_as by_refusal
+abbrev pub after_trying : Entry → Play → Play
+after_trying = after_trying_as by_refusal
 
-abbrev pub entered : Act → Play → Play
-entered = entered_as by_refusal
+abbrev pub after_trying_act : Act → Play → Play
+after_trying_act = after_trying_act_as by_refusal
 
-abbrev pub worked_by : DueActor → Play → Play
-worked_by = worked_as by_refusal
+abbrev pub after_due_work : DueActor → Play → Play
+after_due_work = after_due_work_as by_refusal
 
-abbrev pub worked_once : Play → Play
-worked_once = worked_once_as by_refusal
+abbrev pub after_due_step : Play → Play
+after_due_step = after_due_step_as by_refusal
 
-abbrev pub settled : Play → Play
-settled = settled_as by_refusal
+abbrev pub after_settling : Play → Play
+after_settling = after_settling_as by_refusal
 
-abbrev pub waited_until : DueActor → Play → Play
-waited_until = waited_until_as by_refusal
+abbrev pub after_waiting_until : DueActor → Play → Play
+after_waiting_until = after_waiting_until_as by_refusal
 
-abbrev pub waited_once : Play → Play
-waited_once = waited_once_as by_refusal
+abbrev pub after_waiting_once : Play → Play
+after_waiting_once = after_waiting_once_as by_refusal
 
-abbrev pub waited : Play → Play
-waited = waited_as by_refusal
+abbrev pub after_waiting : Play → Play
+after_waiting = after_waiting_as by_refusal
 
-abbrev pub all_taken : Play → Play
-all_taken = all_taken_as by_refusal
+abbrev pub after_taking_all : Play → Play
+after_taking_all = after_taking_all_as by_refusal
 
-abbrev pub followed : Play → Play
-followed = followed_as by_refusal
+abbrev pub after_following : Play → Play
+after_following = after_following_as by_refusal
 
-abbrev pub acted : Act → Play → Play
-acted = acted_as by_refusal
+abbrev pub after_act : Act → Play → Play
+after_act = after_act_as by_refusal
 
-abbrev pub commanded : Play → List ℕ → Play
-commanded = commanded_as by_refusal
+abbrev pub after_command : Play → List ℕ → Play
+after_command = after_command_as by_refusal
 
-abbrev pub all_commanded : Play → List (List ℕ) → Play
-all_commanded = all_commanded_as by_refusal
+abbrev pub after_commands : Play → List (List ℕ) → Play
+after_commands = after_commands_as by_refusal
 
-abbrev pub opened : Configuration → Play
-opened = opened_as by_refusal
+abbrev pub after_opening : Configuration → Play
+after_opening = after_opening_as by_refusal
 
-abbrev pub input_ended : Play → Play
-input_ended = input_ended_as by_refusal
+abbrev pub after_input_end : Play → Play
+after_input_end = after_input_end_as by_refusal
 
-abbrev pub closed : Play → Play
-closed = closed_as by_refusal
+abbrev pub after_closing : Play → Play
+after_closing = after_closing_as by_refusal
 
-abbrev pub conversed : Configuration → List ℕ → Play
-conversed = conversed_as by_refusal
+abbrev pub after_conversing : Configuration → List ℕ → Play
+after_conversing = after_conversing_as by_refusal
 
 abbrev pub played : Configuration → List ℕ → Bool → Play
 played = played_as by_refusal

@@ -15,7 +15,7 @@ use Rattle.fs_conn.specs.declared.end.End.{End}
 use Rattle.fs_conn.specs.declared.end.End.TheVariants.{Exit, AuthRefused, Eof, ReadFault, WriteFault as ends_by_write, TooLong, JournalFull, Memory, Runaway}
 use Rattle.fs_conn.specs.declared.stop.Stop.{Stop}
 use Rattle.fs_conn.specs.declared.stop.Stop.TheVariants.{Over, OutOfMemory, WriteFault}
-use Rattle.fs_conn.specs.Play.{Play, switch_of, output_of, entered}
+use Rattle.fs_conn.specs.Play.{Play, switch_of, output_of, after_trying_act}
 
 -- the play that a machine has come to at a moment, which goes on
 abbrev pub play_of : View → ℕ → Play
@@ -26,7 +26,7 @@ abbrev pub spent : Play → ℕ
 spent p = (switch_of p).cost
 
 -- the journal of a play is a front of that of the whole
-pub record Begins (p whole : Play) : Type 0 where
+pub record IsPlayFront (p whole : Play) : Type 0 where
   pub config : whole.config ≡ p.config
   pub more : List Entry
   pub split : whole.journal ≡ p.journal ++ more
@@ -48,8 +48,8 @@ is_early Memory = false
 -- what was to become the whole play came to its end, or broke off behind a front of it
 abbrev pub Halts : Stop → Play → Play → Type 0
 Halts (Over end) p whole = (is_early end ≡ true) × (whole ≡ record p { end = Some end })
-Halts OutOfMemory p whole = Begins p whole
-Halts WriteFault p whole = Begins p whole
+Halts OutOfMemory p whole = IsPlayFront p whole
+Halts WriteFault p whole = IsPlayFront p whole
 
 -- a step of the play was done, or halted
 abbrev pub Does : {A : Type 0} → (Play → Play) → Play → Play → Result A Stop → Type 0
@@ -76,14 +76,14 @@ pub record Accepts (act : Act) (old new : Play) (reply : Reply) : Type 0 where
 
 -- an act was refused, and the play goes on as it was
 pub record Rejects (act : Act) (old new : Play) : Type 0 where
-  pub does : new ≡ entered act old
+  pub does : new ≡ after_trying_act act old
   pub same : new ≡ old
 
 -- what entering an act did
 abbrev pub Enters : Act → Play → Play → Result (Option Reply) Stop → Type 0
 Enters act old new (Ok None) = Rejects act old new
 Enters act old new (Ok (Some reply)) = Accepts act old new reply
-Enters act old new (Err (Over end)) = (new ≡ old) × Halts (Over end) new (entered act old)
+Enters act old new (Err (Over end)) = (new ≡ old) × Halts (Over end) new (after_trying_act act old)
 Enters act old new (Err OutOfMemory) = new ≡ old
 Enters act old new (Err WriteFault) = ⊥
 
@@ -106,8 +106,8 @@ pub record Works (old new : Play) : Type 0 where
 -- ---- frames
 
 -- the frames that were handed out were written
-abbrev pub Written : Output → Output → Play → Type 0
-Written out0 out1 p = Writes out0 out1 (output_of p)
+abbrev pub WritesFrames : Output → Output → Play → Type 0
+WritesFrames out0 out1 p = Writes out0 out1 (output_of p)
 
 -- or the last of these writes failed, just behind the Take of its frame at the clock's moment
 pub record FailsAt (out0 out1 : Output) (p : Play) : Type 0 where
@@ -117,11 +117,11 @@ pub record FailsAt (out0 out1 : Output) (p : Play) : Type 0 where
 
 -- what was written by a step that stopped
 abbrev pub StoppedBy : Stop → Output → Output → Play → Type 0
-StoppedBy (Over end) out0 out1 p = Written out0 out1 p
-StoppedBy OutOfMemory out0 out1 p = Written out0 out1 p
+StoppedBy (Over end) out0 out1 p = WritesFrames out0 out1 p
+StoppedBy OutOfMemory out0 out1 p = WritesFrames out0 out1 p
 StoppedBy WriteFault out0 out1 p = FailsAt out0 out1 p
 
 -- what a step wrote
 abbrev pub Sends : {A : Type 0} → Output → Output → Play → Result A Stop → Type 0
-Sends out0 out1 p (Ok done) = Written out0 out1 p
+Sends out0 out1 p (Ok done) = WritesFrames out0 out1 p
 Sends out0 out1 p (Err stop) = StoppedBy stop out0 out1 p

@@ -24,8 +24,8 @@ use Rattle.fs_conn.specs.declared.reading.Filled.{Filled}
 use Rattle.fs_conn.specs.declared.reading.Filled.TheVariants.{More, AtEnd, ReadFailed}
 use Rattle.fs_conn.specs.declared.conversation.Turn.{Turn}
 use Rattle.fs_conn.specs.declared.conversation.Turn.TheVariants.{GoOn, Done}
-use Rattle.fs_conn.specs.Play.{Play, bytes_handed, opened, all_commanded, conversed, farewell, end_behind, played}
-use Rattle.fs_conn.specs.Steps.{spent, Halts, Written, StoppedBy}
+use Rattle.fs_conn.specs.Play.{Play, bytes_handed, after_opening, after_commands, after_conversing, farewell, end_behind, played}
+use Rattle.fs_conn.specs.Steps.{spent, Halts, WritesFrames, StoppedBy}
 
 -- what reading more of a link did
 abbrev pub Fills : Input → Input → Stream → Stream → Result Filled NoMemory → Type 0
@@ -47,8 +47,8 @@ pub record Stands (config : Configuration) (in0 : Input) (out0 : Output) (in1 : 
   pub are_blocks : AllByRecursion IsBlock blocks
   pub reads : Reads in0 in1 (concat blocks ++ stream.rest)
   pub read_faults : in1.faults ≡ in0.faults
-  pub play_is : p ≡ all_commanded (opened config) blocks
-  pub written : Written out0 out1 p
+  pub play_is : p ≡ after_commands (after_opening config) blocks
+  pub written : WritesFrames out0 out1 p
 
 -- an end that neither a failed write nor want of memory brings
 abbrev pub is_told : End → Bool
@@ -67,8 +67,8 @@ pub record Ends (config : Configuration) (in0 : Input) (out0 : Output) (in1 : In
   pub input : List ℕ
   pub read_failed : Bool
   pub has_read : HasRead in0 in1 input read_failed
-  pub play_is : p ≡ conversed config input
-  pub written : Written out0 out1 p
+  pub play_is : p ≡ after_conversing config input
+  pub written : WritesFrames out0 out1 p
   pub end_is : end ≡ end_behind (farewell p) (too_long (rest_of input)) read_failed
   pub told : is_told end ≡ true
   pub at_end : end ≡ ends.Eof → IsAtEnd in1.left
@@ -79,7 +79,7 @@ pub record Concludes (config : Configuration) (in0 : Input) (out0 : Output) (in1
   pub read_failed : Bool
   pub has_read : HasRead in0 in1 input read_failed
   pub play_is : played config input read_failed ≡ record p { end = Some end }
-  pub written : Written out0 out1 p
+  pub written : WritesFrames out0 out1 p
   pub told : is_told end ≡ true
   pub at_end : end ≡ ends.Eof → IsAtEnd in1.left
 
@@ -174,11 +174,11 @@ pub record FailsToWrite (config : Configuration) (in0 : Input) (out0 : Output) (
   pub closes : journal ≡ unless_refused (refusal_of (run_from (empty config) before) (failed_at moment)) (failed_at moment) before
 
 -- how a play ends behind a write that failed, by what entering the closing came to
-abbrev pub fault_by : {A : Type 0} → Result A Stop → End
-fault_by (Ok done) = ends.WriteFault
-fault_by (Err (Over end)) = ends.WriteFault
-fault_by (Err OutOfMemory) = ends.Memory
-fault_by (Err WriteFault) = ends.WriteFault
+abbrev pub end_after_fault : {A : Type 0} → Result A Stop → End
+end_after_fault (Ok done) = ends.WriteFault
+end_after_fault (Err (Over end)) = ends.WriteFault
+end_after_fault (Err OutOfMemory) = ends.Memory
+end_after_fault (Err WriteFault) = ends.WriteFault
 
 -- what a play did, by its end
 abbrev pub Plays : Configuration → Input → Output → Input → Output → List Entry → End → Type 0

@@ -5,9 +5,9 @@ ghost use Rattle.fs_machine.specs.Here.{IsHere};
 ghost use Rattle.fs_machine.specs.Questions.{owes};
 ghost use Rattle.fs_machine.specs.Runs.{state_of};
 ghost use Rattle.fs_machine.specs.Step as step;
-ghost use Rattle.fs_conn.specs.Play.{closed, input_ended, end_by};
-ghost use Rattle.fs_conn.specs.Steps.{play_of, Does, Written, Sends};
-ghost use Rattle.fs_conn.specs.Turns.{Stands, Turns, Falls, OnGoOn, Converses, Plays, fault_by};
+ghost use Rattle.fs_conn.specs.Play.{after_closing, after_input_end, end_by};
+ghost use Rattle.fs_conn.specs.Steps.{play_of, Does, WritesFrames, Sends};
+ghost use Rattle.fs_conn.specs.Turns.{Stands, Turns, Falls, OnGoOn, Converses, Plays, end_after_fault};
 
 use crate::end::End;
 use crate::entering::{CONN, arrive, command, enter};
@@ -54,7 +54,7 @@ pub fn play<L: Link>(alloc: Global, machine: &mut Machine, link: &mut L) -> End
 
 // How a play ends behind a write that failed: by that too where the closing is refused, but not where memory was wanting for it.
 fn fault_end(closing: &Result<Option<Reply>, Stop>) -> End
-    ensures { result ≡ fault_by closing.now }
+    ensures { result ≡ end_after_fault closing.now }
 {
     match closing {
         Ok(_) | Err(Stop::Over(_) | Stop::WriteFault) => End::WriteFault,
@@ -138,8 +138,8 @@ fn farewell(parting: Option<Parting>) -> Option<End>
 
 // Closes a connection that came to its end.
 fn finish<L: Link>(machine: &mut Machine, clock: u64, link: &mut L) -> Result<(), Stop>
-    ensures does { Does closed (play_of machine.old clock) (play_of machine.new clock) result }
-    ensures sends { (out0 : Output) → Written out0 (L.output link.old) (play_of machine.old clock)
+    ensures does { Does after_closing (play_of machine.old clock) (play_of machine.new clock) result }
+    ensures sends { (out0 : Output) → WritesFrames out0 (L.output link.old) (play_of machine.old clock)
         → Sends out0 (L.output link.new) (play_of machine.new clock) result }
     ensures input { L.input link.new ≡ L.input link.old }
 {
@@ -151,8 +151,8 @@ fn finish<L: Link>(machine: &mut Machine, clock: u64, link: &mut L) -> Result<()
 
 // Enters the end of the input, where the connection reads commands still.
 fn end_input<L: Link>(machine: &mut Machine, clock: u64, link: &mut L) -> Result<(), Stop>
-    ensures does { Does input_ended (play_of machine.old clock) (play_of machine.new clock) result }
-    ensures sends { (out0 : Output) → Written out0 (L.output link.old) (play_of machine.old clock)
+    ensures does { Does after_input_end (play_of machine.old clock) (play_of machine.new clock) result }
+    ensures sends { (out0 : Output) → WritesFrames out0 (L.output link.old) (play_of machine.old clock)
         → Sends out0 (L.output link.new) (play_of machine.new clock) result }
     ensures input { L.input link.new ≡ L.input link.old }
 {

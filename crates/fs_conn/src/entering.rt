@@ -3,7 +3,7 @@ ghost use Rattle.fs_machine.specs.declared.entry.Act.TheVariants.{Arrive, Comman
 ghost use Rattle.fs_machine.specs.Here.{IsHere};
 ghost use Rattle.fs_machine.specs.Questions.{owes};
 ghost use Rattle.fs_machine.specs.Runs.{state_of};
-ghost use Rattle.fs_conn.specs.Play.{switch_of, output_of, reads_on, entered};
+ghost use Rattle.fs_conn.specs.Play.{switch_of, output_of, reads_on, after_trying_act};
 ghost use Rattle.fs_conn.specs.Steps.{play_of, Enters, Does, Costs, IsUnwritten};
 
 use crate::end::End;
@@ -32,7 +32,7 @@ pub(crate) fn enter(machine: &mut Machine, clock: u64, act: Act) -> Result<Optio
 /// Enters the coming of the connection, before which nothing was entered.
 pub(crate) fn arrive(machine: &mut Machine, clock: u64) -> Result<(), Stop>
     requires begun { machine.old.journal ≡ [] }
-    ensures does { Does (entered Arrive) (play_of machine.old clock) (play_of machine.new clock) result }
+    ensures does { Does (after_trying_act Arrive) (play_of machine.old clock) (play_of machine.new clock) result }
     ensures output { output_of (play_of machine.new clock) ≡ output_of (play_of machine.old clock) }
     ensures here { OnOk result (IsHere 1 (state_of machine.new)) }
     ensures unwritten { IsUnwritten result }
@@ -53,7 +53,8 @@ pub(crate) fn command(
 ) -> Result<(), Stop>
     requires reads { reads_on (play_of machine.old clock) ≡ true }
     requires owed { owes (switch_of (play_of machine.old clock)) 1 ≡ false }
-    ensures does { Does (entered (Command 1 block.now)) (play_of machine.old clock) (play_of machine.new clock) result }
+    ensures does { Does (after_trying_act (Command 1 block.now)) (play_of machine.old clock) (play_of machine.new clock)
+        result }
     ensures output { output_of (play_of machine.new clock) ≡ output_of (play_of machine.old clock) }
     ensures costs { OnOk result (Costs (play_of machine.old clock) (play_of machine.new clock)) }
     ensures unwritten { IsUnwritten result }

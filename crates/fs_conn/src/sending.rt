@@ -2,8 +2,8 @@ ghost use Rattle.std.specs.Prelude.{◌≡◌, ◌≤◌, false, OnOk};
 ghost use Rattle.fs_ports.specs.Ports.{Output};
 ghost use Rattle.fs_machine.specs.declared.entry.Act.TheVariants.{Take};
 ghost use Rattle.fs_machine.specs.Questions.{owes};
-ghost use Rattle.fs_conn.specs.Play.{switch_of, entered, all_taken, followed};
-ghost use Rattle.fs_conn.specs.Steps.{play_of, spent, Does, Written, Sends};
+ghost use Rattle.fs_conn.specs.Play.{switch_of, after_trying_act, after_taking_all, after_following};
+ghost use Rattle.fs_conn.specs.Steps.{play_of, spent, Does, WritesFrames, Sends};
 
 use crate::entering::{CONN, enter};
 use crate::settling::{settle, wait_out};
@@ -17,8 +17,8 @@ pub(crate) fn follow<L: Link>(
     clock: &mut u64,
     link: &mut L,
 ) -> Result<(), Stop>
-    ensures does { Does followed (play_of machine.old clock.old) (play_of machine.new clock.new) result }
-    ensures sends { (out0 : Output) → Written out0 (L.output link.old) (play_of machine.old clock.old)
+    ensures does { Does after_following (play_of machine.old clock.old) (play_of machine.new clock.new) result }
+    ensures sends { (out0 : Output) → WritesFrames out0 (L.output link.old) (play_of machine.old clock.old)
         → Sends out0 (L.output link.new) (play_of machine.new clock.new) result }
     ensures input { L.input link.new ≡ L.input link.old }
     ensures spent { spent (play_of machine.old clock.old) ≤ spent (play_of machine.new clock.new) }
@@ -35,8 +35,8 @@ pub(crate) fn send_frames<L: Link>(
     clock: u64,
     link: &mut L,
 ) -> Result<(), Stop>
-    ensures does { Does all_taken (play_of machine.old clock) (play_of machine.new clock) result }
-    ensures sends { (out0 : Output) → Written out0 (L.output link.old) (play_of machine.old clock)
+    ensures does { Does after_taking_all (play_of machine.old clock) (play_of machine.new clock) result }
+    ensures sends { (out0 : Output) → WritesFrames out0 (L.output link.old) (play_of machine.old clock)
         → Sends out0 (L.output link.new) (play_of machine.new clock) result }
     ensures input { L.input link.new ≡ L.input link.old }
     ensures spent { spent (play_of machine.old clock) ≤ spent (play_of machine.new clock) }
@@ -49,8 +49,8 @@ pub(crate) fn send_frames<L: Link>(
 
 // Takes and writes the first frame that waits, if one does.
 fn send_frame<L: Link>(machine: &mut Machine, clock: u64, link: &mut L) -> Result<(), Stop>
-    ensures does { Does (entered (Take 1)) (play_of machine.old clock) (play_of machine.new clock) result }
-    ensures sends { (out0 : Output) → Written out0 (L.output link.old) (play_of machine.old clock)
+    ensures does { Does (after_trying_act (Take 1)) (play_of machine.old clock) (play_of machine.new clock) result }
+    ensures sends { (out0 : Output) → WritesFrames out0 (L.output link.old) (play_of machine.old clock)
         → Sends out0 (L.output link.new) (play_of machine.new clock) result }
     ensures input { L.input link.new ≡ L.input link.old }
     ensures spent { spent (play_of machine.old clock) ≤ spent (play_of machine.new clock) }

@@ -1,6 +1,6 @@
 ghost use Rattle.std.specs.Prelude.{◌≡◌, false, None, OnOk};
 ghost use Rattle.fs_machine.specs.Questions.{owes};
-ghost use Rattle.fs_conn.specs.Play.{switch_of, next_actor, settled, waited};
+ghost use Rattle.fs_conn.specs.Play.{switch_of, next_actor, after_settling, after_waiting};
 ghost use Rattle.fs_conn.specs.Steps.{play_of, act_of, Does, Works, IsUnwritten};
 
 use crate::end::End;
@@ -13,7 +13,7 @@ const MOST_ENTRIES: u64 = 100_000;
 
 /// Works all that is due at a moment.
 pub(crate) fn settle(machine: &mut Machine, clock: u64) -> Result<(), Stop>
-    ensures does { Does settled (play_of machine.old clock) (play_of machine.new clock) result }
+    ensures does { Does after_settling (play_of machine.old clock) (play_of machine.new clock) result }
     ensures works { Works (play_of machine.old clock) (play_of machine.new clock) }
     ensures unwritten { IsUnwritten result }
     ensures idle { OnOk result (act_of (next_actor (play_of machine.new clock)) ≡ None) }
@@ -36,7 +36,7 @@ pub(crate) fn settle(machine: &mut Machine, clock: u64) -> Result<(), Stop>
 /// Whoever owes it has something to do at some moment.
 pub(crate) fn wait_out(machine: &mut Machine, clock: &mut u64) -> Result<(), Stop>
     requires idle { act_of (next_actor (play_of machine.old clock.old)) ≡ None }
-    ensures does { Does waited (play_of machine.old clock.old) (play_of machine.new clock.new) result }
+    ensures does { Does after_waiting (play_of machine.old clock.old) (play_of machine.new clock.new) result }
     ensures works { Works (play_of machine.old clock.old) (play_of machine.new clock.new) }
     ensures unwritten { IsUnwritten result }
     ensures free { OnOk result (owes (switch_of (play_of machine.new clock.new)) 1 ≡ false) }

@@ -29,8 +29,8 @@ use Rattle.fs_doc.specs.Dialplans.{Context, Extension, Condition, with_extension
 use Rattle.fs_doc.specs.Settings.{default_settings, number_within, core_of, with_setting, switch_setting, password_setting, socket_setting, setting}
 use Rattle.fs_doc.specs.Elements.{has}
 use Rattle.fs_doc.specs.Attributes.{many_of, global_of}
-use Rattle.fs_doc.specs.Contents.{nothing, Begun, given, global_on, global_begun, param_on, param_begun, context_place, context_at, context_begun, extension_begun, condition_of, pattern_counted, pattern_begun, condition_on, condition_begun, case_begun, action_of, action_begun, begun, extension_ended, extended, condition_ended, ended}
-use Rattle.fs_doc.specs.Limits.{AreInRange, patterns_tested, patterns_of, actions_of, in_extension, in_context, in_all, one}
+use Rattle.fs_doc.specs.Contents.{new_content, BeginResult, attribute_value, global_on, global_begun, param_on, param_begun, context_place, context_at, context_begun, extension_begun, condition_of, pattern_counted, pattern_begun, condition_on, condition_begun, case_begun, action_of, action_begun, element_begun, extension_ended, extended, condition_ended, element_ended}
+use Rattle.fs_doc.specs.Limits.{AreInRange, test_pattern_count, pattern_count, action_count, in_extension, in_context, in_all, one}
 use Rattle.fs_doc.proofs.CoreLemmas.{core_found}
 
 -- ---- settings
@@ -127,13 +127,13 @@ pub record IsCounted (c : Content) : Type 0 where
   pub contexts : length c.contexts ≤ 256
   pub extensions : in_all one c.contexts + held one c.extension ≤ c.extensions
   pub extensions_most : c.extensions ≤ 4096
-  pub patterns : Covers patterns_of c c.patterns
+  pub patterns : Covers pattern_count c c.patterns
   pub patterns_most : c.patterns ≤ 4096
-  pub actions : Covers actions_of c c.actions
+  pub actions : Covers action_count c c.actions
   pub actions_most : c.actions ≤ 32768
 
-pub nothing_counted : IsCounted nothing
-unfolding nothing default_settings
+pub nothing_counted : IsCounted new_content
+unfolding new_content default_settings
 nothing_counted = record {
   settings = record { core = (omega arith, refl); sessions = (omega arith, omega arith); journal = (omega arith, omega arith); port = (omega arith, omega arith); password = (omega arith, omega arith); connections = (omega arith, omega arith) };
   bounds = refl;
@@ -192,11 +192,11 @@ same_counted x y e = cc
 
 -- ---- an element that begins
 
-abbrev pub Keeps : Begun → Type 0
+abbrev pub Keeps : BeginResult → Type 0
 Keeps (Ok x) = IsCounted x.1
 Keeps (Err f) = Unit {0}
 
-kept : (t : Bool) (a : Begun) (f : DocKind) → Keeps a → Keeps (cond t a (Err f))
+kept : (t : Bool) (a : BeginResult) (f : DocKind) → Keeps a → Keeps (cond t a (Err f))
 kept true a f h = h
 kept false a f h = tt
 
@@ -255,9 +255,9 @@ context_keeps name place c h = by (nat_lt place (length c.contexts)) (nat_lt (le
           contexts = omega arith;
           extensions = omega (arith, h.extensions, new_context one name c.contexts);
           extensions_most = h.extensions_most;
-          patterns = omega (arith, h.patterns, new_context (in_extension patterns_of) name c.contexts);
+          patterns = omega (arith, h.patterns, new_context (in_extension pattern_count) name c.contexts);
           patterns_most = h.patterns_most;
-          actions = omega (arith, h.actions, new_context (in_extension actions_of) name c.contexts);
+          actions = omega (arith, h.actions, new_context (in_extension action_count) name c.contexts);
           actions_most = h.actions_most;
         }
     by false false small = tt
@@ -267,7 +267,7 @@ unfolding extension_begun
 extension_keeps pairs c h = by (nat_lt c.extensions 4096) refl
   where
     by : (t : Bool) → nat_lt c.extensions 4096 ≡ t
-        → Keeps (cond t (Ok (level.Extension, record c { extensions = c.extensions + 1; extension = Some (record { name = given pairs (codes "name"); goes_on = bytes_eq (given pairs (codes "continue")) (codes "true"); conditions = [] }) })) (Err faults.TooLarge))
+        → Keeps (cond t (Ok (level.Extension, record c { extensions = c.extensions + 1; extension = Some (record { name = attribute_value pairs (codes "name"); goes_on = bytes_eq (attribute_value pairs (codes "continue")) (codes "true"); conditions = [] }) })) (Err faults.TooLarge))
     by true small =
         let below = lt_tested c.extensions 4096 small in
         record {
@@ -290,7 +290,7 @@ record HasRoom (c d : Content) : Type 0 where
 
 counted_room : (pairs : Pairs) (c d : Content) → pattern_counted pairs c ≡ Ok d → HasRoom c d
 unfolding pattern_counted
-counted_room pairs c d e = by (nat_lt 1024 (length (given pairs (codes "expression")))) (nat_le 4096 c.patterns) refl e
+counted_room pairs c d e = by (nat_lt 1024 (length (attribute_value pairs (codes "expression")))) (nat_le 4096 c.patterns) refl e
   where
     by : (s t : Bool) → nat_le 4096 c.patterns ≡ t → cond (s || t) (Err faults.TooLarge) (counted_to (record c { patterns = c.patterns + 1 })) ≡ counted_to d → HasRoom c d
     by true t test k = absurd (cc)
@@ -298,7 +298,7 @@ counted_room pairs c d e = by (nat_lt 1024 (length (given pairs (codes "expressi
     by false false test k = record { same = sym (same_counted (record c { patterns = c.patterns + 1 }) d k); below = le_tested 4096 c.patterns test }
 
 -- a condition with at most this many patterns, and no actions, is open
-condition_keeps : (c : Content) (k : Option Condition) (more : ℕ) → IsCounted c → opened patterns_of k ≤ opened patterns_of c.condition + more → opened actions_of k ≤ opened actions_of c.condition
+condition_keeps : (c : Content) (k : Option Condition) (more : ℕ) → IsCounted c → opened pattern_count k ≤ opened pattern_count c.condition + more → opened action_count k ≤ opened action_count c.condition
     → c.patterns + more ≤ 4096 → IsCounted (record c { patterns = c.patterns + more; condition = k })
 condition_keeps c k more h patterns actions small = record {
   settings = h.settings;
@@ -312,7 +312,7 @@ condition_keeps c k more h patterns actions small = record {
   actions_most = h.actions_most;
 }
 
-condition_alone : (c : Content) (k : Option Condition) → IsCounted c → opened patterns_of k ≤ opened patterns_of c.condition → opened actions_of k ≤ opened actions_of c.condition
+condition_alone : (c : Content) (k : Option Condition) → IsCounted c → opened pattern_count k ≤ opened pattern_count c.condition → opened action_count k ≤ opened action_count c.condition
     → IsCounted (record c { condition = k })
 condition_alone c k h patterns actions = record {
   settings = h.settings;
@@ -326,17 +326,17 @@ condition_alone c k h patterns actions = record {
   actions_most = h.actions_most;
 }
 
-bind_keeps : (read : Result Content DocKind) (next : Content → Begun) → ((d : Content) → read ≡ Ok d → Keeps (next d)) → Keeps (read >>= next)
+bind_keeps : (read : Result Content DocKind) (next : Content → BeginResult) → ((d : Content) → read ≡ Ok d → Keeps (next d)) → Keeps (read >>= next)
 bind_keeps (Ok d) next fine = fine d refl
 bind_keeps (Err f) next fine = tt
 
 pattern_keeps : (pairs : Pairs) (c : Content) → IsCounted c → Keeps (pattern_begun pairs c)
 unfolding pattern_begun
 pattern_keeps pairs c h =
-    bind_keeps (pattern_counted pairs c) (λ d. Ok (level.Condition, record d { condition = Some (condition_of pairs (test.Plain (given pairs (codes "field")) (given pairs (codes "expression")))) }))
+    bind_keeps (pattern_counted pairs c) (λ d. Ok (level.Condition, record d { condition = Some (condition_of pairs (test.Plain (attribute_value pairs (codes "field")) (attribute_value pairs (codes "expression")))) }))
     (λ d e.
     let room = counted_room pairs c d e in
-    let k = Some (condition_of pairs (test.Plain (given pairs (codes "field")) (given pairs (codes "expression")))) in
+    let k = Some (condition_of pairs (test.Plain (attribute_value pairs (codes "field")) (attribute_value pairs (codes "expression")))) in
     let P : Content → Type 0 = λ b. IsCounted (record b { condition = k }) in
     subst P (sym room.same) (condition_keeps c k 1 h (omega arith) (omega arith) (omega (arith, room.below))))
 
@@ -348,21 +348,21 @@ condition_on_keeps pairs c None h = by (has pairs (codes "field") || has pairs (
     by true = pattern_keeps pairs c h
     by false = condition_alone c (Some (condition_of pairs test.Always)) h (omega arith) (omega arith)
 
-case_counted : (field expression : Text) (t : Test Text) → patterns_tested (with_case field expression t) ≤ patterns_tested t + 1
+case_counted : (field expression : Text) (t : Test Text) → test_pattern_count (with_case field expression t) ≤ test_pattern_count t + 1
 case_counted field expression test.Always = omega arith
 case_counted field expression (test.Plain f e) = omega arith
 case_counted field expression (test.Many which children) = omega (arith, length-append children (record { field = field; expression = expression } ∷ []))
 
 child_counted : (field expression : Text) (o : Option Condition)
-    → (opened patterns_of (option_map (with_child field expression) o) ≤ opened patterns_of o + 1) × (opened actions_of (option_map (with_child field expression) o) ≤ opened actions_of o)
+    → (opened pattern_count (option_map (with_child field expression) o) ≤ opened pattern_count o + 1) × (opened action_count (option_map (with_child field expression) o) ≤ opened action_count o)
 child_counted field expression None = (omega arith, omega arith)
 child_counted field expression (Some k) = (case_counted field expression k.test, omega arith)
 
 case_keeps : (pairs : Pairs) (c : Content) → IsCounted c → Keeps (case_begun pairs c)
 unfolding case_begun
 case_keeps pairs c h =
-    let add : Option Condition → Option Condition = option_map (with_child (given pairs (codes "field")) (given pairs (codes "expression"))) in
-    let child = child_counted (given pairs (codes "field")) (given pairs (codes "expression")) c.condition in
+    let add : Option Condition → Option Condition = option_map (with_child (attribute_value pairs (codes "field")) (attribute_value pairs (codes "expression"))) in
+    let child = child_counted (attribute_value pairs (codes "field")) (attribute_value pairs (codes "expression")) c.condition in
     bind_keeps (pattern_counted pairs c) (λ d. Ok (level.Empty, record d { condition = add d.condition }))
     (λ d e.
     let room = counted_room pairs c d e in
@@ -370,7 +370,7 @@ case_keeps pairs c h =
     subst P (sym room.same) (condition_keeps c (add c.condition) 1 h child.0 child.1 (omega (arith, room.below))))
 
 action_counted : (anti : Bool) (a : PlanAction) (o : Option Condition)
-    → (opened patterns_of (option_map (with_action anti a) o) ≤ opened patterns_of o) × (opened actions_of (option_map (with_action anti a) o) ≤ opened actions_of o + 1)
+    → (opened pattern_count (option_map (with_action anti a) o) ≤ opened pattern_count o) × (opened action_count (option_map (with_action anti a) o) ≤ opened action_count o + 1)
 action_counted anti a None = (omega arith, omega arith)
 action_counted true a (Some k) = (omega arith, omega (arith, length-append k.anti (a ∷ [])))
 action_counted false a (Some k) = (omega arith, omega (arith, length-append k.actions (a ∷ [])))
@@ -397,18 +397,18 @@ action_keeps anti pairs c h = by (nat_lt c.actions 32768) refl
         }
     by false small = tt
 
-pub begun_counted : (k : Kind) (pairs : Pairs) (c : Content) → IsCounted c → Keeps (begun k pairs c)
-unfolding begun global_begun param_begun context_begun condition_begun
+pub begun_counted : (k : Kind) (pairs : Pairs) (c : Content) → IsCounted c → Keeps (element_begun k pairs c)
+unfolding element_begun global_begun param_begun context_begun condition_begun
 begun_counted kind.Document pairs c h = h
-begun_counted kind.Global pairs c h = global_keeps c (global_of (given pairs (codes "data"))) h
+begun_counted kind.Global pairs c h = global_keeps c (global_of (attribute_value pairs (codes "data"))) h
 begun_counted kind.Section pairs c h = h
 begun_counted kind.Configuration pairs c h = h
 begun_counted (kind.Settings file) pairs c h = h
 begun_counted (kind.Param file) pairs c h =
-    param_keeps c (setting file (given pairs (codes "name")) (given pairs (codes "value")) c.settings) (setting_ranged file (given pairs (codes "name")) (given pairs (codes "value")) c.settings h.settings) h
-begun_counted kind.Context pairs c h = context_keeps (given pairs (codes "name")) (context_place (given pairs (codes "name")) c.contexts) c h
+    param_keeps c (setting file (attribute_value pairs (codes "name")) (attribute_value pairs (codes "value")) c.settings) (setting_ranged file (attribute_value pairs (codes "name")) (attribute_value pairs (codes "value")) c.settings h.settings) h
+begun_counted kind.Context pairs c h = context_keeps (attribute_value pairs (codes "name")) (context_place (attribute_value pairs (codes "name")) c.contexts) c h
 begun_counted kind.Extension pairs c h = extension_keeps pairs c h
-begun_counted kind.Condition pairs c h = condition_on_keeps pairs c (many_of (given pairs (codes "regex"))) h
+begun_counted kind.Condition pairs c h = condition_on_keeps pairs c (many_of (attribute_value pairs (codes "regex"))) h
 begun_counted kind.Case pairs c h = case_keeps pairs c h
 begun_counted kind.Action pairs c h = action_keeps false pairs c h
 begun_counted kind.AntiAction pairs c h = action_keeps true pairs c h
@@ -420,11 +420,12 @@ extension_ends : (c : Content) (o : Option Extension) → c.extension ≡ o → 
 extension_ends c None is h = h
 extension_ends c (Some e) is h =
     let a = extension_added one c.context e c.contexts in
-    let b = extension_added (in_extension patterns_of) c.context e c.contexts in
-    let d = extension_added (in_extension actions_of) c.context e c.contexts in
+    let b = extension_added (in_extension pattern_count) c.context e c.contexts in
+    let d = extension_added (in_extension action_count) c.context e c.contexts in
     let ones : held one c.extension ≡ 1 = ap (held one) is in
-    let patterns : held (in_extension patterns_of) c.extension ≡ in_extension patterns_of e = ap (held (in_extension patterns_of)) is in
-    let actions : held (in_extension actions_of) c.extension ≡ in_extension actions_of e = ap (held (in_extension actions_of)) is in
+    let patterns : held (in_extension pattern_count) c.extension ≡ in_extension pattern_count e = ap (held (in_extension pattern_count)) is
+    in
+    let actions : held (in_extension action_count) c.extension ≡ in_extension action_count e = ap (held (in_extension action_count)) is in
     record {
       settings = h.settings;
       bounds = h.bounds;
@@ -448,11 +449,11 @@ extended_one k (Some e) = refl
 condition_ends : (c : Content) (o : Option Condition) → c.condition ≡ o → IsCounted c → IsCounted (condition_ended c o)
 condition_ends c None is h = h
 condition_ends c (Some k) is h =
-    let a = extended_held patterns_of k c.extension in
-    let b = extended_held actions_of k c.extension in
+    let a = extended_held pattern_count k c.extension in
+    let b = extended_held action_count k c.extension in
     let d = extended_one k c.extension in
-    let patterns : opened patterns_of c.condition ≡ patterns_of k = ap (opened patterns_of) is in
-    let actions : opened actions_of c.condition ≡ actions_of k = ap (opened actions_of) is in
+    let patterns : opened pattern_count c.condition ≡ pattern_count k = ap (opened pattern_count) is in
+    let actions : opened action_count c.condition ≡ action_count k = ap (opened action_count) is in
     record {
       settings = h.settings;
       bounds = h.bounds;
@@ -465,8 +466,8 @@ condition_ends c (Some k) is h =
       actions_most = h.actions_most;
     }
 
-pub ended_counted : (l : Level) (c : Content) → IsCounted c → IsCounted (ended l c)
-unfolding ended
+pub ended_counted : (l : Level) (c : Content) → IsCounted c → IsCounted (element_ended l c)
+unfolding element_ended
 ended_counted level.Top c h = h
 ended_counted level.Document c h = record {
   settings = h.settings;

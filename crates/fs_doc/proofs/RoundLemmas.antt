@@ -4,12 +4,12 @@ use Rattle.fs_vars.specs.Pairs.{Text}
 use Rattle.fs_xml.specs.Results.{◌>>=◌}
 use Rattle.fs_doc.specs.declared.fault.DocStop.{DocStop}
 use Rattle.fs_doc.specs.declared.fault.DocStop.TheVariants as stop
-use Rattle.fs_doc.specs.Faults.{StopsSo, Answers}
+use Rattle.fs_doc.specs.Faults.{DocStops, DocGives}
 use Rattle.fs_doc.specs.declared.fault.DocFault.{DocFault}
 use Rattle.fs_doc.specs.declared.content.Content.{Content}
-use Rattle.fs_doc.specs.Reading.{Reading, round, read_within, with_round}
+use Rattle.fs_doc.specs.Reading.{ReadSoFar, round, read_within, with_round}
 
-pub stops_so : (more end : ℕ) (r : Reading) (bytes : Text) (s : DocStop) → length bytes < more → StopsSo s (round end r bytes) → StopsSo s (read_within more end r bytes)
+pub stops_so : (more end : ℕ) (r : ReadSoFar) (bytes : Text) (s : DocStop) → length bytes < more → DocStops s (round end r bytes) → DocStops s (read_within more end r bytes)
 stops_so zero end r bytes s enough stops = absurd (omega arith)
 stops_so (suc more) end r bytes stop.Memory enough stops = tt
 stops_so (suc more) end r bytes (stop.Fault f) enough stops =
@@ -17,6 +17,6 @@ stops_so (suc more) end r bytes (stop.Fault f) enough stops =
 
 -- and of what is answered then
 pub answers_so : {X : Type 0} (read : Result Content DocFault) (s : DocStop) (answer : Result X DocStop) (view : X → Content) → IsErrAnd answer (λ e. e ≡ s)
-    → StopsSo s read → Answers view answer read
+    → DocStops s read → DocGives view answer read
 answers_so read s (Ok x) view is stops = absurd is
-answers_so read s (Err e) view is stops = subst (λ e. StopsSo e read) (sym is) stops
+answers_so read s (Err e) view is stops = subst (λ e. DocStops e read) (sym is) stops

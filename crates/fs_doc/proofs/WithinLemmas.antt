@@ -14,8 +14,8 @@ use Rattle.fs_doc.specs.declared.content.Content.{Content}
 use Rattle.fs_doc.specs.Faults.{fault, or_at}
 use Rattle.fs_doc.specs.Elements.{kind_in}
 use Rattle.fs_doc.specs.Attributes.{pairs_read}
-use Rattle.fs_doc.specs.Contents.{nothing, Begun, begun, ended}
-use Rattle.fs_doc.specs.Reading.{Opened, Reading, level_in, is_outside, is_empty_level, text_at, mark_read, with_element, element_read, entered, left_from, left, mark_entered, Next, Over, On, at_mark, round, Contents, with_round, read_within, at_first, document_of, past_declaration, content_of, Configuration, configured, config_of}
+use Rattle.fs_doc.specs.Contents.{new_content, BeginResult, element_begun, element_ended}
+use Rattle.fs_doc.specs.Reading.{Opened, ReadSoFar, level_in, is_outside, is_empty_level, text_at, mark_read, with_element, element_read, start_entered, end_entered_from, end_entered, mark_entered, Next, Over, On, at_mark, round, Contents, with_round, read_within, at_first, document_of, past_declaration, content_of, Configuration, configured, config_of}
 use Rattle.fs_doc.specs.Limits.{IsWithin}
 use Rattle.fs_doc.proofs.Counts.{IsCounted, Keeps, nothing_counted, begun_counted, ended_counted}
 
@@ -35,10 +35,10 @@ after P (Err e) next fine = tt
 abbrev KeepsInside : Level × Content → Type 0
 KeepsInside x = IsCounted x.1
 
-abbrev KeepsRead : Reading → Type 0
+abbrev KeepsRead : ReadSoFar → Type 0
 KeepsRead r = IsCounted r.content
 
-told_keeps : (at : ℕ) (begins : Begun) → Keeps begins → IfOk (or_at at begins) KeepsInside
+told_keeps : (at : ℕ) (begins : BeginResult) → Keeps begins → IfOk (or_at at begins) KeepsInside
 told_keeps at (Ok x) h = h
 told_keeps at (Err kind) h = tt
 
@@ -46,28 +46,29 @@ element_keeps : (at : ℕ) (name : Text) (body : BodyText) (level : Level) (c : 
 unfolding element_read
 element_keeps at name body level c h =
     after KeepsInside (or_at at (kind_in level c.done name)) _
-    (λ kind. after KeepsInside (pairs_read (record { kind = kind; tag = at; globals = c.globals.pairs; attrs = body.attrs }) body.malformed) _ (λ pairs. told_keeps at (begun kind pairs c) (begun_counted kind pairs c h)))
+    (λ kind. after KeepsInside (pairs_read (record { kind = kind; tag = at; globals = c.globals.pairs; attrs = body.attrs }) body.malformed) _ (λ pairs. told_keeps at (element_begun kind pairs c) (begun_counted kind pairs c h)))
 
 ending_keeps : (ending : Ending) (name : Text) (opened : List Opened) (x : Level × Content) → IsCounted x.1 → KeepsRead (with_element ending name opened x)
 ending_keeps Opens name opened x h = h
 ending_keeps Closes name opened x h = ended_counted x.0 x.1 h
 
-entered_keeps : (at : ℕ) (name : Text) (body : BodyText) (r : Reading) → IsCounted r.content → IfOk (entered at name body r) KeepsRead
-unfolding entered
+entered_keeps : (at : ℕ) (name : Text) (body : BodyText) (r : ReadSoFar) → IsCounted r.content →
+    IfOk (start_entered at name body r) KeepsRead
+unfolding start_entered
 entered_keeps at name body r h =
     then KeepsInside KeepsRead (element_read at name body (level_in r.opened) r.content) _ (element_keeps at name body (level_in r.opened) r.content h)
     (λ x inside. ending_keeps body.ending name r.opened x inside)
 
-left_keeps : (at : ℕ) (name : Text) (opened : List Opened) (c : Content) → IsCounted c → IfOk (left_from at name opened c) KeepsRead
+left_keeps : (at : ℕ) (name : Text) (opened : List Opened) (c : Content) → IsCounted c → IfOk (end_entered_from at name opened c) KeepsRead
 left_keeps at name [] c h = tt
 left_keeps at name (o ∷ opened) c h = by (bytes_eq o.name name)
   where
-    by : (t : Bool) → IfOk (cond t (Ok (record { opened = opened; content = ended o.level c })) (fault at faults.BadTag)) KeepsRead
+    by : (t : Bool) → IfOk (cond t (Ok (record { opened = opened; content = element_ended o.level c })) (fault at faults.BadTag)) KeepsRead
     by true = ended_counted o.level c h
     by false = tt
 
-mark_keeps : (at : ℕ) (mark : Mark) (r : Reading) → IsCounted r.content → IfOk (mark_entered at mark r) KeepsRead
-unfolding mark_entered left
+mark_keeps : (at : ℕ) (mark : Mark) (r : ReadSoFar) → IsCounted r.content → IfOk (mark_entered at mark r) KeepsRead
+unfolding mark_entered end_entered
 mark_keeps at Comment r h = by (is_empty_level (level_in r.opened))
   where
     by : (t : Bool) → IfOk (cond t (fault at faults.BadTag) (Ok r)) KeepsRead
@@ -82,7 +83,7 @@ abbrev KeepsNext : Next → Type 0
 KeepsNext (Over c) = IsCounted c
 KeepsNext (On r rest) = IsCounted r.content
 
-at_mark_keeps : (end : ℕ) (r : Reading) (bytes : Text) → IsCounted r.content → IfOk (at_mark end r bytes) KeepsNext
+at_mark_keeps : (end : ℕ) (r : ReadSoFar) (bytes : Text) → IsCounted r.content → IfOk (at_mark end r bytes) KeepsNext
 unfolding at_mark
 at_mark_keeps end r [] h = by (is_outside r.opened && r.content.done)
   where
@@ -93,15 +94,15 @@ at_mark_keeps end r (b ∷ rest) h =
     after KeepsNext (mark_read r.content.done (is_outside r.opened) end (place end (b ∷ rest)) rest) _
     (λ x. then KeepsRead KeepsNext (mark_entered (place end (b ∷ rest)) x.0 r) _ (mark_keeps (place end (b ∷ rest)) x.0 r h) (λ next kept. kept))
 
-round_keeps : (end : ℕ) (r : Reading) (bytes : Text) → IsCounted r.content → IfOk (round end r bytes) KeepsNext
+round_keeps : (end : ℕ) (r : ReadSoFar) (bytes : Text) → IsCounted r.content → IfOk (round end r bytes) KeepsNext
 unfolding round
 round_keeps end r bytes h = after KeepsNext (text_at end (level_in r.opened) bytes) _ (λ rest. at_mark_keeps end r rest h)
 
-goes_on : (more : Reading → Text → Contents) (next : Next) → KeepsNext next → ((r : Reading) (rest : Text) → IsCounted r.content → IfOk (more r rest) IsCounted) → IfOk (with_round more next) IsCounted
+goes_on : (more : ReadSoFar → Text → Contents) (next : Next) → KeepsNext next → ((r : ReadSoFar) (rest : Text) → IsCounted r.content → IfOk (more r rest) IsCounted) → IfOk (with_round more next) IsCounted
 goes_on more (Over c) h rounds = h
 goes_on more (On r rest) h rounds = rounds r rest h
 
-rounds_keep : (more end : ℕ) (r : Reading) (bytes : Text) → IsCounted r.content → IfOk (read_within more end r bytes) IsCounted
+rounds_keep : (more end : ℕ) (r : ReadSoFar) (bytes : Text) → IsCounted r.content → IfOk (read_within more end r bytes) IsCounted
 rounds_keep zero end r bytes h = tt
 rounds_keep (suc more) end r bytes h =
     then KeepsNext IsCounted (round end r bytes) _ (round_keeps end r bytes h) (λ next kept. goes_on (λ r rest. read_within more end r rest) next kept (λ r rest counted. rounds_keep more end r rest counted))
@@ -122,8 +123,8 @@ counted_within c h = record {
   actions = omega (arith, h.actions, h.actions_most);
 }
 
-pub nothing_within : IsWithin (configured nothing)
-nothing_within = counted_within nothing nothing_counted
+pub nothing_within : IsWithin (configured new_content)
+nothing_within = counted_within new_content nothing_counted
 
 pub content_within : (bytes : Text) (c : Content) → content_of bytes ≡ Ok c → IsWithin (configured c)
 content_within bytes c is = counted_within c (subst (λ read. IfOk read IsCounted) is (content_keeps bytes))
@@ -135,10 +136,10 @@ config_within bytes c is = subst (λ read. IfOk read IsWithin) is (by (nat_lt 10
     configured_keeps : (c : Content) → IsCounted c → IsWithin (configured c)
     configured_keeps c h = counted_within c h
 
-    read_keeps : (t : Bool) → IfOk (cond t (Ok nothing) (content_of bytes)) IsCounted
+    read_keeps : (t : Bool) → IfOk (cond t (Ok new_content) (content_of bytes)) IsCounted
     read_keeps true = nothing_counted
     read_keeps false = content_keeps bytes
 
-    by : (t u : Bool) → IfOk (cond t (fault 1048576 faults.TooLarge) (cond u (Ok nothing) (content_of bytes) >>= λ c. Ok (configured c))) IsWithin
+    by : (t u : Bool) → IfOk (cond t (fault 1048576 faults.TooLarge) (cond u (Ok new_content) (content_of bytes) >>= λ c. Ok (configured c))) IsWithin
     by true u = tt
-    by false u = then IsCounted IsWithin (cond u (Ok nothing) (content_of bytes)) _ (read_keeps u) configured_keeps
+    by false u = then IsCounted IsWithin (cond u (Ok new_content) (content_of bytes)) _ (read_keeps u) configured_keeps

@@ -159,13 +159,13 @@ unfoldable pub text_read : Tagged → Written → Result Text DocFault
 text_read e a = text_on a.at (value_read (is_foreign e.kind) e.globals a.end a.value)
 
 -- an unknown command is told at the tag, and all else at the name of the attribute
-abbrev pub told_at : ℕ → ℕ → DocKind → ℕ
-told_at tag name fault.UnknownElement = tag
-told_at tag name _ = name
+abbrev pub fault_place : ℕ → ℕ → DocKind → ℕ
+fault_place tag name fault.UnknownElement = tag
+fault_place tag name _ = name
 
 abbrev pub unless_fault : {X : Type 0} → ℕ → ℕ → Option DocKind → X → Result X DocFault
 unless_fault tag name None x = Ok x
-unless_fault tag name (Some kind) x = faults.fault (told_at tag name kind) kind
+unless_fault tag name (Some kind) x = faults.fault (fault_place tag name kind) kind
 
 -- the attributes so far with one more
 unfoldable pub attribute_read : Tagged → Pairs → Written → Result Pairs DocFault

@@ -27,8 +27,8 @@ use Rattle.fs_doc.specs.Elements.{has}
 use Rattle.fs_doc.specs.Attributes.{break_of, many_of, global_of}
 
 -- before anything is read
-unfoldable pub nothing : Content
-nothing = record {
+unfoldable pub new_content : Content
+new_content = record {
   done = false;
   globals = record { bounds = Globals; pairs = [] };
   settings = default_settings;
@@ -42,22 +42,22 @@ nothing = record {
 }
 
 -- the level inside an element, and what was read once it begins; or the fault that is told at its tag
-abbrev pub Begun : Type 0
-Begun = Result (Level × Content) DocKind
+abbrev pub BeginResult : Type 0
+BeginResult = Result (Level × Content) DocKind
 
 -- the value of an attribute, or the empty text
-abbrev pub given : Pairs → Text → Text
-given pairs name = unwrap_or (value_of pairs name) []
+abbrev pub attribute_value : Pairs → Text → Text
+attribute_value pairs name = unwrap_or (value_of pairs name) []
 
 -- ---- globals and settings
 
-abbrev pub global_on : Content → Option (Text × Text) → Begun
+abbrev pub global_on : Content → Option (Text × Text) → BeginResult
 global_on c None = Ok (level.Empty, c)
 global_on c (Some pair) =
     if can_set c.globals pair.0 pair.1 then Ok (level.Empty, record c { globals = set_to c.globals pair.0 pair.1 }) else Err fault.TooLarge
 
-unfoldable pub global_begun : Pairs → Content → Begun
-global_begun pairs c = global_on c (global_of (given pairs (codes "data")))
+unfoldable pub global_begun : Pairs → Content → BeginResult
+global_begun pairs c = global_on c (global_of (attribute_value pairs (codes "data")))
 
 unfoldable pub section_level : Text → Level
 section_level name =
@@ -65,12 +65,13 @@ section_level name =
     else if bytes_eq name (codes "configuration") then level.Configurations
     else level.Foreign
 
-abbrev pub param_on : Content → Option Settings → Begun
+abbrev pub param_on : Content → Option Settings → BeginResult
 param_on c None = Err fault.BadSetting
 param_on c (Some settings) = Ok (level.Empty, record c { settings = settings })
 
-unfoldable pub param_begun : ConfigFile → Pairs → Content → Begun
-param_begun file pairs c = param_on c (setting file (given pairs (codes "name")) (given pairs (codes "value")) c.settings)
+unfoldable pub param_begun : ConfigFile → Pairs → Content → BeginResult
+param_begun file pairs c =
+    param_on c (setting file (attribute_value pairs (codes "name")) (attribute_value pairs (codes "value")) c.settings)
 
 -- ---- the dialplan
 
@@ -79,63 +80,63 @@ abbrev pub context_place : Text → List Context → ℕ
 context_place name contexts = position_or_len (λ context. bytes_eq context.name name) contexts
 
 -- at the place behind all others a new context begins
-abbrev pub context_at : Text → ℕ → Content → Begun
+abbrev pub context_at : Text → ℕ → Content → BeginResult
 context_at name place c =
     if nat_lt place (length c.contexts) then Ok (level.Context, record c { context = place })
     else if nat_lt (length c.contexts) 256 then Ok (level.Context, record c { context = place; contexts = c.contexts ++ record { name = name; extensions = [] } ∷ [] })
     else Err fault.TooLarge
 
 -- a name that is new is a new context
-unfoldable pub context_begun : Pairs → Content → Begun
+unfoldable pub context_begun : Pairs → Content → BeginResult
 context_begun pairs c =
-    context_at (given pairs (codes "name")) (context_place (given pairs (codes "name")) c.contexts) c
+    context_at (attribute_value pairs (codes "name")) (context_place (attribute_value pairs (codes "name")) c.contexts) c
 
-unfoldable pub extension_begun : Pairs → Content → Begun
+unfoldable pub extension_begun : Pairs → Content → BeginResult
 extension_begun pairs c =
     if nat_lt c.extensions 4096
-    then Ok (level.Extension, record c { extensions = c.extensions + 1; extension = Some (record { name = given pairs (codes "name"); goes_on = bytes_eq (given pairs (codes "continue")) (codes "true"); conditions = [] }) })
+    then Ok (level.Extension, record c { extensions = c.extensions + 1; extension = Some (record { name = attribute_value pairs (codes "name"); goes_on = bytes_eq (attribute_value pairs (codes "continue")) (codes "true"); conditions = [] }) })
     else Err fault.TooLarge
 
 -- a condition of this test and break, without actions
 abbrev pub condition_of : Pairs → Test Text → Condition
 condition_of pairs tested =
-    record { test = tested; stop = unwrap_or (break_of (given pairs (codes "break"))) break.OnFalse; actions = []; anti = [] }
+    record { test = tested; stop = unwrap_or (break_of (attribute_value pairs (codes "break"))) break.OnFalse; actions = []; anti = [] }
 
 -- one more pattern is counted
 unfoldable pub pattern_counted : Pairs → Content → Result Content DocKind
 pattern_counted pairs c =
-    if nat_lt 1024 (length (given pairs (codes "expression"))) || nat_le 4096 c.patterns then Err fault.TooLarge
+    if nat_lt 1024 (length (attribute_value pairs (codes "expression"))) || nat_le 4096 c.patterns then Err fault.TooLarge
     else Ok (record c { patterns = c.patterns + 1 })
 
 -- a condition with a pattern
-unfoldable pub pattern_begun : Pairs → Content → Begun
+unfoldable pub pattern_begun : Pairs → Content → BeginResult
 pattern_begun pairs c =
     pattern_counted pairs c >>= λ d.
-    Ok (level.Condition, record d { condition = Some (condition_of pairs (test.Plain (given pairs (codes "field")) (given pairs (codes "expression")))) })
+    Ok (level.Condition, record d { condition = Some (condition_of pairs (test.Plain (attribute_value pairs (codes "field")) (attribute_value pairs (codes "expression")))) })
 
 -- a condition with `regex` has children, one with a field or an expression has a pattern, and any other is true
-abbrev pub condition_on : Pairs → Content → Option ManyKind → Begun
+abbrev pub condition_on : Pairs → Content → Option ManyKind → BeginResult
 condition_on pairs c (Some many) = Ok (level.Cases, record c { condition = Some (condition_of pairs (test.Many many [])) })
 condition_on pairs c None =
     if has pairs (codes "field") || has pairs (codes "expression") then pattern_begun pairs c
     else Ok (level.Condition, record c { condition = Some (condition_of pairs test.Always) })
 
-unfoldable pub condition_begun : Pairs → Content → Begun
-condition_begun pairs c = condition_on pairs c (many_of (given pairs (codes "regex")))
+unfoldable pub condition_begun : Pairs → Content → BeginResult
+condition_begun pairs c = condition_on pairs c (many_of (attribute_value pairs (codes "regex")))
 
 -- a child of the open condition
-unfoldable pub case_begun : Pairs → Content → Begun
+unfoldable pub case_begun : Pairs → Content → BeginResult
 case_begun pairs c =
     pattern_counted pairs c >>= λ d.
-    Ok (level.Empty, record d { condition = option_map (with_child (given pairs (codes "field")) (given pairs (codes "expression"))) d.condition })
+    Ok (level.Empty, record d { condition = option_map (with_child (attribute_value pairs (codes "field")) (attribute_value pairs (codes "expression"))) d.condition })
 
 unfoldable pub is_inline : Pairs → Bool
-is_inline pairs = bytes_eq (given pairs (codes "inline")) (codes "true")
+is_inline pairs = bytes_eq (attribute_value pairs (codes "inline")) (codes "true")
 
 abbrev pub action_of : Pairs → PlanAction
-action_of pairs = record { application = given pairs (codes "application"); argument = given pairs (codes "data"); inline = is_inline pairs }
+action_of pairs = record { application = attribute_value pairs (codes "application"); argument = attribute_value pairs (codes "data"); inline = is_inline pairs }
 
-unfoldable pub action_begun : Bool → Pairs → Content → Begun
+unfoldable pub action_begun : Bool → Pairs → Content → BeginResult
 action_begun anti pairs c =
     if nat_lt c.actions 32768
     then Ok (level.Empty, record c { actions = c.actions + 1; condition = option_map (with_action anti (action_of pairs)) c.condition })
@@ -143,20 +144,20 @@ action_begun anti pairs c =
 
 -- ---- any element
 
-unfoldable pub begun : Kind → Pairs → Content → Begun
-begun kind.Document pairs c = Ok (level.Document, c)
-begun kind.Global pairs c = global_begun pairs c
-begun kind.Section pairs c = Ok (section_level (given pairs (codes "name")), c)
-begun kind.Configuration pairs c = Ok (level.Configuration (file_of (given pairs (codes "name"))), c)
-begun (kind.Settings file) pairs c = Ok (level.Settings file, c)
-begun (kind.Param file) pairs c = param_begun file pairs c
-begun kind.Context pairs c = context_begun pairs c
-begun kind.Extension pairs c = extension_begun pairs c
-begun kind.Condition pairs c = condition_begun pairs c
-begun kind.Case pairs c = case_begun pairs c
-begun kind.Action pairs c = action_begun false pairs c
-begun kind.AntiAction pairs c = action_begun true pairs c
-begun kind.Foreign pairs c = Ok (level.Foreign, c)
+unfoldable pub element_begun : Kind → Pairs → Content → BeginResult
+element_begun kind.Document pairs c = Ok (level.Document, c)
+element_begun kind.Global pairs c = global_begun pairs c
+element_begun kind.Section pairs c = Ok (section_level (attribute_value pairs (codes "name")), c)
+element_begun kind.Configuration pairs c = Ok (level.Configuration (file_of (attribute_value pairs (codes "name"))), c)
+element_begun (kind.Settings file) pairs c = Ok (level.Settings file, c)
+element_begun (kind.Param file) pairs c = param_begun file pairs c
+element_begun kind.Context pairs c = context_begun pairs c
+element_begun kind.Extension pairs c = extension_begun pairs c
+element_begun kind.Condition pairs c = condition_begun pairs c
+element_begun kind.Case pairs c = case_begun pairs c
+element_begun kind.Action pairs c = action_begun false pairs c
+element_begun kind.AntiAction pairs c = action_begun true pairs c
+element_begun kind.Foreign pairs c = Ok (level.Foreign, c)
 
 -- the open extension, if there is one, stands in its context
 abbrev pub extension_ended : Content → Option Extension → Content
@@ -172,9 +173,9 @@ condition_ended c None = c
 condition_ended c (Some condition) = record c { condition = None; extension = option_map (extended condition) c.extension }
 
 -- what was read, once an element ends whose inside has this level
-unfoldable pub ended : Level → Content → Content
-ended level.Document c = record c { done = true }
-ended level.Extension c = extension_ended c c.extension
-ended level.Condition c = condition_ended c c.condition
-ended level.Cases c = condition_ended c c.condition
-ended _ c = c
+unfoldable pub element_ended : Level → Content → Content
+element_ended level.Document c = record c { done = true }
+element_ended level.Extension c = extension_ended c c.extension
+element_ended level.Condition c = condition_ended c c.condition
+element_ended level.Cases c = condition_ended c c.condition
+element_ended _ c = c

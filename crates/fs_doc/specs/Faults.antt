@@ -41,16 +41,16 @@ Gives view (Ok x) read = read ≡ Ok (view x)
 Gives view (Err e) read = read ≡ Err e
 
 -- want of memory says nothing of what is read; any other stop is the fault that is read
-abbrev pub StopsSo : {Y : Type 0} → DocStop → Result Y DocFault → Type 0
-StopsSo stop.Memory read = Unit {0}
-StopsSo (stop.Fault f) read = read ≡ Err f
+abbrev pub DocStops : {Y : Type 0} → DocStop → Result Y DocFault → Type 0
+DocStops stop.Memory read = Unit {0}
+DocStops (stop.Fault f) read = read ≡ Err f
 
 -- as `Gives`, where memory may be wanting
-abbrev pub Answers : {X Y : Type 0} → (X → Y) → Result X DocStop → Result Y DocFault → Type 0
-Answers view (Ok x) read = read ≡ Ok (view x)
-Answers view (Err e) read = StopsSo e read
+abbrev pub DocGives : {X Y : Type 0} → (X → Y) → Result X DocStop → Result Y DocFault → Type 0
+DocGives view (Ok x) read = read ≡ Ok (view x)
+DocGives view (Err e) read = DocStops e read
 
 -- the same, where want of memory is a fault of its own with the place 0
-abbrev pub Tells : {X Y : Type 0} → (X → Y) → Result X DocFault → Result Y DocFault → Type 0
-Tells view (Ok x) read = read ≡ Ok (view x)
-Tells view (Err f) read = (f ≡ record { at = 0; kind = kind.Memory }) ⊎ (read ≡ Err f)
+abbrev pub ConfigGives : {X Y : Type 0} → (X → Y) → Result X DocFault → Result Y DocFault → Type 0
+ConfigGives view (Ok x) read = read ≡ Ok (view x)
+ConfigGives view (Err f) read = (f ≡ record { at = 0; kind = kind.Memory }) ⊎ (read ≡ Err f)

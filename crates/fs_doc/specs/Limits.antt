@@ -19,17 +19,17 @@ pub record AreInRange (s : Settings) : Type 0 where
   pub connections : (1 ≤ s.max_connections) × (s.max_connections ≤ 16)
 
 -- how many patterns a test has
-abbrev pub patterns_tested : Test Text → ℕ
-patterns_tested test.Always = 0
-patterns_tested (test.Plain field expression) = 1
-patterns_tested (test.Many which children) = length children
+abbrev pub test_pattern_count : Test Text → ℕ
+test_pattern_count test.Always = 0
+test_pattern_count (test.Plain field expression) = 1
+test_pattern_count (test.Many which children) = length children
 
-abbrev pub patterns_of : Condition → ℕ
-patterns_of k = patterns_tested k.test
+abbrev pub pattern_count : Condition → ℕ
+pattern_count k = test_pattern_count k.test
 
 -- its actions and anti-actions
-abbrev pub actions_of : Condition → ℕ
-actions_of k = length k.actions + length k.anti
+abbrev pub action_count : Condition → ℕ
+action_count k = length k.actions + length k.anti
 
 -- what the conditions of an extension have together
 abbrev pub in_extension : (Condition → ℕ) → Extension → ℕ
@@ -51,5 +51,5 @@ pub record IsWithin (c : Configuration) : Type 0 where
   pub globals : c.globals.bounds ≡ Globals
   pub contexts : length c.contexts ≤ 256
   pub extensions : in_all one c.contexts ≤ 4096
-  pub patterns : in_all (in_extension patterns_of) c.contexts ≤ 4096
-  pub actions : in_all (in_extension actions_of) c.contexts ≤ 32768
+  pub patterns : in_all (in_extension pattern_count) c.contexts ≤ 4096
+  pub actions : in_all (in_extension action_count) c.contexts ≤ 32768

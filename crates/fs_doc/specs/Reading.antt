@@ -22,7 +22,7 @@ use Rattle.fs_doc.specs.declared.content.Content.{Content}
 use Rattle.fs_doc.specs.Dialplans.{Context}
 use Rattle.fs_doc.specs.Elements.{kind_in}
 use Rattle.fs_doc.specs.Attributes.{pairs_read}
-use Rattle.fs_doc.specs.Contents.{nothing, begun, ended}
+use Rattle.fs_doc.specs.Contents.{new_content, element_begun, element_ended}
 use Rattle.fs_doc.specs.Faults.{fault, or_at}
 
 -- an element that has not ended: the level of its inside, and its name
@@ -31,7 +31,7 @@ pub record Opened : Type 0 where
   pub name : Text
 
 -- the open elements, innermost first, and what was read
-pub record Reading : Type 0 where
+pub record ReadSoFar : Type 0 where
   pub opened : List Opened
   pub content : Content
 
@@ -84,71 +84,72 @@ mark_read done outside end at bytes =
 -- ---- elements
 
 -- an element with an end tag to come is open; an empty one is over
-abbrev pub with_element : Ending → Text → List Opened → Level × Content → Reading
+abbrev pub with_element : Ending → Text → List Opened → Level × Content → ReadSoFar
 with_element Opens name opened x = record { opened = record { level = x.0; name = name } ∷ opened; content = x.1 }
-with_element Closes name opened x = record { opened = opened; content = ended x.0 x.1 }
+with_element Closes name opened x = record { opened = opened; content = element_ended x.0 x.1 }
 
 -- the element is judged: its place, its attributes, and then what it adds
 unfoldable pub element_read : ℕ → Text → BodyText → Level → Content → Result (Level × Content) DocFault
 element_read at name body level c =
     or_at at (kind_in level c.done name) >>= λ kind.
-    (pairs_read (record { kind = kind; tag = at; globals = c.globals.pairs; attrs = body.attrs }) body.malformed >>= λ pairs. or_at at (begun kind pairs c))
+    (pairs_read (record { kind = kind; tag = at; globals = c.globals.pairs; attrs = body.attrs }) body.malformed >>= λ pairs. or_at at (element_begun kind pairs c))
 
-unfoldable pub entered : ℕ → Text → BodyText → Reading → Result Reading DocFault
-entered at name body r = element_read at name body (level_in r.opened) r.content >>= λ x. Ok (with_element body.ending name r.opened x)
+unfoldable pub start_entered : ℕ → Text → BodyText → ReadSoFar → Result ReadSoFar DocFault
+start_entered at name body r =
+    element_read at name body (level_in r.opened) r.content >>= λ x. Ok (with_element body.ending name r.opened x)
 
 -- an end tag ends the innermost element, whose name it has
-abbrev pub left_from : ℕ → Text → List Opened → Content → Result Reading DocFault
-left_from at name [] c = fault at kind.BadTag
-left_from at name (o ∷ opened) c = if bytes_eq o.name name then Ok (record { opened = opened; content = ended o.level c }) else fault at kind.BadTag
+abbrev pub end_entered_from : ℕ → Text → List Opened → Content → Result ReadSoFar DocFault
+end_entered_from at name [] c = fault at kind.BadTag
+end_entered_from at name (o ∷ opened) c = if bytes_eq o.name name then Ok (record { opened = opened; content = element_ended o.level c }) else fault at kind.BadTag
 
-unfoldable pub left : ℕ → Text → Reading → Result Reading DocFault
-left at name r = left_from at name r.opened r.content
+unfoldable pub end_entered : ℕ → Text → ReadSoFar → Result ReadSoFar DocFault
+end_entered at name r = end_entered_from at name r.opened r.content
 
 -- a comment stands wherever an element may
 abbrev pub is_empty_level : Level → Bool
 is_empty_level level.Empty = true
 is_empty_level _ = false
 
-unfoldable pub mark_entered : ℕ → Mark → Reading → Result Reading DocFault
+unfoldable pub mark_entered : ℕ → Mark → ReadSoFar → Result ReadSoFar DocFault
 mark_entered at Comment r = if is_empty_level (level_in r.opened) then fault at kind.BadTag else Ok r
-mark_entered at (End name) r = left at name r
-mark_entered at (Start name body) r = entered at name body r
+mark_entered at (End name) r = end_entered at name r
+mark_entered at (Start name body) r = start_entered at name body r
 
 -- ---- rounds
 
 -- the document is over, or the reading goes on
 pub data Next : Type 0 where
   Over : Content → Next
-  On : Reading → Text → Next
+  On : ReadSoFar → Text → Next
 
 abbrev pub Nexts : Type 0
 Nexts = Result Next DocFault
 
 -- the markup in front
-unfoldable pub at_mark : ℕ → Reading → Text → Nexts
+unfoldable pub at_mark : ℕ → ReadSoFar → Text → Nexts
 at_mark end r [] = if is_outside r.opened && r.content.done then Ok (Over r.content) else fault end kind.Truncated
 at_mark end r (b ∷ rest) =
     mark_read r.content.done (is_outside r.opened) end (place end (b ∷ rest)) rest >>= λ x. (mark_entered (place end (b ∷ rest)) x.0 r >>= λ next. Ok (On next x.1))
 
 -- the text in front, and the markup behind it
-unfoldable pub round : ℕ → Reading → Text → Nexts
+unfoldable pub round : ℕ → ReadSoFar → Text → Nexts
 round end r bytes = text_at end (level_in r.opened) bytes >>= λ rest. at_mark end r rest
 
 abbrev pub Contents : Type 0
 Contents = Result Content DocFault
 
-abbrev pub with_round : (Reading → Text → Contents) → Next → Contents
+abbrev pub with_round : (ReadSoFar → Text → Contents) → Next → Contents
 with_round more (Over c) = Ok c
 with_round more (On r rest) = more r rest
 
 -- with no more than so many rounds
-abbrev pub read_within : ℕ → ℕ → Reading → Text → Contents
+abbrev pub read_within : ℕ → ℕ → ReadSoFar → Text → Contents
 read_within zero end r bytes = fault end kind.Truncated
 read_within (suc more) end r bytes = round end r bytes >>= λ next. with_round (λ r rest. read_within more end r rest) next
 
-abbrev pub at_first : Reading
-at_first = record { opened = []; content = nothing }
+abbrev pub at_first : ReadSoFar
+at_first = record { opened = []; content = new_content }
 
 -- what is read from the first byte behind the declaration on
 unfoldable pub document_of : ℕ → Text → Contents
@@ -185,4 +186,4 @@ configured c = record { settings = c.settings; globals = c.globals; contexts = c
 unfoldable pub config_of : Text → Result Configuration DocFault
 config_of bytes =
     if nat_lt 1048576 (length bytes) then fault 1048576 kind.TooLarge
-    else ((if length (past is_blank bytes) == 0 then Ok nothing else content_of bytes) >>= λ c. Ok (configured c))
+    else ((if length (past is_blank bytes) == 0 then Ok new_content else content_of bytes) >>= λ c. Ok (configured c))

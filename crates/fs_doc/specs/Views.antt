@@ -6,12 +6,12 @@ use Rattle.fs_doc.specs.declared.config.Config.{Config}
 use Rattle.fs_doc.specs.declared.content.Content.{Content}
 use Rattle.fs_doc.specs.declared.state.Open.{Open}
 use Rattle.fs_doc.specs.declared.state.State.{State}
-use Rattle.fs_doc.specs.Reading.{Opened, Reading, Next, Over, On, Configuration}
+use Rattle.fs_doc.specs.Reading.{Opened, ReadSoFar, Next, Over, On, Configuration}
 
 abbrev pub opened_of : Open → Opened
 opened_of o = record { level = o.level; name = o.name.now }
 
-abbrev pub reading_of : State → Reading
+abbrev pub reading_of : State → ReadSoFar
 reading_of s = record { opened = reverse (map opened_of s.opened.items); content = s.content }
 
 abbrev pub content_seen : Content → Content
@@ -21,9 +21,9 @@ abbrev pub rest_seen : Bor Text → Text
 rest_seen rest = rest.now
 
 -- the reading goes on where there is a rest
-abbrev pub next_of : State → Option (Bor Text) → Next
-next_of s None = Over s.content
-next_of s (Some rest) = On (reading_of s) rest.now
+abbrev pub next_seen : State → Option (Bor Text) → Next
+next_seen s None = Over s.content
+next_seen s (Some rest) = On (reading_of s) rest.now
 
 abbrev pub RestIsShorter : Text → Option (Bor Text) → Type 0
 RestIsShorter text rest = IfSome rest (λ r. length r.now < length text)

@@ -1,7 +1,7 @@
 ghost use Rattle.std.specs.Prelude.{◌≡◌, [], map, IfOk, option_map};
 ghost use Rattle.std.specs.Str.{is_utf8};
 ghost use Rattle.fs_xml.specs.Attributes.{written_of};
-ghost use Rattle.fs_doc.specs.Faults.{Answers};
+ghost use Rattle.fs_doc.specs.Faults.{DocGives};
 ghost use Rattle.fs_doc.specs.Attributes as judged;
 ghost use Rattle.fs_doc.specs.Tagged.{tagged_of, pairs_seen, text_seen};
 
@@ -211,8 +211,8 @@ fn written_as<'e, 'a>(name: &[u8], attrs: &'e [Attr<'a>]) -> Option<&'e Attr<'a>
 }
 
 /// Where a fault of an attribute is told: an unknown command at the tag, all else at the attribute's name.
-fn told_at(tag: usize, name: usize, kind: DocKind) -> usize
-    ensures { result ≡ judged.told_at tag name kind }
+fn fault_place(tag: usize, name: usize, kind: DocKind) -> usize
+    ensures { result ≡ judged.fault_place tag name kind }
 {
     match kind {
         DocKind::UnknownElement => tag,
@@ -225,7 +225,7 @@ impl<'e, 'a> Element<'e, 'a> {
     /// that is missing.
     #[tactic(auto, unfolding(crate::specs::Attributes::pairs_read))]
     pub fn pairs(&self, alloc: Global, malformed: Option<usize>) -> Result<Given<'a>, DocStop>
-        ensures { Answers pairs_seen result (judged.pairs_read (tagged_of self.now) malformed) }
+        ensures { DocGives pairs_seen result (judged.pairs_read (tagged_of self.now) malformed) }
     {
         let given = self.all_read(alloc)?;
         if let Some(at) = malformed {
@@ -238,7 +238,7 @@ impl<'e, 'a> Element<'e, 'a> {
     }
 
     fn all_read(&self, alloc: Global) -> Result<Given<'a>, DocStop>
-        ensures { Answers pairs_seen result (judged.attributes_read (tagged_of self.now) [] (map written_of self.now.attrs.now)) }
+        ensures { DocGives pairs_seen result (judged.attributes_read (tagged_of self.now) [] (map written_of self.now.attrs.now)) }
     {
         let mut given = Given::new(alloc);
         let mut left = self.attrs;
@@ -252,7 +252,7 @@ impl<'e, 'a> Element<'e, 'a> {
     /// Adds one attribute.
     #[tactic(auto, unfolding(crate::specs::Attributes::attribute_read))]
     fn read(&self, alloc: Global, attr: &Attr<'a>, given: &mut Given<'a>) -> Result<(), DocStop>
-        ensures { Answers (λ _. given.new) result (judged.attribute_read (tagged_of self.now) given.old (written_of attr.now)) }
+        ensures { DocGives (λ _. given.new) result (judged.attribute_read (tagged_of self.now) given.old (written_of attr.now)) }
     {
         if given.has(attr.name) {
             return Err(DocStop::at(attr.at, DocKind::BadAttribute));
@@ -262,7 +262,7 @@ impl<'e, 'a> Element<'e, 'a> {
         }
         let text = self.text(alloc, attr)?;
         if let Some(kind) = self.value_fault(alloc, attr.name, text.as_bytes())? {
-            return Err(DocStop::at(told_at(self.tag, attr.at, kind), kind));
+            return Err(DocStop::at(fault_place(self.tag, attr.at, kind), kind));
         }
         given.push(attr.name, text)?;
         Ok(())
@@ -281,7 +281,7 @@ impl<'e, 'a> Element<'e, 'a> {
     /// The text of a value.
     #[tactic(auto, unfolding(crate::specs::Attributes::text_read))]
     fn text(&self, alloc: Global, attr: &Attr<'a>) -> Result<Txt, DocStop>
-        ensures { Answers text_seen result (judged.text_read (tagged_of self.now) (written_of attr.now)) }
+        ensures { DocGives text_seen result (judged.text_read (tagged_of self.now) (written_of attr.now)) }
     {
         match read_value(
             alloc,

@@ -1,5 +1,5 @@
 ghost use Rattle.std.specs.Prelude.{◌≡◌, ◌≤◌, false, true, length, IfOk, OnOk};
-ghost use Rattle.fs_doc.specs.Faults.{Answers, or_at};
+ghost use Rattle.fs_doc.specs.Faults.{DocGives, or_at};
 ghost use Rattle.fs_doc.specs.Contents as contents;
 
 use crate::attributes::{break_of, global_of, many_of};
@@ -61,9 +61,9 @@ impl Drop for Content {
 
 impl Content {
     /// Before anything is read.
-    #[tactic(auto, unfolding(crate::specs::Contents::nothing))]
+    #[tactic(auto, unfolding(crate::specs::Contents::new_content))]
     pub fn new(alloc: Global) -> Result<Content, Memory>
-        ensures { IfOk result (λ c. c ≡ contents.nothing) }
+        ensures { IfOk result (λ c. c ≡ contents.new_content) }
     {
         Ok(Content {
             done: false,
@@ -99,7 +99,7 @@ impl Content {
     }
 
     /// Begins an element, and says what may stand in it.
-    #[tactic(auto, unfolding(crate::specs::Contents::begun))]
+    #[tactic(auto, unfolding(crate::specs::Contents::element_begun))]
     pub fn begin(
         &mut self,
         alloc: Global,
@@ -107,7 +107,8 @@ impl Content {
         kind: Kind,
         given: &Given<'_>,
     ) -> Result<Level, DocStop>
-        ensures { Answers (λ level. (level, self.new)) result (or_at at (contents.begun kind given.now self.old)) }
+        ensures { DocGives (λ level. (level, self.new)) result
+            (or_at at (contents.element_begun kind given.now self.old)) }
     {
         match kind {
             Kind::Document => Ok(Level::Document),
@@ -130,7 +131,7 @@ impl Content {
 
     #[tactic(auto, unfolding(crate::specs::Contents::global_begun))]
     fn set_global(&mut self, at: usize, given: &Given<'_>) -> Result<Level, DocStop>
-        ensures { Answers (λ level. (level, self.new)) result (or_at at (contents.global_begun given.now self.old)) }
+        ensures { DocGives (λ level. (level, self.new)) result (or_at at (contents.global_begun given.now self.old)) }
     {
         let Some((name, value)) = global_of(given.bytes(b"data")) else {
             return Ok(Level::Empty);
@@ -150,7 +151,7 @@ impl Content {
         file: ConfigFile,
         given: &Given<'_>,
     ) -> Result<Level, DocStop>
-        ensures { Answers (λ level. (level, self.new)) result (or_at at (contents.param_begun file given.now self.old)) }
+        ensures { DocGives (λ level. (level, self.new)) result (or_at at (contents.param_begun file given.now self.old)) }
     {
         let value = given.text(alloc, b"value")?;
         match self.settings.set(file, given.bytes(b"name"), value) {
@@ -166,7 +167,7 @@ impl Content {
         at: usize,
         given: &Given<'_>,
     ) -> Result<Level, DocStop>
-        ensures { Answers (λ level. (level, self.new)) result (or_at at (contents.context_begun given.now self.old)) }
+        ensures { DocGives (λ level. (level, self.new)) result (or_at at (contents.context_begun given.now self.old)) }
     {
         let contexts = self.contexts.as_slice();
         let len = contexts.len();
@@ -190,7 +191,7 @@ impl Content {
         at: usize,
         given: &Given<'_>,
     ) -> Result<Level, DocStop>
-        ensures { Answers (λ level. (level, self.new)) result (or_at at (contents.extension_begun given.now self.old)) }
+        ensures { DocGives (λ level. (level, self.new)) result (or_at at (contents.extension_begun given.now self.old)) }
     {
         if self.extensions >= MOST_EXTENSIONS {
             return Err(DocStop::at(at, DocKind::TooLarge));
@@ -211,7 +212,7 @@ impl Content {
         at: usize,
         given: &Given<'_>,
     ) -> Result<Level, DocStop>
-        ensures { Answers (λ level. (level, self.new)) result (or_at at (contents.condition_begun given.now self.old)) }
+        ensures { DocGives (λ level. (level, self.new)) result (or_at at (contents.condition_begun given.now self.old)) }
     {
         if let Some(kind) = many_of(given.bytes(b"regex")) {
             let children = Listed::new(alloc);
@@ -233,7 +234,7 @@ impl Content {
         at: usize,
         given: &Given<'_>,
     ) -> Result<Level, DocStop>
-        ensures { Answers (λ level. (level, self.new)) result (or_at at (contents.pattern_begun given.now self.old)) }
+        ensures { DocGives (λ level. (level, self.new)) result (or_at at (contents.pattern_begun given.now self.old)) }
     {
         self.count_pattern(at, given)?;
         let field = given.text(alloc, b"field")?;
@@ -246,7 +247,7 @@ impl Content {
     /// Counts a pattern.
     #[tactic(auto, unfolding(crate::specs::Contents::pattern_counted))]
     fn count_pattern(&mut self, at: usize, given: &Given<'_>) -> Result<(), DocStop>
-        ensures { Answers (λ _. self.new) result (or_at at (contents.pattern_counted given.now self.old)) }
+        ensures { DocGives (λ _. self.new) result (or_at at (contents.pattern_counted given.now self.old)) }
     {
         let len = given.bytes(b"expression").len();
         if len > PATTERN_LIMIT || self.patterns >= MOST_PATTERNS {
@@ -258,7 +259,7 @@ impl Content {
 
     #[tactic(auto, unfolding(crate::specs::Contents::case_begun))]
     fn add_case(&mut self, alloc: Global, at: usize, given: &Given<'_>) -> Result<Level, DocStop>
-        ensures { Answers (λ level. (level, self.new)) result (or_at at (contents.case_begun given.now self.old)) }
+        ensures { DocGives (λ level. (level, self.new)) result (or_at at (contents.case_begun given.now self.old)) }
     {
         self.count_pattern(at, given)?;
         let field = given.text(alloc, b"field")?;
@@ -277,7 +278,7 @@ impl Content {
         anti: bool,
         given: &Given<'_>,
     ) -> Result<Level, DocStop>
-        ensures { Answers (λ level. (level, self.new)) result (or_at at (contents.action_begun anti given.now self.old)) }
+        ensures { DocGives (λ level. (level, self.new)) result (or_at at (contents.action_begun anti given.now self.old)) }
     {
         if self.actions >= MOST_ACTIONS {
             return Err(DocStop::at(at, DocKind::TooLarge));
@@ -291,9 +292,9 @@ impl Content {
     }
 
     /// Ends the element that these stood in.
-    #[tactic(auto, unfolding(crate::specs::Contents::ended))]
+    #[tactic(auto, unfolding(crate::specs::Contents::element_ended))]
     pub fn end(&mut self, level: Level) -> Result<(), Memory>
-        ensures { OnOk result (self.new ≡ contents.ended level self.old) }
+        ensures { OnOk result (self.new ≡ contents.element_ended level self.old) }
     {
         match level {
             Level::Document => {

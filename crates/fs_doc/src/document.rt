@@ -2,7 +2,7 @@ ghost use Rattle.std.specs.Prelude.{◌≡◌, ◌<◌, ◌≤◌, length, IfOk}
 ghost use Rattle.fs_vars.specs.Pairs.{Text};
 ghost use Rattle.fs_xml.specs.Markup.{mark_seen};
 ghost use Rattle.fs_doc.specs.declared.content.Content.{Content};
-ghost use Rattle.fs_doc.specs.Faults.{Answers, Gives, Tells};
+ghost use Rattle.fs_doc.specs.Faults.{DocGives, Gives, ConfigGives};
 ghost use Rattle.fs_doc.specs.Reading as reading;
 ghost use Rattle.fs_doc.specs.Views as views;
 
@@ -25,7 +25,7 @@ const MOST_BYTES: usize = 1_048_576;
 /// attributes in their order, then a malformed or a missing one, and last a limit or a setting. Want of memory is told at place 0.
 #[tactic(auto, unfolding(crate::specs::Reading::config_of))]
 pub fn read_config(alloc: Global, bytes: &[u8]) -> Result<Config, DocFault>
-    ensures { Tells views.configuration_of result (reading.config_of bytes.now) }
+    ensures { ConfigGives views.configuration_of result (reading.config_of bytes.now) }
 {
     match config_of(alloc, bytes) {
         Ok(config) => Ok(config),
@@ -39,7 +39,7 @@ pub fn read_config(alloc: Global, bytes: &[u8]) -> Result<Config, DocFault>
 
 #[tactic(auto, unfolding(crate::specs::Reading::config_of))]
 fn config_of(alloc: Global, bytes: &[u8]) -> Result<Config, DocStop>
-    ensures { Answers views.configuration_of result (reading.config_of bytes.now) }
+    ensures { DocGives views.configuration_of result (reading.config_of bytes.now) }
 {
     if bytes.len() > MOST_BYTES {
         return Err(DocStop::at(MOST_BYTES, DocKind::TooLarge));
@@ -53,7 +53,7 @@ fn config_of(alloc: Global, bytes: &[u8]) -> Result<Config, DocStop>
 /// What is read of a document that is not blank.
 #[tactic(auto, unfolding(crate::specs::Reading::content_of))]
 fn content_of(alloc: Global, bytes: &[u8]) -> Result<Content, DocStop>
-    ensures { Answers views.content_seen result (reading.content_of bytes.now) }
+    ensures { DocGives views.content_seen result (reading.content_of bytes.now) }
 {
     let rest = past_declaration(bytes)?;
     read_rounds(alloc, bytes.len(), rest)
@@ -63,7 +63,7 @@ fn content_of(alloc: Global, bytes: &[u8]) -> Result<Content, DocStop>
 #[tactic(auto, unfolding(crate::specs::Reading::document_of))]
 fn read_rounds(alloc: Global, end: usize, text: &[u8]) -> Result<Content, DocStop>
     requires { length text.now ≤ end }
-    ensures { Answers views.content_seen result (reading.document_of end text.now) }
+    ensures { DocGives views.content_seen result (reading.document_of end text.now) }
 {
     let mut state = State::new(alloc)?;
     let mut left = text;
@@ -84,7 +84,7 @@ fn round<'a>(
     text: &'a [u8],
 ) -> Result<Option<&'a [u8]>, DocStop>
     requires { length text.now ≤ end }
-    ensures read { Answers (views.next_of state.new) result (reading.round end (views.reading_of state.old) text.now) }
+    ensures read { DocGives (views.next_seen state.new) result (reading.round end (views.reading_of state.old) text.now) }
     ensures within { IfOk result (views.RestIsShorter text.now) }
 {
     let rest = past_text(end, state.level(), text)?;
@@ -95,7 +95,7 @@ fn round<'a>(
 #[tactic(auto, unfolding(crate::specs::Reading::text_at))]
 fn past_text(end: usize, level: Level, text: &[u8]) -> Result<&[u8], DocStop>
     requires { length text.now ≤ end }
-    ensures read { Answers views.rest_seen result (reading.text_at end level text.now) }
+    ensures read { DocGives views.rest_seen result (reading.text_at end level text.now) }
     ensures within { IfOk result (λ rest. length rest.now ≤ length text.now) }
 {
     match level {
@@ -115,7 +115,7 @@ fn past_any_text(text: &[u8]) -> &[u8]
 
 fn past_blank_text(end: usize, level: Level, text: &[u8]) -> Result<&[u8], DocStop>
     requires { length text.now ≤ end }
-    ensures read { Answers views.rest_seen result (reading.blank_text end level text.now) }
+    ensures read { DocGives views.rest_seen result (reading.blank_text end level text.now) }
     ensures within { IfOk result (λ rest. rest.now ≡ text.now) }
 {
     match text {
@@ -142,7 +142,7 @@ fn read_mark<'a>(
     text: &'a [u8],
 ) -> Result<Option<&'a [u8]>, DocStop>
     requires { length text.now ≤ end }
-    ensures read { Answers (views.next_of state.new) result (reading.at_mark end (views.reading_of state.old) text.now) }
+    ensures read { DocGives (views.next_seen state.new) result (reading.at_mark end (views.reading_of state.old) text.now) }
     ensures within { IfOk result (views.RestIsShorter text.now) }
 {
     let [_, rest @ ..] = text else {
@@ -168,7 +168,7 @@ fn mark_read(
     text: &[u8],
 ) -> Result<(Markup<'_>, &[u8]), DocStop>
     requires { length text.now ≤ end }
-    ensures read { Answers mark_seen result (reading.mark_read done outside end at text.now) }
+    ensures read { DocGives mark_seen result (reading.mark_read done outside end at text.now) }
     ensures within { IfOk result (λ x. length x.1.now < length text.now) }
 {
     if outside && text.starts_with(b"/") {
@@ -185,7 +185,7 @@ fn mark_read(
 /// What stands behind the declaration, if there is one.
 #[tactic(auto, unfolding(crate::specs::Reading::past_declaration))]
 fn past_declaration(text: &[u8]) -> Result<&[u8], DocStop>
-    ensures read { Answers views.rest_seen result (reading.past_declaration text.now) }
+    ensures read { DocGives views.rest_seen result (reading.past_declaration text.now) }
     ensures within { IfOk result (λ rest. length rest.now ≤ length text.now) }
 {
     if text.starts_with(b"<?xml") {
@@ -199,7 +199,7 @@ fn past_declaration(text: &[u8]) -> Result<&[u8], DocStop>
 
 /// What stands behind the next `?>`.
 fn declaration_end(end: usize, text: &[u8]) -> Result<&[u8], DocStop>
-    ensures read { Answers views.rest_seen result (reading.declaration_end end text.now) }
+    ensures read { DocGives views.rest_seen result (reading.declaration_end end text.now) }
     ensures within { IfOk result (λ rest. length rest.now ≤ length text.now) }
 {
     let mut left = text;

@@ -1,6 +1,6 @@
 ghost use Rattle.std.specs.Prelude.{◌≡◌, [], ◌∷◌, ◌++◌, None, is_some, IfOk, OnOk, option_copied};
 ghost use Rattle.fs_vars.specs.Pairs.{value_of};
-ghost use Rattle.fs_doc.specs.Contents.{given};
+ghost use Rattle.fs_doc.specs.Contents.{attribute_value};
 
 use fs_text::{Memory, Txt};
 use indexmap::IndexMap;
@@ -57,7 +57,7 @@ impl<'a> Given<'a> {
 
     /// The bytes of an attribute's text, or none where there is no such attribute.
     pub fn bytes(&self, name: &[u8]) -> &[u8]
-        ensures { result.now ≡ given self.now name.now }
+        ensures { result.now ≡ attribute_value self.now name.now }
     {
         match self.get(name) {
             Some(text) => text.as_bytes(),
@@ -67,7 +67,7 @@ impl<'a> Given<'a> {
 
     /// The text of an attribute, or the empty one where there is no such attribute.
     pub fn text(&self, alloc: Global, name: &[u8]) -> Result<Txt, Memory>
-        ensures { IfOk result (λ t. t ≡ given self.now name.now) }
+        ensures { IfOk result (λ t. t ≡ attribute_value self.now name.now) }
     {
         match self.get(name) {
             Some(text) => text.copy(),

@@ -7,7 +7,7 @@ use Rattle.std.proofs.lemmas.List.Sums.{prefix_len-le-length}
 use Rattle.std.specs.List.{concat, list_any, position_or_len}
 use Rattle.std.specs.Option.{option_map}
 use Rattle.fs_frame.specs.Block.{is_lf, IsLine, without_cr, text_of, lines_of, has_text, first_text, line_of, up_to_empty, head_of}
-use Rattle.fs_frame.specs.Front.{part_of, IsPassed, IsScanned, GoesOn, IsLineAt, StandsHead}
+use Rattle.fs_frame.specs.Front.{span_bytes, IsPassed, IsScanned, GoesOn, IsLineAt, StandsHead}
 use Rattle.fs_frame.specs.declared.span.Span.{Span}
 use Rattle.fs_frame.specs.declared.scan.Scan.{Scan}
 use Rattle.fs_frame.proofs.LineLaws.{position_or_len-append, position_or_len-none, text_of-content, lines_of-line, lines_of-none, lines_of-append, has_bytes-none, has_bytes-some}
@@ -193,8 +193,8 @@ lines_of-more passed line whole is_line =
 whole-more : (passed line : List ℕ) → concat (lines_of passed) ≡ passed → IsLine line → concat (lines_of (passed ++ line)) ≡ passed ++ line
 whole-more passed line whole is_line = rw (lines_of-more passed line whole is_line, concat-append (lines_of passed) (line ∷ []), whole, append-nil line) refl
 
-part_of-append : (xs ys : List ℕ) (span : Span) → span.start + span.len ≤ length xs → part_of (xs ++ ys) span ≡ part_of xs span
-part_of-append xs ys span fits =
+span_bytes-append : (xs ys : List ℕ) (span : Span) → span.start + span.len ≤ length xs → span_bytes (xs ++ ys) span ≡ span_bytes xs span
+span_bytes-append xs ys span fits =
     rw (drop-append-le span.start xs ys (omega arith)) (take-append-le (span.start + span.len - span.start) (drop span.start xs) ys (omega (arith, length-drop span.start xs)))
 
 any-more : (lines : List (List ℕ)) (line : List ℕ) → list_any has_text (lines ++ line ∷ []) ≡ (list_any has_text lines || has_text line)
@@ -220,7 +220,8 @@ IsPassed-empty passed line is is_line empty =
 
 -- the command line
 pub IsPassed-command : (passed line : List ℕ) (span : Span) → IsPassed passed None → IsLine line → text_of line ≢ [] →
-    span.start + span.len ≤ length (passed ++ line) → part_of (passed ++ line) span ≡ text_of line → IsPassed (passed ++ line) (Some span)
+    span.start + span.len ≤ length (passed ++ line) → span_bytes (passed ++ line) span ≡ text_of line → IsPassed (passed ++ line)
+    (Some span)
 IsPassed-command passed line span is is_line some fits text =
     let none : list_any has_text (lines_of passed) ≡ false = sym is.met in
     let has : has_text line ≡ true = has_bytes-some (text_of line) some in
@@ -243,7 +244,7 @@ IsPassed-header passed line span is is_line some =
       whole = whole-more passed line is.whole is_line;
       no_head = rw (lines, head_of-append (lines_of passed) (line ∷ []) is.no_head, met, has) refl;
       met = rw (lines, any-more (lines_of passed) line, met) refl;
-      text = rw (lines, first_text-append (lines_of passed) (line ∷ []), met) (part_of-append passed line span is.within ∙ is.text);
+      text = rw (lines, first_text-append (lines_of passed) (line ∷ []), met) (span_bytes-append passed line span is.within ∙ is.text);
       within = omega (arith, is.within, length-append passed line);
     }
 
@@ -260,7 +261,7 @@ line_at passed line span is is_line =
     let met : list_any has_text (lines_of passed) ≡ true = sym is.met in
     record {
       within = omega (arith, is.within, length-append passed line);
-      text = rw (lines_of-more passed line is.whole is_line, first_text-append (lines_of passed) (line ∷ []), met) (part_of-append passed line span is.within ∙ is.text);
+      text = rw (lines_of-more passed line is.whole is_line, first_text-append (lines_of passed) (line ∷ []), met) (span_bytes-append passed line span is.within ∙ is.text);
     }
 
 -- the line at hand, behind what was passed
@@ -355,7 +356,7 @@ passes_command bytes scan next text_len len scanned goes met some is =
     let span : Span = record { start = scan.passed; len = text_len } in
     let width : scan.passed + text_len - scan.passed ≡ text_len = omega arith in
     let content_len : text_len ≤ length hand.line = omega (arith, ap length hand.line_is, length-append hand.content (10 ∷ []), hand.text_within) in
-    let text : part_of (hand.passed ++ hand.line) span ≡ text_of hand.line =
+    let text : span_bytes (hand.passed ++ hand.line) span ≡ text_of hand.line =
     rw (drop_at hand.passed hand.line scan.passed hand.passed_len, width) (ap (λ (bs : List ℕ). take text_len bs) hand.line_is ∙ take-append-le text_len hand.content (10 ∷ []) hand.text_within ∙ sym hand.text) in
     let passed : IsPassed (hand.passed ++ hand.line) (Some span) =
     IsPassed-command hand.passed hand.line span (passed_by bytes scan text_len len None hand scanned met) hand.is_line (some_text hand.content hand.line text_len hand.text hand.text_within some)

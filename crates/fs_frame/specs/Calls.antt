@@ -2,7 +2,7 @@
 use Rattle.std.specs.Prelude.{◌≡◌, ℕ, Bool, true, false, List, [], ◌∷◌, ◌++◌, ⊤}
 use Rattle.fs_frame.specs.Block.{too_long}
 use Rattle.fs_frame.specs.Blocks.{blocks_of, rest_of}
-use Rattle.fs_frame.specs.Stream.{Stream, fresh, fed_with, handed_out}
+use Rattle.fs_frame.specs.Stream.{Stream, new_stream, fed_with, after_next_block}
 use Rattle.fs_frame.specs.Next.{IsNext, bytes_of}
 use Rattle.fs_frame.specs.declared.next.Next.{Next}
 use Rattle.fs_frame.specs.declared.next.Next.TheVariants.{Block, NeedMore, TooLong}
@@ -16,11 +16,11 @@ pub data Call : Type 0 where
 abbrev pub AreAnsweredFrom : Stream → List Call → Type 0
 AreAnsweredFrom s [] = ⊤
 AreAnsweredFrom s (fed piece ∷ calls) = AreAnsweredFrom (fed_with s piece) calls
-AreAnsweredFrom s (asked next ∷ calls) = IsNext s next × AreAnsweredFrom (handed_out s) calls
+AreAnsweredFrom s (asked next ∷ calls) = IsNext s next × AreAnsweredFrom (after_next_block s) calls
 
 -- the answers are those of a new buffer
 abbrev pub AreAnswered : List Call → Type 0
-AreAnswered calls = AreAnsweredFrom fresh calls
+AreAnswered calls = AreAnsweredFrom new_stream calls
 
 -- all that was fed
 abbrev pub stream_of : List Call → List ℕ

@@ -12,13 +12,13 @@ unfoldable pub within_reach : List ℕ → List ℕ
 within_reach bytes = take 65536 bytes
 
 -- this part of the bytes
-abbrev pub part_of : List ℕ → Span → List ℕ
-part_of bytes span = slice_range bytes span.start (span.start + span.len)
+abbrev pub span_bytes : List ℕ → Span → List ℕ
+span_bytes bytes span = slice_range bytes span.start (span.start + span.len)
 
 -- the part that is the text of the command line, or nothing where it was not met
-abbrev pub command_in : List ℕ → Option Span → List ℕ
-command_in bytes None = []
-command_in bytes (Some span) = part_of bytes span
+abbrev pub command_text : List ℕ → Option Span → List ℕ
+command_text bytes None = []
+command_text bytes (Some span) = span_bytes bytes span
 
 -- where that part ends
 abbrev pub command_end : Option Span → ℕ
@@ -30,7 +30,7 @@ pub record IsPassed (passed : List ℕ) (command : Option Span) : Type 0 where
   pub whole : concat (lines_of passed) ≡ passed
   pub no_head : head_of (lines_of passed) ≡ None
   pub met : is_some command ≡ list_any has_text (lines_of passed)
-  pub text : command_in passed command ≡ first_text (lines_of passed)
+  pub text : command_text passed command ≡ first_text (lines_of passed)
   pub within : command_end command ≤ length passed
 
 -- a search of the bytes came so far
@@ -58,7 +58,7 @@ pub record GoesOn (bytes : List ℕ) (text_len len : ℕ) : Type 0 where
 -- this part of the block is its line
 pub record IsLineAt (block : List ℕ) (span : Span) : Type 0 where
   pub within : span.start + span.len ≤ length block
-  pub text : part_of block span ≡ line_of block
+  pub text : span_bytes block span ≡ line_of block
 
 -- a head of this length stands in front, and its line is this part of it
 pub record StandsHead (bytes : List ℕ) (len : ℕ) (line : Span) : Type 0 where

@@ -2,7 +2,7 @@
 use Rattle.std.specs.Prelude.{◌≡◌, ℕ, true, false, List, ◌++◌}
 use Rattle.fs_frame.specs.Block.{IsBlock, too_long}
 use Rattle.fs_frame.specs.Blocks.{HasNoBlock}
-use Rattle.fs_frame.specs.Stream.{Stream, handed_out}
+use Rattle.fs_frame.specs.Stream.{Stream, after_next_block}
 use Rattle.fs_frame.specs.declared.block.Block.{Block as LentBlock}
 use Rattle.fs_frame.specs.declared.next.Next.{Next}
 use Rattle.fs_frame.specs.declared.next.Next.TheVariants.{Block, NeedMore, TooLong}
@@ -23,6 +23,6 @@ pub record HandsOutNothing (old new : Stream) : Type 0 where
 
 -- the answer where the stream stands so: the block in front, or else whether one may still come
 abbrev pub IsNext : Stream → Next → Type 0
-IsNext s (Block block) = HandsOut s (handed_out s) (bytes_of block)
-IsNext s NeedMore = HandsOutNothing s (handed_out s) × (too_long s.rest ≡ false)
-IsNext s (TooLong len) = HandsOutNothing s (handed_out s) × (too_long s.rest ≡ true) × (len ≡ 65537)
+IsNext s (Block block) = HandsOut s (after_next_block s) (bytes_of block)
+IsNext s NeedMore = HandsOutNothing s (after_next_block s) × (too_long s.rest ≡ false)
+IsNext s (TooLong len) = HandsOutNothing s (after_next_block s) × (too_long s.rest ≡ true) × (len ≡ 65537)

@@ -8,15 +8,15 @@ pub record Stream : Type 0 where
   pub rest : List ℕ
 
 -- nothing was fed yet
-abbrev pub fresh : Stream
-fresh = record { last = []; rest = [] }
+abbrev pub new_stream : Stream
+new_stream = record { last = []; rest = [] }
 
 -- one more piece was fed
 abbrev pub fed_with : Stream → List ℕ → Stream
 fed_with s piece = record { last = []; rest = s.rest ++ piece }
 
 -- the block in front was handed out, if one stood there
-unfoldable pub handed_out : Stream → Stream
-handed_out s =
+unfoldable pub after_next_block : Stream → Stream
+after_next_block s =
     let block = unwrap_or (front_of s.rest) [] in
     record { last = block; rest = drop (length block) s.rest }

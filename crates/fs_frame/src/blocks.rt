@@ -38,7 +38,7 @@ impl Blocks {
     ghost use Rattle.std.specs.Prelude.{◌≡◌, [], IfOk, OnOk, OnErr};
     ghost use Rattle.std.specs.Borrow.{sem};
     ghost use Rattle.std.specs.Io.BufRead.{Rests};
-    ghost use Rattle.fs_frame.specs.Stream.{fresh, fed_with, handed_out};
+    ghost use Rattle.fs_frame.specs.Stream.{new_stream, fed_with, after_next_block};
     ghost use Rattle.fs_frame.specs.Next.{IsNext};
     ghost use Rattle.fs_frame.specs.Answer.{HasLine, IsAnswer};
     ghost use Rattle.fs_frame.specs.Front.{IsFront};
@@ -46,7 +46,7 @@ impl Blocks {
 
     /// A buffer to which nothing was fed.
     pub fn new(alloc: Global) -> Result<Blocks, Memory>
-        ensures { IfOk result (λ b. b ≡ fresh) }
+        ensures { IfOk result (λ b. b ≡ new_stream) }
     {
         let bytes = Vec::with_capacity(alloc, FIRST_BYTES)?;
         Ok(Blocks {
@@ -92,7 +92,7 @@ impl Blocks {
 
     // Goes behind the block in front, and says what stood there.
     fn advance(&mut self) -> Front
-        ensures after { self.new ≡ handed_out self.old }
+        ensures after { self.new ≡ after_next_block self.old }
         ensures front { IsFront self.old.rest result }
     {
         self.lent = self.start;

@@ -24,7 +24,7 @@ use Rattle.regex_syntax.specs.Brackets.{Nested}
 use Rattle.regex.specs.Patterns.{Re, Matches, SameCaptures, find, Reads}
 use Rattle.regex.proofs.SearchLemmas.{leftmost_attempt}
 use Rattle.regex.proofs.ForCallers.{is_match_alike}
-use Rattle.fs_ports.specs.Patterns.{Reading, reading, options}
+use Rattle.fs_ports.specs.Patterns.{Reading, pattern_reading, options}
 use Rattle.fs_lead.specs.declared.lead.Lead.{Lead}
 use Rattle.fs_lead.specs.declared.lead.Lead.TheVariants.{Whole, Starts, Unknown}
 use Rattle.fs_lead.specs.Leads.{AreBytes, begins_with_any, whole, IsLead, IsLeadOf}
@@ -123,5 +123,5 @@ seen_lead hir given lead (Some x) h p = alike_lead _ _ lead h.1 p
 
 -- the lead of the tree that is parsed is the lead of the text
 pub read_lead : (text : List ℕ) (hir : Hir) (names : Names) (lead : Lead) → Reads options text hir names → IsLead (meaning hir) lead → IsLeadOf text lead
-unfolding Reads reading
+unfolding Reads pattern_reading
 read_lead text hir names lead reads p = record { is = seen_lead hir names lead (read options (chars text)) reads p }

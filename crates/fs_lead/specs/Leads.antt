@@ -3,7 +3,7 @@ use Rattle.std.specs.Prelude.{◌≡◌, ℕ, ◌<◌, Bool, true, List, get_or,
 use Rattle.std.specs.declared.alloc.Global.{Global}
 use Rattle.std.specs.List.{list_any, starts_with}
 use Rattle.regex.specs.Patterns.{Re, Start, End, find, empty, literal, look, cat}
-use Rattle.fs_ports.specs.Patterns.{reading}
+use Rattle.fs_ports.specs.Patterns.{pattern_reading}
 use Rattle.fs_lead.specs.declared.lead.Lead.{Lead}
 use Rattle.fs_lead.specs.declared.lead.Lead.TheVariants.{Whole, Starts, Unknown}
 
@@ -26,4 +26,4 @@ IsLead re Unknown = Unit {0}
 
 -- the same of the pattern that a text is read as, if it is one
 pub record IsLeadOf (text : List ℕ) (lead : Lead) : Type 0 where
-  pub is : IfSome (reading text) (λ what. IsLead what.re lead)
+  pub is : IfSome (pattern_reading text) (λ what. IsLead what.re lead)

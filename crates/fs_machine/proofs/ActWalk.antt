@@ -36,12 +36,12 @@ use Rattle.fs_machine.specs.declared.attempts.Attempt.{Attempt}
 use Rattle.fs_machine.specs.declared.originations.Caller.{Caller}
 use Rattle.fs_machine.specs.Texts.{ok, accepted, invalid, bye, not_found, notice, command_reply, api_response, spoken, too_many_jobs, failed_text}
 use Rattle.fs_machine.specs.Connections.{phase_at, conn_changed, admitted}
-use Rattle.fs_machine.specs.Attempts.{originate_begun, living_slots, won_at, judged, judged_from}
-use Rattle.fs_machine.specs.Jobs.{sleep_begun, worked_by, job_done_from, job_done}
+use Rattle.fs_machine.specs.Attempts.{originate_begun, living_slots, won_at, after_verdict, after_verdict_from}
+use Rattle.fs_machine.specs.Jobs.{sleep_begun, after_job_work, job_done_from, job_done}
 use Rattle.fs_machine.specs.Api.{Done, says, owes, killed, slept, originated, done_plainly, done_by}
 use Rattle.fs_machine.specs.Commands as command
-use Rattle.fs_machine.specs.Commands.{Command, command_of, dismissed, offered, responded_with, commanded_in, commanded}
-use Rattle.fs_machine.specs.Step.{closed_by, acted}
+use Rattle.fs_machine.specs.Commands.{Command, command_of, dismissed, offered, responded_with, command_done_in, command_done}
+use Rattle.fs_machine.specs.Step.{closed_by, act_done}
 use Rattle.fs_machine.proofs.Kept.{Fact, KeptByCalls, DoesJob, KeptByJobs, LeavesBy, IsShortWinner, KeptByCommands, KeptByMoves}
 use Rattle.fs_machine.proofs.ShortLemmas.{NamesShort, api_short, expanded_short}
 use Rattle.fs_machine.proofs.Walk.{all_hung_kept, worked_kept}
@@ -59,7 +59,7 @@ winner_lives now position o leg is there = answers (lives leg) refl (sym (ap (op
 
 module _ (before : Switch) (P : Fact) (calls : KeptByCalls P) (jobs : KeptByJobs before P) where
   judged_kept : (v : Verdict) (a : Attempt) (winner : Winner) (o : Orig) → verdict_of before.moment o ≡ v → orig_of before a.orig ≡ Some o →
-      DoesJob before a.job a.conn (work.Originate a.orig winner) → P false before → P false (judged v a winner o before)
+      DoesJob before a.job a.conn (work.Originate a.orig winner) → P false before → P false (after_verdict v a winner o before)
   judged_kept (verdict.Won position) a winner o is there does h = by (slice_get o.legs position) refl
     where
       by : (leg : Option OrigLeg) → slice_get o.legs position ≡ leg → P false (won_at a winner leg before)
@@ -70,11 +70,11 @@ module _ (before : Switch) (P : Fact) (calls : KeptByCalls P) (jobs : KeptByJobs
       jobs.failed a winner NoAnswer (does_same does (all_hung_rest NoAnswer (living_slots o.legs) before)) (all_hung_kept P calls NoAnswer (living_slots o.legs) h)
   judged_kept _ a winner o is there does h = h
 
-  job_works_kept : (what : JobWork) (number conn : ℕ) → DoesJob before number conn what → P false before → P false (worked_by what number conn before)
+  job_works_kept : (what : JobWork) (number conn : ℕ) → DoesJob before number conn what → P false before → P false (after_job_work what number conn before)
   job_works_kept (work.Sleep until) number conn does h = jobs.woken number conn until ok does h
   job_works_kept (work.Originate orig winner) number conn does h = by (orig_of before orig) refl
     where
-      by : (found : Option Orig) → orig_of before orig ≡ found → P false (judged_from (record { job = number; conn = conn; orig = orig }) winner found before)
+      by : (found : Option Orig) → orig_of before orig ≡ found → P false (after_verdict_from (record { job = number; conn = conn; orig = orig }) winner found before)
       by None there = h
       by (Some o) there = judged_kept (verdict_of before.moment o) (record { job = number; conn = conn; orig = orig }) winner o refl there does h
 
@@ -147,11 +147,11 @@ module _ (conn : ℕ) (P : Fact) (calls : KeptByCalls P) (commands : KeptByComma
       by true = commands.gave (command_reply accepted) (commands.admitted fresh h)
       by false = dismissed_kept parting.AuthRefused invalid tt h
 
-  pub commanded_kept : (c : Command) {s : Switch} → P true s → P false (commanded conn c s)
-  unfolding commanded
+  pub commanded_kept : (c : Command) {s : Switch} → P true s → P false (command_done conn c s)
+  unfolding command_done
   commanded_kept c {s} h = by (phase_at s conn) refl c
     where
-      by : (at : Phase) → phase_at s conn ≡ at → (given : Command) → P false (commanded_in at conn given s)
+      by : (at : Phase) → phase_at s conn ≡ at → (given : Command) → P false (command_done_in at conn given s)
       by phase.Fresh is (command.Auth given) = offered_kept given is (commands.spent h)
       by phase.Fresh is command.Exit = dismissed_kept parting.Exit bye tt (commands.spent h)
       by phase.Fresh is (command.Api text) = commands.gave (command_reply not_found) (commands.spent h)
@@ -174,7 +174,7 @@ module _ (before : Switch) (P : Fact) (kept : KeptByMoves before P) where
   closed_kept closing.Sent conn h = kept.visits.left conn h
   closed_kept closing.Failed conn h = kept.visits.left conn h
 
-  pub acted_kept : (a : Act) → P true before → P false (acted a before).state
+  pub acted_kept : (a : Act) → P true before → P false (act_done a before).state
   acted_kept act.Arrive h = kept.visits.arrived h
   acted_kept (act.Command conn block) h = commanded_kept conn P kept.calls (kept.commands conn) (command_of (line_of block)) h
   acted_kept (act.Take conn) h = kept.visits.taken conn (spent h)

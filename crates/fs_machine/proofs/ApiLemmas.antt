@@ -3,9 +3,9 @@ use Rattle.std.proofs.Common.{◌≡◌, ℕ, zero, suc, ◌-◌, Bool, true, fa
 use Rattle.std.specs.List.{AllByRecursion, list_any}
 use Rattle.std.specs.Prelude.{codes}
 use Rattle.fs_vars.specs.Pairs.{Text, Pairs, same_text, value_of}
-use Rattle.fs_vars.specs.Expansion.{Piece, asked_name, asked_of, asked_part, is_call, value_asked, meaning, inside_of, has_escape, has_reference, front, by_pieces, expanded}
+use Rattle.fs_vars.specs.Expansion.{Piece, asked_name, part_or_whole, asked_part, is_call, value_asked, meaning, inside_of, has_escape, has_reference, front, by_pieces, expanded}
 use Rattle.fs_vars.specs.Scopes.{fields_of, known_in}
-use Rattle.fs_vars.specs.Outputs.{IsRefusal}
+use Rattle.fs_vars.specs.Outputs.{IsTextRefusal}
 use Rattle.fs_vars.specs.declared.refused.Refused.{Refused}
 use Rattle.fs_vars.specs.declared.profile.Profile.{Profile}
 use Rattle.fs_vars.specs.declared.scope.Scope.{Scope}
@@ -45,7 +45,7 @@ unfolding front meaning value_asked
 front-same known other text same =
     ap (λ value. cond (has_escape text) (record { text = codes "$"; len = 2 })
     (cond (has_reference text) (record {
-      text = unwrap_or (cond (list_any is_call (asked_name (inside_of text))) None (Some (asked_of (asked_part (inside_of text)) value))) (codes "${" ++ inside_of text ++ codes "}");
+      text = unwrap_or (cond (list_any is_call (asked_name (inside_of text))) None (Some (part_or_whole (asked_part (inside_of text)) value))) (codes "${" ++ inside_of text ++ codes "}");
       len = length (inside_of text) + 3;
     }) (record { text = take 1 text; len = 1 })))
     (same (asked_name (inside_of text)))
@@ -79,5 +79,5 @@ pub IfOk-globally : (scope : Scope) (text : Text) (result : Result Text Refused)
 IfOk-globally scope text result empty same fact = subst (λ (whole : Text). IfOk result (λ t. t ≡ whole)) (expanded-globals scope text empty same) fact
 
 pub IfErr-globally : (scope : Scope) (text : Text) (result : Result Text Refused) → AllByRecursion (λ pair. pair.1 ≡ []) (fields_of scope.profile.now) → scope.globals.now.pairs ≡ scope.vars.now.pairs →
-    IfErr result (IsRefusal (expanded (known_in scope) text)) → IfErr result (IsRefusal (expanded scope.vars.now.pairs text))
-IfErr-globally scope text result empty same fact = subst (λ (whole : Text). IfErr result (IsRefusal whole)) (expanded-globals scope text empty same) fact
+    IfErr result (IsTextRefusal (expanded (known_in scope) text)) → IfErr result (IsTextRefusal (expanded scope.vars.now.pairs text))
+IfErr-globally scope text result empty same fact = subst (λ (whole : Text). IfErr result (IsTextRefusal whole)) (expanded-globals scope text empty same) fact

@@ -10,8 +10,8 @@ use Rattle.fs_orig.specs.Changes.{with_answer}
 use Rattle.fs_orig.specs.Endpoints.{IsShortAddress}
 use Rattle.fs_places.specs.Places.{held_in}
 use Rattle.fs_state.specs.declared.job.JobWork.TheVariants.{Originate}
-use Rattle.fs_state.specs.Switch.{Switch, chan_at, with_chan, identified, identifier_of}
-use Rattle.fs_state.specs.Moves.{moved_from, orig_changed, leg_changed, hung}
+use Rattle.fs_state.specs.Switch.{Switch, chan_at, with_chan, with_next_identifier, identifier_of}
+use Rattle.fs_state.specs.Moves.{after_move_from, orig_changed, leg_changed, after_hangup}
 use Rattle.fs_machine.specs.declared.attempts.Attempt.{Attempt}
 use Rattle.fs_machine.specs.declared.originations.Call.{Call}
 use Rattle.fs_machine.specs.declared.originations.End.{End}
@@ -56,7 +56,7 @@ stays_fit old new stays fit = record {
   short = stays.short fit.short;
 }
 
-hung_fit : (cause : Cause) (slot : ℕ) (s : Switch) → AllFit s.channels → AllFit (hung cause slot s).channels
+hung_fit : (cause : Cause) (slot : ℕ) (s : Switch) → AllFit s.channels → AllFit (after_hangup cause slot s).channels
 hung_fit cause slot s h =
     hung_kept (λ (t : Switch). AllFit t.channels) (λ event t plain k. k)
     (λ why place c t is k. put_fit place (hung_up why c) t (record { partner = λ live. absurd (true≢false (sym live ∙ hangup_dead)); short = (fit_there t place c is k).short }) k)
@@ -66,8 +66,8 @@ hung_fit cause slot s h =
 
 end_fit : (call : Call) (end : End) (s : Switch) → IsShortAddress call.exten call.context → AllFit s.channels → AllFit (end_made call end s).channels
 end_fit call end s short h =
-    put_fit end.slot (end_of call end (identifier_of (identified s))) (identified s)
-    (record { partner = λ live. refl; short = profile_short call end.direction s.config.settings.core_uuid (identified s).drawn.identifiers short }) h
+    put_fit end.slot (end_of call end (identifier_of (with_next_identifier s))) (with_next_identifier s)
+    (record { partner = λ live. refl; short = profile_short call end.direction s.config.settings.core_uuid (with_next_identifier s).drawn.identifiers short }) h
 
 pair_fit : (call : Call) (orig a b : ℕ) (s : Switch) → IsShortAddress call.exten call.context → AllFit s.channels → AllFit (pair_made call orig a b s).channels
 pair_fit call orig a b s short h = end_fit call (far_end a b) (end_made call (leg_end orig a b) s) short (end_fit call (leg_end orig a b) s short h)
@@ -82,7 +82,7 @@ won_at_fit : (winner : Winner) (slot : ℕ) (s : Switch) → IsShortWinner winne
 unfolding won
 won_at_fit winner slot s short live h = by (chan_at s slot) refl
   where
-    by : (found : Option Chan) → chan_at s slot ≡ found → AllFit (moved_from (won_by winner) slot found s).channels
+    by : (found : Option Chan) → chan_at s slot ≡ found → AllFit (after_move_from (won_by winner) slot found s).channels
     by None is = h
     by (Some c) is =
         state_told_kept (λ (t : Switch). AllFit t.channels) (λ event t plain k. k) c.state (won_by winner c).state {s = with_chan slot (Some (won_by winner c)) s}

@@ -8,7 +8,7 @@ use Rattle.fs_state.specs.declared.conn.Phase.{Phase}
 use Rattle.fs_state.specs.declared.conn.Phase.TheVariants.{Fresh, Ready, Ending, Closed}
 use Rattle.fs_state.specs.declared.conn.Parting.TheVariants as parting
 use Rattle.fs_state.specs.Queues.{Frames}
-use Rattle.fs_state.specs.Switch.{Switch, conn_of, waiting_for, advanced}
+use Rattle.fs_state.specs.Switch.{Switch, conn_of, waiting_for, at_moment}
 use Rattle.fs_machine.specs.declared.entry.Act.TheVariants.{Take, Close}
 use Rattle.fs_machine.specs.declared.entry.Closing.TheVariants.{EndOfInput, Sent}
 use Rattle.fs_machine.specs.declared.refusal.Refusal.TheVariants as refusal
@@ -53,8 +53,8 @@ unfolding step
 end_parts s moment conn reading free = by (conn_of s conn) refl
   where
     by : (found : Option Conn) → conn_of s conn ≡ found →
-        (phase_at (conn_changed_from (parted parting.EndOfInput) conn found (advanced moment s)) conn ≡ Ending)
-        × (owes (conn_changed_from (parted parting.EndOfInput) conn found (advanced moment s)) conn ≡ false)
+        (phase_at (conn_changed_from (parted parting.EndOfInput) conn found (at_moment moment s)) conn ≡ Ending)
+        × (owes (conn_changed_from (parted parting.EndOfInput) conn found (at_moment moment s)) conn ≡ false)
     by None is = let closed : reads Closed ≡ true = ap (λ (found : Option Conn). reads (phase_of found)) (sym is) ∙ reading in absurd (cc closed)
     by (Some c) is = let there = changed_at s conn c (parted parting.EndOfInput c) is in (ap phase_of there, ap owed_in there ∙ sym (ap owed_in is) ∙ free)
 

@@ -8,7 +8,7 @@ use Rattle.fs_places.specs.Rows.{place_of, row_of, with_new_row}
 use Rattle.fs_state.specs.declared.conn.Phase.{Phase}
 use Rattle.fs_state.specs.declared.conn.Phase.TheVariants.{Fresh, Ready, Ending, Closed}
 use Rattle.fs_state.specs.Drawn as numbers
-use Rattle.fs_state.specs.Switch.{Switch, empty, conn_of, waiting_for, without_conn, is_full_of_conns, advanced}
+use Rattle.fs_state.specs.Switch.{Switch, empty, conn_of, waiting_for, without_conn, is_full_of_conns, at_moment}
 use Rattle.fs_machine.specs.declared.entry.Entry.{Entry}
 use Rattle.fs_machine.specs.declared.entry.Act.{Act}
 use Rattle.fs_machine.specs.declared.entry.Act.TheVariants.{Arrive, Command, Take, Close, Work, Job}
@@ -18,7 +18,7 @@ use Rattle.fs_machine.specs.Texts.{auth_request}
 use Rattle.fs_machine.specs.Entries.{cost_of}
 use Rattle.fs_machine.specs.Connections.{phase_of, phase_at}
 use Rattle.fs_machine.specs.Questions.{owed_to}
-use Rattle.fs_machine.specs.Step.{reads, is_closed, busy, refused_where, refused_act, refusal_of, places_for_conns, fresh, arrived, acted, step}
+use Rattle.fs_machine.specs.Step.{reads, is_closed, busy, refused_where, refused_act, refusal_of, places_for_conns, new_conn, arrived, act_done, step}
 use Rattle.fs_machine.specs.Runs.{run_from, IsRunFrom}
 use Rattle.fs_machine.specs.Frames.{frames_among, given_in, given_by, handed_in, command_in}
 use Rattle.fs_machine.specs.Concerns.{actor_of, IsOwn, IsOthers, Comes, Concerns}
@@ -56,10 +56,10 @@ without_spares conn gone s differ = record {
   waits = without_other gone conn s differ;
 }
 
-act_spares : (conn : ℕ) (act : Act) (s : Switch) → Ordered s → s.drawn.conns < 2 ^ 32 - 1 → (whose act s ≡ Some conn → ⊥) → Spares conn s (acted act s).state
+act_spares : (conn : ℕ) (act : Act) (s : Switch) → Ordered s → s.drawn.conns < 2 ^ 32 - 1 → (whose act s ≡ Some conn → ⊥) → Spares conn s (act_done act s).state
 act_spares conn Arrive s ordered room apart = record {
   settles = settles_same (conn_of s conn) (conn_of (arrived s).state conn)
-      (row_of-with_new_row_other s.conns (numbers.with_conn s.drawn).conns fresh conn (λ same. apart (ap Some same)));
+      (row_of-with_new_row_other s.conns (numbers.with_conn s.drawn).conns new_conn conn (λ same. apart (ap Some same)));
   waits = arrived_waits s conn ordered room;
 }
 act_spares conn (Take taker) s ordered room apart = record {
@@ -68,7 +68,7 @@ act_spares conn (Take taker) s ordered room apart = record {
 }
 act_spares conn (Close gone Sent) s ordered room apart = without_spares conn gone s (λ same. apart (ap Some same))
 act_spares conn (Close gone Failed) s ordered room apart = without_spares conn gone s (λ same. apart (ap Some same))
-act_spares conn act s ordered room apart = keeps_spares conn s (acted act s).state (act_keeps act s) apart
+act_spares conn act s ordered room apart = keeps_spares conn s (act_done act s).state (act_keeps act s) apart
 
 -- it is no act of the connection
 others_actor : (conn : ℕ) (act : Act) (s : Switch) → (whose act s ≡ Some conn → ⊥) → actor_of act ≢ Some conn
@@ -85,21 +85,21 @@ others_handed : (conn : ℕ) (act : Act) (s t : Switch) → (whose act t ≡ Som
 others_handed conn (Take taker) s t apart = ap (λ b. if b then take 1 (waiting_for s conn) else []) (ne_eqb taker conn (λ same. apart (ap Some same)))
 others_handed conn _ s t apart = refl
 
-others : (conn : ℕ) (s : Switch) (entry : Entry) → Orderly s → refusal_of s entry ≡ None → (whose entry.act (advanced entry.moment s) ≡ Some conn → ⊥) → IsOthers conn s entry
+others : (conn : ℕ) (s : Switch) (entry : Entry) → Orderly s → refusal_of s entry ≡ None → (whose entry.act (at_moment entry.moment s) ≡ Some conn → ⊥) → IsOthers conn s entry
 unfolding step given_by
 others conn s entry orderly none apart =
-    let ordered : Ordered (advanced entry.moment s) = (advanced_orderly entry.moment s orderly).ordered in
+    let ordered : Ordered (at_moment entry.moment s) = (advanced_orderly entry.moment s orderly).ordered in
     let room : s.drawn.conns < 2 ^ 32 - 1 = room_left s orderly (not_full s entry none) in
-    let spares : Spares conn (advanced entry.moment s) (acted entry.act (advanced entry.moment s)).state = act_spares conn entry.act (advanced entry.moment s) ordered room apart in
+    let spares : Spares conn (at_moment entry.moment s) (act_done entry.act (at_moment entry.moment s)).state = act_spares conn entry.act (at_moment entry.moment s) ordered room apart in
     record {
-      actor = others_actor conn entry.act (advanced entry.moment s) apart;
-      commands = others_command conn entry.act (advanced entry.moment s) apart;
-      handed = others_handed conn entry.act s (advanced entry.moment s) apart;
+      actor = others_actor conn entry.act (at_moment entry.moment s) apart;
+      commands = others_command conn entry.act (at_moment entry.moment s) apart;
+      handed = others_handed conn entry.act s (at_moment entry.moment s) apart;
       phase = spares.settles.phase;
       owed = spares.settles.owed;
       frames =
-          closed_waits (cost_of entry.act) (acted entry.act (advanced entry.moment s)).state conn (acted_ordered entry.act (advanced entry.moment s) ordered room)
-          ∙ ap (λ frames. frames ++ given_in conn (acted entry.act (advanced entry.moment s)).state) spares.waits;
+          closed_waits (cost_of entry.act) (act_done entry.act (at_moment entry.moment s)).state conn (acted_ordered entry.act (at_moment entry.moment s) ordered room)
+          ∙ ap (λ frames. frames ++ given_in conn (act_done entry.act (at_moment entry.moment s)).state) spares.waits;
     }
 
 -- ---- an act of its own
@@ -132,12 +132,12 @@ actor_open (Job job) number s same none = absurd (none-some number same)
 -- one that is closed by an entry is given nothing
 closed_gives_none : (conn : ℕ) (s : Switch) (entry : Entry) → is_closed (phase_at (step s entry).state conn) ≡ true → given_by conn s entry ≡ []
 unfolding step given_by
-closed_gives_none conn s entry gone = ap (λ b. if b then [] else frames_among conn (acted entry.act (advanced entry.moment s)).state.given) gone
+closed_gives_none conn s entry gone = ap (λ b. if b then [] else frames_among conn (act_done entry.act (at_moment entry.moment s)).state.given) gone
 
 own : (conn : ℕ) (s : Switch) (entry : Entry) → Orderly s → refusal_of s entry ≡ None → actor_of entry.act ≡ Some conn → IsOwn conn s entry
 own conn s entry orderly none actor = record {
   actor = actor;
-  was_open = actor_open entry.act conn (advanced entry.moment s) actor (not_refused s entry none);
+  was_open = actor_open entry.act conn (at_moment entry.moment s) actor (not_refused s entry none);
   frames = λ still. by (entry_follows conn s entry orderly none) still;
   last = closed_gives_none conn s entry;
 }
@@ -152,14 +152,14 @@ own conn s entry orderly none actor = record {
 
 -- where not each place is taken a connection that comes is there
 new_there : (s : Switch) → Ordered s → s.drawn.conns < 2 ^ 32 - 1 → is_full_of_conns s ≡ false →
-    row_of (with_new_row s.conns (numbers.with_conn s.drawn).conns fresh) (numbers.with_conn s.drawn).conns ≡ Some fresh
+    row_of (with_new_row s.conns (numbers.with_conn s.drawn).conns new_conn) (numbers.with_conn s.drawn).conns ≡ Some new_conn
 new_there s ordered room free = by (least_free s.conns 0) refl free
   where
     by : (found : Option ℕ) → least_free s.conns 0 ≡ found → is_none found ≡ false →
-        row_of (with_new_row s.conns (numbers.with_conn s.drawn).conns fresh) (numbers.with_conn s.drawn).conns ≡ Some fresh
+        row_of (with_new_row s.conns (numbers.with_conn s.drawn).conns new_conn) (numbers.with_conn s.drawn).conns ≡ Some new_conn
     by None is free = absurd (cc)
     by (Some put) is free =
-        row_of-with_new_row_same s.conns (numbers.with_conn s.drawn).conns fresh put ordered.distinct (number_new s ordered room) is
+        row_of-with_new_row_same s.conns (numbers.with_conn s.drawn).conns new_conn put ordered.distinct (number_new s ordered room) is
 
 -- it is asked for the password
 comes : (moment : ℕ) (s : Switch) → Orderly s → refusal_of s (record { moment = moment; act = Arrive }) ≡ None →
@@ -167,13 +167,13 @@ comes : (moment : ℕ) (s : Switch) → Orderly s → refusal_of s (record { mom
 unfolding step given_by
 comes moment s orderly none =
     let new : ℕ = (numbers.with_conn s.drawn).conns in
-    let ordered : Ordered (advanced moment s) = (advanced_orderly moment s orderly).ordered in
+    let ordered : Ordered (at_moment moment s) = (advanced_orderly moment s orderly).ordered in
     let room : s.drawn.conns < 2 ^ 32 - 1 = room_left s orderly (not_full s (record { moment = moment; act = Arrive }) none) in
     let nowhere : place_of s.conns new ≡ None = number_new s orderly.ordered room in
-    let there : conn_of (arrived (advanced moment s)).state new ≡ Some fresh =
+    let there : conn_of (arrived (at_moment moment s)).state new ≡ Some new_conn =
     new_there s orderly.ordered room (none_refused (is_full_of_conns s) (refusal.TooMany (places_for_conns s)) None (not_refused s (record { moment = moment; act = Arrive }) none)).0 in
-    let given : given_in new (arrived (advanced moment s)).state ≡ auth_request ∷ [] =
-    ap (λ found. if is_closed (phase_of found) then [] else frames_among new (arrived (advanced moment s)).state.given) there
+    let given : given_in new (arrived (at_moment moment s)).state ≡ auth_request ∷ [] =
+    ap (λ found. if is_closed (phase_of found) then [] else frames_among new (arrived (at_moment moment s)).state.given) there
     ∙ ap (λ gifts. frames_among new (gifts ++ record { conn = new; frames = auth_request ∷ [] } ∷ [])) orderly.given
     ∙ ap (λ b. (if b then auth_request ∷ [] else []) ++ []) (eq-eqb new new refl) in
     record {
@@ -182,8 +182,8 @@ comes moment s orderly none =
       after = ap phase_of there;
       given = given;
       frames =
-          closed_waits 64 (arrived (advanced moment s)).state new (arrived_ordered (advanced moment s) ordered room)
-          ∙ ap (λ frames. frames ++ given_in new (arrived (advanced moment s)).state) (arrived_waits (advanced moment s) new ordered room ∙ none_waits s new nowhere)
+          closed_waits 64 (arrived (at_moment moment s)).state new (arrived_ordered (at_moment moment s) ordered room)
+          ∙ ap (λ frames. frames ++ given_in new (arrived (at_moment moment s)).state) (arrived_waits (at_moment moment s) new ordered room ∙ none_waits s new nowhere)
           ∙ given;
     }
 

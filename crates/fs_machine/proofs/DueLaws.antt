@@ -19,7 +19,7 @@ use Rattle.fs_places.specs.Places.{held_in}
 use Rattle.fs_state.specs.declared.job.Job.{Job}
 use Rattle.fs_state.specs.declared.job.JobWork.{JobWork}
 use Rattle.fs_state.specs.declared.job.JobWork.TheVariants.{Sleep, Originate}
-use Rattle.fs_state.specs.Switch.{Switch, empty, orig_of, job_of, advanced}
+use Rattle.fs_state.specs.Switch.{Switch, empty, orig_of, job_of, at_moment}
 use Rattle.fs_machine.specs.declared.due.DueActor.{DueActor}
 use Rattle.fs_machine.specs.declared.due.DueActor.TheVariants as actor
 use Rattle.fs_machine.specs.declared.entry.Entry.{Entry}
@@ -124,17 +124,17 @@ job_among None None (Some moment) n is = absurd (cc is)
 job_among None None None n is = absurd (cc is)
 
 -- the slot that has something to do does it
-pub slot_accepted : (s : Switch) (now slot : ℕ) → next_due now s ≡ actor.Slot slot → refused_act (Work slot) (advanced now s) ≡ None
+pub slot_accepted : (s : Switch) (now slot : ℕ) → next_due now s ≡ actor.Slot slot → refused_act (Work slot) (at_moment now s) ≡ None
 unfolding next_due
 slot_accepted s now slot is =
-    let t = advanced now s in
+    let t = at_moment now s in
     slot_works t slot (slot_among (due_slot t) (due_job t) (lesser (first_chan_moment t) (first_job_moment t)) slot is)
 
 -- and so does the job
-pub job_accepted : (s : Switch) (now number : ℕ) → AreKnown s → next_due now s ≡ actor.Job number → refused_act (Works number) (advanced now s) ≡ None
+pub job_accepted : (s : Switch) (now number : ℕ) → AreKnown s → next_due now s ≡ actor.Job number → refused_act (Works number) (at_moment now s) ≡ None
 unfolding next_due
 job_accepted s now number are is =
-    let t = advanced now s in
+    let t = at_moment now s in
     job_works t number (record { known = are.known }) (job_among (due_slot t) (due_job t) (lesser (first_chan_moment t) (first_job_moment t)) number is)
 
 -- ---- what is due later
@@ -162,7 +162,7 @@ at_comes now until moment is = by (leb until now) refl is
     by false past e = let same : moment ≡ until = cc e in subst (λ m. due_at m until ≡ Now) (sym same) (due_now until)
 
 -- a verdict that is to wait no more is due at once
-timeout_due : (now : ℕ) (v : Verdict) → is_timeout v ≡ true → verdicts.due_by now v ≡ now
+timeout_due : (now : ℕ) (v : Verdict) → is_timeout v ≡ true → verdicts.due_moment_by now v ≡ now
 timeout_due now (verdict.Wait until) is = absurd (cc)
 timeout_due now (verdict.Won position) is = refl
 timeout_due now (verdict.LegExpired position) is = refl
@@ -175,10 +175,10 @@ never_later : (now moment : ℕ) → due_at now now ≡ At moment → ⊥
 never_later now moment is = let e : Now ≡ At moment = sym (due_now now) ∙ is in cc e
 
 -- where a verdict is to wait until the moment, it is decided then
-wait_comes : (now until moment : ℕ) (o : Orig) → verdicts.verdict_of now o ≡ verdict.Wait until → due_at now until ≡ At moment → due_at moment (verdicts.due_of moment o) ≡ Now
+wait_comes : (now until moment : ℕ) (o : Orig) → verdicts.verdict_of now o ≡ verdict.Wait until → due_at now until ≡ At moment → due_at moment (verdicts.due_moment_of moment o) ≡ Now
 wait_comes now until moment o told is = by (leb until now) refl is
   where
-    by : (past : Bool) → leb until now ≡ past → (if past then Now else At until) ≡ At moment → due_at moment (verdicts.due_of moment o) ≡ Now
+    by : (past : Bool) → leb until now ≡ past → (if past then Now else At until) ≡ At moment → due_at moment (verdicts.due_moment_of moment o) ≡ Now
     by true past e = absurd (cc e)
     by false past e =
         let same : until ≡ moment = cc e in
@@ -186,9 +186,9 @@ wait_comes now until moment o told is = by (leb until now) refl is
 
 orig_comes : (now moment : ℕ) (o : Option Orig) → orig_due now o ≡ Some (At moment) → orig_due moment o ≡ Some Now
 orig_comes now moment None is = absurd (cc)
-orig_comes now moment (Some o) is = ap Some (by (verdicts.verdict_of now o) refl (same_there (due_at now (verdicts.due_of now o)) (At moment) is))
+orig_comes now moment (Some o) is = ap Some (by (verdicts.verdict_of now o) refl (same_there (due_at now (verdicts.due_moment_of now o)) (At moment) is))
   where
-    by : (v : Verdict) → verdicts.verdict_of now o ≡ v → due_at now (verdicts.due_by now v) ≡ At moment → due_at moment (verdicts.due_of moment o) ≡ Now
+    by : (v : Verdict) → verdicts.verdict_of now o ≡ v → due_at now (verdicts.due_moment_by now v) ≡ At moment → due_at moment (verdicts.due_moment_of moment o) ≡ Now
     by (verdict.Wait until) told e = wait_comes now until moment o told e
     by (verdict.Won position) told e = absurd (never_later now moment e)
     by (verdict.LegExpired position) told e = absurd (never_later now moment e)

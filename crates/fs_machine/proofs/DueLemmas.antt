@@ -12,7 +12,7 @@ use Rattle.fs_places.specs.declared.numbered.Numbered.{Numbered}
 use Rattle.fs_state.specs.declared.job.Job.{Job}
 use Rattle.fs_state.specs.declared.job.JobWork.{JobWork}
 use Rattle.fs_state.specs.declared.job.JobWork.TheVariants.{Sleep, Originate}
-use Rattle.fs_state.specs.Switch.{Switch, orig_of, advanced}
+use Rattle.fs_state.specs.Switch.{Switch, orig_of, at_moment}
 use Rattle.fs_machine.specs.declared.due.DueActor.TheVariants as actor
 use Rattle.fs_machine.specs.Due.{orig_due, work_due, later_of, lesser, least_of, chan_moment, row_moment, due_slot, due_job, first_chan_moment, first_job_moment, later_or_never, due_among_all}
 
@@ -47,7 +47,7 @@ chan_after s (Some c) n h = is_to_come s.moment n c (later_at (due_of s.moment c
 
 orig_after : (now : ℕ) (orig : Option Orig) (n : ℕ) → orig_due now orig ≡ Some (At n) → now < n
 orig_after now None n h = absurd (cc)
-orig_after now (Some o) n h = to_come_at now (verdicts.due_of now o) n (cc)
+orig_after now (Some o) n h = to_come_at now (verdicts.due_moment_of now o) n (cc)
 
 work_after : (s : Switch) (work : JobWork) (n : ℕ) → work_due s work ≡ Some (At n) → s.moment < n
 work_after s (Sleep until) n h = to_come_at s.moment until n (cc)
@@ -69,7 +69,7 @@ all_after s None None moment is_slot is_job h =
     (lesser_after s.moment (first_chan_moment s) (first_job_moment s) (least_after s.moment (chan_moment s) (chan_after s) s.channels) (least_after s.moment (row_moment s) (row_after s) s.jobs))
     (cc)
 
-pub next_to_come : (now : ℕ) (s : Switch) (moment : ℕ) → due_among_all (advanced now s) ≡ actor.Later moment → now < moment
+pub next_to_come : (now : ℕ) (s : Switch) (moment : ℕ) → due_among_all (at_moment now s) ≡ actor.Later moment → now < moment
 next_to_come now s moment h =
-    let later : max s.moment now < moment = all_after (advanced now s) (due_slot (advanced now s)) (due_job (advanced now s)) moment refl refl h in
+    let later : max s.moment now < moment = all_after (at_moment now s) (due_slot (at_moment now s)) (due_job (at_moment now s)) moment refl refl h in
     omega (arith, later)

@@ -5,7 +5,7 @@ use Rattle.std.proofs.lemmas.List.{nil_from_length}
 use Rattle.fs_doc.specs.Reading.{Configuration}
 use Rattle.fs_places.specs.Rows.{place_of}
 use Rattle.fs_state.specs.Queues.{Frames}
-use Rattle.fs_state.specs.Switch.{Switch, empty, waiting_at, waiting_for, with_frame_taken, without_conn, advanced, closed}
+use Rattle.fs_state.specs.Switch.{Switch, empty, waiting_at, waiting_for, with_frame_taken, without_conn, at_moment, after_entry}
 use Rattle.fs_machine.specs.declared.entry.Entry.{Entry}
 use Rattle.fs_machine.specs.declared.entry.Act.{Act}
 use Rattle.fs_machine.specs.declared.entry.Act.TheVariants.{Arrive, Take, Close}
@@ -14,7 +14,7 @@ use Rattle.fs_machine.specs.declared.refusal.Refusal.TheVariants as refusal
 use Rattle.fs_machine.specs.Entries.{cost_of}
 use Rattle.fs_machine.specs.Connections.{phase_at}
 use Rattle.fs_machine.specs.Questions.{owed_to}
-use Rattle.fs_machine.specs.Step.{is_closed, is_ending, is_unsent, refused_where, refused_act, refusal_of, acted, step}
+use Rattle.fs_machine.specs.Step.{is_closed, is_ending, is_unsent, refused_where, refused_act, refusal_of, act_done, step}
 use Rattle.fs_machine.specs.Runs.{run_from, IsRunFrom}
 use Rattle.fs_machine.specs.Frames.{given_in, given_by, frames_from, handed_in, handed_from}
 use Rattle.fs_machine.proofs.FrameLemmas.{handed_more}
@@ -28,24 +28,25 @@ use Rattle.fs_machine.proofs.OrderLemmas.{Orderly, acted_ordered, acted_config, 
 
 -- what waited and what is given is what is handed out and what then waits
 abbrev Follows : ℕ → Act → Switch → Type 0
-Follows conn act s = waiting_for s conn ++ given_in conn (acted act s).state ≡ handed_in conn act s ++ waiting_for (closed (cost_of act) (acted act s).state) conn
+Follows conn act s = waiting_for s conn ++ given_in conn (act_done act s).state ≡ handed_in conn act s ++ waiting_for (after_entry (cost_of act) (act_done act s).state) conn
 
 -- or else the connection is gone, and what waited for it is dropped
 record Drops (conn : ℕ) (act : Act) (s : Switch) : Type 0 where
   handed : handed_in conn act s ≡ []
-  given : given_in conn (acted act s).state ≡ []
-  gone : place_of (acted act s).state.conns conn ≡ None
-  drawn : conn ≤ (acted act s).state.drawn.conns
+  given : given_in conn (act_done act s).state ≡ []
+  gone : place_of (act_done act s).state.conns conn ≡ None
+  drawn : conn ≤ (act_done act s).state.drawn.conns
 
 -- an act that hands out nothing, and leaves what waits
-quiet_follows : (conn : ℕ) (act : Act) (s : Switch) → handed_in conn act s ≡ [] → Ordered (acted act s).state → waiting_for (acted act s).state conn ≡ waiting_for s conn → Follows conn act s
+quiet_follows : (conn : ℕ) (act : Act) (s : Switch) → handed_in conn act s ≡ [] → Ordered (act_done act s).state → waiting_for (act_done act s).state conn ≡ waiting_for s conn → Follows conn act s
 quiet_follows conn act s handed ordered same =
-    sym (closed_waits (cost_of act) (acted act s).state conn ordered ∙ ap (λ frames. frames ++ given_in conn (acted act s).state) same)
-    ∙ ap (λ frames. frames ++ waiting_for (closed (cost_of act) (acted act s).state) conn) (sym handed)
+    sym (closed_waits (cost_of act) (act_done act s).state conn ordered ∙ ap (λ frames. frames ++ given_in conn (act_done act s).state)
+    same)
+    ∙ ap (λ frames. frames ++ waiting_for (after_entry (cost_of act) (act_done act s).state) conn) (sym handed)
 
 -- an act that keeps the connections
-keeps_follows : {who : Option ℕ} {may_end : Bool} → (conn : ℕ) (act : Act) (s : Switch) → handed_in conn act s ≡ [] → Ordered (acted act s).state → Keeps who may_end s (acted act s).state → Follows conn act s
-keeps_follows conn act s handed ordered keeps = quiet_follows conn act s handed ordered (keeps_waiting s (acted act s).state keeps conn)
+keeps_follows : {who : Option ℕ} {may_end : Bool} → (conn : ℕ) (act : Act) (s : Switch) → handed_in conn act s ≡ [] → Ordered (act_done act s).state → Keeps who may_end s (act_done act s).state → Follows conn act s
+keeps_follows conn act s handed ordered keeps = quiet_follows conn act s handed ordered (keeps_waiting s (act_done act s).state keeps conn)
 
 -- a frame that is taken is handed out, and the others wait
 take_follows : (conn taker : ℕ) (s : Switch) → Orderly s → Follows conn (Take taker) s
@@ -57,11 +58,11 @@ take_follows conn taker s orderly = by (taker == conn) refl
     none : given_in conn (with_frame_taken taker s) ≡ []
     none = nothing_given (with_frame_taken taker s) conn orderly.given
 
-    waits : waiting_for (closed 64 (with_frame_taken taker s)) conn ≡ waiting_for (with_frame_taken taker s) conn
+    waits : waiting_for (after_entry 64 (with_frame_taken taker s)) conn ≡ waiting_for (with_frame_taken taker s) conn
     waits = closed_quietly 64 (with_frame_taken taker s) conn ordered orderly.given
 
     by : (b : Bool) → (taker == conn) ≡ b →
-        waiting_for s conn ++ given_in conn (with_frame_taken taker s) ≡ (if b then take 1 (waiting_for s conn) else []) ++ waiting_for (closed 64 (with_frame_taken taker s)) conn
+        waiting_for s conn ++ given_in conn (with_frame_taken taker s) ≡ (if b then take 1 (waiting_for s conn) else []) ++ waiting_for (after_entry 64 (with_frame_taken taker s)) conn
     by true e =
         ap (λ frames. waiting_for s conn ++ frames) none ∙ append-nil (waiting_for s conn)
         ∙ sym (take-append-drop 1 (waiting_for s conn))
@@ -142,7 +143,7 @@ act_follows conn act s orderly room none = inl (unfailed_follows conn act s tt o
 -- ---- one entry
 
 -- the clock hands out nothing
-handed_advanced : (conn now : ℕ) (act : Act) (s : Switch) → handed_in conn act (advanced now s) ≡ handed_in conn act s
+handed_advanced : (conn now : ℕ) (act : Act) (s : Switch) → handed_in conn act (at_moment now s) ≡ handed_in conn act s
 handed_advanced conn now (Take taker) s = refl
 handed_advanced conn now _ s = refl
 
@@ -153,12 +154,12 @@ pub record Lost (conn : ℕ) (s : Switch) (entry : Entry) : Type 0 where
   pub drawn : conn ≤ (step s entry).state.drawn.conns
 
 -- the same of the entry of an act
-entry_waits : (conn : ℕ) (s : Switch) (entry : Entry) → Follows conn entry.act (advanced entry.moment s) →
+entry_waits : (conn : ℕ) (s : Switch) (entry : Entry) → Follows conn entry.act (at_moment entry.moment s) →
     waiting_for s conn ++ given_by conn s entry ≡ handed_in conn entry.act s ++ waiting_for (step s entry).state conn
 unfolding step given_by
 entry_waits conn s entry follows = follows ∙ ap (λ frames. frames ++ waiting_for (step s entry).state conn) (handed_advanced conn entry.moment entry.act s)
 
-entry_drops : (conn : ℕ) (s : Switch) (entry : Entry) → Drops conn entry.act (advanced entry.moment s) → Lost conn s entry
+entry_drops : (conn : ℕ) (s : Switch) (entry : Entry) → Drops conn entry.act (at_moment entry.moment s) → Lost conn s entry
 unfolding step given_by
 entry_drops conn s entry drops = record {
   handed = sym (handed_advanced conn entry.moment entry.act s) ∙ drops.handed;
@@ -170,9 +171,9 @@ entry_drops conn s entry drops = record {
 pub entry_follows : (conn : ℕ) (s : Switch) (entry : Entry) → Orderly s → refusal_of s entry ≡ None →
     (waiting_for s conn ++ given_by conn s entry ≡ handed_in conn entry.act s ++ waiting_for (step s entry).state conn) ⊎ Lost conn s entry
 entry_follows conn s entry orderly none =
-    by (act_follows conn entry.act (advanced entry.moment s) (advanced_orderly entry.moment s orderly) (room_left s orderly (not_full s entry none)) (not_refused s entry none))
+    by (act_follows conn entry.act (at_moment entry.moment s) (advanced_orderly entry.moment s orderly) (room_left s orderly (not_full s entry none)) (not_refused s entry none))
   where
-    by : Follows conn entry.act (advanced entry.moment s) ⊎ Drops conn entry.act (advanced entry.moment s) →
+    by : Follows conn entry.act (at_moment entry.moment s) ⊎ Drops conn entry.act (at_moment entry.moment s) →
         (waiting_for s conn ++ given_by conn s entry ≡ handed_in conn entry.act s ++ waiting_for (step s entry).state conn) ⊎ Lost conn s entry
     by (inl follows) = inl (entry_waits conn s entry follows)
     by (inr drops) = inr (entry_drops conn s entry drops)
@@ -194,13 +195,13 @@ entry_gone : (conn : ℕ) (s : Switch) (entry : Entry) → Orderly s → refusal
 unfolding step given_by
 entry_gone conn s entry orderly none nowhere below =
     let room : s.drawn.conns < 2 ^ 32 - 1 = room_left s orderly (not_full s entry none) in
-    let later : place_of (acted entry.act (advanced entry.moment s)).state.conns conn ≡ None =
-    acted_gone entry.act (advanced entry.moment s) conn (advanced_orderly entry.moment s orderly).ordered room nowhere below in
+    let later : place_of (act_done entry.act (at_moment entry.moment s)).state.conns conn ≡ None =
+    acted_gone entry.act (at_moment entry.moment s) conn (advanced_orderly entry.moment s orderly).ordered room nowhere below in
     record {
       handed = none_handed conn entry.act s nowhere;
-      given = none_given (acted entry.act (advanced entry.moment s)).state conn later;
+      given = none_given (act_done entry.act (at_moment entry.moment s)).state conn later;
       gone = later;
-      drawn = omega (arith, below, (acted_drawn entry.act (advanced entry.moment s) room).0);
+      drawn = omega (arith, below, (acted_drawn entry.act (at_moment entry.moment s) room).0);
     }
 
 -- it is given nothing, is handed out nothing, and stays gone
@@ -301,12 +302,12 @@ run_front s (first ∷ entries) entry run = let rest = run_front (step s first).
 -- a connection that is closed with all sent was handed out all
 close_gives_none : (s : Switch) (moment conn : ℕ) → s.given ≡ [] → given_by conn s (record { moment = moment; act = Close conn Sent }) ≡ []
 unfolding given_by
-close_gives_none s moment conn none = nothing_given (without_conn conn (advanced moment s)) conn none
+close_gives_none s moment conn none = nothing_given (without_conn conn (at_moment moment s)) conn none
 
 -- a connection that can be closed so is open
 close_open : (s : Switch) (moment conn : ℕ) → refusal_of s (record { moment = moment; act = Close conn Sent }) ≡ None → is_closed (phase_at s conn) ≡ false
 close_open s moment conn none =
-    (close_refused (advanced moment s) conn (not_refused s (record { moment = moment; act = Close conn Sent }) none)).0
+    (close_refused (at_moment moment s) conn (not_refused s (record { moment = moment; act = Close conn Sent }) none)).0
 
 -- then what was given was handed out
 pub handed_sent : (config : Configuration) (entries : List Entry) (moment conn : ℕ) → config.settings.journal_limit ≤ 1073741824 →
@@ -322,7 +323,7 @@ handed_sent config entries moment conn limit run = result
     orderly = run_orderly (empty config) entries (empty_orderly config limit) front.0
 
     nothing : waiting_for (run_from (empty config) entries) conn ≡ []
-    nothing = sent_all (advanced moment (run_from (empty config) entries)) conn
+    nothing = sent_all (at_moment moment (run_from (empty config) entries)) conn
         (not_refused (run_from (empty config) entries) (record { moment = moment; act = Close conn Sent }) front.1)
 
     before : frames_from conn (empty config) entries ≡ handed_from conn (empty config) entries
@@ -354,7 +355,7 @@ waits_on : (conn : ℕ) (s : Switch) (entries : List Entry) → Orderly s → Is
     waiting_for s conn ++ frames_from conn s entries ≡ handed_from conn s entries ++ waiting_for (run_from s entries) conn
 waits_on conn s [] orderly run unfailed = append-nil (waiting_for s conn)
 waits_on conn s (entry ∷ entries) orderly run unfailed =
-    let follows = unfailed_follows conn entry.act (advanced entry.moment s) unfailed.0 (advanced_orderly entry.moment s orderly) (room_left s orderly (not_full s entry run.0)) (not_refused s entry run.0) in
+    let follows = unfailed_follows conn entry.act (at_moment entry.moment s) unfailed.0 (advanced_orderly entry.moment s orderly) (room_left s orderly (not_full s entry run.0)) (not_refused s entry run.0) in
     regrouped (waiting_for s conn) (given_by conn s entry) (handed_in conn entry.act s) (waiting_for (step s entry).state conn) (frames_from conn (step s entry).state entries)
     (handed_from conn (step s entry).state entries) (waiting_for (run_from (step s entry).state entries) conn) (entry_waits conn s entry follows)
     (waits_on conn (step s entry).state entries (entry_orderly s entry orderly run.0) run.1 unfailed.1)
@@ -369,7 +370,7 @@ handed_unfailed config entries conn limit run unfailed =
 
 pub config_step : (s : Switch) (entry : Entry) → (step s entry).state.config ≡ s.config
 unfolding step
-config_step s entry = acted_config entry.act (advanced entry.moment s)
+config_step s entry = acted_config entry.act (at_moment entry.moment s)
 
 -- no entry changes it
 pub config_run : (s : Switch) (entries : List Entry) → (run_from s entries).config ≡ s.config
@@ -392,8 +393,8 @@ closed_waits_not config entries conn limit run gone = by (place_of (run_from (em
 take_leaves : (s : Switch) (moment conn : ℕ) → Orderly s → waiting_for (step s (record { moment = moment; act = Take conn })).state conn ≡ drop 1 (waiting_for s conn)
 unfolding step
 take_leaves s moment conn orderly =
-    closed_quietly 64 (with_frame_taken conn (advanced moment s)) conn (taken_ordered conn (advanced moment s) (advanced_orderly moment s orderly).ordered) orderly.given
-    ∙ taken_same conn (advanced moment s) (advanced_orderly moment s orderly).ordered
+    closed_quietly 64 (with_frame_taken conn (at_moment moment s)) conn (taken_ordered conn (at_moment moment s) (advanced_orderly moment s orderly).ordered) orderly.given
+    ∙ taken_same conn (at_moment moment s) (advanced_orderly moment s orderly).ordered
 
 take_leaves_phase : (s : Switch) (moment conn : ℕ) → phase_at (step s (record { moment = moment; act = Take conn })).state conn ≡ phase_at s conn
 unfolding step

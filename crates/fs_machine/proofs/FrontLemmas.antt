@@ -15,7 +15,7 @@ use Rattle.fs_state.specs.declared.event.Event.{Event}
 use Rattle.fs_state.specs.declared.job.JobWork.{JobWork}
 use Rattle.fs_state.specs.declared.job.JobWork.TheVariants.{Sleep, Originate}
 use Rattle.fs_state.specs.Counts.{Tallies}
-use Rattle.fs_state.specs.Switch.{Switch, conn_of, orig_of, next_orig, with_new_job, without_job, without_orig}
+use Rattle.fs_state.specs.Switch.{Switch, conn_of, orig_of, next_orig_number, with_new_job, without_job, without_orig}
 use Rattle.fs_state.specs.Moves.{orig_changed_from, orig_changed}
 use Rattle.fs_machine.specs.declared.attempts.Attempt.{Attempt}
 use Rattle.fs_machine.specs.declared.originations.Caller.{Caller}
@@ -23,7 +23,7 @@ use Rattle.fs_machine.specs.Texts.{made_text, failed_text}
 use Rattle.fs_machine.specs.Connections.{conn_changed_from, conn_changed, admitted, parted, owed_since, not_owed}
 use Rattle.fs_machine.specs.Originations.{Made, leg_made, won}
 use Rattle.fs_machine.specs.Attempts.{orig_begun, tried_by_job, originate_begun}
-use Rattle.fs_machine.specs.Owing.{owing, ended}
+use Rattle.fs_machine.specs.Owing.{after_job_begin, after_job_end}
 use Rattle.fs_machine.proofs.Kept.{Fact, KeptByCalls, KeptByBirths, DoesJob, HasLeg, KeptByMoves}
 use Rattle.fs_machine.proofs.Walk.{leg_made_kept}
 
@@ -71,10 +71,10 @@ conn_unread read same change conn s = by (conn_of s conn)
 conn_changed_front : (change : Conn → Conn) (conn : ℕ) (s : Switch) → front_of (conn_changed change conn s) ≡ front_of s
 conn_changed_front change conn s = conn_unread front_of (λ conns t. refl) change conn s
 
-owing_front : (conn : ℕ) (work : JobWork) (s : Switch) → front_of (owing conn work s) ≡ front_of s
+owing_front : (conn : ℕ) (work : JobWork) (s : Switch) → front_of (after_job_begin conn work s) ≡ front_of s
 owing_front conn work s = conn_changed_front (owed_since s.entries) conn (with_new_job (record { conn = conn; work = work }) s)
 
-ended_front : (number conn : ℕ) (answer : Text) (s : Switch) → front_of (ended number conn answer s) ≡ front_of s
+ended_front : (number conn : ℕ) (answer : Text) (s : Switch) → front_of (after_job_end number conn answer s) ≡ front_of s
 ended_front number conn answer s = conn_changed_front not_owed conn (without_job number s)
 
 -- a fact that holds wherever the front is the same is kept by all moves, if channels and births keep it, and a leg that wins
@@ -84,13 +84,13 @@ module _ (before : Switch) (P : Fact) (same : (b : Bool) (t u : Switch) → P b 
   changed_same : (change : Conn → Conn) (conn : ℕ) (s : Switch) → P false s → P false (conn_changed change conn s)
   changed_same change conn s h = same false s _ h (conn_changed_front change conn s)
 
-  ended_same : (number conn : ℕ) (answer : Text) (s : Switch) → P false s → P false (ended number conn answer s)
+  ended_same : (number conn : ℕ) (answer : Text) (s : Switch) → P false s → P false (after_job_end number conn answer s)
   ended_same number conn answer s h = same false s _ h (ended_front number conn answer s)
 
-  over_same : (a : Attempt) (answer : Text) (s : Switch) → P false s → P false (ended a.job a.conn answer (without_orig a.orig s))
+  over_same : (a : Attempt) (answer : Text) (s : Switch) → P false s → P false (after_job_end a.job a.conn answer (without_orig a.orig s))
   over_same a answer s h = ended_same a.job a.conn answer (without_orig a.orig s) (same false s _ h refl)
 
-  sleeps_same : (conn until : ℕ) (s : Switch) → P true s → P false (owing conn (Sleep until) s)
+  sleeps_same : (conn until : ℕ) (s : Switch) → P true s → P false (after_job_begin conn (Sleep until) s)
   sleeps_same conn until s h = same false s _ (births.spent h) (owing_front conn (Sleep until) s)
 
   tried_same : (conn : ℕ) (endpoint : Text) (winner : Winner) (timeout orig : ℕ) (made : Made) → P false made.state → P false (tried_by_job conn endpoint winner timeout orig made)
@@ -99,7 +99,7 @@ module _ (before : Switch) (P : Fact) (same : (b : Bool) (t u : Switch) → P b 
 
   originates_same : (conn : ℕ) (endpoint : Text) (winner : Winner) (caller : Caller) (timeout : Option ℕ) (s : Switch) → P true s → P false (originate_begun conn endpoint winner caller timeout s)
   originates_same conn endpoint winner caller timeout s h =
-      tried_same conn endpoint winner (unwrap_or timeout 60) (next_orig s) (leg_made endpoint caller (next_orig s) s) (leg_made_kept P births endpoint caller (next_orig s) {s = s} h)
+      tried_same conn endpoint winner (unwrap_or timeout 60) (next_orig_number s) (leg_made endpoint caller (next_orig_number s) s) (leg_made_kept P births endpoint caller (next_orig_number s) {s = s} h)
 
   pub moves_by_front : KeptByMoves before P
   moves_by_front = record {

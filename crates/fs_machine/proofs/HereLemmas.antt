@@ -9,13 +9,13 @@ use Rattle.fs_places.specs.Places.{no_places, least_free}
 use Rattle.fs_places.specs.Rows.{row_of, with_new_row}
 use Rattle.fs_state.specs.declared.conn.Conn.{Conn}
 use Rattle.fs_state.specs.Drawn as numbers
-use Rattle.fs_state.specs.Switch.{Switch, empty, conn_of, advanced}
+use Rattle.fs_state.specs.Switch.{Switch, empty, conn_of, at_moment}
 use Rattle.fs_machine.specs.declared.entry.Entry.{Entry}
 use Rattle.fs_machine.specs.declared.entry.Act.{Act}
 use Rattle.fs_machine.specs.declared.entry.Act.TheVariants.{Arrive, Take, Close}
 use Rattle.fs_machine.specs.declared.refusal.Refusal.TheVariants as refusal
 use Rattle.fs_machine.specs.Here.{IsHere}
-use Rattle.fs_machine.specs.Step.{refused_where, refusal_of, fresh, arrived, acted, step}
+use Rattle.fs_machine.specs.Step.{refused_where, refusal_of, new_conn, arrived, act_done, step}
 use Rattle.fs_machine.proofs.RowLemmas.{row_none, row_gone, places_same, row_of-with_new_row, row_of-with_new_row_other}
 use Rattle.fs_machine.proofs.KeepLemmas.{Hears, Keeps, act_keeps}
 
@@ -34,9 +34,9 @@ keeps_here conn s t keeps here = record {
 }
 
 -- one that has just come
-fresh_here : (conn : ℕ) (t : Switch) → conn_of t conn ≡ Some fresh → IsHere conn t
+fresh_here : (conn : ℕ) (t : Switch) → conn_of t conn ≡ Some new_conn → IsHere conn t
 fresh_here conn t is = record {
-  there = λ none. none-some fresh (sym none ∙ is);
+  there = λ none. none-some new_conn (sym none ∙ is);
   hears = subst Hears (sym is) (λ same. cc);
 }
 
@@ -52,30 +52,30 @@ arrived_here : (conn : ℕ) (s : Switch) → IsHere conn s → IsHere conn (arri
 arrived_here conn s here = by (cases_eq (numbers.with_conn s.drawn).conns conn)
   where
     same_number : (number : ℕ) → number ≡ conn →
-        (row_of (with_new_row s.conns number fresh) number ≡ Some fresh) ⊎ (row_of (with_new_row s.conns number fresh) number ≡ row_of s.conns number) →
-        (row_of (with_new_row s.conns number fresh) conn ≡ Some fresh) ⊎ (row_of (with_new_row s.conns number fresh) conn ≡ row_of s.conns conn)
+        (row_of (with_new_row s.conns number new_conn) number ≡ Some new_conn) ⊎ (row_of (with_new_row s.conns number new_conn) number ≡ row_of s.conns number) →
+        (row_of (with_new_row s.conns number new_conn) conn ≡ Some new_conn) ⊎ (row_of (with_new_row s.conns number new_conn) conn ≡ row_of s.conns conn)
     same_number number same found =
-        subst (λ n. (row_of (with_new_row s.conns number fresh) n ≡ Some fresh) ⊎ (row_of (with_new_row s.conns number fresh) n ≡ row_of s.conns n)) same found
+        subst (λ n. (row_of (with_new_row s.conns number new_conn) n ≡ Some new_conn) ⊎ (row_of (with_new_row s.conns number new_conn) n ≡ row_of s.conns n)) same found
 
     by : ((numbers.with_conn s.drawn).conns ≡ conn) ⊎ ((numbers.with_conn s.drawn).conns ≡ conn → ⊥) → IsHere conn (arrived s).state
     by (inl same) =
-        elim (same_number (numbers.with_conn s.drawn).conns same (row_of-with_new_row s.conns (numbers.with_conn s.drawn).conns fresh)) [
+        elim (same_number (numbers.with_conn s.drawn).conns same (row_of-with_new_row s.conns (numbers.with_conn s.drawn).conns new_conn)) [
           | inl new ↦ fresh_here conn (arrived s).state new
           | inr old ↦ same_here conn s (arrived s).state old here
         ]
-    by (inr differ) = same_here conn s (arrived s).state (row_of-with_new_row_other s.conns (numbers.with_conn s.drawn).conns fresh conn differ) here
+    by (inr differ) = same_here conn s (arrived s).state (row_of-with_new_row_other s.conns (numbers.with_conn s.drawn).conns new_conn conn differ) here
 
-acted_here : (conn : ℕ) (act : Act) (s : Switch) → ClosesNone act → IsHere conn s → IsHere conn (acted act s).state
+acted_here : (conn : ℕ) (act : Act) (s : Switch) → ClosesNone act → IsHere conn s → IsHere conn (act_done act s).state
 acted_here conn Arrive s such here = arrived_here conn s here
 acted_here conn (Take taker) s such here = record { there = here.there; hears = here.hears }
 acted_here conn (Close gone how) s such here = absurd such
-acted_here conn act s such here = keeps_here conn s (acted act s).state (act_keeps act s) here
+acted_here conn act s such here = keeps_here conn s (act_done act s).state (act_keeps act s) here
 
 -- a connection that is here is so behind each entry that closes none
 pub here_step : (conn : ℕ) (s : Switch) (entry : Entry) → ClosesNone entry.act → IsHere conn s → IsHere conn (step s entry).state
 unfolding step
 here_step conn s entry such here =
-    let behind = acted_here conn entry.act (advanced entry.moment s) such (record { there = here.there; hears = here.hears }) in
+    let behind = acted_here conn entry.act (at_moment entry.moment s) such (record { there = here.there; hears = here.hears }) in
     record { there = behind.there; hears = behind.hears }
 
 -- ---- the first connection
@@ -87,7 +87,7 @@ has_place zero some = absurd (omega (arith, some))
 has_place (suc count) some = refl
 
 -- it takes that
-first_row : (count : ℕ) → 1 ≤ count → row_of (with_new_row (no_places {T = Numbered Conn} count) 1 fresh) 1 ≡ Some fresh
+first_row : (count : ℕ) → 1 ≤ count → row_of (with_new_row (no_places {T = Numbered Conn} count) 1 new_conn) 1 ≡ Some new_conn
 unfolding no_places
 first_row zero some = absurd (omega (arith, some))
 first_row (suc count) some = refl

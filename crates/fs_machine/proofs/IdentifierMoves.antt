@@ -6,8 +6,8 @@ use Rattle.fs_api.specs.declared.api.Winner.TheVariants.{App, Route}
 use Rattle.fs_chan.specs.declared.chan.Chan.{Chan}
 use Rattle.fs_chan.specs.Changes.{hung_up}
 use Rattle.fs_orig.specs.Changes.{with_answer}
-use Rattle.fs_state.specs.Switch.{Switch, chan_at, with_chan, identified, identifier_of}
-use Rattle.fs_state.specs.Moves.{moved_from, orig_changed, leg_changed, hung}
+use Rattle.fs_state.specs.Switch.{Switch, chan_at, with_chan, with_next_identifier, identifier_of}
+use Rattle.fs_state.specs.Moves.{after_move_from, orig_changed, leg_changed, after_hangup}
 use Rattle.fs_machine.specs.declared.originations.Call.{Call}
 use Rattle.fs_machine.specs.declared.originations.End.{End}
 use Rattle.fs_machine.specs.Originations.{end_of, end_made, leg_end, far_end, pair_made, won_by, won}
@@ -27,13 +27,13 @@ NumbersFrom x b t = Numbers (drawn_by b) x (seen t)
 
 -- one end of a pair is made under the next identifier
 end_numbers : (call : Call) (end : End) (s : Switch) → end.slot < length s.channels → Numbers 1 (seen s) (seen (end_made call end s))
-end_numbers call end s within = numbers_new (seen s) end.slot (end_of call end (identifier_of (identified s))) within refl
+end_numbers call end s within = numbers_new (seen s) end.slot (end_of call end (identifier_of (with_next_identifier s))) within refl
 
 pair_numbers : (call : Call) (orig a b : ℕ) (s : Switch) → IsFree Chan s.channels 1 a → IsFree Chan s.channels (a + 1) b → Numbers 2 (seen s) (seen (pair_made call orig a b s))
 pair_numbers call orig a b s free_a free_b =
     let t : Switch = end_made call (leg_end orig a b) s in
     let u : Switch = end_made call (far_end a b) t in
-    let leg : Chan = end_of call (leg_end orig a b) (identifier_of (identified s)) in
+    let leg : Chan = end_of call (leg_end orig a b) (identifier_of (with_next_identifier s)) in
     numbers_then 1 1 (seen s) (seen t) (seen u) (end_numbers call (leg_end orig a b) s free_a.within)
     (end_numbers call (far_end a b) t (subst (λ n. b < n) (sym (length-set s.channels a (Some leg))) free_b.within))
 
@@ -47,7 +47,8 @@ module _ (x : Seen) where
       seen_in : Front → Seen
       seen_in f = record { channels = f.channels; identifiers = f.identifiers; config = f.config }
 
-  hung_numbers : (more : ℕ) (cause : Cause) (slot : ℕ) (s : Switch) → Numbers more x (seen s) → Numbers more x (seen (hung cause slot s))
+  hung_numbers : (more : ℕ) (cause : Cause) (slot : ℕ) (s : Switch) → Numbers more x (seen s) →
+      Numbers more x (seen (after_hangup cause slot s))
   hung_numbers more cause slot s h =
       hung_kept (λ (t : Switch). Numbers more x (seen t)) (λ event t plain k. k) (λ why place c t is k. put_numbers more place c (hung_up why c) t is refl k)
       (λ change number t k. front_numbers more t (orig_changed change number t) (orig_changed_front change number t) k) cause slot s h
@@ -60,7 +61,7 @@ module _ (x : Seen) where
       same_uuid (App application argument) c = refl
       same_uuid (Route to) c = refl
 
-      by : (found : Option Chan) → chan_at s slot ≡ found → Numbers 2 x (seen (moved_from (won_by winner) slot found s))
+      by : (found : Option Chan) → chan_at s slot ≡ found → Numbers 2 x (seen (after_move_from (won_by winner) slot found s))
       by None is = h
       by (Some c) is =
           state_told_kept (λ (t : Switch). Numbers 2 x (seen t)) (λ event t plain k. k) c.state (won_by winner c).state {s = with_chan slot (Some (won_by winner c)) s}

@@ -16,7 +16,7 @@ use Rattle.fs_state.specs.declared.conn.Parting.{Parting}
 use Rattle.fs_state.specs.declared.conn.Parting.TheVariants as parting
 use Rattle.fs_state.specs.declared.job.JobWork.{JobWork}
 use Rattle.fs_state.specs.declared.job.JobWork.TheVariants.{Sleep, Originate}
-use Rattle.fs_state.specs.Switch.{Switch, conn_of, next_orig, is_full_of_jobs, with_new_job, without_job, without_orig, gave}
+use Rattle.fs_state.specs.Switch.{Switch, conn_of, next_orig_number, is_full_of_jobs, with_new_job, without_job, without_orig, with_gift}
 use Rattle.fs_machine.specs.declared.entry.Act.{Act}
 use Rattle.fs_machine.specs.declared.entry.Act.TheVariants as act
 use Rattle.fs_machine.specs.declared.entry.Closing.TheVariants as closing
@@ -28,10 +28,10 @@ use Rattle.fs_machine.specs.Questions.{parting_of, owed_of}
 use Rattle.fs_machine.specs.Originations.{Made, leg_made, won}
 use Rattle.fs_machine.specs.Attempts.{orig_begun, tried_by_job, originate_begun}
 use Rattle.fs_machine.specs.Jobs.{job_done}
-use Rattle.fs_machine.specs.Owing.{owing, ended}
-use Rattle.fs_machine.specs.Commands.{Command, command_of, commanded}
+use Rattle.fs_machine.specs.Owing.{after_job_begin, after_job_end}
+use Rattle.fs_machine.specs.Commands.{Command, command_of, command_done}
 use Rattle.fs_machine.specs.Work.{worked}
-use Rattle.fs_machine.specs.Step.{is_closed, acted}
+use Rattle.fs_machine.specs.Step.{is_closed, act_done}
 use Rattle.fs_machine.proofs.RowLemmas.{each_put_at, length_put_at, SameNumbers, held_of, row_at, row_none, numbers-with_row, row_of-with_row_same, row_of-with_row_other}
 use Rattle.fs_machine.proofs.Kept.{Fact, KeptByCalls, KeptByJobs, LeavesBy, KeptByCommands}
 use Rattle.fs_machine.proofs.RestLemmas.{Rest, rest_of, calls_by_rest, leg_made_rest, worked_rest, won_rest}
@@ -192,14 +192,14 @@ parted_keeps why conn s = own_changed_keeps (parted why) (λ c h. refl) (parted_
 
 -- ---- jobs
 
-owing_keeps : (conn : ℕ) (work : JobWork) (s : Switch) → Keeps (Some conn) false s (owing conn work s)
+owing_keeps : (conn : ℕ) (work : JobWork) (s : Switch) → Keeps (Some conn) false s (after_job_begin conn work s)
 owing_keeps conn work s =
     let begun : Switch = with_new_job (record { conn = conn; work = work }) s in
     keeps_trans s begun (conn_changed (owed_since s.entries) conn begun) (keeps_same s begun refl) (own_changed_keeps (owed_since s.entries) (λ c h. h) (λ none c heard. heard) conn begun)
 
-ended_keeps : {who : Option ℕ} → (number conn : ℕ) (answer : Text) (s : Switch) → Keeps who false s (ended number conn answer s)
+ended_keeps : {who : Option ℕ} → (number conn : ℕ) (answer : Text) (s : Switch) → Keeps who false s (after_job_end number conn answer s)
 ended_keeps number conn answer s =
-    keeps_on s (conn_changed not_owed conn (without_job number s)) (ended number conn answer s)
+    keeps_on s (conn_changed not_owed conn (without_job number s)) (after_job_end number conn answer s)
     (keeps_trans s (without_job number s) (conn_changed not_owed conn (without_job number s)) (keeps_same s (without_job number s) refl)
     (conn_changed_keeps not_owed (λ c h. h) (λ none c heard. heard) conn (λ apart c. record { phase = refl; owed = λ none. refl }) (without_job number s)))
     refl
@@ -222,27 +222,28 @@ calls_keep who s = calls_by_rest (KeepsFrom who s) (λ b t u h same. keeps_on s 
 
 -- the jobs that end
 module _ (s : Switch) where
-  over_keeps : (a : Attempt) (answer : Text) (t u : Switch) → sockets_of u ≡ sockets_of t → Keeps None false s t → Keeps None false s (ended a.job a.conn answer (without_orig a.orig u))
+  over_keeps : (a : Attempt) (answer : Text) (t u : Switch) → sockets_of u ≡ sockets_of t → Keeps None false s t → Keeps None false s (after_job_end a.job a.conn answer (without_orig a.orig u))
   over_keeps a answer t u same h =
-      keeps_trans s (without_orig a.orig u) (ended a.job a.conn answer (without_orig a.orig u)) (keeps_on s t (without_orig a.orig u) h same)
+      keeps_trans s (without_orig a.orig u) (after_job_end a.job a.conn answer (without_orig a.orig u)) (keeps_on s t (without_orig a.orig u) h same)
       (ended_keeps a.job a.conn answer (without_orig a.orig u))
 
-  wins_keep : (a : Attempt) (winner : Winner) (leg : OrigLeg) → Keeps None false s s → Keeps None false s (ended a.job a.conn (made_text leg.uuid) (without_orig a.orig (won winner (unwrap_or leg.slot 0) s)))
+  wins_keep : (a : Attempt) (winner : Winner) (leg : OrigLeg) → Keeps None false s s → Keeps None false s (after_job_end a.job a.conn (made_text leg.uuid) (without_orig a.orig (won winner (unwrap_or leg.slot 0) s)))
   wins_keep a winner leg h =
       let t : Switch = won winner (unwrap_or leg.slot 0) s in
       over_keeps a (made_text leg.uuid) s t (sockets_same s t (won_rest winner (unwrap_or leg.slot 0) s)) h
 
   jobs_keep : KeptByJobs s (KeepsFrom None s)
   jobs_keep = record {
-    woken = λ number conn until answer {s = t} does h. keeps_trans s t (ended number conn answer t) h (ended_keeps number conn answer t);
+    woken = λ number conn until answer {s = t} does h. keeps_trans s t (after_job_end number conn answer t) h
+        (ended_keeps number conn answer t);
     failed = λ a winner cause {s = t} does h. over_keeps a (failed_text cause) t t refl h;
     wins = λ a winner leg does has h. wins_keep a winner leg h;
   }
 
 -- the commands of a connection
 module _ (conn : ℕ) (s : Switch) where
-  gave_keeps : (frame : Text) {t : Switch} → Keeps (Some conn) false s t → Keeps (Some conn) false s (gave conn frame t)
-  gave_keeps frame {t} h = keeps_on s t (gave conn frame t) h refl
+  gave_keeps : (frame : Text) {t : Switch} → Keeps (Some conn) false s t → Keeps (Some conn) false s (with_gift conn frame t)
+  gave_keeps frame {t} h = keeps_on s t (with_gift conn frame t) h refl
 
   admitted_keeps : {t : Switch} → phase_at t conn ≡ Fresh → Keeps (Some conn) false s t → Keeps (Some conn) false s (conn_changed admitted conn t)
   admitted_keeps {t} fresh h = keeps_trans s t (conn_changed admitted conn t) h (own_changed_keeps admitted (λ c h. refl) (λ none c heard. heard) conn t)
@@ -252,15 +253,15 @@ module _ (conn : ℕ) (s : Switch) where
   leaves_keeps parting.AuthRefused {t} leaves h = keeps_trans s t (conn_changed (parted parting.AuthRefused) conn t) h (parted_keeps parting.AuthRefused conn t)
   leaves_keeps parting.EndOfInput leaves h = absurd leaves
 
-  sleeps_keep : (until : ℕ) {t : Switch} → is_full_of_jobs t ≡ false → Keeps (Some conn) false s t → Keeps (Some conn) false s (owing conn (Sleep until) t)
-  sleeps_keep until {t} room h = keeps_trans s t (owing conn (Sleep until) t) h (owing_keeps conn (Sleep until) t)
+  sleeps_keep : (until : ℕ) {t : Switch} → is_full_of_jobs t ≡ false → Keeps (Some conn) false s t → Keeps (Some conn) false s (after_job_begin conn (Sleep until) t)
+  sleeps_keep until {t} room h = keeps_trans s t (after_job_begin conn (Sleep until) t) h (owing_keeps conn (Sleep until) t)
 
   originates_keep : (endpoint : Text) (winner : Winner) (caller : Caller) (timeout : Option ℕ) {t : Switch} → Keeps (Some conn) false s t →
       Keeps (Some conn) false s (originate_begun conn endpoint winner caller timeout t)
   originates_keep endpoint winner caller timeout {t} h =
       keeps_trans s t (originate_begun conn endpoint winner caller timeout t) h
-      (begun_keeps conn endpoint winner (unwrap_or timeout 60) (next_orig t) (leg_made endpoint caller (next_orig t) t) t
-      (sockets_same t (leg_made endpoint caller (next_orig t) t).state (leg_made_rest endpoint caller (next_orig t) t)))
+      (begun_keeps conn endpoint winner (unwrap_or timeout 60) (next_orig_number t) (leg_made endpoint caller (next_orig_number t) t) t
+      (sockets_same t (leg_made endpoint caller (next_orig_number t) t).state (leg_made_rest endpoint caller (next_orig_number t) t)))
 
   commands_keep : KeptByCommands conn (KeepsFrom (Some conn) s)
   commands_keep = record {
@@ -280,7 +281,7 @@ work_keeps slot s = keeps_same s (worked slot s) (sockets_same s (worked slot s)
 job_done_keeps : (number : ℕ) (s : Switch) → Keeps None false s (job_done number s)
 job_done_keeps number s = job_kept s (KeepsFrom None s) (calls_keep None s) (jobs_keep s) number (keeps_refl s)
 
-commanded_keeps : (conn : ℕ) (command : Command) (s : Switch) → Keeps (Some conn) false s (commanded conn command s)
+commanded_keeps : (conn : ℕ) (command : Command) (s : Switch) → Keeps (Some conn) false s (command_done conn command s)
 commanded_keeps conn command s = commanded_kept conn (KeepsFrom (Some conn) s) (calls_keep (Some conn) s) (commands_keep conn s) command {s = s} (keeps_refl s)
 
 -- those that open no connection, close none, and take no frame
@@ -289,9 +290,9 @@ ActKeeps act.Arrive s = Unit {0}
 ActKeeps (act.Take conn) s = Unit {0}
 ActKeeps (act.Close conn closing.Sent) s = Unit {0}
 ActKeeps (act.Close conn closing.Failed) s = Unit {0}
-ActKeeps (act.Close conn closing.EndOfInput) s = Keeps (Some conn) true s (acted (act.Close conn closing.EndOfInput) s).state
-ActKeeps (act.Command conn block) s = Keeps (Some conn) false s (acted (act.Command conn block) s).state
-ActKeeps other s = Keeps None false s (acted other s).state
+ActKeeps (act.Close conn closing.EndOfInput) s = Keeps (Some conn) true s (act_done (act.Close conn closing.EndOfInput) s).state
+ActKeeps (act.Command conn block) s = Keeps (Some conn) false s (act_done (act.Command conn block) s).state
+ActKeeps other s = Keeps None false s (act_done other s).state
 
 pub act_keeps : (a : Act) (s : Switch) → ActKeeps a s
 act_keeps (act.Command conn block) s = commanded_keeps conn (command_of (line_of block)) s

@@ -7,7 +7,7 @@ use Rattle.fs_api.specs.declared.api.Winner.{Winner}
 use Rattle.fs_api.specs.declared.api.Winner.TheVariants.{App, Route}
 use Rattle.fs_chan.specs.declared.chan.Chan.{Chan}
 use Rattle.fs_chan.specs.declared.peer.Peer.{Peer}
-use Rattle.fs_chan.specs.Changes.{is_live, IsShort, HasShortFields}
+use Rattle.fs_chan.specs.Changes.{is_live, IsShortTarget, HasShortFields}
 use Rattle.fs_orig.specs.declared.leg.OrigLeg.{OrigLeg}
 use Rattle.fs_orig.specs.declared.orig.Orig.{Orig}
 use Rattle.fs_orig.specs.Legs.{lives}
@@ -19,8 +19,8 @@ use Rattle.fs_state.specs.declared.conn.Parting.TheVariants as parting
 use Rattle.fs_state.specs.declared.event.Event.{Event}
 use Rattle.fs_state.specs.declared.job.JobWork.{JobWork}
 use Rattle.fs_state.specs.declared.job.JobWork.TheVariants as work
-use Rattle.fs_state.specs.Switch.{Switch, chan_at, with_chan, is_full_of_jobs, orig_of, job_of, without_orig, without_conn, with_frame_taken, told, gave}
-use Rattle.fs_state.specs.Moves.{orig_changed, leg_changed, hung}
+use Rattle.fs_state.specs.Switch.{Switch, chan_at, with_chan, is_full_of_jobs, orig_of, job_of, without_orig, without_conn, with_frame_taken, with_event, with_gift}
+use Rattle.fs_state.specs.Moves.{orig_changed, leg_changed, after_hangup}
 use Rattle.fs_machine.specs.declared.attempts.Attempt.{Attempt}
 use Rattle.fs_machine.specs.declared.originations.Call.{Call}
 use Rattle.fs_machine.specs.declared.originations.Caller.{Caller}
@@ -28,7 +28,7 @@ use Rattle.fs_machine.specs.Connections.{phase_at, conn_changed, admitted, parte
 use Rattle.fs_machine.specs.Texts.{made_text}
 use Rattle.fs_machine.specs.Originations.{pair_made, target_of, won}
 use Rattle.fs_machine.specs.Attempts.{originate_begun, failed}
-use Rattle.fs_machine.specs.Owing.{owing, ended}
+use Rattle.fs_machine.specs.Owing.{after_job_begin, after_job_end}
 use Rattle.fs_machine.specs.Step.{arrived}
 use Rattle.fs_machine.proofs.HeldLemmas.{IsFree}
 
@@ -56,11 +56,11 @@ pub record Stays (old new : Chan) : Type 0 where
 
 -- what channels do, and what is done to them; no event tells of a bridge
 pub record KeptByCalls (P : Fact) : Type 0 where
-  pub told : (event : Event) {b : Bool} {s : Switch} → event.bridge ≡ 0 → P b s → P b (told event s)
+  pub told : (event : Event) {b : Bool} {s : Switch} → event.bridge ≡ 0 → P b s → P b (with_event event s)
   pub globals : (globals : Variables) {b : Bool} {s : Switch} → P b s → P b (record s { globals = globals })
   pub changed : (slot : ℕ) (old new : Chan) {b : Bool} {s : Switch} → chan_at s slot ≡ Some old → Stays old new → P b s → P b (with_chan slot (Some new) s)
   pub answers : (place slot number : ℕ) {b : Bool} {s : Switch} → P b s → P b (orig_changed (leg_changed (λ position. with_answer position place) slot) number s)
-  pub hung : (cause : Cause) (slot : ℕ) {b : Bool} {s : Switch} → P b s → P b (hung cause slot s)
+  pub hung : (cause : Cause) (slot : ℕ) {b : Bool} {s : Switch} → P b s → P b (after_hangup cause slot s)
   pub gone : (slot : ℕ) (old : Chan) {b : Bool} {s : Switch} → chan_at s slot ≡ Some old → is_live old ≡ false → P b s → P b (with_chan slot None s)
 
 -- how channels are born
@@ -85,10 +85,10 @@ pub record HasLeg (s : Switch) (number : ℕ) (leg : OrigLeg) : Type 0 where
 
 -- the jobs that end; a leg wins in the switch in which the entry begins
 pub record KeptByJobs (before : Switch) (P : Fact) : Type 0 where
-  pub woken : (number conn until : ℕ) (answer : Text) {s : Switch} → DoesJob s number conn (work.Sleep until) → P false s → P false (ended number conn answer s)
+  pub woken : (number conn until : ℕ) (answer : Text) {s : Switch} → DoesJob s number conn (work.Sleep until) → P false s → P false (after_job_end number conn answer s)
   pub failed : (a : Attempt) (winner : Winner) (cause : Cause) {s : Switch} → DoesJob s a.job a.conn (work.Originate a.orig winner) → P false s → P false (failed a cause s)
   pub wins : (a : Attempt) (winner : Winner) (leg : OrigLeg) → DoesJob before a.job a.conn (work.Originate a.orig winner) → HasLeg before a.orig leg → P false before →
-      P false (ended a.job a.conn (made_text leg.uuid) (without_orig a.orig (won winner (unwrap_or leg.slot 0) before)))
+      P false (after_job_end a.job a.conn (made_text leg.uuid) (without_orig a.orig (won winner (unwrap_or leg.slot 0) before)))
 
 -- ---- moves of a connection
 
@@ -101,15 +101,15 @@ LeavesBy parting.EndOfInput = ⊥
 -- the texts that a winner is routed by can stand in a profile
 abbrev pub IsShortWinner : Winner → Type 0
 IsShortWinner (App application argument) = Unit {0}
-IsShortWinner (Route to) = IsShort (target_of to)
+IsShortWinner (Route to) = IsShortTarget (target_of to)
 
 -- what the commands of a connection do
 pub record KeptByCommands (conn : ℕ) (P : Fact) : Type 0 where
   pub spent : {s : Switch} → P true s → P false s
-  pub gave : (frame : Text) {b : Bool} {s : Switch} → P b s → P b (gave conn frame s)
+  pub gave : (frame : Text) {b : Bool} {s : Switch} → P b s → P b (with_gift conn frame s)
   pub admitted : {s : Switch} → phase_at s conn ≡ Fresh → P false s → P false (conn_changed admitted conn s)
   pub parted : (why : Parting) {s : Switch} → LeavesBy why → P false s → P false (conn_changed (parted why) conn s)
-  pub sleeps : (until : ℕ) {s : Switch} → is_full_of_jobs s ≡ false → P true s → P false (owing conn (work.Sleep until) s)
+  pub sleeps : (until : ℕ) {s : Switch} → is_full_of_jobs s ≡ false → P true s → P false (after_job_begin conn (work.Sleep until) s)
   pub originates : (endpoint : Text) (winner : Winner) (caller : Caller) (timeout : Option ℕ) {s : Switch} → IsShortWinner winner → is_full_of_jobs s ≡ false → P true s →
       P false (originate_begun conn endpoint winner caller timeout s)
 

@@ -13,15 +13,15 @@ use Rattle.fs_orig.specs.declared.endpoint.Endpoint.TheVariants.{Loopback, Dead}
 use Rattle.fs_orig.specs.declared.leg.OrigLeg.{OrigLeg}
 use Rattle.fs_orig.specs.declared.orig.Orig.{Orig}
 use Rattle.fs_orig.specs.Legs.{lives}
-use Rattle.fs_orig.specs.Changes.{answered_at, dead_at, with_answer, with_death}
+use Rattle.fs_orig.specs.Changes.{with_leg_answer, with_leg_death, with_answer, with_death}
 use Rattle.fs_orig.specs.Endpoints.{endpoint_of}
 use Rattle.fs_places.specs.Places.{held_in, with_held}
 use Rattle.fs_places.specs.Rows.{has_number, place_of, row_of, with_row, without_row}
 use Rattle.fs_state.specs.declared.conn.Conn.{Conn}
 use Rattle.fs_state.specs.declared.conn.Parting.TheVariants as parting
 use Rattle.fs_state.specs.declared.job.JobWork.TheVariants.{Sleep, Originate}
-use Rattle.fs_state.specs.Switch.{Switch, chan_at, with_chan, free_slot, identified, identifier_of, next_orig, orig_of, with_orig, with_new_orig, without_orig, with_new_job, without_job, told}
-use Rattle.fs_state.specs.Moves.{state_told, moved_from, orig_changed_from, orig_changed, leg_changed, its_leg_changed, hangup_of, hung_from, one_hung, hung}
+use Rattle.fs_state.specs.Switch.{Switch, chan_at, with_chan, free_slot, with_next_identifier, identifier_of, next_orig_number, orig_of, with_orig, with_new_orig, without_orig, with_new_job, without_job, with_event}
+use Rattle.fs_state.specs.Moves.{with_state_events, after_move_from, orig_changed_from, orig_changed, leg_changed, its_leg_changed, hangup_event, after_hangup_from, after_one_hangup, after_hangup}
 use Rattle.fs_machine.specs.declared.attempts.Attempt.{Attempt}
 use Rattle.fs_machine.specs.declared.originations.Call.{Call}
 use Rattle.fs_machine.specs.declared.originations.Caller.{Caller}
@@ -29,7 +29,7 @@ use Rattle.fs_machine.specs.Texts.{made_text, failed_text}
 use Rattle.fs_machine.specs.Connections.{conn_changed, admitted, parted, owed_since, not_owed}
 use Rattle.fs_machine.specs.Originations.{end_of, end_made, leg_end, far_end, pair_made, Made, made_dead, is_congested, made_in, with_second, free_pair, made_of, leg_made, won_by, won}
 use Rattle.fs_machine.specs.Attempts.{orig_begun, tried_by_job, originate_begun}
-use Rattle.fs_machine.specs.Owing.{owing, ended}
+use Rattle.fs_machine.specs.Owing.{after_job_begin, after_job_end}
 use Rattle.fs_machine.proofs.HeldLemmas.{IsFree, free_place, held_here, held_there, held_within}
 use Rattle.fs_machine.proofs.RowLemmas.{AreDistinct, AreWithin, row_gone, none_stands, above_nowhere, distinct_same, numbers-with_row, place_of-without_row_same, distinct-without_row, within-without_row, distinct-with_new_row, within-with_new_row}
 use Rattle.fs_machine.proofs.TableLemmas.{nothing_there, same_there}
@@ -134,9 +134,9 @@ free_follows channels slot new dead seat leg =
 -- ---- a channel is hung up, and the leg that it is dies
 
 cut_roles : (cause : Cause) (slot : ℕ) (c : Chan) (s : Switch) →
-    roles_of (state_told c.state CsHangup (told (hangup_of cause) (with_chan slot (Some (hung_up cause c)) s))) ≡ record (roles_of s) { channels = with_held s.channels slot (Some (hung_up cause c)) }
+    roles_of (with_state_events c.state CsHangup (with_event (hangup_event cause) (with_chan slot (Some (hung_up cause c)) s))) ≡ record (roles_of s) { channels = with_held s.channels slot (Some (hung_up cause c)) }
 cut_roles cause slot c s =
-    let cut : Switch = told (hangup_of cause) (with_chan slot (Some (hung_up cause c)) s) in
+    let cut : Switch = with_event (hangup_event cause) (with_chan slot (Some (hung_up cause c)) s) in
     state_told_kept (λ (t : Switch). roles_of t ≡ record (roles_of s) { channels = with_held s.channels slot (Some (hung_up cause c)) }) (λ event t plain h. h) c.state CsHangup {s = cut} refl
 
 -- so each leg stands behind a hangup
@@ -172,21 +172,21 @@ module _ (cause : Cause) (slot : ℕ) (c : Chan) (s : Switch) (there : chan_at s
           let dead : Orig = leg_changed (λ p. with_death p place cause) slot o in
           let origs : Origs = with_row s.origs number dead in
           after_death origs (distinct_same s.origs origs (numbers-with_row s.origs number dead) h.distinct) (within_same s.origs number dead s.drawn.origs h.within)
-          (changed_fewer s.origs number o dead (known (Some o) found) (touched_spares (dead_at place cause) (death_spares place cause) slot number o))
+          (changed_fewer s.origs number o dead (known (Some o) found) (touched_spares (with_leg_death place cause) (death_spares place cause) slot number o))
           (λ at position n has e. death_leaves_none s.origs number o slot place cause h.distinct (known (Some o) found) h.apart at position
           (has ∙ ap (λ (m : ℕ). Some (in_slot m slot)) (its n e)))
           (with_orig number dead t) (ap (λ (r : Roles). record r { origs = with_row r.origs number dead }) same)
 
-one_hung_legs : (cause : Cause) (slot : ℕ) (s : Switch) → LegsStand (roles_of s) → LegsStand (roles_of (one_hung cause slot s))
+one_hung_legs : (cause : Cause) (slot : ℕ) (s : Switch) → LegsStand (roles_of s) → LegsStand (roles_of (after_one_hangup cause slot s))
 one_hung_legs cause slot s h = by (chan_at s slot) refl
   where
     of : (c : Chan) → chan_at s slot ≡ Some c → (test : Bool) →
         LegsStand (roles_of (if test then its_leg_changed (λ position. with_death position s.entries cause) slot c.leg_of
-        (state_told c.state CsHangup (told (hangup_of cause) (with_chan slot (Some (hung_up cause c)) s))) else s))
-    of c is true = its_death cause slot c s is h s.entries c.leg_of refl (state_told c.state CsHangup (told (hangup_of cause) (with_chan slot (Some (hung_up cause c)) s))) (cut_roles cause slot c s)
+        (with_state_events c.state CsHangup (with_event (hangup_event cause) (with_chan slot (Some (hung_up cause c)) s))) else s))
+    of c is true = its_death cause slot c s is h s.entries c.leg_of refl (with_state_events c.state CsHangup (with_event (hangup_event cause) (with_chan slot (Some (hung_up cause c)) s))) (cut_roles cause slot c s)
     of c is false = h
 
-    by : (found : Option Chan) → chan_at s slot ≡ found → LegsStand (roles_of (hung_from cause slot found s))
+    by : (found : Option Chan) → chan_at s slot ≡ found → LegsStand (roles_of (after_hangup_from cause slot found s))
     by None is = h
     by (Some c) is = of c is (is_live c)
 
@@ -201,7 +201,7 @@ answered_legs place slot number s h = by (orig_of s number) refl
         let new : Orig = leg_changed (λ position. with_answer position place) slot o in
         let origs : Origs = with_row s.origs number new in
         legs_fewer (roles_of s) s.channels origs (distinct_same s.origs origs (numbers-with_row s.origs number new) h.distinct) (within_same s.origs number new s.drawn.origs h.within)
-        (changed_fewer s.origs number o new is (touched_spares (answered_at place) (answer_spares place) slot number o)) (λ at position seat has leg. leg) h
+        (changed_fewer s.origs number o new is (touched_spares (with_leg_answer place) (answer_spares place) slot number o)) (λ at position seat has leg. leg) h
 
 -- ---- a leg is made
 
@@ -214,14 +214,14 @@ pair_leg call orig a s is_a None is_b live = absurd (true≢false (sym live))
 pair_leg call orig a s is_a (Some b) is_b live =
     let free_a : IsFree Chan s.channels 1 a = free_place Chan s.channels 1 a is_a in
     let free_b : IsFree Chan s.channels (a + 1) b = free_place Chan s.channels (a + 1) b is_b in
-    let leg : Chan = end_of call (leg_end orig a b) (identifier_of (identified s)) in
+    let leg : Chan = end_of call (leg_end orig a b) (identifier_of (with_next_identifier s)) in
     let t : Switch = end_made call (leg_end orig a b) s in
     record {
       at = a;
       is = refl;
       chan = leg;
       there =
-          held_there t.channels b a (Some (end_of call (far_end a b) (identifier_of (identified t)))) (λ same. omega (arith, free_b.behind, same))
+          held_there t.channels b a (Some (end_of call (far_end a b) (identifier_of (with_next_identifier t)))) (λ same. omega (arith, free_b.behind, same))
           ∙ held_here s.channels a (Some leg) free_a.within;
       live = new_lives;
       names = refl;
@@ -245,47 +245,49 @@ leg_stands endpoint caller orig s = made_leg (endpoint_of endpoint) caller orig 
 
 pair_legs : (call : Call) (orig a b : ℕ) (s : Switch) → IsFree Chan s.channels 1 a → IsFree Chan s.channels (a + 1) b → LegsStand (roles_of s) → LegsStand (roles_of (pair_made call orig a b s))
 pair_legs call orig a b s free_a free_b h =
-    let leg : Option Chan = Some (end_of call (leg_end orig a b) (identifier_of (identified s))) in
+    let leg : Option Chan = Some (end_of call (leg_end orig a b) (identifier_of (with_next_identifier s))) in
     let t : Switch = end_made call (leg_end orig a b) s in
-    let far : Option Chan = Some (end_of call (far_end a b) (identifier_of (identified t))) in
+    let far : Option Chan = Some (end_of call (far_end a b) (identifier_of (with_next_identifier t))) in
     let still : held_in t.channels b ≡ None = held_there s.channels a b leg (λ same. omega (arith, free_b.behind, same)) ∙ free_b.free in
     legs_follow (roles_of t) (with_held t.channels b far) (free_follows t.channels b far (λ c there. absurd (nothing_there c (sym still ∙ there))))
     (legs_follow (roles_of s) (with_held s.channels a leg) (free_follows s.channels a leg (λ c there. absurd (nothing_there c (sym free_a.free ∙ there)))) h)
 
 -- ---- an origination of one leg begins
 
-new_orig_legs : (o : Orig) (leg : OrigLeg) (t : Switch) → o.legs ≡ leg ∷ [] → t.drawn.origs < 2 ^ 62 → (lives leg ≡ true → IsLegOf t.channels (seated (next_orig t) leg.slot)) →
+new_orig_legs : (o : Orig) (leg : OrigLeg) (t : Switch) → o.legs ≡ leg ∷ [] → t.drawn.origs < 2 ^ 62 → (lives leg ≡ true → IsLegOf t.channels (seated (next_orig_number t) leg.slot)) →
     LegsStand (roles_of t) → LegsStand (roles_of (with_new_orig o t))
 new_orig_legs o leg t one few mine h = record {
-  distinct = distinct-with_new_row t.origs (next_orig t) o h.distinct nowhere;
-  within = within-with_new_row t.origs (next_orig t) o (next_orig t) (λ n p is. omega (arith, h.within n p is, next)) (omega arith);
-  stand = λ place position seat has. stand place position seat (new_or_old t.origs (next_orig t) o leg one place position seat has);
+  distinct = distinct-with_new_row t.origs (next_orig_number t) o h.distinct nowhere;
+  within = within-with_new_row t.origs (next_orig_number t) o (next_orig_number t) (λ n p is. omega (arith, h.within n p is, next))
+      (omega arith);
+  stand = λ place position seat has. stand place position seat (new_or_old t.origs (next_orig_number t) o leg one place position seat has);
   apart = λ place p q seat first second.
-      apart place p q seat (new_or_old t.origs (next_orig t) o leg one place p seat first) (new_or_old t.origs (next_orig t) o leg one place q seat second);
+      apart place p q seat (new_or_old t.origs (next_orig_number t) o leg one place p seat first) (new_or_old t.origs (next_orig_number t) o leg one place q seat second);
 }
   where
-    next : next_orig t ≡ t.drawn.origs + 1
+    next : next_orig_number t ≡ t.drawn.origs + 1
     next = omega (arith, few)
 
-    nowhere : place_of t.origs (next_orig t) ≡ None
-    nowhere = above_nowhere t.origs t.drawn.origs (next_orig t) h.within (omega (arith, next))
+    nowhere : place_of t.origs (next_orig_number t) ≡ None
+    nowhere = above_nowhere t.origs t.drawn.origs (next_orig_number t) h.within (omega (arith, next))
 
-    by_life : (seat : Seat) (test : Bool) → lives leg ≡ test → seat_if test (next_orig t) leg.slot ≡ Some seat → IsLegOf t.channels seat
-    by_life seat true live h = subst (IsLegOf t.channels) (same_there (seated (next_orig t) leg.slot) seat h) (mine live)
+    by_life : (seat : Seat) (test : Bool) → lives leg ≡ test → seat_if test (next_orig_number t) leg.slot ≡ Some seat →
+        IsLegOf t.channels seat
+    by_life seat true live h = subst (IsLegOf t.channels) (same_there (seated (next_orig_number t) leg.slot) seat h) (mine live)
     by_life seat false live h = absurd (nothing_there seat h)
 
-    stand : (place position : ℕ) (seat : Seat) → ((position ≡ 0) × (seat_of (next_orig t) (Some leg) ≡ Some seat)) ⊎ (seat_at t.origs place position ≡ Some seat) → IsLegOf t.channels seat
+    stand : (place position : ℕ) (seat : Seat) → ((position ≡ 0) × (seat_of (next_orig_number t) (Some leg) ≡ Some seat)) ⊎ (seat_at t.origs place position ≡ Some seat) → IsLegOf t.channels seat
     stand place position seat (inl new) = by_life seat (lives leg) refl new.1
     stand place position seat (inr old) = h.stand place position seat old
 
     -- none that was there has the number
-    not_old : (place position : ℕ) (seat : Seat) → seat_at t.origs place position ≡ Some seat → seat_of (next_orig t) (Some leg) ≡ Some seat → ⊥
+    not_old : (place position : ℕ) (seat : Seat) → seat_at t.origs place position ≡ Some seat → seat_of (next_orig_number t) (Some leg) ≡ Some seat → ⊥
     not_old place position seat old new =
-        both_ways (has_number (next_orig t) (held_in t.origs place)) (none_stands t.origs (next_orig t) nowhere place)
-        (subst (λ (n : ℕ). has_number n (held_in t.origs place) ≡ true) (seat_its (next_orig t) (Some leg) seat new) (seat_number position (held_in t.origs place) seat old))
+        both_ways (has_number (next_orig_number t) (held_in t.origs place)) (none_stands t.origs (next_orig_number t) nowhere place)
+        (subst (λ (n : ℕ). has_number n (held_in t.origs place) ≡ true) (seat_its (next_orig_number t) (Some leg) seat new) (seat_number position (held_in t.origs place) seat old))
 
-    apart : (place p q : ℕ) (seat : Seat) → ((p ≡ 0) × (seat_of (next_orig t) (Some leg) ≡ Some seat)) ⊎ (seat_at t.origs place p ≡ Some seat) →
-        ((q ≡ 0) × (seat_of (next_orig t) (Some leg) ≡ Some seat)) ⊎ (seat_at t.origs place q ≡ Some seat) → p ≡ q
+    apart : (place p q : ℕ) (seat : Seat) → ((p ≡ 0) × (seat_of (next_orig_number t) (Some leg) ≡ Some seat)) ⊎ (seat_at t.origs place p ≡ Some seat) →
+        ((q ≡ 0) × (seat_of (next_orig_number t) (Some leg) ≡ Some seat)) ⊎ (seat_at t.origs place q ≡ Some seat) → p ≡ q
     apart place p q seat (inl a) (inl b) = a.0 ∙ sym b.0
     apart place p q seat (inl a) (inr b) = absurd (not_old place q seat b a.1)
     apart place p q seat (inr a) (inl b) = absurd (not_old place p seat a b.1)
@@ -321,7 +323,7 @@ won_roles : (winner : Winner) (slot : ℕ) (c : Chan) (s : Switch) → chan_at s
     roles_of (won winner slot s) ≡ record (roles_of s) { channels = with_held s.channels slot (Some (won_by winner c)) }
 unfolding won
 won_roles winner slot c s there =
-    subst (λ (found : Option Chan). roles_of (moved_from (won_by winner) slot found s) ≡ record (roles_of s) { channels = with_held s.channels slot (Some (won_by winner c)) }) (sym there)
+    subst (λ (found : Option Chan). roles_of (after_move_from (won_by winner) slot found s) ≡ record (roles_of s) { channels = with_held s.channels slot (Some (won_by winner c)) }) (sym there)
     (state_told_kept (λ (t : Switch). roles_of t ≡ record (roles_of s) { channels = with_held s.channels slot (Some (won_by winner c)) }) (λ event t plain h. h) c.state (won_by winner c).state
     {s = with_chan slot (Some (won_by winner c)) s} refl)
 
@@ -362,7 +364,7 @@ legs_calls = record {
   answers = λ place slot number {s = s} h.
       legs_then s (orig_changed (leg_changed (λ position. with_answer position place) slot) number s) (orig_changed_rest (leg_changed (λ position. with_answer position place) slot) number s)
       (answered_legs place slot number s) h;
-  hung = λ cause slot {s = s} h. legs_then s (hung cause slot s) (hung_rest cause slot s) (pair_hung_kept (λ (t : Switch). LegsStand (roles_of t)) one_hung_legs cause slot s) h;
+  hung = λ cause slot {s = s} h. legs_then s (after_hangup cause slot s) (hung_rest cause slot s) (pair_hung_kept (λ (t : Switch). LegsStand (roles_of t)) one_hung_legs cause slot s) h;
   gone = λ slot old {s = s} there dead h few.
       legs_follow (roles_of s) (with_held s.channels slot None) (free_follows s.channels slot None (λ c is. ap is_live (same_there c old (sym is ∙ there)) ∙ dead)) (h few);
 }
@@ -372,24 +374,25 @@ legs_births = record { spent = λ h. h; pair = λ call orig a b {s = s} short fi
 
 originates_legs : (conn : ℕ) (endpoint : Text) (winner : Winner) (caller : Caller) (timeout : Option ℕ) (s : Switch) → Stand (roles_of s) →
     Stand (roles_of (originate_begun conn endpoint winner caller timeout s))
-originates_legs conn endpoint winner caller timeout s h = tried (leg_made endpoint caller (next_orig s) s) next (leg_stands endpoint caller (next_orig s) s) (leg_made_kept Legs legs_births endpoint caller (next_orig s) {s = s} h)
+originates_legs conn endpoint winner caller timeout s h = tried (leg_made endpoint caller (next_orig_number s) s) next (leg_stands endpoint caller (next_orig_number s) s) (leg_made_kept Legs legs_births endpoint caller (next_orig_number s) {s = s} h)
   where
-    next : next_orig (leg_made endpoint caller (next_orig s) s).state ≡ next_orig s
-    next = ap (λ (r : Rest). min (r.origs_drawn + 1) (2 ^ 64 - 1)) (leg_made_rest endpoint caller (next_orig s) s)
+    next : next_orig_number (leg_made endpoint caller (next_orig_number s) s).state ≡ next_orig_number s
+    next = ap (λ (r : Rest). min (r.origs_drawn + 1) (2 ^ 64 - 1)) (leg_made_rest endpoint caller (next_orig_number s) s)
 
-    tried : (made : Made) → next_orig made.state ≡ next_orig s → MadeStands (next_orig s) made → Stand (roles_of made.state) →
-        Stand (roles_of (tried_by_job conn endpoint winner (unwrap_or timeout 60) (next_orig s) made))
+    tried : (made : Made) → next_orig_number made.state ≡ next_orig_number s → MadeStands (next_orig_number s) made →
+        Stand (roles_of made.state) →
+        Stand (roles_of (tried_by_job conn endpoint winner (unwrap_or timeout 60) (next_orig_number s) made))
     tried made same stands h =
         let t : Switch = orig_begun endpoint made.leg (unwrap_or timeout 60) made.state in
-        same_roles t (owing conn (Originate (next_orig s) winner) t) (conn_roles (owed_since t.entries) conn (with_new_job (record { conn = conn; work = Originate (next_orig s) winner }) t))
+        same_roles t (after_job_begin conn (Originate (next_orig_number s) winner) t) (conn_roles (owed_since t.entries) conn (with_new_job (record { conn = conn; work = Originate (next_orig_number s) winner }) t))
         (λ few. let fewer : made.state.drawn.origs < 2 ^ 62 = omega (arith, few) in
         new_orig_legs _ made.leg made.state refl fewer (λ live. subst (λ (n : ℕ). IsLegOf made.state.channels (seated n made.leg.slot)) (sym same) (stands live)) (h fewer))
 
-ended_legs : (number conn : ℕ) (answer : Text) (s : Switch) → Stand (roles_of s) → Stand (roles_of (ended number conn answer s))
-ended_legs number conn answer s h = same_roles s (ended number conn answer s) (conn_roles not_owed conn (without_job number s)) h
+ended_legs : (number conn : ℕ) (answer : Text) (s : Switch) → Stand (roles_of s) → Stand (roles_of (after_job_end number conn answer s))
+ended_legs number conn answer s h = same_roles s (after_job_end number conn answer s) (conn_roles not_owed conn (without_job number s)) h
 
 wins_legs : (a : Attempt) (winner : Winner) (leg : OrigLeg) (s : Switch) → HasLeg s a.orig leg → Stand (roles_of s) →
-    Stand (roles_of (ended a.job a.conn (made_text leg.uuid) (without_orig a.orig (won winner (unwrap_or leg.slot 0) s))))
+    Stand (roles_of (after_job_end a.job a.conn (made_text leg.uuid) (without_orig a.orig (won winner (unwrap_or leg.slot 0) s))))
 wins_legs a winner leg s has h =
     let slot : ℕ = unwrap_or leg.slot 0 in
     ended_legs a.job a.conn (made_text leg.uuid) (without_orig a.orig (won winner slot s))
@@ -408,7 +411,7 @@ legs_moves before = record {
     gave = λ frame h. h;
     admitted = λ {s = s} fresh h. same_roles s (conn_changed admitted conn s) (conn_roles admitted conn s) h;
     parted = λ why {s = s} leaves h. same_roles s (conn_changed (parted why) conn s) (conn_roles (parted why) conn s) h;
-    sleeps = λ until {s = s} room h. same_roles s (owing conn (Sleep until) s) (conn_roles (owed_since s.entries) conn (with_new_job (record { conn = conn; work = Sleep until }) s)) h;
+    sleeps = λ until {s = s} room h. same_roles s (after_job_begin conn (Sleep until) s) (conn_roles (owed_since s.entries) conn (with_new_job (record { conn = conn; work = Sleep until }) s)) h;
     originates = λ endpoint winner caller timeout {s = s} short room h. originates_legs conn endpoint winner caller timeout s h;
   };
   visits = record {

@@ -7,7 +7,7 @@ use Rattle.fs_orig.specs.declared.leg.OrigLeg.{OrigLeg}
 use Rattle.fs_orig.specs.declared.orig.Orig.{Orig}
 use Rattle.fs_orig.specs.Legs as legs
 use Rattle.fs_orig.specs.Legs.{lives, position_in}
-use Rattle.fs_orig.specs.Changes.{rings, answered_at, dead_at, with_leg, changed, with_death}
+use Rattle.fs_orig.specs.Changes.{rings, with_leg_answer, with_leg_death, with_leg, with_changed_leg, with_death}
 use Rattle.fs_orig.proofs.Positions.{passes, position_is_first, position_is_none}
 use Rattle.fs_places.specs.declared.numbered.Numbered.{Numbered}
 use Rattle.fs_places.specs.Places.{held_in, with_held, least_free}
@@ -104,7 +104,7 @@ set_there (leg ∷ more) (suc first) (suc other) new apart = set_there more firs
 abbrev pub Spares : (OrigLeg → OrigLeg) → Type 0
 Spares change = (number : ℕ) (leg : OrigLeg) (seat : Seat) → seat_of number (Some (change leg)) ≡ Some seat → seat_of number (Some leg) ≡ Some seat
 
-pub answer_spares : (place : ℕ) → Spares (answered_at place)
+pub answer_spares : (place : ℕ) → Spares (with_leg_answer place)
 answer_spares place number leg seat = by (rings leg)
   where
     by : (test : Bool) → seat_of number (Some (if test then record leg { answered = Some place } else leg)) ≡ Some seat → seat_of number (Some leg) ≡ Some seat
@@ -112,18 +112,19 @@ answer_spares place number leg seat = by (rings leg)
     by false h = h
 
 -- who died has no seat
-no_seat : (place : ℕ) (cause : Cause) (number : ℕ) (leg : OrigLeg) (seat : Seat) → seat_of number (Some (dead_at place cause leg)) ≡ Some seat → ⊥
+no_seat : (place : ℕ) (cause : Cause) (number : ℕ) (leg : OrigLeg) (seat : Seat) → seat_of number (Some (with_leg_death place cause leg)) ≡ Some seat → ⊥
 no_seat place cause number leg seat = by (lives leg) refl
   where
     by : (test : Bool) → lives leg ≡ test → seat_of number (Some (if test then record leg { died = Some place; cause = Some cause } else leg)) ≡ Some seat → ⊥
     by true is h = nothing_there seat h
     by false is h = nothing_there seat (sym (ap (λ (b : Bool). seat_if b number leg.slot) is) ∙ h)
 
-pub death_spares : (place : ℕ) (cause : Cause) → Spares (dead_at place cause)
+pub death_spares : (place : ℕ) (cause : Cause) → Spares (with_leg_death place cause)
 death_spares place cause number leg seat h = absurd (no_seat place cause number leg seat h)
 
 changed_spares : (change : OrigLeg → OrigLeg) → Spares change → (first : ℕ) (these : List OrigLeg) (number position : ℕ) (seat : Seat) →
-    seat_of number (slice_get (changed change first these) position) ≡ Some seat → seat_of number (slice_get these position) ≡ Some seat
+    seat_of number (slice_get (with_changed_leg change first these) position) ≡ Some seat → seat_of number (slice_get these position) ≡ Some
+    seat
 changed_spares change spares first these number position seat = by (slice_get these first) refl
   where
     at : (old : OrigLeg) → slice_get these first ≡ Some old → (position ≡ first) ⊎ (position ≡ first → ⊥) →
@@ -146,10 +147,10 @@ abbrev pub as_row : ℕ → Orig → Option (Numbered Orig)
 as_row number o = Some (record { number = number; held = o })
 
 pub touched_spares : (change : OrigLeg → OrigLeg) → Spares change → (slot number : ℕ) (o : Orig) →
-    FewerIn (as_row number o) (as_row number (leg_changed (λ p x. record x { legs = changed change p x.legs }) slot o))
+    FewerIn (as_row number o) (as_row number (leg_changed (λ p x. record x { legs = with_changed_leg change p x.legs }) slot o))
 touched_spares change spares slot number o position seat = by (position_in slot o.legs)
   where
-    by : (first : Option ℕ) → seat_of number (slice_get (leg_changed_at (λ p x. record x { legs = changed change p x.legs }) first o).legs position) ≡ Some seat →
+    by : (first : Option ℕ) → seat_of number (slice_get (leg_changed_at (λ p x. record x { legs = with_changed_leg change p x.legs }) first o).legs position) ≡ Some seat →
         seat_of number (slice_get o.legs position) ≡ Some seat
     by None h = h
     by (Some first) h = changed_spares change spares first o.legs number position seat h
@@ -161,15 +162,15 @@ none_left : (number slot place : ℕ) (cause : Cause) (o : Orig) →
 none_left number slot place cause o apart position = by (position_in slot o.legs) refl
   where
     met : (first : ℕ) (old : Option OrigLeg) → slice_get o.legs first ≡ old → passes (legs.lives_in slot) old ≡ true → (position ≡ first) ⊎ (position ≡ first → ⊥) →
-        seat_of number (slice_get (with_leg (dead_at place cause) first old o.legs) position) ≡ Some (in_slot number slot) → ⊥
+        seat_of number (slice_get (with_leg (with_leg_death place cause) first old o.legs) position) ≡ Some (in_slot number slot) → ⊥
     met first None there passing either h = true≢false (sym passing)
     met first (Some old) there passing (inl same) h =
-        let now : slice_get (slice_set o.legs first (dead_at place cause old)) position ≡ Some (dead_at place cause old) =
-        ap (slice_get (slice_set o.legs first (dead_at place cause old))) same ∙ set_here o.legs first old (dead_at place cause old) there in
+        let now : slice_get (slice_set o.legs first (with_leg_death place cause old)) position ≡ Some (with_leg_death place cause old) =
+        ap (slice_get (slice_set o.legs first (with_leg_death place cause old))) same ∙ set_here o.legs first old (with_leg_death place cause old) there in
         no_seat place cause number old (in_slot number slot) (sym (ap (seat_of number) now) ∙ h)
     met first (Some old) there passing (inr other) h =
         other
-        (apart position first (sym (ap (seat_of number) (set_there o.legs first position (dead_at place cause old) other)) ∙ h)
+        (apart position first (sym (ap (seat_of number) (set_there o.legs first position (with_leg_death place cause old) other)) ∙ h)
         (ap (seat_of number) there ∙ lives_seated number slot old passing))
 
     by : (first : Option ℕ) → position_in slot o.legs ≡ first → seat_of number (slice_get (leg_changed_at (λ p. with_death p place cause) first o).legs position) ≡ Some (in_slot number slot) → ⊥

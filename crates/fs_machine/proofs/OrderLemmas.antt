@@ -8,7 +8,7 @@ use Rattle.fs_places.specs.Places.{no_places, held_in}
 use Rattle.fs_places.specs.Rows.{has_number, place_of}
 use Rattle.fs_state.specs.declared.conn.Conn.{Conn}
 use Rattle.fs_state.specs.Queues.{Frames, queue_at, no_queues}
-use Rattle.fs_state.specs.Switch.{Switch, empty, waiting_at, waiting_for, advanced, closed}
+use Rattle.fs_state.specs.Switch.{Switch, empty, waiting_at, waiting_for, at_moment, after_entry}
 use Rattle.fs_machine.specs.declared.entry.Entry.{Entry}
 use Rattle.fs_machine.specs.declared.entry.Act.{Act}
 use Rattle.fs_machine.specs.declared.entry.Act.TheVariants.{Arrive, Take, Close}
@@ -16,7 +16,7 @@ use Rattle.fs_machine.specs.declared.entry.Closing.TheVariants.{Sent, Failed}
 use Rattle.fs_machine.specs.declared.refusal.Refusal.{Refusal}
 use Rattle.fs_machine.specs.declared.refusal.Refusal.TheVariants as refusal
 use Rattle.fs_machine.specs.Entries.{cost_of, is_full}
-use Rattle.fs_machine.specs.Step.{refused_where, refused_act, refusal_of, acted, step}
+use Rattle.fs_machine.specs.Step.{refused_where, refused_act, refusal_of, act_done, step}
 use Rattle.fs_machine.specs.Runs.{run_from, IsRunFrom}
 use Rattle.fs_machine.proofs.RowLemmas.{nowhere}
 use Rattle.fs_machine.proofs.HeldLemmas.{all_alike, nothing_held}
@@ -28,21 +28,21 @@ use Rattle.fs_machine.proofs.FrameLemmas.{some_cost}
 -- ---- what each act keeps
 
 -- the connections that there are, and their queues
-pub acted_ordered : (act : Act) (s : Switch) → Ordered s → s.drawn.conns < 2 ^ 32 - 1 → Ordered (acted act s).state
+pub acted_ordered : (act : Act) (s : Switch) → Ordered s → s.drawn.conns < 2 ^ 32 - 1 → Ordered (act_done act s).state
 acted_ordered Arrive s ordered room = arrived_ordered s ordered room
 acted_ordered (Take conn) s ordered room = taken_ordered conn s ordered
 acted_ordered (Close conn Sent) s ordered room = without_ordered conn s ordered
 acted_ordered (Close conn Failed) s ordered room = without_ordered conn s ordered
-acted_ordered act s ordered room = keeps_ordered s (acted act s).state (act_keeps act s) ordered
+acted_ordered act s ordered room = keeps_ordered s (act_done act s).state (act_keeps act s) ordered
 
 -- no act pays or counts by itself, nor changes what the switch was configured by
-pub acted_cost : (act : Act) (s : Switch) → (acted act s).state.cost ≡ s.cost
+pub acted_cost : (act : Act) (s : Switch) → (act_done act s).state.cost ≡ s.cost
 acted_cost act s = ap (λ (c : Constants). c.cost) (acted_constants act s)
 
-pub acted_config : (act : Act) (s : Switch) → (acted act s).state.config ≡ s.config
+pub acted_config : (act : Act) (s : Switch) → (act_done act s).state.config ≡ s.config
 acted_config act s = ap (λ (c : Constants). c.config) (acted_constants act s)
 
-pub acted_counts : (act : Act) (s : Switch) → (acted act s).state.counts ≡ s.counts
+pub acted_counts : (act : Act) (s : Switch) → (act_done act s).state.counts ≡ s.counts
 acted_counts act s = ap (λ (c : Constants). c.counts) (acted_constants act s)
 
 -- at most one number more is drawn
@@ -55,21 +55,21 @@ next_same drawn later same = (omega (arith, same), omega (arith, same))
 next_more : (drawn : ℕ) → drawn < 2 ^ 32 - 1 → IsNext drawn (min (drawn + 1) (2 ^ 32 - 1))
 next_more drawn room = (omega (arith, room), omega arith)
 
-pub acted_drawn : (act : Act) (s : Switch) → s.drawn.conns < 2 ^ 32 - 1 → IsNext s.drawn.conns (acted act s).state.drawn.conns
+pub acted_drawn : (act : Act) (s : Switch) → s.drawn.conns < 2 ^ 32 - 1 → IsNext s.drawn.conns (act_done act s).state.drawn.conns
 acted_drawn Arrive s room = next_more s.drawn.conns room
 acted_drawn (Take conn) s room = next_same s.drawn.conns s.drawn.conns refl
 acted_drawn (Close conn Sent) s room = next_same s.drawn.conns s.drawn.conns refl
 acted_drawn (Close conn Failed) s room = next_same s.drawn.conns s.drawn.conns refl
-acted_drawn act s room = next_same s.drawn.conns (acted act s).state.drawn.conns (act_keeps act s).drawn
+acted_drawn act s room = next_same s.drawn.conns (act_done act s).state.drawn.conns (act_keeps act s).drawn
 
 -- a connection that had its number and is gone stays so
 pub acted_gone : (act : Act) (s : Switch) (conn : ℕ) → Ordered s → s.drawn.conns < 2 ^ 32 - 1 → place_of s.conns conn ≡ None → conn ≤ s.drawn.conns →
-    place_of (acted act s).state.conns conn ≡ None
+    place_of (act_done act s).state.conns conn ≡ None
 acted_gone Arrive s conn ordered room none below = arrived_gone s conn room none below
 acted_gone (Take taker) s conn ordered room none below = none
 acted_gone (Close gone Sent) s conn ordered room none below = without_gone gone s conn ordered none
 acted_gone (Close gone Failed) s conn ordered room none below = without_gone gone s conn ordered none
-acted_gone act s conn ordered room none below = keeps_place s (acted act s).state (act_keeps act s) conn ∙ none
+acted_gone act s conn ordered room none below = keeps_place s (act_done act s).state (act_keeps act s) conn ∙ none
 
 -- ---- refusals
 
@@ -81,11 +81,11 @@ none_refused false why otherwise none = (refl, none)
 -- an entry that is not refused came where the journal was not full, and its act is not refused
 pub not_full : (s : Switch) (entry : Entry) → refusal_of s entry ≡ None → is_full s ≡ false
 unfolding refusal_of
-not_full s entry none = (none_refused (is_full s) (refusal.JournalFull s.cost s.config.settings.journal_limit) (refused_act entry.act (advanced entry.moment s)) none).0
+not_full s entry none = (none_refused (is_full s) (refusal.JournalFull s.cost s.config.settings.journal_limit) (refused_act entry.act (at_moment entry.moment s)) none).0
 
-pub not_refused : (s : Switch) (entry : Entry) → refusal_of s entry ≡ None → refused_act entry.act (advanced entry.moment s) ≡ None
+pub not_refused : (s : Switch) (entry : Entry) → refusal_of s entry ≡ None → refused_act entry.act (at_moment entry.moment s) ≡ None
 unfolding refusal_of
-not_refused s entry none = (none_refused (is_full s) (refusal.JournalFull s.cost s.config.settings.journal_limit) (refused_act entry.act (advanced entry.moment s)) none).1
+not_refused s entry none = (none_refused (is_full s) (refusal.JournalFull s.cost s.config.settings.journal_limit) (refused_act entry.act (at_moment entry.moment s)) none).1
 
 -- ---- between entries
 
@@ -102,10 +102,10 @@ room_left s orderly below =
     omega (arith, orderly.paid, orderly.limit, ltb-false s.config.settings.journal_limit (s.cost + 65600) below)
 
 -- the clock is no matter of connections
-pub advanced_ordered : (now : ℕ) (s : Switch) → Ordered s → Ordered (advanced now s)
-advanced_ordered now s ordered = keeps_ordered s (advanced now s) (keeps_same {who = None} {may_end = false} s (advanced now s) refl) ordered
+pub advanced_ordered : (now : ℕ) (s : Switch) → Ordered s → Ordered (at_moment now s)
+advanced_ordered now s ordered = keeps_ordered s (at_moment now s) (keeps_same {who = None} {may_end = false} s (at_moment now s) refl) ordered
 
-pub advanced_orderly : (now : ℕ) (s : Switch) → Orderly s → Orderly (advanced now s)
+pub advanced_orderly : (now : ℕ) (s : Switch) → Orderly s → Orderly (at_moment now s)
 advanced_orderly now s orderly = record { ordered = advanced_ordered now s orderly.ordered; given = orderly.given; paid = orderly.paid; limit = orderly.limit }
 
 -- the number that is drawn next is paid for by the cost of an entry
@@ -113,12 +113,12 @@ paid_more : (drawn later cost spent limit : ℕ) → later ≤ drawn + 1 → 64 
     64 * later ≤ min (cost + spent) (2 ^ 64 - 1)
 paid_more drawn later cost spent limit next paid below small some = omega (arith, next, paid, below, small, some)
 
-act_orderly : (act : Act) (s : Switch) → Orderly s → is_full s ≡ false → Orderly (closed (cost_of act) (acted act s).state)
+act_orderly : (act : Act) (s : Switch) → Orderly s → is_full s ≡ false → Orderly (after_entry (cost_of act) (act_done act s).state)
 act_orderly act s orderly below = record {
-  ordered = closed_ordered (cost_of act) (acted act s).state (acted_ordered act s orderly.ordered (room_left s orderly below));
+  ordered = closed_ordered (cost_of act) (act_done act s).state (acted_ordered act s orderly.ordered (room_left s orderly below));
   given = refl;
-  paid = subst (λ cost. 64 * (acted act s).state.drawn.conns ≤ min (cost + cost_of act) (2 ^ 64 - 1)) (sym (acted_cost act s))
-      (paid_more s.drawn.conns (acted act s).state.drawn.conns s.cost (cost_of act) s.config.settings.journal_limit (acted_drawn act s (room_left s orderly below)).1 orderly.paid
+  paid = subst (λ cost. 64 * (act_done act s).state.drawn.conns ≤ min (cost + cost_of act) (2 ^ 64 - 1)) (sym (acted_cost act s))
+      (paid_more s.drawn.conns (act_done act s).state.drawn.conns s.cost (cost_of act) s.config.settings.journal_limit (acted_drawn act s (room_left s orderly below)).1 orderly.paid
       (ltb-false s.config.settings.journal_limit (s.cost + 65600) below) orderly.limit (some_cost act));
   limit = subst (λ (config : Configuration). config.settings.journal_limit ≤ 1073741824) (sym (acted_config act s)) orderly.limit;
 }
@@ -126,7 +126,7 @@ act_orderly act s orderly below = record {
 -- so it stays from entry to entry
 pub entry_orderly : (s : Switch) (entry : Entry) → Orderly s → refusal_of s entry ≡ None → Orderly (step s entry).state
 unfolding step
-entry_orderly s entry orderly none = act_orderly entry.act (advanced entry.moment s) (advanced_orderly entry.moment s orderly) (not_full s entry none)
+entry_orderly s entry orderly none = act_orderly entry.act (at_moment entry.moment s) (advanced_orderly entry.moment s orderly) (not_full s entry none)
 
 pub run_orderly : (s : Switch) (entries : List Entry) → Orderly s → IsRunFrom s entries → Orderly (run_from s entries)
 run_orderly s [] orderly run = orderly

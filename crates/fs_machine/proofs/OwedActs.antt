@@ -14,7 +14,7 @@ use Rattle.fs_state.specs.declared.conn.Phase.TheVariants as phase
 use Rattle.fs_state.specs.declared.conn.Parting.{Parting}
 use Rattle.fs_state.specs.declared.conn.Parting.TheVariants as parting
 use Rattle.fs_state.specs.declared.job.JobWork.TheVariants as work
-use Rattle.fs_state.specs.Switch.{Switch, conn_of, is_full_of_jobs, without_orig, gave}
+use Rattle.fs_state.specs.Switch.{Switch, conn_of, is_full_of_jobs, without_orig, with_gift}
 use Rattle.fs_machine.specs.declared.entry.Act.{Act}
 use Rattle.fs_machine.specs.declared.entry.Act.TheVariants as act
 use Rattle.fs_machine.specs.declared.entry.Closing.{Closing}
@@ -27,9 +27,9 @@ use Rattle.fs_machine.specs.Connections.{phase_of, phase_at, conn_changed, admit
 use Rattle.fs_machine.specs.Questions.{owed_of, owed_to}
 use Rattle.fs_machine.specs.Originations.{won}
 use Rattle.fs_machine.specs.Attempts.{originate_begun}
-use Rattle.fs_machine.specs.Owing.{owing, ended}
+use Rattle.fs_machine.specs.Owing.{after_job_begin, after_job_end}
 use Rattle.fs_machine.specs.Commands.{command_of}
-use Rattle.fs_machine.specs.Step.{reads, busy, refused_act, closed_by, acted}
+use Rattle.fs_machine.specs.Step.{reads, busy, refused_act, closed_by, act_done}
 use Rattle.fs_machine.specs.Owed.{PartsIn}
 use Rattle.fs_machine.proofs.TableLemmas.{something_there}
 use Rattle.fs_machine.proofs.Kept.{Fact, KeptByCalls, DoesJob, KeptByJobs, KeptByCommands}
@@ -77,7 +77,7 @@ goes_spent b sound t same = subst (λ (x : Books). Goes b x) (sym same) (record 
 
 -- the jobs that end
 wins_go : (b : Books) (s : Switch) (a : Attempt) (winner : Winner) (leg : OrigLeg) → DoesJob s a.job a.conn (work.Originate a.orig winner) → Goes b (books_of s) →
-    Goes b (books_of (ended a.job a.conn (made_text leg.uuid) (without_orig a.orig (won winner (unwrap_or leg.slot 0) s))))
+    Goes b (books_of (after_job_end a.job a.conn (made_text leg.uuid) (without_orig a.orig (won winner (unwrap_or leg.slot 0) s))))
 wins_go b s a winner leg does h =
     let slot : ℕ = unwrap_or leg.slot 0 in
     goes_over b (won winner slot s) a.job a.conn a.orig winner (made_text leg.uuid) (does_same does (won_rest winner slot s)) (goes_same b false s (won winner slot s) h (won_rest winner slot s))
@@ -109,10 +109,11 @@ module _ (b : Books) (conn : ℕ) (c : Conn) (there : row_of b.conns conn ≡ So
   from : (s t : Switch) → books_of s ≡ b → (Few (books_of s) → Sound (books_of s) → Goes (books_of s) (books_of t)) → Goes b (books_of t)
   from s t same goes = subst (λ (x : Books). Goes x (books_of t)) same (goes (subst Few (sym same) few) (subst Sound (sym same) sound))
 
-  sleeps_go : (until : ℕ) (s : Switch) → is_full_of_jobs s ≡ false → books_of s ≡ b → Goes b (books_of (owing conn (work.Sleep until) s))
+  sleeps_go : (until : ℕ) (s : Switch) → is_full_of_jobs s ≡ false → books_of s ≡ b →
+      Goes b (books_of (after_job_begin conn (work.Sleep until) s))
   sleeps_go until s room same =
       let place = a_place s room in
-      from s (owing conn (work.Sleep until) s) same (goes_sleep s conn until c place.0 (ap (λ (x : Books). row_of x.conns conn) same ∙ there) none place.1)
+      from s (after_job_begin conn (work.Sleep until) s) same (goes_sleep s conn until c place.0 (ap (λ (x : Books). row_of x.conns conn) same ∙ there) none place.1)
 
   originates_go : (endpoint : Text) (winner : Winner) (caller : Caller) (timeout : Option ℕ) (s : Switch) → is_full_of_jobs s ≡ false → books_of s ≡ b →
       Goes b (books_of (originate_begun conn endpoint winner caller timeout s))
@@ -121,7 +122,7 @@ module _ (b : Books) (conn : ℕ) (c : Conn) (there : row_of b.conns conn ≡ So
       from s (originate_begun conn endpoint winner caller timeout s) same
       (goes_originate s conn endpoint winner caller timeout c place.0 (ap (λ (x : Books). row_of x.conns conn) same ∙ there) none place.1)
 
-  gave_goes : (frame : Text) (fresh : Bool) (s : Switch) → GoesFrom b fresh s → GoesFrom b fresh (gave conn frame s)
+  gave_goes : (frame : Text) (fresh : Bool) (s : Switch) → GoesFrom b fresh s → GoesFrom b fresh (with_gift conn frame s)
   gave_goes frame true s h = h
   gave_goes frame false s h = h
 
@@ -142,7 +143,7 @@ closed_goes closing.EndOfInput conn s h = goes_conn (books_of s) (parted parting
 closed_goes closing.Sent conn s h = goes_gone (books_of s) conn s h
 closed_goes closing.Failed conn s h = goes_gone (books_of s) conn s h
 
-pub goes_acted : (what : Act) (s : Switch) → refused_act what s ≡ None → Few (books_of s) → Sound (books_of s) → Goes (books_of s) (books_of (acted what s).state)
+pub goes_acted : (what : Act) (s : Switch) → refused_act what s ≡ None → Few (books_of s) → Sound (books_of s) → Goes (books_of s) (books_of (act_done what s).state)
 goes_acted act.Arrive s accepts few h = goes_arrived s few h
 goes_acted (act.Command conn block) s accepts few h =
     let passed = none_refused (not (reads (phase_at s conn))) refusal.Gone (busy (owed_to s conn)) accepts in

@@ -6,7 +6,7 @@ use Rattle.fs_api.specs.declared.api.Winner.{Winner}
 use Rattle.fs_chan.specs.Moments.{moment_after}
 use Rattle.fs_orig.specs.declared.orig.Orig.{Orig}
 use Rattle.fs_orig.specs.declared.orig.Owner.TheVariants as owner
-use Rattle.fs_orig.specs.Changes.{begun}
+use Rattle.fs_orig.specs.Changes.{new_orig}
 use Rattle.fs_places.specs.declared.numbered.Numbered.{Numbered}
 use Rattle.fs_places.specs.Places.{held_in, with_held, least_free}
 use Rattle.fs_places.specs.Rows.{place_of, row_of, with_held_at, with_new_row, without_row}
@@ -14,13 +14,13 @@ use Rattle.fs_state.specs.declared.conn.Conn.{Conn}
 use Rattle.fs_state.specs.declared.job.Job.{Job}
 use Rattle.fs_state.specs.declared.job.JobWork.{JobWork}
 use Rattle.fs_state.specs.declared.job.JobWork.TheVariants.{Sleep, Originate}
-use Rattle.fs_state.specs.Switch.{Switch, next_orig, next_job, conn_of, with_conn, with_new_job, with_new_orig, without_job, without_conn, without_orig}
+use Rattle.fs_state.specs.Switch.{Switch, next_orig_number, next_job_number, conn_of, with_conn, with_new_job, with_new_orig, without_job, without_conn, without_orig}
 use Rattle.fs_machine.specs.declared.originations.Caller.{Caller}
 use Rattle.fs_machine.specs.Connections.{conn_changed_from, conn_changed, owed_since, not_owed}
 use Rattle.fs_machine.specs.Originations.{Made, leg_made}
 use Rattle.fs_machine.specs.Attempts.{seconds, tried_by_job, originate_begun}
-use Rattle.fs_machine.specs.Owing.{owing, ended}
-use Rattle.fs_machine.specs.Step.{fresh, arrived}
+use Rattle.fs_machine.specs.Owing.{after_job_begin, after_job_end}
+use Rattle.fs_machine.specs.Step.{new_conn, arrived}
 use Rattle.fs_machine.specs.Owed.{Parts}
 use Rattle.fs_machine.proofs.RowLemmas.{free_least}
 use Rattle.fs_machine.proofs.TableLemmas.{something_there, IsRow, HasRow, row_found, no_row, row_written, row_removed, row_added, numbers_in, numbers_held, number_at, number_there, row_of_number, numbers_removed, numbers_added, taken_in, full_taken, taken_numbers}
@@ -88,19 +88,19 @@ goes_gone b conn s h = by (place_of s.conns conn)
 -- one comes
 pub goes_arrived : (s : Switch) → Few (books_of s) → Sound (books_of s) → Goes (books_of s) (books_of (arrived s).state)
 goes_arrived s few h =
-    subst (λ (n : ℕ). Goes (books_of s) (record (books_of s) { conns = with_new_row s.conns n fresh; conns_drawn = n })) (sym next) (by (least_free s.conns 0))
+    subst (λ (n : ℕ). Goes (books_of s) (record (books_of s) { conns = with_new_row s.conns n new_conn; conns_drawn = n })) (sym next) (by (least_free s.conns 0))
   where
     next : min (s.drawn.conns + 1) (2 ^ 32 - 1) ≡ s.drawn.conns + 1
     next = let most : s.drawn.conns < 2 ^ 30 = few.conns in omega (arith, most)
 
-    by : (found : Option ℕ) → Goes (books_of s) (record (books_of s) { conns = with_held_at {T = Numbered Conn} s.conns (Some (record { number = s.drawn.conns + 1; held = fresh })) found; conns_drawn = s.drawn.conns + 1 })
+    by : (found : Option ℕ) → Goes (books_of s) (record (books_of s) { conns = with_held_at {T = Numbered Conn} s.conns (Some (record { number = s.drawn.conns + 1; held = new_conn })) found; conns_drawn = s.drawn.conns + 1 })
     by None = record {
       sound = record { linked = linked_more s.conns s.jobs s.drawn.conns s.drawn.jobs h.linked; tries = h.tries };
       near = record { conns = omega arith; jobs = omega arith; origs = omega arith; cost = refl; limit = refl };
     }
     by (Some place) = record {
       sound = record {
-        linked = linked_come s.conns s.jobs s.drawn.conns s.drawn.jobs place (record { number = s.drawn.conns + 1; held = fresh }) refl refl refl h.linked;
+        linked = linked_come s.conns s.jobs s.drawn.conns s.drawn.jobs place (record { number = s.drawn.conns + 1; held = new_conn }) refl refl refl h.linked;
         tries = h.tries;
       };
       near = record { conns = omega arith; jobs = omega arith; origs = omega arith; cost = refl; limit = refl };
@@ -115,37 +115,37 @@ job_for number conn work = record { number = number; held = record { conn = conn
 -- it begins for a connection that is owed nothing, where a place for it is free
 goes_owing : (b : Books) (u : Switch) (conn : ℕ) (work : JobWork) (c : Conn) (q : ℕ) → conn_of u conn ≡ Some c → c.owed ≡ None → least_free u.jobs 0 ≡ Some q →
     u.drawn.jobs < 2 ^ 30 → u.drawn.jobs ≡ b.jobs_drawn → Linked u.conns u.jobs u.drawn.conns u.drawn.jobs →
-    Tries (with_held u.jobs q (Some (job_for (next_job u) conn work))) (numbers_in u.origs) u.drawn.origs → Near b (books_of u) → Goes b (books_of (owing conn work u))
+    Tries (with_held u.jobs q (Some (job_for (next_job_number u) conn work))) (numbers_in u.origs) u.drawn.origs → Near b (books_of u) → Goes b (books_of (after_job_begin conn work u))
 goes_owing b u conn work c q is none is_free few same_jobs linked tries near =
     let found = row_found u.conns conn c is in
     let free = free_least u.jobs q is_free in
-    let next : next_job u ≡ u.drawn.jobs + 1 = omega (arith, few) in
+    let next : next_job_number u ≡ u.drawn.jobs + 1 = omega (arith, few) in
     let held : Job = record { conn = conn; work = work } in
-    let job : Numbered Job = job_for (next_job u) conn work in
+    let job : Numbered Job = job_for (next_job_number u) conn work in
     let new : Numbered Conn = record { number = conn; held = owed_since u.entries c } in
     let begun_fit : Linked (with_held u.conns found.0 (Some new)) (with_held u.jobs q (Some job)) u.drawn.conns (u.drawn.jobs + 1) =
     linked_begun u.conns u.jobs u.drawn.conns u.drawn.jobs found.0 q found.1 new job found.2.there (ap (λ (y : Conn). y.owed) found.3 ∙ none) (sym found.2.numbered) (something_there u.entries)
     (parts_of u conn c linked.parts is) free.1 free.0 (sym found.2.numbered) next linked in
-    let fits : Linked (with_held u.conns found.0 (Some new)) (with_held u.jobs q (Some job)) u.drawn.conns (next_job u) =
+    let fits : Linked (with_held u.conns found.0 (Some new)) (with_held u.jobs q (Some job)) u.drawn.conns (next_job_number u) =
     subst (λ (n : ℕ). Linked (with_held u.conns found.0 (Some new)) (with_held u.jobs q (Some job)) u.drawn.conns n) (sym next) begun_fit in
-    let goes : Goes b (record (books_of u) { conns = with_held u.conns found.0 (Some new); jobs = with_held u.jobs q (Some job); jobs_drawn = next_job u }) = record {
+    let goes : Goes b (record (books_of u) { conns = with_held u.conns found.0 (Some new); jobs = with_held u.jobs q (Some job); jobs_drawn = next_job_number u }) = record {
       sound = record { linked = fits; tries = tries };
       near = record { conns = near.conns; jobs = omega (arith, next, same_jobs); origs = near.origs; cost = near.cost; limit = near.limit };
     } in
-    let with_its_job : Goes b (record (books_of u) { conns = with_held u.conns found.0 (Some new); jobs = with_new_row u.jobs (next_job u) held; jobs_drawn = next_job u }) =
-    subst (λ (jobs : Jobs). Goes b (record (books_of u) { conns = with_held u.conns found.0 (Some new); jobs = jobs; jobs_drawn = next_job u })) (sym (row_added u.jobs (next_job u) q held is_free)) goes in
+    let with_its_job : Goes b (record (books_of u) { conns = with_held u.conns found.0 (Some new); jobs = with_new_row u.jobs (next_job_number u) held; jobs_drawn = next_job_number u }) =
+    subst (λ (jobs : Jobs). Goes b (record (books_of u) { conns = with_held u.conns found.0 (Some new); jobs = jobs; jobs_drawn = next_job_number u })) (sym (row_added u.jobs (next_job_number u) q held is_free)) goes in
     let with_both : Goes b (books_of (with_conn conn (owed_since u.entries c) (with_new_job held u))) =
-    subst (λ (conns : Conns). Goes b (record (books_of u) { conns = conns; jobs = with_new_row u.jobs (next_job u) held; jobs_drawn = next_job u }))
+    subst (λ (conns : Conns). Goes b (record (books_of u) { conns = conns; jobs = with_new_row u.jobs (next_job_number u) held; jobs_drawn = next_job_number u }))
     (sym (row_written u.conns conn found.0 (owed_since u.entries c) found.2.at)) with_its_job in
     subst (λ (there : Option Conn). Goes b (books_of (conn_changed_from (owed_since u.entries) conn there (with_new_job held u)))) (sym is) with_both
 
 -- msleep
 pub goes_sleep : (s : Switch) (conn until : ℕ) (c : Conn) (q : ℕ) → conn_of s conn ≡ Some c → c.owed ≡ None → least_free s.jobs 0 ≡ Some q → Few (books_of s) →
-    Sound (books_of s) → Goes (books_of s) (books_of (owing conn (Sleep until) s))
+    Sound (books_of s) → Goes (books_of s) (books_of (after_job_begin conn (Sleep until) s))
 goes_sleep s conn until c q is none is_free few h =
     let free = free_least s.jobs q is_free in
     goes_owing (books_of s) s conn (Sleep until) c q is none is_free few.jobs refl h.linked
-    (tries_slept s.jobs (numbers_in s.origs) s.drawn.origs q (job_for (next_job s) conn (Sleep until)) free.1 free.0 refl h.tries)
+    (tries_slept s.jobs (numbers_in s.origs) s.drawn.origs q (job_for (next_job_number s) conn (Sleep until)) free.1 free.0 refl h.tries)
     (near_self (books_of s))
 
 -- ---- an origination begins
@@ -164,20 +164,22 @@ orig_place jobs origs drawn h none =
 
 -- at that place it is there, and the job that tries it
 begun_at : (b : Books) (t : Switch) (conn orig : ℕ) (winner : Winner) (o : Orig) (c : Conn) (q p : ℕ) → conn_of t conn ≡ Some c → c.owed ≡ None → least_free t.jobs 0 ≡ Some q →
-    least_free t.origs 0 ≡ Some p → t.drawn.jobs < 2 ^ 30 → orig ≡ t.drawn.origs + 1 → next_orig t ≡ t.drawn.origs + 1 → Sound (books_of t) → b ≡ books_of t →
-    Goes b (books_of (owing conn (Originate orig winner) (with_new_orig o t)))
+    least_free t.origs 0 ≡ Some p → t.drawn.jobs < 2 ^ 30 → orig ≡ t.drawn.origs + 1 → next_orig_number t ≡ t.drawn.origs + 1 → Sound (books_of t) → b ≡ books_of t →
+    Goes b (books_of (after_job_begin conn (Originate orig winner) (with_new_orig o t)))
 begun_at b t conn orig winner o c q p is none is_free is_orig_free few is_next next h same =
     let free = free_least t.jobs q is_free in
     let orig_free = free_least t.origs p is_orig_free in
-    let job : Numbered Job = job_for (next_job t) conn (Originate orig winner) in
+    let job : Numbered Job = job_for (next_job_number t) conn (Originate orig winner) in
     let lengths : length (numbers_in t.origs) ≡ length t.origs = length-map t.origs number_at in
     let number_within : p < length (numbers_in t.origs) = subst (λ (n : ℕ). p < n) (sym lengths) orig_free.1 in
     let tried : Tries (with_held t.jobs q (Some job)) (with_held (numbers_in t.origs) p (Some (t.drawn.origs + 1))) (t.drawn.origs + 1) =
     tries_begun t.jobs (numbers_in t.origs) t.drawn.origs q p job free.1 free.0 number_within (numbers_held t.origs p ∙ ap number_at orig_free.0) (ap Some is_next) h.tries in
-    let tried_next : Tries (with_held t.jobs q (Some job)) (with_held (numbers_in t.origs) p (Some (next_orig t))) (next_orig t) =
+    let tried_next : Tries (with_held t.jobs q (Some job)) (with_held (numbers_in t.origs) p (Some (next_orig_number t)))
+    (next_orig_number t) =
     subst (λ (n : ℕ). Tries (with_held t.jobs q (Some job)) (with_held (numbers_in t.origs) p (Some n)) n) (sym next) tried in
-    let tried_there : Tries (with_held t.jobs q (Some job)) (numbers_in (with_new_row t.origs (next_orig t) o)) (next_orig t) =
-    subst (λ (origs : List (Option ℕ)). Tries (with_held t.jobs q (Some job)) origs (next_orig t)) (sym (numbers_added t.origs (next_orig t) p o is_orig_free)) tried_next in
+    let tried_there : Tries (with_held t.jobs q (Some job)) (numbers_in (with_new_row t.origs (next_orig_number t) o)) (next_orig_number t)
+    =
+    subst (λ (origs : List (Option ℕ)). Tries (with_held t.jobs q (Some job)) origs (next_orig_number t)) (sym (numbers_added t.origs (next_orig_number t) p o is_orig_free)) tried_next in
     let near_t : Near (books_of t) (books_of (with_new_orig o t)) = record { conns = omega arith; jobs = omega arith; origs = omega (arith, next); cost = refl; limit = refl } in
     goes_owing b (with_new_orig o t) conn (Originate orig winner) c q is none is_free few (sym (ap (λ (x : Books). x.jobs_drawn) same)) h.linked tried_there
     (subst (λ (old : Books). Near old (books_of (with_new_orig o t))) (sym same) near_t)
@@ -185,7 +187,7 @@ begun_at b t conn orig winner o c q p is none is_free is_orig_free few is_next n
 -- originate, once its leg was made
 goes_tried : (s : Switch) (made : Made) (conn : ℕ) (endpoint : Text) (winner : Winner) (timeout : ℕ) (c : Conn) (q : ℕ) → books_of made.state ≡ books_of s →
     conn_of s conn ≡ Some c → c.owed ≡ None → least_free s.jobs 0 ≡ Some q → Few (books_of s) → Sound (books_of s) →
-    Goes (books_of s) (books_of (tried_by_job conn endpoint winner timeout (next_orig s) made))
+    Goes (books_of s) (books_of (tried_by_job conn endpoint winner timeout (next_orig_number s) made))
 goes_tried s made conn endpoint winner timeout c q same is none is_free few h = by (least_free made.state.origs 0) refl
   where
     drawn : made.state.drawn.origs ≡ s.drawn.origs
@@ -200,11 +202,11 @@ goes_tried s made conn endpoint winner timeout c q same is none is_free few h = 
     sound : Sound (books_of made.state)
     sound = subst (λ (b : Books). Sound b) (sym same) h
 
-    by : (found : Option ℕ) → least_free made.state.origs 0 ≡ found → Goes (books_of s) (books_of (tried_by_job conn endpoint winner timeout (next_orig s) made))
+    by : (found : Option ℕ) → least_free made.state.origs 0 ≡ found → Goes (books_of s) (books_of (tried_by_job conn endpoint winner timeout (next_orig_number s) made))
     by None is_none = absurd (orig_place made.state.jobs made.state.origs made.state.drawn.origs sound.tries is_none)
     by (Some p) is_orig_free =
-        begun_at (books_of s) made.state conn (next_orig s) winner
-        (begun (owner.Job (next_job made.state)) ((record { endpoint = endpoint; pairs = [] } ∷ []) ∷ []) (made.leg ∷ []) (moment_after made.state.moment (seconds timeout)))
+        begun_at (books_of s) made.state conn (next_orig_number s) winner
+        (new_orig (owner.Job (next_job_number made.state)) ((record { endpoint = endpoint; pairs = [] } ∷ []) ∷ []) (made.leg ∷ []) (moment_after made.state.moment (seconds timeout)))
         c q p
         (ap (λ (b : Books). row_of b.conns conn) same ∙ is) none (ap (λ (b : Books). least_free b.jobs 0) same ∙ is_free) is_orig_free few_jobs
         (omega (arith, few_origs, drawn)) (omega (arith, few_origs, drawn)) sound (sym same)
@@ -214,15 +216,16 @@ pub goes_originate : (s : Switch) (conn : ℕ) (endpoint : Text) (winner : Winne
     conn_of s conn ≡ Some c → c.owed ≡ None → least_free s.jobs 0 ≡ Some q → Few (books_of s) → Sound (books_of s) →
     Goes (books_of s) (books_of (originate_begun conn endpoint winner caller timeout s))
 goes_originate s conn endpoint winner caller timeout c q is none is_free few h =
-    goes_tried s (leg_made endpoint caller (next_orig s) s) conn endpoint winner (unwrap_or timeout 60) c q
-    (books_same s (leg_made endpoint caller (next_orig s) s).state (leg_made_rest endpoint caller (next_orig s) s)) is none is_free few h
+    goes_tried s (leg_made endpoint caller (next_orig_number s) s) conn endpoint winner (unwrap_or timeout 60) c q
+    (books_same s (leg_made endpoint caller (next_orig_number s) s).state (leg_made_rest endpoint caller (next_orig_number s) s)) is none
+    is_free few h
 
 -- ---- a job ends
 
 -- it ends, and its connection, if it is there, is owed nothing any more
 goes_ended : (b : Books) (u : Switch) (number conn : ℕ) (answer : Text) (q : ℕ) (row : Numbered Job) → IsRow u.jobs number q row → row.held.conn ≡ conn →
     Linked u.conns u.jobs u.drawn.conns u.drawn.jobs → Tries (with_held u.jobs q None) (numbers_in u.origs) u.drawn.origs →
-    Near b (books_of u) → Goes b (books_of (ended number conn answer u))
+    Near b (books_of u) → Goes b (books_of (after_job_end number conn answer u))
 goes_ended b u number conn answer q row stands for linked tries near = by (conn_of u conn) refl
   where
     without : without_row u.jobs number ≡ with_held u.jobs q None
@@ -251,7 +254,7 @@ goes_ended b u number conn answer q row stands for linked tries near = by (conn_
         subst (λ (conns : Conns). Goes b (record (books_of u) { conns = conns; jobs = without_row u.jobs number })) (sym (row_written u.conns conn found.0 (not_owed c) found.2.at)) without_its_job
 
 -- a job that slept ends
-pub goes_woken : (b : Books) (s : Switch) (number conn until : ℕ) (answer : Text) → DoesJob s number conn (Sleep until) → Goes b (books_of s) → Goes b (books_of (ended number conn answer s))
+pub goes_woken : (b : Books) (s : Switch) (number conn until : ℕ) (answer : Text) → DoesJob s number conn (Sleep until) → Goes b (books_of s) → Goes b (books_of (after_job_end number conn answer s))
 goes_woken b s number conn until answer does h =
     let found = row_found s.jobs number (record { conn = conn; work = Sleep until }) does.there in
     goes_ended b s number conn answer found.0 found.1 found.2 (ap (λ (y : Job). y.conn) found.3) h.sound.linked
@@ -272,7 +275,7 @@ tries_without jobs origs drawn q number job stands tried h = by (h.there q job n
 
 -- a job ends with the origination that it tried
 pub goes_over : (b : Books) (s : Switch) (number conn orig : ℕ) (winner : Winner) (answer : Text) → DoesJob s number conn (Originate orig winner) → Goes b (books_of s) →
-    Goes b (books_of (ended number conn answer (without_orig orig s)))
+    Goes b (books_of (after_job_end number conn answer (without_orig orig s)))
 goes_over b s number conn orig winner answer does h =
     let found = row_found s.jobs number (record { conn = conn; work = Originate orig winner }) does.there in
     let fits : Tries (with_held s.jobs found.0 None) (numbers_in (without_row s.origs orig)) s.drawn.origs =

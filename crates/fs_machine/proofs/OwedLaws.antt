@@ -13,14 +13,14 @@ use Rattle.fs_state.specs.declared.conn.Conn.{Conn}
 use Rattle.fs_state.specs.declared.job.Job.{Job}
 use Rattle.fs_state.specs.declared.job.JobWork.{JobWork}
 use Rattle.fs_state.specs.declared.job.JobWork.TheVariants.{Sleep, Originate}
-use Rattle.fs_state.specs.Switch.{Switch, empty, orig_of, job_of, conn_of, advanced}
+use Rattle.fs_state.specs.Switch.{Switch, empty, orig_of, job_of, conn_of, at_moment}
 use Rattle.fs_state.proofs.SlotLemmas.{no_places_length}
 use Rattle.fs_machine.specs.declared.due.DueActor.TheVariants as actor
 use Rattle.fs_machine.specs.declared.entry.Entry.{Entry}
 use Rattle.fs_machine.specs.Entries.{cost_of}
 use Rattle.fs_machine.specs.Questions.{owed_of, owed_to, owes}
 use Rattle.fs_machine.specs.Due.{orig_due, work_due, job_due, is_now, later_of, lesser, least_of, row_moment, due_number, due_slot, due_job, first_chan_moment, first_job_moment, actor_or, later_or_never, due_among_all, next_due}
-use Rattle.fs_machine.specs.Step.{acted, step, refusal_of}
+use Rattle.fs_machine.specs.Step.{act_done, step, refusal_of}
 use Rattle.fs_machine.specs.Runs.{run_from, IsRunFrom}
 use Rattle.fs_machine.specs.Owed.{HasOneJob, AreOwed}
 use Rattle.fs_machine.proofs.TableLemmas.{nothing_there, something_there, one_there, none_held, HasRow, row_is, row_found, row_of_held, row_of_number, number_at, numbers_in, numbers_held, taken_in, one_if, taken_numbers, none_taken}
@@ -98,8 +98,8 @@ holds_step s entry accepts h =
       jobs = omega (arith, room, small, paid_jobs);
       origs = omega (arith, room, small, paid_origs);
     } in
-    let goes : Goes (books_of s) (books_of (acted entry.act (advanced entry.moment s)).state) = goes_acted entry.act (advanced entry.moment s) (not_refused s entry accepts) few h.sound in
-    after (acted entry.act (advanced entry.moment s)).state goes room small paid_conns paid_jobs paid_origs (some_cost entry.act)
+    let goes : Goes (books_of s) (books_of (act_done entry.act (at_moment entry.moment s)).state) = goes_acted entry.act (at_moment entry.moment s) (not_refused s entry accepts) few h.sound in
+    after (act_done entry.act (at_moment entry.moment s)).state goes room small paid_conns paid_jobs paid_origs (some_cost entry.act)
   where
     after : (t : Switch) → Goes (books_of s) (books_of t) → s.cost + 65600 ≤ s.config.settings.journal_limit → s.config.settings.journal_limit ≤ 1073741824 →
         64 * s.drawn.conns ≤ s.cost → 64 * s.drawn.jobs ≤ s.cost → 64 * s.drawn.origs ≤ s.cost → 64 ≤ cost_of entry.act →
@@ -214,11 +214,11 @@ never_due s q row there is =
     due_some (work_due s row.held.work) row.number (least_none (due_number s) s.jobs q row none.0 there) (least_none (row_moment s) s.jobs q row no_moment.1 there)
 
 -- at another moment the same work is due
-due_at_moment : (s : Switch) (now : ℕ) (work : JobWork) → work_due (advanced now s) work ≡ None → work_due s work ≡ None
+due_at_moment : (s : Switch) (now : ℕ) (work : JobWork) → work_due (at_moment now s) work ≡ None → work_due s work ≡ None
 due_at_moment s now (Sleep until) is = absurd (cc is)
 due_at_moment s now (Originate orig winner) is = by (orig_of s orig) is
   where
-    by : (o : Option Orig) → orig_due (advanced now s).moment o ≡ None → orig_due s.moment o ≡ None
+    by : (o : Option Orig) → orig_due (at_moment now s).moment o ≡ None → orig_due s.moment o ≡ None
     by None e = refl
     by (Some o) e = absurd (cc e)
 
@@ -242,7 +242,7 @@ goes_on s conn now h owed never = by (owed_to s conn) refl owed
     by (Some since) is some =
         let job : HasOneJob s conn = h.owed conn since is in
         let works = job_at_work s job.1.number job.2.due in
-        works.3 (due_at_moment s now works.1.held.work (never_due (advanced now s) works.0 works.1 works.2 never))
+        works.3 (due_at_moment s now works.1.held.work (never_due (at_moment now s) works.0 works.1 works.2 never))
 
 pub run_goes_on : (config : Configuration) (entries : List Entry) → config.settings.journal_limit ≤ 1073741824 → IsRunFrom (empty config) entries → (conn now : ℕ) →
     owes (run_from (empty config) entries) conn ≡ true → next_due now (run_from (empty config) entries) ≢ actor.Never

@@ -2,7 +2,7 @@
 use Rattle.std.proofs.Common.{◌≡◌, ◌≢◌, ℕ, ◌==◌, Bool, true, false, not, length, Option, None, Some, is_some, refl}
 use Rattle.fs_chan.specs.declared.due.Due.{Due}
 use Rattle.fs_chan.specs.declared.due.Due.TheVariants.{Now, At}
-use Rattle.fs_state.specs.Switch.{Switch, waiting_for, is_full_of_conns, advanced}
+use Rattle.fs_state.specs.Switch.{Switch, waiting_for, is_full_of_conns, at_moment}
 use Rattle.fs_machine.specs.declared.entry.Entry.{Entry}
 use Rattle.fs_machine.specs.declared.entry.Act.{Act}
 use Rattle.fs_machine.specs.declared.entry.Act.TheVariants.{Arrive, Command, Take, Close, Work, Job}
@@ -71,7 +71,7 @@ pub full_refused : (s : Switch) (entry : Entry) (cost limit : ℕ) → refusal_o
 unfolding refusal_of
 full_refused s entry cost limit is = by (is_full s) refl is
   where
-    by : (full : Bool) → is_full s ≡ full → refused_where full (refusal.JournalFull s.cost s.config.settings.journal_limit) (refused_act entry.act (advanced entry.moment s)) ≡ Some (refusal.JournalFull cost limit) →
+    by : (full : Bool) → is_full s ≡ full → refused_where full (refusal.JournalFull s.cost s.config.settings.journal_limit) (refused_act entry.act (at_moment entry.moment s)) ≡ Some (refusal.JournalFull cost limit) →
         (is_full s ≡ true) × (cost ≡ s.cost) × (limit ≡ s.config.settings.journal_limit)
     by true full e = (full, cc, cc)
-    by false full e = absurd (not_acting entry.act (advanced entry.moment s) cost limit e)
+    by false full e = absurd (not_acting entry.act (at_moment entry.moment s) cost limit e)

@@ -16,7 +16,7 @@ use Rattle.fs_state.specs.declared.job.JobWork.{JobWork}
 use Rattle.fs_state.specs.Counts.{Tallies}
 use Rattle.fs_state.specs.Queues.{Frames}
 use Rattle.fs_state.specs.Switch.{Switch, chan_at, with_chan, orig_of}
-use Rattle.fs_state.specs.Moves.{moved_from, moved, orig_changed_from, orig_changed, leg_changed, hung}
+use Rattle.fs_state.specs.Moves.{after_move_from, after_move, orig_changed_from, orig_changed, leg_changed, after_hangup}
 use Rattle.fs_machine.specs.declared.originations.Caller.{Caller}
 use Rattle.fs_machine.specs.Originations.{leg_made, won_by, won}
 use Rattle.fs_machine.specs.Attempts.{all_hung}
@@ -72,14 +72,14 @@ orig_changed_rest change number s = by (orig_of s number)
     by None = refl
     by (Some o) = ap (λ (origs : List (Option ℕ)). record (rest_of s) { origs = origs }) (numbers_kept s.origs number (change o))
 
-moved_rest : (change : Chan → Chan) (slot : ℕ) (s : Switch) → rest_of (moved change slot s) ≡ rest_of s
+moved_rest : (change : Chan → Chan) (slot : ℕ) (s : Switch) → rest_of (after_move change slot s) ≡ rest_of s
 moved_rest change slot s = by (chan_at s slot)
   where
-    by : (chan : Option Chan) → rest_of (moved_from change slot chan s) ≡ rest_of s
+    by : (chan : Option Chan) → rest_of (after_move_from change slot chan s) ≡ rest_of s
     by None = refl
     by (Some c) = state_told_kept (λ (t : Switch). rest_of t ≡ rest_of s) (λ event t plain h. h) c.state (change c).state {s = with_chan slot (Some (change c)) s} refl
 
-pub hung_rest : (cause : Cause) (slot : ℕ) (s : Switch) → rest_of (hung cause slot s) ≡ rest_of s
+pub hung_rest : (cause : Cause) (slot : ℕ) (s : Switch) → rest_of (after_hangup cause slot s) ≡ rest_of s
 hung_rest cause slot s =
     hung_kept (λ (t : Switch). rest_of t ≡ rest_of s) (λ event t plain h. h) (λ why place c t is h. h) (λ change number t h. orig_changed_rest change number t ∙ h) cause slot s refl
 
@@ -90,7 +90,7 @@ module _ (P : Fact) (same : (b : Bool) (t u : Switch) → P b t → rest_of u �
   answers_same : (place slot number : ℕ) {b : Bool} {s : Switch} → P b s → P b (orig_changed (leg_changed (λ position. with_answer position place) slot) number s)
   answers_same place slot number {b} {s} h = same b s _ h (orig_changed_rest (leg_changed (λ position. with_answer position place) slot) number s)
 
-  hung_same : (cause : Cause) (slot : ℕ) {b : Bool} {s : Switch} → P b s → P b (hung cause slot s)
+  hung_same : (cause : Cause) (slot : ℕ) {b : Bool} {s : Switch} → P b s → P b (after_hangup cause slot s)
   hung_same cause slot {b} {s} h = same b s _ h (hung_rest cause slot s)
 
   pub calls_by_rest : KeptByCalls P

@@ -25,7 +25,7 @@ use Rattle.fs_app.specs.Applications.{application_of}
 use Rattle.fs_chan.specs.declared.peer.Direction.{Direction}
 use Rattle.fs_chan.specs.declared.peer.Direction.TheVariants.{Inbound, Outbound}
 use Rattle.fs_chan.specs.declared.target.Target3.{Target3}
-use Rattle.fs_chan.specs.Changes.{sent_to, IsShort, HasShortFields}
+use Rattle.fs_chan.specs.Changes.{sent_to, IsShortTarget, HasShortFields}
 use Rattle.fs_orig.specs.declared.endpoint.Endpoint.{Endpoint}
 use Rattle.fs_orig.specs.declared.endpoint.Endpoint.TheVariants.{Loopback, Dead}
 use Rattle.fs_orig.specs.Endpoints as endpoints
@@ -51,7 +51,7 @@ or_short : (text : Option Text) (otherwise : Text) → IfSome text (λ t. length
 or_short None otherwise short other = other
 or_short (Some t) otherwise short other = short
 
-pub sent_short : (to : Target3) (p : Profile) → IsShort to → HasShortFields p → HasShortFields (sent_to to p)
+pub sent_short : (to : Target3) (p : Profile) → IsShortTarget to → HasShortFields p → HasShortFields (sent_to to p)
 sent_short to p short h = record {
   destination_number = short.exten;
   caller_id_name = h.caller_id_name;
@@ -74,15 +74,15 @@ word_short [] short = tt
 word_short (byte ∷ bytes) short = short
 
 -- what holds of both applications, by what the test says, holds of the one that it chooses
-app_by : (test : Bool) (x y : Application) → (test ≡ true → apps.IsShort x) → (test ≡ false → apps.IsShort y) → apps.IsShort (if test then x else y)
+app_by : (test : Bool) (x y : Application) → (test ≡ true → apps.IsShortApplication x) → (test ≡ false → apps.IsShortApplication y) → apps.IsShortApplication (if test then x else y)
 app_by true x y first second = first refl
 app_by false x y first second = second refl
 
-routing_short : (exten dialplan context : Text) → apps.IsShort (apps.routing exten dialplan context)
+routing_short : (exten dialplan context : Text) → apps.IsShortApplication (apps.transfer exten dialplan context)
 routing_short exten dialplan context =
     let first : Bool = apps.is_exten exten && originates.is_short exten in
     let second : Bool = first && originates.is_short dialplan in
-    app_by (second && originates.is_short context) (apps.routed_to exten dialplan context) app.Unknown
+    app_by (second && originates.is_short context) (apps.transfer_to exten dialplan context) app.Unknown
     (λ all.
     let both : second ≡ true = left_holds second (originates.is_short context) all in
     let one : first ≡ true = left_holds first (originates.is_short dialplan) both in
@@ -94,17 +94,18 @@ routing_short exten dialplan context =
     (λ none. tt)
 
 -- whichever name it has
-app_short : (answers sets unsets exports sets_global evals sleeps hangs_up parks transfers : Bool) (argument : Text) → apps.IsShort
+app_short : (answers sets unsets exports sets_global evals sleeps hangs_up parks transfers : Bool) (argument : Text) →
+    apps.IsShortApplication
     (if answers then app.Answer
     else (if sets then app.Set (apps.name_in argument) (apps.value_in argument)
     else (if unsets then app.Unset argument
     else (if exports then app.Export (apps.name_in argument) (apps.value_in argument)
     else (if sets_global then app.SetGlobal (apps.name_in argument) (apps.value_in argument)
     else (if evals then app.Eval
-    else (if sleeps then apps.sleeping argument
-    else (if hangs_up then apps.hanging_up argument
+    else (if sleeps then apps.sleep_application argument
+    else (if hangs_up then apps.hangup_application argument
     else (if parks then app.Park
-    else (if transfers then apps.transferring (without_spaces argument)
+    else (if transfers then apps.transfer_application (without_spaces argument)
     else app.Unknown))))))))))
 app_short true sets unsets exports sets_global evals sleeps hangs_up parks transfers argument = tt
 app_short false true unsets exports sets_global evals sleeps hangs_up parks transfers argument = tt
@@ -120,7 +121,7 @@ app_short false false false false false false false false false true argument =
     routing_short (word_of text) (word_of (behind_word text)) (word_of (behind_word (behind_word text)))
 app_short false false false false false false false false false false argument = tt
 
-pub application_short : (name argument : Text) → apps.IsShort (application_of name argument)
+pub application_short : (name argument : Text) → apps.IsShortApplication (application_of name argument)
 unfolding application_of
 application_short name argument = app_short _ _ _ _ _ _ _ _ _ _ argument
 
@@ -134,7 +135,7 @@ winner_by : (test : Bool) (x y : Option Winner) → (test ≡ true → IfSome x 
 winner_by true x y first second = first refl
 winner_by false x y first second = second refl
 
-route_short : (exten dialplan context : Text) → length exten ≤ 256 → (originates.is_short dialplan && originates.is_short context) ≡ true → IsShortWinner (originates.routed exten dialplan context)
+route_short : (exten dialplan context : Text) → length exten ≤ 256 → (originates.is_short dialplan && originates.is_short context) ≡ true → IsShortWinner (originates.route_winner exten dialplan context)
 route_short exten dialplan context short both = record {
   exten = short;
   dialplan = leb-true (length dialplan) 256 (left_holds (originates.is_short dialplan) (originates.is_short context) both);
@@ -143,16 +144,16 @@ route_short exten dialplan context short both = record {
 
 winner_short : (exten dialplan context : Text) → IfSome (originates.winner_of exten dialplan context) IsShortWinner
 winner_short [] dialplan context =
-    winner_by (originates.is_short dialplan && originates.is_short context) (Some (originates.routed [] dialplan context)) None
+    winner_by (originates.is_short dialplan && originates.is_short context) (Some (originates.route_winner [] dialplan context)) None
     (λ both. route_short [] dialplan context (omega arith) both) (λ none. tt)
 winner_short (byte ∷ bytes) dialplan context =
     winner_by (originates.is_short dialplan && originates.is_short context) _ None
     (λ both. winner_by (byte == 38) (Some (originates.application bytes)) _ (λ runs. tt)
-    (λ routes. winner_by (originates.is_short (byte ∷ bytes)) (Some (originates.routed (byte ∷ bytes) dialplan context)) None
+    (λ routes. winner_by (originates.is_short (byte ∷ bytes)) (Some (originates.route_winner (byte ∷ bytes) dialplan context)) None
     (λ short. route_short (byte ∷ bytes) dialplan context (leb-true (length (byte ∷ bytes)) 256 short) both) (λ none. tt)))
     (λ none. tt)
 
-originated_short : (url rest : Text) (winner : Option Winner) → IfSome winner IsShortWinner → NamesShort (originates.originated url winner rest)
+originated_short : (url rest : Text) (winner : Option Winner) → IfSome winner IsShortWinner → NamesShort (originates.originate_with url winner rest)
 originated_short url rest None short = tt
 originated_short url rest (Some winner) short = short
 
@@ -169,11 +170,11 @@ originate_short : (arguments : Text) → NamesShort (originates.originate_of arg
 originate_short [] = tt
 originate_short (byte ∷ bytes) = to_short (quoted_word (byte ∷ bytes)) (behind_quoted (byte ∷ bytes))
 
-getting_short : (arguments : Text) → NamesShort (readings.getting arguments)
+getting_short : (arguments : Text) → NamesShort (readings.global_getvar_of arguments)
 getting_short [] = tt
 getting_short (byte ∷ bytes) = tt
 
-sleeping_short : (milliseconds : Option ℕ) → NamesShort (readings.sleeping_for milliseconds)
+sleeping_short : (milliseconds : Option ℕ) → NamesShort (readings.msleep_for milliseconds)
 sleeping_short None = tt
 sleeping_short (Some n) = by (nat_le n 3600000)
   where
@@ -186,30 +187,30 @@ needs_short : (usage : Which) (read : Text → Api) (arguments : Text) → ((tex
 needs_short usage read [] short = tt
 needs_short usage read (byte ∷ bytes) short = short (byte ∷ bytes)
 
-reading_short : (arguments : Text) → NamesShort (readings.reading arguments)
+reading_short : (arguments : Text) → NamesShort (readings.uuid_getvar_of arguments)
 reading_short arguments = needs_short which.UuidGetvar (λ name. api.UuidGetvar (word_of arguments) (word_of name)) (behind_word arguments) (λ name. tt)
 
 -- whichever name it has
 command_short : (echoes expands gets sets sleeps tries exists reads kills : Bool) (name arguments : Text) → NamesShort
     (if echoes then api.Echo arguments
     else (if expands then readings.needs which.Expand api.Expand arguments
-    else (if gets then readings.getting arguments
-    else (if sets then readings.needs which.GlobalSetvar readings.setting arguments
-    else (if sleeps then readings.sleeping arguments
+    else (if gets then readings.global_getvar_of arguments
+    else (if sets then readings.needs which.GlobalSetvar readings.global_setvar_of arguments
+    else (if sleeps then readings.msleep_of arguments
     else (if tries then originates.originate_of arguments
-    else (if exists then readings.needs which.UuidExists readings.asking arguments
-    else (if reads then readings.needs which.UuidGetvar readings.reading arguments
-    else (if kills then readings.needs which.UuidKill readings.killing arguments
+    else (if exists then readings.needs which.UuidExists readings.uuid_exists_of arguments
+    else (if reads then readings.needs which.UuidGetvar readings.uuid_getvar_of arguments
+    else (if kills then readings.needs which.UuidKill readings.uuid_kill_of arguments
     else api.Unknown name)))))))))
 command_short true expands gets sets sleeps tries exists reads kills name arguments = tt
 command_short false true gets sets sleeps tries exists reads kills name arguments = needs_short which.Expand api.Expand arguments (λ text. tt)
 command_short false false true sets sleeps tries exists reads kills name arguments = getting_short arguments
-command_short false false false true sleeps tries exists reads kills name arguments = needs_short which.GlobalSetvar readings.setting arguments (λ text. tt)
+command_short false false false true sleeps tries exists reads kills name arguments = needs_short which.GlobalSetvar readings.global_setvar_of arguments (λ text. tt)
 command_short false false false false true tries exists reads kills name arguments = sleeping_short (read_u64 (word_of arguments))
 command_short false false false false false true exists reads kills name arguments = originate_short arguments
-command_short false false false false false false true reads kills name arguments = needs_short which.UuidExists readings.asking arguments (λ text. tt)
-command_short false false false false false false false true kills name arguments = needs_short which.UuidGetvar readings.reading arguments reading_short
-command_short false false false false false false false false true name arguments = needs_short which.UuidKill readings.killing arguments (λ text. tt)
+command_short false false false false false false true reads kills name arguments = needs_short which.UuidExists readings.uuid_exists_of arguments (λ text. tt)
+command_short false false false false false false false true kills name arguments = needs_short which.UuidGetvar readings.uuid_getvar_of arguments reading_short
+command_short false false false false false false false false true name arguments = needs_short which.UuidKill readings.uuid_kill_of arguments (λ text. tt)
 command_short false false false false false false false false false name arguments = tt
 
 named_short : (name arguments : Text) → NamesShort (api_named name arguments)
@@ -229,11 +230,11 @@ expanded_short text = without_short (api_of text) (api_short text)
 
 -- ---- the endpoint of a leg
 
-end_by : (test : Bool) (x y : Endpoint) → (test ≡ true → endpoints.IsShort x) → (test ≡ false → endpoints.IsShort y) → endpoints.IsShort (if test then x else y)
+end_by : (test : Bool) (x y : Endpoint) → (test ≡ true → endpoints.IsShortEndpoint x) → (test ≡ false → endpoints.IsShortEndpoint y) → endpoints.IsShortEndpoint (if test then x else y)
 end_by true x y first second = first refl
 end_by false x y first second = second refl
 
-address_short : (exten context dialplan : Text) → endpoints.IsShort (endpoints.loopback_to exten context dialplan)
+address_short : (exten context dialplan : Text) → endpoints.IsShortEndpoint (endpoints.loopback_to exten context dialplan)
 address_short [] context dialplan = tt
 address_short (byte ∷ bytes) context dialplan =
     let exten : Text = byte ∷ bytes in
@@ -250,7 +251,7 @@ address_short (byte ∷ bytes) context dialplan =
     })
     (λ differs. tt))
 
-pub endpoint_short : (text : Text) → endpoints.IsShort (endpoint_of text)
+pub endpoint_short : (text : Text) → endpoints.IsShortEndpoint (endpoint_of text)
 unfolding endpoint_of
 endpoint_short text =
     let parts : Text = endpoints.other_parts text in

@@ -9,12 +9,12 @@ use Rattle.fs_places.specs.declared.numbered.Numbered.{Numbered}
 use Rattle.fs_places.specs.Places.{no_places, held_in}
 use Rattle.fs_places.specs.Rows.{has_number}
 use Rattle.fs_state.specs.declared.job.Job.{Job}
-use Rattle.fs_state.specs.Switch.{Switch, empty, chan_at, advanced, closed}
+use Rattle.fs_state.specs.Switch.{Switch, empty, chan_at, at_moment, after_entry}
 use Rattle.fs_state.specs.Moves.{partner_of}
 use Rattle.fs_machine.specs.declared.entry.Entry.{Entry}
 use Rattle.fs_machine.specs.declared.entry.Act.{Act}
 use Rattle.fs_machine.specs.Entries.{cost_of}
-use Rattle.fs_machine.specs.Step.{refusal_of, acted, step}
+use Rattle.fs_machine.specs.Step.{refusal_of, act_done, step}
 use Rattle.fs_machine.specs.Runs.{run_from, IsRunFrom}
 use Rattle.fs_machine.specs.Sound.{HasPartner, PartnersAgree, HasLivePartner, LiveHasPartner, ProfilesAreShort, IdentifiersDiffer}
 use Rattle.fs_machine.proofs.IdentifierLemmas.{naming_none}
@@ -50,7 +50,7 @@ nothing_named config = record {
 
 step_agrees : (s : Switch) (entry : Entry) → Ties partner_of s.channels → Ties partner_of (step s entry).state.channels
 unfolding step
-step_agrees s entry h = acted_kept (advanced entry.moment s) Partners (partners_moves (advanced entry.moment s)) entry.act h
+step_agrees s entry h = acted_kept (at_moment entry.moment s) Partners (partners_moves (at_moment entry.moment s)) entry.act h
 
 run_agrees : (s : Switch) (entries : List Entry) → Ties partner_of s.channels → Ties partner_of (run_from s entries).channels
 run_agrees s [] h = h
@@ -102,8 +102,8 @@ nothing_stands config = record {
 step_stands : (s : Switch) (entry : Entry) → Holds (books_of (step s entry).state) → Stands s → Stands (step s entry).state
 unfolding step
 step_stands s entry holds h =
-    let now : Switch = advanced entry.moment s in
-    let paid : 64 * (acted entry.act now).state.drawn.origs ≤ min ((acted entry.act now).state.cost + cost_of entry.act) (2 ^ 64 - 1) = holds.paid.origs in
+    let now : Switch = at_moment entry.moment s in
+    let paid : 64 * (act_done entry.act now).state.drawn.origs ≤ min ((act_done entry.act now).state.cost + cost_of entry.act) (2 ^ 64 - 1) = holds.paid.origs in
     record {
       legs = acted_kept now Legs (legs_moves now) entry.act (λ few. h.legs) (omega (arith, paid));
       winners = acted_kept now Winners (winners_moves now) entry.act h.winners;
@@ -157,20 +157,20 @@ has_room : (s : Switch) (entry : Entry) → refusal_of s entry ≡ None → s.co
 has_room s entry defined = ltb-false s.config.settings.journal_limit (s.cost + 65600) (not_full s entry defined)
 
 -- one entry more, of which all that counts is known
-closed_counted : (s t : Switch) (cost : ℕ) → Numbers 2 (seen s) (seen t) → t.cost ≡ s.cost → 64 ≤ cost → s.cost + 65600 ≤ 1073741824 → Counted s → Counted (closed cost t)
+closed_counted : (s t : Switch) (cost : ℕ) → Numbers 2 (seen s) (seen t) → t.cost ≡ s.cost → 64 ≤ cost → s.cost + 65600 ≤ 1073741824 → Counted s → Counted (after_entry cost t)
 closed_counted s t cost numbers same least room h =
     let most : t.drawn.identifiers ≤ s.drawn.identifiers + 2 = numbers.most in
     let paid : 32 * s.drawn.identifiers ≤ s.cost = h.paid in
     let few : t.drawn.identifiers < 2 ^ 62 - 1 = omega (arith, most, paid, room) in
     record { named = numbers.names few h.named; paid = omega (arith, most, same, paid, least, room) }
 
-acted_numbers : (a : Act) (s : Switch) → Numbers 2 (seen s) (seen (acted a s).state)
+acted_numbers : (a : Act) (s : Switch) → Numbers 2 (seen s) (seen (act_done a s).state)
 acted_numbers a s = acted_kept s (NumbersFrom (seen s)) (numbers_moves (seen s) s) a (numbers_stay (seen s))
 
 step_counted : (s : Switch) (entry : Entry) → s.cost + 65600 ≤ 1073741824 → Counted s → Counted (step s entry).state
 unfolding step
 step_counted s entry room h =
-    closed_counted (advanced entry.moment s) (acted entry.act (advanced entry.moment s)).state (cost_of entry.act) (acted_numbers entry.act (advanced entry.moment s)) (acted_cost entry.act (advanced entry.moment s))
+    closed_counted (at_moment entry.moment s) (act_done entry.act (at_moment entry.moment s)).state (cost_of entry.act) (acted_numbers entry.act (at_moment entry.moment s)) (acted_cost entry.act (at_moment entry.moment s))
     (some_cost entry.act) room
     (record { named = h.named; paid = h.paid })
 

@@ -7,8 +7,8 @@ use Rattle.fs_chan.specs.Changes.{is_live, hung_up}
 use Rattle.fs_orig.specs.declared.orig.Orig.{Orig}
 use Rattle.fs_orig.specs.Changes.{with_death}
 use Rattle.fs_places.specs.Places.{held_in, with_held}
-use Rattle.fs_state.specs.Switch.{Switch, chan_at, with_chan, told}
-use Rattle.fs_state.specs.Moves.{state_told, leg_changed, its_leg_changed, hangup_of, hung_from, one_hung}
+use Rattle.fs_state.specs.Switch.{Switch, chan_at, with_chan, with_event}
+use Rattle.fs_state.specs.Moves.{with_state_events, leg_changed, its_leg_changed, hangup_event, after_hangup_from, after_one_hangup}
 use Rattle.fs_machine.proofs.HeldLemmas.{held_here, held_there, held_within, at_each}
 use Rattle.fs_machine.proofs.PartnerLemmas.{LiveNamers, Agree, lone, agree_kept, Cuts, live_cut, CutsAll, AreClosed, none_cut, one_more_cut, all_cut, joined}
 use Rattle.fs_machine.proofs.Walk.{state_told_kept}
@@ -46,31 +46,31 @@ its_leg_channels : (change : ℕ → Orig → Orig) (slot : ℕ) (leg_of : Optio
 its_leg_channels change slot None s = refl
 its_leg_channels change slot (Some number) s = ap (λ (f : Front). f.channels) (orig_changed_front (leg_changed change slot) number s)
 
-hung_by : (cause : Cause) (slot : ℕ) (s : Switch) → HungAs cause slot s (one_hung cause slot s).channels
+hung_by : (cause : Cause) (slot : ℕ) (s : Switch) → HungAs cause slot s (after_one_hangup cause slot s).channels
 hung_by cause slot s = by (chan_at s slot) refl
   where
     of : (c : Chan) → chan_at s slot ≡ Some c → (b : Bool) → is_live c ≡ b →
         HungAs cause slot s
-        (cond b (its_leg_changed (λ position. with_death position s.entries cause) slot c.leg_of (state_told c.state CsHangup (told (hangup_of cause) (with_chan slot (Some (hung_up cause c)) s)))) s).channels
+        (cond b (its_leg_changed (λ position. with_death position s.entries cause) slot c.leg_of (with_state_events c.state CsHangup (with_event (hangup_event cause) (with_chan slot (Some (hung_up cause c)) s)))) s).channels
     of c is true live =
-        let cut : Switch = told (hangup_of cause) (with_chan slot (Some (hung_up cause c)) s) in
+        let cut : Switch = with_event (hangup_event cause) (with_chan slot (Some (hung_up cause c)) s) in
         inr
         ((
           c,
           is,
-          its_leg_channels (λ position. with_death position s.entries cause) slot c.leg_of (state_told c.state CsHangup cut)
+          its_leg_channels (λ position. with_death position s.entries cause) slot c.leg_of (with_state_events c.state CsHangup cut)
               ∙ state_told_kept (λ (t : Switch). t.channels ≡ with_held s.channels slot (Some (hung_up cause c))) (λ event t plain h. h) c.state CsHangup {s = cut} refl,
         ))
     of c is false dead = inl ((ap lives_as is ∙ dead, refl))
 
-    by : (found : Option Chan) → chan_at s slot ≡ found → HungAs cause slot s (hung_from cause slot found s).channels
+    by : (found : Option Chan) → chan_at s slot ≡ found → HungAs cause slot s (after_hangup_from cause slot found s).channels
     by None is = inl ((ap lives_as is, refl))
     by (Some c) is = of c is (is_live c) refl
 
 -- slots are hung up, one after another
 abbrev pub cut_off : Cause → List ℕ → Switch → Switch
 cut_off cause [] s = s
-cut_off cause (slot ∷ slots) s = cut_off cause slots (one_hung cause slot s)
+cut_off cause (slot ∷ slots) s = cut_off cause slots (after_one_hangup cause slot s)
 
 -- ---- names
 
@@ -121,7 +121,7 @@ module _ (names : Chan → Option ℕ) where
 
   module _ (clears : (cause : Cause) (c : Chan) → names (hung_up cause c) ≡ None) where
     one_cuts : (cause : Cause) (slot : ℕ) (s : Switch) → LiveNamers (named_in s.channels) (lives_in s.channels) →
-        Cuts slot (named_in s.channels) (named_in (one_hung cause slot s).channels) (lives_in s.channels) (lives_in (one_hung cause slot s).channels)
+        Cuts slot (named_in s.channels) (named_in (after_one_hangup cause slot s).channels) (lives_in s.channels) (lives_in (after_one_hangup cause slot s).channels)
     one_cuts cause slot s live = by (hung_by cause slot s)
       where
         already : lives_in s.channels slot ≡ false → Cuts slot (named_in s.channels) (named_in s.channels) (lives_in s.channels) (lives_in s.channels)
@@ -131,7 +131,7 @@ module _ (names : Chan → Option ℕ) where
           lives = λ q other. refl;
         }
 
-        by : HungAs cause slot s (one_hung cause slot s).channels → Cuts slot (named_in s.channels) (named_in (one_hung cause slot s).channels) (lives_in s.channels) (lives_in (one_hung cause slot s).channels)
+        by : HungAs cause slot s (after_one_hangup cause slot s).channels → Cuts slot (named_in s.channels) (named_in (after_one_hangup cause slot s).channels) (lives_in s.channels) (lives_in (after_one_hangup cause slot s).channels)
         by (inl was) =
             subst (λ (channels : List (Option Chan)). Cuts slot (named_in s.channels) (named_in channels) (lives_in s.channels) (lives_in channels)) (sym was.1) (already was.0)
         by (inr found) =
@@ -142,7 +142,7 @@ module _ (names : Chan → Option ℕ) where
         CutsAll slots (named_in s.channels) (named_in (cut_off cause slots s).channels) (lives_in s.channels) (lives_in (cut_off cause slots s).channels)
     all_cuts cause [] s live = none_cut (named_in s.channels) (lives_in s.channels)
     all_cuts cause (slot ∷ slots) s live =
-        let t : Switch = one_hung cause slot s in
+        let t : Switch = after_one_hangup cause slot s in
         let u : Switch = cut_off cause slots t in
         let first : Cuts slot (named_in s.channels) (named_in t.channels) (lives_in s.channels) (lives_in t.channels) = one_cuts cause slot s live in
         one_more_cut slot slots (named_in s.channels) (named_in t.channels) (named_in u.channels) (lives_in s.channels) (lives_in t.channels) (lives_in u.channels) first

@@ -8,10 +8,10 @@ use Rattle.fs_places.specs.Rows.{has_number, place_of, with_held_at, with_new_ro
 use Rattle.fs_state.specs.declared.conn.Conn.{Conn}
 use Rattle.fs_state.specs.declared.gift.Gift.{Gift}
 use Rattle.fs_state.specs.Drawn as numbers
-use Rattle.fs_state.specs.Queues.{Frames, queue_at, with_queue, first_taken, all_taken, given_at, delivered}
-use Rattle.fs_state.specs.Switch.{Switch, waiting_at, waiting_for, changed_at, with_frame_taken, without_conn, closed}
+use Rattle.fs_state.specs.Queues.{Frames, queue_at, with_queue, without_first_frame, without_frames, with_frames_at, delivered}
+use Rattle.fs_state.specs.Switch.{Switch, waiting_at, waiting_for, changed_at, with_frame_taken, without_conn, after_entry}
 use Rattle.fs_machine.specs.Connections.{phase_of, phase_at}
-use Rattle.fs_machine.specs.Step.{is_closed, fresh, arrived}
+use Rattle.fs_machine.specs.Step.{is_closed, new_conn, arrived}
 use Rattle.fs_machine.specs.Frames.{frames_among, given_in}
 use Rattle.fs_machine.proofs.RowLemmas.{IsFree, AreDistinct, AreWithin, held_of, row_at, row_none, each_put_at, length_put_at, place_stands, place_within, places_apart, free_apart, above_nowhere, places_same, distinct_same, distinct-without_row, within-without_row, place_of-without_row_same, place_of-without_row_other, distinct-with_new_row, within-with_new_row, place_of-with_new_row_other, new_stands, new_free, less_free}
 use Rattle.fs_machine.proofs.RestLemmas.{whichever}
@@ -89,33 +89,33 @@ changed_length change each (Some place) queues = each place queues
 -- ---- gifts
 
 -- no gift makes a queue
-given_length : (found : Option ℕ) (frames : Frames) (queues : List Frames) → length (given_at found frames queues) ≡ length queues
+given_length : (found : Option ℕ) (frames : Frames) (queues : List Frames) → length (with_frames_at found frames queues) ≡ length queues
 given_length None frames queues = refl
 given_length (Some place) frames queues = length-set queues place (queue_at queues place ++ frames)
 
 delivered_length : (conns : List (Option (Numbered Conn))) (gifts : List Gift) (queues : List Frames) → length (delivered conns gifts queues) ≡ length queues
 delivered_length conns [] queues = refl
 delivered_length conns (gift ∷ gifts) queues =
-    delivered_length conns gifts (given_at (place_of conns gift.conn) gift.frames queues) ∙ given_length (place_of conns gift.conn) gift.frames queues
+    delivered_length conns gifts (with_frames_at (place_of conns gift.conn) gift.frames queues) ∙ given_length (place_of conns gift.conn) gift.frames queues
 
 -- a gift goes to no place without a connection
 quiet_given : (conns : List (Option (Numbered Conn))) (queues : List Frames) (number : ℕ) (frames : Frames) (found : Option ℕ) → place_of conns number ≡ found →
-    AreQuiet conns queues → AreQuiet conns (given_at found frames queues)
+    AreQuiet conns queues → AreQuiet conns (with_frames_at found frames queues)
 quiet_given conns queues number frames None is quiet free empty = quiet free empty
 quiet_given conns queues number frames (Some place) is quiet free empty = quiet_put conns queues number place (queue_at queues place ++ frames) is quiet free empty
 
 quiet_delivered : (conns : List (Option (Numbered Conn))) (gifts : List Gift) (queues : List Frames) → AreQuiet conns queues → AreQuiet conns (delivered conns gifts queues)
 quiet_delivered conns [] queues quiet free empty = quiet free empty
 quiet_delivered conns (gift ∷ gifts) queues quiet free empty =
-    quiet_delivered conns gifts (given_at (place_of conns gift.conn) gift.frames queues)
+    quiet_delivered conns gifts (with_frames_at (place_of conns gift.conn) gift.frames queues)
     (quiet_given conns queues gift.conn gift.frames (place_of conns gift.conn) refl quiet) free empty
 
 -- a gift waits behind what waits for its connection, and for no other
 one_given : (conns : List (Option (Numbered Conn))) (queues : List Frames) (conn place : ℕ) (gift : Gift) → place_of conns conn ≡ Some place → place < length queues →
-    queue_at (given_at (place_of conns gift.conn) gift.frames queues) place ≡ queue_at queues place ++ (if gift.conn == conn then gift.frames else [])
+    queue_at (with_frames_at (place_of conns gift.conn) gift.frames queues) place ≡ queue_at queues place ++ (if gift.conn == conn then gift.frames else [])
 one_given conns queues conn place gift is within = by (gift.conn == conn) refl
   where
-    other : (found : Option ℕ) → place_of conns gift.conn ≡ found → (gift.conn == conn) ≡ false → queue_at (given_at found gift.frames queues) place ≡ queue_at queues place ++ []
+    other : (found : Option ℕ) → place_of conns gift.conn ≡ found → (gift.conn == conn) ≡ false → queue_at (with_frames_at found gift.frames queues) place ≡ queue_at queues place ++ []
     other None there e = sym (append-nil (queue_at queues place))
     other (Some others) there e =
         get_or-set_other queues others place (queue_at queues others ++ gift.frames) []
@@ -123,9 +123,10 @@ one_given conns queues conn place gift is within = by (gift.conn == conn) refl
         ∙ sym (append-nil (queue_at queues place))
 
     by : (b : Bool) → (gift.conn == conn) ≡ b →
-        queue_at (given_at (place_of conns gift.conn) gift.frames queues) place ≡ queue_at queues place ++ (if b then gift.frames else [])
+        queue_at (with_frames_at (place_of conns gift.conn) gift.frames queues) place ≡ queue_at queues place ++ (if b then gift.frames
+        else [])
     by true e =
-        ap (λ found. queue_at (given_at found gift.frames queues) place) (ap (place_of conns) (eqb-true gift.conn conn e) ∙ is)
+        ap (λ found. queue_at (with_frames_at found gift.frames queues) place) (ap (place_of conns) (eqb-true gift.conn conn e) ∙ is)
         ∙ get_or-set_same queues place (queue_at queues place ++ gift.frames) [] within
     by false e = other (place_of conns gift.conn) refl e
 
@@ -134,7 +135,7 @@ all_given : (conns : List (Option (Numbered Conn))) (conn place : ℕ) (gifts : 
     queue_at (delivered conns gifts queues) place ≡ queue_at queues place ++ frames_among conn gifts
 all_given conns conn place [] queues is within = sym (append-nil (queue_at queues place))
 all_given conns conn place (gift ∷ gifts) queues is within =
-    all_given conns conn place gifts (given_at (place_of conns gift.conn) gift.frames queues) is
+    all_given conns conn place gifts (with_frames_at (place_of conns gift.conn) gift.frames queues) is
     (subst (λ n. place < n) (sym (given_length (place_of conns gift.conn) gift.frames queues)) within)
     ∙ ap (λ queue. queue ++ frames_among conn gifts) (one_given conns queues conn place gift is within)
     ∙ append_assoc (queue_at queues place) (if gift.conn == conn then gift.frames else []) (frames_among conn gifts)
@@ -142,7 +143,7 @@ all_given conns conn place (gift ∷ gifts) queues is within =
 -- ---- the end of an entry
 
 -- connections and queues fit together as before
-pub closed_ordered : (cost : ℕ) (t : Switch) → Ordered t → Ordered (closed cost t)
+pub closed_ordered : (cost : ℕ) (t : Switch) → Ordered t → Ordered (after_entry cost t)
 closed_ordered cost t ordered = record {
   distinct = ordered.distinct;
   within = ordered.within;
@@ -156,7 +157,8 @@ pub none_given : (t : Switch) (conn : ℕ) → place_of t.conns conn ≡ None �
 none_given t conn is = ap (λ b. if b then [] else frames_among conn t.given) (none_closed t conn is)
 
 -- what is given waits behind what waited
-pub closed_waits : (cost : ℕ) (t : Switch) (conn : ℕ) → Ordered t → waiting_for (closed cost t) conn ≡ waiting_for t conn ++ given_in conn t
+pub closed_waits : (cost : ℕ) (t : Switch) (conn : ℕ) → Ordered t →
+    waiting_for (after_entry cost t) conn ≡ waiting_for t conn ++ given_in conn t
 closed_waits cost t conn ordered = by (place_of t.conns conn) refl
   where
     by : (found : Option ℕ) → place_of t.conns conn ≡ found → waiting_at (delivered t.conns t.given t.queues) found ≡ waiting_at t.queues found ++ given_in conn t
@@ -172,7 +174,8 @@ nothing_given t conn none =
     ∙ whichever (λ (frames : Frames). frames ≡ []) (is_closed (phase_at t conn)) [] [] refl refl
 
 -- an entry that gives nothing leaves what waits
-pub closed_quietly : (cost : ℕ) (t : Switch) (conn : ℕ) → Ordered t → t.given ≡ [] → waiting_for (closed cost t) conn ≡ waiting_for t conn
+pub closed_quietly : (cost : ℕ) (t : Switch) (conn : ℕ) → Ordered t → t.given ≡ [] →
+    waiting_for (after_entry cost t) conn ≡ waiting_for t conn
 closed_quietly cost t conn ordered none =
     closed_waits cost t conn ordered ∙ ap (λ frames. waiting_for t conn ++ frames) (nothing_given t conn none) ∙ append-nil (waiting_for t conn)
 
@@ -180,7 +183,7 @@ closed_quietly cost t conn ordered none =
 
 -- the place from which a frame is taken has a connection
 quiet_taken : (conns : List (Option (Numbered Conn))) (queues : List Frames) (number : ℕ) (found : Option ℕ) → place_of conns number ≡ found →
-    AreQuiet conns queues → AreQuiet conns (changed_at first_taken found queues)
+    AreQuiet conns queues → AreQuiet conns (changed_at without_first_frame found queues)
 quiet_taken conns queues number None is quiet free empty = quiet free empty
 quiet_taken conns queues number (Some place) is quiet free empty = quiet_put conns queues number place (drop 1 (queue_at queues place)) is quiet free empty
 
@@ -189,7 +192,7 @@ taken_ordered taker s ordered = record {
   distinct = ordered.distinct;
   within = ordered.within;
   opened = ordered.opened;
-  places = changed_length first_taken (λ place queues. length-set queues place (drop 1 (queue_at queues place))) (place_of s.conns taker) s.queues ∙ ordered.places;
+  places = changed_length without_first_frame (λ place queues. length-set queues place (drop 1 (queue_at queues place))) (place_of s.conns taker) s.queues ∙ ordered.places;
   quiet = quiet_taken s.conns s.queues taker (place_of s.conns taker) refl ordered.quiet;
 }
 
@@ -197,7 +200,7 @@ taken_ordered taker s ordered = record {
 pub taken_same : (conn : ℕ) (s : Switch) → Ordered s → waiting_for (with_frame_taken conn s) conn ≡ drop 1 (waiting_for s conn)
 taken_same conn s ordered = by (place_of s.conns conn) refl
   where
-    by : (found : Option ℕ) → place_of s.conns conn ≡ found → waiting_at (changed_at first_taken found s.queues) found ≡ drop 1 (waiting_at s.queues found)
+    by : (found : Option ℕ) → place_of s.conns conn ≡ found → waiting_at (changed_at without_first_frame found s.queues) found ≡ drop 1 (waiting_at s.queues found)
     by None is = refl
     by (Some place) is =
         get_or-set_same s.queues place (drop 1 (queue_at s.queues place)) [] (subst (λ n. place < n) (sym ordered.places) (place_within s.conns conn place is))
@@ -207,7 +210,7 @@ pub taken_other : (taker conn : ℕ) (s : Switch) → (taker ≡ conn → ⊥) �
 taken_other taker conn s differ = by (place_of s.conns taker) (place_of s.conns conn) refl refl
   where
     by : (there found : Option ℕ) → place_of s.conns taker ≡ there → place_of s.conns conn ≡ found →
-        waiting_at (changed_at first_taken there s.queues) found ≡ waiting_at s.queues found
+        waiting_at (changed_at without_first_frame there s.queues) found ≡ waiting_at s.queues found
     by None found is_there is = refl
     by (Some place) None is_there is = refl
     by (Some place) (Some mine) is_there is =
@@ -217,12 +220,12 @@ taken_other taker conn s differ = by (place_of s.conns taker) (place_of s.conns 
 
 -- the place that is left is quiet
 quiet_less : (conns : List (Option (Numbered Conn))) (queues : List Frames) (found : Option ℕ) → AreQuiet conns queues →
-    AreQuiet (with_held_at conns None found) (changed_at all_taken found queues)
+    AreQuiet (with_held_at conns None found) (changed_at without_frames found queues)
 quiet_less conns queues None quiet place free = quiet place free
 quiet_less conns queues (Some put) quiet place free = by (cases_eq place put)
   where
-    by : (place ≡ put) ⊎ (place ≡ put → ⊥) → queue_at (all_taken put queues) place ≡ []
-    by (inl same) = subst (λ p. queue_at (all_taken put queues) p ≡ []) (sym same) (queue_emptied queues put)
+    by : (place ≡ put) ⊎ (place ≡ put → ⊥) → queue_at (without_frames put queues) place ≡ []
+    by (inl same) = subst (λ p. queue_at (without_frames put queues) p ≡ []) (sym same) (queue_emptied queues put)
     by (inr differ) = get_or-set_other queues put place [] [] differ ∙ quiet place (less_free conns put place differ free)
 
 pub without_ordered : (gone : ℕ) (s : Switch) → Ordered s → Ordered (without_conn gone s)
@@ -231,23 +234,23 @@ without_ordered gone s ordered = record {
   within = within-without_row s.conns gone s.drawn.conns ordered.within;
   opened = each_put_at (λ held. is_shut held ≡ false) s.conns None (place_of s.conns gone) ordered.opened refl;
   places =
-      changed_length all_taken (λ place queues. length-set queues place []) (place_of s.conns gone) s.queues ∙ ordered.places
+      changed_length without_frames (λ place queues. length-set queues place []) (place_of s.conns gone) s.queues ∙ ordered.places
       ∙ sym (length_put_at s.conns None (place_of s.conns gone));
   quiet = quiet_less s.conns s.queues (place_of s.conns gone) ordered.quiet;
 }
 
 -- nothing waits for it any more
 pub without_same : (gone : ℕ) (s : Switch) → Ordered s → waiting_for (without_conn gone s) gone ≡ []
-without_same gone s ordered = ap (waiting_at (changed_at all_taken (place_of s.conns gone) s.queues)) (place_of-without_row_same s.conns gone ordered.distinct)
+without_same gone s ordered = ap (waiting_at (changed_at without_frames (place_of s.conns gone) s.queues)) (place_of-without_row_same s.conns gone ordered.distinct)
 
 -- for all others waits what waited
 pub without_other : (gone conn : ℕ) (s : Switch) → (gone ≡ conn → ⊥) → waiting_for (without_conn gone s) conn ≡ waiting_for s conn
 without_other gone conn s differ =
-    ap (waiting_at (changed_at all_taken (place_of s.conns gone) s.queues)) (place_of-without_row_other s.conns gone conn differ)
+    ap (waiting_at (changed_at without_frames (place_of s.conns gone) s.queues)) (place_of-without_row_other s.conns gone conn differ)
     ∙ by (place_of s.conns gone) (place_of s.conns conn) refl refl
   where
     by : (there found : Option ℕ) → place_of s.conns gone ≡ there → place_of s.conns conn ≡ found →
-        waiting_at (changed_at all_taken there s.queues) found ≡ waiting_at s.queues found
+        waiting_at (changed_at without_frames there s.queues) found ≡ waiting_at s.queues found
     by None found is_there is = refl
     by (Some place) None is_there is = refl
     by (Some place) (Some mine) is_there is =
@@ -265,12 +268,12 @@ number_new s ordered room = above_nowhere s.conns s.drawn.conns (numbers.with_co
 
 pub arrived_ordered : (s : Switch) → Ordered s → s.drawn.conns < 2 ^ 32 - 1 → Ordered (arrived s).state
 arrived_ordered s ordered room = record {
-  distinct = distinct-with_new_row s.conns (numbers.with_conn s.drawn).conns fresh ordered.distinct (number_new s ordered room);
-  within = within-with_new_row s.conns (numbers.with_conn s.drawn).conns fresh (numbers.with_conn s.drawn).conns
+  distinct = distinct-with_new_row s.conns (numbers.with_conn s.drawn).conns new_conn ordered.distinct (number_new s ordered room);
+  within = within-with_new_row s.conns (numbers.with_conn s.drawn).conns new_conn (numbers.with_conn s.drawn).conns
       (λ number place stands. omega (arith, ordered.within number place stands, number_above s.drawn.conns room)) (omega arith);
-  opened = each_put_at (λ held. is_shut held ≡ false) s.conns (Some (record { number = (numbers.with_conn s.drawn).conns; held = fresh })) (least_free s.conns 0) ordered.opened refl;
-  places = ordered.places ∙ sym (length_put_at s.conns (Some (record { number = (numbers.with_conn s.drawn).conns; held = fresh })) (least_free s.conns 0));
-  quiet = λ place free. ordered.quiet place (new_free s.conns (numbers.with_conn s.drawn).conns fresh place free);
+  opened = each_put_at (λ held. is_shut held ≡ false) s.conns (Some (record { number = (numbers.with_conn s.drawn).conns; held = new_conn })) (least_free s.conns 0) ordered.opened refl;
+  places = ordered.places ∙ sym (length_put_at s.conns (Some (record { number = (numbers.with_conn s.drawn).conns; held = new_conn })) (least_free s.conns 0));
+  quiet = λ place free. ordered.quiet place (new_free s.conns (numbers.with_conn s.drawn).conns new_conn place free);
 }
 
 -- nothing waits for it yet but what the entry gives
@@ -280,21 +283,21 @@ arrived_waits s conn ordered room = by (cases_eq (numbers.with_conn s.drawn).con
     new : place_of s.conns (numbers.with_conn s.drawn).conns ≡ None
     new = number_new s ordered room
 
-    nothing : (found : Option ℕ) → place_of (with_new_row s.conns (numbers.with_conn s.drawn).conns fresh) (numbers.with_conn s.drawn).conns ≡ found → waiting_at s.queues found ≡ []
+    nothing : (found : Option ℕ) → place_of (with_new_row s.conns (numbers.with_conn s.drawn).conns new_conn) (numbers.with_conn s.drawn).conns ≡ found → waiting_at s.queues found ≡ []
     nothing None is = refl
     nothing (Some place) is =
-        ordered.quiet place (new_stands s.conns (numbers.with_conn s.drawn).conns fresh place new
-        (place_stands (with_new_row s.conns (numbers.with_conn s.drawn).conns fresh) (numbers.with_conn s.drawn).conns place is))
+        ordered.quiet place (new_stands s.conns (numbers.with_conn s.drawn).conns new_conn place new
+        (place_stands (with_new_row s.conns (numbers.with_conn s.drawn).conns new_conn) (numbers.with_conn s.drawn).conns place is))
 
     by : ((numbers.with_conn s.drawn).conns ≡ conn) ⊎ ((numbers.with_conn s.drawn).conns ≡ conn → ⊥) → waiting_for (arrived s).state conn ≡ waiting_for s conn
     by (inl same) = subst (λ number. waiting_for (arrived s).state number ≡ waiting_for s number) same
-        (nothing (place_of (with_new_row s.conns (numbers.with_conn s.drawn).conns fresh) (numbers.with_conn s.drawn).conns) refl ∙ sym (ap (waiting_at s.queues) new))
-    by (inr differ) = ap (waiting_at s.queues) (place_of-with_new_row_other s.conns (numbers.with_conn s.drawn).conns fresh conn differ)
+        (nothing (place_of (with_new_row s.conns (numbers.with_conn s.drawn).conns new_conn) (numbers.with_conn s.drawn).conns) refl ∙ sym (ap (waiting_at s.queues) new))
+    by (inr differ) = ap (waiting_at s.queues) (place_of-with_new_row_other s.conns (numbers.with_conn s.drawn).conns new_conn conn differ)
 
 -- one that had a smaller number, and is gone, stays so
 pub arrived_gone : (s : Switch) (conn : ℕ) → s.drawn.conns < 2 ^ 32 - 1 → place_of s.conns conn ≡ None → conn ≤ s.drawn.conns → place_of (arrived s).state.conns conn ≡ None
 arrived_gone s conn room none below =
-    place_of-with_new_row_other s.conns (numbers.with_conn s.drawn).conns fresh conn (λ same. omega (arith, number_above s.drawn.conns room, below, same)) ∙ none
+    place_of-with_new_row_other s.conns (numbers.with_conn s.drawn).conns new_conn conn (λ same. omega (arith, number_above s.drawn.conns room, below, same)) ∙ none
 
 -- one that is gone stays so when another goes
 pub without_gone : (gone : ℕ) (s : Switch) (conn : ℕ) → Ordered s → place_of s.conns conn ≡ None → place_of (without_conn gone s).conns conn ≡ None

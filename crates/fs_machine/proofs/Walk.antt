@@ -19,7 +19,7 @@ use Rattle.fs_chan.specs.declared.peer.Direction.TheVariants.{Inbound, Outbound}
 use Rattle.fs_chan.specs.declared.target.Target3.{Target3}
 use Rattle.fs_chan.specs.declared.wait.Wait.{Wait}
 use Rattle.fs_chan.specs.declared.wait.Wait.TheVariants.{Ready, Sleep, Parked, Socket}
-use Rattle.fs_chan.specs.Changes.{IsShort, is_live, entered, answered_at, gone_on, hung_up, transferred, parked, asleep, may_route, routed}
+use Rattle.fs_chan.specs.Changes.{IsShortTarget, is_live, in_state, with_answer_place, at_rest, hung_up, transferred, parked, asleep, may_route, routed}
 use Rattle.fs_chan.specs.Exports.{with_set}
 use Rattle.fs_chan.specs.Work as chan
 use Rattle.fs_orig.specs.declared.endpoint.Endpoint.{Endpoint}
@@ -31,8 +31,8 @@ use Rattle.fs_orig.specs.Endpoints.{endpoint_of}
 use Rattle.fs_places.specs.Places.{held_in}
 use Rattle.fs_plan.specs.declared.hunt.Hunt.{Hunt}
 use Rattle.fs_state.specs.declared.event.Event.{Event}
-use Rattle.fs_state.specs.Switch.{Switch, chan_at, with_chan, free_slot, told}
-use Rattle.fs_state.specs.Moves.{happens, left_told, come_told, state_told, moved_from, moved, begun, running, run_on, completed, orig_changed, leg_changed, its_leg_changed, answered_from, one_answered, partner_at, for_slot, answered, hangup_of, hung_from, one_hung, hung_with, hung, reported, destroyed}
+use Rattle.fs_state.specs.Switch.{Switch, chan_at, with_chan, free_slot, with_event}
+use Rattle.fs_state.specs.Moves.{plain_event, with_leaving_event, with_coming_event, with_state_events, after_move_from, after_move, after_begin, with_running, run_on, after_completion, orig_changed, leg_changed, its_leg_changed, after_answer_from, after_one_answer, partner_at, for_slot, after_answer, hangup_event, after_hangup_from, after_one_hangup, after_hangup_with, after_hangup, after_report, after_destroy}
 use Rattle.fs_machine.specs.declared.originations.Call.{Call}
 use Rattle.fs_machine.specs.declared.originations.Caller.{Caller}
 use Rattle.fs_machine.specs.Applications.{with_variable, without_variable, with_export, sleeping, state_at, parking_in, effect, argument_in, executed_within, ran_next, ran_from, ran}
@@ -102,9 +102,9 @@ after_taking_stays [] c = record { links = refl; live = refl; short = λ h. h }
 after_taking_stays (next ∷ later) c = without_first_stays c.messages c
 
 after_next_stays : AllStay chan.after_next
-after_next_stays c = after_taking_stays (chan.line_of c) c
+after_next_stays c = after_taking_stays (chan.pending_of c) c
 
-running_stays : (action : Action) → AllStay (running action)
+running_stays : (action : Action) → AllStay (with_running action)
 running_stays action c = record { links = refl; live = refl; short = λ short. short }
 
 -- ---- a slot whose channel lives
@@ -126,27 +126,27 @@ is_alive channels slot c at there =
 
 -- ---- what is told of a change of state
 
-module _ (P : Switch → Type 0) (told_kept : (event : Event) (s : Switch) → event.bridge ≡ 0 → P s → P (told event s)) where
-  left_told_kept : (state : State) {s : Switch} → P s → P (left_told state s)
-  left_told_kept CsPark h = told_kept (happens ChannelUnpark) _ refl h
+module _ (P : Switch → Type 0) (told_kept : (event : Event) (s : Switch) → event.bridge ≡ 0 → P s → P (with_event event s)) where
+  left_told_kept : (state : State) {s : Switch} → P s → P (with_leaving_event state s)
+  left_told_kept CsPark h = told_kept (plain_event ChannelUnpark) _ refl h
   left_told_kept _ h = h
 
-  come_told_kept : (state : State) {s : Switch} → P s → P (come_told state s)
-  come_told_kept CsPark h = told_kept (happens ChannelPark) _ refl h
+  come_told_kept : (state : State) {s : Switch} → P s → P (with_coming_event state s)
+  come_told_kept CsPark h = told_kept (plain_event ChannelPark) _ refl h
   come_told_kept _ h = h
 
   differing_kept : (b : Bool) {s t : Switch} → P s → P t → P (if b then s else t)
   differing_kept true first second = first
   differing_kept false first second = second
 
-  pub state_told_kept : (old new : State) {s : Switch} → P s → P (state_told old new s)
-  state_told_kept old new h = differing_kept (state_number old == state_number new) h (told_kept (happens ChannelState) _ refl (come_told_kept new (left_told_kept old h)))
+  pub state_told_kept : (old new : State) {s : Switch} → P s → P (with_state_events old new s)
+  state_told_kept old new h = differing_kept (state_number old == state_number new) h (told_kept (plain_event ChannelState) _ refl (come_told_kept new (left_told_kept old h)))
 
 -- a change that others do not see leaves the slot's channel alive
-moved_lives : (change : Chan → Chan) (slot : ℕ) (s : Switch) → AllStay change → LivesAt s.channels slot → LivesAt (moved change slot s).channels slot
+moved_lives : (change : Chan → Chan) (slot : ℕ) (s : Switch) → AllStay change → LivesAt s.channels slot → LivesAt (after_move change slot s).channels slot
 moved_lives change slot s stays at =
     let new : Chan = change at.chan in
-    subst (λ (found : Option Chan). LivesAt (moved_from change slot found s).channels slot) (sym at.there)
+    subst (λ (found : Option Chan). LivesAt (after_move_from change slot found s).channels slot) (sym at.there)
     (record {
       chan = new;
       there = state_told_kept (λ (t : Switch). chan_at t slot ≡ Some new) (λ event t plain h. h) at.chan.state new.state {s = with_chan slot (Some new) s}
@@ -157,38 +157,38 @@ moved_lives change slot s stays at =
 -- ---- hangups
 
 -- for what is kept where one channel is hung up
-module _ (P : Switch → Type 0) (one_kept : (cause : Cause) (slot : ℕ) (s : Switch) → P s → P (one_hung cause slot s)) where
-  pub pair_hung_kept : (cause : Cause) (slot : ℕ) (s : Switch) → P s → P (hung cause slot s)
+module _ (P : Switch → Type 0) (one_kept : (cause : Cause) (slot : ℕ) (s : Switch) → P s → P (after_one_hangup cause slot s)) where
+  pub pair_hung_kept : (cause : Cause) (slot : ℕ) (s : Switch) → P s → P (after_hangup cause slot s)
   pair_hung_kept cause slot s h = by (partner_at s slot)
     where
-      in_order : (partner : ℕ) (test : Bool) → P (if test then one_hung cause partner (one_hung cause slot s) else one_hung cause slot (one_hung cause partner s))
-      in_order partner true = one_kept cause partner (one_hung cause slot s) (one_kept cause slot s h)
-      in_order partner false = one_kept cause slot (one_hung cause partner s) (one_kept cause partner s h)
+      in_order : (partner : ℕ) (test : Bool) → P (if test then after_one_hangup cause partner (after_one_hangup cause slot s) else after_one_hangup cause slot (after_one_hangup cause partner s))
+      in_order partner true = one_kept cause partner (after_one_hangup cause slot s) (one_kept cause slot s h)
+      in_order partner false = one_kept cause slot (after_one_hangup cause partner s) (one_kept cause partner s h)
 
-      by : (partner : Option ℕ) → P (hung_with cause slot partner s)
+      by : (partner : Option ℕ) → P (after_hangup_with cause slot partner s)
       by None = one_kept cause slot s h
       by (Some partner) = in_order partner (nat_lt slot partner)
 
 -- for what is kept where a channel is cut off, and where its leg is changed
 
-module _ (P : Switch → Type 0) (told_kept : (event : Event) (s : Switch) → event.bridge ≡ 0 → P s → P (told event s))
+module _ (P : Switch → Type 0) (told_kept : (event : Event) (s : Switch) → event.bridge ≡ 0 → P s → P (with_event event s))
     (cut_kept : (cause : Cause) (slot : ℕ) (c : Chan) (s : Switch) → chan_at s slot ≡ Some c → P s → P (with_chan slot (Some (hung_up cause c)) s))
     (leg_kept : (change : Orig → Orig) (number : ℕ) (s : Switch) → P s → P (orig_changed change number s)) where
   dies_kept : (change : ℕ → Orig → Orig) (slot : ℕ) (leg_of : Option ℕ) (s : Switch) → P s → P (its_leg_changed change slot leg_of s)
   dies_kept change slot None s h = h
   dies_kept change slot (Some number) s h = leg_kept (leg_changed change slot) number s h
 
-  one_hung_kept : (cause : Cause) (slot : ℕ) (s : Switch) → P s → P (one_hung cause slot s)
+  one_hung_kept : (cause : Cause) (slot : ℕ) (s : Switch) → P s → P (after_one_hangup cause slot s)
   one_hung_kept cause slot s h = by (chan_at s slot) refl
     where
-      by : (found : Option Chan) → chan_at s slot ≡ found → P (hung_from cause slot found s)
+      by : (found : Option Chan) → chan_at s slot ≡ found → P (after_hangup_from cause slot found s)
       by None is = h
       by (Some c) is =
           differing_kept P told_kept (is_live c)
           (dies_kept (λ position. with_death position s.entries cause) slot c.leg_of _
-          (state_told_kept P told_kept c.state CsHangup (told_kept (hangup_of cause) _ refl (cut_kept cause slot c s is h)))) h
+          (state_told_kept P told_kept c.state CsHangup (told_kept (hangup_event cause) _ refl (cut_kept cause slot c s is h)))) h
 
-  pub hung_kept : (cause : Cause) (slot : ℕ) (s : Switch) → P s → P (hung cause slot s)
+  pub hung_kept : (cause : Cause) (slot : ℕ) (s : Switch) → P s → P (after_hangup cause slot s)
   hung_kept cause slot s h = pair_hung_kept P one_hung_kept cause slot s h
 
 -- ---- channels
@@ -199,32 +199,32 @@ module _ (P : Fact) (kept : KeptByCalls P) where
   either true first second = first
   either false first second = second
 
-  told_of : (old new : State) {b : Bool} {s : Switch} → P b s → P b (state_told old new s)
+  told_of : (old new : State) {b : Bool} {s : Switch} → P b s → P b (with_state_events old new s)
   told_of old new {b} h = state_told_kept (P b) (λ event s plain k. kept.told event plain k) old new h
 
-  moved_there : (change : Chan → Chan) (slot : ℕ) {b : Bool} {s : Switch} → ((c : Chan) → chan_at s slot ≡ Some c → Stays c (change c)) → P b s → P b (moved change slot s)
+  moved_there : (change : Chan → Chan) (slot : ℕ) {b : Bool} {s : Switch} → ((c : Chan) → chan_at s slot ≡ Some c → Stays c (change c)) → P b s → P b (after_move change slot s)
   moved_there change slot {b} {s} stays h = by (chan_at s slot) refl
     where
-      by : (found : Option Chan) → chan_at s slot ≡ found → P b (moved_from change slot found s)
+      by : (found : Option Chan) → chan_at s slot ≡ found → P b (after_move_from change slot found s)
       by None is = h
       by (Some c) is = told_of c.state (change c).state (kept.changed slot c (change c) is (stays c is) h)
 
-  moved_kept : (change : Chan → Chan) (slot : ℕ) {b : Bool} {s : Switch} → AllStay change → P b s → P b (moved change slot s)
+  moved_kept : (change : Chan → Chan) (slot : ℕ) {b : Bool} {s : Switch} → AllStay change → P b s → P b (after_move change slot s)
   moved_kept change slot stays h = moved_there change slot (λ c is. stays c) h
 
   -- a live channel is changed
-  moved_alive : (change : Chan → Chan) (slot : ℕ) {b : Bool} {s : Switch} → LivesAt s.channels slot → ((c : Chan) → is_live c ≡ true → Stays c (change c)) → P b s → P b (moved change slot s)
+  moved_alive : (change : Chan → Chan) (slot : ℕ) {b : Bool} {s : Switch} → LivesAt s.channels slot → ((c : Chan) → is_live c ≡ true → Stays c (change c)) → P b s → P b (after_move change slot s)
   moved_alive change slot {b} {s} at stays h = moved_there change slot (λ c there. stays c (is_alive s.channels slot c at there)) h
 
-  begun_kept : (slot : ℕ) {b : Bool} {s : Switch} → LivesAt s.channels slot → P b s → P b (begun slot s)
+  begun_kept : (slot : ℕ) {b : Bool} {s : Switch} → LivesAt s.channels slot → P b s → P b (after_begin slot s)
   begun_kept slot at h =
-      moved_alive (entered CsInit) slot at (λ c live. record { links = refl; live = init_lives ∙ sym live; short = λ short. short }) (kept.told (happens ChannelCreate) refl h)
+      moved_alive (in_state CsInit) slot at (λ c live. record { links = refl; live = init_lives ∙ sym live; short = λ short. short }) (kept.told (plain_event ChannelCreate) refl h)
 
   run_on_kept : (action : Action) (slot : ℕ) {b : Bool} {s : Switch} → P b s → P b (run_on action slot s)
-  run_on_kept action slot h = kept.told (happens ChannelExecute) refl (moved_kept (running action) slot (running_stays action) h)
+  run_on_kept action slot h = kept.told (plain_event ChannelExecute) refl (moved_kept (with_running action) slot (running_stays action) h)
 
-  completed_kept : (slot : ℕ) {b : Bool} {s : Switch} → P b s → P b (completed slot s)
-  completed_kept slot h = kept.told (happens ChannelExecuteComplete) refl (moved_kept gone_on slot (λ c. record { links = refl; live = refl; short = λ short. short }) h)
+  completed_kept : (slot : ℕ) {b : Bool} {s : Switch} → P b s → P b (after_completion slot s)
+  completed_kept slot h = kept.told (plain_event ChannelExecuteComplete) refl (moved_kept at_rest slot (λ c. record { links = refl; live = refl; short = λ short. short }) h)
 
   -- ---- answers
 
@@ -232,36 +232,36 @@ module _ (P : Fact) (kept : KeptByCalls P) where
   its_leg_kept place slot None h = h
   its_leg_kept place slot (Some number) h = kept.answers place slot number h
 
-  one_answered_kept : (slot : ℕ) {b : Bool} {s : Switch} → P b s → P b (one_answered slot s)
+  one_answered_kept : (slot : ℕ) {b : Bool} {s : Switch} → P b s → P b (after_one_answer slot s)
   one_answered_kept slot {b} {s} h = by (chan_at s slot) refl
     where
-      by : (found : Option Chan) → chan_at s slot ≡ found → P b (answered_from slot found s)
+      by : (found : Option Chan) → chan_at s slot ≡ found → P b (after_answer_from slot found s)
       by None is = h
       by (Some c) is =
           either (is_none c.answered)
-          (its_leg_kept s.entries slot c.leg_of (kept.told (happens ChannelAnswer) refl (kept.changed slot c (answered_at s.entries c) is (record { links = refl; live = refl; short = λ short. short }) h))) h
+          (its_leg_kept s.entries slot c.leg_of (kept.told (plain_event ChannelAnswer) refl (kept.changed slot c (with_answer_place s.entries c) is (record { links = refl; live = refl; short = λ short. short }) h))) h
 
-  answered_kept : (slot : ℕ) {b : Bool} {s : Switch} → P b s → P b (answered slot s)
+  answered_kept : (slot : ℕ) {b : Bool} {s : Switch} → P b s → P b (after_answer slot s)
   answered_kept slot {b} {s} h = by (partner_at s slot)
     where
-      by : (partner : Option ℕ) → P b (for_slot one_answered partner (one_answered slot s))
+      by : (partner : Option ℕ) → P b (for_slot after_one_answer partner (after_one_answer slot s))
       by None = one_answered_kept slot h
       by (Some partner) = one_answered_kept partner (one_answered_kept slot h)
 
   -- ---- the end of channels
 
-  reported_kept : (slot : ℕ) (c : Chan) {b : Bool} {s : Switch} → chan_at s slot ≡ Some c → c.state ≡ CsHangup → P b s → P b (reported slot s)
+  reported_kept : (slot : ℕ) (c : Chan) {b : Bool} {s : Switch} → chan_at s slot ≡ Some c → c.state ≡ CsHangup → P b s → P b (after_report slot s)
   reported_kept slot c {b} {s} is hangup h =
-      moved_there (entered CsReporting) slot (λ d there. record { links = refl; live = reporting_dead ∙ sym (dead d there); short = λ short. short })
-      (kept.told (happens ChannelHangupComplete) refl h)
+      moved_there (in_state CsReporting) slot (λ d there. record { links = refl; live = reporting_dead ∙ sym (dead d there); short = λ short. short })
+      (kept.told (plain_event ChannelHangupComplete) refl h)
     where
       dead : (d : Chan) → chan_at s slot ≡ Some d → is_live d ≡ false
       dead d there =
           let same : d ≡ c = cc in
           live_by d CsHangup false (ap (λ (x : Chan). x.state) same ∙ hangup) hangup_dead
 
-  destroyed_kept : (slot : ℕ) (c : Chan) {b : Bool} {s : Switch} → chan_at s slot ≡ Some c → c.state ≡ CsReporting → P b s → P b (destroyed slot s)
-  destroyed_kept slot c is reporting h = kept.told (happens ChannelDestroy) refl (kept.told (happens ChannelState) refl (kept.gone slot c is (live_by c CsReporting false reporting reporting_dead) h))
+  destroyed_kept : (slot : ℕ) (c : Chan) {b : Bool} {s : Switch} → chan_at s slot ≡ Some c → c.state ≡ CsReporting → P b s → P b (after_destroy slot s)
+  destroyed_kept slot c is reporting h = kept.told (plain_event ChannelDestroy) refl (kept.told (plain_event ChannelState) refl (kept.gone slot c is (live_by c CsReporting false reporting reporting_dead) h))
 
   pub all_hung_kept : (cause : Cause) (slots : List ℕ) {b : Bool} {s : Switch} → P b s → P b (all_hung cause slots s)
   all_hung_kept cause [] h = h
@@ -278,11 +278,11 @@ module _ (P : Fact) (kept : KeptByCalls P) where
   parking_kept (Some CsPark) slot at h = completed_kept slot h
   parking_kept (Some _) slot at h = moved_alive parked slot at (λ c live. record { links = refl; live = park_lives ∙ sym live; short = λ short. short }) h
 
-  transferred_kept : (to : Target3) (slot : ℕ) {b : Bool} {s : Switch} → IsShort to → LivesAt s.channels slot → P b s → P b (moved (transferred to) slot s)
+  transferred_kept : (to : Target3) (slot : ℕ) {b : Bool} {s : Switch} → IsShortTarget to → LivesAt s.channels slot → P b s → P b (after_move (transferred to) slot s)
   transferred_kept to slot short at h =
       moved_alive (transferred to) slot at (λ c live. record { links = refl; live = routing_lives ∙ sym live; short = sent_short to c.profile short }) h
 
-  effect_kept : (what : Application) (slot : ℕ) {b : Bool} {s : Switch} → apps.IsShort what → LivesAt s.channels slot → P b s → P b (effect what slot s)
+  effect_kept : (what : Application) (slot : ℕ) {b : Bool} {s : Switch} → apps.IsShortApplication what → LivesAt s.channels slot → P b s → P b (effect what slot s)
   effect_kept app.Answer slot short at h = completed_kept slot (answered_kept slot h)
   effect_kept (app.Set name value) slot short at h =
       completed_kept slot (moved_kept (with_variable name value) slot (λ c. record { links = refl; live = refl; short = λ h. h }) h)
@@ -302,7 +302,7 @@ module _ (P : Fact) (kept : KeptByCalls P) where
   executed_kept application argument slot {b} {s} at h =
       let action : Action = record { application = application; argument = argument } in
       either (nat_lt 65536 (length argument)) (kept.hung NormalTemporaryFailure slot h)
-      (effect_kept (application_of application argument) slot (application_short application argument) (moved_lives (running action) slot s (running_stays action) at) (run_on_kept action slot h))
+      (effect_kept (application_of application argument) slot (application_short application argument) (moved_lives (with_running action) slot s (running_stays action) at) (run_on_kept action slot h))
 
   ran_next_kept : (next : Option Action) (slot : ℕ) (c : Chan) {b : Bool} {s : Switch} → LivesAt s.channels slot → P b s → P b (ran_next next slot c s)
   ran_next_kept None slot c at h = kept.hung NormalClearing slot h
@@ -316,7 +316,7 @@ module _ (P : Fact) (kept : KeptByCalls P) where
     where
       by : (found : Option Chan) → P b (ran_from slot found s)
       by None = h
-      by (Some c) = ran_next_kept (chan.next_of c) slot c at h
+      by (Some c) = ran_next_kept (chan.next_action c) slot c at h
 
   -- ---- work
 
@@ -343,7 +343,7 @@ module _ (P : Fact) (kept : KeptByCalls P) where
   working_kept : (state : State) (slot : ℕ) (c : Chan) {b : Bool} {s : Switch} → chan_at s slot ≡ Some c → c.state ≡ state → P b s → P b (worked_in state slot c s)
   working_kept CsNew slot c {b} {s} there is h = begun_kept slot (lives_at s.channels slot c CsNew there is new_lives) h
   working_kept CsInit slot c {b} {s} there is h =
-      moved_alive (entered (first_state c.direction)) slot (lives_at s.channels slot c CsInit there is init_lives)
+      moved_alive (in_state (first_state c.direction)) slot (lives_at s.channels slot c CsInit there is init_lives)
       (λ d live. record { links = refl; live = first_lives c.direction ∙ sym live; short = λ short. short }) h
   working_kept CsRouting slot c {b} {s} there is h = routing_kept slot (chan_at s slot) (lives_at s.channels slot c CsRouting there is routing_lives) h
   working_kept CsExecute slot c {b} {s} there is h = waiting_kept c.wait slot (lives_at s.channels slot c CsExecute there is execute_lives) h
@@ -378,7 +378,7 @@ module _ (P : Fact) (births : KeptByBirths P) where
       first None is = births.spent h
       first (Some a) is = second a is (free_slot (a + 1) s) refl
 
-  made_kept : (endpoint : Endpoint) (caller : Caller) (orig : ℕ) {s : Switch} → endpoints.IsShort endpoint → P true s → P false (made_of endpoint caller orig s).state
+  made_kept : (endpoint : Endpoint) (caller : Caller) (orig : ℕ) {s : Switch} → endpoints.IsShortEndpoint endpoint → P true s → P false (made_of endpoint caller orig s).state
   made_kept (Dead cause) caller orig short h = births.spent h
   made_kept (Loopback exten context) caller orig {s} short h =
       either_made (is_congested s) _ _ (births.spent h) (pair_kept (record { exten = exten; context = context; caller = caller }) orig short h)

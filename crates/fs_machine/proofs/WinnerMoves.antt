@@ -10,13 +10,13 @@ use Rattle.fs_state.specs.declared.conn.Parting.TheVariants as parting
 use Rattle.fs_state.specs.declared.job.Job.{Job}
 use Rattle.fs_state.specs.declared.job.JobWork.{JobWork}
 use Rattle.fs_state.specs.declared.job.JobWork.TheVariants.{Sleep, Originate}
-use Rattle.fs_state.specs.Switch.{Switch, next_orig, next_job, with_new_job, without_job, without_orig}
+use Rattle.fs_state.specs.Switch.{Switch, next_orig_number, next_job_number, with_new_job, without_job, without_orig}
 use Rattle.fs_machine.specs.declared.originations.Caller.{Caller}
 use Rattle.fs_machine.specs.Texts.{made_text, failed_text}
 use Rattle.fs_machine.specs.Connections.{conn_changed, admitted, parted, owed_since, not_owed}
 use Rattle.fs_machine.specs.Originations.{leg_made, won}
 use Rattle.fs_machine.specs.Attempts.{orig_begun, originate_begun}
-use Rattle.fs_machine.specs.Owing.{owing, ended}
+use Rattle.fs_machine.specs.Owing.{after_job_begin, after_job_end}
 use Rattle.fs_machine.proofs.RowLemmas.{each_put_at}
 use Rattle.fs_machine.proofs.TableLemmas.{row_found}
 use Rattle.fs_machine.proofs.Kept.{Fact, DoesJob, IsShortWinner, KeptByMoves}
@@ -51,15 +51,16 @@ conn_jobs change conn s = conn_unread (λ (t : Switch). t.jobs) (λ conns t. ref
 same_winners : (s t : Switch) → t.jobs ≡ s.jobs → WinnersAreShort s.jobs → WinnersAreShort t.jobs
 same_winners s t same h = subst WinnersAreShort (sym same) h
 
-owing_winners : (conn : ℕ) (what : JobWork) (s : Switch) → IsShortWork what → WinnersAreShort s.jobs → WinnersAreShort (owing conn what s).jobs
+owing_winners : (conn : ℕ) (what : JobWork) (s : Switch) → IsShortWork what → WinnersAreShort s.jobs → WinnersAreShort (after_job_begin conn what s).jobs
 owing_winners conn what s short h =
     let begun : Switch = with_new_job (record { conn = conn; work = what }) s in
-    same_winners begun (owing conn what s) (conn_jobs (owed_since s.entries) conn begun)
-    (each_put_at ShortIn s.jobs (Some (record { number = next_job s; held = record { conn = conn; work = what } })) (least_free s.jobs 0) h short)
+    same_winners begun (after_job_begin conn what s) (conn_jobs (owed_since s.entries) conn begun)
+    (each_put_at ShortIn s.jobs (Some (record { number = next_job_number s; held = record { conn = conn; work = what } })) (least_free s.jobs 0) h short)
 
-ended_winners : (number conn : ℕ) (answer : Text) (s : Switch) → WinnersAreShort s.jobs → WinnersAreShort (ended number conn answer s).jobs
+ended_winners : (number conn : ℕ) (answer : Text) (s : Switch) → WinnersAreShort s.jobs →
+    WinnersAreShort (after_job_end number conn answer s).jobs
 ended_winners number conn answer s h =
-    same_winners (without_job number s) (ended number conn answer s) (conn_jobs not_owed conn (without_job number s)) (each_put_at ShortIn s.jobs None (place_of s.jobs number) h tt)
+    same_winners (without_job number s) (after_job_end number conn answer s) (conn_jobs not_owed conn (without_job number s)) (each_put_at ShortIn s.jobs None (place_of s.jobs number) h tt)
 
 -- by what leaves the rest as it is
 rest_winners : (s t : Switch) → rest_of t ≡ rest_of s → WinnersAreShort s.jobs → WinnersAreShort t.jobs
@@ -68,9 +69,9 @@ rest_winners s t same h = same_winners s t (ap (λ (r : Rest). r.jobs) same) h
 originates_winners : (conn : ℕ) (endpoint : Text) (winner : Winner) (caller : Caller) (timeout : Option ℕ) (s : Switch) → IsShortWinner winner → WinnersAreShort s.jobs →
     WinnersAreShort (originate_begun conn endpoint winner caller timeout s).jobs
 originates_winners conn endpoint winner caller timeout s short h =
-    let made = leg_made endpoint caller (next_orig s) s in
-    owing_winners conn (Originate (next_orig s) winner) (orig_begun endpoint made.leg (unwrap_or timeout 60) made.state) short
-    (rest_winners s made.state (leg_made_rest endpoint caller (next_orig s) s) h)
+    let made = leg_made endpoint caller (next_orig_number s) s in
+    owing_winners conn (Originate (next_orig_number s) winner) (orig_begun endpoint made.leg (unwrap_or timeout 60) made.state) short
+    (rest_winners s made.state (leg_made_rest endpoint caller (next_orig_number s) s) h)
 
 pub winners_moves : (before : Switch) → KeptByMoves before Winners
 winners_moves before = record {

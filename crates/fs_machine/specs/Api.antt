@@ -15,7 +15,7 @@ use Rattle.fs_api.specs.declared.api.Winner.{Winner}
 use Rattle.fs_chan.specs.declared.chan.Chan.{Chan}
 use Rattle.fs_orig.specs.Endpoints.{is_one_leg}
 use Rattle.fs_state.specs.Switch.{Switch, chan_at, slot_named, is_full_of_jobs}
-use Rattle.fs_state.specs.Moves.{hung}
+use Rattle.fs_state.specs.Moves.{after_hangup}
 use Rattle.fs_machine.specs.Texts.{ok, yes, no, limit_passed, too_long_text, usage_text, api_not_found, no_channel, undefined, too_many_jobs, failed_text}
 use Rattle.fs_machine.specs.declared.originations.Caller.{Caller}
 use Rattle.fs_machine.specs.Attempts.{originate_begun}
@@ -62,7 +62,7 @@ told_whether holds = if holds then yes else no
 -- a live channel is hung up
 abbrev pub killed : Cause → Option ℕ → Switch → Done
 killed cause None s = says no_channel s
-killed cause (Some slot) s = says ok (hung cause slot s)
+killed cause (Some slot) s = says ok (after_hangup cause slot s)
 
 -- the value of a variable
 abbrev pub got_variable : Text → Option Chan → Text

@@ -10,12 +10,12 @@ use Rattle.fs_chan.specs.declared.action.Action.{Action}
 use Rattle.fs_chan.specs.declared.chan.Chan.{Chan}
 use Rattle.fs_chan.specs.Changes.{transferred, parked, asleep}
 use Rattle.fs_chan.specs.Exports.{with_set, exported}
-use Rattle.fs_chan.specs.Work.{next_of, after_next}
+use Rattle.fs_chan.specs.Work.{next_action, after_next}
 use Rattle.fs_app.specs.declared.application.Application.{Application}
 use Rattle.fs_app.specs.declared.application.Application.TheVariants as app
 use Rattle.fs_app.specs.Applications.{application_of}
 use Rattle.fs_state.specs.Switch.{Switch, chan_at}
-use Rattle.fs_state.specs.Moves.{moved, answered, hung, completed, run_on}
+use Rattle.fs_state.specs.Moves.{after_move, after_answer, after_hangup, after_completion, run_on}
 
 -- ---- changes of one channel
 
@@ -32,37 +32,37 @@ with_export name value c = record c { vars = exported c.vars name value }
 
 -- it sleeps, unless the time is none
 abbrev pub sleeping : ℕ → ℕ → Switch → Switch
-sleeping milliseconds slot s = if milliseconds == 0 then completed slot s else moved (asleep s.moment milliseconds) slot s
+sleeping milliseconds slot s = if milliseconds == 0 then after_completion slot s else after_move (asleep s.moment milliseconds) slot s
 
 -- the state of the channel in a slot
-abbrev pub state_of : Chan → State
-state_of c = c.state
+abbrev pub chan_state : Chan → State
+chan_state c = c.state
 
 abbrev pub state_at : ℕ → Switch → Option State
-state_at slot s = option_map state_of (chan_at s slot)
+state_at slot s = option_map chan_state (chan_at s slot)
 
 -- it parks, unless it is parked
 abbrev pub parking_in : Option State → ℕ → Switch → Switch
 parking_in None slot s = s
-parking_in (Some CsPark) slot s = completed slot s
-parking_in (Some _) slot s = moved parked slot s
+parking_in (Some CsPark) slot s = after_completion slot s
+parking_in (Some _) slot s = after_move parked slot s
 
 abbrev pub parking : ℕ → Switch → Switch
 parking slot s = parking_in (state_at slot s) slot s
 
 -- what an application does in a slot; those that end at once say so
 abbrev pub effect : Application → ℕ → Switch → Switch
-effect app.Answer slot s = completed slot (answered slot s)
-effect (app.Set name value) slot s = completed slot (moved (with_variable name value) slot s)
-effect (app.Unset name) slot s = completed slot (moved (without_variable name) slot s)
-effect (app.Export name value) slot s = completed slot (moved (with_export name value) slot s)
-effect (app.SetGlobal name value) slot s = completed slot (record s { globals = with_set s.globals name value })
-effect app.Eval slot s = completed slot s
+effect app.Answer slot s = after_completion slot (after_answer slot s)
+effect (app.Set name value) slot s = after_completion slot (after_move (with_variable name value) slot s)
+effect (app.Unset name) slot s = after_completion slot (after_move (without_variable name) slot s)
+effect (app.Export name value) slot s = after_completion slot (after_move (with_export name value) slot s)
+effect (app.SetGlobal name value) slot s = after_completion slot (record s { globals = with_set s.globals name value })
+effect app.Eval slot s = after_completion slot s
 effect (app.Sleep milliseconds) slot s = sleeping milliseconds slot s
-effect (app.Hangup cause) slot s = hung cause slot s
+effect (app.Hangup cause) slot s = after_hangup cause slot s
 effect app.Park slot s = parking slot s
-effect (app.Transfer to) slot s = moved (transferred to) slot s
-effect app.Unknown slot s = hung DestinationOutOfOrder slot s
+effect (app.Transfer to) slot s = after_move (transferred to) slot s
+effect app.Unknown slot s = after_hangup DestinationOutOfOrder slot s
 
 -- ---- running one
 
@@ -78,17 +78,17 @@ executed application argument slot s =
 -- an argument that is too long hangs the channel up, and nothing is run
 abbrev pub executed_within : Text → Text → ℕ → Switch → Switch
 executed_within application argument slot s =
-    if nat_lt 65536 (length argument) then hung NormalTemporaryFailure slot s else executed application argument slot s
+    if nat_lt 65536 (length argument) then after_hangup NormalTemporaryFailure slot s else executed application argument slot s
 
 -- what a channel is to run next is used up and run; one that has nothing to run is hung up
 abbrev pub ran_next : Option Action → ℕ → Chan → Switch → Switch
-ran_next None slot c s = hung NormalClearing slot s
+ran_next None slot c s = after_hangup NormalClearing slot s
 ran_next (Some action) slot c s =
-    executed_within action.application (argument_in (after_next c) s action.argument) slot (moved after_next slot s)
+    executed_within action.application (argument_in (after_next c) s action.argument) slot (after_move after_next slot s)
 
 abbrev pub ran_from : ℕ → Option Chan → Switch → Switch
 ran_from slot None s = s
-ran_from slot (Some c) s = ran_next (next_of c) slot c s
+ran_from slot (Some c) s = ran_next (next_action c) slot c s
 
 unfoldable pub ran : ℕ → Switch → Switch
 ran slot s = ran_from slot (chan_at s slot) s

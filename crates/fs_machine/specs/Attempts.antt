@@ -12,17 +12,17 @@ use Rattle.fs_orig.specs.declared.orig.Owner.TheVariants as owner
 use Rattle.fs_orig.specs.declared.verdict.Verdict.{Verdict}
 use Rattle.fs_orig.specs.declared.verdict.Verdict.TheVariants as verdict
 use Rattle.fs_orig.specs.Legs.{lives}
-use Rattle.fs_orig.specs.Changes.{begun}
+use Rattle.fs_orig.specs.Changes.{new_orig}
 use Rattle.fs_orig.specs.Verdicts.{verdict_of}
 use Rattle.fs_state.specs.declared.job.Job.{Job}
 use Rattle.fs_state.specs.declared.job.JobWork.TheVariants.{Originate}
-use Rattle.fs_state.specs.Switch.{Switch, next_orig, next_job, with_new_orig, without_orig}
-use Rattle.fs_state.specs.Moves.{hung}
+use Rattle.fs_state.specs.Switch.{Switch, next_orig_number, next_job_number, with_new_orig, without_orig}
+use Rattle.fs_state.specs.Moves.{after_hangup}
 use Rattle.fs_machine.specs.Texts.{failed_text, made_text}
 use Rattle.fs_machine.specs.declared.attempts.Attempt.{Attempt}
 use Rattle.fs_machine.specs.declared.originations.Caller.{Caller}
 use Rattle.fs_machine.specs.Originations.{Made, leg_made, won}
-use Rattle.fs_machine.specs.Owing.{owing, ended}
+use Rattle.fs_machine.specs.Owing.{after_job_begin, after_job_end}
 
 -- a second has a million microseconds
 abbrev pub seconds : ℕ → ℕ
@@ -31,16 +31,17 @@ seconds n = n * 1000000
 -- the origination of the next number: one leg is tried, until a deadline
 abbrev pub orig_begun : Text → OrigLeg → ℕ → Switch → Switch
 orig_begun endpoint leg timeout s =
-    with_new_orig (begun (owner.Job (next_job s)) ((record { endpoint = endpoint; pairs = [] } ∷ []) ∷ []) (leg ∷ []) (moment_after s.moment (seconds timeout))) s
+    with_new_orig (new_orig (owner.Job (next_job_number s)) ((record { endpoint = endpoint; pairs = [] } ∷ []) ∷ []) (leg ∷ []) (moment_after s.moment (seconds timeout))) s
 
 -- a leg was made for the origination of a number: it is tried by a job
 abbrev pub tried_by_job : ℕ → Text → Winner → ℕ → ℕ → Made → Switch
-tried_by_job conn endpoint winner timeout orig made = owing conn (Originate orig winner) (orig_begun endpoint made.leg timeout made.state)
+tried_by_job conn endpoint winner timeout orig made =
+    after_job_begin conn (Originate orig winner) (orig_begun endpoint made.leg timeout made.state)
 
 -- an origination of one leg begins; without a timeout it has a minute
 abbrev pub originate_begun : ℕ → Text → Winner → Caller → Option ℕ → Switch → Switch
 originate_begun conn endpoint winner caller timeout s =
-    tried_by_job conn endpoint winner (unwrap_or timeout 60) (next_orig s) (leg_made endpoint caller (next_orig s) s)
+    tried_by_job conn endpoint winner (unwrap_or timeout 60) (next_orig_number s) (leg_made endpoint caller (next_orig_number s) s)
 
 -- the slots of the legs that live
 abbrev pub living_slot : OrigLeg → Option ℕ
@@ -52,24 +53,24 @@ living_slots legs = filter_map living_slot legs
 -- the channels in these slots are hung up, one after another
 abbrev pub all_hung : Cause → List ℕ → Switch → Switch
 all_hung cause [] s = s
-all_hung cause (slot ∷ slots) s = all_hung cause slots (hung cause slot s)
+all_hung cause (slot ∷ slots) s = all_hung cause slots (after_hangup cause slot s)
 
 -- it has failed
 abbrev pub failed : Attempt → Cause → Switch → Switch
-failed a cause s = ended a.job a.conn (failed_text cause) (without_orig a.orig s)
+failed a cause s = after_job_end a.job a.conn (failed_text cause) (without_orig a.orig s)
 
 -- the leg has won that stands at a position
 abbrev pub won_at : Attempt → Winner → Option OrigLeg → Switch → Switch
 won_at a winner None s = s
-won_at a winner (Some leg) s = ended a.job a.conn (made_text leg.uuid) (without_orig a.orig (won winner (unwrap_or leg.slot 0) s))
+won_at a winner (Some leg) s = after_job_end a.job a.conn (made_text leg.uuid) (without_orig a.orig (won winner (unwrap_or leg.slot 0) s))
 
 -- what comes of an origination by the verdict on it; it tries one leg, so no leg has a deadline of its own and no group follows
-abbrev pub judged : Verdict → Attempt → Winner → Orig → Switch → Switch
-judged (verdict.Won position) a winner o s = won_at a winner (slice_get o.legs position) s
-judged (verdict.Failed cause) a winner o s = failed a cause s
-judged verdict.Expired a winner o s = failed a NoAnswer (all_hung NoAnswer (living_slots o.legs) s)
-judged _ a winner o s = s
+abbrev pub after_verdict : Verdict → Attempt → Winner → Orig → Switch → Switch
+after_verdict (verdict.Won position) a winner o s = won_at a winner (slice_get o.legs position) s
+after_verdict (verdict.Failed cause) a winner o s = failed a cause s
+after_verdict verdict.Expired a winner o s = failed a NoAnswer (all_hung NoAnswer (living_slots o.legs) s)
+after_verdict _ a winner o s = s
 
-abbrev pub judged_from : Attempt → Winner → Option Orig → Switch → Switch
-judged_from a winner None s = s
-judged_from a winner (Some o) s = judged (verdict_of s.moment o) a winner o s
+abbrev pub after_verdict_from : Attempt → Winner → Option Orig → Switch → Switch
+after_verdict_from a winner None s = s
+after_verdict_from a winner (Some o) s = after_verdict (verdict_of s.moment o) a winner o s

@@ -7,7 +7,7 @@ use Rattle.fs_state.specs.declared.conn.Phase.{Phase}
 use Rattle.fs_state.specs.declared.conn.Phase.TheVariants.{Fresh, Ready, Ending, Closed}
 use Rattle.fs_state.specs.declared.conn.Parting.{Parting}
 use Rattle.fs_state.specs.declared.conn.Parting.TheVariants as parting
-use Rattle.fs_state.specs.Switch.{Switch, gave}
+use Rattle.fs_state.specs.Switch.{Switch, with_gift}
 use Rattle.fs_machine.specs.Texts.{command_reply, api_response, notice, accepted, invalid, bye, not_found, spoken}
 use Rattle.fs_machine.specs.Words.{word_of, behind_word}
 use Rattle.fs_machine.specs.Connections.{phase_at, conn_changed, admitted, parted}
@@ -31,11 +31,11 @@ command_of line =
 
 -- a reply
 abbrev pub replied : ℕ → Text → Switch → Switch
-replied conn text s = gave conn (command_reply text) s
+replied conn text s = with_gift conn (command_reply text) s
 
 -- a last reply, and the notice
 abbrev pub dismissed : ℕ → Parting → Text → Switch → Switch
-dismissed conn why text s = gave conn notice (replied conn text (conn_changed (parted why) conn s))
+dismissed conn why text s = with_gift conn notice (replied conn text (conn_changed (parted why) conn s))
 
 -- a password was offered
 abbrev pub offered : ℕ → Text → Switch → Switch
@@ -47,24 +47,24 @@ offered conn given s =
 -- an answer, unless it is owed
 abbrev pub responded_with : ℕ → Option Text → Switch → Switch
 responded_with conn None s = s
-responded_with conn (Some answer) s = gave conn (api_response (spoken answer)) s
+responded_with conn (Some answer) s = with_gift conn (api_response (spoken answer)) s
 
 -- an api command was done
 abbrev pub responded : ℕ → Done → Switch
 responded conn d = responded_with conn d.answer d.state
 
 -- what a command does in a phase of its connection; before a password was accepted `auth` and `exit` alone are known
-abbrev pub commanded_in : Phase → ℕ → Command → Switch → Switch
-commanded_in Fresh conn (Auth given) s = offered conn given s
-commanded_in Fresh conn Exit s = dismissed conn parting.Exit bye s
-commanded_in Fresh conn (Api text) s = replied conn not_found s
-commanded_in Fresh conn Unknown s = replied conn not_found s
-commanded_in Ready conn (Auth given) s = replied conn not_found s
-commanded_in Ready conn Exit s = dismissed conn parting.Exit bye s
-commanded_in Ready conn (Api text) s = responded conn (done_by conn (api_of text) s)
-commanded_in Ready conn Unknown s = replied conn not_found s
-commanded_in Ending conn command s = s
-commanded_in Closed conn command s = s
+abbrev pub command_done_in : Phase → ℕ → Command → Switch → Switch
+command_done_in Fresh conn (Auth given) s = offered conn given s
+command_done_in Fresh conn Exit s = dismissed conn parting.Exit bye s
+command_done_in Fresh conn (Api text) s = replied conn not_found s
+command_done_in Fresh conn Unknown s = replied conn not_found s
+command_done_in Ready conn (Auth given) s = replied conn not_found s
+command_done_in Ready conn Exit s = dismissed conn parting.Exit bye s
+command_done_in Ready conn (Api text) s = responded conn (done_by conn (api_of text) s)
+command_done_in Ready conn Unknown s = replied conn not_found s
+command_done_in Ending conn command s = s
+command_done_in Closed conn command s = s
 
-unfoldable pub commanded : ℕ → Command → Switch → Switch
-commanded conn command s = commanded_in (phase_at s conn) conn command s
+unfoldable pub command_done : ℕ → Command → Switch → Switch
+command_done conn command s = command_done_in (phase_at s conn) conn command s

@@ -12,7 +12,7 @@ use Rattle.fs_places.specs.Places.{first_place}
 use Rattle.fs_state.specs.declared.job.Job.{Job}
 use Rattle.fs_state.specs.declared.job.JobWork.{JobWork}
 use Rattle.fs_state.specs.declared.job.JobWork.TheVariants.{Sleep, Originate}
-use Rattle.fs_state.specs.Switch.{Switch, chan_at, orig_of, job_of, advanced}
+use Rattle.fs_state.specs.Switch.{Switch, chan_at, orig_of, job_of, at_moment}
 use Rattle.fs_machine.specs.declared.due.DueActor.{DueActor}
 use Rattle.fs_machine.specs.declared.due.DueActor.TheVariants as actor
 
@@ -28,7 +28,7 @@ slot_due slot s = chan_due s (chan_at s slot)
 -- an origination, by the verdict on it
 abbrev pub orig_due : ℕ → Option Orig → Option Due
 orig_due now None = None
-orig_due now (Some o) = Some (due_at now (verdicts.due_of now o))
+orig_due now (Some o) = Some (due_at now (verdicts.due_moment_of now o))
 
 abbrev pub work_due : Switch → JobWork → Option Due
 work_due s (Sleep until) = Some (due_at s.moment until)
@@ -123,12 +123,12 @@ due_as slot (Some (At moment)) = actor.Later moment
 
 -- the least slot, or else the least job, that has something to do at a moment, or the next moment at which one has
 unfoldable pub next_due : ℕ → Switch → DueActor
-next_due now s = due_among_all (advanced now s)
+next_due now s = due_among_all (at_moment now s)
 
 -- the same of jobs alone
 unfoldable pub next_job : ℕ → Switch → DueActor
-next_job now s = due_among_jobs (advanced now s)
+next_job now s = due_among_jobs (at_moment now s)
 
 -- the same of one slot alone
 unfoldable pub next_slot : ℕ → ℕ → Switch → DueActor
-next_slot slot now s = due_as slot (slot_due slot (advanced now s))
+next_slot slot now s = due_as slot (slot_due slot (at_moment now s))

@@ -1,9 +1,9 @@
 -- What happened in a run.
 use Rattle.std.specs.Prelude.{ℕ, ◌+◌, List, [], ◌∷◌, ◌++◌, map}
 use Rattle.fs_state.specs.declared.event.Event.{Event}
-use Rattle.fs_state.specs.Switch.{Switch, empty, advanced}
+use Rattle.fs_state.specs.Switch.{Switch, empty, at_moment}
 use Rattle.fs_machine.specs.declared.entry.Entry.{Entry}
-use Rattle.fs_machine.specs.Step.{acted, step}
+use Rattle.fs_machine.specs.Step.{act_done, step}
 use Rattle.fs_machine.specs.Runs.{View}
 
 -- an event, and the place in the journal of the entry in which it happened
@@ -17,7 +17,7 @@ at_place place events = map (λ event. record { place = place; event = event }) 
 
 -- what happens in an entry, in order
 unfoldable pub events_by : Switch → Entry → List Event
-events_by s entry = (acted entry.act (advanced entry.moment s)).state.news
+events_by s entry = (act_done entry.act (at_moment entry.moment s)).state.news
 
 -- what happens in entries, of which the first has this place
 abbrev pub happened_from : ℕ → Switch → List Entry → List Happened

@@ -3,12 +3,12 @@ use Rattle.std.specs.Prelude.{ℕ, ◌==◌, List, [], ◌∷◌, ◌++◌, take
 use Rattle.fs_vars.specs.Pairs.{Text}
 use Rattle.fs_state.specs.declared.gift.Gift.{Gift}
 use Rattle.fs_state.specs.Queues.{Frames}
-use Rattle.fs_state.specs.Switch.{Switch, waiting_for, advanced}
+use Rattle.fs_state.specs.Switch.{Switch, waiting_for, at_moment}
 use Rattle.fs_machine.specs.declared.entry.Entry.{Entry}
 use Rattle.fs_machine.specs.declared.entry.Act.{Act}
 use Rattle.fs_machine.specs.declared.entry.Act.TheVariants.{Command, Take}
 use Rattle.fs_machine.specs.Connections.{phase_at}
-use Rattle.fs_machine.specs.Step.{is_closed, acted, step}
+use Rattle.fs_machine.specs.Step.{is_closed, act_done, step}
 
 -- ---- what is given
 
@@ -22,7 +22,7 @@ abbrev pub given_in : ℕ → Switch → Frames
 given_in conn s = if is_closed (phase_at s conn) then [] else frames_among conn s.given
 
 unfoldable pub given_by : ℕ → Switch → Entry → Frames
-given_by conn s entry = given_in conn (acted entry.act (advanced entry.moment s)).state
+given_by conn s entry = given_in conn (act_done entry.act (at_moment entry.moment s)).state
 
 abbrev pub frames_from : ℕ → Switch → List Entry → Frames
 frames_from conn s [] = []

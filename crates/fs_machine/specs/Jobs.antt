@@ -6,21 +6,22 @@ use Rattle.fs_state.specs.declared.job.JobWork.{JobWork}
 use Rattle.fs_state.specs.declared.job.JobWork.TheVariants.{Sleep, Originate}
 use Rattle.fs_state.specs.Switch.{Switch, orig_of, job_of}
 use Rattle.fs_machine.specs.Texts.{ok}
-use Rattle.fs_machine.specs.Owing.{owing, ended}
-use Rattle.fs_machine.specs.Attempts.{judged_from}
+use Rattle.fs_machine.specs.Owing.{after_job_begin, after_job_end}
+use Rattle.fs_machine.specs.Attempts.{after_verdict_from}
 
 -- a connection is to wait so many milliseconds for its reply
 abbrev pub sleep_begun : ℕ → ℕ → Switch → Switch
-sleep_begun conn milliseconds s = owing conn (Sleep (moment_after s.moment (milliseconds * 1000))) s
+sleep_begun conn milliseconds s = after_job_begin conn (Sleep (moment_after s.moment (milliseconds * 1000))) s
 
 -- what comes of the work of a job, where it has something to do
-abbrev pub worked_by : JobWork → ℕ → ℕ → Switch → Switch
-worked_by (Sleep until) number conn s = ended number conn ok s
-worked_by (Originate orig winner) number conn s = judged_from (record { job = number; conn = conn; orig = orig }) winner (orig_of s orig) s
+abbrev pub after_job_work : JobWork → ℕ → ℕ → Switch → Switch
+after_job_work (Sleep until) number conn s = after_job_end number conn ok s
+after_job_work (Originate orig winner) number conn s =
+    after_verdict_from (record { job = number; conn = conn; orig = orig }) winner (orig_of s orig) s
 
 abbrev pub job_done_from : ℕ → Option Job → Switch → Switch
 job_done_from number None s = s
-job_done_from number (Some job) s = worked_by job.work number job.conn s
+job_done_from number (Some job) s = after_job_work job.work number job.conn s
 
 -- what a job does, where it has something to do
 unfoldable pub job_done : ℕ → Switch → Switch

@@ -22,8 +22,8 @@ use Rattle.fs_orig.specs.declared.endpoint.Endpoint.{Endpoint}
 use Rattle.fs_orig.specs.declared.endpoint.Endpoint.TheVariants.{Loopback, Dead}
 use Rattle.fs_orig.specs.Changes.{ringing, unmade}
 use Rattle.fs_orig.specs.Endpoints.{endpoint_of}
-use Rattle.fs_state.specs.Switch.{Switch, with_chan, free_slot, identified, identifier_of}
-use Rattle.fs_state.specs.Moves.{moved}
+use Rattle.fs_state.specs.Switch.{Switch, with_chan, free_slot, with_next_identifier, identifier_of}
+use Rattle.fs_state.specs.Moves.{after_move}
 use Rattle.fs_machine.specs.declared.originations.Call.{Call}
 use Rattle.fs_machine.specs.declared.originations.Caller.{Caller}
 use Rattle.fs_machine.specs.declared.originations.End.{End}
@@ -73,7 +73,7 @@ abbrev pub end_made_as : Call → End → Switch → Switch
 end_made_as call end s = with_chan end.slot (Some (end_of call end (identifier_of s))) s
 
 abbrev pub end_made : Call → End → Switch → Switch
-end_made call end s = end_made_as call end (identified s)
+end_made call end s = end_made_as call end (with_next_identifier s)
 
 -- the outbound end is the leg of an origination, the inbound end is routed
 abbrev pub leg_end : ℕ → ℕ → ℕ → End
@@ -103,7 +103,8 @@ is_congested s = nat_lt (15 * s.config.settings.journal_limit) (16 * s.cost)
 -- in two slots, if they are free
 abbrev pub made_in : Call → ℕ → Option (ℕ × ℕ) → Switch → Made
 made_in call orig None s = made_dead SwitchCongestion s
-made_in call orig (Some (a, b)) s = record { state = pair_made call orig a b s; leg = ringing a (identifier_of (identified s)) None }
+made_in call orig (Some (a, b)) s =
+    record { state = pair_made call orig a b s; leg = ringing a (identifier_of (with_next_identifier s)) None }
 
 -- a slot with the least free one behind it
 abbrev pub with_second : Switch → ℕ → Option (ℕ × ℕ)
@@ -143,4 +144,4 @@ won_by (App application argument) c = given_action application argument c
 won_by (Route to) c = given_route to c
 
 unfoldable pub won : Winner → ℕ → Switch → Switch
-won winner slot s = moved (won_by winner) slot s
+won winner slot s = after_move (won_by winner) slot s

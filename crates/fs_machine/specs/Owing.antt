@@ -2,14 +2,14 @@
 use Rattle.std.specs.Prelude.{ℕ}
 use Rattle.fs_vars.specs.Pairs.{Text}
 use Rattle.fs_state.specs.declared.job.JobWork.{JobWork}
-use Rattle.fs_state.specs.Switch.{Switch, gave, with_new_job, without_job}
+use Rattle.fs_state.specs.Switch.{Switch, with_gift, with_new_job, without_job}
 use Rattle.fs_machine.specs.Texts.{api_response, spoken}
 use Rattle.fs_machine.specs.Connections.{conn_changed, owed_since, not_owed}
 
 -- a job begins, and the reply to the command in hand is owed until it ends
-abbrev pub owing : ℕ → JobWork → Switch → Switch
-owing conn work s = conn_changed (owed_since s.entries) conn (with_new_job (record { conn = conn; work = work }) s)
+abbrev pub after_job_begin : ℕ → JobWork → Switch → Switch
+after_job_begin conn work s = conn_changed (owed_since s.entries) conn (with_new_job (record { conn = conn; work = work }) s)
 
 -- a job ends, and the reply is given; to a connection that is not there it is dropped
-abbrev pub ended : ℕ → ℕ → Text → Switch → Switch
-ended number conn answer s = gave conn (api_response (spoken answer)) (conn_changed not_owed conn (without_job number s))
+abbrev pub after_job_end : ℕ → ℕ → Text → Switch → Switch
+after_job_end number conn answer s = with_gift conn (api_response (spoken answer)) (conn_changed not_owed conn (without_job number s))

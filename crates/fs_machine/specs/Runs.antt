@@ -7,7 +7,7 @@ use Rattle.fs_state.specs.declared.delta.Delta.{Delta}
 use Rattle.fs_machine.specs.declared.entry.Entry.{Entry}
 use Rattle.fs_machine.specs.declared.reply.Reply.{Reply}
 use Rattle.fs_machine.specs.Entries.{cost_of}
-use Rattle.fs_state.specs.Switch.{closed}
+use Rattle.fs_state.specs.Switch.{after_entry}
 use Rattle.fs_machine.specs.Step.{step, refusal_of}
 
 -- the state behind entries
@@ -43,5 +43,5 @@ pub record IsSame (old new : View) : Type 0 where
 -- an entry that is not refused comes to this change and this reply
 pub record IsPrepared (s : Switch) (entry : Entry) (delta : Delta) (reply : Reply) : Type 0 where
   pub defined : refusal_of s entry ≡ None
-  pub steps : step s entry ≡ record { state = closed (cost_of entry.act) (after s delta); reply = reply }
+  pub steps : step s entry ≡ record { state = after_entry (cost_of entry.act) (after s delta); reply = reply }
   pub fits : Fits s delta

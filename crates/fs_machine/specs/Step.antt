@@ -8,7 +8,7 @@ use Rattle.fs_state.specs.declared.conn.Phase.{Phase}
 use Rattle.fs_state.specs.declared.conn.Phase.TheVariants as phase
 use Rattle.fs_state.specs.declared.conn.Parting.TheVariants as parting
 use Rattle.fs_state.specs.Drawn as numbers
-use Rattle.fs_state.specs.Switch.{Switch, with_new_conn, without_conn, with_frame_taken, waiting_for, is_full_of_conns, gave, advanced, closed}
+use Rattle.fs_state.specs.Switch.{Switch, with_new_conn, without_conn, with_frame_taken, waiting_for, is_full_of_conns, with_gift, at_moment, after_entry}
 use Rattle.fs_machine.specs.declared.entry.Entry.{Entry}
 use Rattle.fs_machine.specs.declared.entry.Act.{Act}
 use Rattle.fs_machine.specs.declared.entry.Act.TheVariants.{Arrive, Command, Take, Close, Work, Job}
@@ -25,7 +25,7 @@ use Rattle.fs_machine.specs.Questions.{owed_to}
 use Rattle.fs_machine.specs.Due.{slot_due, job_due}
 use Rattle.fs_machine.specs.Work.{worked}
 use Rattle.fs_machine.specs.Jobs.{job_done}
-use Rattle.fs_machine.specs.Commands.{command_of, commanded}
+use Rattle.fs_machine.specs.Commands.{command_of, command_done}
 
 -- ---- refusals
 
@@ -92,7 +92,8 @@ refused_act (Job number) s = not_due (job_due number s)
 -- the first refusal of an entry
 unfoldable pub refusal_of : Switch → Entry → Option Refusal
 refusal_of s entry =
-    refused_where (is_full s) (refusal.JournalFull s.cost s.config.settings.journal_limit) (refused_act entry.act (advanced entry.moment s))
+    refused_where (is_full s) (refusal.JournalFull s.cost s.config.settings.journal_limit)
+    (refused_act entry.act (at_moment entry.moment s))
 
 -- ---- what the others do
 
@@ -101,12 +102,12 @@ pub record Acted : Type 0 where
   pub reply : Reply
 
 -- a connection that has come
-abbrev pub fresh : Conn
-fresh = record { phase = phase.Fresh; owed = None; parting = None; lost = 0 }
+abbrev pub new_conn : Conn
+new_conn = record { phase = phase.Fresh; owed = None; parting = None; lost = 0 }
 
 abbrev pub arrived : Switch → Acted
 arrived s = record {
-  state = gave (numbers.with_conn s.drawn).conns auth_request (with_new_conn fresh s);
+  state = with_gift (numbers.with_conn s.drawn).conns auth_request (with_new_conn new_conn s);
   reply = reply.Arrived (numbers.with_conn s.drawn).conns;
 }
 
@@ -121,14 +122,15 @@ closed_by EndOfInput conn s = conn_changed (parted parting.EndOfInput) conn s
 closed_by Sent conn s = without_conn conn s
 closed_by Failed conn s = without_conn conn s
 
-abbrev pub acted : Act → Switch → Acted
-acted Arrive s = arrived s
-acted (Command conn block) s = queued_in conn (commanded conn (command_of (line_of block)) s)
-acted (Take conn) s = taken conn s
-acted (Close conn how) s = record { state = closed_by how conn s; reply = reply.Closed }
-acted (Work slot) s = record { state = worked slot s; reply = reply.Worked }
-acted (Job number) s = record { state = job_done number s; reply = reply.Worked }
+abbrev pub act_done : Act → Switch → Acted
+act_done Arrive s = arrived s
+act_done (Command conn block) s = queued_in conn (command_done conn (command_of (line_of block)) s)
+act_done (Take conn) s = taken conn s
+act_done (Close conn how) s = record { state = closed_by how conn s; reply = reply.Closed }
+act_done (Work slot) s = record { state = worked slot s; reply = reply.Worked }
+act_done (Job number) s = record { state = job_done number s; reply = reply.Worked }
 
 -- the state behind an entry, and its reply; defined also for what is refused
 unfoldable pub step : Switch → Entry → Acted
-step s entry = let t = acted entry.act (advanced entry.moment s) in record { state = closed (cost_of entry.act) t.state; reply = t.reply }
+step s entry =
+    let t = act_done entry.act (at_moment entry.moment s) in record { state = after_entry (cost_of entry.act) t.state; reply = t.reply }

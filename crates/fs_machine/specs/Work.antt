@@ -12,12 +12,12 @@ use Rattle.fs_chan.specs.declared.peer.Direction.{Direction}
 use Rattle.fs_chan.specs.declared.peer.Direction.TheVariants.{Inbound, Outbound}
 use Rattle.fs_chan.specs.declared.wait.Wait.{Wait}
 use Rattle.fs_chan.specs.declared.wait.Wait.TheVariants.{Ready, Sleep, Parked, Socket}
-use Rattle.fs_chan.specs.Changes.{entered, may_route, routed}
+use Rattle.fs_chan.specs.Changes.{in_state, may_route, routed}
 use Rattle.fs_plan.specs.declared.hunt.Hunt.{Hunt}
 use Rattle.fs_plan.specs.Outcomes.{Outcome}
 use Rattle.fs_plan.specs.Hunting.{hunted}
 use Rattle.fs_state.specs.Switch.{Switch, chan_at}
-use Rattle.fs_state.specs.Moves.{moved, hung, begun, completed, reported, destroyed}
+use Rattle.fs_state.specs.Moves.{after_move, after_hangup, after_begin, after_completion, after_report, after_destroy}
 use Rattle.fs_machine.specs.Applications.{ran}
 
 -- ---- routing
@@ -28,7 +28,8 @@ with_variables vars c = record c { vars = vars }
 -- the actions that the dialplan gave are to be run; without any there is no route
 abbrev pub routed_to : Variables → List Action → ℕ → Switch → Switch
 routed_to vars actions slot s =
-    if length actions == 0 then hung NoRouteDestination slot (moved (with_variables vars) slot s) else moved (routed vars actions) slot s
+    if length actions == 0 then after_hangup NoRouteDestination slot (after_move (with_variables vars) slot s)
+    else after_move (routed vars actions) slot s
 
 -- the dialplan that the documents have
 abbrev pub has_xml : Chan → Bool
@@ -52,13 +53,13 @@ found_for c s = found_in (hunted s.config.contexts c.profile.context c.profile c
 
 -- a channel is routed by it
 abbrev pub routed_by : Option Hunt → Chan → ℕ → Switch → Switch
-routed_by None c slot s = hung (too_long_cause c) slot s
+routed_by None c slot s = after_hangup (too_long_cause c) slot s
 routed_by (Some hunt) c slot s = routed_to hunt.vars (actions_for c hunt.actions) slot (record s { globals = hunt.globals })
 
 -- a channel is routed, unless it was routed too often
 abbrev pub routing_from : ℕ → Option Chan → Switch → Switch
 routing_from slot None s = s
-routing_from slot (Some c) s = if may_route c then routed_by (found_for c s) c slot s else hung ExchangeRoutingError slot s
+routing_from slot (Some c) s = if may_route c then routed_by (found_for c s) c slot s else after_hangup ExchangeRoutingError slot s
 
 abbrev pub routing : ℕ → Switch → Switch
 routing slot s = routing_from slot (chan_at s slot) s
@@ -73,19 +74,19 @@ first_state Outbound = CsConsumeMedia
 -- what a channel waits for is over, or it runs what is next
 abbrev pub worked_waiting : Wait → ℕ → Switch → Switch
 worked_waiting Ready slot s = ran slot s
-worked_waiting (Sleep until) slot s = completed slot s
+worked_waiting (Sleep until) slot s = after_completion slot s
 worked_waiting Parked slot s = ran slot s
 worked_waiting (Socket conn) slot s = ran slot s
 worked_waiting _ slot s = s
 
 abbrev pub worked_in : State → ℕ → Chan → Switch → Switch
-worked_in CsNew slot c s = begun slot s
-worked_in CsInit slot c s = moved (entered (first_state c.direction)) slot s
+worked_in CsNew slot c s = after_begin slot s
+worked_in CsInit slot c s = after_move (in_state (first_state c.direction)) slot s
 worked_in CsRouting slot c s = routing slot s
 worked_in CsExecute slot c s = worked_waiting c.wait slot s
 worked_in CsPark slot c s = worked_waiting c.wait slot s
-worked_in CsHangup slot c s = reported slot s
-worked_in CsReporting slot c s = destroyed slot s
+worked_in CsHangup slot c s = after_report slot s
+worked_in CsReporting slot c s = after_destroy slot s
 worked_in _ slot c s = s
 
 abbrev pub worked_from : ℕ → Option Chan → Switch → Switch

@@ -21,7 +21,7 @@ pub(crate) fn do_act(draft: &mut Draft<'_>, plan: &Dialplan, act: &Act) -> Resul
     requires queue { draft.old.delta.queue ≡ Unchanged }
     requires plan { plan.now ≡ draft.old.base.config.contexts }
     ensures base { draft.new.base ≡ draft.old.base }
-    ensures ok { IfOk result (λ reply. spec.acted act.now (drafted draft.old) ≡ record { state = drafted draft.new; reply = reply }) }
+    ensures ok { IfOk result (λ reply. spec.act_done act.now (drafted draft.old) ≡ record { state = drafted draft.new; reply = reply }) }
 {
     match act {
         Act::Arrive => arrive(draft),

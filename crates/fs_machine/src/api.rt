@@ -1,6 +1,6 @@
 ghost use Rattle.std.specs.Prelude.{◌≡◌, ◌≤◌, ◌++◌, length, codes, Some, is_some, IfOk, IfErr, OnOk};
 ghost use Rattle.std.specs.Option.{option_copied};
-ghost use Rattle.fs_vars.specs.Outputs.{IsRefusal};
+ghost use Rattle.fs_vars.specs.Outputs.{IsTextRefusal};
 ghost use Rattle.fs_vars.specs.Expansion.{expanded};
 ghost use Rattle.fs_state.specs.Drafts.{drafted};
 ghost use Rattle.fs_state.specs.Switch.{slot_named};
@@ -50,7 +50,7 @@ fn run_expanded(draft: &mut Draft<'_>, conn: u32, text: &Txt) -> Result<Option<T
 fn expand_globally(alloc: Global, globals: &Vars, text: &[u8]) -> Result<Txt, Refused>
     ensures text { IfOk result (λ t. t ≡ expanded globals.now.pairs text.now) }
     ensures short { IfOk result (λ t. length t ≤ 65536) }
-    ensures refused { IfErr result (IsRefusal (expanded globals.now.pairs text.now)) }
+    ensures refused { IfErr result (IsTextRefusal (expanded globals.now.pairs text.now)) }
 {
     let profile = Profile::empty(alloc)?;
     let scope = Scope {

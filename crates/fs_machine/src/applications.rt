@@ -1,11 +1,11 @@
 ghost use Rattle.std.specs.Prelude.{◌≡◌, ◌≤◌, length, Some, None, MatchOption, IfOk, IfErr, OnOk};
-ghost use Rattle.fs_vars.specs.Outputs.{IsRefusal};
+ghost use Rattle.fs_vars.specs.Outputs.{IsTextRefusal};
 ghost use Rattle.fs_chan.specs.Exports.{with_set};
-ghost use Rattle.fs_chan.specs.Work.{next_of, after_next};
+ghost use Rattle.fs_chan.specs.Work.{next_action, after_next};
 ghost use Rattle.fs_state.specs.Drafts.{drafted};
 ghost use Rattle.fs_state.specs.Switch.{with_chan};
-ghost use Rattle.fs_state.specs.Moves.{moved, state_told};
-ghost use Rattle.fs_app.specs.Applications.{IsShort};
+ghost use Rattle.fs_state.specs.Moves.{after_move, with_state_events};
+ghost use Rattle.fs_app.specs.Applications.{IsShortApplication};
 ghost use Rattle.fs_machine.specs.Applications as spec;
 
 use fs_app::Application;
@@ -32,7 +32,7 @@ pub(crate) fn run_next(draft: &mut Draft<'_>, slot: u16) -> Result<(), Memory>
 
 // A channel with what it is to run next, which is used up, if there is anything.
 fn with_next(mut chan: Chan) -> Result<Option<(Chan, Action)>, Memory>
-    ensures { IfOk result (λ next. MatchOption next (next_of chan ≡ None) (λ taken. (next_of chan ≡ Some taken.1) × (taken.0 ≡ after_next chan))) }
+    ensures { IfOk result (λ next. MatchOption next (next_action chan ≡ None) (λ taken. (next_action chan ≡ Some taken.1) × (taken.0 ≡ after_next chan))) }
 {
     let Some(action) = chan.next_action() else {
         return Ok(None);
@@ -51,7 +51,7 @@ fn run_action(
     action: Action,
 ) -> Result<(), Memory>
     ensures base { draft.new.base ≡ draft.old.base }
-    ensures ok { OnOk result (drafted draft.new ≡ spec.executed_within action.application (spec.argument_in chan (drafted draft.old) action.argument) slot (state_told state chan.state (with_chan slot (Some chan) (drafted draft.old)))) }
+    ensures ok { OnOk result (drafted draft.new ≡ spec.executed_within action.application (spec.argument_in chan (drafted draft.old) action.argument) slot (with_state_events state chan.state (with_chan slot (Some chan) (drafted draft.old)))) }
 {
     let argument = argument_in(draft, &chan, &action.argument);
     draft.put_moved(slot, state, chan)?;
@@ -67,7 +67,7 @@ fn run_action(
 fn argument_in(draft: &Draft<'_>, chan: &Chan, text: &Txt) -> Result<Txt, Refused>
     ensures text { IfOk result (λ t. t ≡ spec.argument_in chan.now (drafted draft.now) text.now) }
     ensures short { IfOk result (λ t. length t ≤ 65536) }
-    ensures refused { IfErr result (IsRefusal (spec.argument_in chan.now (drafted draft.now) text.now)) }
+    ensures refused { IfErr result (IsTextRefusal (spec.argument_in chan.now (drafted draft.now) text.now)) }
 {
     let scope = Scope {
         vars: &chan.vars,
@@ -95,7 +95,7 @@ fn execute(draft: &mut Draft<'_>, slot: u16, application: Txt, argument: Txt) ->
 
 // What an application does in a slot.
 fn affect(draft: &mut Draft<'_>, slot: u16, asked: &Application) -> Result<(), Memory>
-    requires { IsShort asked.now }
+    requires { IsShortApplication asked.now }
     ensures base { draft.new.base ≡ draft.old.base }
     ensures ok { OnOk result (drafted draft.new ≡ spec.effect asked.now slot (drafted draft.old)) }
 {
@@ -118,7 +118,7 @@ fn affect(draft: &mut Draft<'_>, slot: u16, asked: &Application) -> Result<(), M
 // A variable is set, where no limit is passed.
 fn set(draft: &mut Draft<'_>, slot: u16, name: &Txt, value: &Txt) -> Result<(), Memory>
     ensures base { draft.new.base ≡ draft.old.base }
-    ensures ok { OnOk result (drafted draft.new ≡ moved (spec.with_variable name.now value.now) slot (drafted draft.old)) }
+    ensures ok { OnOk result (drafted draft.new ≡ after_move (spec.with_variable name.now value.now) slot (drafted draft.old)) }
 {
     let Some(mut chan) = draft.own_chan(slot)? else {
         return Ok(());
@@ -131,7 +131,7 @@ fn set(draft: &mut Draft<'_>, slot: u16, name: &Txt, value: &Txt) -> Result<(), 
 // A variable is taken out.
 fn unset(draft: &mut Draft<'_>, slot: u16, name: &Txt) -> Result<(), Memory>
     ensures base { draft.new.base ≡ draft.old.base }
-    ensures ok { OnOk result (drafted draft.new ≡ moved (spec.without_variable name.now) slot (drafted draft.old)) }
+    ensures ok { OnOk result (drafted draft.new ≡ after_move (spec.without_variable name.now) slot (drafted draft.old)) }
 {
     let Some(mut chan) = draft.own_chan(slot)? else {
         return Ok(());
@@ -144,7 +144,7 @@ fn unset(draft: &mut Draft<'_>, slot: u16, name: &Txt) -> Result<(), Memory>
 // A variable is set and exported, where no limit is passed.
 fn export(draft: &mut Draft<'_>, slot: u16, name: &Txt, value: &Txt) -> Result<(), Memory>
     ensures base { draft.new.base ≡ draft.old.base }
-    ensures ok { OnOk result (drafted draft.new ≡ moved (spec.with_export name.now value.now) slot (drafted draft.old)) }
+    ensures ok { OnOk result (drafted draft.new ≡ after_move (spec.with_export name.now value.now) slot (drafted draft.old)) }
 {
     let Some(mut chan) = draft.own_chan(slot)? else {
         return Ok(());

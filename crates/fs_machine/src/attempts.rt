@@ -78,7 +78,7 @@ pub(crate) fn judge_attempt(
     winner: &Winner,
 ) -> Result<(), Memory>
     ensures base { draft.new.base ≡ draft.old.base }
-    ensures ok { OnOk result (drafted draft.new ≡ spec.judged_from attempt winner.now (orig_of (drafted draft.old) attempt.orig) (drafted draft.old)) }
+    ensures ok { OnOk result (drafted draft.new ≡ spec.after_verdict_from attempt winner.now (orig_of (drafted draft.old) attempt.orig) (drafted draft.old)) }
 {
     let Some(orig) = draft.orig(attempt.orig) else {
         return Ok(());

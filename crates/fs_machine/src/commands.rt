@@ -43,14 +43,14 @@ pub(crate) fn command_of(line: &[u8]) -> Command<'_>
 }
 
 /// Does a command of a connection.
-#[tactic(auto, unfolding(crate::specs::Commands::commanded, crate::specs::Texts::bye, crate::specs::Texts::not_found))]
+#[tactic(auto, unfolding(crate::specs::Commands::command_done, crate::specs::Texts::bye, crate::specs::Texts::not_found))]
 pub(crate) fn do_command(
     draft: &mut Draft<'_>,
     conn: u32,
     command: Command<'_>,
 ) -> Result<(), Memory>
     ensures base { draft.new.base ≡ draft.old.base }
-    ensures ok { OnOk result (drafted draft.new ≡ spec.commanded conn (read_of command.entry) (drafted draft.old)) }
+    ensures ok { OnOk result (drafted draft.new ≡ spec.command_done conn (read_of command.entry) (drafted draft.old)) }
 {
     match (phase_at(draft, conn), command) {
         (Phase::Ending | Phase::Closed, _) => Ok(()),

@@ -36,7 +36,7 @@ pub(crate) fn do_job(draft: &mut Draft<'_>, number: u64) -> Result<(), Memory>
 #[tactic(auto, unfolding(crate::specs::Texts::ok))]
 fn do_work(draft: &mut Draft<'_>, number: u64, conn: u32, work: &JobWork) -> Result<(), Memory>
     ensures base { draft.new.base ≡ draft.old.base }
-    ensures ok { OnOk result (drafted draft.new ≡ spec.worked_by work.now number conn (drafted draft.old)) }
+    ensures ok { OnOk result (drafted draft.new ≡ spec.after_job_work work.now number conn (drafted draft.old)) }
 {
     match work {
         JobWork::Sleep { .. } => end_job(draft, number, conn, b"+OK\n"),

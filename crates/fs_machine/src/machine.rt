@@ -6,7 +6,7 @@ ghost use Rattle.fs_state.specs.Switch.{empty};
 ghost use Rattle.fs_machine.specs.declared.refusal.Refusal.{Refusal};
 ghost use Rattle.fs_machine.specs.declared.refusal.Refusal.TheVariants as refusal;
 ghost use Rattle.fs_machine.specs.Entries.{cost_of, is_full};
-ghost use Rattle.fs_machine.specs.Step.{acted, step, refusal_of};
+ghost use Rattle.fs_machine.specs.Step.{act_done, step, refusal_of};
 ghost use Rattle.fs_machine.specs.Runs as spec;
 ghost use Rattle.fs_machine.specs.Sound.{IsSound};
 
@@ -201,7 +201,7 @@ fn change_by(mut draft: Draft<'_>, plan: &Dialplan, asked: &Entry) -> Result<Cha
     requires queue { draft.delta.queue ≡ Unchanged }
     requires plan { plan.now ≡ draft.base.config.contexts }
     ensures entry { IfOk result (λ change. change.entry ≡ asked.entry.now) }
-    ensures acted { IfOk result (λ change. acted asked.entry.now.act (drafted draft.entry) ≡ record { state = after draft.entry.base change.delta; reply = change.reply }) }
+    ensures acted { IfOk result (λ change. act_done asked.entry.now.act (drafted draft.entry) ≡ record { state = after draft.entry.base change.delta; reply = change.reply }) }
     ensures fits { IfOk result (λ change. Fits draft.entry.base change.delta) }
 {
     let reply = do_act(&mut draft, plan, &asked.act)?;

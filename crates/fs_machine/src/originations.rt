@@ -1,7 +1,7 @@
 ghost use Rattle.std.specs.Prelude.{◌≡◌, ◌+◌, [], ◌∷◌, Some, IfOk, OnOk};
-ghost use Rattle.fs_chan.specs.Changes.{IsShort};
+ghost use Rattle.fs_chan.specs.Changes.{IsShortTarget};
 ghost use Rattle.fs_state.specs.Drafts.{drafted};
-ghost use Rattle.fs_state.specs.Switch.{identifier_of, identified, free_slot};
+ghost use Rattle.fs_state.specs.Switch.{identifier_of, with_next_identifier, free_slot};
 ghost use Rattle.fs_machine.specs.Originations as spec;
 
 use fs_api::{Route, Winner};
@@ -145,7 +145,7 @@ fn make_pair(
 // Makes the channel at one end, and gives its identifier.
 fn make_end(draft: &mut Draft<'_>, call: &Call, end: End) -> Result<Txt, Memory>
     ensures base { draft.new.base ≡ draft.old.base }
-    ensures uuid { IfOk result (λ uuid. uuid ≡ identifier_of (identified (drafted draft.old))) }
+    ensures uuid { IfOk result (λ uuid. uuid ≡ identifier_of (with_next_identifier (drafted draft.old))) }
     ensures made { OnOk result (drafted draft.new ≡ spec.end_made call.now end (drafted draft.old)) }
 {
     let uuid = draft.draw_identifier()?;
@@ -266,7 +266,7 @@ fn only(alloc: Global, application: Txt, argument: Txt) -> Result<ActionsLeft, M
 // Where a route leads.
 fn target_of(route: Route) -> Target3
     ensures is { result ≡ spec.target_of route }
-    ensures short { IsShort result }
+    ensures short { IsShortTarget result }
 {
     let (exten, dialplan, context) = route.into_texts();
     Target3 {

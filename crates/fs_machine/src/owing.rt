@@ -11,7 +11,7 @@ use fs_text::Memory;
 /// A job begins, and the reply to the command in hand is owed until it ends.
 pub(crate) fn begin_job(draft: &mut Draft<'_>, conn: u32, work: JobWork) -> Result<(), Memory>
     ensures base { draft.new.base ≡ draft.old.base }
-    ensures ok { OnOk result (drafted draft.new ≡ spec.owing conn work (drafted draft.old)) }
+    ensures ok { OnOk result (drafted draft.new ≡ spec.after_job_begin conn work (drafted draft.old)) }
 {
     let place = draft.place();
     let _number = draft.add_job(Job { conn, work })?;
@@ -26,7 +26,7 @@ pub(crate) fn end_job(
     answer: &[u8],
 ) -> Result<(), Memory>
     ensures base { draft.new.base ≡ draft.old.base }
-    ensures ok { OnOk result (drafted draft.new ≡ spec.ended number conn answer.now (drafted draft.old)) }
+    ensures ok { OnOk result (drafted draft.new ≡ spec.after_job_end number conn answer.now (drafted draft.old)) }
 {
     draft.drop_job(number)?;
     settle(draft, conn)?;

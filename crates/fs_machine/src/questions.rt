@@ -5,7 +5,7 @@ ghost use Rattle.fs_text.specs.Cause.{cause_number};
 ghost use Rattle.fs_text.specs.EventName.{event_number};
 ghost use Rattle.fs_state.specs.Counts.{counted_at, events_named, hangups_for};
 ghost use Rattle.fs_state.specs.Drafts.{drafted};
-ghost use Rattle.fs_state.specs.Switch.{chan_at, waiting_for, advanced};
+ghost use Rattle.fs_state.specs.Switch.{chan_at, waiting_for, at_moment};
 ghost use Rattle.fs_machine.specs.declared.due.DueActor.TheVariants as actor;
 ghost use Rattle.fs_machine.specs.Connections as connections;
 ghost use Rattle.fs_machine.specs.Due as due;
@@ -48,7 +48,7 @@ impl Machine {
 
     /// The state as it stands at a moment.
     fn seen_at(&self, now: u64) -> Draft<'_>
-        ensures { drafted result ≡ advanced now (state_of self.now) }
+        ensures { drafted result ≡ at_moment now (state_of self.now) }
     {
         let mut seen = Draft::new(&self.core);
         seen.advance(now);

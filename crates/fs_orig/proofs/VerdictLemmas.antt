@@ -12,7 +12,7 @@ use Rattle.fs_orig.specs.declared.verdict.Verdict.{Verdict}
 use Rattle.fs_orig.specs.declared.verdict.Verdict.TheVariants.{Wait, Won, LegExpired, NextGroup, Failed, Expired}
 use Rattle.fs_orig.specs.Legs.{is_at, answer_of, first_answer, winner, last_death, cause_at, last_cause, any_lives}
 use Rattle.fs_orig.specs.Verdicts.{limit_of, has_come, expired_leg, least_deadline, next_group, won_or, leg_expired_or, next_or_failed, unanswered, verdict_of}
-use Rattle.fs_orig.specs.Meaning.{is_timeout, waits, answer_at, IsWinner, limit_at, IsFirstToExpire, death_at, told_at, IsLastToDie, IsWithCauses}
+use Rattle.fs_orig.specs.Meaning.{is_timeout, is_wait, answer_at, IsWinner, limit_at, IsFirstToExpire, death_at, death_cause_at, IsLastToDie, IsWithCauses}
 use Rattle.fs_orig.specs.Changes.{may_enter_next}
 use Rattle.fs_orig.proofs.Positions.{passes, IsFirst, position_is_first, position_is_none, IsLast, last_is}
 use Rattle.fs_orig.proofs.Picks.{IsAtMost, IsAtLeast, IsPicked, min_picks, max_picks, fold_start, fold_each, fold_met, reduce_picks, reduce_there}
@@ -181,13 +181,13 @@ then_expires now later until o h past =
         omega (arith, before, same, past)
 
 -- what is to be done is to be done later too
-pub stays_decided : (now later : ℕ) (o : Orig) → waits (verdict_of now o) ≡ false → now ≤ later → waits (verdict_of later o) ≡ false
+pub stays_decided : (now later : ℕ) (o : Orig) → is_wait (verdict_of now o) ≡ false → now ≤ later → is_wait (verdict_of later o) ≡ false
 stays_decided now later o h more = by_verdict (verdict_of later o) refl
   where
-    by_verdict : (v : Verdict) → verdict_of later o ≡ v → waits v ≡ false
+    by_verdict : (v : Verdict) → verdict_of later o ≡ v → is_wait v ≡ false
     by_verdict (Wait until) is =
         let same : verdict_of now o ≡ Wait until = stays_waiting later now until o is (omega (arith, more, is_to_come later until o is)) in
-        let P : Verdict → Type 0 = λ v. waits v ≡ false in
+        let P : Verdict → Type 0 = λ v. is_wait v ≡ false in
         absurd (let bad : true ≡ false = subst P same h in cc)
     by_verdict _ is = refl
 
@@ -337,12 +337,12 @@ cause_told place cause (Some leg) h = by_test (is_at place leg.died) refl h
 
 last_of_all : (legs : List OrigLeg) (cause : Cause) (place : ℕ) → IsPicked IsAtLeast (λ leg. leg.died) legs place → IsWithCauses legs → IsLast (cause_at place) legs cause → IsLastToDie legs cause
 last_of_all legs cause place picked causes last =
-    let told : (death_at legs last.at ≡ Some place) × (told_at legs last.at ≡ Some cause) = cause_told place cause (slice_get legs last.at) last.here in
+    let told : (death_at legs last.at ≡ Some place) × (death_cause_at legs last.at ≡ Some cause) = cause_told place cause (slice_get legs last.at) last.here in
     record { position = last.at; place = place; died = told.0; last = λ other k is. in_order other k is; told = told.1 }
   where
     not_behind : (k : ℕ) → last.at < k → death_at legs k ≡ Some place → ⊥
     not_behind k lt is =
-        let some : (c : Cause) × (told_at legs k ≡ Some c) = some_of _ (causes.causes k (subst (λ (v : Option ℕ). IsSome v) (sym is) refl)) in
+        let some : (c : Cause) × (death_cause_at legs k ≡ Some c) = some_of _ (causes.causes k (subst (λ (v : Option ℕ). IsSome v) (sym is) refl)) in
         let none : None ≡ Some some.0 = sym (last.behind k lt) ∙ cause_given place (slice_get legs k) is ∙ some.1 in
         absurd (cc)
 
@@ -376,7 +376,7 @@ last_to_die legs cause none causes told = subst (λ (c : Cause). IsLastToDie leg
     picked : IsPicked IsAtLeast (λ leg. leg.died) legs place.0
     picked = reduce_picks max IsAtLeast max_picks (λ leg. leg.died) legs place.0 place.1
 
-    cause_there : (c : Cause) × (told_at legs picked.at ≡ Some c)
+    cause_there : (c : Cause) × (death_cause_at legs picked.at ≡ Some c)
     cause_there = some_of _ (causes.causes picked.at (subst (λ (v : Option ℕ). IsSome v) (sym picked.met) refl))
 
     found : (c : Cause) × ((last_or None (filter_map (cause_at place.0) legs) ≡ Some c) × IsLast (cause_at place.0) legs c)

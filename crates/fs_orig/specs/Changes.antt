@@ -37,12 +37,12 @@ abbrev pub rings : OrigLeg → Bool
 rings leg = lives leg && is_none leg.answered
 
 -- answered at a place, where it rang
-abbrev pub answered_at : ℕ → OrigLeg → OrigLeg
-answered_at place leg = if rings leg then record leg { answered = Some place } else leg
+abbrev pub with_leg_answer : ℕ → OrigLeg → OrigLeg
+with_leg_answer place leg = if rings leg then record leg { answered = Some place } else leg
 
 -- dead since a place, where it lived; what died keeps its place and its cause
-abbrev pub dead_at : ℕ → Cause → OrigLeg → OrigLeg
-dead_at place cause leg = if lives leg then record leg { died = Some place; cause = Some cause } else leg
+abbrev pub with_leg_death : ℕ → Cause → OrigLeg → OrigLeg
+with_leg_death place cause leg = if lives leg then record leg { died = Some place; cause = Some cause } else leg
 
 -- ---- one leg of several
 
@@ -56,25 +56,25 @@ abbrev pub with_leg : (OrigLeg → OrigLeg) → ℕ → Option OrigLeg → List 
 with_leg change position None legs = legs
 with_leg change position (Some leg) legs = slice_set legs position (change leg)
 
-abbrev pub changed : (OrigLeg → OrigLeg) → ℕ → List OrigLeg → List OrigLeg
-changed change position legs = with_leg change position (slice_get legs position) legs
+abbrev pub with_changed_leg : (OrigLeg → OrigLeg) → ℕ → List OrigLeg → List OrigLeg
+with_changed_leg change position legs = with_leg change position (slice_get legs position) legs
 
 -- ---- an origination
 
 -- at its first group, of which these are the legs
-abbrev pub begun : Owner → List (List LegPlan) → List OrigLeg → ℕ → Orig
-begun owner groups legs deadline = record { owner = owner; groups = groups; current = 0; legs = legs; deadline = deadline }
+abbrev pub new_orig : Owner → List (List LegPlan) → List OrigLeg → ℕ → Orig
+new_orig owner groups legs deadline = record { owner = owner; groups = groups; current = 0; legs = legs; deadline = deadline }
 
 abbrev pub with_answer : ℕ → ℕ → Orig → Orig
-with_answer position place o = record o { legs = changed (answered_at place) position o.legs }
+with_answer position place o = record o { legs = with_changed_leg (with_leg_answer place) position o.legs }
 
 abbrev pub with_death : ℕ → ℕ → Cause → Orig → Orig
-with_death position place cause o = record o { legs = changed (dead_at place cause) position o.legs }
+with_death position place cause o = record o { legs = with_changed_leg (with_leg_death place cause) position o.legs }
 
 -- all legs of its group died, and there is another group
 abbrev pub may_enter_next : Orig → Bool
 may_enter_next o = not (any_lives o.legs) && is_some (next_group o)
 
 -- at the next group, of which these are the legs, where it may go on
-abbrev pub entered_next : List OrigLeg → Orig → Orig
-entered_next legs o = if may_enter_next o then record o { current = o.current + 1; legs = legs } else o
+abbrev pub at_next_group : List OrigLeg → Orig → Orig
+at_next_group legs o = if may_enter_next o then record o { current = o.current + 1; legs = legs } else o

@@ -63,9 +63,9 @@ pub record IsShortAddress (exten context : Text) : Type 0 where
   pub exten_short : length exten ≤ 256
   pub context_short : length context ≤ 256
 
-abbrev pub IsShort : Endpoint → Type 0
-IsShort (Loopback exten context) = IsShortAddress exten context
-IsShort (Dead cause) = Unit {0}
+abbrev pub IsShortEndpoint : Endpoint → Type 0
+IsShortEndpoint (Loopback exten context) = IsShortAddress exten context
+IsShortEndpoint (Dead cause) = Unit {0}
 
 -- ---- dial strings
 

@@ -15,9 +15,9 @@ is_timeout (LegExpired position) = true
 is_timeout _ = false
 
 -- there is nothing to do yet
-abbrev pub waits : Verdict → Bool
-waits (Wait until) = true
-waits _ = false
+abbrev pub is_wait : Verdict → Bool
+is_wait (Wait until) = true
+is_wait _ = false
 
 -- the place at which the leg at a position answered, if it lives
 abbrev pub answer_at : List OrigLeg → ℕ → Option ℕ
@@ -45,8 +45,8 @@ abbrev pub death_at : List OrigLeg → ℕ → Option ℕ
 death_at legs position = option_and_then (λ leg. leg.died) (slice_get legs position)
 
 -- the cause of the leg at a position
-abbrev pub told_at : List OrigLeg → ℕ → Option Cause
-told_at legs position = option_and_then (λ leg. leg.cause) (slice_get legs position)
+abbrev pub death_cause_at : List OrigLeg → ℕ → Option Cause
+death_cause_at legs position = option_and_then (λ leg. leg.cause) (slice_get legs position)
 
 -- a leg that died after all others that did, or at the same place and stands behind these; and its cause
 pub record IsLastToDie (legs : List OrigLeg) (cause : Cause) : Type 0 where
@@ -54,9 +54,9 @@ pub record IsLastToDie (legs : List OrigLeg) (cause : Cause) : Type 0 where
   pub place : ℕ
   pub died : death_at legs position ≡ Some place
   pub last : (other k : ℕ) → death_at legs k ≡ Some other → (other < place) ⊎ ((other ≡ place) × (k ≤ position))
-  pub told : told_at legs position ≡ Some cause
+  pub told : death_cause_at legs position ≡ Some cause
 
 -- there is a leg, and each that died has a cause
 pub record IsWithCauses (legs : List OrigLeg) : Type 0 where
   pub leg : IsSome (slice_get legs 0)
-  pub causes : (k : ℕ) → IsSome (death_at legs k) → IsSome (told_at legs k)
+  pub causes : (k : ℕ) → IsSome (death_at legs k) → IsSome (death_cause_at legs k)

@@ -61,9 +61,9 @@ unfoldable pub verdict_of : ℕ → Orig → Verdict
 verdict_of now o = won_or (winner o.legs) (unanswered now o)
 
 -- the moment from which there is something to do, as seen at another
-abbrev pub due_by : ℕ → Verdict → ℕ
-due_by now (Wait until) = until
-due_by now _ = now
+abbrev pub due_moment_by : ℕ → Verdict → ℕ
+due_moment_by now (Wait until) = until
+due_moment_by now _ = now
 
-abbrev pub due_of : ℕ → Orig → ℕ
-due_of now o = due_by now (verdict_of now o)
+abbrev pub due_moment_of : ℕ → Orig → ℕ
+due_moment_of now o = due_moment_by now (verdict_of now o)

@@ -41,7 +41,7 @@ impl Orig {
     /// is a next one.
     pub fn enter_next_group(&mut self, legs: OrigLegs) -> bool
         ensures answer { result ≡ spec.may_enter_next self.old }
-        ensures group { self.new ≡ spec.entered_next legs self.old }
+        ensures group { self.new ≡ spec.at_next_group legs self.old }
     {
         let next = self.current as usize + 1;
         if self.legs.any_lives() || next >= self.groups.as_slice().len() {
@@ -56,9 +56,9 @@ impl Orig {
 /// Law: what changes of a leg keep.
 pub fn changes_law()
     // A leg that died stays as it is.
-    ensures dead { (place position k : ℕ) (legs : List OrigLeg) → is_some (death_at legs k) ≡ true → slice_get (spec.changed (spec.answered_at place) position legs) k ≡ slice_get legs k }
-    ensures dead_once { (place position k : ℕ) (cause : Cause) (legs : List OrigLeg) → is_some (death_at legs k) ≡ true → slice_get (spec.changed (spec.dead_at place cause) position legs) k ≡ slice_get legs k }
+    ensures dead { (place position k : ℕ) (legs : List OrigLeg) → is_some (death_at legs k) ≡ true → slice_get (spec.with_changed_leg (spec.with_leg_answer place) position legs) k ≡ slice_get legs k }
+    ensures dead_once { (place position k : ℕ) (cause : Cause) (legs : List OrigLeg) → is_some (death_at legs k) ≡ true → slice_get (spec.with_changed_leg (spec.with_leg_death place cause) position legs) k ≡ slice_get legs k }
 
     // The other legs stay as they are.
-    ensures others { (change : OrigLeg → OrigLeg) (position k : ℕ) (legs : List OrigLeg) → k ≢ position → slice_get (spec.changed change position legs) k ≡ slice_get legs k }
+    ensures others { (change : OrigLeg → OrigLeg) (position k : ℕ) (legs : List OrigLeg) → k ≢ position → slice_get (spec.with_changed_leg change position legs) k ≡ slice_get legs k }
 {}

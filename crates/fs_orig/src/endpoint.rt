@@ -26,7 +26,7 @@ impl Endpoint {
     #[tactic(auto, unfolding(crate::specs::Endpoints::endpoint_of))]
     pub fn of(alloc: Global, text: &[u8]) -> Result<Endpoint, Memory>
         ensures endpoint { IfOk result (λ endpoint. endpoint ≡ spec.endpoint_of text.now) }
-        ensures short { IfOk result spec.IsShort }
+        ensures short { IfOk result spec.IsShortEndpoint }
     {
         let (kind, parts) = cut_at_slash(text);
         if kind == b"error".as_slice() {
@@ -53,7 +53,7 @@ fn error_of(name: &[u8]) -> Endpoint
 // The endpoint `loopback` with the parts behind its kind.
 fn loopback_of(alloc: Global, parts: &[u8]) -> Result<Endpoint, Memory>
     ensures endpoint { IfOk result (λ endpoint. endpoint ≡ spec.loopback_of parts.now) }
-    ensures short { IfOk result spec.IsShort }
+    ensures short { IfOk result spec.IsShortEndpoint }
 {
     let (exten, behind) = cut_at_slash(parts);
     let (context, dialplan) = cut_at_slash(behind);
@@ -69,7 +69,7 @@ fn loopback_to(
     dialplan: &[u8],
 ) -> Result<Endpoint, Memory>
     ensures endpoint { IfOk result (λ endpoint. endpoint ≡ spec.loopback_to exten.now context.now dialplan.now) }
-    ensures short { IfOk result spec.IsShort }
+    ensures short { IfOk result spec.IsShortEndpoint }
 {
     if exten.is_empty() || !is_short(exten) || !is_short(context) || !is_short(dialplan) {
         return Ok(Endpoint::Dead {

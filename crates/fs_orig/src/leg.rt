@@ -52,7 +52,7 @@ impl Model for OrigLegs {
 
 impl OrigLeg {
     ghost use Rattle.fs_orig.specs.Legs.{lives};
-    ghost use Rattle.fs_orig.specs.Changes.{ringing, unmade, rings, answered_at, dead_at};
+    ghost use Rattle.fs_orig.specs.Changes.{ringing, unmade, rings, with_leg_answer, with_leg_death};
 
     /// A leg that rings, as the channel in a slot with an identifier, until it is given up at a moment, if there is one.
     pub fn ringing(slot: u16, uuid: Txt, deadline: Option<u64>) -> OrigLeg
@@ -113,7 +113,7 @@ impl OrigLeg {
     /// Is answered by the entry at a place, if it rings, and says whether it is now.
     fn answer(&mut self, place: u64) -> bool
         ensures answer { result ≡ rings self.old }
-        ensures answered { self.new ≡ answered_at place self.old }
+        ensures answered { self.new ≡ with_leg_answer place self.old }
     {
         if !self.rings() {
             return false;
@@ -125,7 +125,7 @@ impl OrigLeg {
     /// Dies in the entry at a place, if it lives, and says whether it does.
     fn die(&mut self, place: u64, cause: Cause) -> bool
         ensures answer { result ≡ lives self.old }
-        ensures dead { self.new ≡ dead_at place cause self.old }
+        ensures dead { self.new ≡ with_leg_death place cause self.old }
     {
         if !self.lives() {
             return false;
@@ -138,7 +138,7 @@ impl OrigLeg {
 
 impl OrigLegs {
     ghost use Rattle.fs_orig.specs.Legs.{lives};
-    ghost use Rattle.fs_orig.specs.Changes.{rings, is_so_at, answered_at, dead_at, changed};
+    ghost use Rattle.fs_orig.specs.Changes.{rings, is_so_at, with_leg_answer, with_leg_death, with_changed_leg};
 
     /// No legs.
     pub fn new(alloc: Global) -> OrigLegs
@@ -191,7 +191,7 @@ impl OrigLegs {
     /// The leg at a position is answered by the entry at a place. Says whether it is now: it rang before.
     pub(crate) fn answer(&mut self, position: u32, place: u64) -> bool
         ensures answer { result ≡ is_so_at rings (slice_get self.old position) }
-        ensures answered { self.new ≡ changed (answered_at place) position self.old }
+        ensures answered { self.new ≡ with_changed_leg (with_leg_answer place) position self.old }
     {
         match self.legs.get_mut(position as usize) {
             Some(leg) => leg.answer(place),
@@ -202,7 +202,7 @@ impl OrigLegs {
     /// The leg at a position dies in the entry at a place. Says whether it does: it lived before.
     pub(crate) fn die(&mut self, position: u32, place: u64, cause: Cause) -> bool
         ensures answer { result ≡ is_so_at lives (slice_get self.old position) }
-        ensures dead { self.new ≡ changed (dead_at place cause) position self.old }
+        ensures dead { self.new ≡ with_changed_leg (with_leg_death place cause) position self.old }
     {
         match self.legs.get_mut(position as usize) {
             Some(leg) => leg.die(place, cause),

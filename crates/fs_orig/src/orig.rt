@@ -43,11 +43,11 @@ impl Drop for Orig {
 }
 
 impl Orig {
-    ghost use Rattle.fs_orig.specs.Changes.{begun};
+    ghost use Rattle.fs_orig.specs.Changes.{new_orig};
 
     /// An origination that tries its first group, of which these legs were made.
     pub fn new(owner: Owner, groups: LegPlans, legs: OrigLegs, deadline: u64) -> Orig
-        ensures { result ≡ begun owner groups legs deadline }
+        ensures { result ≡ new_orig owner groups legs deadline }
     {
         Orig {
             owner,

@@ -60,7 +60,7 @@ impl Orig {
     /// The moment from which there is something to do, as seen at a moment: that one, or a later one until which there is nothing to do
     /// unless a leg is answered or dies.
     pub fn due(&self, now: u64) -> u64
-        ensures { result ≡ spec.due_of now self.now }
+        ensures { result ≡ spec.due_moment_of now self.now }
     {
         match judge(self, now) {
             Verdict::Wait { until } => until,
@@ -99,6 +99,6 @@ pub fn verdict_law()
     ensures has_come { (now later until : ℕ) (o : Orig) → spec.verdict_of now o ≡ verdict.Wait until → until ≤ later → meaning.is_timeout (spec.verdict_of later o) ≡ true }
 
     // What is to be done is to be done later too, and what is over stays so.
-    ensures decided { (now later : ℕ) (o : Orig) → meaning.waits (spec.verdict_of now o) ≡ false → now ≤ later → meaning.waits (spec.verdict_of later o) ≡ false }
+    ensures decided { (now later : ℕ) (o : Orig) → meaning.is_wait (spec.verdict_of now o) ≡ false → now ≤ later → meaning.is_wait (spec.verdict_of later o) ≡ false }
     ensures expired { (now later : ℕ) (o : Orig) → spec.verdict_of now o ≡ verdict.Expired → now ≤ later → spec.verdict_of later o ≡ verdict.Expired }
 {}

@@ -17,7 +17,7 @@ use Rattle.fs_plan.specs.declared.fault.Unbuilt.{Unbuilt}
 use Rattle.fs_plan.specs.declared.fault.Unbuilt.TheVariants as unbuilt
 use Rattle.fs_plan.specs.declared.fault.PlanFault.{PlanFault}
 use Rattle.fs_plan.specs.declared.fault.PlanFault.TheVariants as fault
-use Rattle.fs_plan.specs.Building.{First, HasReading, AreRead, HaveReadings, Numbered, IsNumbered, numbered, IsTextUnbuilt, IsUnbuilt, IsRefusalOf, IsRefusal, IsNoPattern, IsAnyPattern, expressions_of, patterns_of, patterns_within, patterns_from, patterns_in, number_of, extensions_in, fault_of, sizes_after, sizes_unbuilt}
+use Rattle.fs_plan.specs.Building.{First, HasReading, AreRead, HaveReadings, NumberedPattern, IsNumbered, numbered_patterns, IsTextUnbuilt, IsUnbuilt, IsRefusalOf, IsPlanRefusal, IsNoPattern, IsAnyPattern, expressions_of, patterns_of, patterns_within, patterns_from, patterns_in, number_of, extensions_in, fault_of, sizes_after, sizes_unbuilt}
 
 -- what was built of a text was built of its own source
 pub own_built : (text : Text) (regex : Regex) → IsBuiltOf text regex → IsBuiltOf (regex_source regex) regex
@@ -32,7 +32,7 @@ has_reading text regex is_text built = record { is_text = is_text; is_read = rw 
 pub no_memory : (texts : List Text) (why : Unbuilt) → why ≡ unbuilt.Memory → IsUnbuilt texts why
 no_memory texts why is = rw is tt
 
-pub no_memory_for : (patterns : List Numbered) (refused : PlanFault) → refused ≡ fault.Memory → IsRefusalOf patterns refused
+pub no_memory_for : (patterns : List NumberedPattern) (refused : PlanFault) → refused ≡ fault.Memory → IsRefusalOf patterns refused
 no_memory_for patterns refused is = rw is tt
 
 -- ---- the first of a list
@@ -48,18 +48,19 @@ first_behind P Q xs ys zs before h = record {
   found = h.found;
 }
 
-readings_numbered : (extension condition : ℕ) (texts : List Text) → AreRead texts → HaveReadings (numbered extension condition texts)
+readings_numbered : (extension condition : ℕ) (texts : List Text) → AreRead texts →
+    HaveReadings (numbered_patterns extension condition texts)
 readings_numbered extension condition texts read = record {
   each = All-map (λ p. HasReading p.text) (λ text. record { text = text; extension = extension; condition = condition }) texts read.each;
 }
 
 -- a text is found among texts, and so among the same under a number
 first_numbered : (P : Text → Type 0) (extension condition : ℕ) (texts : List Text) → First HasReading P texts →
-    First (λ p. HasReading p.text) (IsNumbered P extension condition) (numbered extension condition texts)
+    First (λ p. HasReading p.text) (IsNumbered P extension condition) (numbered_patterns extension condition texts)
 first_numbered P extension condition texts h = record {
-  front = numbered extension condition h.front;
+  front = numbered_patterns extension condition h.front;
   first = record { text = h.first; extension = extension; condition = condition };
-  back = numbered extension condition h.back;
+  back = numbered_patterns extension condition h.back;
   split = rw (h.split) (map-append _ h.front (h.first ∷ h.back));
   before = (readings_numbered extension condition h.front (record { each = h.before })).each;
   found = record { extension_is = refl; condition_is = refl; is = h.found };
@@ -98,13 +99,14 @@ parts_more f n xs i at x place within is =
 
 -- ---- parts of a dialplan
 
-readings_more : (front more whole : List Numbered) → whole ≡ front ++ more → HaveReadings front → HaveReadings more → HaveReadings whole
+readings_more : (front more whole : List NumberedPattern) → whole ≡ front ++ more → HaveReadings front → HaveReadings more →
+    HaveReadings whole
 readings_more front more whole is before here = record {
   each = All-same (λ p. HasReading p.text) whole (front ++ more) is (All-append (λ p. HasReading p.text) front more before.each here.each);
 }
 
 -- the first part that has a refusal has that of the whole
-refused_in : (front part back whole : List Numbered) (refused : PlanFault) → whole ≡ front ++ (part ++ back) → HaveReadings front →
+refused_in : (front part back whole : List NumberedPattern) (refused : PlanFault) → whole ≡ front ++ (part ++ back) → HaveReadings front →
     IsRefusalOf part refused → IsRefusalOf whole refused
 refused_in front part back whole (fault.PatternRefused e c) is before h =
     rw is (first_behind (λ p. HasReading p.text) (IsNumbered IsNoPattern e c) front part back before.each h)
@@ -163,7 +165,7 @@ none_read = record { each = All-nil HasReading }
 -- ---- conditions
 
 unbuilt_numbered : (extension condition : ℕ) (texts : List Text) (why : Unbuilt) → IsUnbuilt texts why →
-    IsRefusalOf (numbered extension condition texts) (fault_of why extension condition)
+    IsRefusalOf (numbered_patterns extension condition texts) (fault_of why extension condition)
 unbuilt_numbered extension condition texts unbuilt.NoReading h = first_numbered IsNoPattern extension condition texts h
 unbuilt_numbered extension condition texts unbuilt.TooLarge h = first_numbered IsAnyPattern extension condition texts h
 unbuilt_numbered extension condition texts unbuilt.Memory h = tt
@@ -254,7 +256,7 @@ contexts_more contexts i context n extensions within is so_many own here earlier
 
 -- a context whose extensions were not built
 pub context_refused : (contexts : List Context) (i : ℕ) (context : Context) (refused : PlanFault) → i < length contexts → context ≡ get_or contexts i context →
-    HaveReadings (patterns_in (take i contexts)) → IsRefusalOf (patterns_from (before contexts i) context.extensions) refused → IsRefusal contexts refused
+    HaveReadings (patterns_in (take i contexts)) → IsRefusalOf (patterns_from (before contexts i) context.extensions) refused → IsPlanRefusal contexts refused
 context_refused contexts i context refused within is earlier h =
     let front = extensions_in (take i contexts) in
     let back = extensions_in (drop (suc i) contexts) in

@@ -16,7 +16,7 @@ use Rattle.regex.proofs.ForCallers.{is_match_alike, found_alike, span_alike}
 use Rattle.fs_lead.specs.Leads.{IsLead, IsLeadOf}
 use Rattle.fs_lead.specs.declared.lead.Lead.{Lead}
 use Rattle.fs_vars.specs.Pairs.{Text}
-use Rattle.fs_ports.specs.Patterns.{Reading, reading, IsBuiltOf}
+use Rattle.fs_ports.specs.Patterns.{Reading, pattern_reading, IsBuiltOf}
 use Rattle.fs_plan.specs.Matching.{Groups, groups_of, group_text, span_of, has_groups, match_gives, tested}
 use Rattle.fs_plan.specs.declared.tested.Tested.{Tested}
 
@@ -33,7 +33,7 @@ no_groups (suc zero) h = refl
 no_groups (suc (suc n)) h = absurd (omega arith)
 
 -- what a text finds by what it is read as
-by_reading : (text value : Text) (t : Tested) (pattern : Reading) → reading text ≡ Some pattern → t ≡ match_gives pattern value (find pattern.re value 0) → t ≡ tested text value
+by_reading : (text value : Text) (t : Tested) (pattern : Reading) → pattern_reading text ≡ Some pattern → t ≡ match_gives pattern value (find pattern.re value 0) → t ≡ tested text value
 unfolding tested
 by_reading text value t pattern is e = rw is e
 

@@ -4,7 +4,7 @@ use Rattle.std.specs.List.{flat_map, enumerate_from}
 use Rattle.std.specs.Str.{IsUtf8}
 use Rattle.fs_vars.specs.Pairs.{Text}
 use Rattle.fs_ports.specs.Counts.{raised}
-use Rattle.fs_ports.specs.Patterns.{reading, IsUnreadable}
+use Rattle.fs_ports.specs.Patterns.{pattern_reading, IsUnreadable}
 use Rattle.fs_doc.specs.Dialplans.{Context, Extension, Condition}
 use Rattle.fs_doc.specs.declared.dialplan.Test.{Test}
 use Rattle.fs_doc.specs.declared.dialplan.Test.TheVariants.{Always, Plain, Many}
@@ -19,7 +19,7 @@ use Rattle.fs_plan.specs.declared.fault.PlanFault.TheVariants as fault
 -- the text is UTF-8, and is read as a pattern
 pub record HasReading (text : Text) : Type 0 where
   pub is_text : IsUtf8 text
-  pub is_read : IsSome (reading text)
+  pub is_read : IsSome (pattern_reading text)
 
 -- each of these texts is
 pub record AreRead (texts : List Text) : Type 0 where
@@ -27,7 +27,7 @@ pub record AreRead (texts : List Text) : Type 0 where
 
 -- the text is not UTF-8, no pattern, or one that is nested too deep
 abbrev pub IsNoPattern : Text → Type 0
-IsNoPattern text = (¬ (IsUtf8 text)) ⊎ IsUnreadable (reading text)
+IsNoPattern text = (¬ (IsUtf8 text)) ⊎ IsUnreadable (pattern_reading text)
 
 abbrev pub IsAnyPattern : Text → Type 0
 IsAnyPattern text = Unit {0}
@@ -48,25 +48,25 @@ abbrev pub number_of : ℕ → ℕ
 number_of place = min (place + 1) 4294967295
 
 -- a pattern, with the number of its extension and that of its condition
-pub record Numbered : Type 0 where
+pub record NumberedPattern : Type 0 where
   pub text : Text
   pub extension : ℕ
   pub condition : ℕ
 
 -- each of these patterns has a reading
-pub record HaveReadings (patterns : List Numbered) : Type 0 where
+pub record HaveReadings (patterns : List NumberedPattern) : Type 0 where
   pub each : All (λ pattern. HasReading pattern.text) patterns
 
 -- these patterns, under the same numbers
-abbrev pub numbered : ℕ → ℕ → List Text → List Numbered
-numbered extension condition texts = map (λ text. record { text = text; extension = extension; condition = condition }) texts
+abbrev pub numbered_patterns : ℕ → ℕ → List Text → List NumberedPattern
+numbered_patterns extension condition texts = map (λ text. record { text = text; extension = extension; condition = condition }) texts
 
 -- the patterns of the conditions of the extension of a number
-abbrev pub patterns_within : ℕ → List Condition → List Numbered
-patterns_within number conditions = flat_map (λ (place, condition). numbered number (number_of place) (patterns_of condition.test)) (enumerate_from 0 conditions)
+abbrev pub patterns_within : ℕ → List Condition → List NumberedPattern
+patterns_within number conditions = flat_map (λ (place, condition). numbered_patterns number (number_of place) (patterns_of condition.test)) (enumerate_from 0 conditions)
 
 -- the patterns of extensions, where so many stand before them
-abbrev pub patterns_from : ℕ → List Extension → List Numbered
+abbrev pub patterns_from : ℕ → List Extension → List NumberedPattern
 patterns_from before extensions = flat_map (λ (place, extension). patterns_within (number_of place) extension.conditions) (enumerate_from before extensions)
 
 -- the extensions of all contexts, in order
@@ -74,7 +74,7 @@ abbrev pub extensions_in : List Context → List Extension
 extensions_in contexts = flat_map (λ context. context.extensions) contexts
 
 -- the patterns of all contexts, in order
-abbrev pub patterns_in : List Context → List Numbered
+abbrev pub patterns_in : List Context → List NumberedPattern
 patterns_in contexts = patterns_from 0 (extensions_in contexts)
 
 -- ---- refusals
@@ -101,20 +101,20 @@ IsUnbuilt texts unbuilt.TooLarge = First HasReading IsAnyPattern texts
 IsUnbuilt texts unbuilt.Memory = Unit {0}
 
 -- a pattern under these numbers, of which P holds
-pub record IsNumbered (P : Text → Type 0) (extension condition : ℕ) (pattern : Numbered) : Type 0 where
+pub record IsNumbered (P : Text → Type 0) (extension condition : ℕ) (pattern : NumberedPattern) : Type 0 where
   pub extension_is : pattern.extension ≡ extension
   pub condition_is : pattern.condition ≡ condition
   pub is : P pattern.text
 
 -- why numbered patterns were not built: the first that was refused is named
-abbrev pub IsRefusalOf : List Numbered → PlanFault → Type 0
+abbrev pub IsRefusalOf : List NumberedPattern → PlanFault → Type 0
 IsRefusalOf patterns (fault.PatternRefused extension condition) = First (λ p. HasReading p.text) (IsNumbered IsNoPattern extension condition) patterns
 IsRefusalOf patterns (fault.PatternTooLarge extension condition) = First (λ p. HasReading p.text) (IsNumbered IsAnyPattern extension condition) patterns
 IsRefusalOf patterns fault.Memory = Unit {0}
 
 -- why a dialplan was not
-abbrev pub IsRefusal : List Context → PlanFault → Type 0
-IsRefusal contexts refused = IsRefusalOf (patterns_in contexts) refused
+abbrev pub IsPlanRefusal : List Context → PlanFault → Type 0
+IsPlanRefusal contexts refused = IsRefusalOf (patterns_in contexts) refused
 
 -- the fault for a condition of these numbers
 abbrev pub fault_of : Unbuilt → ℕ → ℕ → PlanFault

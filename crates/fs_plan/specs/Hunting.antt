@@ -32,11 +32,11 @@ abbrev pub known : Profile → Hunt → Pairs
 known profile s = s.vars.pairs ++ fields_of profile ++ s.globals.pairs
 
 -- a text of at most 65,536 bytes; of a longer one the length
-abbrev pub within_limit : Text → Outcome Text
-within_limit text = if nat_le (length text) 65536 then Ok text else Err (len_of text)
+abbrev pub within_text_limit : Text → Outcome Text
+within_text_limit text = if nat_le (length text) 65536 then Ok text else Err (len_of text)
 
 unfoldable pub expanded_in : Profile → Text → Hunt → Outcome Text
-expanded_in profile text s = within_limit (expanded (known profile s) text)
+expanded_in profile text s = within_text_limit (expanded (known profile s) text)
 
 -- the value of a field: what a field with `${` is expanded to, or else the profile's field of that name, if it has one
 unfoldable pub field_value : Profile → Text → Hunt → Outcome Text
@@ -46,12 +46,12 @@ field_value profile field s =
 -- ---- tests
 
 -- no child has matched yet
-abbrev pub none_counted : Count
-none_counted = record { matched = 0; groups = None }
+abbrev pub no_count : Count
+no_count = record { matched = 0; groups = None }
 
 -- one more child: the groups are those of the last one that matched
-abbrev pub counted : Count → Tested → Count
-counted count t = if t.holds then record { matched = count.matched + 1; groups = t.groups } else count
+abbrev pub count_with : Count → Tested → Count
+count_with count t = if t.holds then record { matched = count.matched + 1; groups = t.groups } else count
 
 -- what the pattern of a text finds in the value of a field
 abbrev pub field_tested : Profile → Text → Text → Hunt → Outcome Tested
@@ -60,7 +60,7 @@ field_tested profile field expression s = field_value profile field s >>= λ val
 abbrev pub children_counted : Profile → List (Child Text) → Hunt → Count → Outcome Count
 children_counted profile [] s count = Ok count
 children_counted profile (child ∷ more) s count =
-    field_tested profile child.field child.expression s >>= λ t. children_counted profile more s (counted count t)
+    field_tested profile child.field child.expression s >>= λ t. children_counted profile more s (count_with count t)
 
 -- all match, at least one, exactly one
 abbrev pub holds_for : ManyKind → ℕ → ℕ → Bool
@@ -73,19 +73,20 @@ unfoldable pub test_done : Profile → Test Text → Hunt → Outcome Tested
 test_done profile Always s = Ok (record { holds = true; groups = None })
 test_done profile (Plain field expression) s = field_tested profile field expression s
 test_done profile (Many wanted children) s =
-    children_counted profile children s none_counted >>= λ count. Ok (record { holds = holds_for wanted count.matched (length children); groups = count.groups })
+    children_counted profile children s no_count >>= λ count. Ok (record { holds = holds_for wanted count.matched (length children); groups = count.groups })
 
 -- ---- actions
 
 -- an action behind those so far
-abbrev pub with_action : PlanAction → Text → Hunt → Hunt
-with_action action argument s = record s { actions = s.actions ++ record { application = action.application; argument = argument } ∷ [] }
+abbrev pub with_hunt_action : PlanAction → Text → Hunt → Hunt
+with_hunt_action action argument s =
+    record s { actions = s.actions ++ record { application = action.application; argument = argument } ∷ [] }
 
 -- an action stands behind those so far; an inline one is expanded and acts at once
 unfoldable pub action_done : Profile → Option Groups → PlanAction → Hunt → Outcome Hunt
 action_done profile groups action s =
     if action.inline then expanded_in profile (substituted groups action.argument) s >>= (λ argument. Ok (inline_done action.application argument s))
-    else Ok (with_action action (substituted groups action.argument) s)
+    else Ok (with_hunt_action action (substituted groups action.argument) s)
 
 abbrev pub actions_done : Profile → Option Groups → List PlanAction → Hunt → Outcome Hunt
 actions_done profile groups [] s = Ok s
@@ -94,12 +95,12 @@ actions_done profile groups (action ∷ more) s = action_done profile groups act
 -- ---- conditions
 
 -- what a hunt has come to behind a condition, and whether that was true
-pub record Done : Type 0 where
+pub record Evaluated : Type 0 where
   pub so_far : Hunt
   pub holds : Bool
 
-abbrev pub done_to : Hunt → Bool → Done
-done_to s holds = record { so_far = s; holds = holds }
+abbrev pub evaluated_to : Hunt → Bool → Evaluated
+evaluated_to s holds = record { so_far = s; holds = holds }
 
 -- what a hunt has come to, and whether the last condition that was evaluated takes its extension
 pub record Looked : Type 0 where
@@ -124,15 +125,15 @@ abbrev pub takes : Condition → Bool → Bool
 takes condition holds = holds || not (is_empty condition.anti)
 
 -- a true condition gives its actions, and a false one its anti-actions, in which groups have no meaning
-abbrev pub given : Profile → Condition → Tested → Hunt → Outcome Hunt
-given profile condition t s =
+abbrev pub chosen_actions_done : Profile → Condition → Tested → Hunt → Outcome Hunt
+chosen_actions_done profile condition t s =
     if t.holds then actions_done profile t.groups condition.actions s else actions_done profile None condition.anti s
 
-unfoldable pub condition_done : Profile → Condition → Hunt → Outcome Done
+unfoldable pub condition_done : Profile → Condition → Hunt → Outcome Evaluated
 condition_done profile condition s =
-    test_done profile condition.test s >>= λ t. given profile condition t s >>= λ later. Ok (done_to later t.holds)
+    test_done profile condition.test s >>= λ t. chosen_actions_done profile condition t s >>= λ later. Ok (evaluated_to later t.holds)
 
-abbrev pub looked_at : Condition → Done → Looked
+abbrev pub looked_at : Condition → Evaluated → Looked
 looked_at condition done = looked_to done.so_far (takes condition done.holds)
 
 -- the conditions in order, up to one behind which the extension stops
@@ -145,18 +146,18 @@ conditions_done profile (condition ∷ more) looked =
 -- ---- extensions
 
 -- an extension begins without actions, and is not taken before a condition was evaluated
-abbrev pub entered : Hunt → Looked
-entered s = looked_to (record s { actions = [] }) false
+abbrev pub at_extension : Hunt → Looked
+at_extension s = looked_to (record s { actions = [] }) false
 
 -- the actions of an extension that is taken go behind those before; those of another one are dropped, but what its inline actions set
 -- stays
-abbrev pub settled : List Action → Looked → Looked
-settled before looked =
+abbrev pub after_extension : List Action → Looked → Looked
+after_extension before looked =
     record looked { so_far = record looked.so_far { actions = if looked.taken then before ++ looked.so_far.actions else before } }
 
 unfoldable pub extension_done : Profile → Extension → Hunt → Outcome Looked
 extension_done profile extension s =
-    conditions_done profile extension.conditions (entered s) >>= λ looked. Ok (settled s.actions looked)
+    conditions_done profile extension.conditions (at_extension s) >>= λ looked. Ok (after_extension s.actions looked)
 
 -- the hunt ends at the first extension that is taken and does not go on
 abbrev pub extensions_done : Profile → List Extension → Hunt → Outcome Hunt
@@ -171,9 +172,9 @@ extensions_of [] name = []
 extensions_of (context ∷ more) name = if same_text name context.name then context.extensions else extensions_of more name
 
 -- nothing is done yet
-abbrev pub begun : Variables → Variables → Hunt
-begun vars globals = record { actions = []; vars = vars; globals = globals }
+abbrev pub new_hunt : Variables → Variables → Hunt
+new_hunt vars globals = record { actions = []; vars = vars; globals = globals }
 
 -- a hunt with these variables, this profile and these globals through the context of a name
 unfoldable pub hunted : List Context → Text → Profile → Variables → Variables → Outcome Hunt
-hunted contexts name profile vars globals = extensions_done profile (extensions_of contexts name) (begun vars globals)
+hunted contexts name profile vars globals = extensions_done profile (extensions_of contexts name) (new_hunt vars globals)

@@ -5,7 +5,7 @@ use Rattle.std.specs.Option.{option_map_or}
 use Rattle.regex.specs.Patterns.{Match, find, span}
 use Rattle.regex.specs.Writes.{group_of}
 use Rattle.fs_vars.specs.Pairs.{Text}
-use Rattle.fs_ports.specs.Patterns.{Reading, reading}
+use Rattle.fs_ports.specs.Patterns.{Reading, pattern_reading}
 use Rattle.fs_plan.specs.declared.tested.Tested.{Tested}
 
 -- the texts of the whole match and of its groups 1 to 9
@@ -43,4 +43,4 @@ searched (Some pattern) value = match_gives pattern value (find pattern.re value
 
 -- what the pattern of a text finds in a value
 unfoldable pub tested : Text → Text → Tested
-tested expression value = searched (reading expression) value
+tested expression value = searched (pattern_reading expression) value

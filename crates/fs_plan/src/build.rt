@@ -169,7 +169,7 @@ pub(crate) fn contexts<P: Patterns>(
 ) -> Result<Listed<ContextDef<Pattern>>, PlanFault>
     ensures kept { IfOk result (λ built. built ≡ list.now) }
     ensures read { OnOk result (spec.HaveReadings (spec.patterns_in list.now)) }
-    ensures refused { IfErr result (spec.IsRefusal list.now) }
+    ensures refused { IfErr result (spec.IsPlanRefusal list.now) }
     ensures sizes { MatchResult result (λ _. P.sizes patterns.new ≡ P.sizes patterns.old) (λ fault. P.sizes patterns.new ≡ spec.sizes_after fault (P.sizes patterns.old)) }
     ensures files { (P.counts patterns.new ≡ P.counts patterns.old) × (P.next_load patterns.new ≡ P.next_load patterns.old) }
 {

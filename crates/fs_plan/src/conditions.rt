@@ -43,8 +43,8 @@ impl Hunt {
         profile: &Profile,
         children: &[Child<Pattern>],
     ) -> Result<Count, Refused>
-        ensures ok { IfOk result (λ count. spec.children_counted profile.now children.now self.now spec.none_counted ≡ Ok count) }
-        ensures err { IfErr result (IsFault (spec.children_counted profile.now children.now self.now spec.none_counted)) }
+        ensures ok { IfOk result (λ count. spec.children_counted profile.now children.now self.now spec.no_count ≡ Ok count) }
+        ensures err { IfErr result (IsFault (spec.children_counted profile.now children.now self.now spec.no_count)) }
     {
         let mut count = Count::none();
         for child in children {
@@ -131,8 +131,8 @@ impl Hunt {
         condition: &ConditionDef<Pattern>,
         tested: &Tested,
     ) -> Result<(), Refused>
-        ensures ok { OnOk result (spec.given profile.now condition.now tested.now self.old ≡ Ok self.new) }
-        ensures err { IfErr result (IsFault (spec.given profile.now condition.now tested.now self.old)) }
+        ensures ok { OnOk result (spec.chosen_actions_done profile.now condition.now tested.now self.old ≡ Ok self.new) }
+        ensures err { IfErr result (IsFault (spec.chosen_actions_done profile.now condition.now tested.now self.old)) }
     {
         if tested.holds {
             self.give_all(alloc, profile, &tested.groups, condition.actions.as_slice())
@@ -149,7 +149,7 @@ impl Hunt {
         profile: &Profile,
         condition: &ConditionDef<Pattern>,
     ) -> Result<bool, Refused>
-        ensures ok { IfOk result (λ holds. spec.condition_done profile.now condition.now self.old ≡ Ok (spec.done_to self.new holds)) }
+        ensures ok { IfOk result (λ holds. spec.condition_done profile.now condition.now self.old ≡ Ok (spec.evaluated_to self.new holds)) }
         ensures err { IfErr result (IsFault (spec.condition_done profile.now condition.now self.old)) }
     {
         let tested = self.tested(alloc, profile, &condition.test)?;

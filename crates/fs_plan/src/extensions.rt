@@ -33,7 +33,8 @@ impl Hunt {
 
     /// Puts the actions of an extension that is taken behind those before it, and drops those of another one.
     fn settle(&mut self, before: Actions, taken: bool) -> Result<(), Memory>
-        ensures { OnOk result (spec.looked_to self.new taken ≡ spec.settled before (spec.looked_to self.old taken)) }
+        ensures { OnOk result (spec.looked_to self.new taken ≡ spec.after_extension before
+            (spec.looked_to self.old taken)) }
     {
         let given = mem::replace(&mut self.actions, before);
         if taken {

@@ -39,7 +39,7 @@ impl Dialplan {
     ) -> Result<Dialplan, PlanFault>
         ensures kept { IfOk result (λ plan. plan ≡ config.now.contexts) }
         ensures read { OnOk result (build.HaveReadings (build.patterns_in config.now.contexts)) }
-        ensures refused { IfErr result (build.IsRefusal config.now.contexts) }
+        ensures refused { IfErr result (build.IsPlanRefusal config.now.contexts) }
         ensures sizes { MatchResult result (λ _. P.sizes patterns.new ≡ P.sizes patterns.old) (λ fault. P.sizes patterns.new ≡ build.sizes_after fault (P.sizes patterns.old)) }
         ensures files { (P.counts patterns.new ≡ P.counts patterns.old) × (P.next_load patterns.new ≡ P.next_load patterns.old) }
     {

@@ -30,11 +30,11 @@ pub(crate) struct Count {
 }
 
 impl Count {
-    ghost use Rattle.fs_plan.specs.Hunting.{none_counted, counted};
+    ghost use Rattle.fs_plan.specs.Hunting.{no_count, count_with};
 
     /// No test has matched yet.
     pub fn none() -> Count
-        ensures { result ≡ none_counted }
+        ensures { result ≡ no_count }
     {
         Count {
             matched: 0,
@@ -45,7 +45,7 @@ impl Count {
     /// Counts one more test.
     pub fn add(&mut self, tested: Tested)
         requires { self.old.matched < usize.MAX }
-        ensures { self.new ≡ counted self.old tested }
+        ensures { self.new ≡ count_with self.old tested }
     {
         if tested.holds {
             self.matched += 1;

@@ -14,7 +14,7 @@ use Rattle.regex_syntax.specs.Grammar.{Names, read, group_count}
 use Rattle.regex_syntax.specs.declared.error.Error as parser
 use Rattle.regex_syntax.specs.declared.error.ErrorKind.{ErrorKind}
 use Rattle.regex_syntax.specs.declared.error.ErrorKind.TheVariants.{OutOfMemory, NestLimitExceeded}
-use Rattle.fs_ports.specs.Patterns.{Reading, reading, options, IsUnreadable, IsBuiltOf}
+use Rattle.fs_ports.specs.Patterns.{Reading, pattern_reading, options, IsUnreadable, IsBuiltOf}
 
 -- what the grammar of the crate gives, and what is seen of it
 abbrev Read : Type 0
@@ -27,7 +27,7 @@ seen = option_map (λ (re, names). record { re = re.value; depth = re.depth; nam
 abbrev Found : Option Reading → Regex → Type 0
 Found read regex = IsSomeAnd read (λ what. SameCaptures (regex_pattern regex) what.re × (regex_names regex ≡ what.names))
 
-built_of : (text : List ℕ) (regex : Regex) → regex_source regex ≡ text → (read : Option Reading) → reading text ≡ read → Found read regex → IsBuiltOf text regex
+built_of : (text : List ℕ) (regex : Regex) → regex_source regex ≡ text → (read : Option Reading) → pattern_reading text ≡ read → Found read regex → IsBuiltOf text regex
 built_of text regex source None is found = absurd found
 built_of text regex source (Some what) is found = record { what = what; is_read = is; alike = found.0; names = found.1; source = source }
 
@@ -39,9 +39,9 @@ found_in (Some x) depth regex h = (h.1, h.2)
 
 -- a regex whose source is the text is built of it
 pub built : (text : List ℕ) (regex : Regex) → regex_source regex ≡ text → regex_config regex ≡ options → IsReadFromSource regex → IsBuiltOf text regex
-unfolding Reads reading
+unfolding Reads pattern_reading
 built text regex source config is_read =
-    built_of text regex source (reading text) refl (found_in (read options (chars text)) _ regex (rw (source, config) at is_read))
+    built_of text regex source (pattern_reading text) refl (found_in (read options (chars text)) _ regex (rw (source, config) at is_read))
 
 unreadable : (read : Read) (kind : ErrorKind) → kind ≢ OutOfMemory →
     (kind ≡ OutOfMemory) ⊎ ((read ≡ None) ⊎ ((kind ≡ NestLimitExceeded) × IfSome read (λ (re, names). options.nest_limit < re.depth))) →
@@ -51,8 +51,8 @@ unreadable (Some x) kind memory h =
     ⊎_elim (λ e. absurd (memory e)) (⊎_elim (λ none. absurd cc) (λ deep. deep.1)) h
 
 -- a text with an error of syntax is no pattern, or nested too deep
-pub refused : (text : List ℕ) (error : Error) (e : parser.Error) → error ≡ Syntax e → IsRefusal options text error → IsRightKind options text error → IsUnreadable (reading text)
-unfolding Refuses reading
+pub refused : (text : List ℕ) (error : Error) (e : parser.Error) → error ≡ Syntax e → IsRefusal options text error → IsRightKind options text error → IsUnreadable (pattern_reading text)
+unfolding Refuses pattern_reading
 refused text error e is refusal kind = unreadable (read options (chars text)) e.kind (rw is at kind) (refusal e is)
 
 pub ruleset reading_rules = (built, refused)

@@ -17,11 +17,11 @@ pub record Tape : Type 0 where
   pub written : List ℕ
   pub write_faults : ℕ
 
-abbrev pub input_of : Tape → Input
-input_of tape = record { taken = Some tape.taken; left = Some tape.left; faults = tape.read_faults; waits = true }
+abbrev pub tape_input : Tape → Input
+tape_input tape = record { taken = Some tape.taken; left = Some tape.left; faults = tape.read_faults; waits = true }
 
-abbrev pub output_of : Tape → Output
-output_of tape = record { written = Some tape.written; faults = tape.write_faults }
+abbrev pub tape_output : Tape → Output
+tape_output tape = record { written = Some tape.written; faults = tape.write_faults }
 
 -- files in memory: their names and bytes, the numbers of the loads that fail and the loads so far, and the same of builds that find a
 -- pattern too large
@@ -35,8 +35,8 @@ pub record Shelf : Type 0 where
   pub sizes : ℕ
 
 -- the bytes of the first file of this name
-abbrev pub bytes_of : List (List ℕ × List ℕ) → List ℕ → Option (List ℕ)
-bytes_of files name = option_map (λ file. file.1) (find (λ file. bytes_eq file.0 name) files)
+abbrev pub file_bytes : List (List ℕ × List ℕ) → List ℕ → Option (List ℕ)
+file_bytes files name = option_map (λ file. file.1) (find (λ file. bytes_eq file.0 name) files)
 
 -- the answer of a load that does not fail: at most 1,048,577 bytes are given
 abbrev pub load_of : Option (List ℕ) → Load
@@ -44,6 +44,6 @@ load_of None = Absent
 load_of (Some bytes) = Got (take 1048577 bytes)
 
 -- the answer of the next load
-abbrev pub next_of : Shelf → List ℕ → Load
-next_of shelf name =
-    if list_any (λ n. n == raised shelf.loads) shelf.failed then Failed else load_of (bytes_of shelf.held name)
+abbrev pub next_load_of : Shelf → List ℕ → Load
+next_load_of shelf name =
+    if list_any (λ n. n == raised shelf.loads) shelf.failed then Failed else load_of (file_bytes shelf.held name)

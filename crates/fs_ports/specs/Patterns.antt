@@ -20,8 +20,8 @@ pub record Reading : Type 0 where
   pub names : Names
 
 -- what a text is read as, if it is a pattern
-unfoldable pub reading : List ℕ → Option Reading
-reading text = option_map (λ (re, names). record { re = re.value; depth = re.depth; names = names }) (read options (chars text))
+unfoldable pub pattern_reading : List ℕ → Option Reading
+pattern_reading text = option_map (λ (re, names). record { re = re.value; depth = re.depth; names = names }) (read options (chars text))
 
 -- the text is no pattern, or one that is nested too deep
 abbrev pub IsUnreadable : Option Reading → Type 0
@@ -31,7 +31,7 @@ IsUnreadable (Some r) = options.nest_limit < r.depth
 -- the text is a pattern, and what was built of it matches as it does, with the same groups
 pub record IsBuiltOf (text : List ℕ) (regex : Regex) : Type 0 where
   pub what : Reading
-  pub is_read : reading text ≡ Some what
+  pub is_read : pattern_reading text ≡ Some what
   pub alike : SameCaptures (regex_pattern regex) what.re
   pub names : regex_names regex ≡ what.names
   pub source : regex_source regex ≡ text
@@ -39,7 +39,7 @@ pub record IsBuiltOf (text : List ℕ) (regex : Regex) : Type 0 where
 -- what the answer says of the text
 abbrev pub Says : List ℕ → Built → Type 0
 Says text (built.Regex regex) = IsBuiltOf text regex
-Says text built.NoReading = IsUnreadable (reading text)
+Says text built.NoReading = IsUnreadable (pattern_reading text)
 Says text built.TooLarge = Unit {0}
 Says text built.Memory = Unit {0}
 

@@ -80,11 +80,11 @@ impl MemFiles {
 
 impl Store for MemFiles {
     ghost use Rattle.std.specs.Prelude.{Some};
-    ghost use Rattle.fs_ports.specs.Memory.{next_of};
+    ghost use Rattle.fs_ports.specs.Memory.{next_load_of};
 
     ghost counts = { λ f. f.counts };
 
-    ghost next_load = { λ f name. Some (next_of f name) };
+    ghost next_load = { λ f name. Some (next_load_of f name) };
 
     ghost sizes = { λ f. f.sizes };
 }
@@ -109,7 +109,7 @@ impl Files for MemFiles {
             self.faults = raised(self.faults);
             return Ok(Load::Failed);
         }
-        let Some(bytes) = bytes_of(&self.held, name.as_bytes()) else {
+        let Some(bytes) = file_bytes(&self.held, name.as_bytes()) else {
             self.loads = number;
             self.absences = raised(self.absences);
             return Ok(Load::Absent);
@@ -132,8 +132,8 @@ fn copies(alloc: Global, files: &[(Txt, Txt)]) -> Result<Vec<(Txt, Txt)>, Memory
 }
 
 // The bytes of the first file of this name.
-fn bytes_of<'a>(files: &'a [(Txt, Txt)], name: &[u8]) -> Option<&'a Txt>
-    ensures { option_copied result ≡ spec.bytes_of files.now name.now }
+fn file_bytes<'a>(files: &'a [(Txt, Txt)], name: &[u8]) -> Option<&'a Txt>
+    ensures { option_copied result ≡ spec.file_bytes files.now name.now }
 {
     files
         .iter()

@@ -1,5 +1,5 @@
 ghost use Rattle.std.specs.Prelude.{◌≡◌, ◌<◌, ◌≤◌, [], length, take, min, IfOk};
-ghost use Rattle.fs_ports.specs.Memory.{input_of, output_of};
+ghost use Rattle.fs_ports.specs.Memory.{tape_input, tape_output};
 
 use crate::counts::raised;
 use crate::port::{Link, Port, Read, Sink, Source, Write};
@@ -96,9 +96,9 @@ impl MemLink {
 }
 
 impl Port for MemLink {
-    ghost input = { input_of };
+    ghost input = { tape_input };
 
-    ghost output = { output_of };
+    ghost output = { tape_output };
 }
 
 impl Source for MemLink {

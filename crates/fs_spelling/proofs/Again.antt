@@ -18,8 +18,8 @@ use Rattle.fs_doc.specs.declared.element.Level.{Level}
 use Rattle.fs_doc.specs.declared.element.Level.TheVariants as level
 use Rattle.fs_doc.specs.declared.content.Content.{Content}
 use Rattle.fs_doc.specs.Faults.{fault}
-use Rattle.fs_doc.specs.Contents.{ended}
-use Rattle.fs_doc.specs.Reading.{Opened, Reading, level_in, is_outside, mark_or, mark_read, with_element, entered, left, is_empty_level, mark_entered, Next, Over, On, at_mark, round, with_round, read_within}
+use Rattle.fs_doc.specs.Contents.{element_ended}
+use Rattle.fs_doc.specs.Reading.{Opened, ReadSoFar, level_in, is_outside, mark_or, mark_read, with_element, start_entered, end_entered, is_empty_level, mark_entered, Next, Over, On, at_mark, round, with_round, read_within}
 use Rattle.fs_spelling.specs.Tags.{Pair, IsTag, IsEndTag, IsComment, AreBlank}
 use Rattle.fs_spelling.specs.Readings.{pair_of, ReadsTag}
 use Rattle.fs_spelling.specs.Documents.{IsFiller, Begins, Inside, Bare, Remark, Leaf, Holder}
@@ -28,12 +28,12 @@ use Rattle.fs_spelling.proofs.MarkLaws.{spelt_comment, spelt_end, spelt_tag}
 use Rattle.fs_spelling.proofs.TextLaws.{text_read}
 use Rattle.fs_spelling.proofs.ElementLaws.{begins_read}
 
-abbrev pub state : List Opened → Content → Reading
+abbrev pub state : List Opened → Content → ReadSoFar
 state opened c = record { opened = opened; content = c }
 
 -- ---- one round
 
-round_goes : (end : ℕ) (r : Reading) (before bytes rest : Text) (mark : Mark) (next : Reading) → IsFiller (level_in r.opened) before
+round_goes : (end : ℕ) (r : ReadSoFar) (before bytes rest : Text) (mark : Mark) (next : ReadSoFar) → IsFiller (level_in r.opened) before
     → ((at : ℕ) → mark_read r.content.done (is_outside r.opened) end at (bytes ++ rest) ≡ Ok (mark, rest)) → ((at : ℕ) → mark_entered at mark r ≡ Ok next)
     → round end r (before ++ ((60 ∷ bytes) ++ rest)) ≡ Ok (On next rest)
 unfolding round at_mark
@@ -41,9 +41,9 @@ round_goes end r before bytes rest mark next filler reads enters =
     let at = place end (60 ∷ (bytes ++ rest)) in
     ap (λ (t : Result Text DocFault). t >>= λ behind. at_mark end r behind) (text_read end (level_in r.opened) before (60 ∷ (bytes ++ rest)) filler refl)
     ∙ ap (λ (m : Result (Mark × Text) DocFault). m >>= λ x. (mark_entered at x.0 r >>= λ n. Ok (On n x.1))) (reads at)
-    ∙ ap (λ (e : Result Reading DocFault). e >>= λ n. Ok (On n rest)) (enters at)
+    ∙ ap (λ (e : Result ReadSoFar DocFault). e >>= λ n. Ok (On n rest)) (enters at)
 
-one_round : (end : ℕ) (x : Content) (r : Reading) (bytes : Text) (next : Reading) (rest : Text) (more : ℕ) → round end r bytes ≡ Ok (On next rest)
+one_round : (end : ℕ) (x : Content) (r : ReadSoFar) (bytes : Text) (next : ReadSoFar) (rest : Text) (more : ℕ) → round end r bytes ≡ Ok (On next rest)
     → read_within more end next rest ≡ Ok x → read_within (suc more) end r bytes ≡ Ok x
 one_round end x r bytes next rest more goes reads =
     ap (λ (n : Result Next DocFault). n >>= λ y. with_round (λ s behind. read_within more end s behind) y) goes ∙ reads
@@ -89,7 +89,7 @@ comment_enters at opened c outer here may = ap (λ e. cond e (fault at kinds.Bad
 
 tag_enters : (at : ℕ) (opened : List Opened) (c d : Content) (outer inner : Level) (name : Text) (pairs : List Pair) (body : BodyText) → level_in opened ≡ outer → body.malformed ≡ None
     → map pair_of body.attrs ≡ pairs → Begins outer c name pairs inner d → mark_entered at (Start name body) (state opened c) ≡ Ok (with_element body.ending name opened (inner, d))
-unfolding mark_entered entered
+unfolding mark_entered start_entered
 tag_enters at opened c d outer inner name pairs body here whole same is =
     let P : Level → Type 0 = λ l. Begins l c name (map pair_of body.attrs) inner d in
     let Q : List Pair → Type 0 = λ ps. Begins outer c name ps inner d in
@@ -97,11 +97,11 @@ tag_enters at opened c d outer inner name pairs body here whole same is =
     ap (λ (r : Result (Level × Content) DocFault). r >>= λ x. Ok (with_element body.ending name opened x)) (begins_read at (level_in opened) c d name body inner whole begins)
 
 end_enters : (at : ℕ) (opened : List Opened) (inner : Level) (name : Text) (c : Content)
-    → mark_entered at (End name) (state (record { level = inner; name = name } ∷ opened) c) ≡ Ok (state opened (ended inner c))
-unfolding mark_entered left
+    → mark_entered at (End name) (state (record { level = inner; name = name } ∷ opened) c) ≡ Ok (state opened (element_ended inner c))
+unfolding mark_entered end_entered
 end_enters at opened inner name c =
     let same : bytes_eq name name ≡ true = (bytes_eq-Decides name name).1 refl in
-    ap (λ t. cond t (Ok (state opened (ended inner c))) (fault at kinds.BadTag)) same
+    ap (λ t. cond t (Ok (state opened (element_ended inner c))) (fault at kinds.BadTag)) same
 
 -- ---- what stands inside
 
@@ -154,7 +154,7 @@ goes end x outer c text d (Leaf _ inner _ middle e front before tag name pairs i
     let tagged = spelt_tag end tag name pairs Closes rest is in
     let body : BodyText = record { attrs = tagged.attrs; malformed = None; ending = Closes } in
     let r = state opened middle in
-    let next = state opened (ended inner e) in
+    let next = state opened (element_ended inner e) in
     let goes_round = round_goes end r before tag rest (Start name body) next (filler_here opened outer before here filler) (λ at. tag_is_read middle.done (is_outside opened) end at tag name pairs Closes rest is tagged)
     (λ at. tag_enters at opened middle e outer inner name pairs body here refl tagged.same begins) in
     let first = one_round end x r (before ++ ((60 ∷ tag) ++ rest)) next rest more goes_round reads in
@@ -163,8 +163,8 @@ goes end x outer c text d (Leaf _ inner _ middle e front before tag name pairs i
     (item_seam front before tag rest) (omega (arith, item_long front before tag))
 goes end x outer c text d (Holder _ inner _ middle e f front before tag held behind close name pairs ins filler is begins held_is filler_behind closes) opened here rest more reads =
     let deeper : List Opened = record { level = inner; name = name } ∷ opened in
-    let last = one_round end x (state deeper f) (behind ++ ((60 ∷ close) ++ rest)) (state opened (ended inner f)) rest more
-    (round_goes end (state deeper f) behind close rest (End name) (state opened (ended inner f)) filler_behind (λ at. end_is_read f.done end at close name rest closes) (λ at. end_enters at opened inner name f)) reads in
+    let last = one_round end x (state deeper f) (behind ++ ((60 ∷ close) ++ rest)) (state opened (element_ended inner f)) rest more
+    (round_goes end (state deeper f) behind close rest (End name) (state opened (element_ended inner f)) filler_behind (λ at. end_is_read f.done end at close name rest closes) (λ at. end_enters at opened inner name f)) reads in
     let tail = held ++ (behind ++ ((60 ∷ close) ++ rest)) in
     let inside = goes end x inner e held f held_is deeper refl (behind ++ ((60 ∷ close) ++ rest)) (suc more) last in
     let tagged = spelt_tag end tag name pairs Opens tail is in
@@ -189,17 +189,17 @@ last_round end c behind blank done =
     ∙ ap (λ t. cond t (Ok (Over c)) (fault end kinds.Truncated) >>= λ y. with_round (λ s rest. read_within 0 end s rest) y) done
 
 -- more rounds change nothing
-pub more_fuel : (end : ℕ) (x : Content) (m n : ℕ) (r : Reading) (bytes : Text) → m ≤ n → read_within m end r bytes ≡ Ok x → read_within n end r bytes ≡ Ok x
+pub more_fuel : (end : ℕ) (x : Content) (m n : ℕ) (r : ReadSoFar) (bytes : Text) → m ≤ n → read_within m end r bytes ≡ Ok x → read_within n end r bytes ≡ Ok x
 more_fuel end x zero n r bytes fewer e = absurd (cc)
 more_fuel end x (suc m) zero r bytes fewer e = absurd (omega arith)
 more_fuel end x (suc m) (suc n) r bytes fewer e = by (λ s rest h. more_fuel end x m n s rest (omega arith) h) (round end r bytes) e
   where
-    on : ((s : Reading) (rest : Text) → read_within m end s rest ≡ Ok x → read_within n end s rest ≡ Ok x) → (y : Next) → with_round (λ s rest. read_within m end s rest) y ≡ Ok x
+    on : ((s : ReadSoFar) (rest : Text) → read_within m end s rest ≡ Ok x → read_within n end s rest ≡ Ok x) → (y : Next) → with_round (λ s rest. read_within m end s rest) y ≡ Ok x
         → with_round (λ s rest. read_within n end s rest) y ≡ Ok x
     on again (Over c) h = h
     on again (On s rest) h = again s rest h
 
-    by : ((s : Reading) (rest : Text) → read_within m end s rest ≡ Ok x → read_within n end s rest ≡ Ok x) → (y : Result Next DocFault)
+    by : ((s : ReadSoFar) (rest : Text) → read_within m end s rest ≡ Ok x → read_within n end s rest ≡ Ok x) → (y : Result Next DocFault)
         → (y >>= λ z. with_round (λ s rest. read_within m end s rest) z) ≡ Ok x → (y >>= λ z. with_round (λ s rest. read_within n end s rest) z) ≡ Ok x
     by again (Ok y) h = on again y h
     by again (Err f) h = absurd (cc)

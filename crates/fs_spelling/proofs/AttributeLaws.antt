@@ -7,7 +7,7 @@ use Rattle.std.proofs.lemmas.Bool.Decides.{nat_tests}
 use Rattle.fs_xml.specs.declared.stop.TagStop.TheVariants.{Bad}
 use Rattle.fs_xml.specs.declared.attribute.Ending.TheVariants.{Opens, Closes}
 use Rattle.fs_xml.specs.Bytes.{is_blank, is_quote, is_mark, is_name_byte, begins_name, is_byte, halves_of, past, name_of, place}
-use Rattle.fs_xml.specs.Attributes.{Written, Piece, Has, Ends, Broken, Pieces, tag_end, broken_at, valued_on, valued_at, quoted_at, equals_at, named_at, slash_at, part_on, part_at}
+use Rattle.fs_xml.specs.Attributes.{Written, TagPart, Has, Ends, Broken, TagParts, tag_end, broken_at, valued_on, valued_at, quoted_at, equals_at, named_at, slash_at, part_on, part_at}
 use Rattle.fs_xml.proofs.ByteLemmas.{run_past}
 use Rattle.fs_spelling.specs.Tags.{Pair, AreBlank, IsName, IsAttribute}
 use Rattle.fs_spelling.specs.Readings.{pair_of, ReadsAttribute, TakesAttribute}
@@ -91,15 +91,15 @@ spelt_attribute end bytes rest pair is =
 
 -- ---- what is read is spelt
 
-abbrev pub was_read : Piece × List ℕ → Pieces
+abbrev pub was_read : TagPart × List ℕ → TagParts
 was_read x = Ok x
 
-pub same_read : (x y : Piece × List ℕ) → was_read x ≡ was_read y → x ≡ y
+pub same_read : (x y : TagPart × List ℕ) → was_read x ≡ was_read y → x ≡ y
 same_read x y e = cc
 
 -- only what has an attribute is read as one
-no_other : (piece : Piece) (rest more : List ℕ) (a : Written) → was_read (piece, rest) ≡ was_read (Has a, more) → piece ≡ Has a
-no_other piece rest more a e = ap (λ (x : Piece × List ℕ). x.0) (same_read (piece, rest) (Has a, more) e)
+no_other : (piece : TagPart) (rest more : List ℕ) (a : Written) → was_read (piece, rest) ≡ was_read (Has a, more) → piece ≡ Has a
+no_other piece rest more a e = ap (λ (x : TagPart × List ℕ). x.0) (same_read (piece, rest) (Has a, more) e)
 
 no_malformed : (at : ℕ) (bytes rest : List ℕ) (a : Written) → broken_at at bytes ≡ was_read (Has a, rest) → ⊥
 unfolding broken_at
@@ -122,9 +122,9 @@ valued_taken end at name quote bytes rest a None is quotes e = absurd (cc)
 valued_taken end at name quote bytes rest a (Some x) is quotes e =
     let w : Written = record { at = at; name = name; value = x.0; end = place end x.1 - 1 } in
     let both = same_read (Has w, x.1) (Has a, rest) e in
-    let piece : Has w ≡ Has a = ap (λ (y : Piece × List ℕ). y.0) both in
+    let piece : Has w ≡ Has a = ap (λ (y : TagPart × List ℕ). y.0) both in
     let it : w ≡ a = cc in
-    let after : x.1 ≡ rest = ap (λ (y : Piece × List ℕ). y.1) both in
+    let after : x.1 ≡ rest = ap (λ (y : TagPart × List ℕ). y.1) both in
     let value : x.0 ≡ a.value = ap (λ (y : Written). y.value) it in
     let parts = halved quote bytes x.0 x.1 is in
     record {

@@ -18,11 +18,11 @@ use Rattle.fs_doc.specs.Faults.{fault, or_at}
 use Rattle.fs_doc.specs.Values.{replaced, value_read}
 use Rattle.fs_doc.specs.Elements.{kind_in, has, has_needed, is_foreign}
 use Rattle.fs_doc.specs.Attributes.{Tagged, written_as, may_be, may_on, application_may, inline_fault, fault_unless, fault_by, value_fault, is_timed, text_on, text_read, unless_fault, attribute_read, attributes_read, complete, pairs_read}
-use Rattle.fs_doc.specs.Contents.{begun}
+use Rattle.fs_doc.specs.Contents.{element_begun}
 use Rattle.fs_doc.specs.Reading.{element_read}
 use Rattle.fs_spelling.specs.Values.{SpellsValue}
 use Rattle.fs_spelling.specs.Readings.{pair_of}
-use Rattle.fs_spelling.specs.Documents.{unplaced, tag_of, text_of, Say, SayNoMore, SayOneMore, Begins}
+use Rattle.fs_spelling.specs.Documents.{unplaced, tag_of, text_with_globals, Say, SayNoMore, SayOneMore, Begins}
 use Rattle.fs_spelling.proofs.Spans.{bind_ok}
 use Rattle.fs_spelling.proofs.ValueLaws as values
 
@@ -87,24 +87,26 @@ value_bare e name text = fault_bare e.kind e name text
 
 -- ---- what is said is read
 
-text_said : (e : Tagged) (a : Written) (decoded : Text) → SpellsValue (is_foreign e.kind) a.value decoded → text_read e a ≡ Ok (text_of e decoded)
+text_said : (e : Tagged) (a : Written) (decoded : Text) → SpellsValue (is_foreign e.kind) a.value decoded → text_read e a ≡ Ok (text_with_globals e decoded)
 unfolding text_read value_read
 text_said e a decoded spelt = ap (λ r. text_on a.at (onward (is_foreign e.kind) e.globals r)) (values.value_spelt (is_foreign e.kind) a.end a.value decoded spelt)
 
 attribute_said : (e : Tagged) (before : Pairs) (a : Written) (decoded : Text) → has before a.name ≡ false → is_timed e.kind a.name ≡ false → SpellsValue (is_foreign e.kind) a.value decoded
-    → value_fault (bare e) a.name (text_of e decoded) ≡ None → attribute_read e before a ≡ Ok (before ++ (a.name, text_of e decoded) ∷ [])
+    → value_fault (bare e) a.name (text_with_globals e decoded) ≡ None → attribute_read e before a ≡ Ok
+    (before ++ (a.name, text_with_globals e decoded) ∷ [])
 unfolding attribute_read
 attribute_said e before a decoded new untimed spelt fine =
     rw (new, untimed) (
     ap (λ (r : Result Text DocFault). r >>= λ text. unless_fault e.tag a.at (value_fault e a.name text) (before ++ (a.name, text) ∷ [])) (text_said e a decoded spelt)
-    ∙ ap (λ f. unless_fault e.tag a.at f (before ++ (a.name, text_of e decoded) ∷ [])) (value_bare e a.name (text_of e decoded) ∙ fine)
+    ∙ ap (λ f. unless_fault e.tag a.at f (before ++ (a.name, text_with_globals e decoded) ∷ []))
+    (value_bare e a.name (text_with_globals e decoded) ∙ fine)
     )
 
 all_said : (e : Tagged) (before : Pairs) (attrs : List Written) (texts : Pairs) → Say (bare e) before (map pair_of attrs) texts → attributes_read e before attrs ≡ Ok texts
 all_said e before [] texts (SayNoMore _ _) = refl
 all_said e before (a ∷ attrs) texts (SayOneMore _ _ _ _ decoded _ new untimed spelt fine say) =
     ap (λ (r : Result Pairs DocFault). r >>= λ next. attributes_read e next attrs) (attribute_said e before a decoded new untimed spelt fine)
-    ∙ all_said e (before ++ (a.name, text_of e decoded) ∷ []) attrs texts say
+    ∙ all_said e (before ++ (a.name, text_with_globals e decoded) ∷ []) attrs texts say
 
 -- an element that begins is read so
 pub begins_read : (at : ℕ) (outer : Level) (c d : Content) (name : Text) (body : BodyText) (inner : Level) → body.malformed ≡ None → Begins outer c name (map pair_of body.attrs) inner d
@@ -114,11 +116,11 @@ begins_read at outer c d name body inner whole is =
     let e : Tagged = record { kind = is.kind; tag = at; globals = c.globals.pairs; attrs = body.attrs } in
     let judged : (k : Kind) → Result (Level × Content) DocFault = λ k.
     (attributes_read (record { kind = k; tag = at; globals = c.globals.pairs; attrs = body.attrs }) [] body.attrs >>= λ pairs. complete (record { kind = k; tag = at; globals = c.globals.pairs; attrs = body.attrs }) body.malformed pairs)
-    >>= λ pairs. or_at at (begun k pairs c) in
+    >>= λ pairs. or_at at (element_begun k pairs c) in
     ap (λ (r : Result Kind DocKind). or_at at r >>= judged) is.known
-    ∙ ap (λ (r : Result Pairs DocFault). (r >>= λ pairs. complete e body.malformed pairs) >>= λ pairs. or_at at (begun is.kind pairs c)) (all_said e [] body.attrs is.texts is.say)
-    ∙ ap (λ m. complete e m is.texts >>= λ pairs. or_at at (begun is.kind pairs c)) whole
-    ∙ ap (λ t. cond t (Ok is.texts) (fault at kinds.BadAttribute) >>= λ pairs. or_at at (begun is.kind pairs c)) is.needed
+    ∙ ap (λ (r : Result Pairs DocFault). (r >>= λ pairs. complete e body.malformed pairs) >>= λ pairs. or_at at (element_begun is.kind pairs c)) (all_said e [] body.attrs is.texts is.say)
+    ∙ ap (λ m. complete e m is.texts >>= λ pairs. or_at at (element_begun is.kind pairs c)) whole
+    ∙ ap (λ t. cond t (Ok is.texts) (fault at kinds.BadAttribute) >>= λ pairs. or_at at (element_begun is.kind pairs c)) is.needed
     ∙ ap (λ (r : Result (Level × Content) DocKind). or_at at r) is.begins
 
 -- ---- what is read is said
@@ -133,7 +135,7 @@ same_texts x y e = cc
 record IsSaid (e : Tagged) (a : Written) (text : Text) : Type 0 where
   pub decoded : Text
   pub spelt : SpellsValue (is_foreign e.kind) a.value decoded
-  pub text_is : text ≡ text_of e decoded
+  pub text_is : text ≡ text_with_globals e decoded
 
 text_is_said : (e : Tagged) (a : Written) (text : Text) → text_read e a ≡ Ok text → IsSaid e a text
 unfolding text_read value_read
@@ -141,7 +143,7 @@ text_is_said e a text h = by (value_text (is_foreign e.kind) a.end a.value) refl
   where
     by : (r : Values) → value_text (is_foreign e.kind) a.end a.value ≡ r → text_on a.at (onward (is_foreign e.kind) e.globals r) ≡ Ok text → IsSaid e a text
     by (Ok decoded) is k =
-        let same : text_of e decoded ≡ text = cc in
+        let same : text_with_globals e decoded ≡ text = cc in
         record { decoded = decoded; spelt = values.value_read (is_foreign e.kind) a.end a.value decoded is; text_is = sym same }
     by (Err value.Raw) is k = absurd (cc)
     by (Err (value.BadEntity amp)) is k = absurd (cc)
@@ -152,8 +154,8 @@ record OneSaid (e : Tagged) (before : Pairs) (a : Written) (next : Pairs) : Type
   pub new : has before a.name ≡ false
   pub untimed : is_timed e.kind a.name ≡ false
   pub spelt : SpellsValue (is_foreign e.kind) a.value decoded
-  pub fine : value_fault (bare e) a.name (text_of e decoded) ≡ None
-  pub next_is : next ≡ before ++ (a.name, text_of e decoded) ∷ []
+  pub fine : value_fault (bare e) a.name (text_with_globals e decoded) ≡ None
+  pub next_is : next ≡ before ++ (a.name, text_with_globals e decoded) ∷ []
 
 no_fault : (tag at : ℕ) (f : Option DocKind) (pairs next : Pairs) → unless_fault tag at f pairs ≡ Ok next → (f ≡ None) × (pairs ≡ next)
 no_fault tag at None pairs next e = (refl, same_texts pairs next e)
@@ -177,7 +179,7 @@ attribute_is_said e before a next h = by (has before a.name) (is_timed e.kind a.
           new = new;
           untimed = untimed;
           spelt = said.spelt;
-          fine = sym (value_bare e a.name (text_of e said.decoded)) ∙ ap (value_fault e a.name) (sym said.text_is) ∙ fine.0;
+          fine = sym (value_bare e a.name (text_with_globals e said.decoded)) ∙ ap (value_fault e a.name) (sym said.text_is) ∙ fine.0;
           next_is = sym fine.1 ∙ ap (λ text. before ++ (a.name, text) ∷ []) said.text_is;
         }
 
@@ -230,10 +232,10 @@ unfolding element_read pairs_read
 read_begins at outer c name body inner d h =
     let first = bind_ok (or_at at (kind_in outer c.done name)) (λ k.
     (attributes_read (record { kind = k; tag = at; globals = c.globals.pairs; attrs = body.attrs }) [] body.attrs >>= λ pairs. complete (record { kind = k; tag = at; globals = c.globals.pairs; attrs = body.attrs }) body.malformed pairs)
-    >>= λ pairs. or_at at (begun k pairs c)) (inner, d) h in
+    >>= λ pairs. or_at at (element_begun k pairs c)) (inner, d) h in
     let k = first.0 in
     let e : Tagged = record { kind = k; tag = at; globals = c.globals.pairs; attrs = body.attrs } in
-    let second = bind_ok (attributes_read e [] body.attrs >>= λ pairs. complete e body.malformed pairs) (λ pairs. or_at at (begun k pairs c)) (inner, d) first.2 in
+    let second = bind_ok (attributes_read e [] body.attrs >>= λ pairs. complete e body.malformed pairs) (λ pairs. or_at at (element_begun k pairs c)) (inner, d) first.2 in
     let third = bind_ok (attributes_read e [] body.attrs) (λ pairs. complete e body.malformed pairs) second.0 second.1 in
     let whole = completed e body.malformed third.0 second.0 third.2 in
     let P : Pairs → Type 0 = λ t. Say (bare e) [] (map pair_of body.attrs) t in
@@ -245,6 +247,6 @@ read_begins at outer c name body inner d h =
         known = at_kind at (kind_in outer c.done name) k first.1;
         say = subst P whole.same (all_are_said e [] body.attrs third.0 third.1);
         needed = subst Q whole.same whole.needed;
-        begins = at_content at (begun k second.0 c) (inner, d) second.2;
+        begins = at_content at (element_begun k second.0 c) (inner, d) second.2;
       },
     )

@@ -16,8 +16,8 @@ use Rattle.fs_doc.specs.declared.element.Level.{Level}
 use Rattle.fs_doc.specs.declared.element.Level.TheVariants as level
 use Rattle.fs_doc.specs.declared.content.Content.{Content}
 use Rattle.fs_doc.specs.Faults.{fault}
-use Rattle.fs_doc.specs.Contents.{nothing, ended}
-use Rattle.fs_doc.specs.Reading.{Opened, Reading, level_in, is_outside, text_at, mark_or, mark_read, element_read, with_element, entered, left, is_empty_level, mark_entered, Next, Over, On, at_mark, round, with_round, read_within}
+use Rattle.fs_doc.specs.Contents.{new_content, element_ended}
+use Rattle.fs_doc.specs.Reading.{Opened, ReadSoFar, level_in, is_outside, text_at, mark_or, mark_read, element_read, with_element, start_entered, end_entered, is_empty_level, mark_entered, Next, Over, On, at_mark, round, with_round, read_within}
 use Rattle.fs_spelling.specs.Tags.{Pair, IsTag, IsEndTag, IsComment, AreBlank}
 use Rattle.fs_spelling.specs.Readings.{pair_of, Takes, TakesMark}
 use Rattle.fs_spelling.specs.Documents.{IsFiller, Begins, Inside, Bare, Remark, Leaf, Holder}
@@ -47,13 +47,13 @@ record Within (R : Content → Text → Type 0) (outer : Level) (o : Opened) (c 
 
 -- the text up to here is what stands in the open elements, and c is what it says
 abbrev Reached : List Opened → Content → Text → Type 0
-Reached [] c text = Inside level.Top nothing text c
+Reached [] c text = Inside level.Top new_content text c
 Reached (o ∷ opened) c text = Within (Reached opened) (level_in opened) o c text
 
 -- one more item, whatever is open
 grow : (opened : List Opened) (c d : Content) (text item : Text) → ((a : Content) (t : Text) → Inside (level_in opened) a t c → Inside (level_in opened) a (t ++ item) d)
     → Reached opened c text → Reached opened d (text ++ item)
-grow [] c d text item more reached = more nothing text reached
+grow [] c d text item more reached = more new_content text reached
 grow (o ∷ opened) c d text item more w = record {
   before_it = w.before_it;
   begun_with = w.begun_with;
@@ -92,12 +92,12 @@ tag_reached opened c e text before tag name pairs inner reached filler is begins
 }
 
 close_reached : (o : Opened) (opened : List Opened) (c : Content) (text behind close : Text) → Reached (o ∷ opened) c text → IsFiller o.level behind → IsEndTag close o.name
-    → Reached opened (ended o.level c) (text ++ (behind ++ (60 ∷ close)))
+    → Reached opened (element_ended o.level c) (text ++ (behind ++ (60 ∷ close)))
 close_reached o opened c text behind close w filler is =
     let item : Text = w.filler ++ ((60 ∷ w.tag) ++ (w.held ++ (behind ++ (60 ∷ close)))) in
     let whole : text ++ (behind ++ (60 ∷ close)) ≡ w.front ++ item = ap (λ t. t ++ (behind ++ (60 ∷ close))) w.whole ∙ deeper w.front w.filler (60 ∷ w.tag) w.held (behind ++ (60 ∷ close)) in
-    let P : Text → Type 0 = λ t. Reached opened (ended o.level c) t in
-    subst P (sym whole) (grow opened w.before_it (ended o.level c) w.front item
+    let P : Text → Type 0 = λ t. Reached opened (element_ended o.level c) t in
+    subst P (sym whole) (grow opened w.before_it (element_ended o.level c) w.front item
     (λ a t inside. Holder (level_in opened) o.level a w.before_it w.begun_with c t w.filler w.tag w.held behind close o.name w.pairs inside w.may w.is_tag w.begins w.inside filler is) w.reached)
   where
     deeper : (front filler tag held more : Text) → (front ++ (filler ++ (tag ++ held))) ++ more ≡ front ++ (filler ++ (tag ++ (held ++ more)))
@@ -106,18 +106,18 @@ close_reached o opened c text behind close w filler is =
 -- ---- one markup
 
 -- the markup in front was entered
-record Stepped (text before bytes rest : Text) (next : Reading) : Type 0 where
+record Stepped (text before bytes rest : Text) (next : ReadSoFar) : Type 0 where
   pub item : Text
   pub whole : bytes ≡ item ++ rest
   pub reached : Reached next.opened next.content (text ++ (before ++ (60 ∷ item)))
 
-abbrev entry : Reading → Result Reading DocFault
+abbrev entry : ReadSoFar → Result ReadSoFar DocFault
 entry r = Ok r
 
-same_entry : (x y : Reading) → entry x ≡ entry y → x ≡ y
+same_entry : (x y : ReadSoFar) → entry x ≡ entry y → x ≡ y
 same_entry x y e = cc
 
-comment_stepped : (at : ℕ) (opened : List Opened) (c : Content) (text before bytes rest : Text) (next : Reading) → Reached opened c text → IsFiller (level_in opened) before
+comment_stepped : (at : ℕ) (opened : List Opened) (c : Content) (text before bytes rest : Text) (next : ReadSoFar) → Reached opened c text → IsFiller (level_in opened) before
     → Takes IsComment bytes rest → mark_entered at Comment (state opened c) ≡ Ok next → Stepped text before bytes rest next
 unfolding mark_entered
 comment_stepped at opened c text before bytes rest next reached filler takes e = by (is_empty_level (level_in opened)) refl e
@@ -125,7 +125,7 @@ comment_stepped at opened c text before bytes rest next reached filler takes e =
     by : (t : Bool) → is_empty_level (level_in opened) ≡ t → cond t (fault at kinds.BadTag) (entry (state opened c)) ≡ entry next → Stepped text before bytes rest next
     by true may h = absurd (cc)
     by false may h =
-        let P : Reading → Type 0 = λ n. Reached n.opened n.content (text ++ (before ++ (60 ∷ takes.bytes))) in
+        let P : ReadSoFar → Type 0 = λ n. Reached n.opened n.content (text ++ (before ++ (60 ∷ takes.bytes))) in
         record {
           item = takes.bytes;
           whole = takes.whole;
@@ -133,33 +133,33 @@ comment_stepped at opened c text before bytes rest next reached filler takes e =
               (grow opened c c text (before ++ (60 ∷ takes.bytes)) (λ a t inside. Remark (level_in opened) a c t before takes.bytes inside may filler takes.is) reached);
         }
 
-end_stepped : (at : ℕ) (opened : List Opened) (c : Content) (text before bytes rest name : Text) (next : Reading) → Reached opened c text → IsFiller (level_in opened) before
+end_stepped : (at : ℕ) (opened : List Opened) (c : Content) (text before bytes rest name : Text) (next : ReadSoFar) → Reached opened c text → IsFiller (level_in opened) before
     → Takes (λ b. IsEndTag b name) bytes rest → mark_entered at (End name) (state opened c) ≡ Ok next → Stepped text before bytes rest next
-unfolding mark_entered left
+unfolding mark_entered end_entered
 end_stepped at [] c text before bytes rest name next reached filler takes e = absurd (cc)
 end_stepped at (o ∷ opened) c text before bytes rest name next reached filler takes e = by (bytes_eq o.name name) (bytes_eq-Decides o.name name).0 e
   where
-    by : (t : Bool) → (t ≡ true → o.name ≡ name) → cond t (entry (state opened (ended o.level c))) (fault at kinds.BadTag) ≡ entry next → Stepped text before bytes rest next
+    by : (t : Bool) → (t ≡ true → o.name ≡ name) → cond t (entry (state opened (element_ended o.level c))) (fault at kinds.BadTag) ≡ entry next → Stepped text before bytes rest next
     by true same h =
-        let P : Reading → Type 0 = λ n. Reached n.opened n.content (text ++ (before ++ (60 ∷ takes.bytes))) in
+        let P : ReadSoFar → Type 0 = λ n. Reached n.opened n.content (text ++ (before ++ (60 ∷ takes.bytes))) in
         let Q : Text → Type 0 = λ n. IsEndTag takes.bytes n in
         record {
           item = takes.bytes;
           whole = takes.whole;
-          reached = subst P (same_entry (state opened (ended o.level c)) next h) (close_reached o opened c text before takes.bytes reached filler (subst Q (sym (same refl)) takes.is));
+          reached = subst P (same_entry (state opened (element_ended o.level c)) next h) (close_reached o opened c text before takes.bytes reached filler (subst Q (sym (same refl)) takes.is));
         }
     by false same h = absurd (cc)
 
-start_stepped : (at : ℕ) (opened : List Opened) (c : Content) (text before bytes rest name : Text) (body : BodyText) (next : Reading) → Reached opened c text → IsFiller (level_in opened) before
+start_stepped : (at : ℕ) (opened : List Opened) (c : Content) (text before bytes rest name : Text) (body : BodyText) (next : ReadSoFar) → Reached opened c text → IsFiller (level_in opened) before
     → (body.malformed ≡ None → Takes (λ b. IsTag b name (map pair_of body.attrs) body.ending) bytes rest) → mark_entered at (Start name body) (state opened c) ≡ Ok next → Stepped text before bytes rest next
-unfolding mark_entered entered
+unfolding mark_entered start_entered
 start_stepped at opened c text before bytes rest name body next reached filler takes e =
     let went = bind_ok (element_read at name body (level_in opened) c) (λ x. entry (with_element body.ending name opened x)) next e in
     let inner = went.0.0 in
     let d = went.0.1 in
     let begins = read_begins at (level_in opened) c name body inner d went.1 in
     let taken = takes begins.0 in
-    let P : Reading → Type 0 = λ n. Reached n.opened n.content (text ++ (before ++ (60 ∷ taken.bytes))) in
+    let P : ReadSoFar → Type 0 = λ n. Reached n.opened n.content (text ++ (before ++ (60 ∷ taken.bytes))) in
     record {
       item = taken.bytes;
       whole = taken.whole;
@@ -170,9 +170,9 @@ start_stepped at opened c text before bytes rest name body next reached filler t
         → Reached (with_element ending name opened (inner, d)).opened (with_element ending name opened (inner, d)).content (text ++ (before ++ (60 ∷ tag)))
     by Opens inner d tag is begins = tag_reached opened c d text before tag name (map pair_of body.attrs) inner reached filler is begins
     by Closes inner d tag is begins =
-        grow opened c (ended inner d) text (before ++ (60 ∷ tag)) (λ a t inside. Leaf (level_in opened) inner a c d t before tag name (map pair_of body.attrs) inside filler is begins) reached
+        grow opened c (element_ended inner d) text (before ++ (60 ∷ tag)) (λ a t inside. Leaf (level_in opened) inner a c d t before tag name (map pair_of body.attrs) inside filler is begins) reached
 
-mark_stepped : (at : ℕ) (opened : List Opened) (c : Content) (text before bytes rest : Text) (mark : Mark) (next : Reading) → Reached opened c text → IsFiller (level_in opened) before
+mark_stepped : (at : ℕ) (opened : List Opened) (c : Content) (text before bytes rest : Text) (mark : Mark) (next : ReadSoFar) → Reached opened c text → IsFiller (level_in opened) before
     → TakesMark mark bytes rest → mark_entered at mark (state opened c) ≡ Ok next → Stepped text before bytes rest next
 mark_stepped at opened c text before bytes rest Comment next reached filler takes e = comment_stepped at opened c text before bytes rest next reached filler takes e
 mark_stepped at opened c text before bytes rest (End name) next reached filler takes e = end_stepped at opened c text before bytes rest name next reached filler takes e
@@ -203,7 +203,7 @@ pub record Found (bytes : Text) (content : Content) : Type 0 where
   pub text : Text
   pub behind : Text
   pub whole : bytes ≡ text ++ behind
-  pub inside : Inside level.Top nothing text content
+  pub inside : Inside level.Top new_content text content
   pub blank : AreBlank behind
   pub done : content.done ≡ true
 
@@ -277,6 +277,6 @@ sound (suc more) end content opened c text rest reached e =
     let taken = text_taken end (level_in opened) rest second.0 second.1 in
     from_rest end more content opened c text rest taken.text second.0 first.0 (λ o d t s h k. sound more end content o d t s h k) reached taken.whole taken.begins taken.filler second.2 first.2
 
-pub read_is_found : (more end : ℕ) (content : Content) (bytes : Text) → read_within more end (state [] nothing) bytes ≡ Ok content → Found bytes content
+pub read_is_found : (more end : ℕ) (content : Content) (bytes : Text) → read_within more end (state [] new_content) bytes ≡ Ok content → Found bytes content
 unfolding Onward
-read_is_found more end content bytes e = sound more end content [] nothing [] bytes (Bare level.Top nothing) e
+read_is_found more end content bytes e = sound more end content [] new_content [] bytes (Bare level.Top new_content) e

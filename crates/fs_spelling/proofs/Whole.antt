@@ -12,7 +12,7 @@ use Rattle.fs_doc.specs.declared.fault.DocFault.{DocFault}
 use Rattle.fs_doc.specs.declared.element.Level.TheVariants as level
 use Rattle.fs_doc.specs.declared.content.Content.{Content}
 use Rattle.fs_doc.specs.Faults.{fault}
-use Rattle.fs_doc.specs.Contents.{nothing}
+use Rattle.fs_doc.specs.Contents.{new_content}
 use Rattle.fs_doc.specs.Reading.{Configuration, configured, read_within, document_of, past_declaration, content_of, config_of}
 use Rattle.fs_spelling.specs.Tags.{AreBlank}
 use Rattle.fs_spelling.specs.Documents.{IsDocument, Spells}
@@ -29,10 +29,10 @@ document_read bytes content is =
     let end = length bytes in
     let rest = is.text ++ is.behind in
     let last = last_round end content is.behind is.blank is.done in
-    let all = goes end content level.Top nothing is.text content is.inside [] refl is.behind 1 last in
+    let all = goes end content level.Top new_content is.text content is.inside [] refl is.behind 1 last in
     let enough : all.fuel ≤ length rest + 1 = omega (arith, all.within, length-append is.text is.behind) in
-    let read = more_fuel end content all.fuel (length rest + 1) (state [] nothing) rest enough all.reads in
-    ap (λ (r : Result Text DocFault). r >>= λ t. read_within (length t + 1) end (state [] nothing) t) is.declared ∙ read
+    let read = more_fuel end content all.fuel (length rest + 1) (state [] new_content) rest enough all.reads in
+    ap (λ (r : Result Text DocFault). r >>= λ t. read_within (length t + 1) end (state [] new_content) t) is.declared ∙ read
 
 abbrev declared_read : Text → Result Text DocFault
 declared_read t = Ok t
@@ -40,7 +40,7 @@ declared_read t = Ok t
 document_found : (bytes : Text) (content : Content) → content_of bytes ≡ Ok content → IsDocument bytes content
 unfolding content_of document_of
 document_found bytes content e =
-    let went = bind_ok (past_declaration bytes) (λ t. read_within (length t + 1) (length bytes) (state [] nothing) t) content e in
+    let went = bind_ok (past_declaration bytes) (λ t. read_within (length t + 1) (length bytes) (state [] new_content) t) content e in
     let found = read_is_found (length went.0 + 1) (length bytes) content went.0 went.2 in
     record {
       text = found.text;
@@ -94,15 +94,15 @@ small_tested bytes small = grind (arith, nat_tests)
 pub spelt_is_read : (bytes : Text) (c : Configuration) → Spells bytes c → config_of bytes ≡ Ok c
 unfolding config_of
 spelt_is_read bytes c is =
-    ap (λ t. cond t (fault 1048576 kinds.TooLarge) (Configured (cond (length (past is_blank bytes) == 0) (contents nothing) (content_of bytes)))) (small_tested bytes is.small)
+    ap (λ t. cond t (fault 1048576 kinds.TooLarge) (Configured (cond (length (past is_blank bytes) == 0) (contents new_content) (content_of bytes)))) (small_tested bytes is.small)
     ∙ by is.content is.document ∙ ap Ok (sym is.says)
   where
-    by : (content : Content) → (AreBlank bytes × (content ≡ nothing)) ⊎ ((AreBlank bytes → ⊥) × IsDocument bytes content)
-        → Configured (cond (length (past is_blank bytes) == 0) (contents nothing) (content_of bytes)) ≡ Ok (configured content)
+    by : (content : Content) → (AreBlank bytes × (content ≡ new_content)) ⊎ ((AreBlank bytes → ⊥) × IsDocument bytes content)
+        → Configured (cond (length (past is_blank bytes) == 0) (contents new_content) (content_of bytes)) ≡ Ok (configured content)
     by content (inl blank) =
-        ap (λ t. Configured (cond t (contents nothing) (content_of bytes))) (blank_tested bytes blank.0) ∙ ap (λ d. Configured (contents d)) (sym blank.1)
+        ap (λ t. Configured (cond t (contents new_content) (content_of bytes))) (blank_tested bytes blank.0) ∙ ap (λ d. Configured (contents d)) (sym blank.1)
     by content (inr document) =
-        ap (λ t. Configured (cond t (contents nothing) (content_of bytes))) (not_blank_tested bytes document.0) ∙ ap Configured (document_read bytes content document.1)
+        ap (λ t. Configured (cond t (contents new_content) (content_of bytes))) (not_blank_tested bytes document.0) ∙ ap Configured (document_read bytes content document.1)
 
 abbrev told : Configuration → Result Configuration DocFault
 told c = Ok c
@@ -123,13 +123,13 @@ read_is_spelt bytes c e = by (nat_lt 1048576 (length bytes)) refl e
     no_blank : AreBlank bytes → (length (past is_blank bytes) == 0) ≡ false → ⊥
     no_blank blank other = let both : true ≡ false = sym (blank_tested bytes blank) ∙ other in cc
 
-    spelt : length bytes ≤ 1048576 → (t : Bool) → (length (past is_blank bytes) == 0) ≡ t → (content : Content) → cond t (contents nothing) (content_of bytes) ≡ Ok content → configured content ≡ c → Spells bytes c
-    spelt small true blank content k says = record { content = content; small = small; document = inl (past_blank bytes blank, sym (same_contents nothing content k)); says = sym says }
+    spelt : length bytes ≤ 1048576 → (t : Bool) → (length (past is_blank bytes) == 0) ≡ t → (content : Content) → cond t (contents new_content) (content_of bytes) ≡ Ok content → configured content ≡ c → Spells bytes c
+    spelt small true blank content k says = record { content = content; small = small; document = inl (past_blank bytes blank, sym (same_contents new_content content k)); says = sym says }
     spelt small false other content k says =
         record { content = content; small = small; document = inr (λ blank. no_blank blank other, document_found bytes content k); says = sym says }
 
-    by : (t : Bool) → nat_lt 1048576 (length bytes) ≡ t → cond t (fault 1048576 kinds.TooLarge) (Configured (cond (length (past is_blank bytes) == 0) (contents nothing) (content_of bytes))) ≡ told c → Spells bytes c
+    by : (t : Bool) → nat_lt 1048576 (length bytes) ≡ t → cond t (fault 1048576 kinds.TooLarge) (Configured (cond (length (past is_blank bytes) == 0) (contents new_content) (content_of bytes))) ≡ told c → Spells bytes c
     by true large k = absurd (cc)
     by false small k =
-        let went = bind_ok (cond (length (past is_blank bytes) == 0) (contents nothing) (content_of bytes)) (λ d. told (configured d)) c k in
+        let went = bind_ok (cond (length (past is_blank bytes) == 0) (contents new_content) (content_of bytes)) (λ d. told (configured d)) c k in
         spelt (large_tested bytes small) (length (past is_blank bytes) == 0) refl went.0 went.1 (same_told (configured went.0) c went.2)

@@ -12,7 +12,7 @@ use Rattle.fs_doc.specs.declared.content.Content.{Content}
 use Rattle.fs_doc.specs.Values.{replaced}
 use Rattle.fs_doc.specs.Elements.{kind_in, has, has_needed, is_foreign}
 use Rattle.fs_doc.specs.Attributes.{Tagged, is_timed, value_fault}
-use Rattle.fs_doc.specs.Contents.{nothing, begun, ended}
+use Rattle.fs_doc.specs.Contents.{new_content, element_begun, element_ended}
 use Rattle.fs_doc.specs.Reading.{Configuration, configured, is_empty_level, past_declaration}
 use Rattle.fs_spelling.specs.Values.{SpellsValue}
 use Rattle.fs_spelling.specs.Tags.{Pair, AreBlank, IsTag, IsEndTag, IsComment}
@@ -28,15 +28,15 @@ abbrev pub tag_of : Kind → Pairs → List Pair → Tagged
 tag_of kind globals pairs = record { kind = kind; tag = 0; globals = globals; attrs = map unplaced pairs }
 
 -- the globals are put into a decoded value, but not in a foreign place
-abbrev pub text_of : Tagged → Text → Text
-text_of e decoded = if is_foreign e.kind then decoded else replaced e.globals decoded
+abbrev pub text_with_globals : Tagged → Text → Text
+text_with_globals e decoded = if is_foreign e.kind then decoded else replaced e.globals decoded
 
 -- the attributes say these texts behind those before: no name stands twice, and nothing is wrong with a text
 pub data Say : (e : Tagged) (before : Pairs) (pairs : List Pair) (texts : Pairs) → Type 0 where
   SayNoMore : (e : Tagged) (before : Pairs) → Say e before [] before
   SayOneMore : (e : Tagged) (before : Pairs) (pair : Pair) (pairs : List Pair) (decoded : Text) (texts : Pairs) → has before pair.name ≡ false → is_timed e.kind pair.name ≡ false
-      → SpellsValue (is_foreign e.kind) pair.value decoded → value_fault e pair.name (text_of e decoded) ≡ None
-      → Say e (before ++ (pair.name, text_of e decoded) ∷ []) pairs texts → Say e before (pair ∷ pairs) texts
+      → SpellsValue (is_foreign e.kind) pair.value decoded → value_fault e pair.name (text_with_globals e decoded) ≡ None
+      → Say e (before ++ (pair.name, text_with_globals e decoded) ∷ []) pairs texts → Say e before (pair ∷ pairs) texts
 
 -- ---- elements
 
@@ -48,7 +48,7 @@ pub record Begins (outer : Level) (c : Content) (name : Text) (pairs : List Pair
   pub known : kind_in outer c.done name ≡ Ok kind
   pub say : Say (tag_of kind c.globals.pairs pairs) [] pairs texts
   pub needed : has_needed kind texts ≡ true
-  pub begins : begun kind texts c ≡ Ok (inner, d)
+  pub begins : element_begun kind texts c ≡ Ok (inner, d)
 
 -- what may stand between markup: in a foreign place any text, elsewhere blanks
 abbrev pub IsFiller : Level → Text → Type 0
@@ -62,10 +62,10 @@ pub data Inside : (outer : Level) (c : Content) (text : Text) (d : Content) → 
   Remark : (outer : Level) (c d : Content) (text before mark : Text) → Inside outer c text d → is_empty_level outer ≡ false → IsFiller outer before → IsComment mark
       → Inside outer c (text ++ (before ++ (60 ∷ mark))) d
   Leaf : (outer inner : Level) (c d e : Content) (text before tag name : Text) (pairs : List Pair) → Inside outer c text d → IsFiller outer before → IsTag tag name pairs Closes
-      → Begins outer d name pairs inner e → Inside outer c (text ++ (before ++ (60 ∷ tag))) (ended inner e)
+      → Begins outer d name pairs inner e → Inside outer c (text ++ (before ++ (60 ∷ tag))) (element_ended inner e)
   Holder : (outer inner : Level) (c d e f : Content) (text before tag held behind close name : Text) (pairs : List Pair) → Inside outer c text d → IsFiller outer before
       → IsTag tag name pairs Opens → Begins outer d name pairs inner e → Inside inner e held f → IsFiller inner behind → IsEndTag close name
-      → Inside outer c (text ++ (before ++ ((60 ∷ tag) ++ (held ++ (behind ++ (60 ∷ close)))))) (ended inner f)
+      → Inside outer c (text ++ (before ++ ((60 ∷ tag) ++ (held ++ (behind ++ (60 ∷ close)))))) (element_ended inner f)
 
 -- ---- documents
 
@@ -74,7 +74,7 @@ pub record IsDocument (bytes : Text) (content : Content) : Type 0 where
   pub text : Text
   pub behind : Text
   pub declared : past_declaration bytes ≡ Ok (text ++ behind)
-  pub inside : Inside level.Top nothing text content
+  pub inside : Inside level.Top new_content text content
   pub blank : AreBlank behind
   pub done : content.done ≡ true
 
@@ -82,5 +82,5 @@ pub record IsDocument (bytes : Text) (content : Content) : Type 0 where
 pub record Spells (bytes : Text) (c : Configuration) : Type 0 where
   pub content : Content
   pub small : length bytes ≤ 1048576
-  pub document : (AreBlank bytes × (content ≡ nothing)) ⊎ ((AreBlank bytes → ⊥) × IsDocument bytes content)
+  pub document : (AreBlank bytes × (content ≡ new_content)) ⊎ ((AreBlank bytes → ⊥) × IsDocument bytes content)
   pub says : c ≡ configured content

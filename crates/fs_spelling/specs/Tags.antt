@@ -42,15 +42,15 @@ pub data AreAttributes : List ℕ → List Pair → Type 0 where
   NoMore : AreAttributes [] []
   OneMore : (front rest : List ℕ) (pair : Pair) (pairs : List Pair) → IsAttribute front pair → AreAttributes rest pairs → AreAttributes (front ++ rest) (pair ∷ pairs)
 
-abbrev pub end_of : Ending → List ℕ
-end_of Opens = codes ">"
-end_of Closes = codes "/>"
+abbrev pub ending_text : Ending → List ℕ
+ending_text Opens = codes ">"
+ending_text Closes = codes "/>"
 
 -- attributes, blanks, and the end of the tag
 pub record IsBody (bytes : List ℕ) (pairs : List Pair) (ending : Ending) : Type 0 where
   pub attributes : List ℕ
   pub gap : List ℕ
-  pub whole : bytes ≡ attributes ++ (gap ++ end_of ending)
+  pub whole : bytes ≡ attributes ++ (gap ++ ending_text ending)
   pub are : AreAttributes attributes pairs
   pub gap_blank : AreBlank gap
 

@@ -11,7 +11,7 @@ use Rattle.fs_places.specs.declared.numbered.Numbered.{Numbered}
 use Rattle.fs_places.specs.Rows.{place_of}
 use Rattle.fs_state.specs.declared.conn.Conn.{Conn}
 use Rattle.fs_state.specs.declared.gift.Gift.{Gift}
-use Rattle.fs_state.specs.Queues.{Frames, queue_at, with_queue, with_frames, requeued, given_at, delivered, frames_given, HaveRoom}
+use Rattle.fs_state.specs.Queues.{Frames, queue_at, with_queue, with_frames, requeued, with_frames_at, delivered, frames_given, HaveRoom}
 
 -- less fits where more does
 pub room_less : (queues : List Frames) (n m : ℕ) → n ≤ m → HaveRoom queues m → HaveRoom queues n
@@ -72,8 +72,8 @@ room_requeued (Cleared place) queues n h = room_with place [] queues n 0 (omega 
 
 pub delivered_at : (conns : List (Option (Numbered Conn))) (gift : Gift) (gifts : List Gift) (queues : List Frames) (place : ℕ) → place_of conns gift.conn ≡ Some place →
     delivered conns (gift ∷ gifts) queues ≡ delivered conns gifts (with_frames place gift.frames queues)
-delivered_at conns gift gifts queues place is = ap (λ at. delivered conns gifts (given_at at gift.frames queues)) is
+delivered_at conns gift gifts queues place is = ap (λ at. delivered conns gifts (with_frames_at at gift.frames queues)) is
 
 pub delivered_nowhere : (conns : List (Option (Numbered Conn))) (gift : Gift) (gifts : List Gift) (queues : List Frames) → place_of conns gift.conn ≡ None →
     delivered conns (gift ∷ gifts) queues ≡ delivered conns gifts queues
-delivered_nowhere conns gift gifts queues is = ap (λ at. delivered conns gifts (given_at at gift.frames queues)) is
+delivered_nowhere conns gift gifts queues is = ap (λ at. delivered conns gifts (with_frames_at at gift.frames queues)) is

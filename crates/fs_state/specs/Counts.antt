@@ -16,8 +16,8 @@ pub record Tallies : Type 0 where
 unfoldable pub zeros : ℕ → List ℕ
 zeros count = replicate count 0
 
-abbrev pub none_counted : Tallies
-none_counted = record { events = zeros 16; hangups = zeros 606 }
+abbrev pub no_tallies : Tallies
+no_tallies = record { events = zeros 16; hangups = zeros 606 }
 
 -- the count at a number
 abbrev pub counted_at : List ℕ → ℕ → ℕ
@@ -27,18 +27,19 @@ counted_at counts number = get_or counts number 0
 abbrev pub raised_at : ℕ → List ℕ → List ℕ
 raised_at number counts = slice_set counts number (min (counted_at counts number + 1) (2 ^ 64 - 1))
 
-abbrev pub hangup_counted : Option Cause → List ℕ → List ℕ
-hangup_counted None hangups = hangups
-hangup_counted (Some cause) hangups = raised_at (cause_number cause) hangups
+abbrev pub with_hangup_counted : Option Cause → List ℕ → List ℕ
+with_hangup_counted None hangups = hangups
+with_hangup_counted (Some cause) hangups = raised_at (cause_number cause) hangups
 
 -- with one more event
-abbrev pub counted : Event → Tallies → Tallies
-counted event t = record { events = raised_at (event_number event.name) t.events; hangups = hangup_counted event.cause t.hangups }
+abbrev pub with_event_counted : Event → Tallies → Tallies
+with_event_counted event t =
+    record { events = raised_at (event_number event.name) t.events; hangups = with_hangup_counted event.cause t.hangups }
 
 -- with these events, one after another
-abbrev pub all_counted : List Event → Tallies → Tallies
-all_counted [] t = t
-all_counted (event ∷ events) t = all_counted events (counted event t)
+abbrev pub with_events_counted : List Event → Tallies → Tallies
+with_events_counted [] t = t
+with_events_counted (event ∷ events) t = with_events_counted events (with_event_counted event t)
 
 -- ---- what the counts tell of all events so far
 

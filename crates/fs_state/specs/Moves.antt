@@ -7,61 +7,62 @@ use Rattle.fs_text.specs.State.{state_number}
 use Rattle.fs_text.specs.declared.causes.Cause.{Cause}
 use Rattle.fs_text.specs.declared.event_names.EventName.{EventName}
 use Rattle.fs_text.specs.declared.event_names.EventName.TheVariants.{ChannelCreate, ChannelState, ChannelAnswer, ChannelExecute, ChannelExecuteComplete, ChannelPark, ChannelUnpark, ChannelHangup, ChannelHangupComplete, ChannelDestroy}
-use Rattle.fs_chan.specs.Changes.{is_live, entered, answered_at, gone_on, hung_up}
+use Rattle.fs_chan.specs.Changes.{is_live, in_state, with_answer_place, at_rest, hung_up}
 use Rattle.fs_chan.specs.declared.action.Action.{Action}
 use Rattle.fs_chan.specs.declared.chan.Chan.{Chan}
 use Rattle.fs_orig.specs.declared.orig.Orig.{Orig}
 use Rattle.fs_orig.specs.Legs.{position_in}
 use Rattle.fs_orig.specs.Changes.{with_answer, with_death}
 use Rattle.fs_state.specs.declared.event.Event.{Event}
-use Rattle.fs_state.specs.Switch.{Switch, chan_at, with_chan, orig_of, with_orig, told}
+use Rattle.fs_state.specs.Switch.{Switch, chan_at, with_chan, orig_of, with_orig, with_event}
 
 -- an event that tells of no bridge and of no cause
-abbrev pub happens : EventName → Event
-happens name = record { name = name; bridge = 0; cause = None }
+abbrev pub plain_event : EventName → Event
+plain_event name = record { name = name; bridge = 0; cause = None }
 
 -- ---- changes of state
 
 -- a channel left a state
-abbrev pub left_told : State → Switch → Switch
-left_told CsPark s = told (happens ChannelUnpark) s
-left_told _ s = s
+abbrev pub with_leaving_event : State → Switch → Switch
+with_leaving_event CsPark s = with_event (plain_event ChannelUnpark) s
+with_leaving_event _ s = s
 
 -- a channel came to a state
-abbrev pub come_told : State → Switch → Switch
-come_told CsPark s = told (happens ChannelPark) s
-come_told _ s = s
+abbrev pub with_coming_event : State → Switch → Switch
+with_coming_event CsPark s = with_event (plain_event ChannelPark) s
+with_coming_event _ s = s
 
 -- a channel went from one state to another: nothing where it stayed
-abbrev pub state_told : State → State → Switch → Switch
-state_told old new s =
-    if state_number old == state_number new then s else told (happens ChannelState) (come_told new (left_told old s))
+abbrev pub with_state_events : State → State → Switch → Switch
+with_state_events old new s =
+    if state_number old == state_number new then s
+    else with_event (plain_event ChannelState) (with_coming_event new (with_leaving_event old s))
 
 -- the channel in a slot is changed, and tells of its change of state; where there is none nothing changes
-abbrev pub moved_from : (Chan → Chan) → ℕ → Option Chan → Switch → Switch
-moved_from change slot None s = s
-moved_from change slot (Some c) s = state_told c.state (change c).state (with_chan slot (Some (change c)) s)
+abbrev pub after_move_from : (Chan → Chan) → ℕ → Option Chan → Switch → Switch
+after_move_from change slot None s = s
+after_move_from change slot (Some c) s = with_state_events c.state (change c).state (with_chan slot (Some (change c)) s)
 
-abbrev pub moved : (Chan → Chan) → ℕ → Switch → Switch
-moved change slot s = moved_from change slot (chan_at s slot) s
+abbrev pub after_move : (Chan → Chan) → ℕ → Switch → Switch
+after_move change slot s = after_move_from change slot (chan_at s slot) s
 
 -- a channel begins
-abbrev pub begun : ℕ → Switch → Switch
-begun slot s = moved (entered CsInit) slot (told (happens ChannelCreate) s)
+abbrev pub after_begin : ℕ → Switch → Switch
+after_begin slot s = after_move (in_state CsInit) slot (with_event (plain_event ChannelCreate) s)
 
 -- ---- applications
 
 -- a channel that has begun an application
-abbrev pub running : Action → Chan → Chan
-running action c = record c { running = Some action }
+abbrev pub with_running : Action → Chan → Chan
+with_running action c = record c { running = Some action }
 
 -- an application begins
 abbrev pub run_on : Action → ℕ → Switch → Switch
-run_on action slot s = told (happens ChannelExecute) (moved (running action) slot s)
+run_on action slot s = with_event (plain_event ChannelExecute) (after_move (with_running action) slot s)
 
 -- the running application is over
-abbrev pub completed : ℕ → Switch → Switch
-completed slot s = told (happens ChannelExecuteComplete) (moved gone_on slot s)
+abbrev pub after_completion : ℕ → Switch → Switch
+after_completion slot s = with_event (plain_event ChannelExecuteComplete) (after_move at_rest slot s)
 
 -- ---- originations
 
@@ -89,15 +90,15 @@ its_leg_changed change slot (Some number) s = orig_changed (leg_changed change s
 -- ---- answers
 
 -- a channel is answered, where it was not, and so is the leg that it is
-abbrev pub answered_from : ℕ → Option Chan → Switch → Switch
-answered_from slot None s = s
-answered_from slot (Some c) s =
+abbrev pub after_answer_from : ℕ → Option Chan → Switch → Switch
+after_answer_from slot None s = s
+after_answer_from slot (Some c) s =
     if is_none c.answered
-    then its_leg_changed (λ position. with_answer position s.entries) slot c.leg_of (told (happens ChannelAnswer) (with_chan slot (Some (answered_at s.entries c)) s))
+    then its_leg_changed (λ position. with_answer position s.entries) slot c.leg_of (with_event (plain_event ChannelAnswer) (with_chan slot (Some (with_answer_place s.entries c)) s))
     else s
 
-abbrev pub one_answered : ℕ → Switch → Switch
-one_answered slot s = answered_from slot (chan_at s slot) s
+abbrev pub after_one_answer : ℕ → Switch → Switch
+after_one_answer slot s = after_answer_from slot (chan_at s slot) s
 
 abbrev pub partner_of : Chan → Option ℕ
 partner_of c = c.partner
@@ -112,39 +113,40 @@ for_slot move None s = s
 for_slot move (Some slot) s = move slot s
 
 -- a channel is answered, and then its partner
-abbrev pub answered : ℕ → Switch → Switch
-answered slot s = for_slot one_answered (partner_at s slot) (one_answered slot s)
+abbrev pub after_answer : ℕ → Switch → Switch
+after_answer slot s = for_slot after_one_answer (partner_at s slot) (after_one_answer slot s)
 
 -- ---- the end of channels
 
 -- why a channel is hung up
-abbrev pub hangup_of : Cause → Event
-hangup_of cause = record { name = ChannelHangup; bridge = 0; cause = Some cause }
+abbrev pub hangup_event : Cause → Event
+hangup_event cause = record { name = ChannelHangup; bridge = 0; cause = Some cause }
 
 -- a live channel is hung up, and the leg that it is dies
-abbrev pub hung_from : Cause → ℕ → Option Chan → Switch → Switch
-hung_from cause slot None s = s
-hung_from cause slot (Some c) s =
+abbrev pub after_hangup_from : Cause → ℕ → Option Chan → Switch → Switch
+after_hangup_from cause slot None s = s
+after_hangup_from cause slot (Some c) s =
     if is_live c then its_leg_changed (λ position. with_death position s.entries cause) slot c.leg_of
-    (state_told c.state CsHangup (told (hangup_of cause) (with_chan slot (Some (hung_up cause c)) s)))
+    (with_state_events c.state CsHangup (with_event (hangup_event cause) (with_chan slot (Some (hung_up cause c)) s)))
     else s
 
-abbrev pub one_hung : Cause → ℕ → Switch → Switch
-one_hung cause slot s = hung_from cause slot (chan_at s slot) s
+abbrev pub after_one_hangup : Cause → ℕ → Switch → Switch
+after_one_hangup cause slot s = after_hangup_from cause slot (chan_at s slot) s
 
 -- a channel is hung up, and its partner with it, in the order of their slots
-abbrev pub hung_with : Cause → ℕ → Option ℕ → Switch → Switch
-hung_with cause slot None s = one_hung cause slot s
-hung_with cause slot (Some partner) s =
-    if nat_lt slot partner then one_hung cause partner (one_hung cause slot s) else one_hung cause slot (one_hung cause partner s)
+abbrev pub after_hangup_with : Cause → ℕ → Option ℕ → Switch → Switch
+after_hangup_with cause slot None s = after_one_hangup cause slot s
+after_hangup_with cause slot (Some partner) s =
+    if nat_lt slot partner then after_one_hangup cause partner (after_one_hangup cause slot s)
+    else after_one_hangup cause slot (after_one_hangup cause partner s)
 
-abbrev pub hung : Cause → ℕ → Switch → Switch
-hung cause slot s = hung_with cause slot (partner_at s slot) s
+abbrev pub after_hangup : Cause → ℕ → Switch → Switch
+after_hangup cause slot s = after_hangup_with cause slot (partner_at s slot) s
 
 -- the end of a call is told
-abbrev pub reported : ℕ → Switch → Switch
-reported slot s = moved (entered CsReporting) slot (told (happens ChannelHangupComplete) s)
+abbrev pub after_report : ℕ → Switch → Switch
+after_report slot s = after_move (in_state CsReporting) slot (with_event (plain_event ChannelHangupComplete) s)
 
 -- a channel is gone, and its slot is free
-abbrev pub destroyed : ℕ → Switch → Switch
-destroyed slot s = told (happens ChannelDestroy) (told (happens ChannelState) (with_chan slot None s))
+abbrev pub after_destroy : ℕ → Switch → Switch
+after_destroy slot s = with_event (plain_event ChannelDestroy) (with_event (plain_event ChannelState) (with_chan slot None s))

@@ -28,12 +28,12 @@ abbrev pub with_queue : ℕ → Frames → List Frames → List Frames
 with_queue place queue queues = slice_set queues place queue
 
 -- without the first frame of a place
-abbrev pub first_taken : ℕ → List Frames → List Frames
-first_taken place queues = with_queue place (drop 1 (queue_at queues place)) queues
+abbrev pub without_first_frame : ℕ → List Frames → List Frames
+without_first_frame place queues = with_queue place (drop 1 (queue_at queues place)) queues
 
 -- with nothing at a place
-abbrev pub all_taken : ℕ → List Frames → List Frames
-all_taken place queues = with_queue place [] queues
+abbrev pub without_frames : ℕ → List Frames → List Frames
+without_frames place queues = with_queue place [] queues
 
 -- with frames behind all others of a place
 abbrev pub with_frames : ℕ → Frames → List Frames → List Frames
@@ -42,20 +42,20 @@ with_frames place frames queues = with_queue place (queue_at queues place ++ fra
 -- what a change does to the queues
 abbrev pub requeued : QueueChange → List Frames → List Frames
 requeued Unchanged queues = queues
-requeued (Taken place) queues = first_taken place queues
-requeued (Cleared place) queues = all_taken place queues
+requeued (Taken place) queues = without_first_frame place queues
+requeued (Cleared place) queues = without_frames place queues
 
 -- ---- what an entry gives
 
 -- frames for a connection that stands at a place, or for none
-abbrev pub given_at : Option ℕ → Frames → List Frames → List Frames
-given_at None frames queues = queues
-given_at (Some place) frames queues = with_frames place frames queues
+abbrev pub with_frames_at : Option ℕ → Frames → List Frames → List Frames
+with_frames_at None frames queues = queues
+with_frames_at (Some place) frames queues = with_frames place frames queues
 
 -- with what is given to connections; what is given to one that is not there is dropped
 abbrev pub delivered : List (Option (Numbered Conn)) → List Gift → List Frames → List Frames
 delivered conns [] queues = queues
-delivered conns (gift ∷ gifts) queues = delivered conns gifts (given_at (place_of conns gift.conn) gift.frames queues)
+delivered conns (gift ∷ gifts) queues = delivered conns gifts (with_frames_at (place_of conns gift.conn) gift.frames queues)
 
 -- how many frames are given
 abbrev pub frames_given : List Gift → ℕ

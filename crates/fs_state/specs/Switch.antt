@@ -18,8 +18,8 @@ use Rattle.fs_state.specs.declared.gift.Gift.{Gift}
 use Rattle.fs_state.specs.declared.job.Job.{Job}
 use Rattle.fs_state.specs.Drawn as numbers
 use Rattle.fs_state.specs.Drawn.{none_drawn}
-use Rattle.fs_state.specs.Counts.{Tallies, none_counted, all_counted}
-use Rattle.fs_state.specs.Queues.{Frames, no_queues, queue_at, first_taken, all_taken, delivered}
+use Rattle.fs_state.specs.Counts.{Tallies, no_tallies, with_events_counted}
+use Rattle.fs_state.specs.Queues.{Frames, no_queues, queue_at, without_first_frame, without_frames, delivered}
 
 -- A switch between entries, and while an entry is done. Channels stand at their slots, from 1 on; all else has a number. What happens in
 -- the entry in hand, and what it gives to connections, is kept until the entry is over.
@@ -60,7 +60,7 @@ empty config = record {
   entries = 0;
   cost = 0;
   stopping = None;
-  counts = none_counted;
+  counts = no_tallies;
   news = [];
   given = [];
 }
@@ -68,16 +68,16 @@ empty config = record {
 -- ---- the numbers that are drawn
 
 -- the number that the next origination gets
-abbrev pub next_orig : Switch → ℕ
-next_orig s = (numbers.with_orig s.drawn).origs
+abbrev pub next_orig_number : Switch → ℕ
+next_orig_number s = (numbers.with_orig s.drawn).origs
 
 -- the number that the next job gets
-abbrev pub next_job : Switch → ℕ
-next_job s = (numbers.with_job s.drawn).jobs
+abbrev pub next_job_number : Switch → ℕ
+next_job_number s = (numbers.with_job s.drawn).jobs
 
 -- with one more identifier drawn
-abbrev pub identified : Switch → Switch
-identified s = record s { drawn = numbers.with_identifier s.drawn }
+abbrev pub with_next_identifier : Switch → Switch
+with_next_identifier s = record s { drawn = numbers.with_identifier s.drawn }
 
 -- the identifier that was drawn last
 abbrev pub identifier_of : Switch → Text
@@ -115,7 +115,7 @@ without_orig number s = record s { origs = without_row s.origs number }
 
 -- with one more origination, of the next number
 abbrev pub with_new_orig : Orig → Switch → Switch
-with_new_orig orig s = record s { drawn = numbers.with_orig s.drawn; origs = with_new_row s.origs (next_orig s) orig }
+with_new_orig orig s = record s { drawn = numbers.with_orig s.drawn; origs = with_new_row s.origs (next_orig_number s) orig }
 
 abbrev pub job_of : Switch → ℕ → Option Job
 job_of s number = row_of s.jobs number
@@ -125,7 +125,7 @@ without_job number s = record s { jobs = without_row s.jobs number }
 
 -- with one more job, of the next number
 abbrev pub with_new_job : Job → Switch → Switch
-with_new_job job s = record s { drawn = numbers.with_job s.drawn; jobs = with_new_row s.jobs (next_job s) job }
+with_new_job job s = record s { drawn = numbers.with_job s.drawn; jobs = with_new_row s.jobs (next_job_number s) job }
 
 -- what stands at a place for a job
 abbrev pub job_at : Switch → ℕ → Option (Numbered Job)
@@ -165,33 +165,34 @@ changed_at change (Some place) queues = change place queues
 
 -- the first frame that waits for a connection is taken
 abbrev pub with_frame_taken : ℕ → Switch → Switch
-with_frame_taken number s = record s { queues = changed_at first_taken (place_of s.conns number) s.queues }
+with_frame_taken number s = record s { queues = changed_at without_first_frame (place_of s.conns number) s.queues }
 
 -- a connection is gone, and with it the frames that wait for it
 abbrev pub without_conn : ℕ → Switch → Switch
-without_conn number s = record s { conns = without_row s.conns number; queues = changed_at all_taken (place_of s.conns number) s.queues }
+without_conn number s =
+    record s { conns = without_row s.conns number; queues = changed_at without_frames (place_of s.conns number) s.queues }
 
 -- ---- the entry in hand
 
 -- the clock comes to a moment; it never goes back
-abbrev pub advanced : ℕ → Switch → Switch
-advanced now s = record s { moment = max s.moment now }
+abbrev pub at_moment : ℕ → Switch → Switch
+at_moment now s = record s { moment = max s.moment now }
 
 -- something happened
-abbrev pub told : Event → Switch → Switch
-told event s = record s { news = s.news ++ event ∷ [] }
+abbrev pub with_event : Event → Switch → Switch
+with_event event s = record s { news = s.news ++ event ∷ [] }
 
 -- a frame is given to a connection
-abbrev pub gave : ℕ → List ℕ → Switch → Switch
-gave conn frame s = record s { given = s.given ++ record { conn = conn; frames = frame ∷ [] } ∷ [] }
+abbrev pub with_gift : ℕ → List ℕ → Switch → Switch
+with_gift conn frame s = record s { given = s.given ++ record { conn = conn; frames = frame ∷ [] } ∷ [] }
 
 -- the entry is over, at this cost; a count stands still at 2^64 - 1
-abbrev pub closed : ℕ → Switch → Switch
-closed cost s = record s {
+abbrev pub after_entry : ℕ → Switch → Switch
+after_entry cost s = record s {
   queues = delivered s.conns s.given s.queues;
   entries = min (s.entries + 1) (2 ^ 64 - 1);
   cost = min (s.cost + cost) (2 ^ 64 - 1);
-  counts = all_counted s.news s.counts;
+  counts = with_events_counted s.news s.counts;
   news = [];
   given = [];
 }

@@ -2,7 +2,7 @@ ghost use Rattle.std.specs.Prelude.{◌≡◌, IfOk, OnOk};
 ghost use Rattle.fs_chan.specs.Changes as channel;
 ghost use Rattle.fs_orig.specs.Changes as changes;
 ghost use Rattle.fs_state.specs.Drafts.{drafted};
-ghost use Rattle.fs_state.specs.Switch.{told};
+ghost use Rattle.fs_state.specs.Switch.{with_event};
 ghost use Rattle.fs_state.specs.Moves as spec;
 
 use crate::draft::Draft;
@@ -22,7 +22,7 @@ impl<'a> Draft<'a> {
     /// The channel in a slot is answered by the entry in hand, where it was not, and so is its partner.
     pub fn answer(&mut self, slot: u16) -> Result<(), Memory>
         ensures base { self.new.base ≡ self.old.base }
-        ensures ok { OnOk result (drafted self.new ≡ spec.answered slot (drafted self.old)) }
+        ensures ok { OnOk result (drafted self.new ≡ spec.after_answer slot (drafted self.old)) }
     {
         let partner = self.partner(slot);
         self.answer_one(slot)?;
@@ -35,7 +35,7 @@ impl<'a> Draft<'a> {
     /// A channel is answered, where it was not, and so is the leg that it is.
     fn answer_one(&mut self, slot: u16) -> Result<(), Memory>
         ensures base { self.new.base ≡ self.old.base }
-        ensures ok { OnOk result (drafted self.new ≡ spec.one_answered slot (drafted self.old)) }
+        ensures ok { OnOk result (drafted self.new ≡ spec.after_one_answer slot (drafted self.old)) }
     {
         let Some(chan) = self.chan(slot) else {
             return Ok(());
@@ -68,7 +68,7 @@ impl<'a> Draft<'a> {
     /// The channel in a slot is hung up, and its partner with it, in the order of their slots.
     pub fn hang_up(&mut self, slot: u16, cause: Cause) -> Result<(), Memory>
         ensures base { self.new.base ≡ self.old.base }
-        ensures ok { OnOk result (drafted self.new ≡ spec.hung cause slot (drafted self.old)) }
+        ensures ok { OnOk result (drafted self.new ≡ spec.after_hangup cause slot (drafted self.old)) }
     {
         match self.partner(slot) {
             None => self.hang_one(slot, cause),
@@ -86,7 +86,7 @@ impl<'a> Draft<'a> {
     /// A live channel is hung up, and the leg that it is dies.
     fn hang_one(&mut self, slot: u16, cause: Cause) -> Result<(), Memory>
         ensures base { self.new.base ≡ self.old.base }
-        ensures ok { OnOk result (drafted self.new ≡ spec.one_hung cause slot (drafted self.old)) }
+        ensures ok { OnOk result (drafted self.new ≡ spec.after_one_hangup cause slot (drafted self.old)) }
     {
         let Some(chan) = self.chan(slot) else {
             return Ok(());
@@ -105,7 +105,7 @@ impl<'a> Draft<'a> {
     /// A channel was hung up with a cause.
     fn tell_hangup(&mut self, cause: Cause) -> Result<(), Memory>
         ensures base { self.new.base ≡ self.old.base }
-        ensures ok { OnOk result (drafted self.new ≡ told (spec.hangup_of cause) (drafted self.old)) }
+        ensures ok { OnOk result (drafted self.new ≡ with_event (spec.hangup_event cause) (drafted self.old)) }
     {
         self.tell(Event {
             name: EventName::ChannelHangup,
@@ -132,7 +132,7 @@ impl<'a> Draft<'a> {
     /// The channel in a slot is gone, and the slot is free.
     pub fn destroy(&mut self, slot: u16) -> Result<(), Memory>
         ensures base { self.new.base ≡ self.old.base }
-        ensures ok { OnOk result (drafted self.new ≡ spec.destroyed slot (drafted self.old)) }
+        ensures ok { OnOk result (drafted self.new ≡ spec.after_destroy slot (drafted self.old)) }
     {
         self.put_chan(slot, None)?;
         self.tell_of(EventName::ChannelState)?;
@@ -142,7 +142,7 @@ impl<'a> Draft<'a> {
 
 /// A channel once more, answered by the entry at a place.
 fn answered(chan: &Chan, place: u64) -> Result<Chan, Memory>
-    ensures { IfOk result (λ c. c ≡ channel.answered_at place chan.now) }
+    ensures { IfOk result (λ c. c ≡ channel.with_answer_place place chan.now) }
 {
     let mut chan = chan.copy()?;
     let _is = chan.answer(place);

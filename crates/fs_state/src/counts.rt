@@ -32,7 +32,7 @@ const CAUSES: usize = 606;
 impl Counts {
     /// Nothing was counted.
     pub fn new(alloc: Global) -> Result<Counts, Memory>
-        ensures { IfOk result (λ counts. counts ≡ spec.none_counted) }
+        ensures { IfOk result (λ counts. counts ≡ spec.no_tallies) }
     {
         Ok(Counts {
             events: zeros(alloc, EVENTS)?,
@@ -56,7 +56,7 @@ impl Counts {
 
     /// One more event.
     pub fn count(&mut self, event: Event)
-        ensures { self.new ≡ spec.counted event self.old }
+        ensures { self.new ≡ spec.with_event_counted event self.old }
     {
         count_at(&mut self.events, event.name.number());
         if let Some(cause) = event.cause {
@@ -66,7 +66,7 @@ impl Counts {
 
     /// So many events more.
     pub fn count_all(&mut self, events: &[Event])
-        ensures { self.new ≡ spec.all_counted events.now self.old }
+        ensures { self.new ≡ spec.with_events_counted events.now self.old }
     {
         for event in events {
             self.count(*event);

@@ -152,7 +152,7 @@ impl<'a> Draft<'a> {
     /// The clock comes to a moment; it never goes back.
     pub fn advance(&mut self, now: u64)
         ensures base { self.new.base ≡ self.old.base }
-        ensures advanced { drafted self.new ≡ spec.advanced now (drafted self.old) }
+        ensures advanced { drafted self.new ≡ spec.at_moment now (drafted self.old) }
         ensures queue { self.new.delta.queue ≡ self.old.delta.queue }
     {
         self.moment = self.moment.max(now);
@@ -161,7 +161,7 @@ impl<'a> Draft<'a> {
     /// Something happens.
     pub fn tell(&mut self, event: Event) -> Result<(), Memory>
         ensures base { self.new.base ≡ self.old.base }
-        ensures ok { OnOk result (drafted self.new ≡ spec.told event (drafted self.old)) }
+        ensures ok { OnOk result (drafted self.new ≡ spec.with_event event (drafted self.old)) }
     {
         self.news.push(event)
     }
@@ -169,7 +169,7 @@ impl<'a> Draft<'a> {
     /// A frame is given to the connection of a number.
     pub fn give(&mut self, conn: u32, frame: Txt) -> Result<(), Memory>
         ensures base { self.new.base ≡ self.old.base }
-        ensures ok { OnOk result (drafted self.new ≡ spec.gave conn frame (drafted self.old)) }
+        ensures ok { OnOk result (drafted self.new ≡ spec.with_gift conn frame (drafted self.old)) }
     {
         self.given.push(conn, frame)
     }
@@ -178,14 +178,14 @@ impl<'a> Draft<'a> {
 
     /// The number that the next origination gets.
     pub fn next_orig(&self) -> u64
-        ensures { result ≡ spec.next_orig (drafted self.now) }
+        ensures { result ≡ spec.next_orig_number (drafted self.now) }
     {
         self.drawn.with_orig().origs
     }
 
     /// The number that the next job gets.
     pub fn next_job(&self) -> u64
-        ensures { result ≡ spec.next_job (drafted self.now) }
+        ensures { result ≡ spec.next_job_number (drafted self.now) }
     {
         self.drawn.with_job().jobs
     }
@@ -194,7 +194,7 @@ impl<'a> Draft<'a> {
     pub fn draw_identifier(&mut self) -> Result<Txt, Memory>
         ensures base { self.new.base ≡ self.old.base }
         ensures identifier { IfOk result (λ text. text ≡ spec.identifier_of (drafted self.new)) }
-        ensures ok { OnOk result (drafted self.new ≡ spec.identified (drafted self.old)) }
+        ensures ok { OnOk result (drafted self.new ≡ spec.with_next_identifier (drafted self.old)) }
     {
         self.drawn = self.drawn.with_identifier();
         let core = self.core;
@@ -318,7 +318,7 @@ impl<'a> Draft<'a> {
     /// Begins an origination, whose number is the next.
     pub fn add_orig(&mut self, orig: Orig) -> Result<u64, Memory>
         ensures base { self.new.base ≡ self.old.base }
-        ensures number { IfOk result (λ number. number ≡ spec.next_orig (drafted self.old)) }
+        ensures number { IfOk result (λ number. number ≡ spec.next_orig_number (drafted self.old)) }
         ensures ok { OnOk result (drafted self.new ≡ spec.with_new_orig orig (drafted self.old)) }
     {
         self.drawn = self.drawn.with_orig();
@@ -347,7 +347,7 @@ impl<'a> Draft<'a> {
     /// Begins a job, whose number is the next.
     pub fn add_job(&mut self, job: Job) -> Result<u64, Memory>
         ensures base { self.new.base ≡ self.old.base }
-        ensures number { IfOk result (λ number. number ≡ spec.next_job (drafted self.old)) }
+        ensures number { IfOk result (λ number. number ≡ spec.next_job_number (drafted self.old)) }
         ensures ok { OnOk result (drafted self.new ≡ spec.with_new_job job (drafted self.old)) }
     {
         self.drawn = self.drawn.with_job();

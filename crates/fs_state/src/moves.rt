@@ -2,7 +2,7 @@ ghost use Rattle.std.specs.Prelude.{◌≡◌, Option, Some, None, Ok, IfOk, OnO
 ghost use Rattle.fs_chan.specs.declared.chan.Chan.{Chan};
 ghost use Rattle.fs_chan.specs.Changes as chan;
 ghost use Rattle.fs_state.specs.Drafts.{drafted};
-ghost use Rattle.fs_state.specs.Switch.{chan_at, with_chan, told};
+ghost use Rattle.fs_state.specs.Switch.{chan_at, with_chan, with_event};
 ghost use Rattle.fs_state.specs.Moves as spec;
 
 use crate::draft::Draft;
@@ -14,7 +14,7 @@ impl<'a> Draft<'a> {
     /// Something happens that tells of no bridge and of no cause.
     pub fn tell_of(&mut self, name: EventName) -> Result<(), Memory>
         ensures base { self.new.base ≡ self.old.base }
-        ensures ok { OnOk result (drafted self.new ≡ told (spec.happens name) (drafted self.old)) }
+        ensures ok { OnOk result (drafted self.new ≡ with_event (spec.plain_event name) (drafted self.old)) }
     {
         self.tell(Event {
             name,
@@ -28,7 +28,7 @@ impl<'a> Draft<'a> {
     /// A channel went from one state to another.
     pub fn tell_state(&mut self, old: State, new: State) -> Result<(), Memory>
         ensures base { self.new.base ≡ self.old.base }
-        ensures ok { OnOk result (drafted self.new ≡ spec.state_told old new (drafted self.old)) }
+        ensures ok { OnOk result (drafted self.new ≡ spec.with_state_events old new (drafted self.old)) }
     {
         if old.number() == new.number() {
             return Ok(());
@@ -41,7 +41,7 @@ impl<'a> Draft<'a> {
     /// A channel left a state.
     fn tell_left(&mut self, old: State) -> Result<(), Memory>
         ensures base { self.new.base ≡ self.old.base }
-        ensures ok { OnOk result (drafted self.new ≡ spec.left_told old (drafted self.old)) }
+        ensures ok { OnOk result (drafted self.new ≡ spec.with_leaving_event old (drafted self.old)) }
     {
         match old {
             State::CsPark => self.tell_of(EventName::ChannelUnpark),
@@ -52,7 +52,7 @@ impl<'a> Draft<'a> {
     /// A channel came to a state.
     fn tell_come(&mut self, new: State) -> Result<(), Memory>
         ensures base { self.new.base ≡ self.old.base }
-        ensures ok { OnOk result (drafted self.new ≡ spec.come_told new (drafted self.old)) }
+        ensures ok { OnOk result (drafted self.new ≡ spec.with_coming_event new (drafted self.old)) }
     {
         match new {
             State::CsPark => self.tell_of(EventName::ChannelPark),
@@ -86,7 +86,7 @@ impl<'a> Draft<'a> {
     /// Puts a channel into a slot that came there from a state, and tells of that.
     pub fn put_moved(&mut self, slot: u16, old: State, chan: Chan) -> Result<(), Memory>
         ensures base { self.new.base ≡ self.old.base }
-        ensures ok { OnOk result (drafted self.new ≡ spec.state_told old chan.state (with_chan slot (Some chan) (drafted self.old))) }
+        ensures ok { OnOk result (drafted self.new ≡ spec.with_state_events old chan.state (with_chan slot (Some chan) (drafted self.old))) }
     {
         let new = chan.state;
         self.put_chan(slot, Some(chan))?;
@@ -96,7 +96,7 @@ impl<'a> Draft<'a> {
     /// The channel in a slot comes into a state.
     pub fn enter(&mut self, slot: u16, state: State) -> Result<(), Memory>
         ensures base { self.new.base ≡ self.old.base }
-        ensures ok { OnOk result (drafted self.new ≡ spec.moved (chan.entered state) slot (drafted self.old)) }
+        ensures ok { OnOk result (drafted self.new ≡ spec.after_move (chan.in_state state) slot (drafted self.old)) }
     {
         let Some(mut chan) = self.own_chan(slot)? else {
             return Ok(());
@@ -108,9 +108,9 @@ impl<'a> Draft<'a> {
 
     /// The channel in a slot is to be routed to a target.
     pub fn transfer(&mut self, slot: u16, to: Target3) -> Result<(), Memory>
-        requires { chan.IsShort to }
+        requires { chan.IsShortTarget to }
         ensures base { self.new.base ≡ self.old.base }
-        ensures ok { OnOk result (drafted self.new ≡ spec.moved (chan.transferred to) slot (drafted self.old)) }
+        ensures ok { OnOk result (drafted self.new ≡ spec.after_move (chan.transferred to) slot (drafted self.old)) }
     {
         let Some(mut chan) = self.own_chan(slot)? else {
             return Ok(());
@@ -123,7 +123,7 @@ impl<'a> Draft<'a> {
     /// The channel in a slot comes to CS_PARK and rests there.
     pub fn park(&mut self, slot: u16) -> Result<(), Memory>
         ensures base { self.new.base ≡ self.old.base }
-        ensures ok { OnOk result (drafted self.new ≡ spec.moved chan.parked slot (drafted self.old)) }
+        ensures ok { OnOk result (drafted self.new ≡ spec.after_move chan.parked slot (drafted self.old)) }
     {
         let Some(mut chan) = self.own_chan(slot)? else {
             return Ok(());
@@ -136,7 +136,7 @@ impl<'a> Draft<'a> {
     /// The channel in a slot goes on once what it waited for is over.
     pub fn go_on(&mut self, slot: u16) -> Result<(), Memory>
         ensures base { self.new.base ≡ self.old.base }
-        ensures ok { OnOk result (drafted self.new ≡ spec.moved chan.gone_on slot (drafted self.old)) }
+        ensures ok { OnOk result (drafted self.new ≡ spec.after_move chan.at_rest slot (drafted self.old)) }
     {
         let Some(mut chan) = self.own_chan(slot)? else {
             return Ok(());
@@ -149,7 +149,7 @@ impl<'a> Draft<'a> {
     /// A channel begins.
     pub fn begin(&mut self, slot: u16) -> Result<(), Memory>
         ensures base { self.new.base ≡ self.old.base }
-        ensures ok { OnOk result (drafted self.new ≡ spec.begun slot (drafted self.old)) }
+        ensures ok { OnOk result (drafted self.new ≡ spec.after_begin slot (drafted self.old)) }
     {
         self.tell_of(EventName::ChannelCreate)?;
         self.enter(slot, State::CsInit)
@@ -169,7 +169,7 @@ impl<'a> Draft<'a> {
     /// The channel in a slot has begun an application.
     fn set_running(&mut self, slot: u16, action: Action) -> Result<(), Memory>
         ensures base { self.new.base ≡ self.old.base }
-        ensures ok { OnOk result (drafted self.new ≡ spec.moved (spec.running action) slot (drafted self.old)) }
+        ensures ok { OnOk result (drafted self.new ≡ spec.after_move (spec.with_running action) slot (drafted self.old)) }
     {
         let Some(mut chan) = self.own_chan(slot)? else {
             return Ok(());
@@ -182,7 +182,7 @@ impl<'a> Draft<'a> {
     /// The running application of the channel in a slot is over.
     pub fn complete(&mut self, slot: u16) -> Result<(), Memory>
         ensures base { self.new.base ≡ self.old.base }
-        ensures ok { OnOk result (drafted self.new ≡ spec.completed slot (drafted self.old)) }
+        ensures ok { OnOk result (drafted self.new ≡ spec.after_completion slot (drafted self.old)) }
     {
         self.go_on(slot)?;
         self.tell_of(EventName::ChannelExecuteComplete)
@@ -193,7 +193,7 @@ impl<'a> Draft<'a> {
     /// The end of the call of the channel in a slot is told.
     pub fn report(&mut self, slot: u16) -> Result<(), Memory>
         ensures base { self.new.base ≡ self.old.base }
-        ensures ok { OnOk result (drafted self.new ≡ spec.reported slot (drafted self.old)) }
+        ensures ok { OnOk result (drafted self.new ≡ spec.after_report slot (drafted self.old)) }
     {
         self.tell_of(EventName::ChannelHangupComplete)?;
         self.enter(slot, State::CsReporting)

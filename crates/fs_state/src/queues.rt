@@ -62,7 +62,7 @@ impl Queues {
 
     /// Takes the first frame of a place out, if there is one.
     pub fn take_first(&mut self, place: usize)
-        ensures { self.new ≡ spec.first_taken place self.old }
+        ensures { self.new ≡ spec.without_first_frame place self.old }
     {
         if let Some(queue) = self.queues.get_mut(place) {
             let _taken = queue.pop_front();
@@ -71,7 +71,7 @@ impl Queues {
 
     /// Takes all frames of a place out.
     pub fn clear(&mut self, place: usize)
-        ensures { self.new ≡ spec.all_taken place self.old }
+        ensures { self.new ≡ spec.without_frames place self.old }
     {
         if let Some(queue) = self.queues.get_mut(place) {
             queue.clear();

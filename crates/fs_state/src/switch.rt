@@ -127,7 +127,7 @@ impl Core {
     #[tactic(auto, using(fs_places::proofs::PlaceLemmas::written_length))]
     pub fn apply(&mut self, delta: Delta, cost: u64)
         requires { Fits self.old delta }
-        ensures { self.new ≡ spec.closed cost (after self.old delta) }
+        ensures { self.new ≡ spec.after_entry cost (after self.old delta) }
     {
         let (news, given) = delta.write_into(self);
         self.queues.deliver(&self.conns, given);

@@ -10,12 +10,12 @@ use Rattle.fs_ports.specs.declared.files.Load.{Load}
 use Rattle.fs_ports.specs.declared.files.Load.TheVariants.{Got}
 use Rattle.fs_doc.specs.Reading.{Configuration, config_of}
 use Rattle.fs_doc.specs.declared.fault.DocFault.{DocFault}
-use Rattle.fs_plan.specs.Building.{Numbered, IsNoPattern, IsRefusal}
+use Rattle.fs_plan.specs.Building.{NumberedPattern, IsNoPattern, IsPlanRefusal}
 use Rattle.fs_plan.specs.declared.fault.PlanFault.{PlanFault}
 use Rattle.fs_plan.specs.declared.fault.PlanFault.TheVariants.{PatternRefused, PatternTooLarge, Memory}
 use Rattle.fs_conn.specs.Turns.{HasRead}
-use Rattle.fs_top.specs.Told.{Told, Asked, file_of, told_words, told_read, told_asked}
-use Rattle.fs_top.specs.Runs.{Does, completes, fails_to_write, lacks_memory, fails_for_memory, Completes, LacksMemory, RefusesPattern, IsBuilt, Ran, HasReadings, IsGiven, NoneRose, DoesAll}
+use Rattle.fs_top.specs.Told.{Told, Asked, file_asked, told_words, told_read, told_asked}
+use Rattle.fs_top.specs.Runs.{CarriesOut, completes, fails_to_write, lacks_memory, fails_for_memory, Completes, BreaksForMemory, RefusesPattern, IsBuilt, Ran, HasReadings, IsGiven, NoneRose, DoesAll}
 
 -- what holds of each element holds of the one behind a front
 at_seam : {X : Type 0} (P : X → Type 0) (front : List X) (x : X) (back : List X) → All P (front ++ x ∷ back) → P x
@@ -23,9 +23,9 @@ at_seam P front x back all =
     subst P (get_or-append_seam front x back x) (All-get_or P (front ++ x ∷ back) (length front) x (omega (arith, length-append front (x ∷ back))) all)
 
 -- no pattern is none
-all_read : (c : Configuration) (extension condition : ℕ) → HasReadings c → IsRefusal c.contexts (PatternRefused extension condition) → ⊥
+all_read : (c : Configuration) (extension condition : ℕ) → HasReadings c → IsPlanRefusal c.contexts (PatternRefused extension condition) → ⊥
 all_read c extension condition readings refusal =
-    let NoneIs : Numbered → Type 0 = λ pattern. IsNoPattern pattern.text → ⊥ in
+    let NoneIs : NumberedPattern → Type 0 = λ pattern. IsNoPattern pattern.text → ⊥ in
     at_seam NoneIs refusal.front refusal.first refusal.back (subst (All NoneIs) refusal.split readings) refusal.found.is
 
 -- so none is refused, where the count of large patterns did not rise
@@ -54,8 +54,8 @@ read_whole in0 in1 input true rose has_read = absurd (rose has_read.faults)
 read_whole in0 in1 input false rose has_read = refl
 
 -- no write failed
-written_whole : (told : Told) (in1 : Input) (out0 out1 : Output) (line : List ℕ) (status : ℕ) → out1.faults ≢ raised out0.faults → Does told in1 out0 out1 line status →
-    Completes told in1 out0 out1 line status ⊎ LacksMemory told out0 out1 line status
+written_whole : (told : Told) (in1 : Input) (out0 out1 : Output) (line : List ℕ) (status : ℕ) → out1.faults ≢ raised out0.faults → CarriesOut told in1 out0 out1 line status →
+    Completes told in1 out0 out1 line status ⊎ BreaksForMemory told out0 out1 line status
 written_whole told in1 out0 out1 line status rose (completes h) = inl h
 written_whole told in1 out0 out1 line status rose (fails_to_write h) = absurd (rose h.stopped.faults)
 written_whole told in1 out0 out1 line status rose (lacks_memory h) = inr h
@@ -72,7 +72,7 @@ pub complete : (asked : Option Asked) (next_load : List ℕ → Option Load) (co
     Ran asked next_load counts0 counts1 sizes0 sizes1 in0 in1 out0 out1 err0 err1 status → (of : Asked) (c : Configuration) → IsGiven asked next_load of c →
     NoneRose sizes0 sizes1 in0 in1 out0 out1 → DoesAll of c in0 in1 out0 out1 err0 err1 status
 complete asked next_load counts0 counts1 sizes0 sizes1 in0 in1 out0 out1 err0 err1 status ran of c given rose =
-    let tells : Tells (next_load (file_of of)) ran.file = rw given.is_asked at ran.file_told in
+    let tells : Tells (next_load (file_asked of)) ran.file = rw given.is_asked at ran.file_told in
     let file : ran.file ≡ Got given.bytes = rw given.told at tells in
     let built : ran.built ≡ None = built_none given.bytes c ran.built sizes0 sizes1 given.reads given.readings rose.sizes (rw file at ran.built_told) in
     let whole : ran.read_failed ≡ false = read_whole in0 in1 ran.input ran.read_failed rose.reads ran.has_read in
@@ -81,6 +81,6 @@ complete asked next_load counts0 counts1 sizes0 sizes1 in0 in1 out0 out1 err0 er
       line = ran.line;
       sent = ran.sent;
       has_read = rw whole at ran.has_read;
-      does = written_whole (told_asked of c ran.input false) in1 out0 out1 ran.line status rose.writes (subst (λ (t : Told). Does t in1 out0 out1 ran.line status) told ran.does);
+      does = written_whole (told_asked of c ran.input false) in1 out0 out1 ran.line status rose.writes (subst (λ (t : Told). CarriesOut t in1 out0 out1 ran.line status) told ran.does);
       said = ran.said;
     }

@@ -14,7 +14,7 @@ use Rattle.fs_frame.specs.Blocks.{rest_of}
 use Rattle.fs_doc.specs.Reading.{Configuration, config_of}
 use Rattle.fs_doc.specs.declared.fault.DocKind.TheVariants.{Memory}
 use Rattle.fs_doc.specs.declared.fault.DocFault.{DocFault}
-use Rattle.fs_plan.specs.Building.{IsRefusal, sizes_after}
+use Rattle.fs_plan.specs.Building.{IsPlanRefusal, sizes_after}
 use Rattle.fs_plan.specs.declared.fault.PlanFault.{PlanFault}
 use Rattle.fs_plan.specs.declared.fault.PlanFault.TheVariants.{PatternRefused, PatternTooLarge, Memory as NoMemory}
 use Rattle.fs_state.specs.Switch.{Switch, empty}
@@ -27,8 +27,8 @@ use Rattle.fs_conn.specs.Play.{switch_of, bytes_handed, played}
 use Rattle.fs_conn.specs.Turns.{HasRead, Plays, Finishes, Breaks}
 use Rattle.fs_conn.specs.Ends.{IsFullAt, HasCause}
 use Rattle.fs_conn.proofs.LawLemmas.{config_kept, ends_played, cause_played, bytes_begin}
-use Rattle.fs_top.specs.Told.{Told, Asked, Check, Hunt, Play, file_of, told_words, told_file, told_read, told_built, told_asked, told_play, told_text, refused, is_eof, line_of_end, status_of_end, usage_line, cannot_read_line, fault_line, pattern_line}
-use Rattle.fs_top.specs.Runs.{line_of, status_of, PlaysTo, Does, completes, fails_to_write, lacks_memory, fails_for_memory, DoesAs, Answers, IsBuiltOf, IsBuilt, OverConfig, OverBytes, is_memory, not_read, not_built, Runs, RefusesPattern, Ran, HasConfig, HasFault, HasRefusal, CountRose, FillsJournal, MeetsTooLong, RunsAway}
+use Rattle.fs_top.specs.Told.{Told, Asked, Check, Hunt, Play, file_asked, told_words, told_file, told_read, told_built, told_asked, told_play, told_text, refused, is_eof, line_of_end, status_of_end, usage_line, cannot_read_line, fault_line, pattern_line}
+use Rattle.fs_top.specs.Runs.{line_of_outcome, status_of_outcome, PlaysTo, CarriesOut, completes, fails_to_write, lacks_memory, fails_for_memory, CarriesOutAs, Answers, IsPlanBuiltOf, IsBuilt, OverConfig, OverBytes, is_memory, not_read, not_built, Runs, RefusesPattern, Ran, HasConfig, HasFault, HasRefusal, CountRose, FillsJournal, MeetsTooLong, RunsAway}
 use Rattle.fs_top.specs.declared.outcome.Outcome.{Outcome}
 use Rattle.fs_top.specs.declared.outcome.Outcome.TheVariants.{Usage, CannotRead, BadDocument, BadPattern, Printed, Ended}
 
@@ -40,28 +40,29 @@ reads_none in0 = record { reads = reads_nothing in0; faults = refl }
 
 -- a line alone is the answer
 refused_does : (in0 : Input) (out0 : Output) (line : List ℕ) (status : ℕ) (outcome : Outcome) →
-    line_of outcome ≡ line → status_of outcome ≡ status → DoesAs (refused line status) in0 out0 out0 outcome
+    line_of_outcome outcome ≡ line → status_of_outcome outcome ≡ status → CarriesOutAs (refused line status) in0 out0 out0 outcome
 refused_does in0 out0 line status outcome line_is status_is =
     completes (record { written = writes_nothing out0; line_is = line_is; status_is = status_is; at_end = λ h. absurd (cc) })
 
 -- memory was wanting before anything was written
-memory_does : (told : Told) (in1 : Input) (out0 : Output) → DoesAs told in1 out0 out0 (Ended ends.Memory)
+memory_does : (told : Told) (in1 : Input) (out0 : Output) → CarriesOutAs told in1 out0 out0 (Ended ends.Memory)
 memory_does told in1 out0 =
     lacks_memory (record { front = []; back = told.output; split = refl; written = writes_nothing out0; line_is = refl; status_is = refl })
 
 -- a text was printed, or a write of it failed, or memory was wanting for it
-pub print_all : (in1 : Input) (out0 out1 : Output) (text : List ℕ) → Writes out0 out1 text → DoesAs (told_text text) in1 out0 out1 Printed
+pub print_all : (in1 : Input) (out0 out1 : Output) (text : List ℕ) → Writes out0 out1 text →
+    CarriesOutAs (told_text text) in1 out0 out1 Printed
 print_all in1 out0 out1 text written = completes (record { written = written; line_is = refl; status_is = refl; at_end = λ h. absurd (cc) })
 
-pub print_failed : (in1 : Input) (out0 out1 : Output) (text : List ℕ) → Stopped out0 out1 text → DoesAs (told_text text) in1 out0 out1 (Ended ends.WriteFault)
+pub print_failed : (in1 : Input) (out0 out1 : Output) (text : List ℕ) → Stopped out0 out1 text → CarriesOutAs (told_text text) in1 out0 out1 (Ended ends.WriteFault)
 print_failed in1 out0 out1 text stopped = fails_to_write (record { stopped = stopped; line_is = refl; status_is = refl })
 
-pub print_none : (in1 : Input) (out0 : Output) (text : List ℕ) → DoesAs (told_text text) in1 out0 out0 (Ended ends.Memory)
+pub print_none : (in1 : Input) (out0 : Output) (text : List ℕ) → CarriesOutAs (told_text text) in1 out0 out0 (Ended ends.Memory)
 print_none in1 out0 text = memory_does (told_text text) in1 out0
 
 -- nothing was read for the answer
 pub answers_quiet : (told : List ℕ → Bool → Told) (asked : Option Asked) (in0 in1 : Input) (out0 out1 : Output) (outcome : Outcome) →
-    in1 ≡ in0 → DoesAs (told [] false) in1 out0 out1 outcome → Answers told asked in0 in1 out0 out1 outcome
+    in1 ≡ in0 → CarriesOutAs (told [] false) in1 out0 out1 outcome → Answers told asked in0 in1 out0 out1 outcome
 answers_quiet told asked in0 in1 out0 out1 outcome same does = record {
   input = [];
   read_failed = false;
@@ -199,7 +200,7 @@ over_unbuilt asked c sizes0 sizes1 in0 out0 sizes = record {
 }
 
 -- the dialplan was not built
-pub over_fault : (asked : Asked) (c : Configuration) (fault : PlanFault) (sizes0 sizes1 : ℕ) (in0 : Input) (out0 : Output) → IsRefusal c.contexts fault → sizes1 ≡ sizes_after fault sizes0 →
+pub over_fault : (asked : Asked) (c : Configuration) (fault : PlanFault) (sizes0 sizes1 : ℕ) (in0 : Input) (out0 : Output) → IsPlanRefusal c.contexts fault → sizes1 ≡ sizes_after fault sizes0 →
     OverConfig asked c sizes0 sizes1 in0 in0 out0 out0 (not_built fault)
 over_fault asked c NoMemory sizes0 sizes1 in0 out0 refusal sizes = over_unbuilt asked c sizes0 sizes1 in0 out0 sizes
 over_fault asked c (PatternRefused extension condition) sizes0 sizes1 in0 out0 refusal sizes =
@@ -210,7 +211,7 @@ over_fault asked c (PatternTooLarge extension condition) sizes0 sizes1 in0 out0 
 -- ---- over the bytes of a document
 
 -- a pattern of what the bytes are read as
-built_of : (bytes : List ℕ) (c : Configuration) (built : Option PlanFault) (sizes0 sizes1 : ℕ) → config_of bytes ≡ Ok c → IsBuiltOf c built sizes0 sizes1 → IsBuilt (Got bytes) built sizes0 sizes1
+built_of : (bytes : List ℕ) (c : Configuration) (built : Option PlanFault) (sizes0 sizes1 : ℕ) → config_of bytes ≡ Ok c → IsPlanBuiltOf c built sizes0 sizes1 → IsBuilt (Got bytes) built sizes0 sizes1
 built_of bytes c None sizes0 sizes1 reads told = told
 built_of bytes c (Some fault) sizes0 sizes1 reads told = (c, reads, told)
 
@@ -266,7 +267,7 @@ runs_usage next_load counts sizes in0 out0 = record {
 
 -- the file gave these bytes
 pub runs_bytes : (asked : Asked) (bytes : List ℕ) (next_load : List ℕ → Option Load) (counts0 counts1 counts2 : LoadCounts) (sizes0 sizes1 sizes2 : ℕ) (in0 in1 : Input) (out0 out1 : Output) (outcome : Outcome) →
-    Tells (next_load (file_of asked)) (Got bytes) → Counted counts0 counts1 (Got bytes) → counts2 ≡ counts1 → sizes1 ≡ sizes0 → OverBytes asked bytes sizes1 sizes2 in0 in1 out0 out1 outcome →
+    Tells (next_load (file_asked asked)) (Got bytes) → Counted counts0 counts1 (Got bytes) → counts2 ≡ counts1 → sizes1 ≡ sizes0 → OverBytes asked bytes sizes1 sizes2 in0 in1 out0 out1 outcome →
     Runs (Some asked) next_load counts0 counts2 sizes0 sizes2 in0 in1 out0 out1 outcome
 runs_bytes asked bytes next_load counts0 counts1 counts2 sizes0 sizes1 sizes2 in0 in1 out0 out1 outcome tells counted counts sizes over = record {
   file = Got bytes;
@@ -280,7 +281,7 @@ runs_bytes asked bytes next_load counts0 counts1 counts2 sizes0 sizes1 sizes2 in
 
 -- the file was not there, or could not be read
 pub runs_absent : (asked : Asked) (name : List ℕ) (next_load : List ℕ → Option Load) (counts0 counts1 : LoadCounts) (sizes0 sizes1 : ℕ) (in0 : Input) (out0 : Output) (outcome : Outcome) →
-    Tells (next_load (file_of asked)) Absent → Counted counts0 counts1 Absent → sizes1 ≡ sizes0 → line_of outcome ≡ cannot_read_line (file_of asked) → status_of outcome ≡ 4 →
+    Tells (next_load (file_asked asked)) Absent → Counted counts0 counts1 Absent → sizes1 ≡ sizes0 → line_of_outcome outcome ≡ cannot_read_line (file_asked asked) → status_of_outcome outcome ≡ 4 →
     Runs (Some asked) next_load counts0 counts1 sizes0 sizes1 in0 in0 out0 out0 outcome
 runs_absent asked name next_load counts0 counts1 sizes0 sizes1 in0 out0 outcome tells counted sizes line_is four = record {
   file = Absent;
@@ -288,12 +289,12 @@ runs_absent asked name next_load counts0 counts1 sizes0 sizes1 in0 out0 outcome 
   file_told = tells;
   built_told = sizes;
   loaded = λ _. counted;
-  answers = answers_quiet (told_file asked Absent None) (Some asked) in0 in0 out0 out0 outcome refl (refused_does in0 out0 (cannot_read_line (file_of asked)) 4 outcome line_is four);
+  answers = answers_quiet (told_file asked Absent None) (Some asked) in0 in0 out0 out0 outcome refl (refused_does in0 out0 (cannot_read_line (file_asked asked)) 4 outcome line_is four);
   usage = λ none. absurd (cc);
 }
 
 pub runs_failed : (asked : Asked) (name : List ℕ) (next_load : List ℕ → Option Load) (counts0 counts1 : LoadCounts) (sizes0 sizes1 : ℕ) (in0 : Input) (out0 : Output) (outcome : Outcome) →
-    Tells (next_load (file_of asked)) Failed → Counted counts0 counts1 Failed → sizes1 ≡ sizes0 → line_of outcome ≡ cannot_read_line (file_of asked) → status_of outcome ≡ 4 →
+    Tells (next_load (file_asked asked)) Failed → Counted counts0 counts1 Failed → sizes1 ≡ sizes0 → line_of_outcome outcome ≡ cannot_read_line (file_asked asked) → status_of_outcome outcome ≡ 4 →
     Runs (Some asked) next_load counts0 counts1 sizes0 sizes1 in0 in0 out0 out0 outcome
 runs_failed asked name next_load counts0 counts1 sizes0 sizes1 in0 out0 outcome tells counted sizes line_is four = record {
   file = Failed;
@@ -301,7 +302,7 @@ runs_failed asked name next_load counts0 counts1 sizes0 sizes1 in0 out0 outcome 
   file_told = tells;
   built_told = sizes;
   loaded = λ _. counted;
-  answers = answers_quiet (told_file asked Failed None) (Some asked) in0 in0 out0 out0 outcome refl (refused_does in0 out0 (cannot_read_line (file_of asked)) 4 outcome line_is four);
+  answers = answers_quiet (told_file asked Failed None) (Some asked) in0 in0 out0 out0 outcome refl (refused_does in0 out0 (cannot_read_line (file_asked asked)) 4 outcome line_is four);
   usage = λ none. absurd (cc);
 }
 
@@ -313,7 +314,7 @@ some_load (Some load) = (load, refl)
 -- the file could not be loaded for want of memory
 pub runs_unloaded : (asked : Asked) (next_load : List ℕ → Option Load) (counts0 counts1 : LoadCounts) (sizes0 sizes1 : ℕ) (in0 : Input) (out0 : Output) → sizes1 ≡ sizes0 →
     Runs (Some asked) next_load counts0 counts1 sizes0 sizes1 in0 in0 out0 out0 (Ended ends.Memory)
-runs_unloaded asked next_load counts0 counts1 sizes0 sizes1 in0 out0 sizes = let load = some_load (next_load (file_of asked)) in record {
+runs_unloaded asked next_load counts0 counts1 sizes0 sizes1 in0 out0 sizes = let load = some_load (next_load (file_asked asked)) in record {
   file = load.0;
   built = None;
   file_told = load.1;
@@ -326,21 +327,21 @@ runs_unloaded asked next_load counts0 counts1 sizes0 sizes1 in0 out0 sizes = let
 -- ---- the whole run
 
 pub ran : (asked : Option Asked) (next_load : List ℕ → Option Load) (counts0 counts1 : LoadCounts) (sizes0 sizes1 : ℕ) (in0 in1 : Input) (out0 out1 err0 err1 : Output) (outcome : Outcome) (sent : Sent) (status : ℕ) →
-    Runs asked next_load counts0 counts1 sizes0 sizes1 in0 in1 out0 out1 outcome → SendDid err0 err1 sent (line_of outcome) → status ≡ status_of outcome →
+    Runs asked next_load counts0 counts1 sizes0 sizes1 in0 in1 out0 out1 outcome → SendDid err0 err1 sent (line_of_outcome outcome) → status ≡ status_of_outcome outcome →
     Ran asked next_load counts0 counts1 sizes0 sizes1 in0 in1 out0 out1 err0 err1 status
 ran asked next_load counts0 counts1 sizes0 sizes1 in0 in1 out0 out1 err0 err1 outcome sent status runs says is = record {
   file = runs.file;
   built = runs.built;
   input = runs.answers.input;
   read_failed = runs.answers.read_failed;
-  line = line_of outcome;
+  line = line_of_outcome outcome;
   sent = sent;
   file_told = runs.file_told;
   built_told = runs.built_told;
   loaded = λ not_1. runs.loaded (λ one. not_1 (is ∙ one));
   has_read = runs.answers.has_read;
   quiet = runs.answers.quiet;
-  does = subst (λ (n : ℕ). Does (told_words asked runs.file runs.built runs.answers.input runs.answers.read_failed) in1 out0 out1 (line_of outcome) n) (sym is) runs.answers.does;
+  does = subst (λ (n : ℕ). CarriesOut (told_words asked runs.file runs.built runs.answers.input runs.answers.read_failed) in1 out0 out1 (line_of_outcome outcome) n) (sym is) runs.answers.does;
   said = says;
 }
 
@@ -446,17 +447,18 @@ away_play c in0 in1 input read_failed has_read nine =
     }
 
 -- a status that is neither 1 nor 5 is the one that is told
-status-done : (told : Told) (in1 : Input) (out0 out1 : Output) (line : List ℕ) (status : ℕ) → Does told in1 out0 out1 line status → status ≢ 1 → status ≢ 5 → status ≡ told.status
+status-done : (told : Told) (in1 : Input) (out0 out1 : Output) (line : List ℕ) (status : ℕ) → CarriesOut told in1 out0 out1 line status → status ≢ 1 → status ≢ 5 → status ≡ told.status
 status-done told in1 out0 out1 line status (completes h) not_1 not_5 = h.status_is
 status-done told in1 out0 out1 line status (fails_to_write h) not_1 not_5 = absurd (not_5 h.status_is)
 status-done told in1 out0 out1 line status (lacks_memory h) not_1 not_5 = absurd (not_1 h.status_is)
 status-done told in1 out0 out1 line status (fails_for_memory h) not_1 not_5 = absurd (not_1 h.status_is)
 
 status-told : (asked : Option Asked) (next_load : List ℕ → Option Load) (counts0 counts1 : LoadCounts) (sizes0 sizes1 : ℕ) (in0 in1 : Input) (out0 out1 : Output) (outcome : Outcome)
-    (runs : Runs asked next_load counts0 counts1 sizes0 sizes1 in0 in1 out0 out1 outcome) → status_of outcome ≢ 1 → status_of outcome ≢ 5 →
-    status_of outcome ≡ (told_words asked runs.file runs.built runs.answers.input runs.answers.read_failed).status
+    (runs : Runs asked next_load counts0 counts1 sizes0 sizes1 in0 in1 out0 out1 outcome) → status_of_outcome outcome ≢ 1 →
+    status_of_outcome outcome ≢ 5 →
+    status_of_outcome outcome ≡ (told_words asked runs.file runs.built runs.answers.input runs.answers.read_failed).status
 status-told asked next_load counts0 counts1 sizes0 sizes1 in0 in1 out0 out1 outcome runs not_1 not_5 =
-    status-done _ in1 out0 out1 (line_of outcome) (status_of outcome) runs.answers.does not_1 not_5
+    status-done _ in1 out0 out1 (line_of_outcome outcome) (status_of_outcome outcome) runs.answers.does not_1 not_5
 
 -- what a status that only a play has shows: the document was read, no pattern was refused, and the play ended so
 record Played (asked : Option Asked) (next_load : List ℕ → Option Load) (input : List ℕ) (read_failed : Bool) (status : ℕ) : Type 0 where
@@ -465,7 +467,7 @@ record Played (asked : Option Asked) (next_load : List ℕ → Option Load) (inp
   ended : (tells c input read_failed).status ≡ status
 
 played_asked : (asked : Asked) (bytes : List ℕ) (c : Configuration) (next_load : List ℕ → Option Load) (input : List ℕ) (read_failed : Bool) (status : ℕ) → status ≢ 0 →
-    Tells (next_load (file_of asked)) (Got bytes) → config_of bytes ≡ Ok c → status ≡ (told_asked asked c input read_failed).status → Played (Some asked) next_load input read_failed status
+    Tells (next_load (file_asked asked)) (Got bytes) → config_of bytes ≡ Ok c → status ≡ (told_asked asked c input read_failed).status → Played (Some asked) next_load input read_failed status
 played_asked (Check file) bytes c next_load input read_failed status not_0 tells reads is = absurd (not_0 is)
 played_asked (Hunt file context dest) bytes c next_load input read_failed status not_0 tells reads is = absurd (not_0 is)
 played_asked (Play file) bytes c next_load input read_failed status not_0 tells reads is = record {
@@ -475,14 +477,14 @@ played_asked (Play file) bytes c next_load input read_failed status not_0 tells 
 }
 
 played_read : (asked : Asked) (bytes : List ℕ) (read : Result Configuration DocFault) (built : Option PlanFault) (next_load : List ℕ → Option Load) (input : List ℕ) (read_failed : Bool) (status : ℕ) →
-    status ≢ 0 → status ≢ 3 → Tells (next_load (file_of asked)) (Got bytes) → config_of bytes ≡ read → status ≡ (told_read asked read built input read_failed).status →
+    status ≢ 0 → status ≢ 3 → Tells (next_load (file_asked asked)) (Got bytes) → config_of bytes ≡ read → status ≡ (told_read asked read built input read_failed).status →
     Played (Some asked) next_load input read_failed status
 played_read asked bytes (Ok c) None next_load input read_failed status not_0 not_3 tells reads is = played_asked asked bytes c next_load input read_failed status not_0 tells reads is
 played_read asked bytes (Ok c) (Some fault) next_load input read_failed status not_0 not_3 tells reads is = absurd (not_3 is)
 played_read asked bytes (Err fault) built next_load input read_failed status not_0 not_3 tells reads is = absurd (not_3 is)
 
 played_file : (asked : Option Asked) (file : Load) (built : Option PlanFault) (next_load : List ℕ → Option Load) (input : List ℕ) (read_failed : Bool) (status : ℕ) →
-    status ≢ 0 → status ≢ 2 → status ≢ 3 → status ≢ 4 → IfSome asked (λ a. Tells (next_load (file_of a)) file) → status ≡ (told_words asked file built input read_failed).status →
+    status ≢ 0 → status ≢ 2 → status ≢ 3 → status ≢ 4 → IfSome asked (λ a. Tells (next_load (file_asked a)) file) → status ≡ (told_words asked file built input read_failed).status →
     Played asked next_load input read_failed status
 played_file None file built next_load input read_failed status not_0 not_2 not_3 not_4 tells is = absurd (not_2 is)
 played_file (Some asked) (Got bytes) built next_load input read_failed status not_0 not_2 not_3 not_4 tells is =
@@ -492,28 +494,28 @@ played_file (Some asked) Failed built next_load input read_failed status not_0 n
 
 -- what status 8 shows
 pub cause_full : (asked : Option Asked) (next_load : List ℕ → Option Load) (counts0 counts1 : LoadCounts) (sizes0 sizes1 : ℕ) (in0 in1 : Input) (out0 out1 : Output) (outcome : Outcome) →
-    Runs asked next_load counts0 counts1 sizes0 sizes1 in0 in1 out0 out1 outcome → status_of outcome ≡ 8 → (c : Configuration) × HasConfig asked next_load c × FillsJournal c in0 in1
+    Runs asked next_load counts0 counts1 sizes0 sizes1 in0 in1 out0 out1 outcome → status_of_outcome outcome ≡ 8 → (c : Configuration) × HasConfig asked next_load c × FillsJournal c in0 in1
 cause_full asked next_load counts0 counts1 sizes0 sizes1 in0 in1 out0 out1 outcome runs eight =
     let told = status-told asked next_load counts0 counts1 sizes0 sizes1 in0 in1 out0 out1 outcome runs (λ e. absurd (cc)) (λ e. absurd (cc)) in
-    let p = played_file asked runs.file runs.built next_load runs.answers.input runs.answers.read_failed (status_of outcome) (λ e. absurd (cc)) (λ e. absurd (cc)) (λ e. absurd (cc)) (λ e. absurd (cc)) runs.file_told told in
+    let p = played_file asked runs.file runs.built next_load runs.answers.input runs.answers.read_failed (status_of_outcome outcome) (λ e. absurd (cc)) (λ e. absurd (cc)) (λ e. absurd (cc)) (λ e. absurd (cc)) runs.file_told told in
     let ended : (tells p.c runs.answers.input runs.answers.read_failed).status ≡ 8 = subst (λ (n : ℕ). (tells p.c runs.answers.input runs.answers.read_failed).status ≡ n) eight p.ended in
     (p.c, p.has, full_play p.c in0 in1 runs.answers.input runs.answers.read_failed runs.answers.has_read ended)
 
 -- what status 9 shows
 pub cause_away : (asked : Option Asked) (next_load : List ℕ → Option Load) (counts0 counts1 : LoadCounts) (sizes0 sizes1 : ℕ) (in0 in1 : Input) (out0 out1 : Output) (outcome : Outcome) →
-    Runs asked next_load counts0 counts1 sizes0 sizes1 in0 in1 out0 out1 outcome → status_of outcome ≡ 9 → (c : Configuration) × HasConfig asked next_load c × RunsAway c in0 in1
+    Runs asked next_load counts0 counts1 sizes0 sizes1 in0 in1 out0 out1 outcome → status_of_outcome outcome ≡ 9 → (c : Configuration) × HasConfig asked next_load c × RunsAway c in0 in1
 cause_away asked next_load counts0 counts1 sizes0 sizes1 in0 in1 out0 out1 outcome runs nine =
     let told = status-told asked next_load counts0 counts1 sizes0 sizes1 in0 in1 out0 out1 outcome runs (λ e. absurd (cc)) (λ e. absurd (cc)) in
-    let p = played_file asked runs.file runs.built next_load runs.answers.input runs.answers.read_failed (status_of outcome) (λ e. absurd (cc)) (λ e. absurd (cc)) (λ e. absurd (cc)) (λ e. absurd (cc)) runs.file_told told in
+    let p = played_file asked runs.file runs.built next_load runs.answers.input runs.answers.read_failed (status_of_outcome outcome) (λ e. absurd (cc)) (λ e. absurd (cc)) (λ e. absurd (cc)) (λ e. absurd (cc)) runs.file_told told in
     let ended : (tells p.c runs.answers.input runs.answers.read_failed).status ≡ 9 = subst (λ (n : ℕ). (tells p.c runs.answers.input runs.answers.read_failed).status ≡ n) nine p.ended in
     (p.c, p.has, away_play p.c in0 in1 runs.answers.input runs.answers.read_failed runs.answers.has_read ended)
 
 -- what status 10 shows
 pub cause_too_long : (asked : Option Asked) (next_load : List ℕ → Option Load) (counts0 counts1 : LoadCounts) (sizes0 sizes1 : ℕ) (in0 in1 : Input) (out0 out1 : Output) (outcome : Outcome) →
-    Runs asked next_load counts0 counts1 sizes0 sizes1 in0 in1 out0 out1 outcome → status_of outcome ≡ 10 → (c : Configuration) × HasConfig asked next_load c × MeetsTooLong c in0 in1
+    Runs asked next_load counts0 counts1 sizes0 sizes1 in0 in1 out0 out1 outcome → status_of_outcome outcome ≡ 10 → (c : Configuration) × HasConfig asked next_load c × MeetsTooLong c in0 in1
 cause_too_long asked next_load counts0 counts1 sizes0 sizes1 in0 in1 out0 out1 outcome runs ten =
     let told = status-told asked next_load counts0 counts1 sizes0 sizes1 in0 in1 out0 out1 outcome runs (λ e. absurd (cc)) (λ e. absurd (cc)) in
-    let p = played_file asked runs.file runs.built next_load runs.answers.input runs.answers.read_failed (status_of outcome) (λ e. absurd (cc)) (λ e. absurd (cc)) (λ e. absurd (cc)) (λ e. absurd (cc)) runs.file_told told in
+    let p = played_file asked runs.file runs.built next_load runs.answers.input runs.answers.read_failed (status_of_outcome outcome) (λ e. absurd (cc)) (λ e. absurd (cc)) (λ e. absurd (cc)) (λ e. absurd (cc)) runs.file_told told in
     let ended : (tells p.c runs.answers.input runs.answers.read_failed).status ≡ 10 = subst (λ (n : ℕ). (tells p.c runs.answers.input runs.answers.read_failed).status ≡ n) ten p.ended in
     (p.c, p.has, too_long_play p.c in0 in1 runs.answers.input runs.answers.read_failed runs.answers.has_read ended)
 
@@ -535,7 +537,7 @@ unwritten_play c input read_failed five =
     unwritten_end ended.0 (switch_of (played c input read_failed)) (too_long (rest_of input)) read_failed ended.2 (cause_played c input read_failed ended.0 ended.1)
 
 -- so a status of 5 comes of a write
-failed_write : (told : Told) (in1 : Input) (out0 out1 : Output) (line : List ℕ) (status : ℕ) → Does told in1 out0 out1 line status → status ≡ 5 → told.status ≢ 5 → out1.faults ≡ raised out0.faults
+failed_write : (told : Told) (in1 : Input) (out0 out1 : Output) (line : List ℕ) (status : ℕ) → CarriesOut told in1 out0 out1 line status → status ≡ 5 → told.status ≢ 5 → out1.faults ≡ raised out0.faults
 failed_write told in1 out0 out1 line status (completes h) five never = absurd (never (sym h.status_is ∙ five))
 failed_write told in1 out0 out1 line status (fails_to_write h) five never = h.stopped.faults
 failed_write told in1 out0 out1 line status (lacks_memory h) five never = let one : 1 ≡ 5 = sym h.status_is ∙ five in absurd (cc)
@@ -543,15 +545,16 @@ failed_write told in1 out0 out1 line status (fails_for_memory h) five never = h.
 
 -- what status 5 shows
 pub cause_write : (asked : Option Asked) (next_load : List ℕ → Option Load) (counts0 counts1 : LoadCounts) (sizes0 sizes1 : ℕ) (in0 in1 : Input) (out0 out1 : Output) (outcome : Outcome) →
-    Runs asked next_load counts0 counts1 sizes0 sizes1 in0 in1 out0 out1 outcome → status_of outcome ≡ 5 → out1.faults ≡ raised out0.faults
+    Runs asked next_load counts0 counts1 sizes0 sizes1 in0 in1 out0 out1 outcome → status_of_outcome outcome ≡ 5 → out1.faults ≡ raised
+    out0.faults
 cause_write asked next_load counts0 counts1 sizes0 sizes1 in0 in1 out0 out1 outcome runs five =
-    failed_write (told_words asked runs.file runs.built runs.answers.input runs.answers.read_failed) in1 out0 out1 (line_of outcome) (status_of outcome) runs.answers.does five
+    failed_write (told_words asked runs.file runs.built runs.answers.input runs.answers.read_failed) in1 out0 out1 (line_of_outcome outcome) (status_of_outcome outcome) runs.answers.does five
     (λ e. let p = played_file asked runs.file runs.built next_load runs.answers.input runs.answers.read_failed 5 (λ z. absurd (cc)) (λ z. absurd (cc)) (λ z. absurd (cc)) (λ z. absurd (cc)) runs.file_told (sym e) in
     unwritten_play p.c runs.answers.input runs.answers.read_failed p.ended)
 
 -- what status 4 shows
 unreadable_file : (asked : Asked) (file : Load) (built : Option PlanFault) (next_load : List ℕ → Option Load) (counts0 counts1 : LoadCounts) (in0 in1 : Input) (input : List ℕ) (read_failed : Bool) (status : ℕ) →
-    status ≡ 4 → Tells (next_load (file_of asked)) file → Counted counts0 counts1 file → HasRead in0 in1 input read_failed → status ≡ (told_file asked file built input read_failed).status → CountRose counts0 counts1 in0 in1
+    status ≡ 4 → Tells (next_load (file_asked asked)) file → Counted counts0 counts1 file → HasRead in0 in1 input read_failed → status ≡ (told_file asked file built input read_failed).status → CountRose counts0 counts1 in0 in1
 unreadable_file asked (Got bytes) built next_load counts0 counts1 in0 in1 input read_failed status four tells counted has_read is =
     let p = played_read asked bytes (config_of bytes) built next_load input read_failed 4 (λ e. absurd (cc)) (λ e. absurd (cc)) tells refl (sym four ∙ is) in
     unreadable_play p.c counts0 counts1 in0 in1 input read_failed has_read p.ended
@@ -559,11 +562,12 @@ unreadable_file asked Absent built next_load counts0 counts1 in0 in1 input read_
 unreadable_file asked Failed built next_load counts0 counts1 in0 in1 input read_failed status four tells counted has_read is = inr (inl (ap (λ c. c.faults) counted))
 
 pub cause_unreadable : (asked : Option Asked) (next_load : List ℕ → Option Load) (counts0 counts1 : LoadCounts) (sizes0 sizes1 : ℕ) (in0 in1 : Input) (out0 out1 : Output) (outcome : Outcome) →
-    Runs asked next_load counts0 counts1 sizes0 sizes1 in0 in1 out0 out1 outcome → status_of outcome ≡ 4 → CountRose counts0 counts1 in0 in1
+    Runs asked next_load counts0 counts1 sizes0 sizes1 in0 in1 out0 out1 outcome → status_of_outcome outcome ≡ 4 → CountRose counts0 counts1
+    in0 in1
 cause_unreadable None next_load counts0 counts1 sizes0 sizes1 in0 in1 out0 out1 outcome runs four = let two = runs.usage refl in absurd (cc)
 cause_unreadable (Some asked) next_load counts0 counts1 sizes0 sizes1 in0 in1 out0 out1 outcome runs four =
     let told = status-told (Some asked) next_load counts0 counts1 sizes0 sizes1 in0 in1 out0 out1 outcome runs (λ e. absurd (cc)) (λ e. absurd (cc)) in
-    unreadable_file asked runs.file runs.built next_load counts0 counts1 in0 in1 runs.answers.input runs.answers.read_failed (status_of outcome) four runs.file_told (runs.loaded (λ e. absurd (cc))) runs.answers.has_read told
+    unreadable_file asked runs.file runs.built next_load counts0 counts1 in0 in1 runs.answers.input runs.answers.read_failed (status_of_outcome outcome) four runs.file_told (runs.loaded (λ e. absurd (cc))) runs.answers.has_read told
 
 -- no play has status 3
 end_not_3 : (end : End) → status_of_end end ≡ 3 → ⊥
@@ -583,7 +587,7 @@ asked_not_3 (Hunt file context dest) c input read_failed three = cc
 asked_not_3 (Play file) c input read_failed three = let ended = status_ended c input read_failed 3 three in end_not_3 ended.0 ended.2
 
 document_read : (asked : Asked) (bytes : List ℕ) (read : Result Configuration DocFault) (built : Option PlanFault) (next_load : List ℕ → Option Load) (sizes0 sizes1 : ℕ) (input : List ℕ) (read_failed : Bool) →
-    Tells (next_load (file_of asked)) (Got bytes) → config_of bytes ≡ read → IsBuilt (Got bytes) built sizes0 sizes1 → (told_read asked read built input read_failed).status ≡ 3 →
+    Tells (next_load (file_asked asked)) (Got bytes) → config_of bytes ≡ read → IsBuilt (Got bytes) built sizes0 sizes1 → (told_read asked read built input read_failed).status ≡ 3 →
     HasFault (Some asked) next_load ⊎ HasRefusal (Some asked) next_load sizes0 sizes1
 document_read asked bytes (Err fault) built next_load sizes0 sizes1 input read_failed tells reads built_told three =
     inl (record { of = asked; bytes = bytes; fault = fault; is_asked = refl; told = tells; reads = reads })
@@ -596,7 +600,8 @@ document_read asked bytes (Ok c) (Some fault) next_load sizes0 sizes1 input read
 })
 
 document_file : (asked : Asked) (file : Load) (built : Option PlanFault) (next_load : List ℕ → Option Load) (sizes0 sizes1 : ℕ) (input : List ℕ) (read_failed : Bool) →
-    Tells (next_load (file_of asked)) file → IsBuilt file built sizes0 sizes1 → (told_file asked file built input read_failed).status ≡ 3 →
+    Tells (next_load (file_asked asked)) file → IsBuilt file built sizes0 sizes1 → (told_file asked file built input read_failed).status ≡ 3
+    →
     HasFault (Some asked) next_load ⊎ HasRefusal (Some asked) next_load sizes0 sizes1
 document_file asked (Got bytes) built next_load sizes0 sizes1 input read_failed tells built_told three =
     document_read asked bytes (config_of bytes) built next_load sizes0 sizes1 input read_failed tells refl built_told three
@@ -604,7 +609,7 @@ document_file asked Absent built next_load sizes0 sizes1 input read_failed tells
 document_file asked Failed built next_load sizes0 sizes1 input read_failed tells built_told three = absurd (cc)
 
 pub cause_document : (asked : Option Asked) (next_load : List ℕ → Option Load) (counts0 counts1 : LoadCounts) (sizes0 sizes1 : ℕ) (in0 in1 : Input) (out0 out1 : Output) (outcome : Outcome) →
-    Runs asked next_load counts0 counts1 sizes0 sizes1 in0 in1 out0 out1 outcome → status_of outcome ≡ 3 → HasFault asked next_load ⊎ HasRefusal asked next_load sizes0 sizes1
+    Runs asked next_load counts0 counts1 sizes0 sizes1 in0 in1 out0 out1 outcome → status_of_outcome outcome ≡ 3 → HasFault asked next_load ⊎ HasRefusal asked next_load sizes0 sizes1
 cause_document None next_load counts0 counts1 sizes0 sizes1 in0 in1 out0 out1 outcome runs three = let two = runs.usage refl in absurd (cc)
 cause_document (Some asked) next_load counts0 counts1 sizes0 sizes1 in0 in1 out0 out1 outcome runs three =
     let told = status-told (Some asked) next_load counts0 counts1 sizes0 sizes1 in0 in1 out0 out1 outcome runs (λ e. absurd (cc)) (λ e. absurd (cc)) in

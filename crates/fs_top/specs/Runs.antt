@@ -14,7 +14,7 @@ use Rattle.fs_doc.specs.Reading.{Configuration, config_of}
 use Rattle.fs_doc.specs.declared.fault.DocKind.{DocKind}
 use Rattle.fs_doc.specs.declared.fault.DocKind.TheVariants as kind
 use Rattle.fs_doc.specs.declared.fault.DocFault.{DocFault}
-use Rattle.fs_plan.specs.Building.{IsNoPattern, patterns_in, IsRefusal, sizes_after}
+use Rattle.fs_plan.specs.Building.{IsNoPattern, patterns_in, IsPlanRefusal, sizes_after}
 use Rattle.fs_plan.specs.declared.fault.PlanFault.{PlanFault}
 use Rattle.fs_plan.specs.declared.fault.PlanFault.TheVariants.{PatternRefused, PatternTooLarge, Memory as NoMemory}
 use Rattle.fs_machine.specs.declared.entry.Entry.{Entry}
@@ -22,26 +22,26 @@ use Rattle.fs_conn.specs.declared.end.End.TheVariants as ends
 use Rattle.fs_conn.specs.Play.{switch_of, played}
 use Rattle.fs_conn.specs.Turns.{HasRead, Plays}
 use Rattle.fs_conn.specs.Ends.{IsFullAt}
-use Rattle.fs_top.specs.Told.{Told, Asked, Check, Hunt, Play, file_of, told_asked, told_built, told_file, told_words, line_of_end, status_of_end, usage_line, cannot_read_line, fault_line, pattern_line, write_fault_line, memory_line}
+use Rattle.fs_top.specs.Told.{Told, Asked, Check, Hunt, Play, file_asked, told_asked, told_built, told_file, told_words, line_of_end, status_of_end, usage_line, cannot_read_line, fault_line, pattern_line, write_fault_line, memory_line}
 use Rattle.fs_top.specs.declared.outcome.Outcome.{Outcome}
 use Rattle.fs_top.specs.declared.outcome.Outcome.TheVariants.{Usage, CannotRead, BadDocument, BadPattern, Printed, Ended}
 
 -- the line of an outcome, and its status
-abbrev pub line_of : Outcome → List ℕ
-line_of Usage = usage_line
-line_of (CannotRead name) = cannot_read_line name.now
-line_of (BadDocument fault) = fault_line fault
-line_of (BadPattern fault) = pattern_line fault
-line_of Printed = []
-line_of (Ended end) = line_of_end end
+abbrev pub line_of_outcome : Outcome → List ℕ
+line_of_outcome Usage = usage_line
+line_of_outcome (CannotRead name) = cannot_read_line name.now
+line_of_outcome (BadDocument fault) = fault_line fault
+line_of_outcome (BadPattern fault) = pattern_line fault
+line_of_outcome Printed = []
+line_of_outcome (Ended end) = line_of_end end
 
-abbrev pub status_of : Outcome → ℕ
-status_of Usage = 2
-status_of (CannotRead name) = 4
-status_of (BadDocument fault) = 3
-status_of (BadPattern fault) = 3
-status_of Printed = 0
-status_of (Ended end) = status_of_end end
+abbrev pub status_of_outcome : Outcome → ℕ
+status_of_outcome Usage = 2
+status_of_outcome (CannotRead name) = 4
+status_of_outcome (BadDocument fault) = 3
+status_of_outcome (BadPattern fault) = 3
+status_of_outcome Printed = 0
+status_of_outcome (Ended end) = status_of_end end
 
 -- what playing a connection came to, over a switch of this configuration
 abbrev pub PlaysTo : Configuration → Input → Output → Input → Output → Outcome → Type 0
@@ -60,13 +60,13 @@ pub record Completes (told : Told) (in1 : Input) (out0 out1 : Output) (line : Li
   pub at_end : IsTrue told.at_end → IsAtEnd in1.left
 
 -- a write failed behind a front of the output
-pub record FailsToWrite (told : Told) (out0 out1 : Output) (line : List ℕ) (status : ℕ) : Type 0 where
+pub record BreaksAtWrite (told : Told) (out0 out1 : Output) (line : List ℕ) (status : ℕ) : Type 0 where
   pub stopped : Stopped out0 out1 told.output
   pub line_is : line ≡ write_fault_line
   pub status_is : status ≡ 5
 
 -- memory was wanting behind a front of the output
-pub record LacksMemory (told : Told) (out0 out1 : Output) (line : List ℕ) (status : ℕ) : Type 0 where
+pub record BreaksForMemory (told : Told) (out0 out1 : Output) (line : List ℕ) (status : ℕ) : Type 0 where
   pub front : List ℕ
   pub back : List ℕ
   pub split : told.output ≡ front ++ back
@@ -81,26 +81,26 @@ pub record FailsForMemory (told : Told) (out0 out1 : Output) (line : List ℕ) (
   pub status_is : status ≡ 1
 
 -- one of these four
-pub data Does (told : Told) (in1 : Input) (out0 out1 : Output) (line : List ℕ) (status : ℕ) : Type 0 where
-  completes : Completes told in1 out0 out1 line status → Does told in1 out0 out1 line status
-  fails_to_write : FailsToWrite told out0 out1 line status → Does told in1 out0 out1 line status
-  lacks_memory : LacksMemory told out0 out1 line status → Does told in1 out0 out1 line status
-  fails_for_memory : FailsForMemory told out0 out1 line status → Does told in1 out0 out1 line status
+pub data CarriesOut (told : Told) (in1 : Input) (out0 out1 : Output) (line : List ℕ) (status : ℕ) : Type 0 where
+  completes : Completes told in1 out0 out1 line status → CarriesOut told in1 out0 out1 line status
+  fails_to_write : BreaksAtWrite told out0 out1 line status → CarriesOut told in1 out0 out1 line status
+  lacks_memory : BreaksForMemory told out0 out1 line status → CarriesOut told in1 out0 out1 line status
+  fails_for_memory : FailsForMemory told out0 out1 line status → CarriesOut told in1 out0 out1 line status
 
 -- the outcome is one of these
-abbrev pub DoesAs : Told → Input → Output → Output → Outcome → Type 0
-DoesAs told in1 out0 out1 outcome = Does told in1 out0 out1 (line_of outcome) (status_of outcome)
+abbrev pub CarriesOutAs : Told → Input → Output → Output → Outcome → Type 0
+CarriesOutAs told in1 out0 out1 outcome = CarriesOut told in1 out0 out1 (line_of_outcome outcome) (status_of_outcome outcome)
 
 -- a pattern of these contexts was refused, for its own sake and not for want of memory
 pub record RefusesPattern (contexts : List Context) (fault : PlanFault) (sizes0 sizes1 : ℕ) : Type 0 where
-  pub refusal : IsRefusal contexts fault
+  pub refusal : IsPlanRefusal contexts fault
   pub no_want : fault ≢ NoMemory
   pub sizes : sizes1 ≡ sizes_after fault sizes0
 
 -- a pattern of the configuration was refused, or none
-abbrev pub IsBuiltOf : Configuration → Option PlanFault → ℕ → ℕ → Type 0
-IsBuiltOf c None sizes0 sizes1 = sizes1 ≡ sizes0
-IsBuiltOf c (Some fault) sizes0 sizes1 = RefusesPattern c.contexts fault sizes0 sizes1
+abbrev pub IsPlanBuiltOf : Configuration → Option PlanFault → ℕ → ℕ → Type 0
+IsPlanBuiltOf c None sizes0 sizes1 = sizes1 ≡ sizes0
+IsPlanBuiltOf c (Some fault) sizes0 sizes1 = RefusesPattern c.contexts fault sizes0 sizes1
 
 -- nothing is read for these words
 abbrev pub ReadsNothing : Option Asked → Type 0
@@ -115,7 +115,7 @@ pub record Answers (told : List ℕ → Bool → Told) (asked : Option Asked) (i
   pub read_failed : Bool
   pub has_read : HasRead in0 in1 input read_failed
   pub quiet : ReadsNothing asked → in1 ≡ in0
-  pub does : DoesAs (told input read_failed) in1 out0 out1 outcome
+  pub does : CarriesOutAs (told input read_failed) in1 out0 out1 outcome
 
 -- the pattern that was refused is one of the document in this file, and the count of large patterns rose only where it is too large
 abbrev pub IsBuilt : Load → Option PlanFault → ℕ → ℕ → Type 0
@@ -128,7 +128,7 @@ IsBuilt Failed (Some fault) sizes0 sizes1 = ⊥
 -- what was answered over a configuration: a pattern of it was refused, or what is asked was done
 pub record OverConfig (asked : Asked) (c : Configuration) (sizes0 sizes1 : ℕ) (in0 in1 : Input) (out0 out1 : Output) (outcome : Outcome) : Type 0 where
   pub built : Option PlanFault
-  pub built_told : IsBuiltOf c built sizes0 sizes1
+  pub built_told : IsPlanBuiltOf c built sizes0 sizes1
   pub answers : Answers (told_built asked c built) (Some asked) in0 in1 out0 out1 outcome
 
 -- what was answered over the bytes of a document
@@ -163,11 +163,11 @@ pub record Runs (asked : Option Asked) (next_load : List ℕ → Option Load) (c
     (in0 in1 : Input) (out0 out1 : Output) (outcome : Outcome) : Type 0 where
   pub file : Load
   pub built : Option PlanFault
-  pub file_told : IfSome asked (λ a. Tells (next_load (file_of a)) file)
+  pub file_told : IfSome asked (λ a. Tells (next_load (file_asked a)) file)
   pub built_told : IsBuilt file built sizes0 sizes1
-  pub loaded : status_of outcome ≢ 1 → Loaded asked counts0 counts1 file
+  pub loaded : status_of_outcome outcome ≢ 1 → Loaded asked counts0 counts1 file
   pub answers : Answers (told_words asked file built) asked in0 in1 out0 out1 outcome
-  pub usage : asked ≡ None → status_of outcome ≡ 2
+  pub usage : asked ≡ None → status_of_outcome outcome ≡ 2
 
 -- a run, with the line that it printed
 pub record Ran (asked : Option Asked) (next_load : List ℕ → Option Load) (counts0 counts1 : LoadCounts) (sizes0 sizes1 : ℕ)
@@ -178,12 +178,12 @@ pub record Ran (asked : Option Asked) (next_load : List ℕ → Option Load) (co
   pub read_failed : Bool
   pub line : List ℕ
   pub sent : Sent
-  pub file_told : IfSome asked (λ a. Tells (next_load (file_of a)) file)
+  pub file_told : IfSome asked (λ a. Tells (next_load (file_asked a)) file)
   pub built_told : IsBuilt file built sizes0 sizes1
   pub loaded : status ≢ 1 → Loaded asked counts0 counts1 file
   pub has_read : HasRead in0 in1 input read_failed
   pub quiet : ReadsNothing asked → in1 ≡ in0
-  pub does : Does (told_words asked file built input read_failed) in1 out0 out1 line status
+  pub does : CarriesOut (told_words asked file built input read_failed) in1 out0 out1 line status
   pub said : SendDid err0 err1 sent line
 
 -- the file that is asked for is read as this configuration
@@ -191,7 +191,7 @@ pub record HasConfig (asked : Option Asked) (next_load : List ℕ → Option Loa
   pub of : Asked
   pub bytes : List ℕ
   pub is_asked : asked ≡ Some of
-  pub told : Tells (next_load (file_of of)) (Got bytes)
+  pub told : Tells (next_load (file_asked of)) (Got bytes)
   pub reads : config_of bytes ≡ Ok c
 
 -- the file that is asked for has no configuration
@@ -200,7 +200,7 @@ pub record HasFault (asked : Option Asked) (next_load : List ℕ → Option Load
   pub bytes : List ℕ
   pub fault : DocFault
   pub is_asked : asked ≡ Some of
-  pub told : Tells (next_load (file_of of)) (Got bytes)
+  pub told : Tells (next_load (file_asked of)) (Got bytes)
   pub reads : config_of bytes ≡ Err fault
 
 -- it has one, and a pattern of it was refused
@@ -251,7 +251,7 @@ HasReadings c = All (λ pattern. IsNoPattern pattern.text → ⊥) (patterns_in 
 pub record IsGiven (asked : Option Asked) (next_load : List ℕ → Option Load) (of : Asked) (c : Configuration) : Type 0 where
   pub bytes : List ℕ
   pub is_asked : asked ≡ Some of
-  pub told : next_load (file_of of) ≡ Some (Got bytes)
+  pub told : next_load (file_asked of) ≡ Some (Got bytes)
   pub reads : config_of bytes ≡ Ok c
   pub readings : HasReadings c
 
@@ -267,5 +267,5 @@ pub record DoesAll (asked : Asked) (c : Configuration) (in0 in1 : Input) (out0 o
   pub line : List ℕ
   pub sent : Sent
   pub has_read : HasRead in0 in1 input false
-  pub does : Completes (told_asked asked c input false) in1 out0 out1 line status ⊎ LacksMemory (told_asked asked c input false) out0 out1 line status
+  pub does : Completes (told_asked asked c input false) in1 out0 out1 line status ⊎ BreaksForMemory (told_asked asked c input false) out0 out1 line status
   pub said : SendDid err0 err1 sent line

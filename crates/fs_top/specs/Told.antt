@@ -37,19 +37,19 @@ abbrev pub asked_of_four : List ℕ → List ℕ → List ℕ → List ℕ → O
 asked_of_four word file context dest = if bytes_eq word (codes "hunt") then Some (Hunt file context dest) else None
 
 -- what the words ask for, where they have a form
-abbrev pub asked_of : List (List ℕ) → Option Asked
-asked_of [] = None
-asked_of (word ∷ []) = None
-asked_of (word ∷ file ∷ []) = asked_of_two word file
-asked_of (word ∷ file ∷ context ∷ []) = None
-asked_of (word ∷ file ∷ context ∷ dest ∷ []) = asked_of_four word file context dest
-asked_of (word ∷ file ∷ context ∷ dest ∷ more ∷ words) = None
+abbrev pub asked_by : List (List ℕ) → Option Asked
+asked_by [] = None
+asked_by (word ∷ []) = None
+asked_by (word ∷ file ∷ []) = asked_of_two word file
+asked_by (word ∷ file ∷ context ∷ []) = None
+asked_by (word ∷ file ∷ context ∷ dest ∷ []) = asked_of_four word file context dest
+asked_by (word ∷ file ∷ context ∷ dest ∷ more ∷ words) = None
 
 -- the name of the file
-abbrev pub file_of : Asked → List ℕ
-file_of (Check file) = file
-file_of (Hunt file context dest) = file
-file_of (Play file) = file
+abbrev pub file_asked : Asked → List ℕ
+file_asked (Check file) = file
+file_asked (Hunt file context dest) = file
+file_asked (Play file) = file
 
 unfoldable pub usage_line : List ℕ
 usage_line = codes "usage: fsw check FILE | hunt FILE CONTEXT DEST | play FILE | load COUNT START | serve FILE\n"
@@ -164,8 +164,8 @@ told_read asked (Err fault) built input read_failed = refused (fault_line fault)
 -- what is answered once the file gave this
 abbrev pub told_file : Asked → Load → Option PlanFault → List ℕ → Bool → Told
 told_file asked (Got bytes) built input read_failed = told_read asked (config_of bytes) built input read_failed
-told_file asked Absent built input read_failed = refused (cannot_read_line (file_of asked)) 4
-told_file asked Failed built input read_failed = refused (cannot_read_line (file_of asked)) 4
+told_file asked Absent built input read_failed = refused (cannot_read_line (file_asked asked)) 4
+told_file asked Failed built input read_failed = refused (cannot_read_line (file_asked asked)) 4
 
 -- what the program answers where its words ask for this, or have no form, where the file gives this, where this pattern is refused, or
 -- none, and these bytes are taken from the link before its reading ends or fails
@@ -173,5 +173,5 @@ abbrev pub told_words : Option Asked → Load → Option PlanFault → List ℕ 
 told_words None file built input read_failed = refused usage_line 2
 told_words (Some asked) file built input read_failed = told_file asked file built input read_failed
 
-abbrev pub told : List (List ℕ) → Load → Option PlanFault → List ℕ → Bool → Told
-told words file built input read_failed = told_words (asked_of words) file built input read_failed
+abbrev pub told_run : List (List ℕ) → Load → Option PlanFault → List ℕ → Bool → Told
+told_run words file built input read_failed = told_words (asked_by words) file built input read_failed

@@ -27,7 +27,7 @@ pub(crate) enum Asked<'a> {
 impl<'a> Asked<'a> {
     /// What the words ask for, if they have a form.
     pub(crate) fn of(words: &'a [Txt]) -> Option<Asked<'a>>
-        ensures { option_map asked_seen result ≡ told.asked_of words.now }
+        ensures { option_map asked_seen result ≡ told.asked_by words.now }
     {
         match words {
             [word, file] if word.as_bytes() == b"check".as_slice() => Some(Asked::Check { file }),
@@ -45,7 +45,7 @@ impl<'a> Asked<'a> {
 
     /// The name of the file.
     pub(crate) fn file(self) -> &'a Txt
-        ensures { result.now ≡ told.file_of (asked_seen self.entry) }
+        ensures { result.now ≡ told.file_asked (asked_seen self.entry) }
     {
         match self {
             Asked::Check { file } | Asked::Hunt { file, .. } | Asked::Play { file } => file,

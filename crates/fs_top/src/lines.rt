@@ -2,7 +2,7 @@ ghost use Rattle.std.specs.Prelude.{map};
 ghost use Rattle.std.specs.List.{concat};
 ghost use Rattle.fs_ports.specs.Ports.{SendDid};
 ghost use Rattle.fs_top.specs.Told as spec;
-ghost use Rattle.fs_top.specs.Runs.{line_of};
+ghost use Rattle.fs_top.specs.Runs.{line_of_outcome};
 
 use crate::outcome::Outcome;
 use fs_conn::End;
@@ -17,7 +17,7 @@ const USAGE: &str =
 // Prints the line of an outcome, if it has one.
 #[tactic(auto, unfolding(crate::specs::Told::usage_line, crate::specs::Told::read_fault_line, crate::specs::Told::write_fault_line, crate::specs::Told::memory_line))]
 pub(crate) fn say<E: Sink>(err: &mut E, outcome: Outcome<'_>) -> Sent
-    ensures { SendDid (E.output err.old) (E.output err.new) result (line_of outcome.entry) }
+    ensures { SendDid (E.output err.old) (E.output err.new) result (line_of_outcome outcome.entry) }
 {
     match outcome {
         Outcome::Usage => send_all(err, USAGE.as_bytes()),

@@ -1,5 +1,5 @@
 ghost use Rattle.std.specs.Prelude.{◌≡◌};
-ghost use Rattle.fs_top.specs.Runs.{status_of};
+ghost use Rattle.fs_top.specs.Runs.{status_of_outcome};
 
 use fs_conn::End;
 use fs_doc::DocFault;
@@ -26,7 +26,7 @@ pub(crate) enum Outcome<'a> {
 impl<'a> Outcome<'a> {
     /// The status that the program ends with.
     pub(crate) fn status(self) -> u8
-        ensures { result ≡ status_of self.entry }
+        ensures { result ≡ status_of_outcome self.entry }
     {
         match self {
             Outcome::Printed | Outcome::Ended(End::Exit | End::AuthRefused | End::Eof) => 0,

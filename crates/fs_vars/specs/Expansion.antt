@@ -19,16 +19,16 @@ abbrev pub is_call : ℕ → Bool
 is_call b = b == 40 || b == 36
 
 -- a part of a value, or all of it
-abbrev pub asked_of : Option Part → Text → Text
-asked_of None value = value
-asked_of (Some part) value = part_of part value
+abbrev pub part_or_whole : Option Part → Text → Text
+part_or_whole None value = value
+part_or_whole (Some part) value = part_of part value
 
 -- what a reference gives: the value of its name, or the asked part of it, or no bytes where there is no such name; nothing is given
 -- for a name that has `(` or `$`
 unfoldable pub value_asked : Pairs → Text → Option Text
 value_asked known inside =
     if list_any is_call (asked_name inside) then None
-    else Some (asked_of (asked_part inside) (unwrap_or (value_of known (asked_name inside)) []))
+    else Some (part_or_whole (asked_part inside) (unwrap_or (value_of known (asked_name inside)) []))
 
 -- what a reference stands for: what it gives, or else itself as it is written
 unfoldable pub meaning : Pairs → Text → Text

@@ -15,6 +15,6 @@ pub record Holds (output : Output) (text : Text) : Type 0 where
   pub kept : output.len ≤ 65536 → output.bytes.items ≡ text
 
 -- a text is too long exactly with more than 65,536 bytes; want of memory says nothing of it
-abbrev pub IsRefusal : Text → Refused → Type 0
-IsRefusal whole Memory = Unit {0}
-IsRefusal whole (TooLong len) = (65536 < length whole) × (len ≡ len_of whole)
+abbrev pub IsTextRefusal : Text → Refused → Type 0
+IsTextRefusal whole Memory = Unit {0}
+IsTextRefusal whole (TooLong len) = (65536 < length whole) × (len ≡ len_of whole)

@@ -4,7 +4,7 @@ ghost use Rattle.fs_vars.specs.declared.part.Part.{Part};
 ghost use Rattle.fs_vars.specs.Pairs.{Text, Pairs, value_of};
 ghost use Rattle.fs_vars.specs.Parts.{part_in, part_of};
 ghost use Rattle.fs_vars.specs.Expansion.{expanded, meaning, asked_name, has_escape, has_reference, is_brace, is_call, IsPlainName};
-ghost use Rattle.fs_vars.specs.Outputs.{IsRefusal};
+ghost use Rattle.fs_vars.specs.Outputs.{IsTextRefusal};
 ghost use Rattle.fs_vars.specs.Scopes.{known_in};
 
 use crate::output::Output;
@@ -22,7 +22,7 @@ use std::alloc::Global;
 pub fn expand(alloc: Global, scope: &Scope, text: &[u8]) -> Result<Txt, Refused>
     ensures text { IfOk result (λ t. t ≡ expanded (known_in scope.now) text.now) }
     ensures short { IfOk result (λ t. length t ≤ 65536) }
-    ensures refused { IfErr result (IsRefusal (expanded (known_in scope.now) text.now)) }
+    ensures refused { IfErr result (IsTextRefusal (expanded (known_in scope.now) text.now)) }
 {
     let mut output = Output::new(alloc);
     for piece in Pieces::of(*scope, text) {

@@ -1,6 +1,6 @@
 ghost use Rattle.std.specs.Prelude.{◌++◌, ◌≡◌, ◌≤◌, [], length, IfOk, IfErr, OnOk};
 ghost use Rattle.fs_vars.specs.Pairs.{Text};
-ghost use Rattle.fs_vars.specs.Outputs.{Holds, IsRefusal};
+ghost use Rattle.fs_vars.specs.Outputs.{Holds, IsTextRefusal};
 
 use crate::refused::Refused;
 use fs_text::{Memory, Txt};
@@ -41,7 +41,7 @@ impl Output {
     /// The whole text, if it is not too long.
     pub fn into_text(self) -> Result<Txt, Refused>
         ensures ok { IfOk result (λ t. (text : Text) → Holds self text → (t ≡ text) × (length t ≤ 65536)) }
-        ensures err { IfErr result (λ refused. (text : Text) → Holds self text → IsRefusal text refused) }
+        ensures err { IfErr result (λ refused. (text : Text) → Holds self text → IsTextRefusal text refused) }
     {
         if self.len > LIMIT {
             return Err(Refused::TooLong { len: self.len });

@@ -39,15 +39,15 @@ character_of base [] = None
 character_of base (b ∷ digits) = option_and_then (λ n. if is_character n then Some n else None) (number_on base 0 (b ∷ digits))
 
 -- the number behind `#`
-unfoldable pub number_of : List ℕ → Option ℕ
-number_of [] = None
-number_of (b ∷ digits) = if b == 120 then character_of 16 digits else character_of 10 (b ∷ digits)
+unfoldable pub numbered_character : List ℕ → Option ℕ
+numbered_character [] = None
+numbered_character (b ∷ digits) = if b == 120 then character_of 16 digits else character_of 10 (b ∷ digits)
 
 -- the character that stands between `&` and `;`
 unfoldable pub entity : List ℕ → Option ℕ
 entity [] = None
 entity (b ∷ name) =
-    if b == 35 then number_of name
+    if b == 35 then numbered_character name
     else if bytes_eq (b ∷ name) (codes "lt") then Some 60
     else if bytes_eq (b ∷ name) (codes "gt") then Some 62
     else if bytes_eq (b ∷ name) (codes "amp") then Some 38

@@ -8,7 +8,7 @@ use Rattle.fs_xml.specs.declared.stop.TagStop.{TagStop}
 use Rattle.fs_xml.specs.declared.stop.TagStop.TheVariants.{Bad}
 use Rattle.fs_xml.specs.declared.tag.Body.{Body}
 use Rattle.fs_xml.specs.declared.tag.Close.{Close}
-use Rattle.fs_xml.specs.Attributes.{Written, Piece, Has, Ends, Broken, written_of, part_at}
+use Rattle.fs_xml.specs.Attributes.{Written, TagPart, Has, Ends, Broken, written_of, part_at}
 
 -- what a tag has behind its name: the attributes before the first malformed one, where that begins if there is one, and how the tag ends
 pub record BodyText : Type 0 where
@@ -27,7 +27,7 @@ pub data Step : Type 0 where
   More : List Written → Step
   Done : BodyText → Step
 
-abbrev pub step_of : List Written → Piece → Step
+abbrev pub step_of : List Written → TagPart → Step
 step_of so_far (Has a) = More (so_far ++ a ∷ [])
 step_of so_far (Ends ending) = Done (record { attrs = so_far; malformed = None; ending = ending })
 step_of so_far (Broken at) = Done (record { attrs = so_far; malformed = Some at; ending = Opens })

@@ -7,7 +7,7 @@ pub(crate) fn entity(name: &[u8]) -> Option<char>
     ensures { result ≡ entities.entity name.now }
 {
     match name {
-        [b'#', number @ ..] => number_of(number),
+        [b'#', number @ ..] => numbered_character(number),
         b"lt" => Some('<'),
         b"gt" => Some('>'),
         b"amp" => Some('&'),
@@ -17,9 +17,9 @@ pub(crate) fn entity(name: &[u8]) -> Option<char>
     }
 }
 
-#[tactic(auto, unfolding(crate::specs::Entities::number_of))]
-fn number_of(text: &[u8]) -> Option<char>
-    ensures { result ≡ entities.number_of text.now }
+#[tactic(auto, unfolding(crate::specs::Entities::numbered_character))]
+fn numbered_character(text: &[u8]) -> Option<char>
+    ensures { result ≡ entities.numbered_character text.now }
 {
     match text {
         [b'x', digits @ ..] => character_of(16, digits),

@@ -3,7 +3,7 @@ use Rattle.std.proofs.lemmas.Result.{err_from_is_err_and}
 use Rattle.fs_state.specs.Switch.{waiting_for}
 use Rattle.fs_machine.specs.declared.entry.Act.TheVariants.{Take}
 use Rattle.fs_machine.specs.Runs.{state_of}
-use Rattle.fs_conn.specs.Play.{entered, all_taken}
+use Rattle.fs_conn.specs.Play.{after_trying_act, after_taking_all}
 use Rattle.fs_conn.specs.Steps.{play_of}
 use Rattle.fs_conn.proofs.RoundLemmas.{round_done, rounds_over}
 use Rattle.fs_conn.proofs.SendLemmas.{taken_first, taken_stops}
@@ -27,7 +27,7 @@ returns-in_err-send_frame-clause-does g c =
 pub loop-preserved : goal.loop-preserved
 loop-preserved g c = record {
   reaches =
-      round_done (length (waiting_for (state_of c.args.machine.now) 1)) c.loop.counter (entered (Take 1)) (play_of c.loop.machine c.args.clock) (play_of c.send_frame.new.machine c.args.clock) (all_taken (play_of c.args.machine.now c.args.clock))
+      round_done (length (waiting_for (state_of c.args.machine.now) 1)) c.loop.counter (after_trying_act (Take 1)) (play_of c.loop.machine c.args.clock) (play_of c.send_frame.new.machine c.args.clock) (after_taking_all (play_of c.args.machine.now c.args.clock))
       (omega (arith, c.waiting-end.ensures)) c.in_ok-send_frame.ensures.does c.loop.invariant.reaches;
   sends = λ out0 written. c.in_ok-send_frame.ensures.sends out0 (c.loop.invariant.sends out0 written);
   input = c.send_frame.ensures.input ∙ c.loop.invariant.input;
@@ -36,4 +36,4 @@ loop-preserved g c = record {
 
 pub returns-clause-does : goal.returns-clause-does
 returns-clause-does g c =
-    rounds_over (length (waiting_for (state_of c.args.machine.now) 1)) c.loop.counter (entered (Take 1)) (play_of c.loop.machine c.args.clock) (all_taken (play_of c.args.machine.now c.args.clock)) (omega (arith, c.waiting-end.ensures)) c.loop.invariant.reaches
+    rounds_over (length (waiting_for (state_of c.args.machine.now) 1)) c.loop.counter (after_trying_act (Take 1)) (play_of c.loop.machine c.args.clock) (after_taking_all (play_of c.args.machine.now c.args.clock)) (omega (arith, c.waiting-end.ensures)) c.loop.invariant.reaches

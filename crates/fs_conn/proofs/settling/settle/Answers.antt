@@ -1,6 +1,6 @@
 use Rattle.std.proofs.Common.{is_some, refl, sym, ap, ◌∙◌}
 use Rattle.std.proofs.lemmas.Result.{err_from_is_err_and}
-use Rattle.fs_conn.specs.Play.{worked_once}
+use Rattle.fs_conn.specs.Play.{after_due_step}
 use Rattle.fs_conn.specs.Steps.{play_of}
 use Rattle.fs_conn.proofs.StepLemmas.{works_same, works_then}
 use Rattle.fs_conn.proofs.RoundLemmas.{round_done, rounds_over}
@@ -36,7 +36,7 @@ pub loop-preserved : goal.loop-preserved
 loop-preserved c =
     let is = sym c.due_act.ensures ∙ c.in-Some.is in record {
       reaches =
-          round_done 100000 c.loop.counter worked_once (play_of c.loop.machine c.args.clock) (play_of c.enter.new.machine c.args.clock) _ c.loop-test.true
+          round_done 100000 c.loop.counter after_due_step (play_of c.loop.machine c.args.clock) (play_of c.enter.new.machine c.args.clock) _ c.loop-test.true
           (round_worked c.in-Some.act (play_of c.loop.machine c.args.clock) (play_of c.enter.new.machine c.args.clock) _ refl is c.in_ok-enter.ensures) c.loop.invariant.reaches;
       works =
           works_then _ _ _ c.loop.invariant.works
@@ -46,7 +46,7 @@ loop-preserved c =
 pub returns-then-is_some-clause-does : goal.returns-then-is_some-clause-does
 returns-then-is_some-clause-does c =
     settled_runs (play_of c.args.machine.now c.args.clock) (play_of c.loop.machine c.args.clock) refl (ap is_some (sym c.due_act-2.ensures) ∙ sym c.is_some.ensures ∙ c.if-is_some.true)
-    (rounds_over 100000 c.loop.counter worked_once (play_of c.loop.machine c.args.clock) _ c.loop-test.false c.loop.invariant.reaches)
+    (rounds_over 100000 c.loop.counter after_due_step (play_of c.loop.machine c.args.clock) _ c.loop-test.false c.loop.invariant.reaches)
 
 pub returns-clause-does : goal.returns-clause-does
 returns-clause-does c =

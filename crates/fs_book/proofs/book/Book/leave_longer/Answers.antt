@@ -1,5 +1,5 @@
 use Rattle.std.proofs.Common.{rules, ◌<◌, ◌∷◌, ◌++◌, [], sym, ap, ◌∙◌, subst}
-use Rattle.fs_book.specs.Opened.{IsOwn}
+use Rattle.fs_book.specs.Opened.{NamesOwn}
 use Rattle.fs_book.proofs.Keeps.{adds}
 use Rattle.fs_book.proofs.book.Book.leave_longer.Goals as goal
 
@@ -14,5 +14,5 @@ fetch_add-turn-requires g c =
           (ap (λ m. m.1) put)
           (ap (λ m. m.0.start) put ∙ c.requires.same_start)
           (longer.1 ∙ sym (ap (λ m. m.0.seen ++ longer.0 ∷ []) put))
-          (subst (λ m. IsOwn g.M.Turned.opens g.M.Turned.names (g.M.Turned.start c.args.state) m.0.seen m.0.mine longer.0) (sym put) longer.2),
+          (subst (λ m. NamesOwn g.M.Turned.opens g.M.Turned.names (g.M.Turned.start c.args.state) m.0.seen m.0.mine longer.0) (sym put) longer.2),
     )

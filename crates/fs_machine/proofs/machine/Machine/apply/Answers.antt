@@ -1,5 +1,5 @@
 use Rattle.std.proofs.Common.{◌≡◌, ◌+◌, ◌-◌, ◌^◌, min, [], ◌∷◌, ◌++◌, sym, ap, subst, ◌∙◌}
-use Rattle.fs_state.specs.Switch.{empty, closed}
+use Rattle.fs_state.specs.Switch.{empty, after_entry}
 use Rattle.fs_state.specs.Drafts.{after}
 use Rattle.fs_state.specs.declared.delta.Delta.{Delta}
 use Rattle.fs_machine.specs.declared.entry.Entry.{Entry}
@@ -17,8 +17,8 @@ invariant_of-self c =
     let entries = c.self.inside.journal.entries in
     let parts = c.into_parts-entry.ensures in
     let added = c.add.ensures ∙ ap (λ (t : Entry × Delta × Reply). entries ++ t.0 ∷ []) parts in
-    let priced = c.apply.ensures ∙ ap (λ cost. closed cost (after kept c.into_parts-entry.result.1)) c.cost.ensures.exact in
-    let done = priced ∙ ap (λ (t : Entry × Delta × Reply). closed (cost_of t.0.act) (after kept t.1)) parts in
+    let priced = c.apply.ensures ∙ ap (λ cost. after_entry cost (after kept c.into_parts-entry.result.1)) c.cost.ensures.exact in
+    let done = priced ∙ ap (λ (t : Entry × Delta × Reply). after_entry (cost_of t.0.act) (after kept t.1)) parts in
     let P : View → Type 0 = λ view. IsPrepared (state_of view) entry c.args.change.delta c.args.change.reply in
     rw (done, added)
     (stands_more kept entries entry c.args.change.delta c.args.change.reply c.self.invariant.0 (subst P (sym c.self.view_is) c.requires.prepared), c.self.invariant.1, c.self.invariant.2)
@@ -30,8 +30,8 @@ returns-clause-cost c =
     let entries = c.self.inside.journal.entries in
     let parts = c.into_parts-entry.ensures in
     let added = c.add.ensures ∙ ap (λ (t : Entry × Delta × Reply). entries ++ t.0 ∷ []) parts in
-    let priced = c.apply.ensures ∙ ap (λ cost. closed cost (after kept c.into_parts-entry.result.1)) c.cost.ensures.exact in
-    let done = priced ∙ ap (λ (t : Entry × Delta × Reply). closed (cost_of t.0.act) (after kept t.1)) parts in
+    let priced = c.apply.ensures ∙ ap (λ cost. after_entry cost (after kept c.into_parts-entry.result.1)) c.cost.ensures.exact in
+    let done = priced ∙ ap (λ (t : Entry × Delta × Reply). after_entry (cost_of t.0.act) (after kept t.1)) parts in
     let P : View → Type 0 = λ view. IsPrepared (state_of view) entry c.args.change.delta c.args.change.reply in
     let cost = cost_more (empty kept.config) entries entry c.args.change.delta c.args.change.reply (subst P (sym c.self.view_is) c.requires.prepared) in
     let Q : View → Type 0 = λ view. (state_of (record {

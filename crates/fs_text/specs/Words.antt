@@ -18,6 +18,16 @@ behind_byte byte text = after_first (is_byte byte) text
 unfoldable pub halves_of : ℕ → List ℕ → Option (List ℕ × List ℕ)
 halves_of byte text = if list_any (is_byte byte) text then Some (before_byte byte text, behind_byte byte text) else None
 
+-- ---- `name=value`
+
+-- the name: all of the text where it has no `=`
+abbrev pub name_in : List ℕ → List ℕ
+name_in text = before_byte 61 text
+
+-- the value: empty where the text has no `=`
+abbrev pub value_in : List ℕ → List ℕ
+value_in text = behind_byte 61 text
+
 -- ---- words, with spaces between them
 
 abbrev pub is_other : ℕ → Bool

@@ -62,7 +62,8 @@ fn take_part<'a>(
     text: &'a [u8],
 ) -> Result<(Option<Close>, &'a [u8]), MarkupStop>
     requires { length text.now ≤ end }
-    ensures read { tags.StepGives attrs.new.items result (tags.body_step end (map written_of attrs.old.items) text.now) }
+    ensures read { tags.StepGives attrs.new.items result
+        (tags.body_step end (map written_of attrs.old.items) text.now) }
     ensures within { IfOk result (λ x. length x.1.now < length text.now) }
 {
     let (part, rest) = read_part(end, text)?;

@@ -14,8 +14,8 @@ use std::alloc::Global;
 
 /// The text that a value says, which ends at a place of its document.
 ///
-/// `&lt;`, `&gt;`, `&amp;`, `&quot;`, `&apos;`, `&#N;` and `&#xH;` stand for their characters, of which a number may name
-/// any Unicode scalar value but 0. A `<` is a fault unless `raw` says that it stands for itself.
+/// `&lt;`, `&gt;`, `&amp;`, `&quot;`, `&apos;`, `&#N;` and `&#xH;` stand for their characters, of which a number may
+/// name any Unicode scalar value but 0. A `<` is a fault unless `raw` says that it stands for itself.
 #[tactic(auto, unfolding(crate::specs::Entities::value_text))]
 pub fn decode(alloc: Global, raw: bool, end: usize, value: &[u8]) -> Result<Vec<u8>, ValueStop>
     ensures { ValueGives (λ (text : Vec ℕ). text.items) result (entities.value_text raw end value.now) }

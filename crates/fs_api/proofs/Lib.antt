@@ -1,3 +1,2 @@
-pub mod WordLemmas
 pub mod CloseLemmas
 pub mod RangeLemmas

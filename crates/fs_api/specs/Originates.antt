@@ -1,8 +1,8 @@
 -- How the arguments of `originate` are read.
 use Rattle.std.specs.Prelude.{ℕ, ◌==◌, nat_le, ◌&&◌, Bool, if◌then◌else◌, [], ◌∷◌, length, Option, None, Some, unwrap_or, codes}
-use Rattle.std.specs.List.{before_first, after_first}
 use Rattle.std.specs.Option.{option_and_then}
 use Rattle.fs_text.specs.Number.{read_u64}
+use Rattle.fs_text.specs.Words.{before_byte, behind_byte}
 use Rattle.fs_api.specs.declared.api.Api.{Api}
 use Rattle.fs_api.specs.declared.api.Api.TheVariants.{Originate, Usage}
 use Rattle.fs_api.specs.declared.api.Winner.{Winner}
@@ -22,9 +22,6 @@ word_or otherwise (byte ∷ bytes) = plain_word (byte ∷ bytes)
 
 -- ---- what the winner does
 
-abbrev pub is_open : ℕ → Bool
-is_open byte = byte == 40
-
 abbrev pub is_close : ℕ → Bool
 is_close byte = byte == 41
 
@@ -43,7 +40,7 @@ up_to_close text = unwrap_or (before_close text) text
 
 -- `app(args)`: without `(` there are no arguments
 abbrev pub application : Text → Winner
-application text = App (before_first is_open text) (up_to_close (after_first is_open text))
+application text = App (before_byte 40 text) (up_to_close (behind_byte 40 text))
 
 -- routed to these
 abbrev pub route_winner : Text → Text → Text → Winner
@@ -58,7 +55,8 @@ abbrev pub winner_of : Text → Text → Text → Option Winner
 winner_of [] dialplan context = if is_short dialplan && is_short context then Some (route_winner [] dialplan context) else None
 winner_of (byte ∷ bytes) dialplan context =
     if is_short dialplan && is_short context
-    then (if byte == 38 then Some (application bytes) else (if is_short (byte ∷ bytes) then Some (route_winner (byte ∷ bytes) dialplan context) else None))
+    then (if byte == 38 then Some (application bytes)
+    else (if is_short (byte ∷ bytes) then Some (route_winner (byte ∷ bytes) dialplan context) else None))
     else None
 
 -- ---- the timeout
@@ -79,16 +77,20 @@ originate_with url (Some winner) rest =
     let timeout = behind_quoted number in
     Originate url winner (plain_word rest) (plain_word number) (seconds_of (plain_word timeout))
 
--- the words behind the url
+-- the first three words behind the url, each with all that stands behind it
 abbrev pub originate_words : Text → Text → Text → Text → Api
 originate_words url exten dialplan context =
-    originate_with url (winner_of (plain_word exten) (word_or (codes "XML") dialplan) (word_or (codes "default") context)) (behind_quoted context)
+    let winner = winner_of (plain_word exten) (word_or (codes "XML") dialplan) (word_or (codes "default") context) in
+    originate_with url winner (behind_quoted context)
 
--- behind the url
+-- the words of the text behind the url
+abbrev pub originate_behind : Text → Text → Api
+originate_behind url text = originate_words url text (behind_quoted text) (behind_quoted (behind_quoted text))
+
+-- that text, where there is one
 abbrev pub originate_to : Text → Text → Api
 originate_to url [] = Usage which.Originate
-originate_to url (byte ∷ bytes) =
-    originate_words url (byte ∷ bytes) (behind_quoted (byte ∷ bytes)) (behind_quoted (behind_quoted (byte ∷ bytes)))
+originate_to url (byte ∷ bytes) = originate_behind url (byte ∷ bytes)
 
 -- the arguments, behind the name and its spaces
 abbrev pub originate_of : Text → Api

@@ -1,8 +1,8 @@
 -- How the text of an api command is read.
-use Rattle.std.specs.Prelude.{ℕ, ◌==◌, nat_le, Bool, if◌then◌else◌, [], ◌∷◌, Option, None, Some, codes, unwrap_or}
-use Rattle.std.specs.List.{before_first, after_first}
+use Rattle.std.specs.Prelude.{ℕ, nat_le, if◌then◌else◌, [], ◌∷◌, Option, None, Some, codes, unwrap_or}
 use Rattle.std.specs.Str.{bytes_eq}
 use Rattle.fs_text.specs.Number.{read_u64}
+use Rattle.fs_text.specs.Words.{name_in, value_in, without_spaces, word_of, behind_word}
 use Rattle.fs_text.specs.Cause.{cause_of_name}
 use Rattle.fs_text.specs.declared.causes.Cause.{Cause}
 use Rattle.fs_text.specs.declared.causes.Cause.TheVariants.{NormalClearing}
@@ -10,12 +10,8 @@ use Rattle.fs_api.specs.declared.api.Api.{Api}
 use Rattle.fs_api.specs.declared.api.Api.TheVariants.{Echo, Expand, GlobalGetvar, GlobalSetvar, Msleep, UuidExists, UuidKill, UuidGetvar, Usage, Unknown}
 use Rattle.fs_api.specs.declared.usages.Which.{Which}
 use Rattle.fs_api.specs.declared.usages.Which.TheVariants as which
-use Rattle.fs_api.specs.Words.{without_spaces, word_of, behind_word}
 use Rattle.fs_api.specs.Routes.{Text}
 use Rattle.fs_api.specs.Originates.{originate_of}
-
-abbrev pub is_equals : ℕ → Bool
-is_equals byte = byte == 61
 
 -- what these arguments are, or the usage where there are none
 abbrev pub needs : Which → (Text → Api) → Text → Api
@@ -24,7 +20,7 @@ needs usage read (byte ∷ bytes) = read (byte ∷ bytes)
 
 -- a word that sets a global: what stands before its first `=`, to what stands behind it
 abbrev pub global_setvar_of : Text → Api
-global_setvar_of arguments = GlobalSetvar (before_first is_equals (word_of arguments)) (after_first is_equals (word_of arguments))
+global_setvar_of arguments = GlobalSetvar (name_in (word_of arguments)) (value_in (word_of arguments))
 
 abbrev pub global_getvar_of : Text → Api
 global_getvar_of [] = GlobalGetvar None

@@ -1,3 +1,5 @@
+//! The api commands.
+
 ghost use Rattle.std.specs.Prelude.{◌≡◌, IfOk};
 
 use crate::route::Route;

@@ -11,4 +11,3 @@ mod words;
 pub use api::{Api, Winner};
 pub use route::Route;
 pub use usages::{Which, usage};
-pub use words::{cut_at, cut_word, without_spaces};

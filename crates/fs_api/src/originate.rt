@@ -1,3 +1,5 @@
+//! How the arguments of `originate` are read.
+
 ghost use Rattle.std.specs.Prelude.{◌≡◌, ◌==◌, IfOk};
 ghost use Rattle.fs_api.specs.Originates as spec;
 ghost use Rattle.fs_api.specs.Words as words;
@@ -5,8 +7,8 @@ ghost use Rattle.fs_api.specs.Words as words;
 use crate::api::{Api, Winner};
 use crate::route::Route;
 use crate::usages::Which;
-use crate::words::{cut_at, cut_quoted, unquoted};
-use fs_text::{Memory, Txt, read_u64};
+use crate::words::{cut_quoted, unquoted};
+use fs_text::{Memory, Txt, cut_at, read_u64};
 use std::alloc::Global;
 
 /// The most bytes that an extension, a dialplan and a context have.
@@ -14,7 +16,8 @@ const LONGEST: usize = 256;
 
 /// What the arguments of `originate` are.
 ///
-/// Their words are separated by spaces outside single quotes; a word that is in quotes as a whole loses them, but for the url.
+/// Their words are separated by spaces outside single quotes; a word that is in quotes as a whole loses them, but for
+/// the url.
 pub(crate) fn originate_of(alloc: Global, arguments: &[u8]) -> Result<Api, Memory>
     ensures { IfOk result (λ api. api ≡ spec.originate_of arguments.now) }
 {
@@ -35,9 +38,9 @@ fn originate_to(alloc: Global, url: &[u8], arguments: &[u8]) -> Result<Api, Memo
     originate_words(alloc, url, arguments)
 }
 
-// What they are where there is a word.
+// What they are where there are some.
 fn originate_words(alloc: Global, url: &[u8], arguments: &[u8]) -> Result<Api, Memory>
-    ensures { IfOk result (λ api. api ≡ spec.originate_words url.now arguments.now (words.behind_quoted arguments.now) (words.behind_quoted (words.behind_quoted arguments.now))) }
+    ensures { IfOk result (λ api. api ≡ spec.originate_behind url.now arguments.now) }
 {
     let (exten, behind) = cut_plain(arguments);
     let (dialplan, behind) = cut_word_or(b"XML", behind);

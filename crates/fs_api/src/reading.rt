@@ -1,3 +1,5 @@
+//! How the text of an api command is read.
+
 ghost use Rattle.std.specs.Prelude.{◌≡◌, IfOk};
 ghost use Rattle.fs_api.specs.Ranges.{IsInRange};
 ghost use Rattle.fs_api.specs.Readings as spec;
@@ -7,8 +9,7 @@ ghost use Rattle.fs_api.specs.declared.usages.Which.TheVariants as which;
 use crate::api::Api;
 use crate::originate::originate_of;
 use crate::usages::Which;
-use crate::words::{cut_at, cut_word, without_spaces};
-use fs_text::{Cause, Memory, Txt, read_u64};
+use fs_text::{Cause, Memory, Txt, cut_at, cut_word, read_u64, without_spaces};
 use std::alloc::Global;
 
 /// The most milliseconds that `msleep` takes: an hour.
@@ -17,8 +18,8 @@ const LONGEST_SLEEP: u64 = 3_600_000;
 impl Api {
     /// The api command that a text is, as FreeSWITCH's mod_commands has them.
     ///
-    /// Words are separated by runs of spaces. What is no command is `Unknown`, and a command whose words are missing or out of
-    /// their form is `Usage`.
+    /// Words are separated by runs of spaces. What is no command is `Unknown`, and a command whose words are missing or
+    /// out of their form is `Usage`.
     pub fn of(alloc: Global, text: &[u8]) -> Result<Api, Memory>
         ensures api { IfOk result (λ api. api ≡ spec.api_of text.now) }
         ensures range { IfOk result IsInRange }

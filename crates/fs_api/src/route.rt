@@ -1,3 +1,5 @@
+//! Where the winner of an origination is routed to.
+
 ghost use Rattle.std.specs.Prelude.{◌≡◌, IfOk};
 ghost use Rattle.fs_api.specs.Routes.{IsShortRoute};
 

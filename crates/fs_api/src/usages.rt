@@ -1,3 +1,5 @@
+//! How commands are to be written.
+
 ghost use Rattle.std.specs.Prelude.{◌≡◌};
 ghost use Rattle.fs_api.specs.Usages.{usage_of};
 

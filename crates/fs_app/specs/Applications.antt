@@ -1,24 +1,14 @@
 -- What an application is asked to do, by its name and its argument.
 use Rattle.std.specs.Prelude.{ℕ, ◌==◌, nat_le, Bool, false, not, ◌||◌, ◌&&◌, if◌then◌else◌, [], ◌∷◌, Option, None, Some, codes}
-use Rattle.std.specs.List.{before_first, after_first}
 use Rattle.std.specs.Str.{bytes_eq}
 use Rattle.fs_text.specs.Number.{read_u64}
-use Rattle.fs_api.specs.Words.{without_spaces, word_of, behind_word}
+use Rattle.fs_text.specs.Words.{name_in, value_in, without_spaces, word_of, behind_word}
 use Rattle.fs_api.specs.Routes.{Text}
 use Rattle.fs_api.specs.Originates.{is_short}
-use Rattle.fs_api.specs.Readings.{is_equals, cause_named}
+use Rattle.fs_api.specs.Readings.{cause_named}
 use Rattle.fs_chan.specs.Changes as changes
 use Rattle.fs_app.specs.declared.application.Application.{Application}
 use Rattle.fs_app.specs.declared.application.Application.TheVariants as app
-
--- ---- variables
-
--- the name and the value of `name=value`; without `=` the value is empty
-abbrev pub name_in : Text → Text
-name_in argument = before_first is_equals argument
-
-abbrev pub value_in : Text → Text
-value_in argument = after_first is_equals argument
 
 -- ---- waiting and leaving
 

@@ -1,3 +1,5 @@
+//! The applications of a channel.
+
 use fs_chan::Target3;
 use fs_text::{Cause, Txt};
 

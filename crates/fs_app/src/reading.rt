@@ -1,12 +1,14 @@
+//! How the argument of an application is read.
+
 ghost use Rattle.std.specs.Prelude.{◌≡◌, IfOk};
+ghost use Rattle.fs_text.specs.Words.{name_in, value_in};
 ghost use Rattle.fs_api.specs.Originates.{is_short};
 ghost use Rattle.fs_api.specs.Readings.{cause_named};
 ghost use Rattle.fs_app.specs.Applications as spec;
 
 use crate::application::Application;
-use fs_api::{cut_at, cut_word, without_spaces};
 use fs_chan::Target3;
-use fs_text::{Cause, Memory, Txt, read_u64};
+use fs_text::{Cause, Memory, Txt, cut_at, cut_word, read_u64, without_spaces};
 use std::alloc::Global;
 
 /// The most milliseconds that `sleep` takes: an hour.
@@ -18,8 +20,8 @@ const LONGEST_WORD: usize = 256;
 impl Application {
     /// What the application of a name is asked to do by its argument.
     ///
-    /// Names are compared byte for byte. Where an argument is words, they are separated by runs of spaces, and spaces in front are
-    /// skipped; words that are not needed are ignored.
+    /// Names are compared byte for byte. Where an argument is words, they are separated by runs of spaces, and spaces
+    /// in front are skipped; words that are not needed are ignored.
     #[tactic(auto, unfolding(crate::specs::Applications::application_of))]
     pub fn of(alloc: Global, name: &[u8], argument: &[u8]) -> Result<Application, Memory>
         ensures application { IfOk result (λ application. application ≡ spec.application_of name.now argument.now) }
@@ -57,7 +59,7 @@ impl Application {
 
 // The name and the value of `name=value`. Without `=` the value is empty.
 fn name_and_value(alloc: Global, argument: &[u8]) -> Result<(Txt, Txt), Memory>
-    ensures { IfOk result (λ pair. pair ≡ (spec.name_in argument.now, spec.value_in argument.now)) }
+    ensures { IfOk result (λ pair. pair ≡ (name_in argument.now, value_in argument.now)) }
 {
     let (name, value) = cut_at(b'=', argument);
     Ok((Txt::of(alloc, name)?, Txt::of(alloc, value)?))

@@ -3,43 +3,12 @@ use Rattle.std.proofs.Common.{◌≡◌, ℕ, zero, suc, ◌+◌, ◌<◌, ◌�
 use Rattle.std.specs.List.{list_any, position_or_len, before_first, after_first}
 use Rattle.std.proofs.lemmas.Bool.{and_left, and_right, or_parts, ne_eqb, eqb-false}
 use Rattle.std.proofs.lemmas.List.{length-take-le, drop-drop}
-use Rattle.std.proofs.lemmas.List.Folds.{list_any-append}
-use Rattle.std.proofs.Math.Seq.{take-append_seam, drop-append-add}
+use Rattle.fs_text.specs.Words.{is_byte, halves_of}
+use Rattle.fs_text.proofs.Cuts.{place_within, cut_behind, none_cut}
 use Rattle.fs_vars.specs.Pairs.{Text, Pairs, value_of}
 use Rattle.fs_vars.specs.Expansion.{Piece, by_pieces, is_brace}
 use Rattle.fs_vars.proofs.ExpansionLemmas.{by_pieces-front}
-use Rattle.fs_xml.specs.Bytes.{is_byte, halves_of}
-use Rattle.fs_xml.proofs.ByteSearch.{place_within}
 use Rattle.fs_doc.specs.Values.{begins_global, has_global, global_name, global_front, replaced, plain_len}
-
--- ---- the first byte of a kind
-
--- the first byte of a kind stands behind those that are not of it
-first_behind : (p : ℕ → Bool) (front : Text) (b : ℕ) (rest : Text) → list_any p front ≡ false → p b ≡ true → position_or_len p (front ++ b ∷ rest) ≡ length front
-first_behind p [] b rest none passes = rw passes
-first_behind p (a ∷ front) b rest none passes =
-    let parts = or_parts (p a) (list_any p front) none in
-    rw (parts.0, first_behind p front b rest parts.1 passes) (omega arith)
-
--- so a text is cut there into what stands before and behind it
-cut_behind : (front rest : Text) → list_any is_brace front ≡ false → halves_of 125 (front ++ 125 ∷ rest) ≡ Some (front, rest)
-unfolding halves_of
-cut_behind front rest none =
-    let whole : Text = front ++ 125 ∷ rest in
-    let place : position_or_len is_brace whole ≡ length front = first_behind is_brace front 125 rest none refl in
-    let some : list_any is_brace whole ≡ true = list_any-append is_brace front (125 ∷ rest) ∙ rw none refl in
-    let before : before_first is_brace whole ≡ front = ap (λ n. take n whole) place ∙ take-append_seam front (125 ∷ rest) in
-    let behind : after_first is_brace whole ≡ rest = ap (λ n. drop (n + 1) whole) place ∙ drop-append-add front (125 ∷ rest) 1 in
-    rw (some, before, behind) refl
-
--- and where it is not cut it has no `}`
-none_cut : (text : Text) → halves_of 125 text ≡ None → list_any is_brace text ≡ false
-unfolding halves_of
-none_cut text whole = by (list_any is_brace text) whole
-  where
-    by : (t : Bool) → cond {A = Option (List ℕ × List ℕ)} t (Some (before_first is_brace text, after_first is_brace text)) None ≡ None → t ≡ false
-    by true h = absurd (cc)
-    by false h = refl
 
 -- a byte of a kind that a text has not, no end of it has
 none_in_end : (p : ℕ → Bool) (n : ℕ) (text : Text) → list_any p text ≡ false → list_any p (drop n text) ≡ false
@@ -98,7 +67,7 @@ module _ (globals : Pairs) where
 
   -- that is, one that no `}` cuts there
   pub replaced-uncut : (text : Text) → halves_of 125 (drop 3 text) ≡ None → replaced globals text ≡ text
-  replaced-uncut text whole = replaced-unclosed text (none_cut (drop 3 text) whole)
+  replaced-uncut text whole = replaced-unclosed text (none_cut 125 (drop 3 text) whole)
 
   -- a reference gives the value of its name, or nothing, and what stands behind its `}` follows
   pub replaced-reference : (text name rest : Text) → begins_global text ≡ true → halves_of 125 (drop 3 text) ≡ Some (name, rest) → replaced globals text ≡ unwrap_or (value_of globals name) [] ++ replaced globals rest
@@ -129,7 +98,7 @@ module _ (globals : Pairs) where
   pub replaced-written : (name rest : Text) → list_any is_brace name ≡ false → replaced globals (codes "$${" ++ name ++ codes "}" ++ rest) ≡ unwrap_or (value_of globals name) [] ++ replaced globals rest
   replaced-written name rest none =
       ap (λ more. replaced globals (36 ∷ 36 ∷ 123 ∷ more)) (append_assoc name (codes "}") rest)
-      ∙ replaced-reference (36 ∷ 36 ∷ 123 ∷ (name ++ 125 ∷ rest)) name rest refl (cut_behind name rest none)
+      ∙ replaced-reference (36 ∷ 36 ∷ 123 ∷ (name ++ 125 ∷ rest)) name rest refl (cut_behind 125 name rest none)
 
   -- what stands before the next `$` stands as it is
   pub replaced-run : (text : Text) → replaced globals text ≡ take (plain_len text) text ++ replaced globals (drop (plain_len text) text)

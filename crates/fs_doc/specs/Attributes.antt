@@ -2,8 +2,8 @@
 use Rattle.std.specs.Prelude.{◌==◌, ℕ, Bool, true, false, ◌&&◌, ◌||◌, not, nat_eq, if◌then◌else◌, List, [], ◌∷◌, ◌++◌, length, Option, None, Some, is_some, Result, Ok, Err, codes}
 use Rattle.std.specs.Str.{bytes_eq, is_utf8}
 use Rattle.std.specs.List.{starts_with}
+use Rattle.fs_text.specs.Words.{halves_of}
 use Rattle.fs_vars.specs.Pairs.{Text, Pairs}
-use Rattle.fs_xml.specs.Bytes.{halves_of}
 use Rattle.fs_xml.specs.Attributes.{Written}
 use Rattle.fs_xml.specs.Results.{◌>>=◌}
 use Rattle.fs_xml.specs.declared.stop.ValueFault.{ValueFault}

@@ -2,6 +2,7 @@ pub mod Faults
 pub mod Dialplans
 pub mod Settings
 pub mod Values
+pub mod GlobalLaws
 pub mod Elements
 pub mod Attributes
 pub mod Tagged

@@ -2,9 +2,10 @@
 use Rattle.std.specs.Prelude.{◌==◌, ℕ, zero, suc, ◌+◌, Bool, true, false, ◌&&◌, nat_eq, nat_lt, if◌then◌else◌, List, [], ◌∷◌, length, drop, Result, Ok, Err, codes}
 use Rattle.std.specs.Str.{bytes_eq}
 use Rattle.std.specs.List.{starts_with, position_or_len}
+use Rattle.fs_text.specs.Words.{is_byte}
 use Rattle.fs_vars.specs.Pairs.{Text}
 use Rattle.fs_vars.specs.Variables.{Variables}
-use Rattle.fs_xml.specs.Bytes.{is_blank, is_byte, past, place}
+use Rattle.fs_xml.specs.Bytes.{is_blank, past, place}
 use Rattle.fs_xml.specs.Tags.{BodyText}
 use Rattle.fs_xml.specs.Markup.{Mark, Comment, End, Start, Marks, mark_at}
 use Rattle.fs_xml.specs.Results.{◌>>=◌}
@@ -93,6 +94,10 @@ unfoldable pub element_read : ℕ → Text → BodyText → Level → Content �
 element_read at name body level c =
     or_at at (kind_in level c.done name) >>= λ kind.
     (pairs_read (record { kind = kind; tag = at; globals = c.globals.pairs; attrs = body.attrs }) body.malformed >>= λ pairs. or_at at (element_begun kind pairs c))
+
+-- in a reading: at the level of its innermost element
+abbrev pub element_in : ℕ → Text → BodyText → ReadSoFar → Result (Level × Content) DocFault
+element_in at name body r = element_read at name body (level_in r.opened) r.content
 
 unfoldable pub start_entered : ℕ → Text → BodyText → ReadSoFar → Result ReadSoFar DocFault
 start_entered at name body r =

@@ -1,10 +1,10 @@
 -- What a value says, once the globals are put in place of their references.
-use Rattle.std.specs.Prelude.{ℕ, ◌+◌, Bool, ◌&&◌, nat_eq, if◌then◌else◌, [], length, take, drop, Option, None, Some, unwrap_or, Ok, codes}
+use Rattle.std.specs.Prelude.{◌≡◌, ℕ, ◌+◌, Bool, ◌&&◌, nat_eq, if◌then◌else◌, [], ◌++◌, length, take, drop, Option, None, Some, unwrap_or, Ok, codes}
 use Rattle.std.specs.List.{starts_with, list_any, before_first, position_or_len}
 use Rattle.std.specs.Borrow.{Bor}
+use Rattle.fs_text.specs.Words.{is_byte}
 use Rattle.fs_vars.specs.Pairs.{Text, Pairs, value_of}
 use Rattle.fs_vars.specs.Expansion.{Piece, by_pieces, is_brace}
-use Rattle.fs_xml.specs.Bytes.{is_byte}
 use Rattle.fs_xml.specs.Entities.{Values, value_text}
 use Rattle.fs_xml.specs.Results.{◌>>=◌}
 
@@ -34,6 +34,10 @@ replaced globals text = by_pieces (global_front globals) 0 text
 abbrev pub rest_replaced : Pairs → Option (Bor Text) → Text
 rest_replaced globals None = []
 rest_replaced globals (Some rest) = replaced globals rest.now
+
+-- a call that had this front and this text leaves a longer front and the rest: together they give the same
+abbrev pub Replaces : Pairs → Text → Text → Text → Option (Bor Text) → Type 0
+Replaces globals old text new rest = new ++ rest_replaced globals rest ≡ old ++ replaced globals text
 
 -- how many bytes stand before the first `$`
 abbrev pub plain_len : Text → ℕ

@@ -1,3 +1,5 @@
+//! The attributes of an element.
+
 ghost use Rattle.std.specs.Prelude.{◌≡◌, [], map, IfOk, option_map};
 ghost use Rattle.std.specs.Str.{is_utf8};
 ghost use Rattle.fs_xml.specs.Attributes.{written_of};
@@ -10,9 +12,9 @@ use crate::element::Kind;
 use crate::fault::{DocKind, DocStop};
 use crate::given::Given;
 use crate::values::read_value;
-use fs_text::{Memory, Txt};
+use fs_text::{Memory, Txt, split_at_byte};
 use fs_vars::Vars;
-use fs_xml::{Attr, ValueFault, ValueStop, split_at_byte};
+use fs_xml::{Attr, ValueFault, ValueStop};
 use std::alloc::Global;
 
 /// An element's start tag: its kind, its place, the globals that are set before it, and its attributes.
@@ -221,8 +223,8 @@ fn fault_place(tag: usize, name: usize, kind: DocKind) -> usize
 }
 
 impl<'e, 'a> Element<'e, 'a> {
-    /// The names and texts of all attributes, or the first fault: of an attribute in their order, then of a malformed one, then of one
-    /// that is missing.
+    /// The names and texts of all attributes, or the first fault: of an attribute in their order, then of a malformed
+    /// one, then of one that is missing.
     #[tactic(auto, unfolding(crate::specs::Attributes::pairs_read))]
     pub fn pairs(&self, alloc: Global, malformed: Option<usize>) -> Result<Given<'a>, DocStop>
         ensures { DocGives pairs_seen result (judged.pairs_read (tagged_of self.now) malformed) }
@@ -238,7 +240,8 @@ impl<'e, 'a> Element<'e, 'a> {
     }
 
     fn all_read(&self, alloc: Global) -> Result<Given<'a>, DocStop>
-        ensures { DocGives pairs_seen result (judged.attributes_read (tagged_of self.now) [] (map written_of self.now.attrs.now)) }
+        ensures { DocGives pairs_seen result
+            (judged.attributes_read (tagged_of self.now) [] (map written_of self.now.attrs.now)) }
     {
         let mut given = Given::new(alloc);
         let mut left = self.attrs;
@@ -252,7 +255,8 @@ impl<'e, 'a> Element<'e, 'a> {
     /// Adds one attribute.
     #[tactic(auto, unfolding(crate::specs::Attributes::attribute_read))]
     fn read(&self, alloc: Global, attr: &Attr<'a>, given: &mut Given<'a>) -> Result<(), DocStop>
-        ensures { DocGives (λ _. given.new) result (judged.attribute_read (tagged_of self.now) given.old (written_of attr.now)) }
+        ensures { DocGives (λ _. given.new) result
+            (judged.attribute_read (tagged_of self.now) given.old (written_of attr.now)) }
     {
         if given.has(attr.name) {
             return Err(DocStop::at(attr.at, DocKind::BadAttribute));

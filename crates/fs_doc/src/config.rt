@@ -1,3 +1,5 @@
+//! A configuration.
+
 ghost use Rattle.std.specs.Prelude.{◌≡◌};
 ghost use Rattle.fs_doc.specs.Limits.{IsWithin};
 ghost use Rattle.fs_doc.specs.Reading.{configured};

@@ -1,3 +1,5 @@
+//! What is read of a document, element by element.
+
 ghost use Rattle.std.specs.Prelude.{◌≡◌, ◌≤◌, false, true, length, IfOk, OnOk};
 ghost use Rattle.fs_doc.specs.Faults.{DocGives, or_at};
 ghost use Rattle.fs_doc.specs.Contents as contents;
@@ -151,7 +153,8 @@ impl Content {
         file: ConfigFile,
         given: &Given<'_>,
     ) -> Result<Level, DocStop>
-        ensures { DocGives (λ level. (level, self.new)) result (or_at at (contents.param_begun file given.now self.old)) }
+        ensures { DocGives (λ level. (level, self.new)) result
+            (or_at at (contents.param_begun file given.now self.old)) }
     {
         let value = given.text(alloc, b"value")?;
         match self.settings.set(file, given.bytes(b"name"), value) {
@@ -278,7 +281,8 @@ impl Content {
         anti: bool,
         given: &Given<'_>,
     ) -> Result<Level, DocStop>
-        ensures { DocGives (λ level. (level, self.new)) result (or_at at (contents.action_begun anti given.now self.old)) }
+        ensures { DocGives (λ level. (level, self.new)) result
+            (or_at at (contents.action_begun anti given.now self.old)) }
     {
         if self.actions >= MOST_ACTIONS {
             return Err(DocStop::at(at, DocKind::TooLarge));

@@ -1,10 +1,13 @@
+//! A dialplan: its contexts, their extensions, conditions and actions.
+
 ghost use Rattle.std.specs.Prelude.{◌≡◌, ◌<◌, length, OnOk, OnErr};
 ghost use Rattle.fs_doc.specs.Dialplans.{with_extension};
 
 use crate::listed::Listed;
 use fs_text::{Memory, Txt};
 
-/// A context: a dialplan of a name. Where a document has several contexts of one name, it is one with the extensions of all.
+/// A context: a dialplan of a name. Where a document has several contexts of one name, it is one with the extensions of
+/// all.
 #[derive(Drop)]
 pub struct ContextDef<P> {
     pub name: Txt,

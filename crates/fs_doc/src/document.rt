@@ -1,3 +1,5 @@
+//! How a document is read, from its first byte to its last.
+
 ghost use Rattle.std.specs.Prelude.{◌≡◌, ◌<◌, ◌≤◌, length, IfOk};
 ghost use Rattle.fs_vars.specs.Pairs.{Text};
 ghost use Rattle.fs_xml.specs.Markup.{mark_seen};
@@ -20,9 +22,10 @@ const MOST_BYTES: usize = 1_048_576;
 
 /// The configuration of a document, or the fault that is met first.
 ///
-/// Bytes that are all blanks are the empty configuration. Otherwise one `document` stands behind an optional declaration, among blanks and
-/// comments. The document is read from its start, each tag as a whole; at an element its name and place are judged first, then its
-/// attributes in their order, then a malformed or a missing one, and last a limit or a setting. Want of memory is told at place 0.
+/// Bytes that are all blanks are the empty configuration. Otherwise one `document` stands behind an optional
+/// declaration, among blanks and comments. The document is read from its start, each tag as a whole; at an element its
+/// name and place are judged first, then its attributes in their order, then a malformed or a missing one, and last a
+/// limit or a setting. Want of memory is told at place 0.
 #[tactic(auto, unfolding(crate::specs::Reading::config_of))]
 pub fn read_config(alloc: Global, bytes: &[u8]) -> Result<Config, DocFault>
     ensures { ConfigGives views.configuration_of result (reading.config_of bytes.now) }
@@ -142,7 +145,8 @@ fn read_mark<'a>(
     text: &'a [u8],
 ) -> Result<Option<&'a [u8]>, DocStop>
     requires { length text.now ≤ end }
-    ensures read { DocGives (views.next_seen state.new) result (reading.at_mark end (views.reading_of state.old) text.now) }
+    ensures read { DocGives (views.next_seen state.new) result
+        (reading.at_mark end (views.reading_of state.old) text.now) }
     ensures within { IfOk result (views.RestIsShorter text.now) }
 {
     let [_, rest @ ..] = text else {

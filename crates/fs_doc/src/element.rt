@@ -1,3 +1,5 @@
+//! Which elements may stand in which.
+
 ghost use Rattle.std.specs.Prelude.{◌≡◌, false, true};
 ghost use Rattle.fs_doc.specs.Elements as elements;
 

@@ -1,3 +1,5 @@
+//! What is wrong with a document.
+
 ghost use Rattle.std.specs.Prelude.{◌≡◌};
 ghost use Rattle.fs_doc.specs.declared.fault.DocStop.TheVariants as stop;
 
@@ -8,15 +10,16 @@ use std::fmt;
 /// What is wrong with a document.
 #[derive(Clone, Copy, Debug, PartialEq, Eq)]
 pub enum DocKind {
-    /// The document has more than 1,048,576 bytes, a pattern more than 1,024; or there are more than 256 contexts, 4,096 extensions,
-    /// 4,096 patterns or 32,768 actions; or the globals pass their limits.
+    /// The document has more than 1,048,576 bytes, a pattern more than 1,024; or there are more than 256 contexts,
+    /// 4,096 extensions, 4,096 patterns or 32,768 actions; or the globals pass their limits.
     TooLarge,
     /// The bytes end before the document does.
     Truncated,
-    /// There is no well-formed tag, or an end tag of another element; a declaration stands elsewhere than at the start; text stands
-    /// before the document, or anything but blanks and comments behind it.
+    /// There is no well-formed tag, or an end tag of another element; a declaration stands elsewhere than at the start;
+    /// text stands before the document, or anything but blanks and comments behind it.
     BadTag,
-    /// An attribute is malformed, stands twice, or has a raw `<` or a value that is none for it; or a needed one is missing.
+    /// An attribute is malformed, stands twice, or has a raw `<` or a value that is none for it; or a needed one is
+    /// missing.
     BadAttribute,
     /// What begins with `&` in a value is no entity.
     BadEntity,

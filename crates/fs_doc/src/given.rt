@@ -1,3 +1,5 @@
+//! The names and texts of the attributes of an element.
+
 ghost use Rattle.std.specs.Prelude.{◌≡◌, [], ◌∷◌, ◌++◌, None, is_some, IfOk, OnOk, option_copied};
 ghost use Rattle.fs_vars.specs.Pairs.{value_of};
 ghost use Rattle.fs_doc.specs.Contents.{attribute_value};

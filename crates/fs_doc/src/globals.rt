@@ -1,17 +1,17 @@
-ghost use Rattle.std.specs.Prelude.{◌≡◌, ◌<◌, ◌≤◌, ℕ, [], ◌∷◌, ◌++◌, true, false, nat_eq, length, drop, unwrap_or, codes, IfOk, IfSome, OnOk};
-ghost use Rattle.std.specs.List.{starts_with, list_any};
-ghost use Rattle.fs_vars.specs.Pairs.{Text, Pairs, value_of};
-ghost use Rattle.fs_vars.specs.Expansion.{is_brace};
-ghost use Rattle.fs_doc.specs.Values as values;
-ghost use Rattle.fs_doc.specs.Values.{replaced, rest_replaced};
+//! The text of a value with its globals put in.
 
-use fs_text::{Memory, place_of};
+ghost use Rattle.std.specs.Prelude.{◌≡◌, ◌<◌, ◌≤◌, true, nat_eq, length, codes, IfOk, IfSome};
+ghost use Rattle.std.specs.List.{starts_with};
+ghost use Rattle.fs_doc.specs.GlobalLaws as laws;
+ghost use Rattle.fs_doc.specs.Values as values;
+ghost use Rattle.fs_doc.specs.Values.{replaced};
+
+use fs_text::{Memory, place_of, split_at_byte};
 use fs_vars::Vars;
-use fs_xml::split_at_byte;
 use std::alloc::Global;
 
-/// The text with each `$${name}` replaced by the global of that name, or by nothing. What comes of it is not read again, and one
-/// without its `}` stands as it is.
+/// The text with each `$${name}` replaced by the global of that name, or by nothing. What comes of it is not read
+/// again, and one without its `}` stands as it is.
 pub(crate) fn replace(alloc: Global, globals: &Vars, text: &[u8]) -> Result<Vec<u8>, Memory>
     ensures { IfOk result (λ out. out.items ≡ replaced globals.now.pairs text.now) }
 {
@@ -25,28 +25,18 @@ pub(crate) fn replace(alloc: Global, globals: &Vars, text: &[u8]) -> Result<Vec<
     }
 }
 
-/// What the definition of a document's text with its globals says, case by case.
+/// Law: what a text with its globals says, case by case.
 pub fn globals_law()
-    // No text gives no text.
-    ensures nothing { (globals : Pairs) → replaced globals [] ≡ [] }
-
-    // A byte that begins no `$${` stands as it is.
-    ensures other { (globals : Pairs) (b : ℕ) (rest : Text) → starts_with nat_eq (b ∷ rest) (codes "$${") ≡ false → replaced globals (b ∷ rest) ≡ b ∷ replaced globals rest }
-
-    // `$${`, what stands up to the first `}`, and that `}` give the value of the global of that name, or nothing; what was put in is
-    // not read again.
-    ensures reference { (globals : Pairs) (name rest : Text) → list_any is_brace name ≡ false → replaced globals (codes "$${" ++ name ++ codes "}" ++ rest) ≡ unwrap_or (value_of globals name) [] ++ replaced globals rest }
-
-    // A `$${` without its `}` stands as it is, with all that stands behind it.
-    ensures unclosed { (globals : Pairs) (text : Text) → list_any is_brace text ≡ false → replaced globals (codes "$${" ++ text) ≡ codes "$${" ++ text }
-
-    // A text in which no `$${` begins stands as it is.
-    ensures plain { (globals : Pairs) (text : Text) → ((n : ℕ) → starts_with nat_eq (drop n text) (codes "$${") ≡ false) → replaced globals text ≡ text }
+    ensures nothing { laws.NothingGivesNothing }
+    ensures other { laws.OtherByteStays }
+    ensures reference { laws.ReferenceGivesItsValue }
+    ensures unclosed { laws.UnclosedStays }
+    ensures plain { laws.PlainTextStays }
 {}
 
-/// Adds the bytes up to the first `$`, and what that stands for. The rest of the text is answered, if there is one.
+/// Adds the bytes up to the first `$`, and what that stands for. Answers the rest of the text, if there is one.
 fn step<'a>(globals: &Vars, out: &mut Vec<u8>, text: &'a [u8]) -> Result<Option<&'a [u8]>, Memory>
-    ensures whole { IfOk result (λ rest. out.new.items ++ rest_replaced globals.now.pairs rest ≡ out.old.items ++ replaced globals.now.pairs text.now) }
+    ensures whole { IfOk result (values.Replaces globals.now.pairs out.old.items text.now out.new.items) }
     ensures within { IfOk result (λ rest. IfSome rest (λ r. length r.now < length text.now)) }
 {
     let (front, dollar) = text.split_at(plain_len(text));
@@ -62,12 +52,13 @@ fn plain_len(text: &[u8]) -> usize
     place_of(b'$', text)
 }
 
+/// Adds what the `$` in front stands for, if there is one.
 fn add_dollar<'a>(
     globals: &Vars,
     out: &mut Vec<u8>,
     text: &'a [u8],
 ) -> Result<Option<&'a [u8]>, Memory>
-    ensures whole { IfOk result (λ rest. out.new.items ++ rest_replaced globals.now.pairs rest ≡ out.old.items ++ replaced globals.now.pairs text.now) }
+    ensures whole { IfOk result (values.Replaces globals.now.pairs out.old.items text.now out.new.items) }
     ensures within { IfOk result (λ rest. IfSome rest (λ r. length r.now < length text.now)) }
 {
     let [b, rest @ ..] = text else {
@@ -88,7 +79,7 @@ fn add_reference<'a>(
 ) -> Result<Option<&'a [u8]>, Memory>
     requires start { starts_with nat_eq text.now (codes "$${") ≡ true }
     requires long { 3 ≤ length text.now }
-    ensures whole { IfOk result (λ rest. out.new.items ++ rest_replaced globals.now.pairs rest ≡ out.old.items ++ replaced globals.now.pairs text.now) }
+    ensures whole { IfOk result (values.Replaces globals.now.pairs out.old.items text.now out.new.items) }
     ensures within { IfOk result (λ rest. IfSome rest (λ r. length r.now < length text.now)) }
 {
     match split_at_byte(b'}', &text[3..]) {

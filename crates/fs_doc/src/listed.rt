@@ -1,3 +1,5 @@
+//! Lists that grow at their end.
+
 ghost use Rattle.std.specs.Prelude.{◌≡◌, [], ◌∷◌, ◌++◌, OnOk, OnErr, length};
 
 use crate::dialplan::{ContextDef, ExtensionDef, add_extension};

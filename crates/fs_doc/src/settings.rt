@@ -1,3 +1,5 @@
+//! The settings of a configuration.
+
 ghost use Rattle.std.specs.Prelude.{◌≡◌, ◌-◌, ◌^◌, ◌≤◌, IfOk, IfSome};
 ghost use Rattle.fs_doc.specs.Settings as defs;
 

@@ -1,9 +1,11 @@
+//! The open elements of a document, and what was read of it.
+
 ghost use Rattle.std.specs.Prelude.{◌≡◌, false, true, IfOk};
 ghost use Rattle.fs_xml.specs.Markup.{mark_of};
 ghost use Rattle.fs_xml.specs.Tags.{body_of};
 ghost use Rattle.fs_doc.specs.Faults.{DocGives};
 ghost use Rattle.fs_doc.specs.Reading as reading;
-ghost use Rattle.fs_doc.specs.Views.{reading_of};
+ghost use Rattle.fs_doc.specs.Views.{Leaves, reading_of};
 
 use crate::attributes::Element;
 use crate::content::Content;
@@ -63,7 +65,7 @@ impl<'a> State<'a> {
     /// Enters the markup that stands at a place.
     #[tactic(auto, unfolding(crate::specs::Reading::mark_entered))]
     pub fn enter(&mut self, alloc: Global, at: usize, mark: Markup<'a>) -> Result<(), DocStop>
-        ensures { DocGives (λ _. reading_of self.new) result (reading.mark_entered at (mark_of mark.entry) (reading_of self.old)) }
+        ensures { Leaves self.new result (reading.mark_entered at (mark_of mark.entry) (reading_of self.old)) }
     {
         match mark {
             Markup::Comment => {
@@ -86,7 +88,7 @@ impl<'a> State<'a> {
         name: &'a [u8],
         body: &Body<'a>,
     ) -> Result<(), DocStop>
-        ensures { DocGives (λ _. reading_of self.new) result (reading.start_entered at name.now (body_of body.now) (reading_of self.old)) }
+        ensures { Leaves self.new result (reading.start_entered at name.now (body_of body.now) (reading_of self.old)) }
     {
         let level = self.begin(alloc, at, name, body)?;
         match body.ending {
@@ -105,7 +107,8 @@ impl<'a> State<'a> {
         name: &[u8],
         body: &Body<'a>,
     ) -> Result<Level, DocStop>
-        ensures content { DocGives (λ level. (level, self.new.content)) result (reading.element_read at name.now (body_of body.now) (reading.level_in (reading_of self.old).opened) self.old.content) }
+        ensures content { DocGives (λ level. (level, self.new.content)) result
+            (reading.element_in at name.now (body_of body.now) (reading_of self.old)) }
         ensures opened { self.new.opened ≡ self.old.opened }
     {
         let kind = match kind_in(self.level(), self.content.done, name) {
@@ -125,7 +128,7 @@ impl<'a> State<'a> {
     /// Leaves the innermost element, whose name the end tag has.
     #[tactic(auto, unfolding(crate::specs::Reading::end_entered))]
     fn leave(&mut self, at: usize, name: &[u8]) -> Result<(), DocStop>
-        ensures { DocGives (λ _. reading_of self.new) result (reading.end_entered at name.now (reading_of self.old)) }
+        ensures { Leaves self.new result (reading.end_entered at name.now (reading_of self.old)) }
     {
         match self.opened.pop() {
             Some(open) if open.name == name => {

@@ -1,3 +1,5 @@
+//! What the value of an attribute says.
+
 ghost use Rattle.std.specs.Prelude.{◌≡◌};
 ghost use Rattle.fs_vars.specs.Pairs.{Text};
 ghost use Rattle.fs_xml.specs.Answers.{ValueGives};
@@ -9,8 +11,8 @@ use fs_vars::Vars;
 use fs_xml::{ValueStop, decode};
 use std::alloc::Global;
 
-/// The text of a value that ends at a place: its entities are decoded, and then the globals replaced. In a foreign place a `<` is
-/// allowed, and nothing is replaced.
+/// The text of a value that ends at a place: its entities are decoded, and then the globals replaced. In a foreign
+/// place a `<` is allowed, and nothing is replaced.
 #[tactic(auto, unfolding(crate::specs::Values::value_read))]
 pub(crate) fn read_value(
     alloc: Global,

@@ -1,8 +1,9 @@
 -- What the endpoint of a leg comes to, and which dial strings are one leg.
 use Rattle.std.specs.Prelude.{ℕ, ◌==◌, ◌≤◌, nat_le, Bool, not, ◌||◌, ◌&&◌, if◌then◌else◌, List, [], ◌∷◌, length, unwrap_or, codes}
-use Rattle.std.specs.List.{before_first, after_first, list_all}
+use Rattle.std.specs.List.{list_all}
 use Rattle.std.specs.Str.{bytes_eq}
 use Rattle.fs_text.specs.Cause.{cause_of_name}
+use Rattle.fs_text.specs.Words.{before_byte, behind_byte}
 use Rattle.fs_text.specs.declared.causes.Cause.TheVariants.{NoRouteDestination, DestinationOutOfOrder, InvalidNumberFormat, NormalUnspecified}
 use Rattle.fs_orig.specs.declared.endpoint.Endpoint.{Endpoint}
 use Rattle.fs_orig.specs.declared.endpoint.Endpoint.TheVariants.{Loopback, Dead}
@@ -12,15 +13,13 @@ Text = List ℕ
 
 -- ---- the parts, separated by slashes
 
-abbrev pub is_slash : ℕ → Bool
-is_slash byte = byte == 47
-
+-- the part up to the first slash
 abbrev pub first_part : Text → Text
-first_part text = before_first is_slash text
+first_part text = before_byte 47 text
 
 -- what stands behind it; nothing where there is no slash
 abbrev pub other_parts : Text → Text
-other_parts text = after_first is_slash text
+other_parts text = behind_byte 47 text
 
 -- a part, or another text where it is empty
 abbrev pub part_or : Text → Text → Text

@@ -1,3 +1,4 @@
+pub mod Laws
 pub mod Legs
 pub mod Verdicts
 pub mod Meaning

@@ -1,10 +1,10 @@
-ghost use Rattle.std.specs.Prelude.{◌≡◌, ◌≢◌, ℕ, List, true, slice_get, is_some};
+//! The changes of an origination.
+
+ghost use Rattle.std.specs.Prelude.{◌≡◌, slice_get};
 ghost use Rattle.std.specs.Option.{option_copied};
-ghost use Rattle.fs_text.specs.declared.causes.Cause.{Cause};
-ghost use Rattle.fs_orig.specs.declared.leg.OrigLeg.{OrigLeg};
 ghost use Rattle.fs_orig.specs.Changes as spec;
+ghost use Rattle.fs_orig.specs.Laws as laws;
 ghost use Rattle.fs_orig.specs.Legs.{lives};
-ghost use Rattle.fs_orig.specs.Meaning.{death_at};
 ghost use Rattle.fs_orig.specs.Verdicts.{next_group};
 
 use crate::leg::{OrigLeg, OrigLegs};
@@ -21,8 +21,8 @@ impl Orig {
         self.legs.answer(position, place)
     }
 
-    /// The leg at a position dies in the entry at a place. Says whether it does: it lived before. A leg that died keeps its place and
-    /// its cause.
+    /// The leg at a position dies in the entry at a place. Says whether it does: it lived before. A leg that died keeps
+    /// its place and its cause.
     pub fn leg_died(&mut self, position: u32, place: u64, cause: Cause) -> bool
         ensures answer { result ≡ spec.is_so_at lives (slice_get self.old.legs position) }
         ensures dead { self.new ≡ spec.with_death position place cause self.old }
@@ -37,8 +37,8 @@ impl Orig {
         self.groups.as_slice().get(self.current as usize + 1)
     }
 
-    /// Goes on to the next group, of which these legs were made, and says whether it does: all legs of the current one died, and there
-    /// is a next one.
+    /// Goes on to the next group, of which these legs were made, and says whether it does: all legs of the current one
+    /// died, and there is a next one.
     pub fn enter_next_group(&mut self, legs: OrigLegs) -> bool
         ensures answer { result ≡ spec.may_enter_next self.old }
         ensures group { self.new ≡ spec.at_next_group legs self.old }
@@ -55,10 +55,7 @@ impl Orig {
 
 /// Law: what changes of a leg keep.
 pub fn changes_law()
-    // A leg that died stays as it is.
-    ensures dead { (place position k : ℕ) (legs : List OrigLeg) → is_some (death_at legs k) ≡ true → slice_get (spec.with_changed_leg (spec.with_leg_answer place) position legs) k ≡ slice_get legs k }
-    ensures dead_once { (place position k : ℕ) (cause : Cause) (legs : List OrigLeg) → is_some (death_at legs k) ≡ true → slice_get (spec.with_changed_leg (spec.with_leg_death place cause) position legs) k ≡ slice_get legs k }
-
-    // The other legs stay as they are.
-    ensures others { (change : OrigLeg → OrigLeg) (position k : ℕ) (legs : List OrigLeg) → k ≢ position → slice_get (spec.with_changed_leg change position legs) k ≡ slice_get legs k }
+    ensures dead { laws.DeadIsNotAnswered }
+    ensures dead_once { laws.DeadDiesOnce }
+    ensures others { laws.OthersStay }
 {}

@@ -1,7 +1,9 @@
+//! What the endpoint of a leg comes to, and which dial strings are one leg.
+
 ghost use Rattle.std.specs.Prelude.{◌≡◌, IfOk};
 ghost use Rattle.fs_orig.specs.Endpoints as spec;
 
-use fs_text::{Cause, Memory, Txt, place_of};
+use fs_text::{Cause, Memory, Txt, cut_at};
 use std::alloc::Global;
 
 /// The most bytes that an extension, a context and a dialplan have.
@@ -10,8 +12,8 @@ const LONGEST: usize = 256;
 /// What the endpoint of a leg comes to, as far as its text says.
 #[derive(Drop)]
 pub enum Endpoint {
-    /// A pair of channels of the loopback: the far end is routed to an extension of a context, in the dialplan `XML`. The extension is
-    /// not empty, and each text has at most 256 bytes.
+    /// A pair of channels of the loopback: the far end is routed to an extension of a context, in the dialplan `XML`.
+    /// The extension is not empty, and each text has at most 256 bytes.
     Loopback { exten: Txt, context: Txt },
     /// No channel can be made of it, for this cause.
     Dead { cause: Cause },
@@ -21,16 +23,17 @@ impl Endpoint {
     /// The endpoint that a text is: `error/CAUSE` or `loopback/EXTENSION/CONTEXT/DIALPLAN`.
     ///
     /// In this order it is dead: by the cause that it names, or by NORMAL_UNSPECIFIED where there is no such cause; by
-    /// DESTINATION_OUT_OF_ORDER where it is of another kind; by INVALID_NUMBER_FORMAT where its extension is empty or a part has over 256
-    /// bytes; by NO_ROUTE_DESTINATION where it names another dialplan than `XML`. A context that it does not name is `default`.
+    /// DESTINATION_OUT_OF_ORDER where it is of another kind; by INVALID_NUMBER_FORMAT where its extension is empty or a
+    /// part has over 256 bytes; by NO_ROUTE_DESTINATION where it names another dialplan than `XML`. A context that it
+    /// does not name is `default`.
     #[tactic(auto, unfolding(crate::specs::Endpoints::endpoint_of))]
     pub fn of(alloc: Global, text: &[u8]) -> Result<Endpoint, Memory>
         ensures endpoint { IfOk result (λ endpoint. endpoint ≡ spec.endpoint_of text.now) }
         ensures short { IfOk result spec.IsShortEndpoint }
     {
-        let (kind, parts) = cut_at_slash(text);
+        let (kind, parts) = cut_at(b'/', text);
         if kind == b"error".as_slice() {
-            Ok(error_of(cut_at_slash(parts).0))
+            Ok(error_of(cut_at(b'/', parts).0))
         } else if kind == b"loopback".as_slice() {
             loopback_of(alloc, parts)
         } else {
@@ -55,8 +58,8 @@ fn loopback_of(alloc: Global, parts: &[u8]) -> Result<Endpoint, Memory>
     ensures endpoint { IfOk result (λ endpoint. endpoint ≡ spec.loopback_of parts.now) }
     ensures short { IfOk result spec.IsShortEndpoint }
 {
-    let (exten, behind) = cut_at_slash(parts);
-    let (context, dialplan) = cut_at_slash(behind);
+    let (exten, behind) = cut_at(b'/', parts);
+    let (context, dialplan) = cut_at(b'/', behind);
     loopback_to(alloc, exten, context, dialplan)
 }
 
@@ -99,19 +102,6 @@ fn part_or<'a>(otherwise: &'a [u8], part: &'a [u8]) -> &'a [u8]
     ensures { result.now ≡ spec.part_or otherwise.entry.now part.entry.now }
 {
     if part.is_empty() { otherwise } else { part }
-}
-
-// The part up to the first slash, and what stands behind it.
-fn cut_at_slash(text: &[u8]) -> (&[u8], &[u8])
-    ensures first { result.0.now ≡ spec.first_part text.now }
-    ensures others { result.1.now ≡ spec.other_parts text.now }
-{
-    let place = place_of(b'/', text);
-    if place < text.len() {
-        (&text[..place], &text[place + 1..])
-    } else {
-        (text, &[])
-    }
 }
 
 /// Whether a dial string is one leg without variables: it has none of the bytes `{`, `[`, `,`, `|`, `'` and `\`.

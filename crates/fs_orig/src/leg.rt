@@ -1,3 +1,5 @@
+//! The legs that an origination has made.
+
 ghost use Rattle.std.specs.Prelude.{◌≡◌, ◌<◌, ◌^◌, [], ◌∷◌, ◌++◌, length, slice_get, IfOk, OnOk, OnErr};
 
 use fs_text::{Cause, Memory, Txt};
@@ -54,7 +56,8 @@ impl OrigLeg {
     ghost use Rattle.fs_orig.specs.Legs.{lives};
     ghost use Rattle.fs_orig.specs.Changes.{ringing, unmade, rings, with_leg_answer, with_leg_death};
 
-    /// A leg that rings, as the channel in a slot with an identifier, until it is given up at a moment, if there is one.
+    /// A leg that rings, as the channel in a slot with an identifier, until it is given up at a moment, if there is
+    /// one.
     pub fn ringing(slot: u16, uuid: Txt, deadline: Option<u64>) -> OrigLeg
         ensures { result ≡ ringing slot uuid deadline }
     {

@@ -1,5 +1,5 @@
-//! One origination: what it is to try, the legs that it has made, each change of these, and the verdict on it at a moment; and what
-//! the endpoint of a leg comes to.
+//! One origination: what it is to try, the legs that it has made, each change of these, and the verdict on it at a
+//! moment; and what the endpoint of a leg comes to.
 #![tactic(auto)]
 
 mod changes;

@@ -1,11 +1,13 @@
+//! An origination.
+
 ghost use Rattle.std.specs.Prelude.{◌≡◌, IfOk};
 
 use crate::leg::OrigLegs;
 use crate::plan::LegPlans;
 use fs_text::Memory;
 
-/// Who began an origination, and works it: the channel in a slot, as the application `bridge` does, or a job, as the api command
-/// `originate` makes one.
+/// Who began an origination, and works it: the channel in a slot, as the application `bridge` does, or a job, as the
+/// api command `originate` makes one.
 #[derive(Clone, Copy, Debug, PartialEq, Eq)]
 pub enum Owner {
     /// The channel in this slot.
@@ -14,8 +16,8 @@ pub enum Owner {
     Job(u64),
 }
 
-/// An origination: legs are made and ring until one is answered, all died, or the time is over, as FreeSWITCH's `originate` and
-/// `bridge` do it.
+/// An origination: legs are made and ring until one is answered, all died, or the time is over, as FreeSWITCH's
+/// `originate` and `bridge` do it.
 ///
 /// Its groups are tried one after another; the legs of a group ring together. A contract sees its fields.
 pub struct Orig {

@@ -1,3 +1,5 @@
+//! What an origination is to try.
+
 ghost use Rattle.std.specs.Prelude.{◌≡◌, ◌<◌, ◌^◌, [], ◌∷◌, ◌++◌, length, IfOk, OnOk, OnErr};
 
 use fs_text::{Headers, Memory, Txt};
@@ -13,14 +15,15 @@ pub struct LegPlan {
     pub pairs: Headers,
 }
 
-/// The legs that are to ring together, in order: in a dial string they are separated by `,`. A contract sees them as that list.
+/// The legs that are to ring together, in order: in a dial string they are separated by `,`. A contract sees them as
+/// that list.
 #[derive(Drop)]
 pub struct LegGroup {
     plans: Vec<LegPlan>,
 }
 
-/// Groups of legs that are to be tried one after another, in order: in a dial string they are separated by `|`. There are less than
-/// 2^32. A contract sees them as that list.
+/// Groups of legs that are to be tried one after another, in order: in a dial string they are separated by `|`. There
+/// are less than 2^32. A contract sees them as that list.
 #[derive(Drop)]
 pub struct LegPlans {
     groups: Vec<LegGroup>,

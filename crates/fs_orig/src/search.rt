@@ -1,3 +1,5 @@
+//! What is read of the legs of an origination.
+
 ghost use Rattle.std.specs.Prelude.{◌≡◌, ◌<◌, ◌^◌, length, IfSome};
 ghost use Rattle.std.specs.List.{filter_map, last_or, position};
 ghost use Rattle.std.specs.Option.{ForSome};

@@ -1,9 +1,7 @@
-ghost use Rattle.std.specs.Prelude.{◌≡◌, ◌<◌, ◌≤◌, ◌↔◌, ℕ, true, false};
-ghost use Rattle.fs_text.specs.declared.causes.Cause.{Cause};
-ghost use Rattle.fs_orig.specs.declared.orig.Orig.{Orig};
-ghost use Rattle.fs_orig.specs.declared.verdict.Verdict.TheVariants as verdict;
-ghost use Rattle.fs_orig.specs.Changes.{may_enter_next};
-ghost use Rattle.fs_orig.specs.Meaning as meaning;
+//! The verdict on an origination at a moment.
+
+ghost use Rattle.std.specs.Prelude.{◌≡◌};
+ghost use Rattle.fs_orig.specs.Laws as laws;
 ghost use Rattle.fs_orig.specs.Verdicts as spec;
 
 use crate::orig::Orig;
@@ -28,10 +26,11 @@ pub enum Verdict {
 
 /// The verdict on an origination at a moment, in microseconds.
 ///
-/// In this order: the living leg that was answered at the least place has won, at equal places the first in the group; the deadline
-/// has come; the first living leg has reached its own deadline; no leg lives, and the next group is tried, or there is none and the
-/// origination has failed with the cause of the leg that died at the greatest place, at equal places the last in the group; or there
-/// is nothing to do until the least deadline. Where no dead leg has a cause, an origination fails with NORMAL_UNSPECIFIED.
+/// In this order: the living leg that was answered at the least place has won, at equal places the first in the group;
+/// the deadline has come; the first living leg has reached its own deadline; no leg lives, and the next group is tried,
+/// or there is none and the origination has failed with the cause of the leg that died at the greatest place, at equal
+/// places the last in the group; or there is nothing to do until the least deadline. Where no dead leg has a cause, an
+/// origination fails with NORMAL_UNSPECIFIED.
 #[tactic(auto, unfolding(crate::specs::Verdicts::verdict_of))]
 pub fn judge(orig: &Orig, now: u64) -> Verdict
     ensures { result ≡ spec.verdict_of now orig.now }
@@ -57,8 +56,8 @@ pub fn judge(orig: &Orig, now: u64) -> Verdict
 }
 
 impl Orig {
-    /// The moment from which there is something to do, as seen at a moment: that one, or a later one until which there is nothing to do
-    /// unless a leg is answered or dies.
+    /// The moment from which there is something to do, as seen at a moment: that one, or a later one until which there
+    /// is nothing to do unless a leg is answered or dies.
     pub fn due(&self, now: u64) -> u64
         ensures { result ≡ spec.due_moment_of now self.now }
     {
@@ -79,26 +78,13 @@ impl Orig {
 
 /// Law: what a verdict means, and how it stands at other moments.
 pub fn verdict_law()
-    // A leg has won exactly where it was answered first.
-    ensures won { (now position : ℕ) (o : Orig) → (spec.verdict_of now o ≡ verdict.Won position) ↔ meaning.IsWinner o.legs position }
-
-    // A leg that has had its time is the first one that has.
-    ensures leg_expired { (now position : ℕ) (o : Orig) → spec.verdict_of now o ≡ verdict.LegExpired position → meaning.IsFirstToExpire now o.legs position }
-
-    // The next group is tried only where that may be done.
-    ensures next { (now : ℕ) (o : Orig) → spec.verdict_of now o ≡ verdict.NextGroup → may_enter_next o ≡ true }
-
-    // A failed origination is told the cause of the leg that died last.
-    ensures failed { (now : ℕ) (cause : Cause) (o : Orig) → spec.verdict_of now o ≡ verdict.Failed cause → meaning.IsWithCauses o.legs → meaning.IsLastToDie o.legs cause }
-
-    // The moment until which to wait is still to come, and until then the verdict stays.
-    ensures to_come { (now until : ℕ) (o : Orig) → spec.verdict_of now o ≡ verdict.Wait until → now < until }
-    ensures stays { (now later until : ℕ) (o : Orig) → spec.verdict_of now o ≡ verdict.Wait until → later < until → spec.verdict_of later o ≡ verdict.Wait until }
-
-    // Once it has come, the origination or a leg has had its time.
-    ensures has_come { (now later until : ℕ) (o : Orig) → spec.verdict_of now o ≡ verdict.Wait until → until ≤ later → meaning.is_timeout (spec.verdict_of later o) ≡ true }
-
-    // What is to be done is to be done later too, and what is over stays so.
-    ensures decided { (now later : ℕ) (o : Orig) → meaning.is_wait (spec.verdict_of now o) ≡ false → now ≤ later → meaning.is_wait (spec.verdict_of later o) ≡ false }
-    ensures expired { (now later : ℕ) (o : Orig) → spec.verdict_of now o ≡ verdict.Expired → now ≤ later → spec.verdict_of later o ≡ verdict.Expired }
+    ensures won { laws.FirstAnswerWins }
+    ensures leg_expired { laws.FirstLegExpires }
+    ensures next { laws.NextMayBeEntered }
+    ensures failed { laws.LastDeathIsTold }
+    ensures to_come { laws.WaitIsToCome }
+    ensures stays { laws.WaitStays }
+    ensures has_come { laws.WaitEndsInTimeout }
+    ensures decided { laws.WorkStays }
+    ensures expired { laws.ExpiredStays }
 {}

@@ -4,14 +4,17 @@ use Rattle.std.specs.List.{list_any, take_while}
 use Rattle.std.proofs.lemmas.List.Sums.{take_while-cons}
 use Rattle.std.proofs.lemmas.List.{length-append}
 use Rattle.std.proofs.lemmas.Bool.Decides.{nat_tests}
+use Rattle.std.proofs.lemmas.Bool.{eqb-true}
+use Rattle.fs_text.specs.Words.{is_byte, halves_of}
+use Rattle.fs_text.proofs.Cuts.{cut_behind, halved}
 use Rattle.fs_xml.specs.declared.stop.TagStop.TheVariants.{Bad}
 use Rattle.fs_xml.specs.declared.attribute.Ending.TheVariants.{Opens, Closes}
-use Rattle.fs_xml.specs.Bytes.{is_blank, is_quote, is_mark, is_name_byte, begins_name, is_byte, halves_of, past, name_of, place}
+use Rattle.fs_xml.specs.Bytes.{is_blank, is_quote, is_mark, is_name_byte, begins_name, past, name_of, place}
 use Rattle.fs_xml.specs.Attributes.{Written, TagPart, Has, Ends, Broken, TagParts, tag_end, broken_at, valued_on, valued_at, quoted_at, equals_at, named_at, slash_at, part_on, part_at}
 use Rattle.fs_xml.proofs.ByteLemmas.{run_past}
 use Rattle.fs_spelling.specs.Tags.{Pair, AreBlank, IsName, IsAttribute}
 use Rattle.fs_spelling.specs.Readings.{pair_of, ReadsAttribute, TakesAttribute}
-use Rattle.fs_spelling.proofs.Spans.{halves, halved, bind_ok, eqb-true}
+use Rattle.fs_spelling.proofs.Binds.{bind_ok}
 use Rattle.fs_spelling.proofs.Runs.{Stops, past_run, the_run, run_passes, name_byte, first_byte, no_mark, quote_stops, gap_stops, name_passes, name_stops}
 
 -- ---- what is spelt is read
@@ -85,7 +88,7 @@ spelt_attribute end bytes rest pair is =
           ∙ part_behind end is.before behind is.apart is.before_blank (name_stops pair.name (is.gap ++ (61 ∷ more)) is.is_name)
           ∙ name_read end pair.name (is.gap ++ (61 ∷ more)) is.is_name
           ∙ named_read end pair.name is.gap more is.is_name is.gap_blank
-          ∙ equals_read end at pair.name is.gap_behind is.quote pair.value rest is.behind_blank is.quotes (halves is.quote pair.value rest is.unbroken);
+          ∙ equals_read end at pair.name is.gap_behind is.quote pair.value rest is.behind_blank is.quotes (cut_behind is.quote pair.value rest is.unbroken);
       same = refl;
     }
 

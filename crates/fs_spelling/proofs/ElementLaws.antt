@@ -23,7 +23,7 @@ use Rattle.fs_doc.specs.Reading.{element_read}
 use Rattle.fs_spelling.specs.Values.{SpellsValue}
 use Rattle.fs_spelling.specs.Readings.{pair_of}
 use Rattle.fs_spelling.specs.Documents.{unplaced, tag_of, text_with_globals, Say, SayNoMore, SayOneMore, Begins}
-use Rattle.fs_spelling.proofs.Spans.{bind_ok}
+use Rattle.fs_spelling.proofs.Binds.{bind_ok}
 use Rattle.fs_spelling.proofs.ValueLaws as values
 
 -- ---- places do not matter

@@ -1,4 +1,4 @@
-pub mod Spans
+pub mod Binds
 pub mod ValueLaws
 pub mod Runs
 pub mod AttributeLaws

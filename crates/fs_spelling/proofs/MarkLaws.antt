@@ -1,6 +1,7 @@
 -- Comments and tags are read as what they spell.
 use Rattle.std.proofs.Common.{◌≡◌, ℕ, Bool, true, false, cond, ◌&&◌, ◌==◌, nat_eq, List, [], ◌∷◌, ◌++◌, map, drop, Result, Ok, Err, codes, refl, sym, ap, ◌∙◌, subst, append_assoc}
 use Rattle.std.specs.List.{take_while, starts_with}
+use Rattle.std.proofs.lemmas.Bool.{eqb-true}
 use Rattle.fs_xml.specs.declared.stop.TagStop.{TagStop}
 use Rattle.fs_xml.specs.declared.stop.TagStop.TheVariants.{Cut, Bad}
 use Rattle.fs_xml.specs.declared.attribute.Ending.{Ending}
@@ -12,7 +13,7 @@ use Rattle.fs_xml.specs.Markup.{Mark, Comment, End, Start, Marks, comment_end, s
 use Rattle.fs_xml.proofs.ByteLemmas.{run_past}
 use Rattle.fs_spelling.specs.Tags.{Pair, AreBlank, IsName, IsBody, IsTag, IsEndTag, IsComment}
 use Rattle.fs_spelling.specs.Readings.{pair_of, ReadsTag, Takes, TakesMark}
-use Rattle.fs_spelling.proofs.Spans.{bind_ok, eqb-true}
+use Rattle.fs_spelling.proofs.Binds.{bind_ok}
 use Rattle.fs_spelling.proofs.Runs.{past_run, the_run, run_passes, name_byte, first_byte, no_declared, no_mark, gap_stops, name_passes}
 use Rattle.fs_spelling.proofs.AttributeLaws.{name_is}
 use Rattle.fs_spelling.proofs.BodyLaws.{spelt_body_at, taken_body_at, body_stops}

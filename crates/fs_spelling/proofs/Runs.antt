@@ -2,8 +2,8 @@
 use Rattle.std.proofs.Common.{◌≡◌, ℕ, Bool, true, false, cond, not, ◌&&◌, ◌||◌, ◌==◌, List, [], ◌∷◌, ◌++◌, refl, ap}
 use Rattle.std.specs.List.{list_all, take_while}
 use Rattle.std.proofs.lemmas.List.Sums.{take_while-cons}
+use Rattle.std.proofs.lemmas.Bool.{or_parts, eqb-true}
 use Rattle.fs_xml.specs.Bytes.{is_blank, is_quote, is_mark, is_name_byte, begins_name, past}
-use Rattle.fs_spelling.proofs.Spans.{or_false, eqb-true}
 use Rattle.fs_spelling.specs.Tags.{AreBlank, IsName}
 
 -- the first byte does not pass, if there is one
@@ -72,8 +72,8 @@ pub name_byte : (b : ℕ) → is_name_byte b ≡ true → IsPlain b
 unfolding is_name_byte
 name_byte b passes =
     let none = not_true (is_blank b || is_quote b || is_mark b) passes in
-    let first = or_false (is_blank b || is_quote b) (is_mark b) none in
-    let second = or_false (is_blank b) (is_quote b) first.0 in
+    let first = or_parts (is_blank b || is_quote b) (is_mark b) none in
+    let second = or_parts (is_blank b) (is_quote b) first.0 in
     record { no_blank = second.0; no_quote = second.1; no_mark = first.1 }
 
 pub first_byte : (b : ℕ) → begins_name b ≡ true → is_name_byte b ≡ true
@@ -82,7 +82,7 @@ first_byte b begins = (and_true (is_name_byte b) (not (b == 33 || b == 63)) begi
 
 pub no_declared : (b : ℕ) → begins_name b ≡ true → (b == 33) ≡ false
 unfolding begins_name
-no_declared b begins = (or_false (b == 33) (b == 63) (not_true (b == 33 || b == 63) (and_true (is_name_byte b) (not (b == 33 || b == 63)) begins).1)).0
+no_declared b begins = (or_parts (b == 33) (b == 63) (not_true (b == 33 || b == 63) (and_true (is_name_byte b) (not (b == 33 || b == 63)) begins).1)).0
 
 -- which marks a byte is not
 pub record IsNoMark (b : ℕ) : Type 0 where
@@ -94,9 +94,9 @@ pub record IsNoMark (b : ℕ) : Type 0 where
 pub no_mark : (b : ℕ) → is_mark b ≡ false → IsNoMark b
 unfolding is_mark
 no_mark b none =
-    let first = or_false (b == 60 || b == 62 || b == 47) (b == 61) none in
-    let second = or_false (b == 60 || b == 62) (b == 47) first.0 in
-    let third = or_false (b == 60) (b == 62) second.0 in
+    let first = or_parts (b == 60 || b == 62 || b == 47) (b == 61) none in
+    let second = or_parts (b == 60 || b == 62) (b == 47) first.0 in
+    let third = or_parts (b == 60) (b == 62) second.0 in
     record { no_less = third.0; no_greater = third.1; no_slash = second.1; no_equals = first.1 }
 
 -- a quote is no blank and no byte of a name

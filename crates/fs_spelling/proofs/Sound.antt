@@ -21,7 +21,7 @@ use Rattle.fs_doc.specs.Reading.{Opened, ReadSoFar, level_in, is_outside, text_a
 use Rattle.fs_spelling.specs.Tags.{Pair, IsTag, IsEndTag, IsComment, AreBlank}
 use Rattle.fs_spelling.specs.Readings.{pair_of, Takes, TakesMark}
 use Rattle.fs_spelling.specs.Documents.{IsFiller, Begins, Inside, Bare, Remark, Leaf, Holder}
-use Rattle.fs_spelling.proofs.Spans.{bind_ok}
+use Rattle.fs_spelling.proofs.Binds.{bind_ok}
 use Rattle.fs_spelling.proofs.TextLaws.{BeginsMark, text_taken}
 use Rattle.fs_spelling.proofs.MarkLaws.{taken_mark}
 use Rattle.fs_spelling.proofs.ElementLaws.{read_begins}

@@ -3,8 +3,11 @@ use Rattle.std.proofs.Common.{◌≡◌, ℕ, suc, Bool, true, false, cond, ◌=
 use Rattle.std.specs.List.{position_or_len, list_any, before_first, take_while}
 use Rattle.std.proofs.lemmas.List.{take-append-drop}
 use Rattle.std.proofs.Math.Seq.{drop-append_seam}
+use Rattle.std.proofs.lemmas.Bool.{or_parts, eqb-true}
+use Rattle.fs_text.specs.Words.{is_byte}
+use Rattle.fs_text.proofs.Cuts.{first_behind, none_before, place_here, place_on}
 use Rattle.fs_vars.specs.Pairs.{Text}
-use Rattle.fs_xml.specs.Bytes.{is_blank, is_byte, past, place}
+use Rattle.fs_xml.specs.Bytes.{is_blank, past, place}
 use Rattle.fs_xml.proofs.ByteLemmas.{run_past}
 use Rattle.fs_doc.specs.declared.fault.DocFault.{DocFault}
 use Rattle.fs_doc.specs.declared.element.Level.{Level}
@@ -13,7 +16,6 @@ use Rattle.fs_doc.specs.Faults.{fault}
 use Rattle.fs_doc.specs.Reading.{text_kind, blank_text, any_text, text_at}
 use Rattle.fs_spelling.specs.Tags.{AreBlank}
 use Rattle.fs_spelling.specs.Documents.{IsFiller}
-use Rattle.fs_spelling.proofs.Spans.{or_false, first_place, none_before, place_here, place_on, eqb-true}
 use Rattle.fs_spelling.proofs.Runs.{Stops, past_run, run_passes}
 
 -- markup begins with `<`
@@ -37,13 +39,13 @@ blank_read end outer text rest blank begins =
 none_place : (p : ℕ → Bool) (text : Text) → list_any p text ≡ false → position_or_len p (text ++ []) ≡ length text
 none_place p [] none = refl
 none_place p (b ∷ text) none =
-    let parts = or_false (p b) (list_any p text) none in
+    let parts = or_parts (p b) (list_any p text) none in
     place_on p b (text ++ []) parts.0 ∙ ap suc (none_place p text parts.1)
 
 any_read : (text rest : Text) → list_any (is_byte 60) text ≡ false → BeginsMark rest → any_text (text ++ rest) ≡ rest
 any_read text [] none begins = ap (λ n. drop n (text ++ [])) (none_place (is_byte 60) text none) ∙ drop-append_seam text []
 any_read text (b ∷ rest) none begins =
-    let place_is = first_place (is_byte 60) text b rest none (ap (λ c. c == 60) begins) in
+    let place_is = first_behind (is_byte 60) text b rest none (ap (λ c. c == 60) begins) in
     ap (λ n. drop n (text ++ (b ∷ rest))) place_is ∙ drop-append_seam text (b ∷ rest)
 
 pub text_read : (end : ℕ) (outer : Level) (text rest : Text) → IsFiller outer text → BeginsMark rest → text_at end outer (text ++ rest) ≡ Ok rest

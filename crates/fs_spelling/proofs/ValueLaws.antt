@@ -1,12 +1,14 @@
 -- What a value says is what is read of it, and what is read of it is what it says.
 use Rattle.std.proofs.Common.{◌≡◌, ℕ, zero, suc, ◌+◌, take, drop, ◌<◌, Bool, true, false, cond, ◌||◌, ◌⊎◌, inl, inr, ◌==◌, List, [], ◌∷◌, ◌++◌, length, Option, None, Some, Ok, Err, refl, sym, ap, ◌∙◌, subst, append_assoc, append-nil, encode_utf8, arith, length-append}
 use Rattle.std.specs.List.{position_or_len, list_any}
+use Rattle.std.proofs.lemmas.Bool.{eqb-true}
+use Rattle.fs_text.specs.Words.{is_byte, halves_of}
+use Rattle.fs_text.proofs.Cuts.{cut_behind, halved}
 use Rattle.fs_xml.specs.declared.stop.ValueFault.TheVariants.{Raw}
 use Rattle.fs_xml.specs.Results.{◌>>=◌}
-use Rattle.fs_xml.specs.Bytes.{is_byte, halves_of, place}
+use Rattle.fs_xml.specs.Bytes.{place}
 use Rattle.fs_xml.specs.Entities.{entity, is_special, Decoded, character_added, entity_on, entity_at, special_at, value_step, Values, value_on, value_within, value_text}
 use Rattle.fs_spelling.specs.Values.{SpellsValue, Nothing, Plain, Mark, Entity}
-use Rattle.fs_spelling.proofs.Spans.{halves, halved, eqb-true}
 
 -- ---- one step
 
@@ -47,7 +49,7 @@ unfolding special_at entity_at
 entity_step raw end so_far name value c plain is =
     let at = place end (38 ∷ (name ++ (59 ∷ value))) in
     special_step raw end so_far 38 (name ++ (59 ∷ value)) refl
-    ∙ ap (entity_on so_far at) (halves 59 name value plain)
+    ∙ ap (entity_on so_far at) (cut_behind 59 name value plain)
     ∙ ap (λ found. character_added so_far at found value) is
 
 pub spelt_value : (raw : Bool) (value text : List ℕ) → SpellsValue raw value text → (more end : ℕ) (so_far : List ℕ) → length value < more

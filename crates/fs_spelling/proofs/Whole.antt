@@ -16,7 +16,7 @@ use Rattle.fs_doc.specs.Contents.{new_content}
 use Rattle.fs_doc.specs.Reading.{Configuration, configured, read_within, document_of, past_declaration, content_of, config_of}
 use Rattle.fs_spelling.specs.Tags.{AreBlank}
 use Rattle.fs_spelling.specs.Documents.{IsDocument, Spells}
-use Rattle.fs_spelling.proofs.Spans.{bind_ok}
+use Rattle.fs_spelling.proofs.Binds.{bind_ok}
 use Rattle.fs_spelling.proofs.Runs.{past_run, run_passes}
 use Rattle.fs_spelling.proofs.Again.{state, goes, last_round, more_fuel}
 use Rattle.fs_spelling.proofs.Sound.{read_is_found}

@@ -1,9 +1,10 @@
 -- Which bytes are comments and tags.
 use Rattle.std.specs.Prelude.{◌≡◌, ◌≢◌, ℕ, true, false, List, [], ◌∷◌, ◌++◌, Ok, codes}
 use Rattle.std.specs.List.{list_all, list_any}
+use Rattle.fs_text.specs.Words.{is_byte}
 use Rattle.fs_xml.specs.declared.attribute.Ending.{Ending}
 use Rattle.fs_xml.specs.declared.attribute.Ending.TheVariants.{Opens, Closes}
-use Rattle.fs_xml.specs.Bytes.{is_blank, is_quote, is_name_byte, begins_name, is_byte}
+use Rattle.fs_xml.specs.Bytes.{is_blank, is_quote, is_name_byte, begins_name}
 use Rattle.fs_xml.specs.Markup.{comment_end}
 
 -- a name, and a value as it is written

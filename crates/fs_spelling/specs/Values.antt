@@ -1,7 +1,7 @@
 -- What is a value that says a text.
 use Rattle.std.specs.Prelude.{◌≡◌, ℕ, Bool, true, false, List, [], ◌∷◌, ◌++◌, Some, encode_utf8}
 use Rattle.std.specs.List.{list_any}
-use Rattle.fs_xml.specs.Bytes.{is_byte}
+use Rattle.fs_text.specs.Words.{is_byte}
 use Rattle.fs_xml.specs.Entities.{entity, is_special}
 
 -- the value says the text: any byte but `&` and `<` stands for itself, an entity for its character, and where it is allowed a `<` for itself

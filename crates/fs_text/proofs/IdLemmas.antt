@@ -1,5 +1,5 @@
 -- The halves of an identifier are read back from its text.
-use Rattle.std.proofs.Common.{◌≡◌, ◌≢◌, ◌<◌, ◌+◌, ◌*◌, ◌/◌, ◌%◌, ◌^◌, ◌↔◌, ℕ, zero, suc, List, [], All, Option, Some, None, refl, sym, ap, ◌∙◌, subst, inl, arith, unwrap_or, Result, Ok, Err, IsOk, IfOk, true, false, true≢false}
+use Rattle.std.proofs.Common.{◌≡◌, ◌≢◌, ◌<◌, ◌+◌, ◌*◌, ◌/◌, ◌%◌, ◌^◌, ◌↔◌, ℕ, zero, suc, List, [], All, length, Option, Some, None, refl, sym, ap, ◌∙◌, subst, inl, arith, unwrap_or, Result, Ok, Err, IsOk, IfOk, true, false, true≢false}
 use Rattle.std.specs.Int.{to_be_bytes, from_be_bytes, bytes_high_first, byte_at, w128}
 use Rattle.std.specs.Option.{option_map}
 use Rattle.std.specs.Result.{result_ok}
@@ -8,6 +8,7 @@ use Rattle.std.proofs.lemmas.Slice.Eq.{bytes_eq-Decides}
 use Rattle.std.proofs.lemmas.List.Elements.{All-nil, All-cons}
 use Rattle.std.proofs.Math.Nat.{div-div-eq-div-mul}
 use Rattle.uuid.specs.Text.{lower, parsed}
+use Rattle.uuid.proofs.TextLemmas.{by_index_length}
 use Rattle.uuid.proofs.RoundTrips.{parses_hyphenated}
 use Rattle.fs_text.specs.CoreId.{uuid_text, uuid, high_of, IsCore, IsCoreText, Owns}
 
@@ -58,6 +59,11 @@ unfolding high_of
 high_of-uuid_text high low high_fits low_fits =
     let half : joined high low % 2 ^ 128 / 2 ^ 64 ≡ high = omega arith in
     rw (parsed-uuid_text high low) (ap Some (ap (λ n. n / 2 ^ 64) (from_be_bytes-to_be_bytes (joined high low)) ∙ half))
+
+-- an identifier has 36 bytes
+pub uuid_length : (core n : ℕ) → length (uuid core n) ≡ 36
+unfolding uuid uuid_text
+uuid_length core n = by_index_length 36 _
 
 -- a core owns its identifiers
 pub uuid_owned : (core n : ℕ) → IsCore core → n < 2 ^ 62 → Owns core (uuid core n)

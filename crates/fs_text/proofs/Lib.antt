@@ -1,3 +1,4 @@
+pub mod Cuts
 pub mod EscapeLemmas
 pub mod IdLemmas
 pub mod NumberLemmas

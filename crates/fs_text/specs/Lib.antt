@@ -5,3 +5,4 @@ pub mod EventName
 pub mod Number
 pub mod State
 pub mod Tables
+pub mod Words

@@ -1,3 +1,5 @@
+//! The causes of a hangup.
+
 ghost use Rattle.std.specs.Prelude.{◌≡◌, map};
 ghost use Rattle.fs_text.specs.Tables.{IsTable};
 ghost use Rattle.fs_text.specs.Cause.{all_causes, causes, cause_row, cause_number, cause_name, cause_of_name};

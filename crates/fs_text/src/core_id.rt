@@ -1,3 +1,5 @@
+//! The identifiers of a switch.
+
 ghost use Rattle.std.specs.Prelude.{◌≡◌, ◌<◌, ◌≤◌, ◌^◌, ◌↔◌, ℕ, Some, IsTrue, IfOk, length};
 ghost use Rattle.fs_text.specs.CoreId.{IsCore, IsCoreText, Owns, uuid_text, high_of, uuid, default_core};
 

@@ -1,3 +1,5 @@
+//! How the values of headers are escaped.
+
 ghost use Rattle.std.specs.Prelude.{◌≡◌, ◌<◌, ℕ, List, IfOk, All};
 ghost use Rattle.percent_encoding.specs.Percent.{percent_decode};
 ghost use Rattle.fs_text.specs.Escape.{escape, IsClean};

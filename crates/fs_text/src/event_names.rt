@@ -1,3 +1,5 @@
+//! The names of events.
+
 ghost use Rattle.std.specs.Prelude.{◌≡◌, map};
 ghost use Rattle.fs_text.specs.Tables.{IsTable};
 ghost use Rattle.fs_text.specs.EventName.{all_events, events, event_row, event_number, event_name, event_of_name};

@@ -1,3 +1,5 @@
+//! Lists of names and values.
+
 ghost use Rattle.std.specs.Prelude.{◌≡◌, [], ◌∷◌, ◌++◌, OnOk, OnErr};
 
 use crate::memory::Memory;

@@ -1,4 +1,4 @@
-//! Byte texts, the tables of names and numbers, escapes, headers and identifiers.
+//! Byte texts and how they are cut, the tables of names and numbers, escapes, headers and identifiers.
 #![tactic(auto)]
 
 mod causes;
@@ -12,6 +12,7 @@ mod search;
 mod states;
 mod tables;
 mod text;
+mod words;
 
 pub use causes::Cause;
 pub use core_id::CoreId;
@@ -23,3 +24,4 @@ pub use numbers::{decimal, decimal_law, read_u64};
 pub use search::place_of;
 pub use states::State;
 pub use text::Txt;
+pub use words::{cut_at, cut_word, split_at_byte, without_spaces};

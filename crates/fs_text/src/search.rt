@@ -1,3 +1,5 @@
+//! The place of a byte in a text.
+
 ghost use Rattle.std.specs.Prelude.{◌≡◌, ◌==◌};
 ghost use Rattle.std.specs.List.{position_or_len};
 

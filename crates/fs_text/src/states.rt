@@ -1,3 +1,5 @@
+//! The states of a channel.
+
 ghost use Rattle.std.specs.Prelude.{◌≡◌, map};
 ghost use Rattle.fs_text.specs.Tables.{IsTable};
 ghost use Rattle.fs_text.specs.State.{all_states, states, state_row, state_number, state_name, state_of_name};

@@ -1,3 +1,5 @@
+//! Tables of numbers and names.
+
 ghost use Rattle.std.specs.Prelude.{◌≡◌};
 ghost use Rattle.fs_text.specs.Tables.{named};
 

@@ -1,3 +1,5 @@
+//! Texts of bytes.
+
 ghost use Rattle.std.specs.Prelude.{◌≡◌, IfOk};
 
 use crate::memory::Memory;

@@ -2,7 +2,7 @@
 use Rattle.std.proofs.Common.{length-drop, length-append, length-take, Bor, option_map, unwrap_or, ◌≡◌, ℕ, zero, suc, ◌+◌, ◌-◌, ◌<◌, ◌≤◌, Bool, true, false, cond, not, ◌&&◌, ◌||◌, nat_eq, [], ◌∷◌, ◌++◌, length, take, drop, codes, refl, sym, ap, ◌∙◌, subst, arith, Option, None, Some}
 use Rattle.std.specs.List.{starts_with, list_any, position_or_len, before_first}
 use Rattle.std.proofs.lemmas.List.{length-take-le, take_at}
-use Rattle.fs_vars.proofs.SearchLemmas.{place_within}
+use Rattle.fs_text.proofs.Cuts.{place_within}
 use Rattle.std.proofs.lemmas.Bool.{false≢true, and_right, and_left, and_parts, or_parts, eqb-true, eqb-false, ne_eqb}
 use Rattle.memchr.specs.Find.{is_byte2}
 use Rattle.fs_vars.specs.Pairs.{Text, Pairs}

@@ -1,6 +1,5 @@
 pub mod PairsLemmas
 pub mod TallyLemmas
-pub mod SearchLemmas
 pub mod DigitLemmas
 pub mod ExpansionLemmas
 pub mod OutputLemmas

@@ -1,19 +1,20 @@
 -- What a text is expanded to.
 use Rattle.std.specs.Prelude.{◌≡◌, ◌==◌, ℕ, zero, suc, ◌+◌, ◌-◌, Bool, false, ◌&&◌, ◌||◌, nat_eq, if◌then◌else◌, [], ◌∷◌, ◌++◌, length, take, drop, Option, None, Some, is_some, unwrap_or, codes}
-use Rattle.std.specs.List.{starts_with, list_any, before_first, after_first}
+use Rattle.std.specs.List.{starts_with, list_any, before_first}
+use Rattle.fs_text.specs.Words.{is_byte, before_byte, behind_byte}
 use Rattle.fs_vars.specs.declared.part.Part.{Part}
 use Rattle.fs_vars.specs.Pairs.{Text, Pairs, value_of}
-use Rattle.fs_vars.specs.Parts.{is_colon, part_in, part_of}
+use Rattle.fs_vars.specs.Parts.{part_in, part_of}
 
 -- ---- one reference, between its braces
 
 -- the part that is asked for behind the first colon
 abbrev pub asked_part : Text → Option Part
-asked_part inside = part_in (after_first is_colon inside)
+asked_part inside = part_in (behind_byte 58 inside)
 
 -- the name: what stands before that colon, or all of it where no part is asked for
 abbrev pub asked_name : Text → Text
-asked_name inside = if is_some (asked_part inside) then before_first is_colon inside else inside
+asked_name inside = if is_some (asked_part inside) then before_byte 58 inside else inside
 
 abbrev pub is_call : ℕ → Bool
 is_call b = b == 40 || b == 36
@@ -36,7 +37,7 @@ meaning known inside = unwrap_or (value_asked known inside) (codes "${" ++ insid
 
 -- a name that means nothing but itself: without `:`, `(` and `$`
 pub record IsPlainName (name : Text) : Type 0 where
-  pub no_colon : list_any is_colon name ≡ false
+  pub no_colon : list_any (is_byte 58) name ≡ false
   pub no_call : list_any is_call name ≡ false
 
 -- ---- a text

@@ -1,13 +1,11 @@
 -- The part of a value that a reference asks for.
-use Rattle.std.specs.Prelude.{ℕ, zero, suc, ◌-◌, ◌==◌, Bool, ◌&&◌, nat_eq, nat_le, if◌then◌else◌, ℤ, pos, negsuc, neg_ℤ, length, take, drop, Option, None, Some, option_map, option_and_then, codes}
+use Rattle.std.specs.Prelude.{ℕ, zero, suc, ◌-◌, Bool, ◌&&◌, nat_eq, nat_le, if◌then◌else◌, ℤ, pos, negsuc, neg_ℤ, length, take, drop, Option, None, Some, option_map, option_and_then, codes}
 use Rattle.std.specs.Char.{is_ascii_digit}
-use Rattle.std.specs.List.{starts_with, list_all, list_any, before_first, after_first}
+use Rattle.std.specs.List.{starts_with, list_all}
 use Rattle.std.specs.Str.Parse.{digits_value}
+use Rattle.fs_text.specs.Words.{halves_of}
 use Rattle.fs_vars.specs.declared.part.Part.{Part}
 use Rattle.fs_vars.specs.Pairs.{Text}
-
-abbrev pub is_colon : ℕ → Bool
-is_colon b = b == 58
 
 -- 1 to 9 digits
 abbrev pub is_size : Text → Bool
@@ -22,12 +20,18 @@ abbrev pub number_in : Text → Option ℤ
 number_in text =
     if starts_with nat_eq text (codes "-") then option_map (λ n. neg_ℤ (pos n)) (size_in (drop 1 text)) else option_map pos (size_in text)
 
+-- the part of this offset that has as many bytes as the text writes
+abbrev pub part_from : ℤ → Text → Option Part
+part_from offset text = option_map (λ len. record { offset = offset; len = Some len }) (number_in text)
+
+-- what a text writes, from what stands before and behind its colon, if it has one
+abbrev pub part_between : Text → Option (Text × Text) → Option Part
+part_between text None = option_map (λ offset. record { offset = offset; len = None }) (number_in text)
+part_between text (Some (offset, len)) = option_and_then (λ n. part_from n len) (number_in offset)
+
 -- an offset alone, or an offset and a length with a colon between them
 abbrev pub part_in : Text → Option Part
-part_in text =
-    if list_any is_colon text
-    then option_and_then (λ offset. option_map (λ len. record { offset = offset; len = Some len }) (number_in (after_first is_colon text))) (number_in (before_first is_colon text))
-    else option_map (λ offset. record { offset = offset; len = None }) (number_in text)
+part_in text = part_between text (halves_of 58 text)
 
 -- the bytes from an offset on, where a negative one counts from the end; past either end it is that end
 abbrev pub from_offset : ℤ → Text → Text

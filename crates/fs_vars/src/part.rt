@@ -1,8 +1,9 @@
-ghost use Rattle.std.specs.Prelude.{◌≡◌, ◌<◌, is_some, IfSome};
-ghost use Rattle.std.specs.List.{before_first, after_first, list_any};
-ghost use Rattle.fs_vars.specs.Parts.{is_colon, size_in, number_in, part_in, part_of};
+//! The part of a value that a reference asks for.
 
-use fs_text::{place_of, read_u64};
+ghost use Rattle.std.specs.Prelude.{◌≡◌, ◌<◌, IfSome};
+ghost use Rattle.fs_vars.specs.Parts.{size_in, number_in, part_in, part_of};
+
+use fs_text::{read_u64, split_at_byte};
 
 /// The part of a value that a reference asks for: from the offset on, as many bytes as the length says.
 #[derive(Clone, Copy)]
@@ -16,7 +17,7 @@ impl Part {
     pub fn read(text: &[u8]) -> Option<Part>
         ensures { result ≡ part_in text.now }
     {
-        match split_at_colon(text) {
+        match split_at_byte(b':', text) {
             None => Some(Part {
                 offset: number_in(text)?,
                 len: None,
@@ -43,19 +44,6 @@ impl Part {
             Some(len) if len > 0 => &rest[..rest.len().min(len.unsigned_abs() as usize)],
             _ => rest,
         }
-    }
-}
-
-/// What stands before and behind the first colon.
-pub(crate) fn split_at_colon(text: &[u8]) -> Option<(&[u8], &[u8])>
-    ensures found { is_some result ≡ list_any is_colon text.now }
-    ensures before { IfSome result (λ halves. halves.0.now ≡ before_first is_colon text.now) }
-    ensures after { IfSome result (λ halves. halves.1.now ≡ after_first is_colon text.now) }
-{
-    let (before, from) = text.split_at(place_of(b':', text));
-    match from {
-        [_, after @ ..] => Some((before, after)),
-        [] => None,
     }
 }
 

@@ -1,3 +1,5 @@
+//! The pieces of a text as it is expanded.
+
 ghost use Rattle.std.specs.Prelude.{◌≡◌, ◌+◌, ◌<◌, ◌≤◌, length, take, drop, true, false, nat_eq, is_some, IfSome, codes};
 ghost use Rattle.std.specs.Iterator.{at_most};
 ghost use Rattle.std.specs.List.{list_any, position_or_len, starts_with};

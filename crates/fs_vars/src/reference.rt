@@ -1,11 +1,14 @@
+//! What a reference in a text means.
+
 ghost use Rattle.std.specs.Prelude.{◌≡◌};
 ghost use Rattle.std.specs.Option.{option_map};
 ghost use Rattle.std.specs.List.{list_any};
 ghost use Rattle.fs_vars.specs.Expansion.{asked_name, asked_part, is_call, value_asked};
 ghost use Rattle.fs_vars.specs.Scopes.{known_in};
 
-use crate::part::{Part, split_at_colon};
+use crate::part::Part;
 use crate::scope::Scope;
+use fs_text::cut_at;
 
 /// What stands between the braces of a reference: a name, and the part of its value that is asked for.
 #[derive(Clone, Copy)]
@@ -16,7 +19,6 @@ struct Reference<'a> {
 
 impl<'a> Reference<'a> {
     /// Reads what stands between the braces. Where what follows the first colon is no part, all of it is the name.
-    #[tactic(auto, using(crate::proofs::SearchLemmas::nothing_after))]
     fn read(inside: &'a [u8]) -> Reference<'a>
         ensures name { result.name.now ≡ asked_name inside.now }
         ensures part { result.part ≡ asked_part inside.now }
@@ -25,9 +27,7 @@ impl<'a> Reference<'a> {
             name: inside,
             part: None,
         };
-        let Some((name, asked)) = split_at_colon(inside) else {
-            return whole;
-        };
+        let (name, asked) = cut_at(b':', inside);
         match Part::read(asked) {
             Some(part) => Reference {
                 name,

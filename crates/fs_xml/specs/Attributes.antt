@@ -1,5 +1,6 @@
 -- One attribute of a tag, or the end of the tag.
 use Rattle.std.specs.Prelude.{◌==◌, ℕ, ◌-◌, Bool, if◌then◌else◌, List, [], ◌∷◌, length, Option, None, Some, Result, Ok, Err}
+use Rattle.fs_text.specs.Words.{halves_of}
 use Rattle.fs_xml.specs.Results.{◌>>=◌}
 use Rattle.fs_xml.specs.declared.attribute.Attr.{Attr}
 use Rattle.fs_xml.specs.declared.attribute.Part.{Part}
@@ -9,7 +10,7 @@ use Rattle.fs_xml.specs.declared.attribute.Ending.TheVariants.{Opens, Closes}
 use Rattle.fs_xml.specs.declared.stop.TagStop.{TagStop}
 use Rattle.fs_xml.specs.declared.stop.TagStop.TheVariants.{Cut, Bad}
 use Rattle.std.specs.Borrow.{Bor}
-use Rattle.fs_xml.specs.Bytes.{is_blank, is_quote, is_name_byte, begins_name, halves_of, past, name_of, place}
+use Rattle.fs_xml.specs.Bytes.{is_blank, is_quote, is_name_byte, begins_name, past, name_of, place}
 
 -- an attribute as it is written: where its name begins, its name, its value between the quotes, and where the value ends
 pub record Written : Type 0 where

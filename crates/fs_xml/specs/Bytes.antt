@@ -1,6 +1,6 @@
 -- The bytes that markup is made of.
-use Rattle.std.specs.Prelude.{◌==◌, ℕ, ◌-◌, Bool, ◌&&◌, ◌||◌, not, if◌then◌else◌, List, [], ◌∷◌, length, Option, None, Some}
-use Rattle.std.specs.List.{take_while, list_any, before_first, after_first}
+use Rattle.std.specs.Prelude.{◌==◌, ℕ, ◌-◌, Bool, ◌&&◌, ◌||◌, not, if◌then◌else◌, List, [], ◌∷◌, length}
+use Rattle.std.specs.List.{take_while}
 
 -- space, tab, CR and LF
 unfoldable pub is_blank : ℕ → Bool
@@ -22,10 +22,6 @@ is_name_byte b = not (is_blank b || is_quote b || is_mark b)
 unfoldable pub begins_name : ℕ → Bool
 begins_name b = is_name_byte b && not (b == 33 || b == 63)
 
--- the byte is this one
-abbrev pub is_byte : ℕ → ℕ → Bool
-is_byte byte b = b == byte
-
 -- what follows the bytes in front that pass a test
 abbrev pub past : (ℕ → Bool) → List ℕ → List ℕ
 past p [] = []
@@ -34,11 +30,6 @@ past p (b ∷ bytes) = if p b then past p bytes else b ∷ bytes
 -- the name in front
 abbrev pub name_of : List ℕ → List ℕ
 name_of bytes = take_while is_name_byte bytes
-
--- what stands before and behind the first such byte, if there is one
-unfoldable pub halves_of : ℕ → List ℕ → Option (List ℕ × List ℕ)
-halves_of byte bytes =
-    if list_any (is_byte byte) bytes then Some (before_first (is_byte byte) bytes, after_first (is_byte byte) bytes) else None
 
 -- where bytes begin that stand at the end of so many
 abbrev pub place : ℕ → List ℕ → ℕ

@@ -5,10 +5,13 @@ use Rattle.std.specs.Str.{bytes_eq}
 use Rattle.std.specs.List.{before_first, position_or_len}
 use Rattle.std.specs.Borrow.{Bor}
 use Rattle.memchr.specs.Find.{is_byte2}
+use Rattle.fs_text.specs.Words.{halves_of}
 use Rattle.fs_xml.specs.Results.{◌>>=◌}
 use Rattle.fs_xml.specs.declared.stop.ValueFault.{ValueFault}
 use Rattle.fs_xml.specs.declared.stop.ValueFault.TheVariants.{Raw, BadEntity}
-use Rattle.fs_xml.specs.Bytes.{halves_of, place}
+use Rattle.fs_xml.specs.declared.stop.ValueStop.{ValueStop}
+use Rattle.fs_xml.specs.Answers.{ValueGives}
+use Rattle.fs_xml.specs.Bytes.{place}
 
 -- ---- one entity
 
@@ -67,6 +70,10 @@ Decoded = Result (List ℕ × Option (List ℕ)) ValueFault
 
 abbrev pub rest_seen : Option (Bor (List ℕ)) → Option (List ℕ)
 rest_seen rest = option_map (λ r. r.now) rest
+
+-- a call leaves this text and answers this rest, as a step says
+abbrev pub StepGives : List ℕ → Result (Option (Bor (List ℕ))) ValueStop → Decoded → Type 0
+StepGives text result step = ValueGives (λ rest. (text, rest_seen rest)) result step
 
 -- the character of an entity
 abbrev pub character_added : List ℕ → ℕ → Option ℕ → List ℕ → Decoded

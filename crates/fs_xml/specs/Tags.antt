@@ -2,12 +2,15 @@
 use Rattle.std.specs.Prelude.{ℕ, zero, suc, ◌+◌, List, [], ◌∷◌, ◌++◌, length, map, Option, None, Some, Result, Ok, Err}
 use Rattle.std.specs.Borrow.{Bor}
 use Rattle.fs_xml.specs.Results.{◌>>=◌}
+use Rattle.fs_xml.specs.declared.attribute.Attr.{Attr}
 use Rattle.fs_xml.specs.declared.attribute.Ending.{Ending}
 use Rattle.fs_xml.specs.declared.attribute.Ending.TheVariants.{Opens}
+use Rattle.fs_xml.specs.declared.stop.MarkupStop.{MarkupStop}
 use Rattle.fs_xml.specs.declared.stop.TagStop.{TagStop}
 use Rattle.fs_xml.specs.declared.stop.TagStop.TheVariants.{Bad}
 use Rattle.fs_xml.specs.declared.tag.Body.{Body}
 use Rattle.fs_xml.specs.declared.tag.Close.{Close}
+use Rattle.fs_xml.specs.Answers.{MarkupGives}
 use Rattle.fs_xml.specs.Attributes.{Written, TagPart, Has, Ends, Broken, written_of, part_at}
 
 -- what a tag has behind its name: the attributes before the first malformed one, where that begins if there is one, and how the tag ends
@@ -35,6 +38,10 @@ step_of so_far (Broken at) = Done (record { attrs = so_far; malformed = Some at;
 abbrev pub step_seen : List Written → Option Close → Step
 step_seen so_far None = More so_far
 step_seen so_far (Some close) = Done (record { attrs = so_far; malformed = close.malformed; ending = close.ending })
+
+-- a call leaves these attributes and answers the end, if it is there, and the rest, as a step says
+abbrev pub StepGives : List Attr → Result (Option Close × Bor (List ℕ)) MarkupStop → Result (Step × List ℕ) TagStop → Type 0
+StepGives attrs result step = MarkupGives (λ x. (step_seen (map written_of attrs) x.0, x.1.now)) result step
 
 abbrev pub Bodies : Type 0
 Bodies = Result (BodyText × List ℕ) TagStop

@@ -1,10 +1,13 @@
+//! The attributes of a tag, and where it ends.
+
 ghost use Rattle.std.specs.Prelude.{◌≡◌, ◌<◌, ◌≤◌, ℕ, List, None, length, IfOk};
 ghost use Rattle.std.specs.Borrow.{Bor};
 ghost use Rattle.fs_xml.specs.Answers.{Gives};
 ghost use Rattle.fs_xml.specs.Attributes as pieces;
 
-use crate::bytes::{begins_name, is_quote, past_blanks, split_at_byte, split_name};
+use crate::bytes::{begins_name, is_quote, past_blanks, split_name};
 use crate::stop::TagStop;
+use fs_text::split_at_byte;
 
 /// An attribute as it is written in a tag. The places are those of the document that the tag stands in.
 #[derive(Clone, Copy, Debug)]

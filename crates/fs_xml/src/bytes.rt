@@ -1,7 +1,7 @@
-ghost use Rattle.std.specs.Prelude.{◌≡◌, ◌<◌, ◌≤◌, length, IfSome, option_map};
-ghost use Rattle.fs_xml.specs.Bytes as bytes;
+//! The bytes that markup is made of.
 
-use fs_text::place_of;
+ghost use Rattle.std.specs.Prelude.{◌≡◌, ◌≤◌, length};
+ghost use Rattle.fs_xml.specs.Bytes as bytes;
 
 /// A space, tab, CR or LF.
 #[tactic(auto, unfolding(crate::specs::Bytes::is_blank))]
@@ -77,17 +77,4 @@ pub(crate) fn split_name(text: &[u8]) -> (&[u8], &[u8])
     ensures within { length result.1.now ≤ length text.now }
 {
     text.split_at(text.len() - past_name(text).len())
-}
-
-/// What stands before and behind the first such byte, if there is one.
-#[tactic(auto, unfolding(crate::specs::Bytes::halves_of))]
-pub fn split_at_byte(byte: u8, text: &[u8]) -> Option<(&[u8], &[u8])>
-    ensures halves { option_map (λ halves. (halves.0.now, halves.1.now)) result ≡ bytes.halves_of byte text.now }
-    ensures within { IfSome result (λ halves. length halves.1.now < length text.now) }
-{
-    let (before, from) = text.split_at(place_of(byte, text));
-    match from {
-        [_, behind @ ..] => Some((before, behind)),
-        [] => None,
-    }
 }

@@ -1,3 +1,5 @@
+//! The characters that entities stand for.
+
 ghost use Rattle.std.specs.Prelude.{◌≡◌, ◌<◌, ◌≤◌, ◌-◌, IfSome};
 ghost use Rattle.fs_xml.specs.Entities as entities;
 

@@ -1,7 +1,7 @@
 //! The markup of documents: comments, tags with their attributes, and what a value says once its entities are decoded.
 //!
-//! Every reader takes the bytes that are left, and answers what it read with the rest, or the first fault. Nothing is copied but the
-//! text of a value.
+//! Every reader takes the bytes that are left, and answers what it read with the rest, or the first fault. Nothing is
+//! copied but the text of a value.
 #![tactic(auto)]
 
 mod attribute;
@@ -13,7 +13,7 @@ mod tag;
 mod value;
 
 pub use attribute::{Attr, Ending};
-pub use bytes::{past_blanks, split_at_byte};
+pub use bytes::past_blanks;
 pub use markup::{Markup, read_markup};
 pub use stop::{MarkupStop, TagStop, ValueFault, ValueStop};
 pub use tag::Body;

@@ -1,3 +1,5 @@
+//! Comments, end tags and start tags.
+
 ghost use Rattle.std.specs.Prelude.{◌≡◌, ◌<◌, ◌≤◌, ℕ, List, length, IfOk};
 ghost use Rattle.std.specs.Borrow.{Bor};
 ghost use Rattle.fs_xml.specs.Answers.{Gives, MarkupGives};
@@ -20,8 +22,9 @@ pub enum Markup<'a> {
 
 /// Reads the markup whose `<` stands in front of the text, in a document that ends at a place.
 ///
-/// A comment goes from `<!--` to the next `-->`. An end tag is `</`, a name, blanks and `>`. A start tag is `<`, a name, attributes, and
-/// `>` or `/>`. An attribute is a blank, a name, `=` and a value in quotes, with blanks round the `=`.
+/// A comment goes from `<!--` to the next `-->`. An end tag is `</`, a name, blanks and `>`. A start tag is `<`, a
+/// name, attributes, and `>` or `/>`. An attribute is a blank, a name, `=` and a value in quotes, with blanks round the
+/// `=`.
 #[tactic(auto, unfolding(crate::specs::Markup::mark_at))]
 pub fn read_markup(
     alloc: Global,

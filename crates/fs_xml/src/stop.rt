@@ -1,3 +1,5 @@
+//! Why markup or a value was not read.
+
 ghost use Rattle.std.specs.Prelude.{◌≡◌};
 ghost use Rattle.fs_xml.specs.declared.stop.MarkupStop.TheVariants as markup;
 ghost use Rattle.fs_xml.specs.declared.stop.ValueStop.TheVariants as value;

@@ -1,3 +1,5 @@
+//! What a start tag has behind its name.
+
 ghost use Rattle.std.specs.Prelude.{◌≡◌, ◌<◌, ◌≤◌, length, map, IfOk};
 ghost use Rattle.fs_xml.specs.Answers.{MarkupGives};
 ghost use Rattle.fs_xml.specs.Attributes.{written_of};
@@ -60,7 +62,8 @@ fn take_part<'a>(
     text: &'a [u8],
 ) -> Result<(Option<Close>, &'a [u8]), MarkupStop>
     requires { length text.now ≤ end }
-    ensures read { MarkupGives (λ x. (tags.step_seen (map written_of attrs.new.items) x.0, x.1.now)) result (tags.body_step end (map written_of attrs.old.items) text.now) }
+    ensures read { tags.StepGives attrs.new.items result
+        (tags.body_step end (map written_of attrs.old.items) text.now) }
     ensures within { IfOk result (λ x. length x.1.now < length text.now) }
 {
     let (part, rest) = read_part(end, text)?;

@@ -1,19 +1,21 @@
+//! What a value says, once its entities are decoded.
+
 ghost use Rattle.std.specs.Prelude.{◌≡◌, ◌<◌, ◌≤◌, ℕ, List, length, IfOk, IfSome, option_map};
 ghost use Rattle.std.specs.List.{position_or_len};
 ghost use Rattle.std.specs.Global.{Vec};
 ghost use Rattle.fs_xml.specs.Answers.{ValueGives};
 ghost use Rattle.fs_xml.specs.Entities as entities;
 
-use crate::bytes::split_at_byte;
 use crate::entity::entity;
 use crate::stop::{ValueFault, ValueStop};
+use fs_text::split_at_byte;
 use memchr::memchr2;
 use std::alloc::Global;
 
 /// The text that a value says, which ends at a place of its document.
 ///
-/// `&lt;`, `&gt;`, `&amp;`, `&quot;`, `&apos;`, `&#N;` and `&#xH;` stand for their characters, of which a number may name any Unicode
-/// scalar value but 0. A `<` is a fault unless `raw` says that it stands for itself.
+/// `&lt;`, `&gt;`, `&amp;`, `&quot;`, `&apos;`, `&#N;` and `&#xH;` stand for their characters, of which a number may
+/// name any Unicode scalar value but 0. A `<` is a fault unless `raw` says that it stands for itself.
 #[tactic(auto, unfolding(crate::specs::Entities::value_text))]
 pub fn decode(alloc: Global, raw: bool, end: usize, value: &[u8]) -> Result<Vec<u8>, ValueStop>
     ensures { ValueGives (λ (text : Vec ℕ). text.items) result (entities.value_text raw end value.now) }
@@ -28,7 +30,7 @@ pub fn decode(alloc: Global, raw: bool, end: usize, value: &[u8]) -> Result<Vec<
     }
 }
 
-/// Adds the bytes up to the first `&` or `<`, and what that stands for. The rest of the value is answered, if there is one.
+/// Adds the bytes up to the first `&` or `<`, and what that stands for. Answers the rest of the value, if there is one.
 #[tactic(auto, unfolding(crate::specs::Entities::value_step))]
 fn step<'a>(
     text: &mut Vec<u8>,
@@ -36,7 +38,7 @@ fn step<'a>(
     end: usize,
     value: &'a [u8],
 ) -> Result<Option<&'a [u8]>, ValueStop>
-    ensures read { ValueGives (λ rest. (text.new.items, entities.rest_seen rest)) result (entities.value_step raw end text.old.items value.now) }
+    ensures read { entities.StepGives text.new.items result (entities.value_step raw end text.old.items value.now) }
     ensures within { IfOk result (λ rest. IfSome rest (λ r. length r.now < length value.now)) }
 {
     let (front, special) = value.split_at(plain_len(value));
@@ -52,6 +54,7 @@ fn plain_len(value: &[u8]) -> usize
     memchr2(b'&', b'<', value).unwrap_or(value.len())
 }
 
+/// Adds what the `&` or `<` in front stands for, if there is one.
 #[tactic(auto, unfolding(crate::specs::Entities::special_at))]
 fn add_special<'a>(
     text: &mut Vec<u8>,
@@ -59,7 +62,7 @@ fn add_special<'a>(
     end: usize,
     value: &'a [u8],
 ) -> Result<Option<&'a [u8]>, ValueStop>
-    ensures read { ValueGives (λ rest. (text.new.items, entities.rest_seen rest)) result (entities.special_at raw end text.old.items value.now) }
+    ensures read { entities.StepGives text.new.items result (entities.special_at raw end text.old.items value.now) }
     ensures within { IfOk result (λ rest. IfSome rest (λ r. length r.now < length value.now)) }
 {
     match value {
@@ -82,7 +85,7 @@ fn add_entity<'a>(
     at: usize,
     value: &'a [u8],
 ) -> Result<Option<&'a [u8]>, ValueStop>
-    ensures read { ValueGives (λ rest. (text.new.items, entities.rest_seen rest)) result (entities.entity_at text.old.items at value.now) }
+    ensures read { entities.StepGives text.new.items result (entities.entity_at text.old.items at value.now) }
     ensures within { IfOk result (λ rest. IfSome rest (λ r. length r.now ≤ length value.now)) }
 {
     let Some((name, rest)) = split_at_byte(b';', value) else {

@@ -1,6 +1,6 @@
 use Rattle.std.proofs.Common.{arith}
-use Rattle.fs_xml.specs.Bytes.{is_byte}
-use Rattle.fs_xml.proofs.ByteSearch.{place_within}
+use Rattle.fs_text.specs.Words.{is_byte}
+use Rattle.fs_text.proofs.Cuts.{place_within}
 use Rattle.fs_doc.proofs.document.past_any_text.Goals as goal
 
 pub split_at-requires : goal.split_at-requires

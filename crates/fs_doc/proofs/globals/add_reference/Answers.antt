@@ -1,7 +1,7 @@
 use Rattle.std.proofs.Common.{◌≡◌, ◌++◌, [], drop, None, Some, unwrap_or, append_assoc, ap, sym, ◌∙◌, rules}
 use Rattle.std.proofs.lemmas.List.{append-nil, take_rest}
+use Rattle.fs_text.specs.Words.{halves_of}
 use Rattle.fs_vars.specs.Pairs.{value_of}
-use Rattle.fs_xml.specs.Bytes.{halves_of}
 use Rattle.fs_doc.specs.Values.{replaced}
 use Rattle.fs_doc.proofs.GlobalLemmas.{replaced-uncut, replaced-reference}
 use Rattle.fs_doc.proofs.globals.add_reference.Goals as goal

@@ -1,6 +1,6 @@
 use Rattle.std.proofs.Common.{arith}
-use Rattle.fs_xml.specs.Bytes.{is_byte}
-use Rattle.fs_xml.proofs.ByteSearch.{place_within}
+use Rattle.fs_text.specs.Words.{is_byte}
+use Rattle.fs_text.proofs.Cuts.{place_within}
 use Rattle.fs_doc.proofs.globals.plain_len.Goals as goal
 
 pub returns-clause-within : goal.returns-clause-within

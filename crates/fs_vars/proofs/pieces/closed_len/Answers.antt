@@ -2,7 +2,7 @@ use Rattle.std.proofs.Common.{sym, ap, ◌∙◌}
 use Rattle.std.specs.List.{list_any}
 use Rattle.std.proofs.lemmas.List.{take_rest}
 use Rattle.fs_vars.specs.Expansion.{is_brace}
-use Rattle.fs_vars.proofs.SearchLemmas.{none_found, one_found}
+use Rattle.fs_text.proofs.Cuts.{none_found, one_found}
 use Rattle.fs_vars.proofs.pieces.closed_len.Goals as goal
 
 pub returns-then-inside-rest-clause-found : goal.returns-then-inside-rest-clause-found

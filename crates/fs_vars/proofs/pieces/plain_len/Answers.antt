@@ -3,7 +3,7 @@ use Rattle.std.specs.List.{position_or_len}
 use Rattle.std.proofs.lemmas.List.{take_rest}
 use Rattle.memchr.specs.Find.{is_byte2}
 use Rattle.fs_text.proofs.Places.{first_is}
-use Rattle.fs_vars.proofs.SearchLemmas.{place_within}
+use Rattle.fs_text.proofs.Cuts.{place_within}
 use Rattle.fs_vars.proofs.pieces.plain_len.Goals as goal
 
 pub returns : goal.returns

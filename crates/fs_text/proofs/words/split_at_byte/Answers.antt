@@ -1,7 +1,7 @@
 use Rattle.std.proofs.Common.{arith}
-use Rattle.fs_xml.specs.Bytes.{is_byte}
-use Rattle.fs_xml.proofs.ByteSearch.{place_within, no_halves, halves_are}
-use Rattle.fs_xml.proofs.bytes.split_at_byte.Goals as goal
+use Rattle.fs_text.specs.Words.{is_byte}
+use Rattle.fs_text.proofs.Cuts.{place_within, no_halves, halves_are}
+use Rattle.fs_text.proofs.words.split_at_byte.Goals as goal
 
 pub split_at-requires : goal.split_at-requires
 split_at-requires c = omega (arith, c.place_of.ensures, place_within (is_byte c.args.byte) c.args.text.now)

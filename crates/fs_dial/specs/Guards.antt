@@ -15,7 +15,7 @@ guard_after Behind b = Bare
 
 -- the byte is this mark and not protected; a quote and a backslash are no marks
 unfoldable pub is_mark : ℕ → Guard → ℕ → Bool
-is_mark mark Bare b = b == mark && not (is_guard b)
+is_mark mark Bare b = not (is_guard b) && b == mark
 is_mark mark Quoted b = false
 is_mark mark Behind b = false
 

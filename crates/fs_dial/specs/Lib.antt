@@ -5,3 +5,4 @@ pub mod Pairs
 pub mod Brackets
 pub mod Legs
 pub mod DialStrings
+pub mod Spelling

@@ -55,7 +55,7 @@ impl Guard {
         ensures { result ≡ guards.is_mark mark self b }
     {
         match self {
-            Guard::Bare => b == mark && !is_guard(b),
+            Guard::Bare => !is_guard(b) && b == mark,
             Guard::Quoted | Guard::Behind => false,
         }
     }

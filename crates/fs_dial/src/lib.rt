@@ -8,11 +8,13 @@ mod bracket;
 mod dial_string;
 mod fault;
 mod guard;
+mod laws;
 mod leg;
 mod pair;
 mod reading;
 
 pub use dial_string::{DialString, parse};
 pub use fault::{DialFault, DialKind};
+pub use laws::one_dial_string;
 pub use leg::{Group, Groups, Leg};
 pub use pair::{RawPair, RawPairs};

@@ -108,6 +108,9 @@ same_taken x y rest behind e =
     let both : ◌≡◌ {A = List Pair × List ℕ} (x, rest) (y, behind) = cc in
     (ap (λ (p : List Pair × List ℕ). p.0) both, ap (λ (p : List Pair × List ℕ). p.1) both)
 
+seam : (bytes front behind rest : List ℕ) (b closer : ℕ) → bytes ≡ front ++ (b ∷ behind) → b ≡ closer → behind ≡ rest → bytes ≡ front ++ (closer ∷ rest)
+seam bytes front behind rest b closer whole mark same = rw (← mark, ← same) whole
+
 closed_spelt : (shape : Bracket) (at end separator : ℕ) (so_far all : List Pair) (text inside bytes rest : List ℕ) → text ≡ opener_of shape ∷ inside → lead_of (closer_of shape) inside ≡ (separator, bytes)
     → (from : List ℕ) → from_mark (closer_of shape) Bare bytes ≡ from → closed_at at end separator so_far bytes from ≡ Ok (all, rest) → BracketSpelt shape end so_far all text rest
 unfolding closed_at
@@ -120,10 +123,11 @@ closed_spelt shape at end separator so_far all text inside bytes rest opens lead
     let read = bind_ok (pairs_at (place end (b ∷ behind)) separator so_far (front_of bytes (b ∷ behind))) (λ pairs. Ok (pairs, behind)) (all, rest) e in
     let same = same_taken read.0 all behind rest read.2 in
     let ends : guard_over Bare f.front ≡ Bare = ap (guard_over Bare) (sym (append-nil f.front)) ∙ over closer f.front [] f.is in
-    let c = content_spelt (place end (b ∷ behind)) separator so_far read.0 f.front (ap (pairs_at (place end (b ∷ behind)) separator so_far) (sym held) ∙ read.1) ends in
-    let whole : bytes ≡ f.front ++ (closer ∷ rest) = f.whole ∙ ap (λ q. f.front ++ (q ∷ behind)) m.same ∙ ap (λ l. f.front ++ (closer ∷ l)) same.1 in
-    let P : List ℕ → Type 0 = λ l. Holds (place end l) separator f.front c.pairs in
-    let tail : ◌≡◌ {A = List ℕ} (b ∷ behind) (closer ∷ rest) = ap (λ q. q ∷ behind) m.same ∙ ap (λ l. closer ∷ l) same.1 in
+    let whole : bytes ≡ f.front ++ (closer ∷ rest) = seam bytes f.front behind rest b closer f.whole m.same same.1 in
+    let tail : ◌≡◌ {A = List ℕ} (closer ∷ rest) (b ∷ behind) = rw (m.same, same.1) refl in
+    let reads : pairs_at (place end (closer ∷ rest)) separator so_far f.front ≡ Ok all =
+    ap (λ l. pairs_at (place end l) separator so_far f.front) tail ∙ ap (pairs_at (place end (b ∷ behind)) separator so_far) (sym held) ∙ read.1 ∙ ap (λ l. Ok l) same.0 in
+    let c = content_spelt (place end (closer ∷ rest)) separator so_far all f.front reads ends in
     record {
       pairs = c.pairs;
       is = record {
@@ -133,9 +137,9 @@ closed_spelt shape at end separator so_far all text inside bytes rest opens lead
         opens = opens;
         lead = lead ∙ ap (λ l. (separator, l)) whole;
         closes = f.is;
-        holds = subst P tail c.holds;
+        holds = c.holds;
       };
-      all_are = sym same.0 ∙ c.all_are;
+      all_are = c.all_are;
     }
 
 inside_spelt : (shape : Bracket) (end : ℕ) (so_far all : List Pair) (text inside rest : List ℕ) → text ≡ opener_of shape ∷ inside → bracket_at shape end so_far inside ≡ Ok (all, rest)

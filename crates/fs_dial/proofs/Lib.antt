@@ -4,3 +4,4 @@ pub mod PairLaws
 pub mod BracketLaws
 pub mod LegLaws
 pub mod Whole
+pub mod PlaceLaws

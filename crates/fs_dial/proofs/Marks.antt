@@ -49,7 +49,7 @@ pub record Closes (mark : ℕ) (front : List ℕ) : Type 0 where
   pub none : list_any is_quote inside ≡ false
   pub is : Protects mark more
 
-pub record Stands (mark : ℕ) (front : List ℕ) : Type 0 where
+pub record OneBehind (mark : ℕ) (front : List ℕ) : Type 0 where
   pub b : ℕ
   pub more : List ℕ
   pub whole : front ≡ b ∷ more
@@ -58,7 +58,7 @@ pub record Stands (mark : ℕ) (front : List ℕ) : Type 0 where
 abbrev pub After : ℕ → Guard → List ℕ → Type 0
 After mark Bare front = Protects mark front
 After mark Quoted front = Closes mark front
-After mark Behind front = Stands mark front
+After mark Behind front = OneBehind mark front
 
 byte_more : (mark : ℕ) (guard : Guard) (b : ℕ) (front : List ℕ) → is_mark mark guard b ≡ false → After mark (guard_after guard b) front → After mark guard (b ∷ front)
 unfolding is_mark guard_after is_guard

@@ -6,3 +6,4 @@ pub mod Brackets
 pub mod Legs
 pub mod DialStrings
 pub mod Spelling
+pub mod Places

@@ -15,6 +15,6 @@ mod reading;
 
 pub use dial_string::{DialString, parse};
 pub use fault::{DialFault, DialKind};
-pub use laws::one_dial_string;
+pub use laws::{each_part_stands, one_dial_string};
 pub use leg::{Group, Groups, Leg};
 pub use pair::{RawPair, RawPairs};

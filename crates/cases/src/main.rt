@@ -7,6 +7,7 @@ mod applications;
 mod channels;
 mod commands;
 mod desk;
+mod dials;
 mod disk;
 mod documents;
 mod frames;

@@ -1,0 +1,7 @@
+pub mod Cuts
+pub mod Marks
+pub mod PairLaws
+pub mod BracketLaws
+pub mod LegLaws
+pub mod Whole
+pub mod PlaceLaws

@@ -1,0 +1,5 @@
+use Rattle.fs_dial.proofs.PlaceLaws.{dial_stands}
+use Rattle.fs_dial.proofs.laws.each_part_stands.Goals as goal
+
+pub returns : goal.returns
+returns c = dial_stands

@@ -1,19 +1,34 @@
 -- The names of a comma list, cut off one after another.
-use Rattle.std.proofs.Common.{◌≡◌, ℕ, ◌+◌, ◌-◌, ◌<◌, ◌≤◌, Bool, true, false, List, [], ◌∷◌, length, take, drop, refl, ap, ◌∙◌, arith}
-use Rattle.std.specs.List.{slice_split, position_or_len, onto_first}
-use Rattle.std.proofs.lemmas.List.{take_rest}
-use Rattle.std.proofs.lemmas.List.Splits.{slice_split_first}
+use Rattle.std.proofs.Common.{◌≡◌, ℕ, ◌<◌, Bool, true, false, cond, List, [], ◌∷◌, length, Option, None, Some, refl, sym, ap, ◌∙◌}
+use Rattle.std.specs.List.{slice_split, position_or_len, list_any}
+use Rattle.std.proofs.lemmas.Bool.{or_parts, ltb-true}
+use Rattle.std.proofs.lemmas.List.Splits.{slice_split_first, slice_split-cons_no}
+use Rattle.fs_text.specs.Words.{is_byte, before_byte, behind_byte, halves_of}
+use Rattle.fs_text.proofs.Cuts.{found, none_cut}
+use Rattle.fs_vars.specs.Pairs.{Text}
+use Rattle.fs_chan.specs.Exports.{names_of}
 
 -- without a comma there is one name
-pub whole_split : (p : ℕ → Bool) (xs : List ℕ) → length xs ≤ position_or_len p xs → slice_split p xs ≡ xs ∷ []
-whole_split p [] h = refl
-whole_split p (x ∷ xs) h = by_test (p x) refl h (whole_split p xs)
+pub one_name : (list : Text) → halves_of 44 list ≡ None → names_of list ≡ list ∷ []
+one_name list whole = without list (none_cut 44 list whole)
   where
-    by_test : (passes : Bool) → p x ≡ passes → length (x ∷ xs) ≤ position_or_len p (x ∷ xs) → (length xs ≤ position_or_len p xs → slice_split p xs ≡ xs ∷ []) → slice_split p (x ∷ xs) ≡ (x ∷ xs) ∷ []
-    by_test true is h more = absurd (omega (arith, rw is at h))
-    by_test false is h more = rw is (ap (onto_first x) (more (omega (arith, rw is at h))))
+    without : (xs : Text) → list_any (is_byte 44) xs ≡ false → slice_split (is_byte 44) xs ≡ xs ∷ []
+    without [] none = refl
+    without (x ∷ xs) none =
+        let parts = or_parts (is_byte 44 x) (list_any (is_byte 44) xs) none in
+        slice_split-cons_no (is_byte 44) x xs parts.0 ∙ rw (without xs parts.1) refl
 
--- with one, the first name stands before it
-pub first_split : (p : ℕ → Bool) (xs : List ℕ) → position_or_len p xs < length xs →
-    slice_split p xs ≡ take (position_or_len p xs) xs ∷ slice_split p (take (length xs - (position_or_len p xs + 1)) (drop (position_or_len p xs + 1) xs))
-first_split p xs h = slice_split_first p xs 0 h ∙ rw (take_rest xs (position_or_len p xs + 1)) refl
+-- with one, the first name stands before it and the others behind it
+pub first_name : (list name rest : Text) → halves_of 44 list ≡ Some (name, rest) → names_of list ≡ name ∷ names_of rest
+unfolding halves_of
+first_name list name rest e = by (list_any (is_byte 44) list) refl e
+  where
+    by : (t : Bool) → list_any (is_byte 44) list ≡ t → cond {A = Option (List ℕ × List ℕ)} t (Some (before_byte 44 list, behind_byte 44 list)) None ≡ Some (name, rest)
+        → names_of list ≡ name ∷ names_of rest
+    by true some is =
+        let both : ◌≡◌ {A = List ℕ × List ℕ} (before_byte 44 list, behind_byte 44 list) (name, rest) = cc in
+        let front : before_byte 44 list ≡ name = ap (λ (x : List ℕ × List ℕ). x.0) both in
+        let back : behind_byte 44 list ≡ rest = ap (λ (x : List ℕ × List ℕ). x.1) both in
+        let within : position_or_len (is_byte 44) list < length list = ltb-true _ _ (sym (found (is_byte 44) list) ∙ some) in
+        rw (← front, ← back) (slice_split_first (is_byte 44) list 0 within)
+    by false none is = absurd (cc)

@@ -1,7 +1,8 @@
 -- What setting and exporting a variable makes of variables.
-use Rattle.std.specs.Prelude.{◌==◌, ℕ, Bool, ◌||◌, ◌&&◌, if◌then◌else◌, List, [], ◌∷◌, ◌++◌, length, Option, None, Some, codes, unwrap_or}
+use Rattle.std.specs.Prelude.{◌==◌, Bool, ◌||◌, ◌&&◌, if◌then◌else◌, List, [], ◌∷◌, ◌++◌, length, Option, None, Some, codes, unwrap_or}
 use Rattle.std.specs.Borrow.{Bor}
 use Rattle.std.specs.List.{list_any, slice_split}
+use Rattle.fs_text.specs.Words.{is_byte}
 use Rattle.fs_vars.specs.Pairs.{Text, same_text, value_of}
 use Rattle.fs_vars.specs.Variables.{Variables, can_set, set_to}
 
@@ -9,12 +10,9 @@ use Rattle.fs_vars.specs.Variables.{Variables, can_set, set_to}
 abbrev pub with_set : Variables → Text → Text → Variables
 with_set vars name value = if can_set vars name value then set_to vars name value else vars
 
-abbrev pub is_comma : ℕ → Bool
-is_comma b = b == 44
-
 -- the names of a comma list
 abbrev pub names_of : Text → List Text
-names_of list = slice_split is_comma list
+names_of list = slice_split (is_byte 44) list
 
 -- the names of a list, if it is there
 abbrev pub names_behind : Option (Bor Text) → List Text

@@ -1,11 +1,10 @@
 ghost use Rattle.std.specs.Prelude.{◌≡◌, ◌<◌, ◌∷◌, length, IfOk, IfSome, OnOk, OnErr, is_some, unwrap_or, if◌then◌else◌};
-ghost use Rattle.std.specs.List.{slice_split};
 ghost use Rattle.fs_chan.specs.Exports as spec;
 ghost use Rattle.fs_vars.specs.Variables.{can_set};
 ghost use Rattle.fs_vars.specs.Pairs.{without};
 
 use crate::chan::Chan;
-use fs_text::{Memory, place_of};
+use fs_text::{Memory, split_at_byte};
 use fs_vars::Vars;
 use std::alloc::Global;
 
@@ -112,16 +111,14 @@ fn is_listed(name: &[u8], list: &[u8]) -> bool
 }
 
 /// The first name of a comma list, and the list behind its comma, if there is one.
-#[tactic(auto, using(crate::proofs::NameLemmas::whole_split, crate::proofs::NameLemmas::first_split))]
+#[tactic(auto, using(crate::proofs::NameLemmas::one_name, crate::proofs::NameLemmas::first_name))]
 fn split_at_comma(list: &[u8]) -> (&[u8], Option<&[u8]>)
-    ensures names { slice_split spec.is_comma list.now ≡ result.0.now ∷ spec.names_behind result.1 }
+    ensures names { spec.names_of list.now ≡ result.0.now ∷ spec.names_behind result.1 }
     ensures shorter { IfSome result.1 (λ rest. length rest.now < length list.now) }
 {
-    let place = place_of(b',', list);
-    if place < list.len() {
-        (&list[..place], Some(&list[place + 1..]))
-    } else {
-        (list, None)
+    match split_at_byte(b',', list) {
+        Some((name, rest)) => (name, Some(rest)),
+        None => (list, None),
     }
 }
 

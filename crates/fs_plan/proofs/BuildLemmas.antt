@@ -272,3 +272,9 @@ pub before_more : (contexts : List Context) (i : ℕ) (context : Context) → i 
     min (before contexts i + length context.extensions) 18446744073709551615 ≡ before contexts (i + 1)
 before_more contexts i context within is =
     omega (arith, ap length (parts_to contexts i context within is), length-append (extensions_in (take i contexts)) context.extensions)
+
+-- ---- what the functions that build cite
+
+pub ruleset test_rules = (plain_unbuilt, plain_read, none_read, no_memory)
+
+pub ruleset condition_rules = (condition_refused, sizes_same, no_memory_for)

@@ -14,3 +14,6 @@ pub beyond : (text : Text) (refused : Refused) → IsTextRefusal text refused �
     within_text_limit text ≡ Err len
 beyond text Memory h len is = absurd cc
 beyond text (TooLong n) h len is = let same : n ≡ len = cc in rw (lt-leb (length text) 65536 h.0) (ap Err (sym h.1 ∙ same))
+
+-- for a function that gives a text within its limit
+pub ruleset limit_rules = (within, beyond)

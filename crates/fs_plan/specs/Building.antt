@@ -1,5 +1,5 @@
 -- Which patterns a dialplan has, and which of them is told where they are not built.
-use Rattle.std.specs.Prelude.{◌≡◌, ℕ, ◌+◌, min, ◌⊎◌, List, [], ◌∷◌, ◌++◌, map, All, IsSome}
+use Rattle.std.specs.Prelude.{◌≡◌, ℕ, ◌+◌, min, ◌⊎◌, List, [], ◌∷◌, ◌++◌, map, All, IsSome, MatchResult, Result}
 use Rattle.std.specs.List.{flat_map, enumerate_from}
 use Rattle.std.specs.Str.{IsUtf8}
 use Rattle.fs_vars.specs.Pairs.{Text}
@@ -132,3 +132,11 @@ abbrev pub sizes_unbuilt : Unbuilt → ℕ → ℕ
 sizes_unbuilt unbuilt.NoReading sizes = sizes
 sizes_unbuilt unbuilt.TooLarge sizes = raised sizes
 sizes_unbuilt unbuilt.Memory sizes = sizes
+
+-- what a dialplan's part makes of that count: nothing where it is built, and else what the refusal says
+abbrev pub CountsSizes : {A : Type 0} → Result A PlanFault → ℕ → ℕ → Type 0
+CountsSizes result old new = MatchResult result (λ _. new ≡ old) (λ fault. new ≡ sizes_after fault old)
+
+-- the same where the refusal does not name its condition yet
+abbrev pub CountsUnbuilt : {A : Type 0} → Result A Unbuilt → ℕ → ℕ → Type 0
+CountsUnbuilt result old new = MatchResult result (λ _. new ≡ old) (λ why. new ≡ sizes_unbuilt why old)

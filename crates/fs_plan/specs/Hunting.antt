@@ -6,6 +6,7 @@ use Rattle.fs_vars.specs.Scopes.{fields_of}
 use Rattle.fs_vars.specs.Expansion.{expanded}
 use Rattle.fs_vars.specs.Outputs.{len_of}
 use Rattle.fs_vars.specs.declared.profile.Profile.{Profile}
+use Rattle.fs_vars.specs.declared.scope.Scope.{Scope}
 use Rattle.fs_chan.specs.declared.action.Action.{Action}
 use Rattle.fs_doc.specs.Attributes.{has_variable}
 use Rattle.fs_doc.specs.Dialplans.{Context, Extension, Condition}
@@ -62,6 +63,10 @@ children_counted profile [] s count = Ok count
 children_counted profile (child ∷ more) s count =
     field_tested profile child.field child.expression s >>= λ t. children_counted profile more s (count_with count t)
 
+-- all children, counted from none on
+abbrev pub all_counted : Profile → List (Child Text) → Hunt → Outcome Count
+all_counted profile children s = children_counted profile children s no_count
+
 -- all match, at least one, exactly one
 abbrev pub holds_for : ManyKind → ℕ → ℕ → Bool
 holds_for kind.All matched all = matched == all
@@ -73,7 +78,8 @@ unfoldable pub test_done : Profile → Test Text → Hunt → Outcome Tested
 test_done profile Always s = Ok (record { holds = true; groups = None })
 test_done profile (Plain field expression) s = field_tested profile field expression s
 test_done profile (Many wanted children) s =
-    children_counted profile children s no_count >>= λ count. Ok (record { holds = holds_for wanted count.matched (length children); groups = count.groups })
+    all_counted profile children s >>= λ count.
+    Ok (record { holds = holds_for wanted count.matched (length children); groups = count.groups })
 
 -- ---- actions
 
@@ -143,6 +149,10 @@ conditions_done profile (condition ∷ more) looked =
     condition_done profile condition looked.so_far >>= λ done.
     if stops condition.stop done.holds then Ok (looked_at condition done) else conditions_done profile more (looked_at condition done)
 
+-- all conditions of an extension that is not taken yet
+abbrev pub all_done : Profile → List Condition → Hunt → Outcome Looked
+all_done profile conditions s = conditions_done profile conditions (looked_to s false)
+
 -- ---- extensions
 
 -- an extension begins without actions, and is not taken before a condition was evaluated
@@ -178,3 +188,7 @@ new_hunt vars globals = record { actions = []; vars = vars; globals = globals }
 -- a hunt with these variables, this profile and these globals through the context of a name
 unfoldable pub hunted : List Context → Text → Profile → Variables → Variables → Outcome Hunt
 hunted contexts name profile vars globals = extensions_done profile (extensions_of contexts name) (new_hunt vars globals)
+
+-- the same with the variables, the profile and the globals of a scope
+abbrev pub hunted_in : List Context → Text → Scope → Outcome Hunt
+hunted_in contexts name scope = hunted contexts name scope.profile.now scope.vars.now scope.globals.now

@@ -1,19 +1,9 @@
 -- What the applications do that run while the dialplan is searched.
-use Rattle.std.specs.Prelude.{◌==◌, ℕ, Bool, if◌then◌else◌, codes}
-use Rattle.std.specs.List.{before_first, after_first}
+use Rattle.std.specs.Prelude.{if◌then◌else◌, codes}
+use Rattle.fs_text.specs.Words.{name_in, value_in}
 use Rattle.fs_vars.specs.Pairs.{Text, same_text, without}
 use Rattle.fs_chan.specs.Exports.{with_set, exported}
 use Rattle.fs_plan.specs.declared.hunt.Hunt.{Hunt}
-
-abbrev pub is_equals : ℕ → Bool
-is_equals b = b == 61
-
--- the name and the value of `name=value`; without `=` the value is empty
-abbrev pub name_in : Text → Text
-name_in argument = before_first is_equals argument
-
-abbrev pub value_in : Text → Text
-value_in argument = after_first is_equals argument
 
 -- what an application does at once; any other does nothing
 unfoldable pub inline_done : Text → Text → Hunt → Hunt

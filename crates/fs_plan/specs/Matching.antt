@@ -2,8 +2,10 @@
 use Rattle.std.specs.Prelude.{ℕ, zero, suc, Bool, true, false, nat_lt, if◌then◌else◌, List, [], map, length, Option, None, Some, slice_range}
 use Rattle.std.specs.List.{range_with_len}
 use Rattle.std.specs.Option.{option_map_or}
+use Rattle.regex.specs.Bytes.{captures_haystack, captures_span}
 use Rattle.regex.specs.Patterns.{Match, find, span}
 use Rattle.regex.specs.Writes.{group_of}
+use Rattle.regex.specs.declared.bytes.captures.Captures.{Captures}
 use Rattle.fs_vars.specs.Pairs.{Text}
 use Rattle.fs_ports.specs.Patterns.{Reading, pattern_reading}
 use Rattle.fs_plan.specs.declared.tested.Tested.{Tested}
@@ -15,6 +17,10 @@ Groups = List Text
 -- the text that a group spans, or none where it took no part
 abbrev pub group_text : Text → Option (ℕ × ℕ) → Text
 group_text value span = option_map_or (λ (s : ℕ × ℕ). slice_range value s.0 s.1) span []
+
+-- the text of a group of captures
+abbrev pub captured : Captures → ℕ → Text
+captured captures n = group_text (captures_haystack captures) (captures_span captures n)
 
 -- what a group of a match spans; group 0 is the whole match
 abbrev pub span_of : Match → ℕ → Option (ℕ × ℕ)

@@ -1,4 +1,6 @@
-ghost use Rattle.std.specs.Prelude.{◌≡◌, ◌+◌, length, IfOk, OnOk, IfErr, MatchResult};
+//! How the patterns of a dialplan are built.
+
+ghost use Rattle.std.specs.Prelude.{◌≡◌, ◌+◌, length, IfOk, OnOk, IfErr};
 ghost use Rattle.fs_plan.specs.Building as spec;
 
 use crate::fault::{PlanFault, Unbuilt};
@@ -15,7 +17,7 @@ fn number_of(place: usize) -> u32
     u32::try_from(place).unwrap_or(u32::MAX).saturating_add(1)
 }
 
-/// The same actions once more.
+/// Copies actions.
 fn copies(alloc: Global, actions: &[PlanAction]) -> Result<Listed<PlanAction>, Memory>
     ensures { IfOk result (λ copied. copied ≡ actions.now) }
 {
@@ -40,8 +42,9 @@ fn children<P: Patterns>(
     ensures kept { IfOk result (λ built. built ≡ list.now) }
     ensures read { OnOk result (spec.AreRead (spec.expressions_of list.now)) }
     ensures refused { IfErr result (spec.IsUnbuilt (spec.expressions_of list.now)) }
-    ensures sizes { MatchResult result (λ _. P.sizes patterns.new ≡ P.sizes patterns.old) (λ why. P.sizes patterns.new ≡ spec.sizes_unbuilt why (P.sizes patterns.old)) }
-    ensures files { (P.counts patterns.new ≡ P.counts patterns.old) × (P.next_load patterns.new ≡ P.next_load patterns.old) }
+    ensures sizes { spec.CountsUnbuilt result (P.sizes patterns.old) (P.sizes patterns.new) }
+    ensures files { (P.counts patterns.new ≡ P.counts patterns.old)
+        × (P.next_load patterns.new ≡ P.next_load patterns.old) }
 {
     let mut built = Listed::new(alloc);
     for child in list {
@@ -53,7 +56,7 @@ fn children<P: Patterns>(
 }
 
 /// Builds a test.
-#[tactic(auto, using(crate::proofs::BuildLemmas::plain_unbuilt, crate::proofs::BuildLemmas::plain_read, crate::proofs::BuildLemmas::none_read, crate::proofs::BuildLemmas::no_memory))]
+#[tactic(auto, using(crate::proofs::BuildLemmas::test_rules))]
 fn test<P: Patterns>(
     alloc: Global,
     given: &Test<Txt>,
@@ -62,8 +65,9 @@ fn test<P: Patterns>(
     ensures kept { IfOk result (λ built. built ≡ given.now) }
     ensures read { OnOk result (spec.AreRead (spec.patterns_of given.now)) }
     ensures refused { IfErr result (spec.IsUnbuilt (spec.patterns_of given.now)) }
-    ensures sizes { MatchResult result (λ _. P.sizes patterns.new ≡ P.sizes patterns.old) (λ why. P.sizes patterns.new ≡ spec.sizes_unbuilt why (P.sizes patterns.old)) }
-    ensures files { (P.counts patterns.new ≡ P.counts patterns.old) × (P.next_load patterns.new ≡ P.next_load patterns.old) }
+    ensures sizes { spec.CountsUnbuilt result (P.sizes patterns.old) (P.sizes patterns.new) }
+    ensures files { (P.counts patterns.new ≡ P.counts patterns.old)
+        × (P.next_load patterns.new ≡ P.next_load patterns.old) }
 {
     match given {
         Test::Always => Ok(Test::Always),
@@ -95,8 +99,9 @@ fn condition<P: Patterns>(
     ensures kept { IfOk result (λ built. built ≡ given.now) }
     ensures read { OnOk result (spec.AreRead (spec.patterns_of given.now.test)) }
     ensures refused { IfErr result (spec.IsUnbuilt (spec.patterns_of given.now.test)) }
-    ensures sizes { MatchResult result (λ _. P.sizes patterns.new ≡ P.sizes patterns.old) (λ why. P.sizes patterns.new ≡ spec.sizes_unbuilt why (P.sizes patterns.old)) }
-    ensures files { (P.counts patterns.new ≡ P.counts patterns.old) × (P.next_load patterns.new ≡ P.next_load patterns.old) }
+    ensures sizes { spec.CountsUnbuilt result (P.sizes patterns.old) (P.sizes patterns.new) }
+    ensures files { (P.counts patterns.new ≡ P.counts patterns.old)
+        × (P.next_load patterns.new ≡ P.next_load patterns.old) }
 {
     let test = test(alloc, &given.test, patterns)?;
     let actions = copies(alloc, given.actions.as_slice())?;
@@ -110,7 +115,7 @@ fn condition<P: Patterns>(
 }
 
 /// Builds the conditions of the extension of a number, in order.
-#[tactic(auto, using(crate::proofs::BuildLemmas::condition_refused, crate::proofs::BuildLemmas::sizes_same, crate::proofs::BuildLemmas::no_memory_for))]
+#[tactic(auto, using(crate::proofs::BuildLemmas::condition_rules))]
 fn conditions<P: Patterns>(
     alloc: Global,
     extension: u32,
@@ -120,8 +125,9 @@ fn conditions<P: Patterns>(
     ensures kept { IfOk result (λ built. built ≡ list.now) }
     ensures read { OnOk result (spec.HaveReadings (spec.patterns_within extension list.now)) }
     ensures refused { IfErr result (spec.IsRefusalOf (spec.patterns_within extension list.now)) }
-    ensures sizes { MatchResult result (λ _. P.sizes patterns.new ≡ P.sizes patterns.old) (λ fault. P.sizes patterns.new ≡ spec.sizes_after fault (P.sizes patterns.old)) }
-    ensures files { (P.counts patterns.new ≡ P.counts patterns.old) × (P.next_load patterns.new ≡ P.next_load patterns.old) }
+    ensures sizes { spec.CountsSizes result (P.sizes patterns.old) (P.sizes patterns.new) }
+    ensures files { (P.counts patterns.new ≡ P.counts patterns.old)
+        × (P.next_load patterns.new ≡ P.next_load patterns.old) }
 {
     let mut built = Listed::new(alloc);
     for (place, given) in list.iter().enumerate() {
@@ -144,8 +150,9 @@ fn extensions<P: Patterns>(
     ensures kept { IfOk result (λ built. built ≡ list.now) }
     ensures read { OnOk result (spec.HaveReadings (spec.patterns_from before list.now)) }
     ensures refused { IfErr result (spec.IsRefusalOf (spec.patterns_from before list.now)) }
-    ensures sizes { MatchResult result (λ _. P.sizes patterns.new ≡ P.sizes patterns.old) (λ fault. P.sizes patterns.new ≡ spec.sizes_after fault (P.sizes patterns.old)) }
-    ensures files { (P.counts patterns.new ≡ P.counts patterns.old) × (P.next_load patterns.new ≡ P.next_load patterns.old) }
+    ensures sizes { spec.CountsSizes result (P.sizes patterns.old) (P.sizes patterns.new) }
+    ensures files { (P.counts patterns.new ≡ P.counts patterns.old)
+        × (P.next_load patterns.new ≡ P.next_load patterns.old) }
 {
     let mut built = Listed::new(alloc);
     for (place, given) in list.iter().enumerate() {
@@ -170,8 +177,9 @@ pub(crate) fn contexts<P: Patterns>(
     ensures kept { IfOk result (λ built. built ≡ list.now) }
     ensures read { OnOk result (spec.HaveReadings (spec.patterns_in list.now)) }
     ensures refused { IfErr result (spec.IsPlanRefusal list.now) }
-    ensures sizes { MatchResult result (λ _. P.sizes patterns.new ≡ P.sizes patterns.old) (λ fault. P.sizes patterns.new ≡ spec.sizes_after fault (P.sizes patterns.old)) }
-    ensures files { (P.counts patterns.new ≡ P.counts patterns.old) × (P.next_load patterns.new ≡ P.next_load patterns.old) }
+    ensures sizes { spec.CountsSizes result (P.sizes patterns.old) (P.sizes patterns.new) }
+    ensures files { (P.counts patterns.new ≡ P.counts patterns.old)
+        × (P.next_load patterns.new ≡ P.next_load patterns.old) }
 {
     let mut built = Listed::new(alloc);
     let mut before: usize = 0;

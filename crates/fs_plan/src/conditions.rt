@@ -1,3 +1,5 @@
+//! How a hunt evaluates conditions.
+
 ghost use Rattle.std.specs.Prelude.{◌≡◌, false, Ok, IfOk, IfErr, OnOk, Option, None, length};
 ghost use Rattle.fs_plan.specs.Outcomes.{IsFault};
 ghost use Rattle.fs_plan.specs.Hunting as spec;
@@ -14,7 +16,8 @@ use fs_vars::{Profile, Refused};
 use std::alloc::Global;
 
 impl Hunt {
-    /// What a pattern finds in the value of a field. That of the profile is lent, and only what it does not have is looked at for `${`.
+    /// What a pattern finds in the value of a field. That of the profile is lent, and only what it does not have is
+    /// looked at for `${`.
     #[tactic(auto, using(crate::proofs::FieldLemmas::own_value), unfolding(crate::specs::Hunting::field_value))]
     fn searched(
         &self,
@@ -43,8 +46,8 @@ impl Hunt {
         profile: &Profile,
         children: &[Child<Pattern>],
     ) -> Result<Count, Refused>
-        ensures ok { IfOk result (λ count. spec.children_counted profile.now children.now self.now spec.no_count ≡ Ok count) }
-        ensures err { IfErr result (IsFault (spec.children_counted profile.now children.now self.now spec.no_count)) }
+        ensures ok { IfOk result (λ count. spec.all_counted profile.now children.now self.now ≡ Ok count) }
+        ensures err { IfErr result (IsFault (spec.all_counted profile.now children.now self.now)) }
     {
         let mut count = Count::none();
         for child in children {
@@ -149,7 +152,8 @@ impl Hunt {
         profile: &Profile,
         condition: &ConditionDef<Pattern>,
     ) -> Result<bool, Refused>
-        ensures ok { IfOk result (λ holds. spec.condition_done profile.now condition.now self.old ≡ Ok (spec.evaluated_to self.new holds)) }
+        ensures ok { IfOk result (λ holds. spec.condition_done profile.now condition.now self.old
+            ≡ Ok (spec.evaluated_to self.new holds)) }
         ensures err { IfErr result (IsFault (spec.condition_done profile.now condition.now self.old)) }
     {
         let tested = self.tested(alloc, profile, &condition.test)?;
@@ -157,7 +161,8 @@ impl Hunt {
         Ok(tested.holds)
     }
 
-    /// Evaluates conditions in order, up to one behind which the extension stops, and says whether the last one takes the extension.
+    /// Evaluates conditions in order, up to one behind which the extension stops, and says whether the last one takes
+    /// the extension.
     pub(crate) fn evaluate_all<G: Gate>(
         &mut self,
         alloc: Global,
@@ -165,8 +170,9 @@ impl Hunt {
         conditions: &[ConditionDef<Pattern>],
         gate: &mut G,
     ) -> Result<bool, Refused>
-        ensures ok { IfOk result (λ taken. spec.conditions_done profile.now conditions.now (spec.looked_to self.old false) ≡ Ok (spec.looked_to self.new taken)) }
-        ensures err { IfErr result (IsFault (spec.conditions_done profile.now conditions.now (spec.looked_to self.old false))) }
+        ensures ok { IfOk result (λ taken. spec.all_done profile.now conditions.now self.old
+            ≡ Ok (spec.looked_to self.new taken)) }
+        ensures err { IfErr result (IsFault (spec.all_done profile.now conditions.now self.old)) }
     {
         let mut taken = false;
         for condition in conditions {

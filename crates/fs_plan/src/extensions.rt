@@ -1,3 +1,5 @@
+//! How a hunt tries extensions.
+
 ghost use Rattle.std.specs.Prelude.{◌≡◌, Ok, IfOk, IfErr, OnOk};
 ghost use Rattle.fs_plan.specs.Outcomes.{IsFault};
 ghost use Rattle.fs_plan.specs.Hunting as spec;
@@ -22,7 +24,8 @@ impl Hunt {
         extension: &ExtensionDef<Pattern>,
         gate: &mut G,
     ) -> Result<bool, Refused>
-        ensures ok { IfOk result (λ taken. spec.extension_done profile.now extension.now self.old ≡ Ok (spec.looked_to self.new taken)) }
+        ensures ok { IfOk result (λ taken. spec.extension_done profile.now extension.now self.old
+            ≡ Ok (spec.looked_to self.new taken)) }
         ensures err { IfErr result (IsFault (spec.extension_done profile.now extension.now self.old)) }
     {
         let before = mem::replace(&mut self.actions, Actions::new(alloc));

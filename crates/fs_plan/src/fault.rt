@@ -1,3 +1,5 @@
+//! Why a dialplan was not built.
+
 ghost use Rattle.std.specs.Prelude.{◌≡◌};
 ghost use Rattle.fs_plan.specs.Building as spec;
 ghost use Rattle.fs_plan.specs.declared.fault.PlanFault.TheVariants as fault;
@@ -6,7 +8,8 @@ ghost use Rattle.fs_plan.specs.declared.fault.Unbuilt.TheVariants as unbuilt;
 use fs_text::Memory;
 use std::fmt;
 
-/// Why a dialplan was not built. Extensions are counted over all contexts and conditions within their extension, both from 1.
+/// Why a dialplan was not built. Extensions are counted over all contexts and conditions within their extension, both
+/// from 1.
 #[derive(Clone, Copy, Debug, PartialEq, Eq)]
 pub enum PlanFault {
     /// A pattern of the condition is no pattern, or nested too deep.

@@ -1,3 +1,5 @@
+//! Texts that a hunt expands.
+
 ghost use Rattle.std.specs.Prelude.{◌≡◌, Ok, IfOk, IfErr};
 ghost use Rattle.fs_plan.specs.Outcomes.{IsFault};
 ghost use Rattle.fs_plan.specs.Hunting as spec;
@@ -9,7 +11,7 @@ use std::alloc::Global;
 
 impl Hunt {
     /// A text with its references expanded, by what the hunt has come to.
-    #[tactic(auto, using(crate::proofs::TextLemmas::within, crate::proofs::TextLemmas::beyond), unfolding(crate::specs::Hunting::expanded_in, fs_vars::specs::Scopes::known_in))]
+    #[tactic(auto, using(crate::proofs::TextLemmas::limit_rules), unfolding(crate::specs::Hunting::expanded_in, fs_vars::specs::Scopes::known_in))]
     pub(crate) fn expanded(
         &self,
         alloc: Global,

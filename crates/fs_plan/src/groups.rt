@@ -1,8 +1,9 @@
+//! The groups of a match, and the texts that they are put into.
+
 ghost use Rattle.std.specs.Prelude.{◌≡◌, ℕ, map, ◌∷◌, ◌++◌, ◌≤◌, length, IfOk};
 ghost use Rattle.std.specs.List.{range_with_len};
-ghost use Rattle.regex.specs.Bytes.{captures_haystack, captures_span};
 ghost use Rattle.fs_vars.specs.Pairs.{Text};
-ghost use Rattle.fs_plan.specs.Matching.{group_text};
+ghost use Rattle.fs_plan.specs.Matching.{captured};
 ghost use Rattle.fs_plan.specs.Substitution as spec;
 
 use fs_text::{Memory, Txt};
@@ -31,7 +32,7 @@ impl Groups {
     /// The groups of these captures.
     #[tactic(auto, using(crate::proofs::GroupLemmas::one_more))]
     pub fn of(alloc: Global, captures: &Captures) -> Result<Groups, Memory>
-        ensures { IfOk result (λ groups. groups ≡ map (λ n. group_text (captures_haystack captures.now) (captures_span captures.now n)) (range_with_len 0 10)) }
+        ensures { IfOk result (λ groups. groups ≡ map (λ n. captured captures.now n) (range_with_len 0 10)) }
     {
         let mut texts = Vec::with_capacity(alloc, GROUPS)?;
         for n in 0..GROUPS {
@@ -52,9 +53,10 @@ impl Groups {
         Txt::from_vec(out)
     }
 
-    /// Adds what a byte stands for, with those behind it, of which the rest is answered.
+    /// Adds what a byte stands for, with those behind it, and answers the rest of these.
     fn add_front<'a>(&self, out: &mut Vec<u8>, b: u8, behind: &'a [u8]) -> Result<&'a [u8], Memory>
-        ensures added { IfOk result (λ left. out.new.items ++ spec.with_groups self.now left.now ≡ out.old.items ++ spec.with_groups self.now (b ∷ behind.now)) }
+        ensures added { IfOk result (λ left.
+            spec.PutsIn self.now out.old.items (b ∷ behind.now) out.new.items left.now) }
         ensures within { IfOk result (λ left. length left.now ≤ length behind.now) }
     {
         if let [d, rest @ ..] = behind {
@@ -81,7 +83,7 @@ impl Groups {
 
 /// The bytes of a group, or none where it took no part.
 fn group_text<'h>(captures: &Captures<'_, 'h>, n: usize) -> &'h [u8]
-    ensures { result.now ≡ group_text (captures_haystack captures.now) (captures_span captures.now n) }
+    ensures { result.now ≡ captured captures.now n }
 {
     match captures.get(n) {
         Some(group) => group.as_bytes(),

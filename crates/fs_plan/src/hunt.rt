@@ -1,9 +1,12 @@
+//! What a hunt gives.
+
 ghost use Rattle.std.specs.Prelude.{◌≡◌};
 
 use fs_chan::Actions;
 use fs_vars::Vars;
 
-/// What a hunt gives: the actions of the extensions that were taken, and the variables and globals after the inline actions.
+/// What a hunt gives: the actions of the extensions that were taken, and the variables and globals after the inline
+/// actions.
 pub struct Hunt {
     pub actions: Actions,
     pub vars: Vars,

@@ -1,10 +1,13 @@
+//! The applications that run while the dialplan is searched.
+
 ghost use Rattle.std.specs.Prelude.{◌≡◌, OnOk};
+ghost use Rattle.fs_text.specs.Words.{name_in, value_in};
 ghost use Rattle.fs_chan.specs.Exports as exports;
 ghost use Rattle.fs_plan.specs.Inline as spec;
 
 use crate::hunt::Hunt;
 use fs_chan::exported;
-use fs_text::{Memory, place_of};
+use fs_text::{Memory, cut_at};
 use fs_vars::Vars;
 use std::alloc::Global;
 
@@ -34,33 +37,20 @@ impl Hunt {
     }
 }
 
-/// The name and the value of `name=value`. Without `=` the value is empty.
-fn name_and_value(argument: &[u8]) -> (&[u8], &[u8])
-    ensures name { result.0.now ≡ spec.name_in argument.now }
-    ensures value { result.1.now ≡ spec.value_in argument.now }
-{
-    let place = place_of(b'=', argument);
-    if place < argument.len() {
-        (&argument[..place], &argument[place + 1..])
-    } else {
-        (argument, &[])
-    }
-}
-
 /// Sets the variable that an argument names, where it can be set.
 fn set(vars: &mut Vars, argument: &[u8]) -> Result<(), Memory>
-    ensures { OnOk result (vars.new ≡ exports.with_set vars.old (spec.name_in argument.now) (spec.value_in argument.now)) }
+    ensures { OnOk result (vars.new ≡ exports.with_set vars.old (name_in argument.now) (value_in argument.now)) }
 {
-    let (name, value) = name_and_value(argument);
+    let (name, value) = cut_at(b'=', argument);
     let _done = vars.set(name, value)?;
     Ok(())
 }
 
 /// Sets and exports the variable that an argument names, where both can be done.
 fn export(alloc: Global, vars: &mut Vars, argument: &[u8]) -> Result<(), Memory>
-    ensures { OnOk result (vars.new ≡ exports.exported vars.old (spec.name_in argument.now) (spec.value_in argument.now)) }
+    ensures { OnOk result (vars.new ≡ exports.exported vars.old (name_in argument.now) (value_in argument.now)) }
 {
-    let (name, value) = name_and_value(argument);
+    let (name, value) = cut_at(b'=', argument);
     if let Some(done) = exported(alloc, vars, name, value)? {
         *vars = done;
     }

@@ -1,3 +1,5 @@
+//! Patterns, and what they find in a value.
+
 ghost use Rattle.std.specs.Prelude.{◌≡◌, IfOk};
 ghost use Rattle.fs_plan.specs.Matching as spec;
 
@@ -41,8 +43,8 @@ impl Model for Pattern {
 }
 
 impl Pattern {
-    ghost use Rattle.std.specs.Prelude.{MatchResult, OnOk, IfErr};
-    ghost use Rattle.fs_plan.specs.Building.{HasReading, IsTextUnbuilt, sizes_unbuilt};
+    ghost use Rattle.std.specs.Prelude.{OnOk, IfErr};
+    ghost use Rattle.fs_plan.specs.Building.{CountsUnbuilt, HasReading, IsTextUnbuilt};
 
     /// Builds the pattern of a text. One that is not UTF-8 is none.
     #[tactic(auto, using(crate::proofs::BuildLemmas::own_built, crate::proofs::BuildLemmas::has_reading))]
@@ -54,8 +56,9 @@ impl Pattern {
         ensures kept { IfOk result (λ pattern. pattern ≡ text.now) }
         ensures read { OnOk result (HasReading text.now) }
         ensures refused { IfErr result (IsTextUnbuilt text.now) }
-        ensures sizes { MatchResult result (λ _. P.sizes patterns.new ≡ P.sizes patterns.old) (λ why. P.sizes patterns.new ≡ sizes_unbuilt why (P.sizes patterns.old)) }
-        ensures files { (P.counts patterns.new ≡ P.counts patterns.old) × (P.next_load patterns.new ≡ P.next_load patterns.old) }
+        ensures sizes { CountsUnbuilt result (P.sizes patterns.old) (P.sizes patterns.new) }
+        ensures files { (P.counts patterns.new ≡ P.counts patterns.old)
+            × (P.next_load patterns.new ≡ P.next_load patterns.old) }
     {
         let Ok(source) = str::from_utf8(text.as_bytes()) else {
             return Err(Unbuilt::NoReading);

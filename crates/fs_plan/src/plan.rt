@@ -1,4 +1,6 @@
-ghost use Rattle.std.specs.Prelude.{◌≡◌, Ok, IfOk, OnOk, IfErr, MatchResult};
+//! A dialplan, and the hunt through it.
+
+ghost use Rattle.std.specs.Prelude.{◌≡◌, Ok, IfOk, OnOk, IfErr};
 ghost use Rattle.fs_plan.specs.Building as build;
 ghost use Rattle.fs_plan.specs.Outcomes.{IsFault};
 ghost use Rattle.fs_plan.specs.Hunting as spec;
@@ -14,7 +16,8 @@ use fs_vars::{Refused, Scope};
 use std::alloc::Global;
 use std::marker::Model;
 
-/// A dialplan whose patterns are built. A contract sees it as the contexts that it was built of, with each pattern as its text.
+/// A dialplan whose patterns are built. A contract sees it as the contexts that it was built of, with each pattern as
+/// its text.
 #[derive(Drop)]
 pub struct Dialplan {
     contexts: Listed<ContextDef<Pattern>>,
@@ -30,8 +33,8 @@ impl Model for Dialplan {
 }
 
 impl Dialplan {
-    /// Builds the patterns of a configuration once, in order. The first one that is refused is named by the number of its extension,
-    /// counted over all contexts, and of its condition, counted within the extension, both from 1.
+    /// Builds the patterns of a configuration once, in order. The first one that is refused is named by the number of
+    /// its extension, counted over all contexts, and of its condition, counted within the extension, both from 1.
     pub fn build<P: Patterns>(
         alloc: Global,
         config: &Config,
@@ -40,18 +43,20 @@ impl Dialplan {
         ensures kept { IfOk result (λ plan. plan ≡ config.now.contexts) }
         ensures read { OnOk result (build.HaveReadings (build.patterns_in config.now.contexts)) }
         ensures refused { IfErr result (build.IsPlanRefusal config.now.contexts) }
-        ensures sizes { MatchResult result (λ _. P.sizes patterns.new ≡ P.sizes patterns.old) (λ fault. P.sizes patterns.new ≡ build.sizes_after fault (P.sizes patterns.old)) }
-        ensures files { (P.counts patterns.new ≡ P.counts patterns.old) × (P.next_load patterns.new ≡ P.next_load patterns.old) }
+        ensures sizes { build.CountsSizes result (P.sizes patterns.old) (P.sizes patterns.new) }
+        ensures files { (P.counts patterns.new ≡ P.counts patterns.old)
+            × (P.next_load patterns.new ≡ P.next_load patterns.old) }
     {
         let contexts = contexts(alloc, config.contexts(), patterns)?;
         Ok(Dialplan { contexts })
     }
 
-    /// What a call gets from the context of a name: the actions of the extensions that are taken, and the variables and globals as
-    /// inline actions leave them. There are no actions where there is no such context.
+    /// What a call gets from the context of a name: the actions of the extensions that are taken, and the variables and
+    /// globals as inline actions leave them. There are no actions where there is no such context.
     ///
-    /// The gate is passed before each condition that is evaluated, and changes nothing of this. The hunt is refused where a field, or
-    /// the data of an inline action, would be expanded to more than 65,536 bytes, with the length of the first such text.
+    /// The gate is passed before each condition that is evaluated, and changes nothing of this. The hunt is refused
+    /// where a field, or the data of an inline action, would be expanded to more than 65,536 bytes, with the length of
+    /// the first such text.
     #[tactic(auto, unfolding(crate::specs::Hunting::hunted))]
     pub fn hunt<G: Gate>(
         &self,
@@ -60,8 +65,8 @@ impl Dialplan {
         context: &[u8],
         gate: &mut G,
     ) -> Result<Hunt, Refused>
-        ensures found { IfOk result (λ hunt. spec.hunted self.now context.now scope.now.profile.now scope.now.vars.now scope.now.globals.now ≡ Ok hunt) }
-        ensures too_long { IfErr result (IsFault (spec.hunted self.now context.now scope.now.profile.now scope.now.vars.now scope.now.globals.now)) }
+        ensures found { IfOk result (λ hunt. spec.hunted_in self.now context.now scope.now ≡ Ok hunt) }
+        ensures too_long { IfErr result (IsFault (spec.hunted_in self.now context.now scope.now)) }
     {
         let mut hunt = Hunt {
             actions: Actions::new(alloc),

@@ -1,5 +1,5 @@
 -- What a link and files in memory tell.
-use Rattle.std.specs.Prelude.{ℕ, ◌==◌, true, List, take, Option, None, Some, if◌then◌else◌}
+use Rattle.std.specs.Prelude.{ℕ, ◌==◌, true, List, [], take, Option, None, Some, if◌then◌else◌}
 use Rattle.std.specs.Str.{bytes_eq}
 use Rattle.std.specs.List.{list_any, find}
 use Rattle.std.specs.Option.{option_map}
@@ -17,6 +17,10 @@ pub record Tape : Type 0 where
   pub written : List ℕ
   pub write_faults : ℕ
 
+-- a link of these bytes, before any call
+abbrev pub new_tape : List ℕ → Tape
+new_tape input = record { taken = []; left = input; read_faults = 0; written = []; write_faults = 0 }
+
 abbrev pub tape_input : Tape → Input
 tape_input tape = record { taken = Some tape.taken; left = Some tape.left; faults = tape.read_faults; waits = true }
 
@@ -33,6 +37,18 @@ pub record Shelf : Type 0 where
   pub too_large : List ℕ
   pub builds : ℕ
   pub sizes : ℕ
+
+-- files of these names and bytes, before any load and any build
+abbrev pub new_shelf : List (List ℕ × List ℕ) → List ℕ → List ℕ → Shelf
+new_shelf held failed too_large = record {
+  held = held;
+  failed = failed;
+  loads = 0;
+  counts = record { faults = 0; absences = 0 };
+  too_large = too_large;
+  builds = 0;
+  sizes = 0;
+}
 
 -- the bytes of the first file of this name
 abbrev pub file_bytes : List (List ℕ × List ℕ) → List ℕ → Option (List ℕ)

@@ -1,3 +1,5 @@
+//! Counts of faults.
+
 ghost use Rattle.std.specs.Prelude.{◌≡◌};
 ghost use Rattle.fs_ports.specs.Counts as counts;
 

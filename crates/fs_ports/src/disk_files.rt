@@ -1,3 +1,5 @@
+//! The files of the disk.
+
 ghost use Rattle.std.specs.Prelude.{◌≡◌, ◌≤◌, vec_len, IfOk};
 ghost use Rattle.fs_ports.specs.Counts as counts;
 

@@ -1,3 +1,5 @@
+//! Files by name.
+
 ghost use Rattle.std.specs.Prelude.{◌≡◌, IfOk, MatchResult};
 ghost use Rattle.fs_ports.specs.Loads.{Tells, Counted};
 
@@ -23,6 +25,7 @@ pub trait Files: Patterns {
     /// Reads the file of this name.
     fn load(&mut self, name: &Txt) -> Result<Load, Memory>
         ensures told { IfOk result (Tells (Self.next_load self.old name.now)) }
-        ensures counts { MatchResult result (Counted (Self.counts self.old) (Self.counts self.new)) (λ _. Self.counts self.new ≡ Self.counts self.old) }
+        ensures counts { MatchResult result (Counted (Self.counts self.old) (Self.counts self.new))
+            (λ _. Self.counts self.new ≡ Self.counts self.old) }
         ensures sizes { Self.sizes self.new ≡ Self.sizes self.old };
 }

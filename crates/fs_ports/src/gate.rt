@@ -1,3 +1,5 @@
+//! A place where a hunt can be held up.
+
 /// What is passed between two conditions of a hunt: a place where a hunt can be held up.
 pub trait Gate {
     /// Passes it. Whatever it does changes nothing of the hunt.

@@ -1,3 +1,5 @@
+//! Files in memory.
+
 ghost use Rattle.std.specs.Prelude.{◌≡◌, take, IfOk};
 ghost use Rattle.std.specs.Option.{option_copied};
 ghost use Rattle.fs_ports.specs.Memory as spec;
@@ -9,7 +11,8 @@ use fs_text::{Memory, Txt};
 use std::alloc::Global;
 use std::marker::Model;
 
-/// Files in memory. Loads that are to fail, and builds that are to find a pattern too large, are named by their numbers, counted from 1.
+/// Files in memory. Loads that are to fail, and builds that are to find a pattern too large, are named by their
+/// numbers, counted from 1.
 pub struct MemFiles {
     alloc: Global,
     held: Vec<(Txt, Txt)>,
@@ -62,7 +65,7 @@ impl MemFiles {
         failed: &[u64],
         too_large: &[u64],
     ) -> Result<MemFiles, Memory>
-        ensures { IfOk result (λ files. files ≡ record { held = held.now; failed = failed.now; loads = 0; counts = record { faults = 0; absences = 0 }; too_large = too_large.now; builds = 0; sizes = 0 }) }
+        ensures { IfOk result (λ files. files ≡ spec.new_shelf held.now failed.now too_large.now) }
     {
         Ok(MemFiles {
             alloc,

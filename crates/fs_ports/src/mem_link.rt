@@ -1,5 +1,7 @@
+//! A link in memory.
+
 ghost use Rattle.std.specs.Prelude.{◌≡◌, ◌<◌, ◌≤◌, [], length, take, min, IfOk};
-ghost use Rattle.fs_ports.specs.Memory.{tape_input, tape_output};
+ghost use Rattle.fs_ports.specs.Memory.{tape_input, new_tape, tape_output};
 
 use crate::counts::raised;
 use crate::port::{Link, Port, Read, Sink, Source, Write};
@@ -56,7 +58,8 @@ impl Model for MemLink {
       write_faults = l.write_faults;
     } };
 
-    ghost invariant = { λ l. (l.at ≤ length l.input.items) × (length l.output.items ≤ l.room) × (l.room ≤ vec_capacity l.output) };
+    ghost invariant = { λ l. (l.at ≤ length l.input.items)
+        × (length l.output.items ≤ l.room) × (l.room ≤ vec_capacity l.output) };
 }
 
 impl MemLink {
@@ -70,7 +73,7 @@ impl MemLink {
         failed_writes: &[u64],
         room: usize,
     ) -> Result<MemLink, Memory>
-        ensures { IfOk result (λ link. link ≡ record { taken = []; left = input.now; read_faults = 0; written = []; write_faults = 0 }) }
+        ensures { IfOk result (λ link. link ≡ new_tape input.now) }
     {
         Ok(MemLink {
             input: Vec::from_slice(alloc, input)?,

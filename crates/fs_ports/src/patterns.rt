@@ -1,3 +1,5 @@
+//! What builds patterns.
+
 ghost use Rattle.std.specs.Prelude.{◌≡◌, ℕ, List, Option};
 ghost use Rattle.fs_ports.specs.declared.files.Load.{Load};
 ghost use Rattle.fs_ports.specs.Loads.{LoadCounts};

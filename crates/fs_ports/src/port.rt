@@ -1,3 +1,5 @@
+//! Links: what is read and what is written.
+
 ghost use Rattle.std.specs.Prelude.{◌≡◌, ◌<◌, length};
 ghost use Rattle.fs_ports.specs.Ports.{Input, Output, ReadDid, WriteDid};
 

@@ -1,3 +1,5 @@
+//! Sending bytes whole.
+
 ghost use Rattle.std.specs.Prelude.{◌≡◌};
 ghost use Rattle.fs_ports.specs.Ports.{SendDid};
 

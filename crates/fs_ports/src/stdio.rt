@@ -1,3 +1,5 @@
+//! A reader and a writer of the system as one link.
+
 use crate::counts::raised;
 use crate::port::{Link, Port, Read, Sink, Source, Write};
 use std::io;

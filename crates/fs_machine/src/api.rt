@@ -1,7 +1,10 @@
+//! What an api command answers, and what it does to the switch.
+
 ghost use Rattle.std.specs.Prelude.{◌≡◌, ◌≤◌, ◌++◌, length, codes, Some, is_some, IfOk, IfErr, OnOk};
 ghost use Rattle.std.specs.Option.{option_copied};
 ghost use Rattle.fs_vars.specs.Outputs.{IsTextRefusal};
 ghost use Rattle.fs_vars.specs.Expansion.{expanded};
+ghost use Rattle.fs_api.specs.declared.api.Api.TheVariants.{Expand};
 ghost use Rattle.fs_state.specs.Drafts.{drafted};
 ghost use Rattle.fs_state.specs.Switch.{slot_named};
 ghost use Rattle.fs_machine.specs.Api as spec;
@@ -21,7 +24,7 @@ use std::alloc::Global;
 /// Runs an api command of a connection, and gives its answer, unless that is owed.
 pub(crate) fn run_api(draft: &mut Draft<'_>, conn: u32, api: &Api) -> Result<Option<Txt>, Memory>
     ensures base { draft.new.base ≡ draft.old.base }
-    ensures done { IfOk result (λ answer. spec.done_by conn api.now (drafted draft.old) ≡ record { state = drafted draft.new; answer = answer }) }
+    ensures done { IfOk result (spec.ComesTo (spec.done_by conn api.now (drafted draft.old)) (drafted draft.new)) }
 {
     match api {
         Api::Expand { text } => run_expanded(draft, conn, text),
@@ -33,7 +36,8 @@ pub(crate) fn run_api(draft: &mut Draft<'_>, conn: u32, api: &Api) -> Result<Opt
 #[tactic(auto, unfolding(crate::specs::Texts::too_long_text))]
 fn run_expanded(draft: &mut Draft<'_>, conn: u32, text: &Txt) -> Result<Option<Txt>, Memory>
     ensures base { draft.new.base ≡ draft.old.base }
-    ensures done { IfOk result (λ answer. spec.done_expanded conn (expanded (drafted draft.old).globals.pairs text.now) (drafted draft.old) ≡ record { state = drafted draft.new; answer = answer }) }
+    ensures done { IfOk result
+        (spec.ComesTo (spec.done_by conn (Expand text.now) (drafted draft.old)) (drafted draft.new)) }
 {
     let alloc = draft.alloc();
     match expand_globally(alloc, draft.globals(), text.as_bytes()) {
@@ -46,7 +50,7 @@ fn run_expanded(draft: &mut Draft<'_>, conn: u32, text: &Txt) -> Result<Option<T
     }
 }
 
-// The text expanded over the globals alone.
+// Expands a text over the globals alone.
 fn expand_globally(alloc: Global, globals: &Vars, text: &[u8]) -> Result<Txt, Refused>
     ensures text { IfOk result (λ t. t ≡ expanded globals.now.pairs text.now) }
     ensures short { IfOk result (λ t. length t ≤ 65536) }
@@ -64,7 +68,7 @@ fn expand_globally(alloc: Global, globals: &Vars, text: &[u8]) -> Result<Txt, Re
 // Runs an api command that expands no text.
 fn run_plainly(draft: &mut Draft<'_>, conn: u32, api: &Api) -> Result<Option<Txt>, Memory>
     ensures base { draft.new.base ≡ draft.old.base }
-    ensures done { IfOk result (λ answer. spec.done_plainly conn api.now (drafted draft.old) ≡ record { state = drafted draft.new; answer = answer }) }
+    ensures done { IfOk result (spec.ComesTo (spec.done_plainly conn api.now (drafted draft.old)) (drafted draft.new)) }
 {
     let alloc = draft.alloc();
     match api {
@@ -94,7 +98,7 @@ fn run_plainly(draft: &mut Draft<'_>, conn: u32, api: &Api) -> Result<Option<Txt
     }
 }
 
-// An answer of these bytes.
+// Answers with these bytes.
 fn says(alloc: Global, answer: &[u8]) -> Result<Option<Txt>, Memory>
     ensures { IfOk result (λ said. said ≡ Some answer.now) }
 {
@@ -114,11 +118,12 @@ fn tell_whether(draft: &Draft<'_>, uuid: &Txt) -> Result<Txt, Memory>
     }
 }
 
-// A live channel is hung up.
+// Hangs up the live channel of an identifier.
 #[tactic(auto, unfolding(crate::specs::Texts::ok, crate::specs::Texts::no_channel))]
 fn kill(draft: &mut Draft<'_>, uuid: &Txt, cause: Cause) -> Result<Txt, Memory>
     ensures base { draft.new.base ≡ draft.old.base }
-    ensures done { IfOk result (λ answer. spec.killed cause (slot_named uuid.now (drafted draft.old)) (drafted draft.old) ≡ record { state = drafted draft.new; answer = Some answer }) }
+    ensures done { IfOk result
+        (spec.AnswersAt (spec.killed_as cause uuid.now (drafted draft.old)) (drafted draft.new)) }
 {
     let alloc = draft.alloc();
     let Some(slot) = draft.slot_named(uuid.as_bytes()) else {
@@ -152,11 +157,11 @@ fn chan_named<'a>(draft: &'a Draft<'_>, uuid: &Txt) -> Option<&'a Chan>
 
 // ---- jobs
 
-// The answer comes once so many milliseconds have passed.
+// Owes the answer until so many milliseconds have passed.
 #[tactic(auto, unfolding(crate::specs::Texts::too_many_jobs))]
 fn sleep(draft: &mut Draft<'_>, conn: u32, milliseconds: u64) -> Result<Option<Txt>, Memory>
     ensures base { draft.new.base ≡ draft.old.base }
-    ensures done { IfOk result (λ answer. spec.slept conn milliseconds (drafted draft.old) ≡ record { state = drafted draft.new; answer = answer }) }
+    ensures done { IfOk result (spec.ComesTo (spec.slept conn milliseconds (drafted draft.old)) (drafted draft.new)) }
 {
     if draft.is_full_of_jobs() {
         return says(draft.alloc(), b"-ERR too many jobs\n");
@@ -165,7 +170,7 @@ fn sleep(draft: &mut Draft<'_>, conn: u32, milliseconds: u64) -> Result<Option<T
     Ok(None)
 }
 
-// A leg is made, and the answer comes once it has won or failed.
+// Makes a leg, and owes the answer until it has won or failed.
 #[tactic(auto, unfolding(crate::specs::Texts::too_many_jobs))]
 fn originate(
     draft: &mut Draft<'_>,
@@ -176,7 +181,9 @@ fn originate(
     timeout: Option<u64>,
 ) -> Result<Option<Txt>, Memory>
     ensures base { draft.new.base ≡ draft.old.base }
-    ensures done { IfOk result (λ answer. spec.originated conn url.now winner.now caller timeout (drafted draft.old) ≡ record { state = drafted draft.new; answer = answer }) }
+    ensures done { IfOk result
+        (spec.ComesTo (spec.originated conn url.now winner.now caller timeout (drafted draft.old))
+        (drafted draft.new)) }
 {
     let alloc = draft.alloc();
     if draft.is_full_of_jobs() {
@@ -230,7 +237,8 @@ fn push_line(lines: &mut Vec<u8>, name: &[u8], value: &[u8]) -> Result<(), Memor
 #[tactic(auto, unfolding(crate::specs::Texts::ok, crate::specs::Texts::limit_passed))]
 fn set_global(draft: &mut Draft<'_>, name: &Txt, value: &Txt) -> Result<Txt, Memory>
     ensures base { draft.new.base ≡ draft.old.base }
-    ensures done { IfOk result (λ answer. spec.set_global name.now value.now (drafted draft.old) ≡ record { state = drafted draft.new; answer = Some answer }) }
+    ensures done { IfOk result
+        (spec.AnswersAt (spec.set_global name.now value.now (drafted draft.old)) (drafted draft.new)) }
 {
     let alloc = draft.alloc();
     let mut changed = draft.globals().copy()?;

@@ -6,6 +6,7 @@ mod api;
 mod applications;
 mod attempts;
 mod blocks;
+mod channels;
 mod commands;
 mod connections;
 mod due;

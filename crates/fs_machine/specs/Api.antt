@@ -30,10 +30,6 @@ pub record Done : Type 0 where
 abbrev pub ComesTo : Done → Switch → Option Text → Type 0
 ComesTo done state answer = done ≡ record { state = state; answer = answer }
 
--- a command that is answered at once comes to this state and this answer
-abbrev pub AnswersAt : Done → Switch → Text → Type 0
-AnswersAt done state answer = ComesTo done state (Some answer)
-
 -- an answer, and nothing else
 abbrev pub says : Text → Switch → Done
 says answer s = record { state = s; answer = Some answer }

@@ -60,9 +60,13 @@ abbrev pub all_hung : Cause → List ℕ → Switch → Switch
 all_hung cause [] s = s
 all_hung cause (slot ∷ slots) s = all_hung cause slots (after_hangup cause slot s)
 
+-- it is gone, and its job has ended with an answer
+abbrev pub after_attempt : Attempt → Text → Switch → Switch
+after_attempt a answer s = after_job_end a.job a.conn answer (without_orig a.orig s)
+
 -- it has failed
 abbrev pub failed : Attempt → Cause → Switch → Switch
-failed a cause s = after_job_end a.job a.conn (failed_text cause) (without_orig a.orig s)
+failed a cause s = after_attempt a (failed_text cause) s
 
 -- it comes to its deadline: its legs in these slots are hung up
 abbrev pub after_deadline : Attempt → List ℕ → Switch → Switch
@@ -71,7 +75,7 @@ after_deadline a slots s = failed a NoAnswer (all_hung NoAnswer slots s)
 -- the leg has won that stands at a position
 abbrev pub won_at : Attempt → Winner → Option OrigLeg → Switch → Switch
 won_at a winner None s = s
-won_at a winner (Some leg) s = after_job_end a.job a.conn (made_text leg.uuid) (without_orig a.orig (won winner (unwrap_or leg.slot 0) s))
+won_at a winner (Some leg) s = after_attempt a (made_text leg.uuid) (won winner (unwrap_or leg.slot 0) s)
 
 -- what comes of an origination by the verdict on it; it tries one leg, so no leg has a deadline of its own and no group follows
 abbrev pub after_verdict : Verdict → Attempt → Winner → Orig → Switch → Switch

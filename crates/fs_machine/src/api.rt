@@ -10,6 +10,7 @@ ghost use Rattle.fs_state.specs.Switch.{slot_named};
 ghost use Rattle.fs_machine.specs.Api as spec;
 
 use crate::attempts::begin_originate;
+use crate::globals::set_global;
 use crate::jobs::begin_sleep;
 use crate::originations::Caller;
 use crate::texts::{api_not_found, failed_text, usage_text};
@@ -74,12 +75,12 @@ fn run_plainly(draft: &mut Draft<'_>, conn: u32, api: &Api) -> Result<Option<Txt
     match api {
         Api::Echo { text } => Ok(Some(text.copy()?)),
         Api::Expand { .. } => Ok(Some(api_not_found(alloc, b"expand")?)),
-        Api::GlobalGetvar { name } => Ok(Some(get_global(alloc, draft.globals(), name.as_ref())?)),
-        Api::GlobalSetvar { name, value } => Ok(Some(set_global(draft, name, value)?)),
+        Api::GlobalGetvar { name } => get_global(alloc, draft.globals(), name.as_ref()),
+        Api::GlobalSetvar { name, value } => answer_set(draft, name, value),
         Api::Msleep { milliseconds } => sleep(draft, conn, *milliseconds),
-        Api::UuidExists { uuid } => Ok(Some(tell_whether(draft, uuid)?)),
-        Api::UuidKill { uuid, cause } => Ok(Some(kill(draft, uuid, *cause)?)),
-        Api::UuidGetvar { uuid, name } => Ok(Some(get_variable(draft, uuid, name)?)),
+        Api::UuidExists { uuid } => tell_whether(draft, uuid),
+        Api::UuidKill { uuid, cause } => kill(draft, uuid, *cause),
+        Api::UuidGetvar { uuid, name } => get_variable(draft, uuid, name),
         Api::Originate {
             url,
             winner,
@@ -87,15 +88,22 @@ fn run_plainly(draft: &mut Draft<'_>, conn: u32, api: &Api) -> Result<Option<Txt
             cid_number,
             timeout,
         } => {
-            let caller = Caller {
-                name: cid_name.copy()?,
-                number: cid_number.copy()?,
-            };
+            let caller = caller_of(cid_name, cid_number)?;
             originate(draft, conn, url, winner, caller, *timeout)
         }
         Api::Usage(which) => Ok(Some(usage_text(alloc, usage(*which).as_bytes())?)),
         Api::Unknown(name) => Ok(Some(api_not_found(alloc, name.as_bytes())?)),
     }
+}
+
+// Who calls, under this name and this number.
+fn caller_of(name: &Txt, number: &Txt) -> Result<Caller, Memory>
+    ensures { IfOk result (λ caller. caller ≡ record { name = name.now; number = number.now }) }
+{
+    Ok(Caller {
+        name: name.copy()?,
+        number: number.copy()?,
+    })
 }
 
 // Answers with these bytes.
@@ -109,42 +117,44 @@ fn says(alloc: Global, answer: &[u8]) -> Result<Option<Txt>, Memory>
 
 // Whether a live channel has an identifier.
 #[tactic(auto, unfolding(crate::specs::Texts::yes, crate::specs::Texts::no))]
-fn tell_whether(draft: &Draft<'_>, uuid: &Txt) -> Result<Txt, Memory>
-    ensures { IfOk result (λ t. t ≡ spec.told_whether (is_some (slot_named uuid.now (drafted draft.now)))) }
+fn tell_whether(draft: &Draft<'_>, uuid: &Txt) -> Result<Option<Txt>, Memory>
+    ensures { IfOk result
+        (λ said. said ≡ Some (spec.told_whether (is_some (slot_named uuid.now (drafted draft.now))))) }
 {
     match draft.slot_named(uuid.as_bytes()) {
-        Some(_) => Txt::of(draft.alloc(), b"true"),
-        None => Txt::of(draft.alloc(), b"false"),
+        Some(_) => says(draft.alloc(), b"true"),
+        None => says(draft.alloc(), b"false"),
     }
 }
 
 // Hangs up the live channel of an identifier.
 #[tactic(auto, unfolding(crate::specs::Texts::ok, crate::specs::Texts::no_channel))]
-fn kill(draft: &mut Draft<'_>, uuid: &Txt, cause: Cause) -> Result<Txt, Memory>
+fn kill(draft: &mut Draft<'_>, uuid: &Txt, cause: Cause) -> Result<Option<Txt>, Memory>
     ensures base { draft.new.base ≡ draft.old.base }
     ensures done { IfOk result
-        (spec.AnswersAt (spec.killed_as cause uuid.now (drafted draft.old)) (drafted draft.new)) }
+        (spec.ComesTo (spec.killed_as cause uuid.now (drafted draft.old)) (drafted draft.new)) }
 {
     let alloc = draft.alloc();
     let Some(slot) = draft.slot_named(uuid.as_bytes()) else {
-        return Txt::of(alloc, b"-ERR No such channel!\n");
+        return says(alloc, b"-ERR No such channel!\n");
     };
     draft.hang_up(slot, cause)?;
-    Txt::of(alloc, b"+OK\n")
+    says(alloc, b"+OK\n")
 }
 
 // The value of a variable of a live channel.
 #[tactic(auto, unfolding(crate::specs::Texts::no_channel, crate::specs::Texts::undefined))]
-fn get_variable(draft: &Draft<'_>, uuid: &Txt, name: &Txt) -> Result<Txt, Memory>
-    ensures { IfOk result (λ t. t ≡ spec.got_variable name.now (spec.chan_named uuid.now (drafted draft.now))) }
+fn get_variable(draft: &Draft<'_>, uuid: &Txt, name: &Txt) -> Result<Option<Txt>, Memory>
+    ensures { IfOk result
+        (λ said. said ≡ Some (spec.got_variable name.now (spec.chan_named uuid.now (drafted draft.now)))) }
 {
     let alloc = draft.alloc();
     let Some(chan) = chan_named(draft, uuid) else {
-        return Txt::of(alloc, b"-ERR No such channel!\n");
+        return says(alloc, b"-ERR No such channel!\n");
     };
     match chan.vars.get(name.as_bytes()) {
-        Some(value) => value.copy(),
-        None => Txt::of(alloc, b"_undef_"),
+        Some(value) => Ok(Some(value.copy()?)),
+        None => says(alloc, b"_undef_"),
     }
 }
 
@@ -199,15 +209,15 @@ fn originate(
 // ---- globals
 
 // The value of a global, or nothing; without a name all globals in order, a line each.
-fn get_global(alloc: Global, globals: &Vars, name: Option<&Txt>) -> Result<Txt, Memory>
-    ensures { IfOk result (λ t. t ≡ spec.got_global (option_copied name.entry) globals.now.pairs) }
+fn get_global(alloc: Global, globals: &Vars, name: Option<&Txt>) -> Result<Option<Txt>, Memory>
+    ensures { IfOk result (λ said. said ≡ Some (spec.got_global (option_copied name.entry) globals.now.pairs)) }
 {
     let Some(name) = name else {
-        return list(alloc, globals);
+        return Ok(Some(list(alloc, globals)?));
     };
     match globals.get(name.as_bytes()) {
-        Some(value) => value.copy(),
-        None => Txt::of(alloc, b""),
+        Some(value) => Ok(Some(value.copy()?)),
+        None => says(alloc, b""),
     }
 }
 
@@ -233,18 +243,17 @@ fn push_line(lines: &mut Vec<u8>, name: &[u8], value: &[u8]) -> Result<(), Memor
     Ok(())
 }
 
-// Sets a global, where no limit is passed.
+// Sets a global, and answers whether no limit is passed.
 #[tactic(auto, unfolding(crate::specs::Texts::ok, crate::specs::Texts::limit_passed))]
-fn set_global(draft: &mut Draft<'_>, name: &Txt, value: &Txt) -> Result<Txt, Memory>
+fn answer_set(draft: &mut Draft<'_>, name: &Txt, value: &Txt) -> Result<Option<Txt>, Memory>
     ensures base { draft.new.base ≡ draft.old.base }
     ensures done { IfOk result
-        (spec.AnswersAt (spec.set_global name.now value.now (drafted draft.old)) (drafted draft.new)) }
+        (spec.ComesTo (spec.set_global name.now value.now (drafted draft.old)) (drafted draft.new)) }
 {
     let alloc = draft.alloc();
-    let mut changed = draft.globals().copy()?;
-    if !changed.set(name.as_bytes(), value.as_bytes())? {
-        return Txt::of(alloc, b"-ERR variable limit passed\n");
+    if set_global(draft, name, value)? {
+        says(alloc, b"+OK\n")
+    } else {
+        says(alloc, b"-ERR variable limit passed\n")
     }
-    draft.set_globals(changed);
-    Txt::of(alloc, b"+OK\n")
 }

@@ -2,10 +2,13 @@
 
 ghost use Rattle.std.specs.Prelude.{◌≡◌, IfOk, OnOk};
 ghost use Rattle.fs_state.specs.Drafts.{drafted};
+ghost use Rattle.fs_state.specs.Moves.{after_move, after_answer, after_completion};
 ghost use Rattle.fs_app.specs.Applications.{IsShortApplication};
 ghost use Rattle.fs_machine.specs.Applications as spec;
+ghost use Rattle.fs_machine.specs.Channels.{changed_by};
 
 use crate::channels::{ChanChange, change_chan};
+use crate::globals::set_global;
 use fs_app::Application;
 use fs_chan::{Action, Chan};
 use fs_state::Draft;
@@ -87,39 +90,51 @@ fn apply_effect(draft: &mut Draft<'_>, slot: u16, asked: &Application) -> Result
     ensures ok { OnOk result (drafted draft.new ≡ spec.effect asked.now slot (drafted draft.old)) }
 {
     match asked {
-        Application::Answer => draft.answer(slot)?,
-        Application::Set { name, value } => change_chan(
-            draft,
-            slot,
-            ChanChange::Set { name, value },
-        )?,
-        Application::Unset { name } => change_chan(draft, slot, ChanChange::Unset { name })?,
-        Application::Export { name, value } => change_chan(
+        Application::Answer => answer(draft, slot),
+        Application::Set { name, value } => change(draft, slot, ChanChange::Set { name, value }),
+        Application::Unset { name } => change(draft, slot, ChanChange::Unset { name }),
+        Application::Export { name, value } => change(
             draft,
             slot,
             ChanChange::Export { name, value },
-        )?,
-        Application::SetGlobal { name, value } => set_global(draft, name, value)?,
-        Application::Eval => {}
-        Application::Sleep { milliseconds } => return sleep(draft, slot, *milliseconds),
-        Application::Hangup { cause } => return draft.hang_up(slot, *cause),
-        Application::Park => return park(draft, slot),
-        Application::Transfer { to } => return draft.transfer(slot, to.copy()?),
-        Application::Unknown => return draft.hang_up(slot, Cause::DestinationOutOfOrder),
+        ),
+        Application::SetGlobal { name, value } => change_global(draft, slot, name, value),
+        Application::Eval => draft.complete(slot),
+        Application::Sleep { milliseconds } => sleep(draft, slot, *milliseconds),
+        Application::Hangup { cause } => draft.hang_up(slot, *cause),
+        Application::Park => park(draft, slot),
+        Application::Transfer { to } => draft.transfer(slot, to.copy()?),
+        Application::Unknown => draft.hang_up(slot, Cause::DestinationOutOfOrder),
     }
+}
+
+// Answers a channel, which goes on at once.
+fn answer(draft: &mut Draft<'_>, slot: u16) -> Result<(), Memory>
+    ensures base { draft.new.base ≡ draft.old.base }
+    ensures ok { OnOk result (drafted draft.new ≡ after_completion slot (after_answer slot (drafted draft.old))) }
+{
+    draft.answer(slot)?;
     draft.complete(slot)
 }
 
-// Sets a global, where no limit is passed.
-fn set_global(draft: &mut Draft<'_>, name: &Txt, value: &Txt) -> Result<(), Memory>
+// Changes a channel, which goes on at once.
+fn change(draft: &mut Draft<'_>, slot: u16, what: ChanChange<'_>) -> Result<(), Memory>
     ensures base { draft.new.base ≡ draft.old.base }
-    ensures ok { OnOk result (drafted draft.new ≡ spec.with_global name.now value.now (drafted draft.old)) }
+    ensures ok { OnOk result
+        (drafted draft.new ≡ after_completion slot (after_move (changed_by what.entry) slot (drafted draft.old))) }
 {
-    let mut globals = draft.globals().copy()?;
-    if globals.set(name.as_bytes(), value.as_bytes())? {
-        draft.set_globals(globals);
-    }
-    Ok(())
+    change_chan(draft, slot, what)?;
+    draft.complete(slot)
+}
+
+// Sets a global, where no limit is passed; the channel goes on at once.
+fn change_global(draft: &mut Draft<'_>, slot: u16, name: &Txt, value: &Txt) -> Result<(), Memory>
+    ensures base { draft.new.base ≡ draft.old.base }
+    ensures ok { OnOk result
+        (drafted draft.new ≡ after_completion slot (spec.with_global name.now value.now (drafted draft.old))) }
+{
+    let _set = set_global(draft, name, value)?;
+    draft.complete(slot)
 }
 
 // Lets a channel sleep, unless the time is none.

@@ -19,7 +19,7 @@ use std::alloc::Global;
 const DEFAULT_TIMEOUT: u64 = 60;
 
 /// An origination that a job tries, and the connection that is owed the reply.
-#[derive(Clone, Copy, Debug)]
+#[derive(Clone, Copy)]
 pub(crate) struct Attempt {
     pub(crate) job: u64,
     pub(crate) conn: u32,
@@ -121,10 +121,9 @@ fn win_attempt(
     let Some(leg) = leg else {
         return Ok(());
     };
-    win(draft, leg.slot.unwrap_or(0), winner)?;
-    draft.drop_orig(attempt.orig)?;
     let answer = made_text(draft.alloc(), leg.uuid.as_bytes())?;
-    end_job(draft, attempt.job, attempt.conn, answer.as_bytes())
+    win(draft, leg.slot.unwrap_or(0), winner)?;
+    end_attempt(draft, attempt, answer.as_bytes())
 }
 
 // Lets the leg in a slot run its application, or be routed.
@@ -150,9 +149,17 @@ fn fail(draft: &mut Draft<'_>, attempt: Attempt, cause: Cause) -> Result<(), Mem
     ensures base { draft.new.base ≡ draft.old.base }
     ensures ok { OnOk result (drafted draft.new ≡ spec.failed attempt cause (drafted draft.old)) }
 {
-    draft.drop_orig(attempt.orig)?;
     let answer = failed_text(draft.alloc(), cause)?;
-    end_job(draft, attempt.job, attempt.conn, answer.as_bytes())
+    end_attempt(draft, attempt, answer.as_bytes())
+}
+
+// Ends an origination and its job with an answer.
+fn end_attempt(draft: &mut Draft<'_>, attempt: Attempt, answer: &[u8]) -> Result<(), Memory>
+    ensures base { draft.new.base ≡ draft.old.base }
+    ensures ok { OnOk result (drafted draft.new ≡ spec.after_attempt attempt answer.now (drafted draft.old)) }
+{
+    draft.drop_orig(attempt.orig)?;
+    end_job(draft, attempt.job, attempt.conn, answer)
 }
 
 // The slots of the legs of an origination that live.

@@ -16,7 +16,7 @@ use fs_state::{Draft, Parting, Phase};
 use fs_text::{Memory, Txt};
 
 /// A command of the event socket, lent from its line.
-#[derive(Clone, Copy, Debug)]
+#[derive(Clone, Copy)]
 pub(crate) enum Command<'a> {
     /// A password is offered.
     Auth { password: &'a [u8] },

@@ -11,6 +11,7 @@ mod commands;
 mod connections;
 mod due;
 mod entry;
+mod globals;
 mod jobs;
 mod journal;
 mod laws;

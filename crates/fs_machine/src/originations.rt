@@ -42,7 +42,7 @@ impl Drop for Call {
 }
 
 // One end of a pair of channels.
-#[derive(Clone, Copy, Debug)]
+#[derive(Clone, Copy)]
 pub(crate) struct End {
     pub(crate) direction: Direction,
     pub(crate) slot: u16,

@@ -36,7 +36,7 @@ use Rattle.fs_state.specs.Moves.{plain_event, with_leaving_event, with_coming_ev
 use Rattle.fs_machine.specs.declared.originations.Call.{Call}
 use Rattle.fs_machine.specs.declared.originations.Caller.{Caller}
 use Rattle.fs_machine.specs.Applications.{with_variable, without_variable, with_export, sleeping, state_at, parking_in, effect, argument_in, executed_within, ran_next, ran_from, ran}
-use Rattle.fs_machine.specs.Work.{with_variables, routed_to, actions_for, too_long_cause, found_for, routed_by, routing_from, first_state, worked_waiting, worked_in, worked_from, worked}
+use Rattle.fs_machine.specs.Work.{with_variables, routed_to, has_xml, actions_for, too_long_cause, found_for, routed_by, routing_from, first_state, worked_waiting, worked_in, worked_from, worked}
 use Rattle.fs_machine.specs.Originations.{Made, made_in, with_second, free_pair, is_congested, made_of, leg_made}
 use Rattle.fs_machine.specs.Attempts.{all_hung}
 use Rattle.fs_machine.proofs.HeldLemmas.{held_here, held_within, free_place}
@@ -298,16 +298,18 @@ module _ (P : Fact) (kept : KeptByCalls P) where
   effect_kept (app.Transfer to) slot short at h = transferred_kept to slot short at h
   effect_kept app.Unknown slot short at h = kept.hung DestinationOutOfOrder slot h
 
-  executed_kept : (application argument : Text) (slot : ℕ) {b : Bool} {s : Switch} → LivesAt s.channels slot → P b s → P b (executed_within application argument slot s)
-  executed_kept application argument slot {b} {s} at h =
+  executed_kept : (application : Text) (argument : Option Text) (slot : ℕ) {b : Bool} {s : Switch} → LivesAt s.channels slot → P b s →
+      P b (executed_within application argument slot s)
+  executed_kept application None slot at h = kept.hung NormalTemporaryFailure slot h
+  executed_kept application (Some argument) slot {b} {s} at h =
       let action : Action = record { application = application; argument = argument } in
-      either (nat_lt 65536 (length argument)) (kept.hung NormalTemporaryFailure slot h)
-      (effect_kept (application_of application argument) slot (application_short application argument) (moved_lives (with_running action) slot s (running_stays action) at) (run_on_kept action slot h))
+      effect_kept (application_of application argument) slot (application_short application argument) (moved_lives (with_running action) slot s (running_stays action) at)
+      (run_on_kept action slot h)
 
   ran_next_kept : (next : Option Action) (slot : ℕ) (c : Chan) {b : Bool} {s : Switch} → LivesAt s.channels slot → P b s → P b (ran_next next slot c s)
   ran_next_kept None slot c at h = kept.hung NormalClearing slot h
   ran_next_kept (Some action) slot c {b} {s} at h =
-      executed_kept action.application (argument_in (chan.after_next c) s action.argument) slot (moved_lives chan.after_next slot s after_next_stays at)
+      executed_kept action.application (argument_in c s action.argument) slot (moved_lives chan.after_next slot s after_next_stays at)
       (moved_kept chan.after_next slot after_next_stays h)
 
   ran_kept : (slot : ℕ) {b : Bool} {s : Switch} → LivesAt s.channels slot → P b s → P b (ran slot s)
@@ -326,8 +328,8 @@ module _ (P : Fact) (kept : KeptByCalls P) where
       (moved_alive (routed vars actions) slot at (λ c live. record { links = refl; live = execute_lives ∙ sym live; short = λ short. short }) h)
 
   routed_by_kept : (hunt : Option Hunt) (c : Chan) (slot : ℕ) {b : Bool} {s : Switch} → LivesAt s.channels slot → P b s → P b (routed_by hunt c slot s)
-  routed_by_kept None c slot at h = kept.hung (too_long_cause c) slot h
-  routed_by_kept (Some hunt) c slot at h = routed_kept hunt.vars (actions_for c hunt.actions) slot at (kept.globals hunt.globals h)
+  routed_by_kept None c slot at h = kept.hung (too_long_cause (has_xml c)) slot h
+  routed_by_kept (Some hunt) c slot at h = routed_kept hunt.vars (actions_for (has_xml c) hunt.actions) slot at (kept.globals hunt.globals h)
 
   routing_kept : (slot : ℕ) (found : Option Chan) {b : Bool} {s : Switch} → LivesAt s.channels slot → P b s → P b (routing_from slot found s)
   routing_kept slot None at h = h

@@ -1,5 +1,5 @@
 -- What an api command answers, and what it does to the switch.
-use Rattle.std.specs.Prelude.{ℕ, nat_lt, [], ◌++◌, length, map, Bool, Option, None, Some, is_some, unwrap_or, codes, if◌then◌else◌}
+use Rattle.std.specs.Prelude.{◌≡◌, ℕ, nat_lt, [], ◌++◌, length, map, Bool, Option, None, Some, is_some, unwrap_or, codes, if◌then◌else◌}
 use Rattle.std.specs.List.{concat}
 use Rattle.std.specs.Option.{option_and_then}
 use Rattle.fs_text.specs.declared.causes.Cause.{Cause}
@@ -25,6 +25,10 @@ use Rattle.fs_machine.specs.Jobs.{sleep_begun}
 pub record Done : Type 0 where
   pub state : Switch
   pub answer : Option Text
+
+-- a command comes to this state and this answer, if it is not owed
+abbrev pub ComesTo : Done → Switch → Option Text → Type 0
+ComesTo done state answer = done ≡ record { state = state; answer = answer }
 
 -- an answer, and nothing else
 abbrev pub says : Text → Switch → Done
@@ -64,6 +68,10 @@ abbrev pub killed : Cause → Option ℕ → Switch → Done
 killed cause None s = says no_channel s
 killed cause (Some slot) s = says ok (after_hangup cause slot s)
 
+-- the one of an identifier
+abbrev pub killed_as : Cause → Text → Switch → Done
+killed_as cause uuid s = killed cause (slot_named uuid s) s
+
 -- the value of a variable
 abbrev pub got_variable : Text → Option Chan → Text
 got_variable name None = no_channel
@@ -93,7 +101,7 @@ done_plainly conn (api.GlobalGetvar name) s = says (got_global name s.globals.pa
 done_plainly conn (api.GlobalSetvar name value) s = set_global name value s
 done_plainly conn (api.Msleep milliseconds) s = slept conn milliseconds s
 done_plainly conn (api.UuidExists uuid) s = says (told_whether (is_some (slot_named uuid s))) s
-done_plainly conn (api.UuidKill uuid cause) s = killed cause (slot_named uuid s) s
+done_plainly conn (api.UuidKill uuid cause) s = killed_as cause uuid s
 done_plainly conn (api.UuidGetvar uuid name) s = says (got_variable name (chan_named uuid s)) s
 done_plainly conn (api.Originate url winner cid_name cid_number timeout) s =
     originated conn url winner (record { name = cid_name; number = cid_number }) timeout s

@@ -50,13 +50,17 @@ parking_in (Some _) slot s = after_move parked slot s
 abbrev pub parking : ℕ → Switch → Switch
 parking slot s = parking_in (state_at slot s) slot s
 
+-- a global is set, where no limit is passed
+abbrev pub with_global : Text → Text → Switch → Switch
+with_global name value s = record s { globals = with_set s.globals name value }
+
 -- what an application does in a slot; those that end at once say so
 abbrev pub effect : Application → ℕ → Switch → Switch
 effect app.Answer slot s = after_completion slot (after_answer slot s)
 effect (app.Set name value) slot s = after_completion slot (after_move (with_variable name value) slot s)
 effect (app.Unset name) slot s = after_completion slot (after_move (without_variable name) slot s)
 effect (app.Export name value) slot s = after_completion slot (after_move (with_export name value) slot s)
-effect (app.SetGlobal name value) slot s = after_completion slot (record s { globals = with_set s.globals name value })
+effect (app.SetGlobal name value) slot s = after_completion slot (with_global name value s)
 effect app.Eval slot s = after_completion slot s
 effect (app.Sleep milliseconds) slot s = sleeping milliseconds slot s
 effect (app.Hangup cause) slot s = after_hangup cause slot s
@@ -66,9 +70,13 @@ effect app.Unknown slot s = after_hangup DestinationOutOfOrder slot s
 
 -- ---- running one
 
--- an argument, expanded over what the channel knows
-abbrev pub argument_in : Chan → Switch → Text → Text
-argument_in c s text = expanded (c.vars.pairs ++ fields_of c.profile ++ s.globals.pairs) text
+-- a text, unless it is too long
+abbrev pub unless_too_long : Text → Option Text
+unless_too_long text = if nat_lt 65536 (length text) then None else Some text
+
+-- an argument, expanded over what the channel knows, unless it is too long then
+abbrev pub argument_in : Chan → Switch → Text → Option Text
+argument_in c s text = unless_too_long (expanded (c.vars.pairs ++ fields_of c.profile ++ s.globals.pairs) text)
 
 -- an application begins and has its effect
 abbrev pub executed : Text → Text → ℕ → Switch → Switch
@@ -76,15 +84,15 @@ executed application argument slot s =
     effect (application_of application argument) slot (run_on (record { application = application; argument = argument }) slot s)
 
 -- an argument that is too long hangs the channel up, and nothing is run
-abbrev pub executed_within : Text → Text → ℕ → Switch → Switch
-executed_within application argument slot s =
-    if nat_lt 65536 (length argument) then after_hangup NormalTemporaryFailure slot s else executed application argument slot s
+abbrev pub executed_within : Text → Option Text → ℕ → Switch → Switch
+executed_within application None slot s = after_hangup NormalTemporaryFailure slot s
+executed_within application (Some argument) slot s = executed application argument slot s
 
 -- what a channel is to run next is used up and run; one that has nothing to run is hung up
 abbrev pub ran_next : Option Action → ℕ → Chan → Switch → Switch
 ran_next None slot c s = after_hangup NormalClearing slot s
 ran_next (Some action) slot c s =
-    executed_within action.application (argument_in (after_next c) s action.argument) slot (after_move after_next slot s)
+    executed_within action.application (argument_in c s action.argument) slot (after_move after_next slot s)
 
 abbrev pub ran_from : ℕ → Option Chan → Switch → Switch
 ran_from slot None s = s

@@ -1,6 +1,11 @@
 -- What happened in a run.
-use Rattle.std.specs.Prelude.{ℕ, ◌+◌, List, [], ◌∷◌, ◌++◌, map}
+use Rattle.std.specs.Prelude.{◌≡◌, ℕ, ◌+◌, List, [], ◌∷◌, ◌++◌, map}
+use Rattle.fs_text.specs.declared.causes.Cause.{Cause}
+use Rattle.fs_text.specs.declared.event_names.EventName.{EventName}
+use Rattle.fs_text.specs.Cause.{cause_number}
+use Rattle.fs_text.specs.EventName.{event_number}
 use Rattle.fs_state.specs.declared.event.Event.{Event}
+use Rattle.fs_state.specs.Counts.{Tallies, counted_at, events_named, hangups_for}
 use Rattle.fs_state.specs.Switch.{Switch, empty, at_moment}
 use Rattle.fs_machine.specs.declared.entry.Entry.{Entry}
 use Rattle.fs_machine.specs.Step.{act_done, step}
@@ -31,3 +36,11 @@ happened m = happened_from 0 (empty m.config) m.journal
 -- the events alone
 abbrev pub events_of : List Happened → List Event
 events_of happened = map (λ h. h.event) happened
+
+-- how many of these events have each name
+abbrev pub CountsEvents : Tallies → List Event → Type 0
+CountsEvents counts events = (name : EventName) → counted_at counts.events (event_number name) ≡ events_named name events
+
+-- how many of them tell of a hangup with each cause
+abbrev pub CountsHangups : Tallies → List Event → Type 0
+CountsHangups counts events = (cause : Cause) → counted_at counts.hangups (cause_number cause) ≡ hangups_for cause events

@@ -4,10 +4,10 @@ use Rattle.fs_chan.specs.Moments.{moment_after}
 use Rattle.fs_state.specs.declared.job.Job.{Job}
 use Rattle.fs_state.specs.declared.job.JobWork.{JobWork}
 use Rattle.fs_state.specs.declared.job.JobWork.TheVariants.{Sleep, Originate}
-use Rattle.fs_state.specs.Switch.{Switch, orig_of, job_of}
+use Rattle.fs_state.specs.Switch.{Switch, job_of}
 use Rattle.fs_machine.specs.Texts.{ok}
 use Rattle.fs_machine.specs.Owing.{after_job_begin, after_job_end}
-use Rattle.fs_machine.specs.Attempts.{after_verdict_from}
+use Rattle.fs_machine.specs.Attempts.{after_verdict_on}
 
 -- a connection is to wait so many milliseconds for its reply
 abbrev pub sleep_begun : ℕ → ℕ → Switch → Switch
@@ -16,8 +16,7 @@ sleep_begun conn milliseconds s = after_job_begin conn (Sleep (moment_after s.mo
 -- what comes of the work of a job, where it has something to do
 abbrev pub after_job_work : JobWork → ℕ → ℕ → Switch → Switch
 after_job_work (Sleep until) number conn s = after_job_end number conn ok s
-after_job_work (Originate orig winner) number conn s =
-    after_verdict_from (record { job = number; conn = conn; orig = orig }) winner (orig_of s orig) s
+after_job_work (Originate orig winner) number conn s = after_verdict_on (record { job = number; conn = conn; orig = orig }) winner s
 
 abbrev pub job_done_from : ℕ → Option Job → Switch → Switch
 job_done_from number None s = s

@@ -8,6 +8,7 @@ pub mod Here
 pub mod Applications
 pub mod Work
 pub mod Originations
+pub mod Channels
 pub mod Owing
 pub mod Attempts
 pub mod Jobs
@@ -22,3 +23,4 @@ pub mod Events
 pub mod Concerns
 pub mod Sound
 pub mod Journals
+pub mod Laws

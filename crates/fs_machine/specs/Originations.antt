@@ -1,5 +1,5 @@
 -- How the legs of an origination are made, and what a leg does that has won.
-use Rattle.std.specs.Prelude.{ℕ, ◌+◌, ◌*◌, ◌++◌, min, nat_lt, Bool, if◌then◌else◌, [], ◌∷◌, length, take, Option, None, Some, option_map, codes}
+use Rattle.std.specs.Prelude.{◌≡◌, ℕ, ◌+◌, ◌*◌, ◌++◌, min, nat_lt, Bool, if◌then◌else◌, [], ◌∷◌, length, take, Option, None, Some, option_map, codes}
 use Rattle.std.specs.Option.{option_and_then}
 use Rattle.fs_text.specs.declared.states.State.TheVariants.{CsExecute}
 use Rattle.fs_text.specs.declared.causes.Cause.{Cause}
@@ -66,7 +66,10 @@ no_variables = record { bounds = Channel; pairs = [] }
 -- the channel at one end of a pair
 abbrev pub end_of : Call → End → Text → Chan
 end_of call end uuid =
-    record (new_channel uuid end.slot end.direction (loopback_profile call end.direction uuid) no_variables) { partner = Some end.partner; leg_of = end.leg_of }
+    record (new_channel uuid end.slot end.direction (loopback_profile call end.direction uuid) no_variables) {
+      partner = Some end.partner;
+      leg_of = end.leg_of;
+    }
 
 -- it is there, under the next identifier
 abbrev pub end_made_as : Call → End → Switch → Switch
@@ -91,6 +94,10 @@ pair_made call orig a b s = end_made call (far_end a b) (end_made call (leg_end 
 pub record Made : Type 0 where
   pub state : Switch
   pub leg : OrigLeg
+
+-- making a leg comes to this state and this leg
+abbrev pub ComesTo : Made → Switch → OrigLeg → Type 0
+ComesTo made state leg = made ≡ record { state = state; leg = leg }
 
 -- a leg that died as it was made
 abbrev pub made_dead : Cause → Switch → Made

@@ -5,6 +5,7 @@ use Rattle.fs_state.specs.Switch.{Switch, empty}
 use Rattle.fs_state.specs.Drafts.{after, Fits}
 use Rattle.fs_state.specs.declared.delta.Delta.{Delta}
 use Rattle.fs_machine.specs.declared.entry.Entry.{Entry}
+use Rattle.fs_machine.specs.declared.machine.Change.{Change}
 use Rattle.fs_machine.specs.declared.reply.Reply.{Reply}
 use Rattle.fs_machine.specs.Entries.{cost_of}
 use Rattle.fs_state.specs.Switch.{after_entry}
@@ -45,3 +46,7 @@ pub record IsPrepared (s : Switch) (entry : Entry) (delta : Delta) (reply : Repl
   pub defined : refusal_of s entry ≡ None
   pub steps : step s entry ≡ record { state = after_entry (cost_of entry.act) (after s delta); reply = reply }
   pub fits : Fits s delta
+
+-- a change is that of an entry which was asked for
+abbrev pub Changes : Switch → Entry → Change → Type 0
+Changes s asked change = (change.entry ≡ asked) × IsPrepared s change.entry change.delta change.reply

@@ -1,5 +1,5 @@
 -- Which entries are refused, and what the others do.
-use Rattle.std.specs.Prelude.{ℕ, ◌-◌, ◌^◌, min, ◌==◌, ◌||◌, not, Bool, true, false, [], length, Option, None, Some, is_some, unwrap_or, slice_get, if◌then◌else◌}
+use Rattle.std.specs.Prelude.{◌≡◌, ◌≢◌, ℕ, ◌-◌, ◌^◌, min, ◌==◌, ◌||◌, not, Bool, true, false, [], length, Option, None, Some, is_some, unwrap_or, slice_get, if◌then◌else◌}
 use Rattle.fs_frame.specs.Block.{line_of}
 use Rattle.fs_chan.specs.declared.due.Due.{Due}
 use Rattle.fs_chan.specs.declared.due.Due.TheVariants.{Now, At}
@@ -60,11 +60,16 @@ busy (Some since) = Some (refusal.Busy since)
 abbrev pub is_unsent : Switch → ℕ → Bool
 is_unsent s conn = not (is_ending (phase_at s conn)) || (not (length (waiting_for s conn) == 0) || is_some (owed_to s conn))
 
+-- that all is not sent yet
+abbrev pub unsent : ℕ → Switch → Refusal
+unsent conn s = refusal.Unsent (length (waiting_for s conn)) (is_some (owed_to s conn))
+
+abbrev pub refused_unsent : ℕ → Switch → Option Refusal
+refused_unsent conn s = refused_where (is_unsent s conn) (unsent conn s) None
+
 abbrev pub refused_close : ℕ → Closing → Switch → Option Refusal
 refused_close conn EndOfInput s = refused_where (not (reads (phase_at s conn))) refusal.Gone None
-refused_close conn Sent s =
-    refused_where (is_closed (phase_at s conn)) refusal.Gone
-    (refused_where (is_unsent s conn) (refusal.Unsent (length (waiting_for s conn)) (is_some (owed_to s conn))) None)
+refused_close conn Sent s = refused_where (is_closed (phase_at s conn)) refusal.Gone (refused_unsent conn s)
 refused_close conn Failed s = refused_where (is_closed (phase_at s conn)) refusal.Gone None
 
 -- there is nothing to do yet
@@ -95,11 +100,19 @@ refusal_of s entry =
     refused_where (is_full s) (refusal.JournalFull s.cost s.config.settings.journal_limit)
     (refused_act entry.act (at_moment entry.moment s))
 
+-- this is why an entry is refused, or there was no memory
+abbrev pub IsRefusedFor : Switch → Entry → Refusal → Type 0
+IsRefusedFor s entry r = r ≢ refusal.Memory → refusal_of s entry ≡ Some r
+
 -- ---- what the others do
 
 pub record Acted : Type 0 where
   pub state : Switch
   pub reply : Reply
+
+-- an act comes to this state and this reply
+abbrev pub ComesTo : Acted → Switch → Reply → Type 0
+ComesTo acted state reply = acted ≡ record { state = state; reply = reply }
 
 -- a connection that has come
 abbrev pub new_conn : Conn

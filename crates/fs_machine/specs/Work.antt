@@ -36,12 +36,16 @@ abbrev pub has_xml : Chan → Bool
 has_xml c = bytes_eq c.profile.dialplan (codes "XML")
 
 -- the actions that the hunt gave; a channel of another dialplan has none
-abbrev pub actions_for : Chan → List Action → List Action
-actions_for c actions = if has_xml c then actions else []
+abbrev pub actions_for : Bool → List Action → List Action
+actions_for xml actions = if xml then actions else []
 
 -- why a channel is hung up for which a text is too long
-abbrev pub too_long_cause : Chan → Cause
-too_long_cause c = if has_xml c then NormalTemporaryFailure else NoRouteDestination
+abbrev pub too_long_cause : Bool → Cause
+too_long_cause xml = if xml then NormalTemporaryFailure else NoRouteDestination
+
+-- what the hunt gave is taken over, by a channel with that dialplan or another
+abbrev pub after_hunt : Bool → Hunt → ℕ → Switch → Switch
+after_hunt xml hunt slot s = routed_to hunt.vars (actions_for xml hunt.actions) slot (record s { globals = hunt.globals })
 
 -- what the hunt gave, unless a text is too long
 abbrev pub found_in : Outcome Hunt → Option Hunt
@@ -53,8 +57,8 @@ found_for c s = found_in (hunted s.config.contexts c.profile.context c.profile c
 
 -- a channel is routed by it
 abbrev pub routed_by : Option Hunt → Chan → ℕ → Switch → Switch
-routed_by None c slot s = after_hangup (too_long_cause c) slot s
-routed_by (Some hunt) c slot s = routed_to hunt.vars (actions_for c hunt.actions) slot (record s { globals = hunt.globals })
+routed_by None c slot s = after_hangup (too_long_cause (has_xml c)) slot s
+routed_by (Some hunt) c slot s = after_hunt (has_xml c) hunt slot s
 
 -- a channel is routed, unless it was routed too often
 abbrev pub routing_from : ℕ → Option Chan → Switch → Switch

@@ -1,3 +1,5 @@
+//! What each act of an entry does to a draft.
+
 ghost use Rattle.std.specs.Prelude.{◌≡◌, IfOk, OnOk};
 ghost use Rattle.fs_state.specs.declared.delta.QueueChange.TheVariants.{Unchanged};
 ghost use Rattle.fs_state.specs.Drafts.{drafted};
@@ -8,7 +10,7 @@ use crate::commands::{command_of, do_command};
 use crate::connections::part;
 use crate::entry::{Act, Closing};
 use crate::jobs::do_job;
-use crate::refused::owed_to;
+use crate::questions::owed_to;
 use crate::reply::Reply;
 use crate::texts::auth_request;
 use crate::work::work;
@@ -21,7 +23,7 @@ pub(crate) fn do_act(draft: &mut Draft<'_>, plan: &Dialplan, act: &Act) -> Resul
     requires queue { draft.old.delta.queue ≡ Unchanged }
     requires plan { plan.now ≡ draft.old.base.config.contexts }
     ensures base { draft.new.base ≡ draft.old.base }
-    ensures ok { IfOk result (λ reply. spec.act_done act.now (drafted draft.old) ≡ record { state = drafted draft.new; reply = reply }) }
+    ensures ok { IfOk result (spec.ComesTo (spec.act_done act.now (drafted draft.old)) (drafted draft.new)) }
 {
     match act {
         Act::Arrive => arrive(draft),
@@ -46,10 +48,10 @@ pub(crate) fn do_act(draft: &mut Draft<'_>, plan: &Dialplan, act: &Act) -> Resul
     }
 }
 
-// A connection comes.
+// Adds a connection, and asks it for the password.
 fn arrive(draft: &mut Draft<'_>) -> Result<Reply, Memory>
     ensures base { draft.new.base ≡ draft.old.base }
-    ensures ok { IfOk result (λ reply. spec.arrived (drafted draft.old) ≡ record { state = drafted draft.new; reply = reply }) }
+    ensures ok { IfOk result (spec.ComesTo (spec.arrived (drafted draft.old)) (drafted draft.new)) }
 {
     let number = draft.add_conn(Conn {
         phase: Phase::Fresh,
@@ -62,11 +64,11 @@ fn arrive(draft: &mut Draft<'_>) -> Result<Reply, Memory>
     Ok(Reply::Arrived(number))
 }
 
-// The first frame that waits is handed out.
+// Hands out the first frame that waits.
 fn take(draft: &mut Draft<'_>, conn: u32) -> Result<Reply, Memory>
     requires { draft.old.delta.queue ≡ Unchanged }
     ensures base { draft.new.base ≡ draft.old.base }
-    ensures ok { IfOk result (λ reply. spec.taken conn (drafted draft.old) ≡ record { state = drafted draft.new; reply = reply }) }
+    ensures ok { IfOk result (spec.ComesTo (spec.taken conn (drafted draft.old)) (drafted draft.new)) }
 {
     let frame = match draft.first_frame(conn) {
         Some(frame) => frame.copy()?,
@@ -76,7 +78,7 @@ fn take(draft: &mut Draft<'_>, conn: u32) -> Result<Reply, Memory>
     Ok(Reply::Frame(frame))
 }
 
-// A connection comes to its end.
+// Ends a connection.
 fn close(draft: &mut Draft<'_>, conn: u32, how: Closing) -> Result<(), Memory>
     requires { draft.old.delta.queue ≡ Unchanged }
     ensures base { draft.new.base ≡ draft.old.base }

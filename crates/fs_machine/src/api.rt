@@ -1,12 +1,16 @@
+//! What an api command answers, and what it does to the switch.
+
 ghost use Rattle.std.specs.Prelude.{◌≡◌, ◌≤◌, ◌++◌, length, codes, Some, is_some, IfOk, IfErr, OnOk};
 ghost use Rattle.std.specs.Option.{option_copied};
 ghost use Rattle.fs_vars.specs.Outputs.{IsTextRefusal};
 ghost use Rattle.fs_vars.specs.Expansion.{expanded};
+ghost use Rattle.fs_api.specs.declared.api.Api.TheVariants.{Expand};
 ghost use Rattle.fs_state.specs.Drafts.{drafted};
 ghost use Rattle.fs_state.specs.Switch.{slot_named};
 ghost use Rattle.fs_machine.specs.Api as spec;
 
 use crate::attempts::begin_originate;
+use crate::globals::set_global;
 use crate::jobs::begin_sleep;
 use crate::originations::Caller;
 use crate::texts::{api_not_found, failed_text, usage_text};
@@ -21,7 +25,7 @@ use std::alloc::Global;
 /// Runs an api command of a connection, and gives its answer, unless that is owed.
 pub(crate) fn run_api(draft: &mut Draft<'_>, conn: u32, api: &Api) -> Result<Option<Txt>, Memory>
     ensures base { draft.new.base ≡ draft.old.base }
-    ensures done { IfOk result (λ answer. spec.done_by conn api.now (drafted draft.old) ≡ record { state = drafted draft.new; answer = answer }) }
+    ensures done { IfOk result (spec.ComesTo (spec.done_by conn api.now (drafted draft.old)) (drafted draft.new)) }
 {
     match api {
         Api::Expand { text } => run_expanded(draft, conn, text),
@@ -33,7 +37,8 @@ pub(crate) fn run_api(draft: &mut Draft<'_>, conn: u32, api: &Api) -> Result<Opt
 #[tactic(auto, unfolding(crate::specs::Texts::too_long_text))]
 fn run_expanded(draft: &mut Draft<'_>, conn: u32, text: &Txt) -> Result<Option<Txt>, Memory>
     ensures base { draft.new.base ≡ draft.old.base }
-    ensures done { IfOk result (λ answer. spec.done_expanded conn (expanded (drafted draft.old).globals.pairs text.now) (drafted draft.old) ≡ record { state = drafted draft.new; answer = answer }) }
+    ensures done { IfOk result
+        (spec.ComesTo (spec.done_by conn (Expand text.now) (drafted draft.old)) (drafted draft.new)) }
 {
     let alloc = draft.alloc();
     match expand_globally(alloc, draft.globals(), text.as_bytes()) {
@@ -46,7 +51,7 @@ fn run_expanded(draft: &mut Draft<'_>, conn: u32, text: &Txt) -> Result<Option<T
     }
 }
 
-// The text expanded over the globals alone.
+// Expands a text over the globals alone.
 fn expand_globally(alloc: Global, globals: &Vars, text: &[u8]) -> Result<Txt, Refused>
     ensures text { IfOk result (λ t. t ≡ expanded globals.now.pairs text.now) }
     ensures short { IfOk result (λ t. length t ≤ 65536) }
@@ -64,18 +69,18 @@ fn expand_globally(alloc: Global, globals: &Vars, text: &[u8]) -> Result<Txt, Re
 // Runs an api command that expands no text.
 fn run_plainly(draft: &mut Draft<'_>, conn: u32, api: &Api) -> Result<Option<Txt>, Memory>
     ensures base { draft.new.base ≡ draft.old.base }
-    ensures done { IfOk result (λ answer. spec.done_plainly conn api.now (drafted draft.old) ≡ record { state = drafted draft.new; answer = answer }) }
+    ensures done { IfOk result (spec.ComesTo (spec.done_plainly conn api.now (drafted draft.old)) (drafted draft.new)) }
 {
     let alloc = draft.alloc();
     match api {
         Api::Echo { text } => Ok(Some(text.copy()?)),
         Api::Expand { .. } => Ok(Some(api_not_found(alloc, b"expand")?)),
-        Api::GlobalGetvar { name } => Ok(Some(get_global(alloc, draft.globals(), name.as_ref())?)),
-        Api::GlobalSetvar { name, value } => Ok(Some(set_global(draft, name, value)?)),
+        Api::GlobalGetvar { name } => get_global(alloc, draft.globals(), name.as_ref()),
+        Api::GlobalSetvar { name, value } => answer_set(draft, name, value),
         Api::Msleep { milliseconds } => sleep(draft, conn, *milliseconds),
-        Api::UuidExists { uuid } => Ok(Some(tell_whether(draft, uuid)?)),
-        Api::UuidKill { uuid, cause } => Ok(Some(kill(draft, uuid, *cause)?)),
-        Api::UuidGetvar { uuid, name } => Ok(Some(get_variable(draft, uuid, name)?)),
+        Api::UuidExists { uuid } => tell_whether(draft, uuid),
+        Api::UuidKill { uuid, cause } => kill(draft, uuid, *cause),
+        Api::UuidGetvar { uuid, name } => get_variable(draft, uuid, name),
         Api::Originate {
             url,
             winner,
@@ -83,10 +88,7 @@ fn run_plainly(draft: &mut Draft<'_>, conn: u32, api: &Api) -> Result<Option<Txt
             cid_number,
             timeout,
         } => {
-            let caller = Caller {
-                name: cid_name.copy()?,
-                number: cid_number.copy()?,
-            };
+            let caller = caller_of(cid_name, cid_number)?;
             originate(draft, conn, url, winner, caller, *timeout)
         }
         Api::Usage(which) => Ok(Some(usage_text(alloc, usage(*which).as_bytes())?)),
@@ -94,7 +96,17 @@ fn run_plainly(draft: &mut Draft<'_>, conn: u32, api: &Api) -> Result<Option<Txt
     }
 }
 
-// An answer of these bytes.
+// Who calls, under this name and this number.
+fn caller_of(name: &Txt, number: &Txt) -> Result<Caller, Memory>
+    ensures { IfOk result (λ caller. caller ≡ record { name = name.now; number = number.now }) }
+{
+    Ok(Caller {
+        name: name.copy()?,
+        number: number.copy()?,
+    })
+}
+
+// Answers with these bytes.
 fn says(alloc: Global, answer: &[u8]) -> Result<Option<Txt>, Memory>
     ensures { IfOk result (λ said. said ≡ Some answer.now) }
 {
@@ -105,41 +117,44 @@ fn says(alloc: Global, answer: &[u8]) -> Result<Option<Txt>, Memory>
 
 // Whether a live channel has an identifier.
 #[tactic(auto, unfolding(crate::specs::Texts::yes, crate::specs::Texts::no))]
-fn tell_whether(draft: &Draft<'_>, uuid: &Txt) -> Result<Txt, Memory>
-    ensures { IfOk result (λ t. t ≡ spec.told_whether (is_some (slot_named uuid.now (drafted draft.now)))) }
+fn tell_whether(draft: &Draft<'_>, uuid: &Txt) -> Result<Option<Txt>, Memory>
+    ensures { IfOk result
+        (λ said. said ≡ Some (spec.told_whether (is_some (slot_named uuid.now (drafted draft.now))))) }
 {
     match draft.slot_named(uuid.as_bytes()) {
-        Some(_) => Txt::of(draft.alloc(), b"true"),
-        None => Txt::of(draft.alloc(), b"false"),
+        Some(_) => says(draft.alloc(), b"true"),
+        None => says(draft.alloc(), b"false"),
     }
 }
 
-// A live channel is hung up.
+// Hangs up the live channel of an identifier.
 #[tactic(auto, unfolding(crate::specs::Texts::ok, crate::specs::Texts::no_channel))]
-fn kill(draft: &mut Draft<'_>, uuid: &Txt, cause: Cause) -> Result<Txt, Memory>
+fn kill(draft: &mut Draft<'_>, uuid: &Txt, cause: Cause) -> Result<Option<Txt>, Memory>
     ensures base { draft.new.base ≡ draft.old.base }
-    ensures done { IfOk result (λ answer. spec.killed cause (slot_named uuid.now (drafted draft.old)) (drafted draft.old) ≡ record { state = drafted draft.new; answer = Some answer }) }
+    ensures done { IfOk result
+        (spec.ComesTo (spec.killed_as cause uuid.now (drafted draft.old)) (drafted draft.new)) }
 {
     let alloc = draft.alloc();
     let Some(slot) = draft.slot_named(uuid.as_bytes()) else {
-        return Txt::of(alloc, b"-ERR No such channel!\n");
+        return says(alloc, b"-ERR No such channel!\n");
     };
     draft.hang_up(slot, cause)?;
-    Txt::of(alloc, b"+OK\n")
+    says(alloc, b"+OK\n")
 }
 
 // The value of a variable of a live channel.
 #[tactic(auto, unfolding(crate::specs::Texts::no_channel, crate::specs::Texts::undefined))]
-fn get_variable(draft: &Draft<'_>, uuid: &Txt, name: &Txt) -> Result<Txt, Memory>
-    ensures { IfOk result (λ t. t ≡ spec.got_variable name.now (spec.chan_named uuid.now (drafted draft.now))) }
+fn get_variable(draft: &Draft<'_>, uuid: &Txt, name: &Txt) -> Result<Option<Txt>, Memory>
+    ensures { IfOk result
+        (λ said. said ≡ Some (spec.got_variable name.now (spec.chan_named uuid.now (drafted draft.now)))) }
 {
     let alloc = draft.alloc();
     let Some(chan) = chan_named(draft, uuid) else {
-        return Txt::of(alloc, b"-ERR No such channel!\n");
+        return says(alloc, b"-ERR No such channel!\n");
     };
     match chan.vars.get(name.as_bytes()) {
-        Some(value) => value.copy(),
-        None => Txt::of(alloc, b"_undef_"),
+        Some(value) => Ok(Some(value.copy()?)),
+        None => says(alloc, b"_undef_"),
     }
 }
 
@@ -152,11 +167,11 @@ fn chan_named<'a>(draft: &'a Draft<'_>, uuid: &Txt) -> Option<&'a Chan>
 
 // ---- jobs
 
-// The answer comes once so many milliseconds have passed.
+// Owes the answer until so many milliseconds have passed.
 #[tactic(auto, unfolding(crate::specs::Texts::too_many_jobs))]
 fn sleep(draft: &mut Draft<'_>, conn: u32, milliseconds: u64) -> Result<Option<Txt>, Memory>
     ensures base { draft.new.base ≡ draft.old.base }
-    ensures done { IfOk result (λ answer. spec.slept conn milliseconds (drafted draft.old) ≡ record { state = drafted draft.new; answer = answer }) }
+    ensures done { IfOk result (spec.ComesTo (spec.slept conn milliseconds (drafted draft.old)) (drafted draft.new)) }
 {
     if draft.is_full_of_jobs() {
         return says(draft.alloc(), b"-ERR too many jobs\n");
@@ -165,7 +180,7 @@ fn sleep(draft: &mut Draft<'_>, conn: u32, milliseconds: u64) -> Result<Option<T
     Ok(None)
 }
 
-// A leg is made, and the answer comes once it has won or failed.
+// Makes a leg, and owes the answer until it has won or failed.
 #[tactic(auto, unfolding(crate::specs::Texts::too_many_jobs))]
 fn originate(
     draft: &mut Draft<'_>,
@@ -176,7 +191,9 @@ fn originate(
     timeout: Option<u64>,
 ) -> Result<Option<Txt>, Memory>
     ensures base { draft.new.base ≡ draft.old.base }
-    ensures done { IfOk result (λ answer. spec.originated conn url.now winner.now caller timeout (drafted draft.old) ≡ record { state = drafted draft.new; answer = answer }) }
+    ensures done { IfOk result
+        (spec.ComesTo (spec.originated conn url.now winner.now caller timeout (drafted draft.old))
+        (drafted draft.new)) }
 {
     let alloc = draft.alloc();
     if draft.is_full_of_jobs() {
@@ -192,15 +209,15 @@ fn originate(
 // ---- globals
 
 // The value of a global, or nothing; without a name all globals in order, a line each.
-fn get_global(alloc: Global, globals: &Vars, name: Option<&Txt>) -> Result<Txt, Memory>
-    ensures { IfOk result (λ t. t ≡ spec.got_global (option_copied name.entry) globals.now.pairs) }
+fn get_global(alloc: Global, globals: &Vars, name: Option<&Txt>) -> Result<Option<Txt>, Memory>
+    ensures { IfOk result (λ said. said ≡ Some (spec.got_global (option_copied name.entry) globals.now.pairs)) }
 {
     let Some(name) = name else {
-        return list(alloc, globals);
+        return Ok(Some(list(alloc, globals)?));
     };
     match globals.get(name.as_bytes()) {
-        Some(value) => value.copy(),
-        None => Txt::of(alloc, b""),
+        Some(value) => Ok(Some(value.copy()?)),
+        None => says(alloc, b""),
     }
 }
 
@@ -226,17 +243,17 @@ fn push_line(lines: &mut Vec<u8>, name: &[u8], value: &[u8]) -> Result<(), Memor
     Ok(())
 }
 
-// Sets a global, where no limit is passed.
+// Sets a global, and answers whether no limit is passed.
 #[tactic(auto, unfolding(crate::specs::Texts::ok, crate::specs::Texts::limit_passed))]
-fn set_global(draft: &mut Draft<'_>, name: &Txt, value: &Txt) -> Result<Txt, Memory>
+fn answer_set(draft: &mut Draft<'_>, name: &Txt, value: &Txt) -> Result<Option<Txt>, Memory>
     ensures base { draft.new.base ≡ draft.old.base }
-    ensures done { IfOk result (λ answer. spec.set_global name.now value.now (drafted draft.old) ≡ record { state = drafted draft.new; answer = Some answer }) }
+    ensures done { IfOk result
+        (spec.ComesTo (spec.set_global name.now value.now (drafted draft.old)) (drafted draft.new)) }
 {
     let alloc = draft.alloc();
-    let mut changed = draft.globals().copy()?;
-    if !changed.set(name.as_bytes(), value.as_bytes())? {
-        return Txt::of(alloc, b"-ERR variable limit passed\n");
+    if set_global(draft, name, value)? {
+        says(alloc, b"+OK\n")
+    } else {
+        says(alloc, b"-ERR variable limit passed\n")
     }
-    draft.set_globals(changed);
-    Txt::of(alloc, b"+OK\n")
 }

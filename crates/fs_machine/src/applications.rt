@@ -1,13 +1,14 @@
-ghost use Rattle.std.specs.Prelude.{◌≡◌, ◌≤◌, length, Some, None, MatchOption, IfOk, IfErr, OnOk};
-ghost use Rattle.fs_vars.specs.Outputs.{IsTextRefusal};
-ghost use Rattle.fs_chan.specs.Exports.{with_set};
-ghost use Rattle.fs_chan.specs.Work.{next_action, after_next};
+//! What applications do, and how a channel runs what is next.
+
+ghost use Rattle.std.specs.Prelude.{◌≡◌, IfOk, OnOk};
 ghost use Rattle.fs_state.specs.Drafts.{drafted};
-ghost use Rattle.fs_state.specs.Switch.{with_chan};
-ghost use Rattle.fs_state.specs.Moves.{after_move, with_state_events};
+ghost use Rattle.fs_state.specs.Moves.{after_move, after_answer, after_completion};
 ghost use Rattle.fs_app.specs.Applications.{IsShortApplication};
 ghost use Rattle.fs_machine.specs.Applications as spec;
+ghost use Rattle.fs_machine.specs.Channels.{changed_by};
 
+use crate::channels::{ChanChange, change_chan};
+use crate::globals::set_global;
 use fs_app::Application;
 use fs_chan::{Action, Chan};
 use fs_state::Draft;
@@ -20,64 +21,53 @@ pub(crate) fn run_next(draft: &mut Draft<'_>, slot: u16) -> Result<(), Memory>
     ensures base { draft.new.base ≡ draft.old.base }
     ensures ok { OnOk result (drafted draft.new ≡ spec.ran slot (drafted draft.old)) }
 {
-    let Some(chan) = draft.copy_chan(slot)? else {
+    let Some(chan) = draft.chan(slot) else {
         return Ok(());
     };
-    let state = chan.state;
-    match with_next(chan)? {
-        Some((chan, action)) => run_action(draft, slot, state, chan, action),
-        None => draft.hang_up(slot, Cause::NormalClearing),
-    }
-}
-
-// A channel with what it is to run next, which is used up, if there is anything.
-fn with_next(mut chan: Chan) -> Result<Option<(Chan, Action)>, Memory>
-    ensures { IfOk result (λ next. MatchOption next (next_action chan ≡ None) (λ taken. (next_action chan ≡ Some taken.1) × (taken.0 ≡ after_next chan))) }
-{
     let Some(action) = chan.next_action() else {
-        return Ok(None);
+        return draft.hang_up(slot, Cause::NormalClearing);
     };
-    let action = action.copy()?;
-    chan.pass_action();
-    Ok(Some((chan, action)))
+    let argument = argument_in(draft, chan, &action.argument)?;
+    let application = action.application.copy()?;
+    change_chan(draft, slot, ChanChange::Pass)?;
+    execute_within(draft, slot, application, argument)
 }
 
-// Runs an action that a channel has used up, which came there from a state.
-fn run_action(
-    draft: &mut Draft<'_>,
-    slot: u16,
-    state: State,
-    chan: Chan,
-    action: Action,
-) -> Result<(), Memory>
-    ensures base { draft.new.base ≡ draft.old.base }
-    ensures ok { OnOk result (drafted draft.new ≡ spec.executed_within action.application (spec.argument_in chan (drafted draft.old) action.argument) slot (with_state_events state chan.state (with_chan slot (Some chan) (drafted draft.old)))) }
-{
-    let argument = argument_in(draft, &chan, &action.argument);
-    draft.put_moved(slot, state, chan)?;
-    match argument {
-        Ok(argument) => execute(draft, slot, action.application, argument),
-        Err(Refused::TooLong { .. }) => draft.hang_up(slot, Cause::NormalTemporaryFailure),
-        Err(Refused::Memory) => Err(Memory),
-    }
-}
-
-// An argument, expanded over what a channel knows.
+// Expands an argument over what a channel knows, unless it gets too long.
 #[tactic(auto, unfolding(fs_vars::specs::Scopes::known_in))]
-fn argument_in(draft: &Draft<'_>, chan: &Chan, text: &Txt) -> Result<Txt, Refused>
-    ensures text { IfOk result (λ t. t ≡ spec.argument_in chan.now (drafted draft.now) text.now) }
-    ensures short { IfOk result (λ t. length t ≤ 65536) }
-    ensures refused { IfErr result (IsTextRefusal (spec.argument_in chan.now (drafted draft.now) text.now)) }
+fn argument_in(draft: &Draft<'_>, chan: &Chan, text: &Txt) -> Result<Option<Txt>, Memory>
+    ensures { IfOk result (λ found. found ≡ spec.argument_in chan.now (drafted draft.now) text.now) }
 {
     let scope = Scope {
         vars: &chan.vars,
         profile: &chan.profile,
         globals: draft.globals(),
     };
-    expand(draft.alloc(), &scope, text.as_bytes())
+    match expand(draft.alloc(), &scope, text.as_bytes()) {
+        Ok(argument) => Ok(Some(argument)),
+        Err(Refused::TooLong { .. }) => Ok(None),
+        Err(Refused::Memory) => Err(Memory),
+    }
 }
 
-// An application begins and has its effect.
+// Runs an application, unless its argument is too long.
+fn execute_within(
+    draft: &mut Draft<'_>,
+    slot: u16,
+    application: Txt,
+    argument: Option<Txt>,
+) -> Result<(), Memory>
+    ensures base { draft.new.base ≡ draft.old.base }
+    ensures ok { OnOk result
+        (drafted draft.new ≡ spec.executed_within application argument slot (drafted draft.old)) }
+{
+    match argument {
+        Some(argument) => execute(draft, slot, application, argument),
+        None => draft.hang_up(slot, Cause::NormalTemporaryFailure),
+    }
+}
+
+// Begins an application, and applies its effect.
 fn execute(draft: &mut Draft<'_>, slot: u16, application: Txt, argument: Txt) -> Result<(), Memory>
     ensures base { draft.new.base ≡ draft.old.base }
     ensures ok { OnOk result (drafted draft.new ≡ spec.executed application argument slot (drafted draft.old)) }
@@ -90,83 +80,64 @@ fn execute(draft: &mut Draft<'_>, slot: u16, application: Txt, argument: Txt) ->
             argument,
         },
     )?;
-    affect(draft, slot, &asked)
+    apply_effect(draft, slot, &asked)
 }
 
-// What an application does in a slot.
-fn affect(draft: &mut Draft<'_>, slot: u16, asked: &Application) -> Result<(), Memory>
+// Applies the effect of an application in a slot.
+fn apply_effect(draft: &mut Draft<'_>, slot: u16, asked: &Application) -> Result<(), Memory>
     requires { IsShortApplication asked.now }
     ensures base { draft.new.base ≡ draft.old.base }
     ensures ok { OnOk result (drafted draft.new ≡ spec.effect asked.now slot (drafted draft.old)) }
 {
     match asked {
-        Application::Answer => draft.answer(slot)?,
-        Application::Set { name, value } => set(draft, slot, name, value)?,
-        Application::Unset { name } => unset(draft, slot, name)?,
-        Application::Export { name, value } => export(draft, slot, name, value)?,
-        Application::SetGlobal { name, value } => set_global(draft, name, value)?,
-        Application::Eval => {}
-        Application::Sleep { milliseconds } => return sleep(draft, slot, *milliseconds),
-        Application::Hangup { cause } => return draft.hang_up(slot, *cause),
-        Application::Park => return park(draft, slot),
-        Application::Transfer { to } => return draft.transfer(slot, to.copy()?),
-        Application::Unknown => return draft.hang_up(slot, Cause::DestinationOutOfOrder),
+        Application::Answer => answer(draft, slot),
+        Application::Set { name, value } => change(draft, slot, ChanChange::Set { name, value }),
+        Application::Unset { name } => change(draft, slot, ChanChange::Unset { name }),
+        Application::Export { name, value } => change(
+            draft,
+            slot,
+            ChanChange::Export { name, value },
+        ),
+        Application::SetGlobal { name, value } => change_global(draft, slot, name, value),
+        Application::Eval => draft.complete(slot),
+        Application::Sleep { milliseconds } => sleep(draft, slot, *milliseconds),
+        Application::Hangup { cause } => draft.hang_up(slot, *cause),
+        Application::Park => park(draft, slot),
+        Application::Transfer { to } => draft.transfer(slot, to.copy()?),
+        Application::Unknown => draft.hang_up(slot, Cause::DestinationOutOfOrder),
     }
+}
+
+// Answers a channel, which goes on at once.
+fn answer(draft: &mut Draft<'_>, slot: u16) -> Result<(), Memory>
+    ensures base { draft.new.base ≡ draft.old.base }
+    ensures ok { OnOk result (drafted draft.new ≡ after_completion slot (after_answer slot (drafted draft.old))) }
+{
+    draft.answer(slot)?;
     draft.complete(slot)
 }
 
-// A variable is set, where no limit is passed.
-fn set(draft: &mut Draft<'_>, slot: u16, name: &Txt, value: &Txt) -> Result<(), Memory>
+// Changes a channel, which goes on at once.
+fn change(draft: &mut Draft<'_>, slot: u16, what: ChanChange<'_>) -> Result<(), Memory>
     ensures base { draft.new.base ≡ draft.old.base }
-    ensures ok { OnOk result (drafted draft.new ≡ after_move (spec.with_variable name.now value.now) slot (drafted draft.old)) }
+    ensures ok { OnOk result
+        (drafted draft.new ≡ after_completion slot (after_move (changed_by what.entry) slot (drafted draft.old))) }
 {
-    let Some(mut chan) = draft.own_chan(slot)? else {
-        return Ok(());
-    };
-    let state = chan.state;
-    let _set = chan.set(name.as_bytes(), value.as_bytes())?;
-    draft.put_moved(slot, state, chan)
+    change_chan(draft, slot, what)?;
+    draft.complete(slot)
 }
 
-// A variable is taken out.
-fn unset(draft: &mut Draft<'_>, slot: u16, name: &Txt) -> Result<(), Memory>
+// Sets a global, where no limit is passed; the channel goes on at once.
+fn change_global(draft: &mut Draft<'_>, slot: u16, name: &Txt, value: &Txt) -> Result<(), Memory>
     ensures base { draft.new.base ≡ draft.old.base }
-    ensures ok { OnOk result (drafted draft.new ≡ after_move (spec.without_variable name.now) slot (drafted draft.old)) }
+    ensures ok { OnOk result
+        (drafted draft.new ≡ after_completion slot (spec.with_global name.now value.now (drafted draft.old))) }
 {
-    let Some(mut chan) = draft.own_chan(slot)? else {
-        return Ok(());
-    };
-    let state = chan.state;
-    chan.unset(name.as_bytes());
-    draft.put_moved(slot, state, chan)
+    let _set = set_global(draft, name, value)?;
+    draft.complete(slot)
 }
 
-// A variable is set and exported, where no limit is passed.
-fn export(draft: &mut Draft<'_>, slot: u16, name: &Txt, value: &Txt) -> Result<(), Memory>
-    ensures base { draft.new.base ≡ draft.old.base }
-    ensures ok { OnOk result (drafted draft.new ≡ after_move (spec.with_export name.now value.now) slot (drafted draft.old)) }
-{
-    let Some(mut chan) = draft.own_chan(slot)? else {
-        return Ok(());
-    };
-    let state = chan.state;
-    let _set = chan.export(draft.alloc(), name.as_bytes(), value.as_bytes())?;
-    draft.put_moved(slot, state, chan)
-}
-
-// A global is set, where no limit is passed.
-fn set_global(draft: &mut Draft<'_>, name: &Txt, value: &Txt) -> Result<(), Memory>
-    ensures base { draft.new.base ≡ draft.old.base }
-    ensures ok { OnOk result (drafted draft.new ≡ record (drafted draft.old) { globals = with_set (drafted draft.old).globals name.now value.now }) }
-{
-    let mut globals = draft.globals().copy()?;
-    if globals.set(name.as_bytes(), value.as_bytes())? {
-        draft.set_globals(globals);
-    }
-    Ok(())
-}
-
-// A channel sleeps, unless the time is none.
+// Lets a channel sleep, unless the time is none.
 fn sleep(draft: &mut Draft<'_>, slot: u16, milliseconds: u64) -> Result<(), Memory>
     ensures base { draft.new.base ≡ draft.old.base }
     ensures ok { OnOk result (drafted draft.new ≡ spec.sleeping milliseconds slot (drafted draft.old)) }
@@ -175,15 +146,10 @@ fn sleep(draft: &mut Draft<'_>, slot: u16, milliseconds: u64) -> Result<(), Memo
         return draft.complete(slot);
     }
     let now = draft.moment();
-    let Some(mut chan) = draft.own_chan(slot)? else {
-        return Ok(());
-    };
-    let state = chan.state;
-    chan.sleep(now, milliseconds);
-    draft.put_moved(slot, state, chan)
+    change_chan(draft, slot, ChanChange::Sleep { now, milliseconds })
 }
 
-// A channel parks, unless it is parked.
+// Parks a channel, unless it is parked.
 fn park(draft: &mut Draft<'_>, slot: u16) -> Result<(), Memory>
     ensures base { draft.new.base ≡ draft.old.base }
     ensures ok { OnOk result (drafted draft.new ≡ spec.parking slot (drafted draft.old)) }

@@ -1,11 +1,11 @@
 //! Originations that jobs try: how they begin, and what comes of them.
 ghost use Rattle.std.specs.Prelude.{◌≡◌, slice_get, IfOk, OnOk};
-ghost use Rattle.fs_text.specs.declared.causes.Cause.TheVariants.{NoAnswer};
 ghost use Rattle.fs_state.specs.Drafts.{drafted};
-ghost use Rattle.fs_state.specs.Switch.{orig_of};
 ghost use Rattle.fs_machine.specs.Attempts as spec;
+ghost use Rattle.fs_machine.specs.Originations.{won};
 
-use crate::originations::{Caller, make_leg, win};
+use crate::channels::{ChanChange, change_chan};
+use crate::originations::{Caller, make_leg};
 use crate::owing::{begin_job, end_job};
 use crate::texts::{failed_text, made_text};
 use fs_api::Winner;
@@ -19,14 +19,14 @@ use std::alloc::Global;
 const DEFAULT_TIMEOUT: u64 = 60;
 
 /// An origination that a job tries, and the connection that is owed the reply.
-#[derive(Clone, Copy, Debug)]
+#[derive(Clone, Copy)]
 pub(crate) struct Attempt {
     pub(crate) job: u64,
     pub(crate) conn: u32,
     pub(crate) orig: u64,
 }
 
-/// An origination of one leg begins, to which the reply is owed.
+/// Begins an origination of one leg, to which the reply is owed.
 pub(crate) fn begin_originate(
     draft: &mut Draft<'_>,
     conn: u32,
@@ -36,7 +36,8 @@ pub(crate) fn begin_originate(
     timeout: Option<u64>,
 ) -> Result<(), Memory>
     ensures base { draft.new.base ≡ draft.old.base }
-    ensures ok { OnOk result (drafted draft.new ≡ spec.originate_begun conn url.now winner.now caller timeout (drafted draft.old)) }
+    ensures ok { OnOk result
+        (drafted draft.new ≡ spec.originate_begun conn url.now winner.now caller timeout (drafted draft.old)) }
 {
     let orig = draft.next_orig();
     let leg = make_leg(draft, url, caller, orig)?;
@@ -45,7 +46,7 @@ pub(crate) fn begin_originate(
     begin_job(draft, conn, JobWork::Originate { orig, winner })
 }
 
-// The origination of the next number begins: one leg is tried, until a deadline.
+// Begins the origination of the next number: one leg is tried, until a deadline.
 fn begin_orig(
     draft: &mut Draft<'_>,
     endpoint: Txt,
@@ -78,7 +79,7 @@ pub(crate) fn judge_attempt(
     winner: &Winner,
 ) -> Result<(), Memory>
     ensures base { draft.new.base ≡ draft.old.base }
-    ensures ok { OnOk result (drafted draft.new ≡ spec.after_verdict_from attempt winner.now (orig_of (drafted draft.old) attempt.orig) (drafted draft.old)) }
+    ensures ok { OnOk result (drafted draft.new ≡ spec.after_verdict_on attempt winner.now (drafted draft.old)) }
 {
     let Some(orig) = draft.orig(attempt.orig) else {
         return Ok(());
@@ -107,7 +108,7 @@ fn leg_at(orig: &Orig, position: usize) -> Result<Option<OrigLeg>, Memory>
     }
 }
 
-// A leg has won, if there is one.
+// Ends an origination that a leg has won, if there is one.
 fn win_attempt(
     draft: &mut Draft<'_>,
     attempt: Attempt,
@@ -120,29 +121,45 @@ fn win_attempt(
     let Some(leg) = leg else {
         return Ok(());
     };
-    win(draft, leg.slot.unwrap_or(0), winner)?;
-    draft.drop_orig(attempt.orig)?;
     let answer = made_text(draft.alloc(), leg.uuid.as_bytes())?;
-    end_job(draft, attempt.job, attempt.conn, answer.as_bytes())
+    win(draft, leg.slot.unwrap_or(0), winner)?;
+    end_attempt(draft, attempt, answer.as_bytes())
 }
 
-// An origination comes to its deadline: its legs in these slots are hung up.
+// Lets the leg in a slot run its application, or be routed.
+#[tactic(auto, unfolding(crate::specs::Originations::won))]
+fn win(draft: &mut Draft<'_>, slot: u16, winner: &Winner) -> Result<(), Memory>
+    ensures base { draft.new.base ≡ draft.old.base }
+    ensures ok { OnOk result (drafted draft.new ≡ won winner.now slot (drafted draft.old)) }
+{
+    change_chan(draft, slot, ChanChange::Win { winner })
+}
+
+// Ends an origination at its deadline: its legs in these slots are hung up.
 fn expire(draft: &mut Draft<'_>, attempt: Attempt, slots: &[u16]) -> Result<(), Memory>
     ensures base { draft.new.base ≡ draft.old.base }
-    ensures ok { OnOk result (drafted draft.new ≡ spec.failed attempt NoAnswer (spec.all_hung NoAnswer slots.now (drafted draft.old))) }
+    ensures ok { OnOk result (drafted draft.new ≡ spec.after_deadline attempt slots.now (drafted draft.old)) }
 {
     hang_up_all(draft, slots, Cause::NoAnswer)?;
     fail(draft, attempt, Cause::NoAnswer)
 }
 
-// An origination has failed.
+// Ends an origination that has failed.
 fn fail(draft: &mut Draft<'_>, attempt: Attempt, cause: Cause) -> Result<(), Memory>
     ensures base { draft.new.base ≡ draft.old.base }
     ensures ok { OnOk result (drafted draft.new ≡ spec.failed attempt cause (drafted draft.old)) }
 {
-    draft.drop_orig(attempt.orig)?;
     let answer = failed_text(draft.alloc(), cause)?;
-    end_job(draft, attempt.job, attempt.conn, answer.as_bytes())
+    end_attempt(draft, attempt, answer.as_bytes())
+}
+
+// Ends an origination and its job with an answer.
+fn end_attempt(draft: &mut Draft<'_>, attempt: Attempt, answer: &[u8]) -> Result<(), Memory>
+    ensures base { draft.new.base ≡ draft.old.base }
+    ensures ok { OnOk result (drafted draft.new ≡ spec.after_attempt attempt answer.now (drafted draft.old)) }
+{
+    draft.drop_orig(attempt.orig)?;
+    end_job(draft, attempt.job, attempt.conn, answer)
 }
 
 // The slots of the legs of an origination that live.
@@ -166,7 +183,7 @@ fn living_slot(leg: &OrigLeg) -> Option<u16>
     if leg.lives() { leg.slot } else { None }
 }
 
-// The channels in these slots are hung up, one after another.
+// Hangs up the channels in these slots, one after another.
 fn hang_up_all(draft: &mut Draft<'_>, slots: &[u16], cause: Cause) -> Result<(), Memory>
     ensures base { draft.new.base ≡ draft.old.base }
     ensures ok { OnOk result (drafted draft.new ≡ spec.all_hung cause slots.now (drafted draft.old)) }

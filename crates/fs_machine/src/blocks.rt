@@ -1,3 +1,5 @@
+//! The command line of a block.
+
 ghost use Rattle.std.specs.Prelude.{◌≡◌, ◌<◌, [], length, if◌then◌else◌, MatchOption, IfSome};
 ghost use Rattle.fs_frame.specs.Block as spec;
 
@@ -22,7 +24,8 @@ pub(crate) fn line_of(block: &[u8]) -> &[u8]
 #[tactic(auto, using(crate::proofs::WordLemmas::word_rules))]
 fn cut_line(bytes: &[u8]) -> Option<(&[u8], &[u8])>
     ensures line { MatchOption result (spec.first_text (spec.lines_of bytes.now) ≡ [])
-        (λ cut. spec.first_text (spec.lines_of bytes.now) ≡ (if spec.has_bytes cut.0.now then cut.0.now else spec.first_text (spec.lines_of cut.1.now))) }
+        (λ cut. spec.first_text (spec.lines_of bytes.now)
+        ≡ (if spec.has_bytes cut.0.now then cut.0.now else spec.first_text (spec.lines_of cut.1.now))) }
     ensures shorter { IfSome result (λ cut. length cut.1.now < length bytes.now) }
 {
     let (line, behind) = bytes.split_at(place_of(b'\n', bytes));

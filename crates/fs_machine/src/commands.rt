@@ -1,3 +1,5 @@
+//! How a command line is read, and what the commands do.
+
 ghost use Rattle.std.specs.Prelude.{◌≡◌, OnOk};
 ghost use Rattle.std.specs.Str.{bytes_eq};
 ghost use Rattle.fs_api.specs.Readings.{api_of};
@@ -14,7 +16,7 @@ use fs_state::{Draft, Parting, Phase};
 use fs_text::{Memory, Txt};
 
 /// A command of the event socket, lent from its line.
-#[derive(Clone, Copy, Debug)]
+#[derive(Clone, Copy)]
 pub(crate) enum Command<'a> {
     /// A password is offered.
     Auth { password: &'a [u8] },
@@ -54,14 +56,14 @@ pub(crate) fn do_command(
 {
     match (phase_at(draft, conn), command) {
         (Phase::Ending | Phase::Closed, _) => Ok(()),
-        (_, Command::Exit) => dismiss(draft, conn, Parting::Exit, b"+OK bye"),
-        (Phase::Fresh, Command::Auth { password }) => offer(draft, conn, password),
+        (_, Command::Exit) => begin_ending(draft, conn, Parting::Exit, b"+OK bye"),
+        (Phase::Fresh, Command::Auth { password }) => authenticate(draft, conn, password),
         (Phase::Ready, Command::Api { text }) => respond(draft, conn, text),
         _ => reply(draft, conn, b"-ERR command not found"),
     }
 }
 
-// A reply.
+// Replies to a command.
 fn reply(draft: &mut Draft<'_>, conn: u32, text: &[u8]) -> Result<(), Memory>
     ensures base { draft.new.base ≡ draft.old.base }
     ensures ok { OnOk result (drafted draft.new ≡ spec.replied conn text.now (drafted draft.old)) }
@@ -70,8 +72,8 @@ fn reply(draft: &mut Draft<'_>, conn: u32, text: &[u8]) -> Result<(), Memory>
     draft.give(conn, frame)
 }
 
-// A last reply, and the notice.
-fn dismiss(draft: &mut Draft<'_>, conn: u32, why: Parting, text: &[u8]) -> Result<(), Memory>
+// Begins the end of a connection, with a last reply and the notice.
+fn begin_ending(draft: &mut Draft<'_>, conn: u32, why: Parting, text: &[u8]) -> Result<(), Memory>
     ensures base { draft.new.base ≡ draft.old.base }
     ensures ok { OnOk result (drafted draft.new ≡ spec.dismissed conn why text.now (drafted draft.old)) }
 {
@@ -81,14 +83,14 @@ fn dismiss(draft: &mut Draft<'_>, conn: u32, why: Parting, text: &[u8]) -> Resul
     draft.give(conn, frame)
 }
 
-// A password is offered.
+// Judges the password that is offered.
 #[tactic(auto, unfolding(crate::specs::Texts::accepted, crate::specs::Texts::invalid))]
-fn offer(draft: &mut Draft<'_>, conn: u32, given: &[u8]) -> Result<(), Memory>
+fn authenticate(draft: &mut Draft<'_>, conn: u32, given: &[u8]) -> Result<(), Memory>
     ensures base { draft.new.base ≡ draft.old.base }
     ensures ok { OnOk result (drafted draft.new ≡ spec.offered conn given.now (drafted draft.old)) }
 {
     if !is_password(draft, given) {
-        return dismiss(draft, conn, Parting::AuthRefused, b"-ERR invalid");
+        return begin_ending(draft, conn, Parting::AuthRefused, b"-ERR invalid");
     }
     admit(draft, conn)?;
     reply(draft, conn, b"+OK accepted")
@@ -101,10 +103,11 @@ fn is_password(draft: &Draft<'_>, given: &[u8]) -> bool
     given == draft.config().settings().password.as_bytes()
 }
 
-// An api command is run, and answered, unless the answer is owed.
+// Runs an api command, and answers it, unless the answer is owed.
 fn respond(draft: &mut Draft<'_>, conn: u32, text: &[u8]) -> Result<(), Memory>
     ensures base { draft.new.base ≡ draft.old.base }
-    ensures ok { OnOk result (drafted draft.new ≡ spec.responded conn (done_by conn (api_of text.now) (drafted draft.old))) }
+    ensures ok { OnOk result
+        (drafted draft.new ≡ spec.responded conn (done_by conn (api_of text.now) (drafted draft.old))) }
 {
     let alloc = draft.alloc();
     let api = Api::of(alloc, text)?;

@@ -1,3 +1,5 @@
+//! Connections, and how they change.
+
 ghost use Rattle.std.specs.Prelude.{◌≡◌, OnOk};
 ghost use Rattle.std.specs.Option.{option_copied};
 ghost use Rattle.fs_state.specs.Drafts.{drafted};
@@ -23,7 +25,7 @@ pub(crate) fn phase_at(draft: &Draft<'_>, conn: u32) -> Phase
     phase_of(draft.conn(conn))
 }
 
-/// A connection gives no further command, if it is there.
+/// Takes no further command of a connection, if it is there.
 pub(crate) fn part(draft: &mut Draft<'_>, conn: u32, why: Parting) -> Result<(), Memory>
     ensures base { draft.new.base ≡ draft.old.base }
     ensures ok { OnOk result (drafted draft.new ≡ spec.conn_changed (spec.parted why) conn (drafted draft.old)) }
@@ -39,7 +41,7 @@ pub(crate) fn part(draft: &mut Draft<'_>, conn: u32, why: Parting) -> Result<(),
     draft.set_conn(conn, parted)
 }
 
-/// A connection may give all commands, if it is there.
+/// Lets a connection give all commands, if it is there.
 pub(crate) fn admit(draft: &mut Draft<'_>, conn: u32) -> Result<(), Memory>
     ensures base { draft.new.base ≡ draft.old.base }
     ensures ok { OnOk result (drafted draft.new ≡ spec.conn_changed spec.admitted conn (drafted draft.old)) }
@@ -54,7 +56,7 @@ pub(crate) fn admit(draft: &mut Draft<'_>, conn: u32) -> Result<(), Memory>
     draft.set_conn(conn, admitted)
 }
 
-/// A connection is owed the reply to the command at a place, if it is there.
+/// Notes that a connection is owed the reply to the command at a place, if it is there.
 pub(crate) fn owe(draft: &mut Draft<'_>, conn: u32, place: u64) -> Result<(), Memory>
     ensures base { draft.new.base ≡ draft.old.base }
     ensures ok { OnOk result (drafted draft.new ≡ spec.conn_changed (spec.owed_since place) conn (drafted draft.old)) }
@@ -69,7 +71,7 @@ pub(crate) fn owe(draft: &mut Draft<'_>, conn: u32, place: u64) -> Result<(), Me
     draft.set_conn(conn, owed)
 }
 
-/// A connection is owed no reply any more, if it is there.
+/// Notes that a connection is owed no reply any more, if it is there.
 pub(crate) fn settle(draft: &mut Draft<'_>, conn: u32) -> Result<(), Memory>
     ensures base { draft.new.base ≡ draft.old.base }
     ensures ok { OnOk result (drafted draft.new ≡ spec.conn_changed spec.not_owed conn (drafted draft.old)) }

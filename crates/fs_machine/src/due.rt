@@ -1,3 +1,5 @@
+//! When channels and jobs have something to do by themselves.
+
 ghost use Rattle.std.specs.Prelude.{◌≡◌};
 ghost use Rattle.std.specs.Option.{option_copied};
 ghost use Rattle.fs_chan.specs.Work as chan;

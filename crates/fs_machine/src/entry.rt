@@ -1,3 +1,5 @@
+//! The entries of the journal, and what each costs.
+
 ghost use Rattle.std.specs.Prelude.{◌≡◌, ◌<◌, ◌+◌, ◌^◌, IfOk};
 ghost use Rattle.fs_machine.specs.Entries.{cost_of};
 
@@ -62,7 +64,7 @@ impl Act {
         }
     }
 
-    /// The same act once more.
+    /// Copies the act.
     pub fn copy(&self) -> Result<Act, Memory>
         ensures { IfOk result (λ act. act ≡ self.now) }
     {
@@ -84,7 +86,7 @@ impl Act {
 }
 
 impl Entry {
-    /// The same entry once more.
+    /// Copies the entry.
     pub fn copy(&self) -> Result<Entry, Memory>
         ensures { IfOk result (λ entry. entry ≡ self.now) }
     {

@@ -9,7 +9,7 @@ use fs_chan::moment_after;
 use fs_state::{Draft, JobWork};
 use fs_text::Memory;
 
-/// A connection is to wait so many milliseconds for its reply.
+/// Lets a connection wait so many milliseconds for its reply.
 pub(crate) fn begin_sleep(draft: &mut Draft<'_>, conn: u32, milliseconds: u64) -> Result<(), Memory>
     ensures base { draft.new.base ≡ draft.old.base }
     ensures ok { OnOk result (drafted draft.new ≡ spec.sleep_begun conn milliseconds (drafted draft.old)) }

@@ -1,3 +1,5 @@
+//! The journal: the list of entries.
+
 ghost use Rattle.std.specs.Prelude.{◌≡◌, ◌≤◌, [], ◌∷◌, ◌++◌, OnOk, OnErr};
 
 use crate::entry::Entry;

@@ -1,12 +1,12 @@
-ghost use Rattle.std.specs.Prelude.{◌≡◌, ◌≢◌, ◌≤◌, [], ◌∷◌, ◌++◌, ◌+◌, ◌-◌, ◌^◌, min, false, Some, None, IfOk, IfErr, OnOk};
+//! A switch with the journal of its entries: an entry is judged and prepared, and then done.
+
+ghost use Rattle.std.specs.Prelude.{◌≡◌, ◌≤◌, [], ◌∷◌, ◌++◌, false, None, IfOk, IfErr, OnOk};
 ghost use Rattle.fs_doc.specs.Limits.{IsWithin};
 ghost use Rattle.fs_state.specs.declared.delta.QueueChange.TheVariants.{Unchanged};
 ghost use Rattle.fs_state.specs.Drafts.{after, drafted, Fits};
 ghost use Rattle.fs_state.specs.Switch.{empty};
-ghost use Rattle.fs_machine.specs.declared.refusal.Refusal.{Refusal};
-ghost use Rattle.fs_machine.specs.declared.refusal.Refusal.TheVariants as refusal;
-ghost use Rattle.fs_machine.specs.Entries.{cost_of, is_full};
-ghost use Rattle.fs_machine.specs.Step.{act_done, step, refusal_of};
+ghost use Rattle.fs_machine.specs.Entries.{is_full, HasRoomWithin, cost_with};
+ghost use Rattle.fs_machine.specs.Step.{act_done, step, refusal_of, IsRefusedFor, ComesTo};
 ghost use Rattle.fs_machine.specs.Runs as spec;
 ghost use Rattle.fs_machine.specs.Sound.{IsSound};
 
@@ -28,8 +28,8 @@ const LARGEST_COST: u64 = 65_600;
 
 /// A switch with the journal of its entries.
 ///
-/// A contract sees what it was configured by, its journal, and for how many entries there is room; its state is what the entries make
-/// of the empty switch.
+/// A contract sees what it was configured by, its journal, and for how many entries there is room; its state is what
+/// the entries make of the empty switch.
 pub struct Machine {
     pub(crate) core: Core,
     plan: Dialplan,
@@ -86,7 +86,9 @@ impl Model for Machine {
 
     ghost view = { λ m. record { config = m.core.config; journal = m.journal.entries; spare = m.journal.spare } };
 
-    ghost invariant = { λ m. StandsFor m.core.config m.core m.journal.entries × (m.plan ≡ m.core.config.contexts) × IsWithin m.core.config };
+    ghost invariant = { λ m. StandsFor m.core.config m.core m.journal.entries
+        × (m.plan ≡ m.core.config.contexts)
+        × IsWithin m.core.config };
 }
 
 impl Machine {
@@ -104,7 +106,8 @@ impl Machine {
         })
     }
 
-    /// What holds of the state of every machine, and of what it was configured by. It does nothing, and stands for its contract.
+    /// What holds of the state of every machine, and of what it was configured by. It does nothing, and stands for
+    /// its contract.
     pub fn sound(&self)
         ensures state { IsSound (spec.state_of self.now) }
         ensures config { IsWithin self.now.config }
@@ -134,9 +137,9 @@ impl Machine {
     /// Judges an entry, and prepares what it changes. All memory is taken here; nothing changes but the room.
     pub fn prepare(&mut self, asked: &Entry) -> Result<Change, Refusal>
         ensures same { spec.IsSame self.old self.new }
-        ensures refused { IfErr result (λ r. r ≢ refusal.Memory → refusal_of (spec.state_of self.old) asked.entry.now ≡ Some r) }
-        ensures free { OnOk result ((spec.state_of self.old).cost + 65600 ≤ min self.old.config.settings.journal_limit (2 ^ 64 - 1)) }
-        ensures prepared { IfOk result (λ change. (change.entry ≡ asked.entry.now) × spec.IsPrepared (spec.state_of self.old) change.entry change.delta change.reply) }
+        ensures refused { IfErr result (IsRefusedFor (spec.state_of self.old) asked.entry.now) }
+        ensures free { OnOk result (HasRoomWithin self.old.config.settings.journal_limit (spec.state_of self.old)) }
+        ensures prepared { IfOk result (spec.Changes (spec.state_of self.old) asked.entry.now) }
         ensures room { IfOk result (λ change. 1 ≤ self.new.spare) }
     {
         let change = plan(&self.core, &self.plan, asked)?;
@@ -151,7 +154,7 @@ impl Machine {
         ensures config { self.new.config ≡ self.old.config }
         ensures journal { self.new.journal ≡ self.old.journal ++ change.entry ∷ [] }
         ensures reply { result ≡ (step (spec.state_of self.old) change.entry).reply }
-        ensures cost { (spec.state_of self.new).cost ≡ min ((spec.state_of self.old).cost + cost_of change.entry.act) (2 ^ 64 - 1) }
+        ensures cost { (spec.state_of self.new).cost ≡ cost_with change.entry.act (spec.state_of self.old) }
     {
         let (entry, delta, reply) = change.into_parts();
         self.core.apply(delta, entry.act.cost());
@@ -162,13 +165,14 @@ impl Machine {
     /// Enters an entry: prepares it, and does it.
     pub fn step(&mut self, entry: &Entry) -> Result<Reply, Refusal>
         ensures refused { IfErr result (λ r. spec.IsSame self.old self.new) }
-        ensures cause { IfErr result (λ r. r ≢ refusal.Memory → refusal_of (spec.state_of self.old) entry.entry.now ≡ Some r) }
+        ensures cause { IfErr result (IsRefusedFor (spec.state_of self.old) entry.entry.now) }
         ensures config { self.new.config ≡ self.old.config }
         ensures journal { OnOk result (self.new.journal ≡ self.old.journal ++ entry.entry.now ∷ []) }
         ensures reply { IfOk result (λ reply. reply ≡ (step (spec.state_of self.old) entry.entry.now).reply) }
         ensures defined { OnOk result (refusal_of (spec.state_of self.old) entry.entry.now ≡ None) }
-        ensures free { OnOk result ((spec.state_of self.old).cost + 65600 ≤ min self.old.config.settings.journal_limit (2 ^ 64 - 1)) }
-        ensures cost { OnOk result ((spec.state_of self.new).cost ≡ min ((spec.state_of self.old).cost + cost_of entry.entry.now.act) (2 ^ 64 - 1)) }
+        ensures free { OnOk result (HasRoomWithin self.old.config.settings.journal_limit (spec.state_of self.old)) }
+        ensures cost { OnOk result
+            ((spec.state_of self.new).cost ≡ cost_with entry.entry.now.act (spec.state_of self.old)) }
     {
         let change = self.prepare(entry)?;
         Ok(self.apply(change))
@@ -179,9 +183,10 @@ impl Machine {
 #[tactic(auto, unfolding(crate::specs::Step::step, crate::specs::Step::refusal_of))]
 fn plan(core: &Core, plan: &Dialplan, asked: &Entry) -> Result<Change, Refusal>
     requires { plan.now ≡ core.now.config.contexts }
-    ensures refused { IfErr result (λ r. r ≢ refusal.Memory → refusal_of core.now asked.entry.now ≡ Some r) }
-    ensures free { OnOk result (core.now.cost + 65600 ≤ min core.now.config.settings.journal_limit (2 ^ 64 - 1)) }
-    ensures planned { IfOk result (λ change. (change.entry ≡ asked.entry.now) × spec.IsPrepared core.now asked.entry.now change.delta change.reply) }
+    ensures refused { IfErr result (IsRefusedFor core.now asked.entry.now) }
+    ensures free { OnOk result (HasRoomWithin core.now.config.settings.journal_limit core.now) }
+    ensures planned { IfOk result (λ change. (change.entry ≡ asked.entry.now)
+        × spec.IsPrepared core.now asked.entry.now change.delta change.reply) }
 {
     if is_full(core) {
         let limit = core.config().settings().journal_limit;
@@ -201,7 +206,8 @@ fn change_by(mut draft: Draft<'_>, plan: &Dialplan, asked: &Entry) -> Result<Cha
     requires queue { draft.delta.queue ≡ Unchanged }
     requires plan { plan.now ≡ draft.base.config.contexts }
     ensures entry { IfOk result (λ change. change.entry ≡ asked.entry.now) }
-    ensures acted { IfOk result (λ change. act_done asked.entry.now.act (drafted draft.entry) ≡ record { state = after draft.entry.base change.delta; reply = change.reply }) }
+    ensures acted { IfOk result (λ change.
+        ComesTo (act_done asked.entry.now.act (drafted draft.entry)) (after draft.entry.base change.delta) change.reply) }
     ensures fits { IfOk result (λ change. Fits draft.entry.base change.delta) }
 {
     let reply = do_act(&mut draft, plan, &asked.act)?;
@@ -216,7 +222,7 @@ fn change_by(mut draft: Draft<'_>, plan: &Dialplan, asked: &Entry) -> Result<Cha
 // Whether the largest entry would pass the limit of the journal.
 fn is_full(core: &Core) -> bool
     ensures exact { result ≡ is_full core.now }
-    ensures free { result ≡ false → core.now.cost + 65600 ≤ min core.now.config.settings.journal_limit (2 ^ 64 - 1) }
+    ensures free { result ≡ false → HasRoomWithin core.now.config.settings.journal_limit core.now }
 {
     let limit = core.config().settings().journal_limit;
     limit < LARGEST_COST || core.cost() > limit - LARGEST_COST

@@ -1,3 +1,5 @@
+//! How the legs of an origination are made, and what a leg does that has won.
+
 ghost use Rattle.std.specs.Prelude.{◌≡◌, ◌+◌, [], ◌∷◌, Some, IfOk, OnOk};
 ghost use Rattle.fs_chan.specs.Changes.{IsShortTarget};
 ghost use Rattle.fs_state.specs.Drafts.{drafted};
@@ -40,7 +42,7 @@ impl Drop for Call {
 }
 
 // One end of a pair of channels.
-#[derive(Clone, Copy, Debug)]
+#[derive(Clone, Copy)]
 pub(crate) struct End {
     pub(crate) direction: Direction,
     pub(crate) slot: u16,
@@ -59,7 +61,8 @@ pub(crate) fn make_leg(
     orig: u64,
 ) -> Result<OrigLeg, Memory>
     ensures base { draft.new.base ≡ draft.old.base }
-    ensures made { IfOk result (λ leg. spec.leg_made endpoint.now caller orig (drafted draft.old) ≡ record { state = drafted draft.new; leg = leg }) }
+    ensures made { IfOk result
+        (spec.ComesTo (spec.leg_made endpoint.now caller orig (drafted draft.old)) (drafted draft.new)) }
 {
     let alloc = draft.alloc();
     match Endpoint::of(alloc, endpoint.as_bytes())? {
@@ -78,7 +81,8 @@ pub(crate) fn make_leg(
 // Makes a leg over the loopback.
 fn make_loopback(draft: &mut Draft<'_>, call: &Call, orig: u64) -> Result<OrigLeg, Memory>
     ensures base { draft.new.base ≡ draft.old.base }
-    ensures made { IfOk result (λ leg. spec.loopback_made call.now orig (drafted draft.old) ≡ record { state = drafted draft.new; leg = leg }) }
+    ensures made { IfOk result
+        (spec.ComesTo (spec.loopback_made call.now orig (drafted draft.old)) (drafted draft.new)) }
 {
     match free_pair(draft) {
         Some((leg, far)) if !is_congested(draft) => make_pair(draft, call, orig, leg, far),
@@ -123,7 +127,8 @@ fn make_pair(
     far: u16,
 ) -> Result<OrigLeg, Memory>
     ensures base { draft.new.base ≡ draft.old.base }
-    ensures made { IfOk result (λ made. spec.made_in call.now orig (Some (leg, far)) (drafted draft.old) ≡ record { state = drafted draft.new; leg = made }) }
+    ensures made { IfOk result
+        (spec.ComesTo (spec.made_in call.now orig (Some (leg, far)) (drafted draft.old)) (drafted draft.new)) }
 {
     let leg_end = End {
         direction: Direction::Outbound,
@@ -218,23 +223,9 @@ fn cut(alloc: Global, text: &Txt) -> Result<Txt, Memory>
 
 // ---- a leg that has won
 
-/// The leg in a slot has won: it runs its application, or is routed.
-#[tactic(auto, unfolding(crate::specs::Originations::won))]
-pub(crate) fn win(draft: &mut Draft<'_>, slot: u16, winner: &Winner) -> Result<(), Memory>
-    ensures base { draft.new.base ≡ draft.old.base }
-    ensures ok { OnOk result (drafted draft.new ≡ spec.won winner.now slot (drafted draft.old)) }
-{
-    let Some(chan) = draft.copy_chan(slot)? else {
-        return Ok(());
-    };
-    let state = chan.state;
-    let chan = won_by(draft.alloc(), chan, winner)?;
-    draft.put_moved(slot, state, chan)
-}
-
-// A channel that has won is no leg any more: it has one thing to run, or is to be routed.
-fn won_by(alloc: Global, mut chan: Chan, winner: &Winner) -> Result<Chan, Memory>
-    ensures { IfOk result (λ won. won ≡ spec.won_by winner.now chan) }
+/// Makes of a leg that has won a channel with one thing to run, or one that is to be routed.
+pub(crate) fn win_by(alloc: Global, chan: &mut Chan, winner: &Winner) -> Result<(), Memory>
+    ensures { OnOk result (chan.new ≡ spec.won_by winner.now chan.old) }
 {
     chan.leg_of = None;
     match winner {
@@ -248,7 +239,7 @@ fn won_by(alloc: Global, mut chan: Chan, winner: &Winner) -> Result<Chan, Memory
         }
         Winner::Route(route) => chan.transfer(target_of(route.copy()?)),
     }
-    Ok(chan)
+    Ok(())
 }
 
 // One action alone.

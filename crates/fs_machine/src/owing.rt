@@ -8,7 +8,7 @@ use crate::texts::speak;
 use fs_state::{Draft, Job, JobWork};
 use fs_text::Memory;
 
-/// A job begins, and the reply to the command in hand is owed until it ends.
+/// Begins a job, and owes the reply to the command in hand until it ends.
 pub(crate) fn begin_job(draft: &mut Draft<'_>, conn: u32, work: JobWork) -> Result<(), Memory>
     ensures base { draft.new.base ≡ draft.old.base }
     ensures ok { OnOk result (drafted draft.new ≡ spec.after_job_begin conn work (drafted draft.old)) }
@@ -18,7 +18,7 @@ pub(crate) fn begin_job(draft: &mut Draft<'_>, conn: u32, work: JobWork) -> Resu
     owe(draft, conn, place)
 }
 
-/// A job ends, and the reply is given.
+/// Ends a job, and gives the reply.
 pub(crate) fn end_job(
     draft: &mut Draft<'_>,
     number: u64,

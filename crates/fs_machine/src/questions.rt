@@ -1,15 +1,12 @@
+//! What is asked of a machine, and of a draft.
+
 ghost use Rattle.std.specs.Prelude.{◌≡◌, ◌<◌, ℕ, length, is_some};
-ghost use Rattle.fs_text.specs.declared.causes.Cause.{Cause};
-ghost use Rattle.fs_text.specs.declared.event_names.EventName.{EventName};
-ghost use Rattle.fs_text.specs.Cause.{cause_number};
-ghost use Rattle.fs_text.specs.EventName.{event_number};
-ghost use Rattle.fs_state.specs.Counts.{counted_at, events_named, hangups_for};
 ghost use Rattle.fs_state.specs.Drafts.{drafted};
 ghost use Rattle.fs_state.specs.Switch.{chan_at, waiting_for, at_moment};
 ghost use Rattle.fs_machine.specs.declared.due.DueActor.TheVariants as actor;
 ghost use Rattle.fs_machine.specs.Connections as connections;
 ghost use Rattle.fs_machine.specs.Due as due;
-ghost use Rattle.fs_machine.specs.Events.{happened, events_of};
+ghost use Rattle.fs_machine.specs.Events.{happened, events_of, CountsEvents, CountsHangups};
 ghost use Rattle.fs_machine.specs.Questions as spec;
 ghost use Rattle.fs_machine.specs.Runs.{state_of};
 
@@ -19,7 +16,8 @@ use crate::machine::Machine;
 use fs_state::{Core, Counts, Draft, Parting, Phase};
 
 impl Machine {
-    /// The least slot, or else the least job, that has something to do by itself at a moment, or the next moment at which one has.
+    /// The least slot, or else the least job, that has something to do by itself at a moment, or the next moment at
+    /// which one has.
     ///
     /// A moment before the last entry's counts as that one.
     #[tactic(auto, unfolding(crate::specs::Due::next_due))]
@@ -101,8 +99,8 @@ impl Machine {
     #[tactic(auto, using(crate::proofs::EventLemmas::counts_events, crate::proofs::EventLemmas::counts_causes))]
     pub fn counts(&self) -> &Counts
         ensures state { result.now ≡ (state_of self.now).counts }
-        ensures events { (name : EventName) → counted_at result.now.events (event_number name) ≡ events_named name (events_of (happened self.now)) }
-        ensures hangups { (cause : Cause) → counted_at result.now.hangups (cause_number cause) ≡ hangups_for cause (events_of (happened self.now)) }
+        ensures events { CountsEvents result.now (events_of (happened self.now)) }
+        ensures hangups { CountsHangups result.now (events_of (happened self.now)) }
     {
         self.core.counts()
     }
@@ -147,6 +145,13 @@ impl Machine {
     {
         self.core.waiting(conn)
     }
+}
+
+/// The place of the command to which a connection is still owed the reply.
+pub(crate) fn owed_to(draft: &Draft<'_>, conn: u32) -> Option<u64>
+    ensures { result ≡ spec.owed_to (drafted draft.now) conn }
+{
+    draft.conn(conn)?.owed
 }
 
 // How many slots hold a channel.

@@ -1,3 +1,5 @@
+//! Why entries are refused.
+
 ghost use Rattle.std.specs.Prelude.{◌≡◌};
 ghost use Rattle.fs_machine.specs.declared.refusal.Refusal.TheVariants as refusal;
 
@@ -18,7 +20,8 @@ pub enum Refusal {
     Empty,
     /// The connection is not ending, or is still to be sent something.
     Unsent { queued: u64, owed: bool },
-    /// The channel or the job has nothing to do by itself before this moment, in microseconds, or unless others bring something.
+    /// The channel or the job has nothing to do by itself before this moment, in microseconds, or unless others bring
+    /// something.
     NotDue { next: Option<u64> },
     /// There was no memory.
     Memory,

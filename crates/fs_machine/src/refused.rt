@@ -1,15 +1,15 @@
-ghost use Rattle.std.specs.Prelude.{◌≡◌, None, length, is_some};
+//! Which acts are refused.
+
+ghost use Rattle.std.specs.Prelude.{◌≡◌};
 ghost use Rattle.fs_state.specs.declared.delta.QueueChange.TheVariants.{Unchanged};
 ghost use Rattle.fs_state.specs.Drafts.{drafted};
-ghost use Rattle.fs_state.specs.Switch.{waiting_for};
 ghost use Rattle.fs_machine.specs.declared.entry.Act.TheVariants as act;
-ghost use Rattle.fs_machine.specs.declared.refusal.Refusal.TheVariants as refusal;
-ghost use Rattle.fs_machine.specs.Questions as questions;
 ghost use Rattle.fs_machine.specs.Step as spec;
 
 use crate::connections::phase_at;
 use crate::due::{job_due, slot_due};
 use crate::entry::{Act, Closing};
+use crate::questions::owed_to;
 use crate::refusal::Refusal;
 use fs_chan::Due;
 use fs_state::{Draft, Phase};
@@ -79,7 +79,7 @@ fn refused_close(draft: &Draft<'_>, conn: u32, how: Closing) -> Option<Refusal>
 // That a connection is still to be sent something, or may give commands, if so.
 fn unsent(draft: &Draft<'_>, conn: u32) -> Option<Refusal>
     requires { draft.now.delta.queue ≡ Unchanged }
-    ensures { result ≡ spec.refused_where (spec.is_unsent (drafted draft.now) conn) (refusal.Unsent (length (waiting_for (drafted draft.now) conn)) (is_some (questions.owed_to (drafted draft.now) conn))) None }
+    ensures { result ≡ spec.refused_unsent conn (drafted draft.now) }
 {
     let queued = draft.waiting(conn) as u64;
     let owed = owed_to(draft, conn).is_some();
@@ -105,11 +105,4 @@ fn reads(phase: Phase) -> bool
     ensures { result ≡ spec.reads phase }
 {
     matches!(phase, Phase::Fresh | Phase::Ready)
-}
-
-/// The place of the command to which a connection is still owed the reply.
-pub(crate) fn owed_to(draft: &Draft<'_>, conn: u32) -> Option<u64>
-    ensures { result ≡ questions.owed_to (drafted draft.now) conn }
-{
-    draft.conn(conn)?.owed
 }

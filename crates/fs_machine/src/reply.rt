@@ -1,3 +1,5 @@
+//! What entries come to.
+
 use fs_text::Txt;
 
 /// What an entry came to.

@@ -1,3 +1,5 @@
+//! The frames that a connection is sent, and the answers of api commands.
+
 ghost use Rattle.std.specs.Prelude.{◌≡◌, IfOk};
 ghost use Rattle.fs_machine.specs.Texts as texts;
 
@@ -92,7 +94,7 @@ pub(crate) fn api_not_found(alloc: Global, name: &[u8]) -> Result<Txt, Memory>
     Txt::from_vec(text)
 }
 
-/// An origination has made a call: the identifier of its leg.
+/// The answer of an origination that has made a call: the identifier of its leg.
 #[tactic(auto, unfolding(crate::specs::Texts::made_text))]
 pub(crate) fn made_text(alloc: Global, uuid: &[u8]) -> Result<Txt, Memory>
     ensures { IfOk result (λ t. t ≡ texts.made_text uuid.now) }
@@ -104,7 +106,7 @@ pub(crate) fn made_text(alloc: Global, uuid: &[u8]) -> Result<Txt, Memory>
     Txt::from_vec(text)
 }
 
-/// An origination has failed.
+/// The answer of an origination that has failed.
 #[tactic(auto, unfolding(crate::specs::Texts::failed_text))]
 pub(crate) fn failed_text(alloc: Global, cause: Cause) -> Result<Txt, Memory>
     ensures { IfOk result (λ t. t ≡ texts.failed_text cause) }

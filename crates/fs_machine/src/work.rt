@@ -1,8 +1,11 @@
-ghost use Rattle.std.specs.Prelude.{◌≡◌, true, Some, IfOk, OnOk};
+//! What a channel does by itself, state by state.
+
+ghost use Rattle.std.specs.Prelude.{◌≡◌, true, IfSome, IfOk, OnOk};
 ghost use Rattle.fs_chan.specs.Changes as changes;
 ghost use Rattle.fs_chan.specs.Changes.{may_route};
 ghost use Rattle.fs_state.specs.Drafts.{drafted};
 ghost use Rattle.fs_state.specs.Switch.{chan_at};
+ghost use Rattle.fs_state.specs.Moves.{after_move};
 ghost use Rattle.fs_machine.specs.Work as spec;
 
 use crate::applications::run_next;
@@ -49,7 +52,7 @@ fn first_state(direction: Direction) -> State
     }
 }
 
-// A channel is routed, unless it was routed too often.
+// Routes a channel, unless it was routed too often.
 fn route(draft: &mut Draft<'_>, plan: &Dialplan, slot: u16) -> Result<(), Memory>
     requires plan { plan.now ≡ draft.old.base.config.contexts }
     ensures base { draft.new.base ≡ draft.old.base }
@@ -61,21 +64,18 @@ fn route(draft: &mut Draft<'_>, plan: &Dialplan, slot: u16) -> Result<(), Memory
     if !chan.may_route() {
         return draft.hang_up(slot, Cause::ExchangeRoutingError);
     }
-    let too_long = too_long_cause(chan);
+    let xml = has_xml(chan);
     match hunt_for(draft, plan, chan)? {
-        Some(hunt) => {
-            let chan = chan.copy()?;
-            take_route(draft, slot, chan, hunt)
-        }
-        None => draft.hang_up(slot, too_long),
+        Some(hunt) => take_hunt(draft, slot, xml, hunt),
+        None => draft.hang_up(slot, too_long_cause(xml)),
     }
 }
 
-// Why a channel is hung up for which a text is too long.
-fn too_long_cause(chan: &Chan) -> Cause
-    ensures { result ≡ spec.too_long_cause chan.now }
+// Why a channel is hung up for which a text is too long: one with the dialplan of the documents, or another.
+fn too_long_cause(xml: bool) -> Cause
+    ensures { result ≡ spec.too_long_cause xml }
 {
-    if has_xml(chan) {
+    if xml {
         Cause::NormalTemporaryFailure
     } else {
         Cause::NoRouteDestination
@@ -107,42 +107,58 @@ fn hunt_for(draft: &Draft<'_>, plan: &Dialplan, chan: &Chan) -> Result<Option<Hu
     }
 }
 
-// What the hunt gave is taken over: the actions are to be run; without any, or in another dialplan, there is no route.
-fn take_route(draft: &mut Draft<'_>, slot: u16, mut chan: Chan, hunt: Hunt) -> Result<(), Memory>
-    requires there { chan_at (drafted draft.old) slot ≡ Some chan }
-    requires may { may_route chan ≡ true }
+// Takes over what the hunt gave: the actions are to be run; without any, or in another dialplan, there is no route.
+fn take_hunt(draft: &mut Draft<'_>, slot: u16, xml: bool, hunt: Hunt) -> Result<(), Memory>
+    requires may { IfSome (chan_at (drafted draft.old) slot) (λ c. may_route c ≡ true) }
     ensures base { draft.new.base ≡ draft.old.base }
-    ensures ok { OnOk result (drafted draft.new ≡ spec.routed_by (Some hunt) chan slot (drafted draft.old)) }
+    ensures ok { OnOk result (drafted draft.new ≡ spec.after_hunt xml hunt slot (drafted draft.old)) }
 {
     let (actions, vars, globals) = hunt.into_parts();
-    let state = chan.state;
-    let actions = actions_for(draft, &chan, actions);
     draft.set_globals(globals);
-    if actions.is_empty() {
-        chan.vars = vars;
-        draft.put_moved(slot, state, chan)?;
-        return draft.hang_up(slot, Cause::NoRouteDestination);
+    if xml && !actions.is_empty() {
+        return take_actions(draft, slot, vars, actions);
     }
+    take_variables(draft, slot, vars)?;
+    draft.hang_up(slot, Cause::NoRouteDestination)
+}
+
+// Routes the channel in a slot once more: these actions are to be run, with these variables.
+fn take_actions(
+    draft: &mut Draft<'_>,
+    slot: u16,
+    vars: Vars,
+    actions: Actions,
+) -> Result<(), Memory>
+    requires may { IfSome (chan_at (drafted draft.old) slot) (λ c. may_route c ≡ true) }
+    ensures base { draft.new.base ≡ draft.old.base }
+    ensures ok { OnOk result (drafted draft.new ≡ after_move (changes.routed vars actions) slot (drafted draft.old)) }
+{
+    let Some(chan) = draft.own_chan(slot)? else {
+        return Ok(());
+    };
+    let state = chan.state;
     let chan = routed(chan, vars, actions)?;
     draft.put_moved(slot, state, chan)
 }
 
-// A channel that is routed once more.
+// Gives the channel in a slot these variables.
+fn take_variables(draft: &mut Draft<'_>, slot: u16, vars: Vars) -> Result<(), Memory>
+    ensures base { draft.new.base ≡ draft.old.base }
+    ensures ok { OnOk result (drafted draft.new ≡ after_move (spec.with_variables vars) slot (drafted draft.old)) }
+{
+    let Some(mut chan) = draft.own_chan(slot)? else {
+        return Ok(());
+    };
+    let state = chan.state;
+    chan.vars = vars;
+    draft.put_moved(slot, state, chan)
+}
+
+// Routes a channel once more.
 fn routed(mut chan: Chan, vars: Vars, actions: Actions) -> Result<Chan, Memory>
     requires may { may_route chan ≡ true }
     ensures { IfOk result (λ routed. routed ≡ changes.routed vars actions chan) }
 {
     chan.route(vars, actions)?;
     Ok(chan)
-}
-
-// The actions that the hunt gave; a channel of another dialplan has none.
-fn actions_for(draft: &Draft<'_>, chan: &Chan, actions: Actions) -> Actions
-    ensures { result ≡ spec.actions_for chan.now actions }
-{
-    if has_xml(chan) {
-        actions
-    } else {
-        Actions::new(draft.alloc())
-    }
 }

@@ -1,0 +1,66 @@
+//! Changes of the channel in a slot, each with what it tells of the channel's state.
+
+ghost use Rattle.std.specs.Prelude.{◌≡◌, OnOk};
+ghost use Rattle.fs_state.specs.Drafts.{drafted};
+ghost use Rattle.fs_state.specs.Moves.{after_move};
+ghost use Rattle.fs_machine.specs.Channels as spec;
+
+use crate::originations::win_by;
+use fs_api::Winner;
+use fs_chan::Chan;
+use fs_state::Draft;
+use fs_text::{Memory, Txt};
+use std::alloc::Global;
+
+/// A change of one channel.
+#[derive(Clone, Copy)]
+pub(crate) enum ChanChange<'a> {
+    /// What it is to run next is used up.
+    Pass,
+    /// A variable is set, where no limit is passed.
+    Set { name: &'a Txt, value: &'a Txt },
+    /// A variable is taken out.
+    Unset { name: &'a Txt },
+    /// A variable is set and exported, where no limit is passed.
+    Export { name: &'a Txt, value: &'a Txt },
+    /// It sleeps from a moment on.
+    Sleep { now: u64, milliseconds: u64 },
+    /// It is a leg that has won, and no leg any more: it has one thing to run, or is to be routed.
+    Win { winner: &'a Winner },
+}
+
+/// Changes the channel in a slot, if there is one.
+pub(crate) fn change_chan(
+    draft: &mut Draft<'_>,
+    slot: u16,
+    change: ChanChange<'_>,
+) -> Result<(), Memory>
+    ensures base { draft.new.base ≡ draft.old.base }
+    ensures ok { OnOk result (drafted draft.new ≡ after_move (spec.changed_by change.entry) slot (drafted draft.old)) }
+{
+    let Some(mut chan) = draft.own_chan(slot)? else {
+        return Ok(());
+    };
+    let state = chan.state;
+    change_by(draft.alloc(), &mut chan, change)?;
+    draft.put_moved(slot, state, chan)
+}
+
+// Changes a channel.
+fn change_by(alloc: Global, chan: &mut Chan, change: ChanChange<'_>) -> Result<(), Memory>
+    ensures { OnOk result (chan.new ≡ spec.changed_by change.entry chan.old) }
+{
+    match change {
+        ChanChange::Pass => chan.pass_action(),
+        ChanChange::Set { name, value } => {
+            let _set = chan.set(name.as_bytes(), value.as_bytes())?;
+        }
+        ChanChange::Unset { name } => chan.unset(name.as_bytes()),
+        ChanChange::Export { name, value } => {
+            let _set = chan.export(alloc, name.as_bytes(), value.as_bytes())?;
+        }
+        ChanChange::Sleep { now, milliseconds } => chan.sleep(now, milliseconds),
+        ChanChange::Win { winner } => win_by(alloc, chan, winner)?,
+    }
+    Ok(())
+}

@@ -33,27 +33,31 @@ lead_short closer (a ∷ b ∷ x ∷ bytes) = by (a == 94 && b == 94 && not (x =
 
 -- ---- what is spelt is read
 
-closed_read : (at end separator : ℕ) (so_far pairs : List Pair) (content : List ℕ) (b : ℕ) (rest : List ℕ) → Holds (place end (b ∷ rest)) separator content pairs
+closed_read : (at end separator : ℕ) (so_far pairs : List Pair) (content : List ℕ) (b : ℕ) (rest : List ℕ) →
+    Holds (place end (b ∷ rest)) separator content pairs
     → closed_at at end separator so_far (content ++ (b ∷ rest)) (b ∷ rest) ≡ Ok (so_far ++ pairs, rest)
 unfolding closed_at
 closed_read at end separator so_far pairs content b rest holds =
     ap (λ held. pairs_at (place end (b ∷ rest)) separator so_far held >>= λ all. Ok (all, rest)) (front_is content (b ∷ rest))
     ∙ ap (λ (r : Pairs). r >>= λ all. Ok (all, rest)) (content_read (place end (b ∷ rest)) separator content pairs so_far holds)
 
-inside_read : (shape : Bracket) (end : ℕ) (text rest : List ℕ) (pairs so_far : List Pair) (is : IsBracket shape end text rest pairs) → bracket_at shape end so_far is.inside ≡ Ok (so_far ++ pairs, rest)
+inside_read : (shape : Bracket) (end : ℕ) (text rest : List ℕ) (pairs so_far : List Pair) (is : IsBracket shape end text rest pairs) →
+    bracket_at shape end so_far is.inside ≡ Ok (so_far ++ pairs, rest)
 unfolding bracket_at content_at
 inside_read shape end text rest pairs so_far is =
     let at = place end is.inside - 1 in
     let closer = closer_of shape in
     let whole : List ℕ = is.content ++ (closer ∷ rest) in
-    let mark : from_mark closer Bare whole ≡ closer ∷ rest = passed closer is.content (closer ∷ rest) is.closes ∙ found closer rest (closer_plain shape) in
+    let mark : from_mark closer Bare whole ≡ closer ∷ rest = passed closer is.content (closer ∷ rest) is.closes
+    ∙ found closer rest (closer_plain shape) in
     ap (content_at shape at end so_far) is.lead ∙ ap (closed_at at end is.separator so_far whole) mark
     ∙ closed_read at end is.separator so_far pairs is.content closer rest is.holds
 
 abbrev Step : Type 0
 Step = Result (List Pair × Option (List ℕ)) DialFault
 
-step_read : (shape : Bracket) (end : ℕ) (text rest : List ℕ) (pairs so_far : List Pair) → IsBracket shape end text rest pairs → bracket_step shape end so_far text ≡ Ok (so_far ++ pairs, Some rest)
+step_read : (shape : Bracket) (end : ℕ) (text rest : List ℕ) (pairs so_far : List Pair) → IsBracket shape end text rest pairs →
+    bracket_step shape end so_far text ≡ Ok (so_far ++ pairs, Some rest)
 unfolding bracket_step
 step_read shape end text rest pairs so_far is =
     let opener = opener_of shape in
@@ -61,33 +65,42 @@ step_read shape end text rest pairs so_far is =
     ap (bracket_step shape end so_far) is.opens ∙ ap (λ t. cond t taken (Ok (so_far, None))) (eqb-refl opener)
     ∙ ap (λ (r : Taken). r >>= λ x. Ok (x.0, Some x.1)) (inside_read shape end text rest pairs so_far is)
 
-none_read : (shape : Bracket) (end : ℕ) (text : List ℕ) (so_far : List Pair) → begins_with (opener_of shape) text ≡ false → bracket_step shape end so_far text ≡ Ok (so_far, None)
+none_read : (shape : Bracket) (end : ℕ) (text : List ℕ) (so_far : List Pair) → begins_with (opener_of shape) text ≡ false →
+    bracket_step shape end so_far text ≡ Ok (so_far, None)
 unfolding bracket_step
 none_read shape end [] so_far none = refl
 none_read shape end (b ∷ bytes) so_far none = rw none refl
 
-bracket_long : (shape : Bracket) (end : ℕ) (text rest : List ℕ) (pairs : List Pair) → IsBracket shape end text rest pairs → length rest < length text
+bracket_long : (shape : Bracket) (end : ℕ) (text rest : List ℕ) (pairs : List Pair) → IsBracket shape end text rest pairs →
+    length rest < length text
 bracket_long shape end text rest pairs is =
     let short = lead_short (closer_of shape) is.inside in
-    let size : length (lead_of (closer_of shape) is.inside).1 ≡ length (is.content ++ (closer_of shape ∷ rest)) = ap (λ (x : ℕ × List ℕ). length x.1) is.lead in
+    let size : length (lead_of (closer_of shape) is.inside).1 ≡ length (is.content ++ (closer_of shape ∷ rest)) =
+    ap (λ (x : ℕ × List ℕ). length x.1) is.lead in
     omega (arith, short, size, length-append is.content (closer_of shape ∷ rest), ap length is.opens)
 
-within_read : (shape : Bracket) (end : ℕ) (text rest : List ℕ) (pairs : List Pair) → AreBrackets shape end text rest pairs → (more : ℕ) (so_far : List Pair) → length text < more
+within_read : (shape : Bracket) (end : ℕ) (text rest : List ℕ) (pairs : List Pair) → AreBrackets shape end text rest pairs →
+    (more : ℕ) (so_far : List Pair) → length text < more
     → brackets_within more shape end so_far text ≡ Ok (so_far ++ pairs, rest)
 within_read shape end text rest pairs are zero so_far enough = absurd (omega arith)
 within_read shape end text rest pairs (NoBracket bytes none) (suc more) so_far enough =
-    ap (λ (r : Step). r >>= λ x. go_on (λ next behind. brackets_within more shape end next behind) bytes x) (none_read shape end bytes so_far none)
+    ap (λ (r : Step). r >>= λ x. go_on (λ next behind. brackets_within more shape end next behind) bytes x)
+    (none_read shape end bytes so_far none)
     ∙ ap (λ l. Ok (l, bytes)) (sym (append-nil so_far))
 within_read shape end text rest pairs (OneBracket bytes middle behind first others is are) (suc more) so_far enough =
     let fewer : length middle < more = omega (arith, enough, bracket_long shape end bytes middle first is) in
-    ap (λ (r : Step). r >>= λ x. go_on (λ next behind. brackets_within more shape end next behind) bytes x) (step_read shape end bytes middle first so_far is)
-    ∙ within_read shape end middle behind others are more (so_far ++ first) fewer ∙ ap (λ l. Ok (l, behind)) (append_assoc so_far first others)
+    ap (λ (r : Step). r >>= λ x. go_on (λ next behind. brackets_within more shape end next behind) bytes x)
+    (step_read shape end bytes middle first so_far is)
+    ∙ within_read shape end middle behind others are more (so_far ++ first) fewer
+    ∙ ap (λ l. Ok (l, behind)) (append_assoc so_far first others)
 
-pub brackets_read : (shape : Bracket) (end : ℕ) (text rest : List ℕ) (pairs : List Pair) → AreBrackets shape end text rest pairs → brackets_at shape end text ≡ Ok (pairs, rest)
+pub brackets_read : (shape : Bracket) (end : ℕ) (text rest : List ℕ) (pairs : List Pair) → AreBrackets shape end text rest pairs →
+    brackets_at shape end text ≡ Ok (pairs, rest)
 unfolding brackets_at
 brackets_read shape end text rest pairs are = within_read shape end text rest pairs are (length text + 1) [] (omega arith)
 
-pub brackets_short : (shape : Bracket) (end : ℕ) (text rest : List ℕ) (pairs : List Pair) → AreBrackets shape end text rest pairs → length rest ≤ length text
+pub brackets_short : (shape : Bracket) (end : ℕ) (text rest : List ℕ) (pairs : List Pair) → AreBrackets shape end text rest pairs →
+    length rest ≤ length text
 brackets_short shape end text rest pairs (NoBracket bytes none) = omega arith
 brackets_short shape end text rest pairs (OneBracket bytes middle behind first others is are) =
     omega (arith, bracket_long shape end bytes middle first is, brackets_short shape end middle behind others are)
@@ -108,11 +121,14 @@ same_taken x y rest behind e =
     let both : ◌≡◌ {A = List Pair × List ℕ} (x, rest) (y, behind) = cc in
     (ap (λ (p : List Pair × List ℕ). p.0) both, ap (λ (p : List Pair × List ℕ). p.1) both)
 
-seam : (bytes front behind rest : List ℕ) (b closer : ℕ) → bytes ≡ front ++ (b ∷ behind) → b ≡ closer → behind ≡ rest → bytes ≡ front ++ (closer ∷ rest)
+seam : (bytes front behind rest : List ℕ) (b closer : ℕ) → bytes ≡ front ++ (b ∷ behind) → b ≡ closer → behind ≡ rest →
+    bytes ≡ front ++ (closer ∷ rest)
 seam bytes front behind rest b closer whole mark same = rw (← mark, ← same) whole
 
-closed_spelt : (shape : Bracket) (at end separator : ℕ) (so_far all : List Pair) (text inside bytes rest : List ℕ) → text ≡ opener_of shape ∷ inside → lead_of (closer_of shape) inside ≡ (separator, bytes)
-    → (from : List ℕ) → from_mark (closer_of shape) Bare bytes ≡ from → closed_at at end separator so_far bytes from ≡ Ok (all, rest) → BracketSpelt shape end so_far all text rest
+closed_spelt : (shape : Bracket) (at end separator : ℕ) (so_far all : List Pair) (text inside bytes rest : List ℕ) →
+    text ≡ opener_of shape ∷ inside → lead_of (closer_of shape) inside ≡ (separator, bytes)
+    → (from : List ℕ) → from_mark (closer_of shape) Bare bytes ≡ from → closed_at at end separator so_far bytes from ≡ Ok (all, rest) →
+    BracketSpelt shape end so_far all text rest
 unfolding closed_at
 closed_spelt shape at end separator so_far all text inside bytes rest opens lead [] mark e = absurd (cc)
 closed_spelt shape at end separator so_far all text inside bytes rest opens lead (b ∷ behind) mark e =
@@ -120,13 +136,16 @@ closed_spelt shape at end separator so_far all text inside bytes rest opens lead
     let f = before closer Bare bytes (b ∷ behind) mark (λ none. absurd (cc)) in
     let m = found_mark closer Bare bytes b behind mark in
     let held : front_of bytes (b ∷ behind) ≡ f.front = ap (λ l. front_of l (b ∷ behind)) f.whole ∙ front_is f.front (b ∷ behind) in
-    let read = bind_ok (pairs_at (place end (b ∷ behind)) separator so_far (front_of bytes (b ∷ behind))) (λ pairs. Ok (pairs, behind)) (all, rest) e in
+    let read =
+    bind_ok (pairs_at (place end (b ∷ behind)) separator so_far (front_of bytes (b ∷ behind))) (λ pairs. Ok (pairs, behind))
+    (all, rest) e in
     let same = same_taken read.0 all behind rest read.2 in
     let ends : guard_over Bare f.front ≡ Bare = ap (guard_over Bare) (sym (append-nil f.front)) ∙ over closer f.front [] f.is in
     let whole : bytes ≡ f.front ++ (closer ∷ rest) = seam bytes f.front behind rest b closer f.whole m.same same.1 in
     let tail : ◌≡◌ {A = List ℕ} (closer ∷ rest) (b ∷ behind) = rw (m.same, same.1) refl in
     let reads : pairs_at (place end (closer ∷ rest)) separator so_far f.front ≡ Ok all =
-    ap (λ l. pairs_at (place end l) separator so_far f.front) tail ∙ ap (pairs_at (place end (b ∷ behind)) separator so_far) (sym held) ∙ read.1 ∙ ap (λ l. Ok l) same.0 in
+    ap (λ l. pairs_at (place end l) separator so_far f.front) tail ∙ ap (pairs_at (place end (b ∷ behind)) separator so_far) (sym held)
+    ∙ read.1 ∙ ap (λ l. Ok l) same.0 in
     let c = content_spelt (place end (closer ∷ rest)) separator so_far all f.front reads ends in
     record {
       pairs = c.pairs;
@@ -142,7 +161,8 @@ closed_spelt shape at end separator so_far all text inside bytes rest opens lead
       all_are = c.all_are;
     }
 
-inside_spelt : (shape : Bracket) (end : ℕ) (so_far all : List Pair) (text inside rest : List ℕ) → text ≡ opener_of shape ∷ inside → bracket_at shape end so_far inside ≡ Ok (all, rest)
+inside_spelt : (shape : Bracket) (end : ℕ) (so_far all : List Pair) (text inside rest : List ℕ) → text ≡ opener_of shape ∷ inside →
+    bracket_at shape end so_far inside ≡ Ok (all, rest)
     → BracketSpelt shape end so_far all text rest
 unfolding bracket_at content_at
 inside_spelt shape end so_far all text inside rest opens e =
@@ -163,7 +183,8 @@ same_step x y rest behind e =
     let both : ◌≡◌ {A = List Pair × Option (List ℕ)} (x, rest) (y, behind) = cc in
     (ap (λ (p : List Pair × Option (List ℕ)). p.0) both, ap (λ (p : List Pair × Option (List ℕ)). p.1) both)
 
-step_spelt : (shape : Bracket) (end : ℕ) (so_far all : List Pair) (text : List ℕ) (rest : Option (List ℕ)) → bracket_step shape end so_far text ≡ Ok (all, rest) → StepSpelt shape end so_far all text rest
+step_spelt : (shape : Bracket) (end : ℕ) (so_far all : List Pair) (text : List ℕ) (rest : Option (List ℕ)) →
+    bracket_step shape end so_far text ≡ Ok (all, rest) → StepSpelt shape end so_far all text rest
 unfolding bracket_step
 step_spelt shape end so_far all [] rest e =
     let same = same_step so_far all None rest e in
@@ -171,14 +192,16 @@ step_spelt shape end so_far all [] rest e =
     subst P same.1 (refl, sym same.0)
 step_spelt shape end so_far all (b ∷ inside) rest e = by (b == opener_of shape) refl e
   where
-    by : (t : Bool) → (b == opener_of shape) ≡ t → cond {A = Step} t (bracket_at shape end so_far inside >>= λ x. Ok (x.0, Some x.1)) (Ok (so_far, None)) ≡ Ok (all, rest)
+    by : (t : Bool) → (b == opener_of shape) ≡ t →
+        cond {A = Step} t (bracket_at shape end so_far inside >>= λ x. Ok (x.0, Some x.1)) (Ok (so_far, None)) ≡ Ok (all, rest)
         → StepSpelt shape end so_far all (b ∷ inside) rest
     by true opens e =
         let read = bind_ok (bracket_at shape end so_far inside) (λ x. Ok (x.0, Some x.1)) (all, rest) e in
         let x = read.0 in
         let same = same_step x.0 all (Some x.1) rest read.2 in
         let P : Option (List ℕ) → Type 0 = λ r. StepSpelt shape end so_far all (b ∷ inside) r in
-        let opening : ◌≡◌ {A = List ℕ} (b ∷ inside) (opener_of shape ∷ inside) = ap (λ q. q ∷ inside) (eqb-true b (opener_of shape) opens) in
+        let opening : ◌≡◌ {A = List ℕ} (b ∷ inside) (opener_of shape ∷ inside) =
+        ap (λ q. q ∷ inside) (eqb-true b (opener_of shape) opens) in
         subst P same.1 (inside_spelt shape end so_far all (b ∷ inside) inside x.1 opening (read.1 ∙ ap (λ l. Ok (l, x.1)) same.0))
     by false other e =
         let same = same_step so_far all None rest e in
@@ -190,16 +213,22 @@ pub record BracketsSpelt (shape : Bracket) (end : ℕ) (so_far all : List Pair) 
   pub are : AreBrackets shape end text rest pairs
   pub all_are : all ≡ so_far ++ pairs
 
-within_spelt : (more : ℕ) (shape : Bracket) (end : ℕ) (all : List Pair) (rest : List ℕ) (so_far : List Pair) (text : List ℕ) → brackets_within more shape end so_far text ≡ Ok (all, rest) → length text < more
+within_spelt : (more : ℕ) (shape : Bracket) (end : ℕ) (all : List Pair) (rest : List ℕ) (so_far : List Pair) (text : List ℕ) →
+    brackets_within more shape end so_far text ≡ Ok (all, rest) → length text < more
     → BracketsSpelt shape end so_far all text rest
 within_spelt zero shape end all rest so_far text e enough = absurd (omega arith)
 within_spelt (suc more) shape end all rest so_far text e enough =
-    let read = bind_ok (bracket_step shape end so_far text) (λ x. go_on (λ next behind. brackets_within more shape end next behind) text x) (all, rest) e in
+    let read =
+    bind_ok (bracket_step shape end so_far text) (λ x. go_on (λ next behind. brackets_within more shape end next behind) text x)
+    (all, rest) e in
     let x = read.0 in
-    by x.0 x.1 (step_spelt shape end so_far x.0 text x.1 read.1) read.2 (λ next behind e fewer. within_spelt more shape end all rest next behind e fewer)
+    by x.0 x.1 (step_spelt shape end so_far x.0 text x.1 read.1) read.2
+    (λ next behind e fewer. within_spelt more shape end all rest next behind e fewer)
   where
-    by : (next : List Pair) (behind : Option (List ℕ)) → StepSpelt shape end so_far next text behind → go_on (λ next behind. brackets_within more shape end next behind) text (next, behind) ≡ Ok (all, rest)
-        → ((next : List Pair) (behind : List ℕ) → brackets_within more shape end next behind ≡ Ok (all, rest) → length behind < more → BracketsSpelt shape end next all behind rest)
+    by : (next : List Pair) (behind : Option (List ℕ)) → StepSpelt shape end so_far next text behind →
+        go_on (λ next behind. brackets_within more shape end next behind) text (next, behind) ≡ Ok (all, rest)
+        → ((next : List Pair) (behind : List ℕ) → brackets_within more shape end next behind ≡ Ok (all, rest) → length behind < more →
+        BracketsSpelt shape end next all behind rest)
         → BracketsSpelt shape end so_far all text rest
     by next None (none, none_more) e again =
         let same = same_taken next all text rest e in
@@ -214,7 +243,8 @@ within_spelt (suc more) shape end all rest so_far text e enough =
           all_are = on.all_are ∙ ap (λ l. l ++ on.pairs) b.all_are ∙ append_assoc so_far b.pairs on.pairs;
         }
 
-pub brackets_spelt : (shape : Bracket) (end : ℕ) (text rest : List ℕ) (pairs : List Pair) → brackets_at shape end text ≡ Ok (pairs, rest) → AreBrackets shape end text rest pairs
+pub brackets_spelt : (shape : Bracket) (end : ℕ) (text rest : List ℕ) (pairs : List Pair) → brackets_at shape end text ≡ Ok (pairs, rest) →
+    AreBrackets shape end text rest pairs
 unfolding brackets_at
 brackets_spelt shape end text rest pairs e =
     let s = within_spelt (length text + 1) shape end pairs rest [] text e (omega arith) in

@@ -8,7 +8,8 @@ use Rattle.fs_dial.specs.Results.{◌>>=◌}
 use Rattle.fs_dial.specs.Guards.{front_of}
 
 -- a reading that was followed was read
-pub bind_ok : {X Y E : Type 0} (read : Result X E) (next : X → Result Y E) (y : Y) → (read >>= next) ≡ Ok y → (x : X) × (read ≡ Ok x) × (next x ≡ Ok y)
+pub bind_ok : {X Y E : Type 0} (read : Result X E) (next : X → Result Y E) (y : Y) → (read >>= next) ≡ Ok y →
+    (x : X) × (read ≡ Ok x) × (next x ≡ Ok y)
 bind_ok (Ok x) next y e = (x, refl, e)
 bind_ok (Err f) next y e = absurd (cc)
 
@@ -30,7 +31,8 @@ front_is front rest =
 
 -- ---- the first byte of a kind
 
-pub first_place : (p : ℕ → Bool) (before : List ℕ) (q : ℕ) (behind : List ℕ) → list_any p before ≡ false → p q ≡ true → position_or_len p (before ++ (q ∷ behind)) ≡ length before
+pub first_place : (p : ℕ → Bool) (before : List ℕ) (q : ℕ) (behind : List ℕ) → list_any p before ≡ false → p q ≡ true →
+    position_or_len p (before ++ (q ∷ behind)) ≡ length before
 first_place p [] q behind none passes = rw passes refl
 first_place p (b ∷ before) q behind none passes =
     let parts = or_false (p b) (list_any p before) none in
@@ -57,7 +59,8 @@ cut_at p [] = record { whole = refl; none = refl; here = λ b rest e. absurd (cc
 cut_at p (b ∷ bytes) = by (p b) refl (cut_at p bytes)
   where
     by : (t : Bool) → p b ≡ t → Cut p bytes (before_first p bytes) (drop (position_or_len p bytes) bytes)
-        → Cut p (b ∷ bytes) (take (cond (not t) (1 + position_or_len p bytes) 0) (b ∷ bytes)) (drop (cond (not t) (1 + position_or_len p bytes) 0) (b ∷ bytes))
+        → Cut p (b ∷ bytes) (take (cond (not t) (1 + position_or_len p bytes) 0) (b ∷ bytes))
+        (drop (cond (not t) (1 + position_or_len p bytes) 0) (b ∷ bytes))
     by true passes more = record { whole = refl; none = refl; here = λ c rest e. cc }
     by false fails more =
         let n = position_or_len p bytes in

@@ -27,7 +27,8 @@ record CutSo (p : ℕ → Bool) (bytes front from : List ℕ) : Type 0 where
 
 cut_so : (endpoint rest : List ℕ) → list_any ends_leg endpoint ≡ false → Stops rest → CutSo ends_leg (endpoint ++ rest) endpoint rest
 cut_so endpoint [] none stops =
-    let size : position_or_len ends_leg (endpoint ++ []) ≡ length endpoint = ap (position_or_len ends_leg) (append-nil endpoint) ∙ no_place ends_leg endpoint none in
+    let size : position_or_len ends_leg (endpoint ++ []) ≡ length endpoint = ap (position_or_len ends_leg) (append-nil endpoint)
+    ∙ no_place ends_leg endpoint none in
     record {
       front_is = ap (λ n. take n (endpoint ++ [])) size ∙ take-append_seam endpoint [];
       from_is = ap (λ n. drop n (endpoint ++ [])) size ∙ drop-append_seam endpoint [];
@@ -39,7 +40,8 @@ cut_so endpoint (b ∷ rest) none stops =
       from_is = ap (λ n. drop n (endpoint ++ (b ∷ rest))) size ∙ drop-append_seam endpoint (b ∷ rest);
     }
 
-leg_here : (at : ℕ) (pairs : List Pair) (endpoint rest : List ℕ) → endpoint ≢ [] → leg_on at pairs endpoint rest ≡ Ok (record { at = at; endpoint = endpoint; pairs = pairs }, rest)
+leg_here : (at : ℕ) (pairs : List Pair) (endpoint rest : List ℕ) → endpoint ≢ [] →
+    leg_on at pairs endpoint rest ≡ Ok (record { at = at; endpoint = endpoint; pairs = pairs }, rest)
 unfolding leg_on
 leg_here at pairs [] rest some = absurd (some refl)
 leg_here at pairs (b ∷ endpoint) rest some = refl
@@ -51,7 +53,8 @@ endpoint_read end pairs endpoint rest some none stops =
     let whole : List ℕ = endpoint ++ rest in
     let at = place end whole in
     let cut = cut_so endpoint rest none stops in
-    ap (λ front. leg_on at pairs front (drop (position_or_len ends_leg whole) whole)) cut.front_is ∙ ap (leg_on at pairs endpoint) cut.from_is ∙ leg_here at pairs endpoint rest some
+    ap (λ front. leg_on at pairs front (drop (position_or_len ends_leg whole) whole)) cut.front_is
+    ∙ ap (leg_on at pairs endpoint) cut.from_is ∙ leg_here at pairs endpoint rest some
 
 abbrev pub Legs : Type 0
 Legs = Result (LegText × List ℕ) DialFault
@@ -69,7 +72,13 @@ some_long (b ∷ bytes) some = omega arith
 
 pub leg_long : (end : ℕ) (text rest : List ℕ) (leg : LegText) → IsLeg end text rest leg → length rest < length text
 leg_long end text rest leg is =
-    omega (arith, some_long leg.endpoint is.some, length-append leg.endpoint rest, brackets_short Square end text (leg.endpoint ++ rest) leg.pairs is.brackets)
+    omega (
+      arith,
+      some_long leg.endpoint is.some,
+      length-append leg.endpoint rest,
+      brackets_short Square end text
+          (leg.endpoint ++ rest) leg.pairs is.brackets,
+    )
 
 -- ---- what is read is spelt
 
@@ -91,7 +100,8 @@ stops_here bytes front [] cut = tt
 stops_here bytes front (b ∷ rest) cut = cut.here b rest refl
 
 -- an endpoint with these brackets before it
-made : (end : ℕ) (text bytes : List ℕ) (pairs : List Pair) (endpoint from : List ℕ) → brackets_at Square end text ≡ Ok (pairs, bytes) → Cut ends_leg bytes endpoint from → endpoint ≢ []
+made : (end : ℕ) (text bytes : List ℕ) (pairs : List Pair) (endpoint from : List ℕ) → brackets_at Square end text ≡ Ok (pairs, bytes) →
+    Cut ends_leg bytes endpoint from → endpoint ≢ []
     → LegSpelt end text from (record { at = place end bytes; endpoint = endpoint; pairs = pairs })
 made end text bytes pairs endpoint from reads cut some = record {
   is = record {
@@ -103,11 +113,14 @@ made end text bytes pairs endpoint from reads cut some = record {
   stops = stops_here bytes endpoint from cut;
 }
 
-endpoint_spelt : (end : ℕ) (text bytes rest : List ℕ) (pairs : List Pair) (leg : LegText) → brackets_at Square end text ≡ Ok (pairs, bytes) → endpoint_at end pairs bytes ≡ Ok (leg, rest) → LegSpelt end text rest leg
+endpoint_spelt : (end : ℕ) (text bytes rest : List ℕ) (pairs : List Pair) (leg : LegText) →
+    brackets_at Square end text ≡ Ok (pairs, bytes) → endpoint_at end pairs bytes ≡ Ok (leg, rest) → LegSpelt end text rest leg
 unfolding endpoint_at leg_on
-endpoint_spelt end text bytes rest pairs leg reads e = by (before_first ends_leg bytes) (drop (position_or_len ends_leg bytes) bytes) (cut_at ends_leg bytes) e
+endpoint_spelt end text bytes rest pairs leg reads e =
+    by (before_first ends_leg bytes) (drop (position_or_len ends_leg bytes) bytes) (cut_at ends_leg bytes) e
   where
-    by : (endpoint from : List ℕ) → Cut ends_leg bytes endpoint from → leg_on (place end bytes) pairs endpoint from ≡ Ok (leg, rest) → LegSpelt end text rest leg
+    by : (endpoint from : List ℕ) → Cut ends_leg bytes endpoint from → leg_on (place end bytes) pairs endpoint from ≡ Ok (leg, rest) →
+        LegSpelt end text rest leg
     by [] from cut e = absurd (cc)
     by (b ∷ endpoint) from cut e =
         let same = same_leg (record { at = place end bytes; endpoint = b ∷ endpoint; pairs = pairs }) leg from rest e in

@@ -9,7 +9,8 @@ use Rattle.fs_dial.proofs.Cuts.{or_false, eqb-true, eqb-refl}
 
 -- ---- what is protected is passed
 
-quoted_passed : (mark : ℕ) (inside bytes : List ℕ) → list_any is_quote inside ≡ false → from_mark mark Quoted (inside ++ (39 ∷ bytes)) ≡ from_mark mark Bare bytes
+quoted_passed : (mark : ℕ) (inside bytes : List ℕ) → list_any is_quote inside ≡ false →
+    from_mark mark Quoted (inside ++ (39 ∷ bytes)) ≡ from_mark mark Bare bytes
 unfolding is_mark guard_after
 quoted_passed mark [] bytes none = refl
 quoted_passed mark (b ∷ inside) bytes none =
@@ -27,7 +28,8 @@ passed mark bytes rest (Byte b more plain other is) =
     rw (plain, other, no_quote, no_backslash) (passed mark more rest is)
 passed mark bytes rest (Escaped b more is) = passed mark more rest is
 passed mark bytes rest (InQuotes inside more none is) =
-    ap (from_mark mark Quoted) (append_assoc inside (39 ∷ more) rest) ∙ quoted_passed mark inside (more ++ rest) none ∙ passed mark more rest is
+    ap (from_mark mark Quoted) (append_assoc inside (39 ∷ more) rest) ∙ quoted_passed mark inside (more ++ rest) none
+    ∙ passed mark more rest is
 
 -- a mark that is not protected is found
 pub found : (mark : ℕ) (rest : List ℕ) → is_guard mark ≡ false → from_mark mark Bare (mark ∷ rest) ≡ mark ∷ rest
@@ -60,11 +62,13 @@ After mark Bare front = Protects mark front
 After mark Quoted front = Closes mark front
 After mark Behind front = OneBehind mark front
 
-byte_more : (mark : ℕ) (guard : Guard) (b : ℕ) (front : List ℕ) → is_mark mark guard b ≡ false → After mark (guard_after guard b) front → After mark guard (b ∷ front)
+byte_more : (mark : ℕ) (guard : Guard) (b : ℕ) (front : List ℕ) → is_mark mark guard b ≡ false → After mark (guard_after guard b) front →
+    After mark guard (b ∷ front)
 unfolding is_mark guard_after is_guard
 byte_more mark Bare b front unmarked after = by (b == 39) refl (b == 92) refl unmarked after
   where
-    by : (q : Bool) → (b == 39) ≡ q → (s : Bool) → (b == 92) ≡ s → (not (q || s) && (b == mark)) ≡ false → After mark (cond q Quoted (cond s Behind Bare)) front → Protects mark (b ∷ front)
+    by : (q : Bool) → (b == 39) ≡ q → (s : Bool) → (b == 92) ≡ s → (not (q || s) && (b == mark)) ≡ false →
+        After mark (cond q Quoted (cond s Behind Bare)) front → Protects mark (b ∷ front)
     by true quote s slash unmarked c =
         let is : b ≡ 39 = eqb-true b 39 quote in
         rw (is, c.whole) (InQuotes c.inside c.more c.none c.is)
@@ -98,12 +102,14 @@ nothing_left mark Quoted is = absurd (cc)
 nothing_left mark Behind is = absurd (cc)
 
 -- where no mark is found, the bytes are to end unprotected
-pub before : (mark : ℕ) (guard : Guard) (bytes from : List ℕ) → from_mark mark guard bytes ≡ from → (from ≡ [] → guard_over guard bytes ≡ Bare) → Before mark guard bytes from
+pub before : (mark : ℕ) (guard : Guard) (bytes from : List ℕ) → from_mark mark guard bytes ≡ from →
+    (from ≡ [] → guard_over guard bytes ≡ Bare) → Before mark guard bytes from
 before mark guard [] from e ends = record { front = []; whole = e; is = nothing_left mark guard (ends (sym e)) }
 before mark guard (b ∷ bytes) from e ends = by (is_mark mark guard b) refl e (λ e. before mark (guard_after guard b) bytes from e ends)
   where
     by : (t : Bool) → is_mark mark guard b ≡ t → cond t (b ∷ bytes) (from_mark mark (guard_after guard b) bytes) ≡ from
-        → (from_mark mark (guard_after guard b) bytes ≡ from → Before mark (guard_after guard b) bytes from) → Before mark guard (b ∷ bytes) from
+        → (from_mark mark (guard_after guard b) bytes ≡ from → Before mark (guard_after guard b) bytes from) →
+        Before mark guard (b ∷ bytes) from
     by true marked e more = record { front = []; whole = e; is = marked_bare mark guard b marked }
     by false other e more =
         let m = more e in
@@ -140,7 +146,8 @@ found_mark mark guard (c ∷ bytes) b rest e = by (is_mark mark guard c) refl e 
 
 -- ---- what is protected ends unprotected
 
-quotes_over : (inside bytes : List ℕ) → list_any is_quote inside ≡ false → guard_over Quoted (inside ++ (39 ∷ bytes)) ≡ guard_over Bare bytes
+quotes_over : (inside bytes : List ℕ) → list_any is_quote inside ≡ false →
+    guard_over Quoted (inside ++ (39 ∷ bytes)) ≡ guard_over Bare bytes
 unfolding guard_after
 quotes_over [] bytes none = refl
 quotes_over (b ∷ inside) bytes none =

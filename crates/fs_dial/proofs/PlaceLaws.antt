@@ -35,7 +35,8 @@ behind_ends text end front rest e = record {
 }
 
 -- a pair in front of them stands where they begin
-pair_stands : (text : List ℕ) (end separator : ℕ) (front rest : List ℕ) (pair : Pair) → EndsAt text end (front ++ rest) → IsPair (place end (front ++ rest)) separator front pair → PairStands text pair
+pair_stands : (text : List ℕ) (end separator : ℕ) (front rest : List ℕ) (pair : Pair) → EndsAt text end (front ++ rest) →
+    IsPair (place end (front ++ rest)) separator front pair → PairStands text pair
 pair_stands text end separator front rest pair e is = record {
   before = e.before;
   behind = rest ++ e.tail;
@@ -43,7 +44,8 @@ pair_stands text end separator front rest pair e is = record {
   is_at = omega (arith, e.size) ∙ sym is.is_at;
 }
 
-pairs_stand : (text : List ℕ) (end separator : ℕ) (bytes : List ℕ) (pairs : List Pair) → ArePairs end separator bytes pairs → EndsAt text end bytes → AllByRecursion (PairStands text) pairs
+pairs_stand : (text : List ℕ) (end separator : ℕ) (bytes : List ℕ) (pairs : List Pair) → ArePairs end separator bytes pairs →
+    EndsAt text end bytes → AllByRecursion (PairStands text) pairs
 pairs_stand text end separator bytes pairs (LastPair piece pair protects is) e = (
   record {
     before = e.before;
@@ -55,10 +57,14 @@ pairs_stand text end separator bytes pairs (LastPair piece pair protects is) e =
 )
 pairs_stand text end separator bytes pairs (NextPair piece rest pair others protects plain is are) e =
     let assoc : (piece ++ (separator ∷ [])) ++ rest ≡ piece ++ (separator ∷ rest) = append_assoc piece (separator ∷ []) rest in
-    let on : EndsAt text end ((piece ++ (separator ∷ [])) ++ rest) = rw assoc e in
-    (pair_stands text end separator piece (separator ∷ rest) pair e is, pairs_stand text end separator rest others are (behind_ends text end (piece ++ (separator ∷ [])) rest on))
+    let on : EndsAt text end ((piece ++ (separator ∷ [])) ++ rest) = rw assoc e in (
+      pair_stands text end separator piece (separator ∷ rest) pair e is,
+      pairs_stand text end separator rest others are
+          (behind_ends text end (piece ++ (separator ∷ [])) rest on),
+    )
 
-content_stands : (text : List ℕ) (end separator : ℕ) (content : List ℕ) (pairs : List Pair) → Holds end separator content pairs → EndsAt text end content → AllByRecursion (PairStands text) pairs
+content_stands : (text : List ℕ) (end separator : ℕ) (content : List ℕ) (pairs : List Pair) → Holds end separator content pairs →
+    EndsAt text end content → AllByRecursion (PairStands text) pairs
 content_stands text end separator [] pairs none e = rw none tt
 content_stands text end separator (b ∷ bytes) pairs are e = pairs_stand text end separator (b ∷ bytes) pairs are e
 
@@ -97,28 +103,36 @@ ends_there text content rest r = record {
 }
 
 -- behind a bracket's lead stand its content, the mark that ends it, and the rest
-inside_rest : (shape : Bracket) (end : ℕ) (text front rest : List ℕ) (pairs : List Pair) (is : IsBracket shape end front rest pairs) → Rest text front → Rest text (is.content ++ (closer_of shape ∷ rest))
+inside_rest : (shape : Bracket) (end : ℕ) (text front rest : List ℕ) (pairs : List Pair) (is : IsBracket shape end front rest pairs) →
+    Rest text front → Rest text (is.content ++ (closer_of shape ∷ rest))
 inside_rest shape end text front rest pairs is r =
     let l = leads (closer_of shape) is.inside in
     let same : (lead_of (closer_of shape) is.inside).1 ≡ is.content ++ (closer_of shape ∷ rest) = ap (λ (x : ℕ × List ℕ). x.1) is.lead in
-    let whole : front ≡ (opener_of shape ∷ l.lead) ++ (is.content ++ (closer_of shape ∷ rest)) = is.opens ∙ ap (λ i. opener_of shape ∷ i) (l.whole ∙ ap (λ i. l.lead ++ i) same) in
-    further text (opener_of shape ∷ l.lead) (is.content ++ (closer_of shape ∷ rest)) (record { before = r.before; whole = r.whole ∙ ap (λ f. r.before ++ f) whole })
+    let whole : front ≡ (opener_of shape ∷ l.lead) ++ (is.content ++ (closer_of shape ∷ rest)) = is.opens
+    ∙ ap (λ i. opener_of shape ∷ i) (l.whole ∙ ap (λ i. l.lead ++ i) same) in
+    further text (opener_of shape ∷ l.lead) (is.content ++ (closer_of shape ∷ rest))
+    (record { before = r.before; whole = r.whole ∙ ap (λ f. r.before ++ f) whole })
 
-bracket_rest : (shape : Bracket) (end : ℕ) (text front rest : List ℕ) (pairs : List Pair) → IsBracket shape end front rest pairs → Rest text front → Rest text rest
+bracket_rest : (shape : Bracket) (end : ℕ) (text front rest : List ℕ) (pairs : List Pair) → IsBracket shape end front rest pairs →
+    Rest text front → Rest text rest
 bracket_rest shape end text front rest pairs is r =
-    further text (closer_of shape ∷ []) rest (further text is.content (closer_of shape ∷ rest) (inside_rest shape end text front rest pairs is r))
+    further text (closer_of shape ∷ []) rest
+    (further text is.content (closer_of shape ∷ rest) (inside_rest shape end text front rest pairs is r))
 
-bracket_stands : (shape : Bracket) (text front rest : List ℕ) (pairs : List Pair) → IsBracket shape (length text) front rest pairs → Rest text front → AllByRecursion (PairStands text) pairs
+bracket_stands : (shape : Bracket) (text front rest : List ℕ) (pairs : List Pair) → IsBracket shape (length text) front rest pairs →
+    Rest text front → AllByRecursion (PairStands text) pairs
 bracket_stands shape text front rest pairs is r =
     content_stands text (place (length text) (closer_of shape ∷ rest)) is.separator is.content pairs is.holds
     (ends_there text is.content (closer_of shape ∷ rest) (inside_rest shape (length text) text front rest pairs is r))
 
-brackets_rest : (shape : Bracket) (end : ℕ) (text front rest : List ℕ) (pairs : List Pair) → AreBrackets shape end front rest pairs → Rest text front → Rest text rest
+brackets_rest : (shape : Bracket) (end : ℕ) (text front rest : List ℕ) (pairs : List Pair) → AreBrackets shape end front rest pairs →
+    Rest text front → Rest text rest
 brackets_rest shape end text front rest pairs (NoBracket bytes none) r = r
 brackets_rest shape end text front rest pairs (OneBracket bytes middle behind first others is are) r =
     brackets_rest shape end text middle behind others are (bracket_rest shape end text bytes middle first is r)
 
-brackets_stand : (shape : Bracket) (text front rest : List ℕ) (pairs : List Pair) → AreBrackets shape (length text) front rest pairs → Rest text front → AllByRecursion (PairStands text) pairs
+brackets_stand : (shape : Bracket) (text front rest : List ℕ) (pairs : List Pair) → AreBrackets shape (length text) front rest pairs →
+    Rest text front → AllByRecursion (PairStands text) pairs
 brackets_stand shape text front rest pairs (NoBracket bytes none) r = tt
 brackets_stand shape text front rest pairs (OneBracket bytes middle behind first others is are) r =
     all_append (PairStands text) first others (bracket_stands shape text bytes middle first is r)
@@ -127,7 +141,8 @@ brackets_stand shape text front rest pairs (OneBracket bytes middle behind first
 -- ---- legs
 
 leg_rest : (end : ℕ) (text front rest : List ℕ) (leg : LegText) → IsLeg end front rest leg → Rest text front → Rest text rest
-leg_rest end text front rest leg is r = further text leg.endpoint rest (brackets_rest Square end text front (leg.endpoint ++ rest) leg.pairs is.brackets r)
+leg_rest end text front rest leg is r =
+    further text leg.endpoint rest (brackets_rest Square end text front (leg.endpoint ++ rest) leg.pairs is.brackets r)
 
 leg_stands : (text front rest : List ℕ) (leg : LegText) → IsLeg (length text) front rest leg → Rest text front → LegStands text leg
 leg_stands text front rest leg is r =
@@ -142,10 +157,12 @@ leg_stands text front rest leg is r =
       pairs = brackets_stand Square text front (leg.endpoint ++ rest) leg.pairs is.brackets r;
     }
 
-legs_stand : (text front : List ℕ) (groups : List (List LegText)) → AreLegs (length text) front groups → Rest text front → AllByRecursion (λ group. AllByRecursion (LegStands text) group) groups
+legs_stand : (text front : List ℕ) (groups : List (List LegText)) → AreLegs (length text) front groups → Rest text front →
+    AllByRecursion (λ group. AllByRecursion (LegStands text) group) groups
 legs_stand text front groups (LastLeg bytes leg is) r = ((leg_stands text bytes [] leg is r, tt), tt)
 legs_stand text front groups (SameGroup bytes rest leg legs others is are) r =
-    let on = legs_stand text rest (legs ∷ others) are (further text (44 ∷ []) rest (leg_rest (length text) text bytes (44 ∷ rest) leg is r)) in
+    let on = legs_stand text rest (legs ∷ others) are
+    (further text (44 ∷ []) rest (leg_rest (length text) text bytes (44 ∷ rest) leg is r)) in
     ((leg_stands text bytes (44 ∷ rest) leg is r, on.0), on.1)
 legs_stand text front groups (NextGroup bytes rest leg others is are) r =
     let on = legs_stand text rest others are (further text (124 ∷ []) rest (leg_rest (length text) text bytes (124 ∷ rest) leg is r)) in

@@ -27,7 +27,8 @@ reached done legs room = record { groups = done; legs = legs; room = room }
 abbrev Step : Type 0
 Step = Result (Reached × Option (List ℕ)) DialFault
 
-more_count : (leg : LegText) (legs : List LegText) (groups : List (List LegText)) → count ((leg ∷ legs) ∷ groups) ≡ suc (count (legs ∷ groups))
+more_count : (leg : LegText) (legs : List LegText) (groups : List (List LegText)) →
+    count ((leg ∷ legs) ∷ groups) ≡ suc (count (legs ∷ groups))
 more_count leg legs groups = omega arith
 
 one_count : (leg : LegText) (groups : List (List LegText)) → count ((leg ∷ []) ∷ groups) ≡ suc (count groups)
@@ -35,28 +36,35 @@ one_count leg groups = omega arith
 
 -- ---- what is spelt is read
 
-step_read : (end : ℕ) (done : List (List LegText)) (legs : List LegText) (room : ℕ) (text rest : List ℕ) (leg : LegText) → Stops rest → IsLeg end text rest leg
+step_read : (end : ℕ) (done : List (List LegText)) (legs : List LegText) (room : ℕ) (text rest : List ℕ) (leg : LegText) → Stops rest →
+    IsLeg end text rest leg
     → leg_step end (reached done legs (suc room)) text ≡ Ok (behind_leg (reached done (legs ++ leg ∷ []) room) rest)
 unfolding leg_step added
 step_read end done legs room text rest leg stops is =
-    ap (λ (r : Legs). r >>= λ x. (added (reached done legs (suc room)) x.0 >>= λ next. Ok (behind_leg next x.1))) (leg_read end text rest leg stops is)
+    ap (λ (r : Legs). r >>= λ x. (added (reached done legs (suc room)) x.0 >>= λ next. Ok (behind_leg next x.1)))
+    (leg_read end text rest leg stops is)
 
 abbrev after : ℕ → ℕ → Reached × Option (List ℕ) → Groups
 after more end x = go_on (λ next rest. legs_within more end next rest) x
 
-legs_read : (end : ℕ) (text : List ℕ) (groups : List (List LegText)) → AreLegs end text groups → (more : ℕ) (done : List (List LegText)) (legs : List LegText) (room : ℕ) → length text < more → count groups ≤ room
+legs_read : (end : ℕ) (text : List ℕ) (groups : List (List LegText)) → AreLegs end text groups →
+    (more : ℕ) (done : List (List LegText)) (legs : List LegText) (room : ℕ) → length text < more → count groups ≤ room
     → legs_within more end (reached done legs room) text ≡ Ok (done ++ joined legs groups)
 unfolding behind_leg
 legs_read end text groups are zero done legs room enough few = absurd (omega arith)
 legs_read end text groups (LastLeg bytes leg is) (suc more) done legs zero enough few = absurd (omega (arith, few, one_count leg []))
-legs_read end text groups (SameGroup bytes rest leg others further is are) (suc more) done legs zero enough few = absurd (omega (arith, few, more_count leg others further))
-legs_read end text groups (NextGroup bytes rest leg further is are) (suc more) done legs zero enough few = absurd (omega (arith, few, one_count leg further))
+legs_read end text groups (SameGroup bytes rest leg others further is are) (suc more) done legs zero enough few =
+    absurd (omega (arith, few, more_count leg others further))
+legs_read end text groups (NextGroup bytes rest leg further is are) (suc more) done legs zero enough few =
+    absurd (omega (arith, few, one_count leg further))
 legs_read end text groups (LastLeg bytes leg is) (suc more) done legs (suc room) enough few =
-    ap (λ (r : Step). r >>= after more end) (step_read end done legs room bytes [] leg tt is) ∙ ap (λ l. Ok (done ++ l)) (sym (joined_some legs (leg ∷ []) []))
+    ap (λ (r : Step). r >>= after more end) (step_read end done legs room bytes [] leg tt is)
+    ∙ ap (λ l. Ok (done ++ l)) (sym (joined_some legs (leg ∷ []) []))
 legs_read end text groups (SameGroup bytes rest leg others further is are) (suc more) done legs (suc room) enough few =
     let fewer : length rest < more = omega (arith, enough, leg_long end bytes (44 ∷ rest) leg is) in
     let groups_are : joined (legs ++ leg ∷ []) (others ∷ further) ≡ joined legs ((leg ∷ others) ∷ further) =
-    joined_some (legs ++ leg ∷ []) others further ∙ ap (λ l. l ∷ further) (append_assoc legs (leg ∷ []) others) ∙ sym (joined_some legs (leg ∷ others) further) in
+    joined_some (legs ++ leg ∷ []) others further ∙ ap (λ l. l ∷ further) (append_assoc legs (leg ∷ []) others)
+    ∙ sym (joined_some legs (leg ∷ others) further) in
     ap (λ (r : Step). r >>= after more end) (step_read end done legs room bytes (44 ∷ rest) leg refl is)
     ∙ legs_read end rest (others ∷ further) are more done (legs ++ leg ∷ []) room fewer (omega (arith, few, more_count leg others further))
     ∙ ap (λ l. Ok (done ++ l)) groups_are
@@ -71,7 +79,8 @@ legs_read end text groups (NextGroup bytes rest leg further is are) (suc more) d
 within_read : (text : List ℕ) (dial : Dial) → Spells text dial → dial_within (length text) text ≡ Ok dial
 unfolding dial_within groups_at
 within_read text dial is =
-    ap (λ (r : Taken). r >>= λ x. (groups_at (length text) x.1 >>= λ groups. Ok (record { pairs = x.0; groups = groups }))) (brackets_read Brace (length text) text is.rest dial.pairs is.braces)
+    ap (λ (r : Taken). r >>= λ x. (groups_at (length text) x.1 >>= λ groups. Ok (record { pairs = x.0; groups = groups })))
+    (brackets_read Brace (length text) text is.rest dial.pairs is.braces)
     ∙ ap (λ (r : Groups). r >>= λ groups. Ok (record { pairs = dial.pairs; groups = groups }))
     (legs_read (length text) is.rest dial.groups is.legs (length is.rest + 1) [] [] 64 (omega arith) is.few)
 
@@ -98,20 +107,30 @@ pub record LegsSpelt (end : ℕ) (all done : List (List LegText)) (legs : List L
 
 abbrev Again : ℕ → ℕ → List (List LegText) → Type 0
 Again more end all =
-    (done : List (List LegText)) (legs : List LegText) (room : ℕ) (text : List ℕ) → legs_within more end (reached done legs room) text ≡ Ok all → length text < more → LegsSpelt end all done legs room text
+    (done : List (List LegText)) (legs : List LegText) (room : ℕ) (text : List ℕ) →
+    legs_within more end (reached done legs room) text ≡ Ok all → length text < more → LegsSpelt end all done legs room text
 
-behind_spelt : (more end : ℕ) (all done : List (List LegText)) (legs : List LegText) (room : ℕ) (text rest : List ℕ) (leg : LegText) → IsLeg end text rest leg → Stops rest → length text < suc more → Again more end all
+behind_spelt : (more end : ℕ) (all done : List (List LegText)) (legs : List LegText) (room : ℕ) (text rest : List ℕ) (leg : LegText) →
+    IsLeg end text rest leg → Stops rest → length text < suc more → Again more end all
     → after more end (behind_leg (reached done (legs ++ leg ∷ []) room) rest) ≡ Ok all → LegsSpelt end all done legs (suc room) text
 unfolding behind_leg
 behind_spelt more end all done legs room text [] leg is stops enough again e =
-    record { group = leg ∷ []; groups = []; are = LastLeg text leg is; all_are = sym (same_groups (done ++ (legs ++ leg ∷ []) ∷ []) all e); few = omega (arith, one_count leg []) }
+    record {
+      group = leg ∷ [];
+      groups = [];
+      are = LastLeg text leg is;
+      all_are = sym (same_groups (done ++ (legs ++ leg ∷ []) ∷ []) all e);
+      few = omega (arith, one_count leg []);
+    }
 behind_spelt more end all done legs room text (b ∷ rest) leg is stops enough again e = by (b == 44) refl e
   where
     fewer : length rest < more
     fewer = omega (arith, enough, leg_long end text (b ∷ rest) leg is)
 
     by : (t : Bool) → (b == 44) ≡ t
-        → after more end (cond t (reached done (legs ++ leg ∷ []) room, Some rest) (reached (done ++ (legs ++ leg ∷ []) ∷ []) [] room, Some rest)) ≡ Ok all → LegsSpelt end all done legs (suc room) text
+        → after more end
+        (cond t (reached done (legs ++ leg ∷ []) room, Some rest) (reached (done ++ (legs ++ leg ∷ []) ∷ []) [] room, Some rest)) ≡ Ok
+        all → LegsSpelt end all done legs (suc room) text
     by true comma e =
         let P : ℕ → Type 0 = λ c. IsLeg end text (c ∷ rest) leg in
         let on = again done (legs ++ leg ∷ []) room rest e fewer in
@@ -133,7 +152,8 @@ behind_spelt more end all done legs room text (b ∷ rest) leg is stops enough a
           few = omega (arith, on.few, one_count leg (on.group ∷ on.groups));
         }
 
-legs_spelt : (more end : ℕ) (all done : List (List LegText)) (legs : List LegText) (room : ℕ) (text : List ℕ) → legs_within more end (reached done legs room) text ≡ Ok all → length text < more
+legs_spelt : (more end : ℕ) (all done : List (List LegText)) (legs : List LegText) (room : ℕ) (text : List ℕ) →
+    legs_within more end (reached done legs room) text ≡ Ok all → length text < more
     → LegsSpelt end all done legs room text
 unfolding leg_step added
 legs_spelt zero end all done legs room text e enough = absurd (omega arith)
@@ -141,9 +161,11 @@ legs_spelt (suc more) end all done legs room text e enough =
     let step = bind_ok (leg_step end (reached done legs room) text) (after more end) all e in
     let leg = bind_ok (leg_at end text) (λ x. (added (reached done legs room) x.0 >>= λ next. Ok (behind_leg next x.1))) step.0 step.1 in
     let spelt = leg_spelt end text leg.0.1 leg.0.0 leg.1 in
-    by room spelt (ap (λ (r : Step). r >>= after more end) leg.2 ∙ step.2) (λ done legs room rest reads fewer. legs_spelt more end all done legs room rest reads fewer)
+    by room spelt (ap (λ (r : Step). r >>= after more end) leg.2 ∙ step.2)
+    (λ done legs room rest reads fewer. legs_spelt more end all done legs room rest reads fewer)
   where
-    by : {leg : LegText} {rest : List ℕ} (room : ℕ) → LegSpelt end text rest leg → ((added_on room done legs leg >>= λ next. Ok (behind_leg next rest)) >>= after more end) ≡ Ok all → Again more end all
+    by : {leg : LegText} {rest : List ℕ} (room : ℕ) → LegSpelt end text rest leg →
+        ((added_on room done legs leg >>= λ next. Ok (behind_leg next rest)) >>= after more end) ≡ Ok all → Again more end all
         → LegsSpelt end all done legs room text
     by zero spelt e again = absurd (cc)
     by (suc room) spelt e again = behind_spelt more end all done legs room text _ _ spelt.is spelt.stops enough again e
@@ -157,7 +179,9 @@ same_dial x y e = cc
 within_spelt : (text : List ℕ) (dial : Dial) → text ≢ [] → dial_within (length text) text ≡ Ok dial → Spells text dial
 unfolding dial_within groups_at
 within_spelt text dial some e =
-    let braces = bind_ok (brackets_at Brace (length text) text) (λ x. (groups_at (length text) x.1 >>= λ groups. Ok (record { pairs = x.0; groups = groups }))) dial e in
+    let braces =
+    bind_ok (brackets_at Brace (length text) text)
+    (λ x. (groups_at (length text) x.1 >>= λ groups. Ok (record { pairs = x.0; groups = groups }))) dial e in
     let pairs = braces.0.0 in
     let rest = braces.0.1 in
     let legs = bind_ok (groups_at (length text) rest) (λ groups. Ok (record { pairs = pairs; groups = groups })) dial braces.2 in

@@ -31,6 +31,9 @@ lead_of closer (a ∷ b ∷ x ∷ bytes) = if a == 94 && b == 94 && not (x == cl
 abbrev pub Taken : Type 0
 Taken = Result (List Pair × List ℕ) DialFault
 
+abbrev pub seen : List Pair → Bor (List ℕ) → List Pair × List ℕ
+seen pairs rest = (pairs, rest.now)
+
 abbrev pub taken_seen : RawPairs × Bor (List ℕ) → List Pair × List ℕ
 taken_seen x = (x.0, x.1.now)
 

@@ -1,5 +1,6 @@
 -- The dial string that a text is, or its first fault.
 use Rattle.std.specs.Prelude.{◌==◌, ℕ, zero, suc, ◌+◌, if◌then◌else◌, List, [], ◌∷◌, ◌++◌, length, Option, None, Some, Result, Ok}
+use Rattle.std.specs.Borrow.{Bor}
 use Rattle.fs_dial.specs.Results.{◌>>=◌}
 use Rattle.fs_dial.specs.declared.bracket.Bracket.TheVariants.{Brace}
 use Rattle.fs_dial.specs.declared.fault.DialFault.{DialFault}
@@ -7,7 +8,7 @@ use Rattle.fs_dial.specs.declared.fault.DialKind.TheVariants as kind
 use Rattle.fs_dial.specs.declared.dial_string.DialString.{DialString}
 use Rattle.fs_dial.specs.declared.reading.Reading.{Reading}
 use Rattle.fs_dial.specs.Faults.{fault}
-use Rattle.fs_dial.specs.Pairs.{Pair}
+use Rattle.fs_dial.specs.Pairs.{Pair, rest_seen}
 use Rattle.fs_dial.specs.Brackets.{brackets_at}
 use Rattle.fs_dial.specs.Legs.{LegText, leg_at}
 
@@ -28,6 +29,9 @@ pub record Reached : Type 0 where
 abbrev pub reached_of : Reading → Reached
 reached_of r = record { groups = r.groups; legs = r.legs; room = r.room }
 
+abbrev pub taken : Reading → Option (Bor (List ℕ)) → Reached × Option (List ℕ)
+taken r rest = (reached_of r, rest_seen rest)
+
 abbrev pub added_on : ℕ → List (List LegText) → List LegText → LegText → Result Reached DialFault
 added_on zero groups legs leg = fault leg.at kind.TooMany
 added_on (suc room) groups legs leg = Ok (record { groups = groups; legs = legs ++ leg ∷ []; room = room })
@@ -35,6 +39,9 @@ added_on (suc room) groups legs leg = Ok (record { groups = groups; legs = legs 
 -- with one more leg
 unfoldable pub added : Reached → LegText → Result Reached DialFault
 added r leg = added_on r.room r.groups r.legs leg
+
+abbrev pub added_to : Reading → LegText → Result Reached DialFault
+added_to r leg = added (reached_of r) leg
 
 -- the group is at its end
 abbrev pub ended : Reached → Reached

@@ -28,6 +28,10 @@ plain p = plain_of p.separator Bare p.value
 abbrev pub rest_seen : Option (Bor (List ℕ)) → Option (List ℕ)
 rest_seen rest = option_map (λ r. r.now) rest
 
+-- the pairs so far, and what stands behind them
+abbrev pub taken : List Pair → Option (Bor (List ℕ)) → List Pair × Option (List ℕ)
+taken pairs rest = (pairs, rest_seen rest)
+
 abbrev pub is_equals : ℕ → Bool
 is_equals b = b == 61
 

@@ -21,7 +21,8 @@ pub data Protects (mark : ℕ) : List ℕ → Type 0 where
   NoBytes : Protects mark []
   Byte : (b : ℕ) (bytes : List ℕ) → is_guard b ≡ false → (b == mark) ≡ false → Protects mark bytes → Protects mark (b ∷ bytes)
   Escaped : (b : ℕ) (bytes : List ℕ) → Protects mark bytes → Protects mark (92 ∷ b ∷ bytes)
-  InQuotes : (inside bytes : List ℕ) → list_any is_quote inside ≡ false → Protects mark bytes → Protects mark (39 ∷ (inside ++ (39 ∷ bytes)))
+  InQuotes : (inside bytes : List ℕ) → list_any is_quote inside ≡ false → Protects mark bytes →
+      Protects mark (39 ∷ (inside ++ (39 ∷ bytes)))
 
 -- a pair that begins at a place: a name, `=` and a value
 pub record IsPair (at separator : ℕ) (bytes : List ℕ) (pair : Pair) : Type 0 where
@@ -33,9 +34,11 @@ pub record IsPair (at separator : ℕ) (bytes : List ℕ) (pair : Pair) : Type 0
 
 -- pairs with a separator between each two; a quote and a backslash never separate
 pub data ArePairs (end separator : ℕ) : List ℕ → List Pair → Type 0 where
-  LastPair : (bytes : List ℕ) (pair : Pair) → Protects separator bytes → IsPair (place end bytes) separator bytes pair → ArePairs end separator bytes (pair ∷ [])
+  LastPair : (bytes : List ℕ) (pair : Pair) → Protects separator bytes → IsPair (place end bytes) separator bytes pair →
+      ArePairs end separator bytes (pair ∷ [])
   NextPair : (bytes rest : List ℕ) (pair : Pair) (pairs : List Pair) → Protects separator bytes → is_guard separator ≡ false
-      → IsPair (place end (bytes ++ (separator ∷ rest))) separator bytes pair → ArePairs end separator rest pairs → ArePairs end separator (bytes ++ (separator ∷ rest)) (pair ∷ pairs)
+      → IsPair (place end (bytes ++ (separator ∷ rest))) separator bytes pair → ArePairs end separator rest pairs →
+      ArePairs end separator (bytes ++ (separator ∷ rest)) (pair ∷ pairs)
 
 -- the content of a bracket is empty and holds no pairs, or it is pairs
 abbrev pub Holds : ℕ → ℕ → List ℕ → List Pair → Type 0
@@ -61,7 +64,8 @@ begins_with byte (b ∷ bytes) = b == byte
 -- all brackets of a shape that stand in front, with all their pairs
 pub data AreBrackets (shape : Bracket) (end : ℕ) : (text rest : List ℕ) → List Pair → Type 0 where
   NoBracket : (text : List ℕ) → begins_with (opener_of shape) text ≡ false → AreBrackets shape end text text []
-  OneBracket : (text middle rest : List ℕ) (pairs more : List Pair) → IsBracket shape end text middle pairs → AreBrackets shape end middle rest more
+  OneBracket : (text middle rest : List ℕ) (pairs more : List Pair) → IsBracket shape end text middle pairs →
+      AreBrackets shape end middle rest more
       → AreBrackets shape end text rest (pairs ++ more)
 
 -- ---- legs
@@ -76,9 +80,11 @@ pub record IsLeg (end : ℕ) (text rest : List ℕ) (leg : LegText) : Type 0 whe
 -- legs in groups: a last one; one with `,` behind it and others of its group; or one with `|` behind it and further groups
 pub data AreLegs (end : ℕ) : List ℕ → List (List LegText) → Type 0 where
   LastLeg : (text : List ℕ) (leg : LegText) → IsLeg end text [] leg → AreLegs end text ((leg ∷ []) ∷ [])
-  SameGroup : (text rest : List ℕ) (leg : LegText) (legs : List LegText) (groups : List (List LegText)) → IsLeg end text (44 ∷ rest) leg → AreLegs end rest (legs ∷ groups)
+  SameGroup : (text rest : List ℕ) (leg : LegText) (legs : List LegText) (groups : List (List LegText)) → IsLeg end text (44 ∷ rest) leg →
+      AreLegs end rest (legs ∷ groups)
       → AreLegs end text ((leg ∷ legs) ∷ groups)
-  NextGroup : (text rest : List ℕ) (leg : LegText) (groups : List (List LegText)) → IsLeg end text (124 ∷ rest) leg → AreLegs end rest groups
+  NextGroup : (text rest : List ℕ) (leg : LegText) (groups : List (List LegText)) → IsLeg end text (124 ∷ rest) leg →
+      AreLegs end rest groups
       → AreLegs end text ((leg ∷ []) ∷ groups)
 
 -- how many legs there are

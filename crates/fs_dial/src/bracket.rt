@@ -1,10 +1,10 @@
 //! Brackets of pairs.
 
-ghost use Rattle.std.specs.Prelude.{◌≡◌, ◌<◌, ◌≤◌, ℕ, List, length, IfOk, IfSome};
-ghost use Rattle.std.specs.Borrow.{Bor};
+ghost use Rattle.std.specs.Prelude.{◌≡◌, ◌<◌, ◌≤◌, length, IfOk, IfSome};
 ghost use Rattle.fs_dial.specs.Faults.{Answers};
-ghost use Rattle.fs_dial.specs.Pairs.{rest_seen};
+ghost use Rattle.fs_dial.specs.Pairs.{taken};
 ghost use Rattle.fs_dial.specs.Brackets as spec;
+ghost use Rattle.fs_dial.specs.Brackets.{seen};
 
 use crate::fault::{DialKind, DialStop};
 use crate::guard::from_mark;
@@ -85,7 +85,7 @@ fn take_next<'a>(
     text: &'a [u8],
 ) -> Result<Option<&'a [u8]>, DialStop>
     requires { length text.now ≤ end }
-    ensures read { Answers (λ rest. (pairs.new, rest_seen rest)) result (spec.bracket_step bracket end pairs.old text.now) }
+    ensures read { Answers (taken pairs.new) result (spec.bracket_step bracket end pairs.old text.now) }
     ensures within { IfOk result (λ rest. IfSome rest (λ r. length r.now < length text.now)) }
 {
     match text {
@@ -105,7 +105,7 @@ fn take_bracket<'a>(
     text: &'a [u8],
 ) -> Result<&'a [u8], DialStop>
     requires { length text.now < end }
-    ensures read { Answers (λ (rest : Bor (List ℕ)). (pairs.new, rest.now)) result (spec.bracket_at bracket end pairs.old text.now) }
+    ensures read { Answers (seen pairs.new) result (spec.bracket_at bracket end pairs.old text.now) }
     ensures within { IfOk result (λ rest. length rest.now ≤ length text.now) }
 {
     let at = end - text.len() - 1;
@@ -126,7 +126,7 @@ fn close<'a>(
 ) -> Result<&'a [u8], DialStop>
     requires content { length content.now ≤ end }
     requires from { length from.now ≤ length content.now }
-    ensures read { Answers (λ (rest : Bor (List ℕ)). (pairs.new, rest.now)) result (spec.closed_at at end separator pairs.old content.now from.now) }
+    ensures read { Answers (seen pairs.new) result (spec.closed_at at end separator pairs.old content.now from.now) }
     ensures within { IfOk result (λ rest. length rest.now ≤ length from.now) }
 {
     let [_, rest @ ..] = from else {

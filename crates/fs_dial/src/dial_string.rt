@@ -21,8 +21,8 @@ pub struct DialString<'a> {
 
 /// The dial string that a text is, each part a slice of the text, or the fault that is met first from the left.
 ///
-/// `{pairs}` may stand before all, and `[pairs]` before each leg. Legs of a group are separated by `,`, and groups by `|`. There are 64
-/// legs at most. Want of memory is told at place 0.
+/// `{pairs}` may stand before all, and `[pairs]` before each leg. Legs of a group are separated by `,`, and groups by
+/// `|`. There are 64 legs at most. Want of memory is told at place 0.
 #[tactic(auto, unfolding(crate::specs::DialStrings::dial_string))]
 pub fn parse(alloc: Global, text: &[u8]) -> Result<DialString<'_>, DialFault>
     ensures { Tells spec.dial_of result (spec.dial_string text.now) }

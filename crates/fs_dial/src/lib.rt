@@ -1,7 +1,8 @@
-//! Dial strings: `{pairs}[pairs]ENDPOINT,[pairs]ENDPOINT|ENDPOINT`, the legs of an origination with the variables that they are to have.
+//! Dial strings: `{pairs}[pairs]ENDPOINT,[pairs]ENDPOINT|ENDPOINT`, the legs of an origination with the variables that
+//! they are to have.
 //!
-//! Every reader takes the bytes that are left, and answers what it read with the rest, or the first fault. Nothing is copied but the
-//! value of a pair without its quotes and backslashes.
+//! Every reader takes the bytes that are left, and answers what it read with the rest, or the first fault. Nothing is
+//! copied but the value of a pair without its quotes and backslashes.
 #![tactic(auto)]
 
 mod bracket;

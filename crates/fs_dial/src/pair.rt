@@ -39,8 +39,8 @@ impl<'a> Model for RawPairs<'a> {
 }
 
 impl<'a> RawPair<'a> {
-    /// Its value without quotes and backslashes: single quotes protect every byte, and behind a backslash the separator, a quote, a
-    /// backslash and a closing bracket stand for themselves. Any other backslash stays.
+    /// Its value without quotes and backslashes: single quotes protect every byte, and behind a backslash the
+    /// separator, a quote, a backslash and a closing bracket stand for themselves. Any other backslash stays.
     pub fn plain(&self, alloc: Global) -> Result<Txt, Memory>
         ensures { IfOk result (λ text. text ≡ spec.plain (spec.pair_of self.now)) }
     {
@@ -117,7 +117,7 @@ fn take_pair<'a>(
     text: &'a [u8],
 ) -> Result<Option<&'a [u8]>, DialStop>
     requires { length text.now ≤ end }
-    ensures read { Answers (λ rest. (pairs.new, spec.rest_seen rest)) result (spec.pair_step end separator pairs.old text.now) }
+    ensures read { Answers (spec.taken pairs.new) result (spec.pair_step end separator pairs.old text.now) }
     ensures within { IfOk result (λ rest. IfSome rest (λ r. length r.now < length text.now)) }
 {
     let from = from_mark(separator, text);

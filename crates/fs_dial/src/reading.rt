@@ -2,7 +2,6 @@
 
 ghost use Rattle.std.specs.Prelude.{◌≡◌, ◌<◌, ◌≤◌, length, IfOk, IfSome};
 ghost use Rattle.fs_dial.specs.Faults.{Answers};
-ghost use Rattle.fs_dial.specs.Pairs.{rest_seen};
 ghost use Rattle.fs_dial.specs.Legs.{leg_of};
 ghost use Rattle.fs_dial.specs.DialStrings as spec;
 
@@ -40,11 +39,12 @@ impl<'a> Reading<'a> {
         }
     }
 
-    /// Adds the leg in front of the text, in a dial string that ends at a place, and answers what stands behind its separator.
+    /// Adds the leg in front of the text, in a dial string that ends at a place, and answers what stands behind its
+    /// separator.
     #[tactic(auto, unfolding(crate::specs::DialStrings::leg_step, crate::specs::DialStrings::behind_leg))]
     pub fn take_leg(&mut self, end: usize, text: &'a [u8]) -> Result<Option<&'a [u8]>, DialStop>
         requires { length text.now ≤ end }
-        ensures read { Answers (λ rest. (spec.reached_of self.new, rest_seen rest)) result (spec.leg_step end (spec.reached_of self.old) text.now) }
+        ensures read { Answers (spec.taken self.new) result (spec.leg_step end (spec.reached_of self.old) text.now) }
         ensures within { IfOk result (λ rest. IfSome rest (λ r. length r.now < length text.now)) }
     {
         let (leg, behind) = read_leg(self.alloc, end, text)?;
@@ -65,7 +65,7 @@ impl<'a> Reading<'a> {
     /// Adds a leg to the group, unless there are 64 before it.
     #[tactic(auto, unfolding(crate::specs::DialStrings::added))]
     fn add(&mut self, leg: Leg<'a>) -> Result<(), DialStop>
-        ensures { Answers (λ _. spec.reached_of self.new) result (spec.added (spec.reached_of self.old) (leg_of leg.entry)) }
+        ensures { Answers (λ _. spec.reached_of self.new) result (spec.added_to self.old (leg_of leg.entry)) }
     {
         if self.room == 0 {
             return Err(DialStop::at(leg.at, DialKind::TooMany));

@@ -112,7 +112,7 @@ impl Drop for Winner {
 }
 
 impl Winner {
-    /// The same once more.
+    /// Copies what the winner is to do.
     pub fn copy(&self) -> Result<Winner, Memory>
         ensures { IfOk result (λ winner. winner ≡ self.now) }
     {

@@ -82,7 +82,7 @@ fn cut_plain(text: &[u8]) -> (&[u8], &[u8])
     (unquoted(word), behind)
 }
 
-// The same, or another word where there is none.
+// The first word so, or another one where the text is empty, and what stands behind it.
 fn cut_word_or<'a>(otherwise: &'a [u8], text: &'a [u8]) -> (&'a [u8], &'a [u8])
     ensures word { result.0.now ≡ spec.word_or otherwise.entry.now text.entry.now }
     ensures behind { result.1.now ≡ words.behind_quoted text.entry.now }

@@ -48,7 +48,7 @@ impl Route {
         }
     }
 
-    /// The same once more.
+    /// Copies the route.
     pub fn copy(&self) -> Result<Route, Memory>
         ensures { IfOk result (λ route. route ≡ self.now) }
     {

@@ -1,4 +1,3 @@
-pub mod WordLemmas
 pub mod ApiLemmas
 pub mod LineLemmas
 pub mod RunLemmas

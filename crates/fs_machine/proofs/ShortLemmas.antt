@@ -3,9 +3,10 @@ use Rattle.std.proofs.Common.{◌≡◌, ℕ, ◌≤◌, min, ◌==◌, Bool, tr
 use Rattle.std.specs.Str.{bytes_eq}
 use Rattle.std.proofs.lemmas.Bool.{leb-true, not-false}
 use Rattle.std.proofs.lemmas.List.{length-take}
-use Rattle.uuid.proofs.TextLemmas.{by_index_length}
-use Rattle.fs_text.specs.CoreId.{uuid, uuid_text}
+use Rattle.fs_text.specs.CoreId.{uuid}
 use Rattle.fs_text.specs.Number.{read_u64}
+use Rattle.fs_text.specs.Words.{name_in, value_in, without_spaces, word_of, behind_word}
+use Rattle.fs_text.proofs.IdLemmas.{uuid_length}
 use Rattle.fs_text.specs.declared.causes.Cause.TheVariants.{NoRouteDestination, DestinationOutOfOrder, InvalidNumberFormat}
 use Rattle.fs_vars.specs.Pairs.{Text}
 use Rattle.fs_vars.specs.declared.profile.Profile.{Profile}
@@ -15,7 +16,7 @@ use Rattle.fs_api.specs.declared.api.Winner.{Winner}
 use Rattle.fs_api.specs.declared.usages.Which.{Which}
 use Rattle.fs_api.specs.declared.usages.Which.TheVariants as which
 use Rattle.fs_api.specs.Originates as originates
-use Rattle.fs_api.specs.Words.{without_spaces, word_of, behind_word, quoted_word, behind_quoted}
+use Rattle.fs_api.specs.Words.{quoted_word, behind_quoted}
 use Rattle.fs_api.specs.Readings as readings
 use Rattle.fs_api.specs.Readings.{api_named, api_of, expanded_api_of, without_expand}
 use Rattle.fs_app.specs.declared.application.Application.{Application}
@@ -97,10 +98,10 @@ routing_short exten dialplan context =
 app_short : (answers sets unsets exports sets_global evals sleeps hangs_up parks transfers : Bool) (argument : Text) →
     apps.IsShortApplication
     (if answers then app.Answer
-    else (if sets then app.Set (apps.name_in argument) (apps.value_in argument)
+    else (if sets then app.Set (name_in argument) (value_in argument)
     else (if unsets then app.Unset argument
-    else (if exports then app.Export (apps.name_in argument) (apps.value_in argument)
-    else (if sets_global then app.SetGlobal (apps.name_in argument) (apps.value_in argument)
+    else (if exports then app.Export (name_in argument) (value_in argument)
+    else (if sets_global then app.SetGlobal (name_in argument) (value_in argument)
     else (if evals then app.Eval
     else (if sleeps then apps.sleep_application argument
     else (if hangs_up then apps.hangup_application argument
@@ -265,8 +266,7 @@ cut_short : (text : Text) → length (cut text) ≤ 256
 cut_short text = omega (arith, length-take (min 256 (length text)) text)
 
 uuid_short : (core n : ℕ) → length (uuid core n) ≤ 256
-unfolding uuid uuid_text
-uuid_short core n = let long : length (uuid core n) ≡ 36 = by_index_length 36 _ in omega (arith, long)
+uuid_short core n = omega (arith, uuid_length core n)
 
 name_short : (exten : Text) (direction : Direction) → length exten ≤ 256 → length (loopback_name exten direction) ≤ 267
 name_short exten Outbound short = simp length-append (omega (arith, short))

@@ -1,6 +1,7 @@
 -- How a command line is read, and what the commands do.
 use Rattle.std.specs.Prelude.{ℕ, Option, None, Some, codes, if◌then◌else◌}
 use Rattle.std.specs.Str.{bytes_eq}
+use Rattle.fs_text.specs.Words.{word_of, behind_byte}
 use Rattle.fs_vars.specs.Pairs.{Text}
 use Rattle.fs_api.specs.Readings.{api_of}
 use Rattle.fs_state.specs.declared.conn.Phase.{Phase}
@@ -9,7 +10,6 @@ use Rattle.fs_state.specs.declared.conn.Parting.{Parting}
 use Rattle.fs_state.specs.declared.conn.Parting.TheVariants as parting
 use Rattle.fs_state.specs.Switch.{Switch, with_gift}
 use Rattle.fs_machine.specs.Texts.{command_reply, api_response, notice, accepted, invalid, bye, not_found, spoken}
-use Rattle.fs_machine.specs.Words.{word_of, behind_word}
 use Rattle.fs_machine.specs.Connections.{phase_at, conn_changed, admitted, parted}
 use Rattle.fs_machine.specs.Api.{Done, done_by}
 
@@ -23,9 +23,9 @@ pub data Command : Type 0 where
 -- the command that a line is
 unfoldable pub command_of : Text → Command
 command_of line =
-    if bytes_eq (word_of line) (codes "auth") then Auth (behind_word line)
+    if bytes_eq (word_of line) (codes "auth") then Auth (behind_byte 32 line)
     else (if bytes_eq (word_of line) (codes "exit") then Exit
-    else (if bytes_eq (word_of line) (codes "api") then Api (behind_word line) else Unknown))
+    else (if bytes_eq (word_of line) (codes "api") then Api (behind_byte 32 line) else Unknown))
 
 -- ---- what commands do
 

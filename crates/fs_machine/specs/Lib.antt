@@ -1,6 +1,5 @@
 pub mod Texts
 pub mod Entries
-pub mod Words
 pub mod Connections
 pub mod Due
 pub mod Questions

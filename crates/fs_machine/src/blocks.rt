@@ -21,7 +21,7 @@ pub(crate) fn line_of(block: &[u8]) -> &[u8]
 }
 
 // The text of the first line, and what stands behind it, if a line ends there.
-#[tactic(auto, using(crate::proofs::WordLemmas::word_rules))]
+#[tactic(auto, using(fs_text::proofs::Cuts::word_rules))]
 fn cut_line(bytes: &[u8]) -> Option<(&[u8], &[u8])>
     ensures line { MatchOption result (spec.first_text (spec.lines_of bytes.now) ≡ [])
         (λ cut. spec.first_text (spec.lines_of bytes.now)

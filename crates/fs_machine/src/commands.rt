@@ -11,9 +11,9 @@ ghost use Rattle.fs_machine.specs.Readings.{read_of};
 use crate::api::run_api;
 use crate::connections::{admit, part, phase_at};
 use crate::texts::{command_reply, notice, speak};
-use fs_api::{Api, cut_at};
+use fs_api::Api;
 use fs_state::{Draft, Parting, Phase};
-use fs_text::{Memory, Txt};
+use fs_text::{Memory, Txt, cut_at};
 
 /// A command of the event socket, lent from its line.
 #[derive(Clone, Copy)]

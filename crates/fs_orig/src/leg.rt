@@ -85,7 +85,7 @@ impl OrigLeg {
         })
     }
 
-    /// The same leg once more.
+    /// Copies the leg.
     pub fn copy(&self) -> Result<OrigLeg, Memory>
         ensures { IfOk result (λ leg. leg ≡ self.now) }
     {
@@ -180,7 +180,7 @@ impl OrigLegs {
         self.legs.as_slice()
     }
 
-    /// The same legs once more.
+    /// Copies the legs.
     pub fn copy(&self) -> Result<OrigLegs, Memory>
         ensures { IfOk result (λ legs. legs ≡ self.now) }
     {

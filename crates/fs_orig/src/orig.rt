@@ -60,7 +60,7 @@ impl Orig {
         }
     }
 
-    /// The same origination once more.
+    /// Copies the origination.
     pub fn copy(&self) -> Result<Orig, Memory>
         ensures { IfOk result (λ orig. orig ≡ self.now) }
     {

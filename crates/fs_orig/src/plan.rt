@@ -50,7 +50,7 @@ impl Model for LegPlans {
 }
 
 impl LegPlan {
-    /// The same plan once more.
+    /// Copies the plan.
     pub fn copy(&self, alloc: Global) -> Result<LegPlan, Memory>
         ensures { IfOk result (λ plan. plan ≡ self.now) }
     {
@@ -61,7 +61,7 @@ impl LegPlan {
     }
 }
 
-/// The same pairs once more.
+/// Copies pairs.
 fn copy_pairs(alloc: Global, pairs: &Headers) -> Result<Headers, Memory>
     ensures { IfOk result (λ copy. copy ≡ pairs.now) }
 {
@@ -98,7 +98,7 @@ impl LegGroup {
         self.plans.as_slice()
     }
 
-    /// The same group once more.
+    /// Copies the group.
     pub fn copy(&self) -> Result<LegGroup, Memory>
         ensures { IfOk result (λ group. group ≡ self.now) }
     {
@@ -167,7 +167,7 @@ impl LegPlans {
         self.groups.as_slice()
     }
 
-    /// The same groups once more.
+    /// Copies the groups.
     pub fn copy(&self) -> Result<LegPlans, Memory>
         ensures { IfOk result (λ plans. plans ≡ self.now) }
     {

@@ -107,7 +107,7 @@ fn last_cause_at(legs: &[OrigLeg], place: u64) -> Option<Cause>
     last
 }
 
-/// The same position in 32 bits.
+/// A position in 32 bits.
 fn narrow(position: Option<usize>) -> Option<u32>
     requires { ForSome position (λ found. found < 2 ^ 32) }
     ensures { result ≡ position }

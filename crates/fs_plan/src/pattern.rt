@@ -85,7 +85,7 @@ impl Pattern {
         }
     }
 
-    /// The same by a search. The groups are looked for only where the pattern has any.
+    /// What a search finds in a value. The groups are looked for only where the pattern has any.
     fn searched(&self, alloc: Global, value: &[u8]) -> Result<Tested, Memory>
         ensures { IfOk result (λ t. t ≡ spec.tested self.now value.now) }
     {

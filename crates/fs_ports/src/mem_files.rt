@@ -123,7 +123,7 @@ impl Files for MemFiles {
     }
 }
 
-// The same files once more.
+// Copies files.
 fn copies(alloc: Global, files: &[(Txt, Txt)]) -> Result<Vec<(Txt, Txt)>, Memory>
     ensures { IfOk result (λ copied. copied.items ≡ files.now) }
 {

@@ -41,7 +41,7 @@ impl Txt {
         Ok(Txt { bytes })
     }
 
-    /// The same text once more, in constant time.
+    /// Copies the text in constant time.
     pub fn copy(&self) -> Result<Txt, Memory>
         ensures { IfOk result (λ t. t ≡ self.now) }
     {

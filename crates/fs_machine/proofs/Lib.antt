@@ -42,3 +42,4 @@ pub mod WinnerMoves
 pub mod ChannelMoves
 pub mod SoundLemmas
 pub mod SoundLaws
+pub mod CountLemmas

@@ -1,5 +1,5 @@
 //! Originations that jobs try: how they begin, and what comes of them.
-ghost use Rattle.std.specs.Prelude.{◌≡◌, slice_get, IfOk, OnOk};
+ghost use Rattle.std.specs.Prelude.{◌≡◌, Some, slice_get, IfOk, OnOk};
 ghost use Rattle.fs_state.specs.Drafts.{drafted};
 ghost use Rattle.fs_machine.specs.Attempts as spec;
 ghost use Rattle.fs_machine.specs.Originations.{won};
@@ -85,10 +85,10 @@ pub(crate) fn judge_attempt(
         return Ok(());
     };
     match judge(orig, draft.moment()) {
-        Verdict::Won { position } => {
-            let leg = leg_at(orig, position as usize)?;
-            win_attempt(draft, attempt, winner, leg)
-        }
+        Verdict::Won { position } => match leg_at(orig, position as usize)? {
+            Some(leg) => win_attempt(draft, attempt, winner, &leg),
+            None => Ok(()),
+        },
         Verdict::Failed(cause) => fail(draft, attempt, cause),
         Verdict::Expired => {
             let slots = living_slots(draft.alloc(), orig)?;
@@ -108,19 +108,16 @@ fn leg_at(orig: &Orig, position: usize) -> Result<Option<OrigLeg>, Memory>
     }
 }
 
-// Ends an origination that a leg has won, if there is one.
+// Ends an origination that a leg has won.
 fn win_attempt(
     draft: &mut Draft<'_>,
     attempt: Attempt,
     winner: &Winner,
-    leg: Option<OrigLeg>,
+    leg: &OrigLeg,
 ) -> Result<(), Memory>
     ensures base { draft.new.base ≡ draft.old.base }
-    ensures ok { OnOk result (drafted draft.new ≡ spec.won_at attempt winner.now leg (drafted draft.old)) }
+    ensures ok { OnOk result (drafted draft.new ≡ spec.won_at attempt winner.now (Some leg.now) (drafted draft.old)) }
 {
-    let Some(leg) = leg else {
-        return Ok(());
-    };
     let answer = made_text(draft.alloc(), leg.uuid.as_bytes())?;
     win(draft, leg.slot.unwrap_or(0), winner)?;
     end_attempt(draft, attempt, answer.as_bytes())

@@ -13,7 +13,7 @@ use crate::connections::{admit, part, phase_at};
 use crate::texts::{command_reply, notice, speak};
 use fs_api::Api;
 use fs_state::{Draft, Parting, Phase};
-use fs_text::{Memory, Txt, cut_at};
+use fs_text::{Memory, cut_at};
 
 /// A command of the event socket, lent from its line.
 #[derive(Clone, Copy)]

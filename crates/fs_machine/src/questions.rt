@@ -9,10 +9,12 @@ ghost use Rattle.fs_machine.specs.Due as due;
 ghost use Rattle.fs_machine.specs.Events.{happened, events_of, CountsEvents, CountsHangups};
 ghost use Rattle.fs_machine.specs.Questions as spec;
 ghost use Rattle.fs_machine.specs.Runs.{state_of};
+ghost use Rattle.fs_machine.specs.Step.{reads};
 
 use crate::connections::phase_of;
 use crate::due::{DueActor, due_among_all, due_among_jobs, due_in_slot};
 use crate::machine::Machine;
+use crate::refused::reads;
 use fs_state::{Core, Counts, Draft, Parting, Phase};
 
 impl Machine {
@@ -112,6 +114,13 @@ impl Machine {
         phase_of(self.core.conn(conn))
     }
 
+    /// Whether a connection reads commands.
+    pub fn reads(&self, conn: u32) -> bool
+        ensures { result ≡ reads (connections.phase_at (state_of self.now) conn) }
+    {
+        reads(self.phase(conn))
+    }
+
     /// Why a connection reads no further command.
     pub fn parting(&self, conn: u32) -> Option<Parting>
         ensures { result ≡ spec.parting_at (state_of self.now) conn }
@@ -155,7 +164,7 @@ pub(crate) fn owed_to(draft: &Draft<'_>, conn: u32) -> Option<u64>
 }
 
 // How many slots hold a channel.
-#[tactic(auto, using(std::proofs::lemmas::List::Sums::count_by_more_yes, std::proofs::lemmas::List::Sums::count_by_more_no))]
+#[tactic(auto, using(crate::proofs::CountLemmas::count_rules))]
 fn held_among(core: &Core) -> u16
     ensures { result ≡ spec.live core.now }
 {

@@ -100,8 +100,8 @@ fn not_due(due: Option<Due>) -> Option<Refusal>
     }
 }
 
-// Whether a connection in this phase reads commands.
-fn reads(phase: Phase) -> bool
+/// Whether a connection in this phase reads commands.
+pub(crate) fn reads(phase: Phase) -> bool
     ensures { result ≡ spec.reads phase }
 {
     matches!(phase, Phase::Fresh | Phase::Ready)

@@ -1,5 +1,5 @@
 -- When a channel has something to do, seen at different moments.
-use Rattle.std.proofs.Common.{◌≡◌, ℕ, ◌<◌, ◌≤◌, Bool, true, false, cond, List, [], ◌∷◌, None, Some, is_some, refl, subst, ap, arith, leb}
+use Rattle.std.proofs.Common.{◌≡◌, ℕ, ◌<◌, ◌≤◌, Bool, true, false, cond, List, [], ◌∷◌, None, Some, is_some, refl, subst, ap, arith, leb, sym, ◌∙◌}
 use Rattle.std.proofs.lemmas.Bool.{leb-true, leb-false, le-leb}
 use Rattle.fs_text.specs.declared.states.State.{State}
 use Rattle.fs_text.specs.declared.states.State.TheVariants.{CsExecute, CsPark}
@@ -12,19 +12,27 @@ use Rattle.fs_chan.specs.Work.{due_at, due_in_wait, due_in, due_of, runs_actions
 
 -- ---- a moment that is slept to
 
-to_come_at : (now until told : ℕ) → due_at now until ≡ At told → now < told
+pub to_come_at : (now until told : ℕ) → due_at now until ≡ At told → now < told
 to_come_at now until told h = by_test (leb until now) refl h
   where
     by_test : (past : Bool) → leb until now ≡ past → cond past Now (At until) ≡ At told → now < told
     by_test true is h = absurd (cc)
     by_test false is h = let same : until ≡ told = cc in subst (λ t. now < t) same (leb-false until now is)
 
-has_come_at : (now until told : ℕ) → due_at now until ≡ At told → due_at told until ≡ Now
+pub has_come_at : (now until told : ℕ) → due_at now until ≡ At told → due_at told until ≡ Now
 has_come_at now until told h = by_test (leb until now) refl h
   where
     by_test : (past : Bool) → leb until now ≡ past → cond past Now (At until) ≡ At told → due_at told until ≡ Now
     by_test true is h = absurd (cc)
     by_test false is h = let same : until ≡ told = cc in rw (le-leb until told (omega (arith, same))) refl
+
+-- at its own moment a thing is due
+pub due_now : (moment : ℕ) → due_at moment moment ≡ Now
+due_now moment = ap (λ b. cond b Now (At moment)) (le-leb moment moment (omega arith))
+
+-- where it is due at once, it is not later
+pub never_later : (now moment : ℕ) → due_at now now ≡ At moment → ⊥
+never_later now moment is = let e : Now ≡ At moment = sym (due_now now) ∙ is in cc e
 
 stays_at : (now later until : ℕ) → now ≤ later → due_at now until ≡ Now → due_at later until ≡ Now
 stays_at now later until more h = by_test (leb until now) refl h

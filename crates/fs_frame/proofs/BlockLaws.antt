@@ -1,6 +1,6 @@
 -- How blocks lie in a stream.
-use Rattle.std.proofs.Common.{◌≡◌, ◌≤◌, ◌<◌, ℕ, zero, suc, true, is_none, nat_lt, List, [], ◌∷◌, ◌++◌, length, drop, Option, None, Some, refl, sym, ◌∙◌, ap, append_assoc, arith, length-append}
-use Rattle.std.proofs.lemmas.Bool.{and_from, and_parts, lt-ltb, ltb-true}
+use Rattle.std.proofs.Common.{◌≡◌, ◌≤◌, ◌<◌, ℕ, zero, suc, true, is_none, nat_lt, List, [], ◌∷◌, ◌++◌, length, drop, Option, None, Some, refl, sym, ◌∙◌, ap, append_assoc, arith, length-append, Bool, false, ◌&&◌}
+use Rattle.std.proofs.lemmas.Bool.{and_from, and_parts, lt-ltb, ltb-true, ltb-false}
 use Rattle.std.proofs.lemmas.List.{take_at}
 use Rattle.std.proofs.lemmas.List.Folds.{concat-append}
 use Rattle.std.proofs.lemmas.List.Prefix.{front_rest}
@@ -141,3 +141,14 @@ too_long-append rest more long =
     let same : front_of rest ≡ front_of (rest ++ more) = ap front_of (sym (take_at rest more (length rest) refl)) ∙ front_of-take (length rest) (rest ++ more) (omega arith) in
     and_from (nat_lt 65536 (length (rest ++ more))) (is_none (front_of (rest ++ more)))
     (lt-ltb 65536 (length (rest ++ more)) (omega (arith, over, length-append rest more))) (rw (← same) parts.1)
+
+-- bytes with no block in front that are not too long
+pub short_rest : (rest : List ℕ) → HasNoBlock rest → too_long rest ≡ false → length rest ≤ 65536
+unfolding too_long
+short_rest rest no_block short =
+    let nothing = front_of-no_block rest no_block in
+    let few : (nat_lt 65536 (length rest) && true) ≡ false = rw nothing at short in omega (arith, ltb-false 65536 (length rest) (and_true (nat_lt 65536 (length rest)) few))
+  where
+    and_true : (b : Bool) → (b && true) ≡ false → b ≡ false
+    and_true true e = e
+    and_true false e = refl

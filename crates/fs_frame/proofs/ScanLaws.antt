@@ -52,7 +52,7 @@ pub place-le-length : (searched place : ℕ) (bytes : List ℕ) → searched ≤
 place-le-length searched place bytes none found = omega (arith, position_or_len-from searched place bytes none found, position_or_len-le-length is_lf bytes)
 
 -- a CR at the end is left out of the text
-ends_with_cr : (n : ℕ) (bytes : List ℕ) → length bytes ≡ suc n → get_or bytes n 0 ≡ 13 → without_cr bytes ≡ take n bytes
+pub ends_with_cr : (n : ℕ) (bytes : List ℕ) → length bytes ≡ suc n → get_or bytes n 0 ≡ 13 → without_cr bytes ≡ take n bytes
 ends_with_cr n [] len last = absurd (omega arith)
 ends_with_cr zero (byte ∷ []) len last = rw last refl
 ends_with_cr (suc n) (byte ∷ []) len last = absurd (omega arith)
@@ -63,7 +63,7 @@ pub without_cr-cr : (bytes : List ℕ) → 1 ≤ length bytes → get_or bytes (
 without_cr-cr bytes some last = rw (length-take-le (length bytes - 1) bytes (omega arith)) (ends_with_cr (length bytes - 1) bytes (omega arith) last)
 
 -- and nothing is left out where none stands there
-ends_with_other : (n : ℕ) (bytes : List ℕ) → length bytes ≡ suc n → get_or bytes n 0 ≢ 13 → without_cr bytes ≡ bytes
+pub ends_with_other : (n : ℕ) (bytes : List ℕ) → length bytes ≡ suc n → get_or bytes n 0 ≢ 13 → without_cr bytes ≡ bytes
 ends_with_other n [] len last = absurd (omega arith)
 ends_with_other zero (byte ∷ []) len last = step (eqb_tells byte 13)
   where
@@ -80,14 +80,14 @@ without_cr-other (byte ∷ bytes) last =
     rw (take_all (length (byte ∷ bytes)) (byte ∷ bytes) (omega arith)) (ends_with_other (length (byte ∷ bytes) - 1) (byte ∷ bytes) (omega arith) (last (omega arith)))
 
 -- bytes with a first LF: what stands before it, and behind it
-record HasLf (bytes : List ℕ) : Type 0 where
-  content : List ℕ
-  more : List ℕ
-  no_lf : list_any is_lf content ≡ false
-  split : bytes ≡ content ++ 10 ∷ more
+pub record HasLf (bytes : List ℕ) : Type 0 where
+  pub content : List ℕ
+  pub more : List ℕ
+  pub no_lf : list_any is_lf content ≡ false
+  pub split : bytes ≡ content ++ 10 ∷ more
 
 -- there is a first LF, or none
-first_lf : (bytes : List ℕ) → HasLf bytes ⊎ (list_any is_lf bytes ≡ false)
+pub first_lf : (bytes : List ℕ) → HasLf bytes ⊎ (list_any is_lf bytes ≡ false)
 first_lf [] = inr refl
 first_lf (byte ∷ bytes) = step (eqb_tells byte 10) (first_lf bytes)
   where
@@ -96,7 +96,7 @@ first_lf (byte ∷ bytes) = step (eqb_tells byte 10) (first_lf bytes)
     step (inr not_lf) (inl has) = inl (record { content = byte ∷ has.content; more = has.more; no_lf = rw (not_lf.0, has.no_lf) refl; split = ap (λ (bs : List ℕ). byte ∷ bs) has.split })
     step (inr not_lf) (inr none) = inr (rw (not_lf.0, none) refl)
 
-lf_at : (bytes : List ℕ) (has : HasLf bytes) → position_or_len is_lf bytes ≡ length has.content
+pub lf_at : (bytes : List ℕ) (has : HasLf bytes) → position_or_len is_lf bytes ≡ length has.content
 lf_at bytes has = ap (λ (bs : List ℕ). position_or_len is_lf bs) has.split ∙ position_or_len-append is_lf has.content 10 has.more has.no_lf refl
 
 -- nothing stands behind the place of the first LF, so there is none

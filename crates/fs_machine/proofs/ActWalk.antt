@@ -1,5 +1,5 @@
 -- The walk goes on: jobs, commands and all acts.
-use Rattle.std.proofs.Common.{◌≡◌, ℕ, ◌*◌, nat_lt, Bool, true, false, if◌then◌else◌, length, slice_get, Option, None, Some, option_and_then, refl, sym, ap, ◌∙◌}
+use Rattle.std.proofs.Common.{◌≡◌, ℕ, ◌*◌, nat_lt, Bool, true, false, if◌then◌else◌, length, slice_get, Option, None, Some, refl}
 use Rattle.std.specs.Str.{bytes_eq}
 use Rattle.fs_text.specs.declared.causes.Cause.{Cause}
 use Rattle.fs_text.specs.declared.causes.Cause.TheVariants.{NoAnswer, InvalidNumberFormat}
@@ -17,9 +17,9 @@ use Rattle.fs_orig.specs.declared.orig.Orig.{Orig}
 use Rattle.fs_orig.specs.declared.verdict.Verdict.{Verdict}
 use Rattle.fs_orig.specs.declared.verdict.Verdict.TheVariants as verdict
 use Rattle.fs_orig.specs.Endpoints.{is_one_leg}
-use Rattle.fs_orig.specs.Legs.{lives, answer_of}
+use Rattle.fs_orig.specs.Legs.{lives, living_slots}
 use Rattle.fs_orig.specs.Verdicts.{verdict_of}
-use Rattle.fs_orig.proofs.VerdictLemmas.{won_is}
+use Rattle.fs_orig.proofs.VerdictLemmas.{winner_lives}
 use Rattle.fs_state.specs.declared.conn.Phase.{Phase}
 use Rattle.fs_state.specs.declared.conn.Phase.TheVariants as phase
 use Rattle.fs_state.specs.declared.conn.Parting.{Parting}
@@ -36,7 +36,7 @@ use Rattle.fs_machine.specs.declared.attempts.Attempt.{Attempt}
 use Rattle.fs_machine.specs.declared.originations.Caller.{Caller}
 use Rattle.fs_machine.specs.Texts.{ok, accepted, invalid, bye, not_found, notice, command_reply, api_response, spoken, too_many_jobs, failed_text}
 use Rattle.fs_machine.specs.Connections.{phase_at, conn_changed, admitted}
-use Rattle.fs_machine.specs.Attempts.{originate_begun, living_slots, won_at, after_verdict, after_verdict_from}
+use Rattle.fs_machine.specs.Attempts.{originate_begun, won_at, after_verdict, after_verdict_from}
 use Rattle.fs_machine.specs.Jobs.{sleep_begun, after_job_work, job_done_from, job_done}
 use Rattle.fs_machine.specs.Api.{Done, says, owes, killed, slept, originated, done_plainly, done_by}
 use Rattle.fs_machine.specs.Commands as command
@@ -48,14 +48,6 @@ use Rattle.fs_machine.proofs.Walk.{all_hung_kept, worked_kept}
 use Rattle.fs_machine.proofs.RestLemmas.{all_hung_rest, does_same}
 
 -- ---- jobs
-
--- the leg lives that has won
-winner_lives : (now position : ℕ) (o : Orig) (leg : OrigLeg) → verdict_of now o ≡ verdict.Won position → slice_get o.legs position ≡ Some leg → lives leg ≡ true
-winner_lives now position o leg is there = answers (lives leg) refl (sym (ap (option_and_then answer_of) there) ∙ (won_is now position o is).answered)
-  where
-    answers : (test : Bool) → lives leg ≡ test → (if test then leg.answered else None) ≡ Some (won_is now position o is).place → lives leg ≡ true
-    answers true is answered = is
-    answers false is answered = absurd (cc)
 
 module _ (before : Switch) (P : Fact) (calls : KeptByCalls P) (jobs : KeptByJobs before P) where
   judged_kept : (v : Verdict) (a : Attempt) (winner : Winner) (o : Orig) → verdict_of before.moment o ≡ v → orig_of before a.orig ≡ Some o →

@@ -1,5 +1,6 @@
 -- Each act keeps a partner for each live channel, and the texts of all channels within their limits.
 use Rattle.std.proofs.Common.{◌≡◌, ℕ, true, List, Option, None, Some, IsSome, unwrap_or, refl, sym, ap, subst, ◌∙◌, true≢false}
+use Rattle.std.proofs.lemmas.Option.{same_Some}
 use Rattle.fs_text.specs.declared.causes.Cause.{Cause}
 use Rattle.fs_api.specs.declared.api.Winner.{Winner}
 use Rattle.fs_api.specs.declared.api.Winner.TheVariants.{App, Route}
@@ -9,20 +10,20 @@ use Rattle.fs_orig.specs.declared.leg.OrigLeg.{OrigLeg}
 use Rattle.fs_orig.specs.Changes.{with_answer}
 use Rattle.fs_orig.specs.Endpoints.{IsShortAddress}
 use Rattle.fs_places.specs.Places.{held_in}
+use Rattle.fs_places.proofs.RowLemmas.{each_put}
 use Rattle.fs_state.specs.declared.job.JobWork.TheVariants.{Originate}
 use Rattle.fs_state.specs.Switch.{Switch, chan_at, with_chan, with_next_identifier, identifier_of}
 use Rattle.fs_state.specs.Moves.{after_move_from, orig_changed, leg_changed, after_hangup}
+use Rattle.fs_state.proofs.LegTables.{seated}
 use Rattle.fs_machine.specs.declared.attempts.Attempt.{Attempt}
 use Rattle.fs_machine.specs.declared.originations.Call.{Call}
 use Rattle.fs_machine.specs.declared.originations.End.{End}
 use Rattle.fs_machine.specs.Originations.{target_of, end_of, end_made, leg_end, far_end, pair_made, won_by, won}
-use Rattle.fs_machine.proofs.RowLemmas.{each_put}
-use Rattle.fs_machine.proofs.TableLemmas.{same_there}
-use Rattle.fs_machine.proofs.Kept.{Fact, Links, Stays, DoesJob, HasLeg, IsShortWinner, KeptByMoves}
+use Rattle.fs_machine.specs.Sound.{HasLeg}
+use Rattle.fs_machine.proofs.Kept.{Fact, Links, Stays, DoesJob, IsShortWinner, KeptByMoves}
 use Rattle.fs_machine.proofs.ShortLemmas.{sent_short, profile_short}
 use Rattle.fs_machine.proofs.Walk.{hangup_dead, state_told_kept, hung_kept}
 use Rattle.fs_machine.proofs.FrontLemmas.{Front, front_of, orig_changed_front, moves_by_front}
-use Rattle.fs_machine.proofs.LegTables.{seated}
 use Rattle.fs_machine.proofs.LegMoves.{roles_of, IsLegOf, LegsStand, has_leg}
 use Rattle.fs_machine.proofs.WinnerMoves.{WinnersAreShort, winner_of_job}
 
@@ -94,7 +95,7 @@ wins_fit a winner leg s does has stand short h =
     let stands : IsLegOf s.channels (seated a.orig leg.slot) = has_leg s a.orig leg has stand in
     let same : unwrap_or leg.slot 0 ≡ stands.at = ap (λ (slot : Option ℕ). unwrap_or slot 0) stands.is in
     won_at_fit winner (unwrap_or leg.slot 0) s (winner_of_job s a.job a.conn a.orig winner does short)
-    (λ c is. ap is_live (same_there c stands.chan (sym is ∙ (ap (chan_at s) same ∙ stands.there))) ∙ stands.live) h
+    (λ c is. ap is_live (same_Some c stands.chan (sym is ∙ (ap (chan_at s) same ∙ stands.there))) ∙ stands.live) h
 
 -- ---- every move
 

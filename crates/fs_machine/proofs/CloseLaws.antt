@@ -3,6 +3,7 @@ use Rattle.std.proofs.Common.{◌≡◌, ◌≢◌, ℕ, ◌==◌, Bool, true, f
 use Rattle.std.specs.Option.{option_and_then}
 use Rattle.std.proofs.lemmas.Option.{none-some}
 use Rattle.fs_places.specs.Rows.{place_of, row_of, with_row}
+use Rattle.fs_places.proofs.RowLemmas.{row_none, row_of-with_row_same}
 use Rattle.fs_state.specs.declared.conn.Conn.{Conn}
 use Rattle.fs_state.specs.declared.conn.Phase.{Phase}
 use Rattle.fs_state.specs.declared.conn.Phase.TheVariants.{Fresh, Ready, Ending, Closed}
@@ -16,7 +17,6 @@ use Rattle.fs_machine.specs.Connections.{phase_of, phase_at, parted, conn_change
 use Rattle.fs_machine.specs.Questions.{owed_of, owes}
 use Rattle.fs_machine.specs.Owed.{PartsIn, Parts, AreOwed}
 use Rattle.fs_machine.specs.Step.{step, reads, is_closed, is_ending, refused_where, refused_act}
-use Rattle.fs_machine.proofs.RowLemmas.{row_none, row_of-with_row_same}
 
 -- one that is there and reads no commands is ending
 ending_in : (c : Conn) → Parts c → reads c.phase ≡ false → c.phase ≡ Ending

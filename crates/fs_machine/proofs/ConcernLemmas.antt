@@ -5,6 +5,7 @@ use Rattle.std.proofs.lemmas.Option.{same_Some, none-some}
 use Rattle.fs_doc.specs.Reading.{Configuration}
 use Rattle.fs_places.specs.Places.{least_free}
 use Rattle.fs_places.specs.Rows.{place_of, row_of, with_new_row}
+use Rattle.fs_places.proofs.RowLemmas.{row_none, row_of-without_row_other, row_of-with_new_row_same, row_of-with_new_row_other}
 use Rattle.fs_state.specs.declared.conn.Phase.{Phase}
 use Rattle.fs_state.specs.declared.conn.Phase.TheVariants.{Fresh, Ready, Ending, Closed}
 use Rattle.fs_state.specs.Drawn as numbers
@@ -22,7 +23,6 @@ use Rattle.fs_machine.specs.Step.{reads, is_closed, busy, refused_where, refused
 use Rattle.fs_machine.specs.Runs.{run_from, IsRunFrom}
 use Rattle.fs_machine.specs.Frames.{frames_among, given_in, given_by, handed_in, command_in}
 use Rattle.fs_machine.specs.Concerns.{actor_of, IsOwn, IsOthers, Comes, Concerns}
-use Rattle.fs_machine.proofs.RowLemmas.{row_none, row_of-without_row_other, row_of-with_new_row_same, row_of-with_new_row_other}
 use Rattle.fs_machine.proofs.KeepLemmas.{Settles, settles_same, Keeps, act_keeps}
 use Rattle.fs_machine.proofs.WaitingLemmas.{Ordered, none_closed, keeps_waiting, closed_waits, taken_other, without_other, number_new, arrived_ordered, arrived_waits}
 use Rattle.fs_machine.proofs.OrderLemmas.{Orderly, acted_ordered, none_refused, not_full, not_refused, room_left, advanced_orderly, run_orderly, empty_orderly}

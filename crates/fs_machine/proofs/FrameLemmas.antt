@@ -1,8 +1,6 @@
 -- What entries cost and hand out, and what the acts of a connection answer and are refused for.
-use Rattle.std.proofs.Common.{◌≡◌, ℕ, ◌≤◌, true, false, List, [], ◌∷◌, ◌++◌, Option, None, Some, is_some, unwrap_or, slice_get, take, not, refl, sym, ap, ◌∙◌, append_assoc, append-nil, arith}
-use Rattle.std.specs.List.{concat}
+use Rattle.std.proofs.Common.{◌≡◌, ℕ, ◌≤◌, true, false, List, [], ◌∷◌, ◌++◌, Option, None, Some, is_some, unwrap_or, slice_get, not, refl, sym, ap, ◌∙◌, append_assoc, append-nil, arith}
 use Rattle.fs_vars.specs.Pairs.{Text}
-use Rattle.fs_state.specs.Queues.{Frames}
 use Rattle.fs_state.specs.Switch.{Switch, waiting_for}
 use Rattle.fs_machine.specs.declared.entry.Entry.{Entry}
 use Rattle.fs_machine.specs.declared.entry.Act.{Act}
@@ -41,11 +39,6 @@ take_answers s moment conn = refl
 pub take_owes : (s : Switch) (moment taker conn : ℕ) → owes (step s (record { moment = moment; act = Take taker })).state conn ≡ owes s conn
 unfolding step
 take_owes s moment taker conn = refl
-
--- the bytes of the first frame
-pub first_bytes : (frames : Frames) → concat (take 1 frames) ≡ unwrap_or (slice_get frames 0) []
-first_bytes [] = refl
-first_bytes (frame ∷ frames) = append-nil frame
 
 -- a connection that reads commands and is owed no reply gives one, unless the journal is full
 pub command_refused : (s : Switch) (moment conn : ℕ) (block : Text) → reads (phase_at s conn) ≡ true → owes s conn ≡ false →

@@ -4,6 +4,7 @@ use Rattle.std.proofs.lemmas.Bool.{both_ways, eqb-true, eqb-false, cases_eq, or_
 use Rattle.std.proofs.lemmas.List.{nil_from_length}
 use Rattle.fs_doc.specs.Reading.{Configuration}
 use Rattle.fs_places.specs.Rows.{place_of}
+use Rattle.fs_places.proofs.RowLemmas.{place_stands, place_of-without_row_same}
 use Rattle.fs_state.specs.Queues.{Frames}
 use Rattle.fs_state.specs.Switch.{Switch, empty, waiting_at, waiting_for, with_frame_taken, without_conn, at_moment, after_entry}
 use Rattle.fs_machine.specs.declared.entry.Entry.{Entry}
@@ -18,7 +19,6 @@ use Rattle.fs_machine.specs.Step.{is_closed, is_ending, is_unsent, refused_where
 use Rattle.fs_machine.specs.Runs.{run_from, IsRunFrom}
 use Rattle.fs_machine.specs.Frames.{given_in, given_by, frames_from, handed_in, handed_from}
 use Rattle.fs_machine.proofs.FrameLemmas.{handed_more}
-use Rattle.fs_machine.proofs.RowLemmas.{place_stands, place_of-without_row_same}
 use Rattle.fs_machine.proofs.RestLemmas.{whichever}
 use Rattle.fs_machine.proofs.KeepLemmas.{Keeps, act_keeps}
 use Rattle.fs_machine.proofs.WaitingLemmas.{Ordered, none_closed, some_open, keeps_waiting, closed_waits, closed_quietly, none_given, nothing_given, taken_ordered, taken_same, taken_other, without_ordered, without_same, without_other, arrived_waits}

@@ -24,7 +24,8 @@ use Rattle.fs_machine.specs.Connections.{conn_changed_from, conn_changed, admitt
 use Rattle.fs_machine.specs.Originations.{Made, leg_made, won}
 use Rattle.fs_machine.specs.Attempts.{orig_begun, tried_by_job, originate_begun}
 use Rattle.fs_machine.specs.Owing.{after_job_begin, after_job_end}
-use Rattle.fs_machine.proofs.Kept.{Fact, KeptByCalls, KeptByBirths, DoesJob, HasLeg, KeptByMoves}
+use Rattle.fs_machine.specs.Sound.{HasLeg}
+use Rattle.fs_machine.proofs.Kept.{Fact, KeptByCalls, KeptByBirths, DoesJob, KeptByMoves}
 use Rattle.fs_machine.proofs.Walk.{leg_made_kept}
 
 -- what is left of a switch without connections, jobs, originations and what they are given

@@ -7,6 +7,7 @@ use Rattle.fs_doc.specs.Limits.{IsWithin}
 use Rattle.fs_places.specs.declared.numbered.Numbered.{Numbered}
 use Rattle.fs_places.specs.Places.{no_places, least_free}
 use Rattle.fs_places.specs.Rows.{row_of, with_new_row}
+use Rattle.fs_places.proofs.RowLemmas.{row_none, row_gone, places_same, row_of-with_new_row, row_of-with_new_row_other}
 use Rattle.fs_state.specs.declared.conn.Conn.{Conn}
 use Rattle.fs_state.specs.Drawn as numbers
 use Rattle.fs_state.specs.Switch.{Switch, empty, conn_of, at_moment}
@@ -16,7 +17,6 @@ use Rattle.fs_machine.specs.declared.entry.Act.TheVariants.{Arrive, Take, Close}
 use Rattle.fs_machine.specs.declared.refusal.Refusal.TheVariants as refusal
 use Rattle.fs_machine.specs.Here.{IsHere}
 use Rattle.fs_machine.specs.Step.{refused_where, refusal_of, new_conn, arrived, act_done, step}
-use Rattle.fs_machine.proofs.RowLemmas.{row_none, row_gone, places_same, row_of-with_new_row, row_of-with_new_row_other}
 use Rattle.fs_machine.proofs.KeepLemmas.{Hears, Keeps, act_keeps}
 
 -- ---- each act

@@ -1,5 +1,5 @@
 -- What a fact on switches has to bear for every entry to keep it: a case for each move that entries are made of.
-use Rattle.std.proofs.Common.{◌≡◌, ℕ, ◌+◌, Bool, true, false, Option, None, Some, slice_get, unwrap_or}
+use Rattle.std.proofs.Common.{◌≡◌, ℕ, ◌+◌, Bool, true, false, Option, None, Some, unwrap_or}
 use Rattle.fs_text.specs.declared.causes.Cause.{Cause}
 use Rattle.fs_vars.specs.Pairs.{Text}
 use Rattle.fs_vars.specs.Variables.{Variables}
@@ -9,17 +9,16 @@ use Rattle.fs_chan.specs.declared.chan.Chan.{Chan}
 use Rattle.fs_chan.specs.declared.peer.Peer.{Peer}
 use Rattle.fs_chan.specs.Changes.{is_live, IsShortTarget, HasShortFields}
 use Rattle.fs_orig.specs.declared.leg.OrigLeg.{OrigLeg}
-use Rattle.fs_orig.specs.declared.orig.Orig.{Orig}
-use Rattle.fs_orig.specs.Legs.{lives}
 use Rattle.fs_orig.specs.Changes.{with_answer}
 use Rattle.fs_orig.specs.Endpoints.{IsShortAddress}
+use Rattle.fs_places.proofs.HeldLemmas.{IsFree}
 use Rattle.fs_state.specs.declared.conn.Phase.TheVariants.{Fresh}
 use Rattle.fs_state.specs.declared.conn.Parting.{Parting}
 use Rattle.fs_state.specs.declared.conn.Parting.TheVariants as parting
 use Rattle.fs_state.specs.declared.event.Event.{Event}
 use Rattle.fs_state.specs.declared.job.JobWork.{JobWork}
 use Rattle.fs_state.specs.declared.job.JobWork.TheVariants as work
-use Rattle.fs_state.specs.Switch.{Switch, chan_at, with_chan, is_full_of_jobs, orig_of, job_of, without_orig, without_conn, with_frame_taken, with_event, with_gift}
+use Rattle.fs_state.specs.Switch.{Switch, chan_at, with_chan, is_full_of_jobs, job_of, without_orig, without_conn, with_frame_taken, with_event, with_gift}
 use Rattle.fs_state.specs.Moves.{orig_changed, leg_changed, after_hangup}
 use Rattle.fs_machine.specs.declared.attempts.Attempt.{Attempt}
 use Rattle.fs_machine.specs.declared.originations.Call.{Call}
@@ -30,7 +29,7 @@ use Rattle.fs_machine.specs.Originations.{pair_made, target_of, won}
 use Rattle.fs_machine.specs.Attempts.{originate_begun, failed}
 use Rattle.fs_machine.specs.Owing.{after_job_begin, after_job_end}
 use Rattle.fs_machine.specs.Step.{arrived}
-use Rattle.fs_machine.proofs.HeldLemmas.{IsFree}
+use Rattle.fs_machine.specs.Sound.{HasLeg}
 
 -- A fact on a switch while an entry is done. By true nothing has begun in this entry that draws a number, by false one such thing may have.
 abbrev pub Fact : Type 1
@@ -74,14 +73,6 @@ pub record KeptByBirths (P : Fact) : Type 0 where
 -- a job of this number does this work for this connection
 pub record DoesJob (s : Switch) (number conn : ℕ) (what : JobWork) : Type 0 where
   pub there : job_of s number ≡ Some (record { conn = conn; work = what })
-
--- a leg of the origination of this number lives
-pub record HasLeg (s : Switch) (number : ℕ) (leg : OrigLeg) : Type 0 where
-  pub orig : Orig
-  pub there : orig_of s number ≡ Some orig
-  pub position : ℕ
-  pub at : slice_get orig.legs position ≡ Some leg
-  pub lives : lives leg ≡ true
 
 -- the jobs that end; a leg wins in the switch in which the entry begins
 pub record KeptByJobs (before : Switch) (P : Fact) : Type 0 where

@@ -1,6 +1,7 @@
 -- Each act leaves each living leg of an origination a live channel that names the origination.
 use Rattle.std.proofs.Common.{◌≡◌, ℕ, ◌+◌, ◌-◌, ◌<◌, ◌^◌, min, Bool, true, false, if◌then◌else◌, List, [], ◌∷◌, Option, None, Some, option_map, option_and_then, unwrap_or, ◌⊎◌, inl, inr, refl, sym, ap, subst, ◌∙◌, arith, true≢false}
 use Rattle.std.proofs.lemmas.Bool.{cases_eq, both_ways}
+use Rattle.std.proofs.lemmas.Option.{none-some, same_Some}
 use Rattle.fs_text.specs.declared.states.State.TheVariants.{CsHangup}
 use Rattle.fs_text.specs.declared.causes.Cause.{Cause}
 use Rattle.fs_text.specs.declared.causes.Cause.TheVariants.{SwitchCongestion}
@@ -17,11 +18,14 @@ use Rattle.fs_orig.specs.Changes.{with_leg_answer, with_leg_death, with_answer, 
 use Rattle.fs_orig.specs.Endpoints.{endpoint_of}
 use Rattle.fs_places.specs.Places.{held_in, with_held}
 use Rattle.fs_places.specs.Rows.{has_number, place_of, row_of, with_row, without_row}
+use Rattle.fs_places.proofs.HeldLemmas.{IsFree, free_place, held_here, held_there, held_within}
+use Rattle.fs_places.proofs.RowLemmas.{AreDistinct, AreWithin, row_gone, none_stands, above_nowhere, distinct_same, numbers-with_row, place_of-without_row_same, distinct-without_row, within-without_row, distinct-with_new_row, within-with_new_row}
 use Rattle.fs_state.specs.declared.conn.Conn.{Conn}
 use Rattle.fs_state.specs.declared.conn.Parting.TheVariants as parting
 use Rattle.fs_state.specs.declared.job.JobWork.TheVariants.{Sleep, Originate}
 use Rattle.fs_state.specs.Switch.{Switch, chan_at, with_chan, free_slot, with_next_identifier, identifier_of, next_orig_number, orig_of, with_orig, with_new_orig, without_orig, with_new_job, without_job, with_event}
 use Rattle.fs_state.specs.Moves.{with_state_events, after_move_from, orig_changed_from, orig_changed, leg_changed, its_leg_changed, hangup_event, after_hangup_from, after_one_hangup, after_hangup}
+use Rattle.fs_state.proofs.LegTables.{Origs, Seat, seated, seat_if, seat_of, seat_in, seat_at, in_slot, Fewer, seat_number, seat_its, answer_spares, death_spares, touched_spares, row_there, changed_fewer, without_fewer, death_leaves_none, new_or_old}
 use Rattle.fs_machine.specs.declared.attempts.Attempt.{Attempt}
 use Rattle.fs_machine.specs.declared.originations.Call.{Call}
 use Rattle.fs_machine.specs.declared.originations.Caller.{Caller}
@@ -30,11 +34,8 @@ use Rattle.fs_machine.specs.Connections.{conn_changed, admitted, parted, owed_si
 use Rattle.fs_machine.specs.Originations.{end_of, end_made, leg_end, far_end, pair_made, Made, made_dead, is_congested, made_in, with_second, free_pair, made_of, leg_made, won_by, won}
 use Rattle.fs_machine.specs.Attempts.{orig_begun, tried_by_job, originate_begun}
 use Rattle.fs_machine.specs.Owing.{after_job_begin, after_job_end}
-use Rattle.fs_machine.proofs.HeldLemmas.{IsFree, free_place, held_here, held_there, held_within}
-use Rattle.fs_machine.proofs.RowLemmas.{AreDistinct, AreWithin, row_gone, none_stands, above_nowhere, distinct_same, numbers-with_row, place_of-without_row_same, distinct-without_row, within-without_row, distinct-with_new_row, within-with_new_row}
-use Rattle.fs_machine.proofs.TableLemmas.{nothing_there, same_there}
-use Rattle.fs_machine.proofs.Kept.{Fact, Links, KeptByCalls, KeptByBirths, HasLeg, KeptByMoves}
-use Rattle.fs_machine.proofs.LegTables.{Origs, Seat, seated, seat_if, seat_of, seat_in, seat_at, in_slot, Fewer, seat_number, seat_its, answer_spares, death_spares, touched_spares, row_there, changed_fewer, without_fewer, death_leaves_none, new_or_old}
+use Rattle.fs_machine.specs.Sound.{HasLeg, LegsAreChannels}
+use Rattle.fs_machine.proofs.Kept.{Fact, Links, KeptByCalls, KeptByBirths, KeptByMoves}
 use Rattle.fs_machine.proofs.Walk.{new_lives, state_told_kept, pair_hung_kept, leg_made_kept}
 use Rattle.fs_machine.proofs.FrontLemmas.{conn_unread}
 use Rattle.fs_machine.proofs.RestLemmas.{Rest, rest_of, orig_changed_rest, hung_rest, leg_made_rest, won_rest}
@@ -99,7 +100,7 @@ legs_cut r origs slot old new there distinct within fewer none =
   where
     here : (place position : ℕ) (seat : Seat) → seat_at origs place position ≡ Some seat → (leg : IsLegOf r.channels seat) → leg.at ≡ slot → ⊥
     here place position seat has leg same =
-        let is : old ≡ leg.chan = same_there old leg.chan (sym there ∙ (ap (held_in r.channels) (sym same) ∙ leg.there)) in
+        let is : old ≡ leg.chan = same_Some old leg.chan (sym there ∙ (ap (held_in r.channels) (sym same) ∙ leg.there)) in
         let sits : seat ≡ in_slot seat.number slot = ap (λ (which : Option ℕ). seated seat.number which) (leg.is ∙ ap Some same) in
         none place position seat.number (has ∙ ap Some sits) (ap (λ (c : Chan). c.leg_of) is ∙ leg.names)
 
@@ -114,7 +115,7 @@ put_follows channels slot old new there same live seat leg = by (cases_eq leg.at
   where
     by : (leg.at ≡ slot) ⊎ (leg.at ≡ slot → ⊥) → IsLegOf (with_held channels slot (Some new)) seat
     by (inl here) =
-        let is : old ≡ leg.chan = same_there old leg.chan (sym there ∙ (ap (held_in channels) (sym here) ∙ leg.there)) in
+        let is : old ≡ leg.chan = same_Some old leg.chan (sym there ∙ (ap (held_in channels) (sym here) ∙ leg.there)) in
         record {
           at = slot;
           is = leg.is ∙ ap Some here;
@@ -152,12 +153,12 @@ module _ (cause : Cause) (slot : ℕ) (c : Chan) (s : Switch) (there : chan_at s
 
   its_death : (place : ℕ) (leg_of : Option ℕ) → c.leg_of ≡ leg_of → (t : Switch) →
       roles_of t ≡ record (roles_of s) { channels = with_held s.channels slot (Some (hung_up cause c)) } → LegsStand (roles_of (its_leg_changed (λ p. with_death p place cause) slot leg_of t))
-  its_death place None is t same = no_death (λ at position number has its. nothing_there number (sym is ∙ its)) t same
+  its_death place None is t same = no_death (λ at position number has its. none-some number (sym is ∙ its)) t same
   its_death place (Some number) is t same = by (orig_of t number) refl
     where
       -- the number is the origination's
       its : (n : ℕ) → c.leg_of ≡ Some n → n ≡ number
-      its n e = same_there n number (sym e ∙ is)
+      its n e = same_Some n number (sym e ∙ is)
 
       known : (found : Option Orig) → orig_of t number ≡ found → orig_of s number ≡ found
       known found is = ap (λ (r : Roles). row_of r.origs number) (sym same) ∙ is
@@ -249,8 +250,8 @@ pair_legs call orig a b s free_a free_b h =
     let t : Switch = end_made call (leg_end orig a b) s in
     let far : Option Chan = Some (end_of call (far_end a b) (identifier_of (with_next_identifier t))) in
     let still : held_in t.channels b ≡ None = held_there s.channels a b leg (λ same. omega (arith, free_b.behind, same)) ∙ free_b.free in
-    legs_follow (roles_of t) (with_held t.channels b far) (free_follows t.channels b far (λ c there. absurd (nothing_there c (sym still ∙ there))))
-    (legs_follow (roles_of s) (with_held s.channels a leg) (free_follows s.channels a leg (λ c there. absurd (nothing_there c (sym free_a.free ∙ there)))) h)
+    legs_follow (roles_of t) (with_held t.channels b far) (free_follows t.channels b far (λ c there. absurd (none-some c (sym still ∙ there))))
+    (legs_follow (roles_of s) (with_held s.channels a leg) (free_follows s.channels a leg (λ c there. absurd (none-some c (sym free_a.free ∙ there)))) h)
 
 -- ---- an origination of one leg begins
 
@@ -273,8 +274,8 @@ new_orig_legs o leg t one few mine h = record {
 
     by_life : (seat : Seat) (test : Bool) → lives leg ≡ test → seat_if test (next_orig_number t) leg.slot ≡ Some seat →
         IsLegOf t.channels seat
-    by_life seat true live h = subst (IsLegOf t.channels) (same_there (seated (next_orig_number t) leg.slot) seat h) (mine live)
-    by_life seat false live h = absurd (nothing_there seat h)
+    by_life seat true live h = subst (IsLegOf t.channels) (same_Some (seated (next_orig_number t) leg.slot) seat h) (mine live)
+    by_life seat false live h = absurd (none-some seat h)
 
     stand : (place position : ℕ) (seat : Seat) → ((position ≡ 0) × (seat_of (next_orig_number t) (Some leg) ≡ Some seat)) ⊎ (seat_at t.origs place position ≡ Some seat) → IsLegOf t.channels seat
     stand place position seat (inl new) = by_life seat (lives leg) refl new.1
@@ -327,12 +328,33 @@ won_roles winner slot c s there =
     (state_told_kept (λ (t : Switch). roles_of t ≡ record (roles_of s) { channels = with_held s.channels slot (Some (won_by winner c)) }) (λ event t plain h. h) c.state (won_by winner c).state
     {s = with_chan slot (Some (won_by winner c)) s} refl)
 
+-- the seat of a living leg
+seat_there : (s : Switch) (number : ℕ) (leg : OrigLeg) (has : HasLeg s number leg) →
+    (place : ℕ) × (place_of s.origs number ≡ Some place) × (seat_at s.origs place has.position ≡ Some (seated number leg.slot))
+seat_there s number leg has =
+    let row = row_there s.origs number has.orig has.there in
+    let sits : seat_of number (Some leg) ≡ Some (seated number leg.slot) = ap (λ (test : Bool). seat_if test number leg.slot) has.lives in
+    (row.0, row.1, ap (seat_in has.position) row.2 ∙ (ap (seat_of number) has.at ∙ sits))
+
 -- a living leg stands
 pub has_leg : (s : Switch) (number : ℕ) (leg : OrigLeg) → HasLeg s number leg → LegsStand (roles_of s) → IsLegOf s.channels (seated number leg.slot)
 has_leg s number leg has h =
-    let row = row_there s.origs number has.orig has.there in
-    let sits : seat_of number (Some leg) ≡ Some (seated number leg.slot) = ap (λ (test : Bool). seat_if test number leg.slot) has.lives in
-    h.stand row.0 has.position (seated number leg.slot) (ap (seat_in has.position) row.2 ∙ (ap (seat_of number) has.at ∙ sits))
+    let seat = seat_there s number leg has in
+    h.stand seat.0 has.position (seated number leg.slot) seat.2
+
+-- as the definition has it
+pub legs_are_channels : (s : Switch) → LegsStand (roles_of s) → LegsAreChannels s
+legs_are_channels s h = record {
+  each = λ number leg has.
+      let is : IsLegOf s.channels (seated number leg.slot) = has_leg s number leg has h in
+      record { slot = is.at; is = is.is; chan = is.chan; there = is.there; live = is.live; names = is.names };
+  apart = λ number leg other one two same.
+      let first = seat_there s number leg one in
+      let second = seat_there s number other two in
+      let place : second.0 ≡ first.0 = same_Some second.0 first.0 (sym second.1 ∙ first.1) in
+      h.apart first.0 one.position two.position (seated number leg.slot) first.2
+      (subst (λ (at : ℕ). seat_at s.origs at two.position ≡ Some (seated number leg.slot)) place (second.2 ∙ ap (λ (slot : Option ℕ). Some (seated number slot)) (sym same)));
+}
 
 won_legs : (winner : Winner) (number : ℕ) (leg : OrigLeg) (s : Switch) → HasLeg s number leg → LegsStand (roles_of s) → LegsStand (roles_of (without_orig number (won winner (unwrap_or leg.slot 0) s)))
 won_legs winner number leg s has h =
@@ -350,7 +372,7 @@ won_legs winner number leg s has h =
         gone place position n left is =
             both_ways (has_number number (held_in (without_row s.origs number) place))
             (none_stands (without_row s.origs number) number (place_of-without_row_same s.origs number h.distinct) place)
-            (subst (λ (m : ℕ). has_number m (held_in (without_row s.origs number) place) ≡ true) (same_there n number (sym is ∙ names))
+            (subst (λ (m : ℕ). has_number m (held_in (without_row s.origs number) place) ≡ true) (same_Some n number (sym is ∙ names))
             (seat_number position (held_in (without_row s.origs number) place) (in_slot n slot) left))
 
 -- ---- every move
@@ -366,7 +388,7 @@ legs_calls = record {
       (answered_legs place slot number s) h;
   hung = λ cause slot {s = s} h. legs_then s (after_hangup cause slot s) (hung_rest cause slot s) (pair_hung_kept (λ (t : Switch). LegsStand (roles_of t)) one_hung_legs cause slot s) h;
   gone = λ slot old {s = s} there dead h few.
-      legs_follow (roles_of s) (with_held s.channels slot None) (free_follows s.channels slot None (λ c is. ap is_live (same_there c old (sym is ∙ there)) ∙ dead)) (h few);
+      legs_follow (roles_of s) (with_held s.channels slot None) (free_follows s.channels slot None (λ c is. ap is_live (same_Some c old (sym is ∙ there)) ∙ dead)) (h few);
 }
 
 legs_births : KeptByBirths Legs

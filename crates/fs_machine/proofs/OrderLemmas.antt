@@ -1,14 +1,15 @@
 -- Behind the entries of a run the connections and their queues fit together.
-use Rattle.std.proofs.Common.{◌≡◌, ℕ, ◌+◌, ◌*◌, ◌-◌, ◌^◌, ◌<◌, ◌≤◌, min, Bool, true, false, List, [], ◌∷◌, length, Option, None, refl, sym, ap, subst, ◌∙◌, arith}
+use Rattle.std.proofs.Common.{◌≡◌, ℕ, ◌+◌, ◌*◌, ◌-◌, ◌^◌, ◌<◌, ◌≤◌, min, Bool, true, false, List, [], ◌∷◌, Option, None, refl, sym, ap, subst, ◌∙◌, arith}
 use Rattle.std.proofs.lemmas.Bool.{both_ways, ltb-false}
-use Rattle.std.proofs.lemmas.List.{length-replicate}
 use Rattle.fs_doc.specs.Reading.{Configuration}
 use Rattle.fs_places.specs.declared.numbered.Numbered.{Numbered}
-use Rattle.fs_places.specs.Places.{no_places, held_in}
+use Rattle.fs_places.specs.Places.{held_in}
 use Rattle.fs_places.specs.Rows.{has_number, place_of}
+use Rattle.fs_places.proofs.RowLemmas.{nowhere}
+use Rattle.fs_places.proofs.HeldLemmas.{nothing_held}
 use Rattle.fs_state.specs.declared.conn.Conn.{Conn}
-use Rattle.fs_state.specs.Queues.{Frames, queue_at, no_queues}
 use Rattle.fs_state.specs.Switch.{Switch, empty, waiting_at, waiting_for, at_moment, after_entry}
+use Rattle.fs_state.proofs.GiftLemmas.{none_waits, as_many}
 use Rattle.fs_machine.specs.declared.entry.Entry.{Entry}
 use Rattle.fs_machine.specs.declared.entry.Act.{Act}
 use Rattle.fs_machine.specs.declared.entry.Act.TheVariants.{Arrive, Take, Close}
@@ -18,8 +19,6 @@ use Rattle.fs_machine.specs.declared.refusal.Refusal.TheVariants as refusal
 use Rattle.fs_machine.specs.Entries.{cost_of, is_full}
 use Rattle.fs_machine.specs.Step.{refused_where, refused_act, refusal_of, act_done, step}
 use Rattle.fs_machine.specs.Runs.{run_from, IsRunFrom}
-use Rattle.fs_machine.proofs.RowLemmas.{nowhere}
-use Rattle.fs_machine.proofs.HeldLemmas.{all_alike, nothing_held}
 use Rattle.fs_machine.proofs.ConstantMoves.{Constants, acted_constants}
 use Rattle.fs_machine.proofs.KeepLemmas.{is_shut, keeps_same, act_keeps}
 use Rattle.fs_machine.proofs.WaitingLemmas.{Ordered, keeps_ordered, keeps_place, closed_ordered, taken_ordered, without_ordered, arrived_ordered, arrived_gone, without_gone}
@@ -133,15 +132,6 @@ run_orderly s [] orderly run = orderly
 run_orderly s (entry ∷ entries) orderly run = run_orderly (step s entry).state entries (entry_orderly s entry orderly run.0) run.1
 
 -- ---- the empty switch
-
-none_waits : (count place : ℕ) → queue_at (no_queues count) place ≡ []
-unfolding no_queues
-none_waits count place = all_alike {A = Frames} count place []
-
--- there are as many queues as places
-as_many : (T : Type 0) (count : ℕ) → length (no_queues count) ≡ length (no_places {T = T} count)
-unfolding no_queues no_places
-as_many T count = length-replicate {A = Frames} count [] ∙ sym (length-replicate {A = Option T} count None)
 
 -- no connection is there
 pub empty_nowhere : (config : Configuration) (conn : ℕ) → place_of (empty config).conns conn ≡ None

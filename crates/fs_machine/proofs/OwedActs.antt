@@ -8,6 +8,7 @@ use Rattle.fs_api.specs.declared.api.Winner.{Winner}
 use Rattle.fs_orig.specs.declared.leg.OrigLeg.{OrigLeg}
 use Rattle.fs_places.specs.Places.{least_free}
 use Rattle.fs_places.specs.Rows.{row_of}
+use Rattle.fs_places.proofs.TableLemmas.{something_there}
 use Rattle.fs_state.specs.declared.conn.Conn.{Conn}
 use Rattle.fs_state.specs.declared.conn.Phase.{Phase}
 use Rattle.fs_state.specs.declared.conn.Phase.TheVariants as phase
@@ -31,7 +32,6 @@ use Rattle.fs_machine.specs.Owing.{after_job_begin, after_job_end}
 use Rattle.fs_machine.specs.Commands.{command_of}
 use Rattle.fs_machine.specs.Step.{reads, busy, refused_act, closed_by, act_done}
 use Rattle.fs_machine.specs.Owed.{PartsIn}
-use Rattle.fs_machine.proofs.TableLemmas.{something_there}
 use Rattle.fs_machine.proofs.Kept.{Fact, KeptByCalls, DoesJob, KeptByJobs, KeptByCommands}
 use Rattle.fs_machine.proofs.Walk.{worked_kept}
 use Rattle.fs_machine.proofs.RestLemmas.{rest_of, calls_by_rest, does_same, won_rest}

@@ -3,13 +3,14 @@ use Rattle.std.proofs.Common.{◌≡◌, ◌≢◌, ℕ, ◌+◌, ◌*◌, ◌^�
 use Rattle.std.specs.List.{sum_by}
 use Rattle.fs_places.specs.declared.numbered.Numbered.{Numbered}
 use Rattle.fs_places.specs.Places.{held_in}
+use Rattle.fs_places.proofs.TableLemmas.{numbers_in, one_if, taken_in}
+use Rattle.fs_places.proofs.NumberLemmas.{Numbers}
 use Rattle.fs_state.specs.declared.conn.Conn.{Conn}
 use Rattle.fs_state.specs.declared.job.Job.{Job}
 use Rattle.fs_state.specs.declared.job.JobWork.{JobWork}
 use Rattle.fs_state.specs.declared.job.JobWork.TheVariants.{Sleep, Originate}
 use Rattle.fs_state.specs.Switch.{Switch}
 use Rattle.fs_machine.specs.Owed.{Parts}
-use Rattle.fs_machine.proofs.TableLemmas.{numbers_in, one_if, taken_in}
 use Rattle.fs_machine.proofs.RestLemmas.{Rest, rest_of}
 
 abbrev pub Conns : Type 0
@@ -58,11 +59,6 @@ books_same s t same = ap books_in same
     }
 
 -- ---- connections
-
--- each thing has a number of its own that was drawn
-pub record Numbers {T : Type 0} (rows : List (Option (Numbered T))) (drawn : ℕ) : Type 0 where
-  pub apart : (p q : ℕ) (a c : Numbered T) → held_in rows p ≡ Some a → held_in rows q ≡ Some c → a.number ≡ c.number → p ≡ q
-  pub within : (p : ℕ) (a : Numbered T) → held_in rows p ≡ Some a → a.number ≤ drawn
 
 -- each connection parts as its phase says
 abbrev pub PartEach : Conns → Type 0

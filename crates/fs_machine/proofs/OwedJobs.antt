@@ -1,5 +1,5 @@
 -- Changes of connections, and jobs that begin and end, in a switch.
-use Rattle.std.proofs.Common.{◌≡◌, ◌≢◌, ℕ, ◌+◌, ◌-◌, ◌^◌, ◌<◌, ◌≤◌, min, List, [], ◌∷◌, length, Option, None, Some, unwrap_or, refl, sym, ap, subst, ◌∙◌, arith}
+use Rattle.std.proofs.Common.{◌≡◌, ◌≢◌, ℕ, ◌+◌, ◌-◌, ◌^◌, ◌<◌, ◌≤◌, min, List, ◌∷◌, length, Option, None, Some, unwrap_or, refl, sym, ap, subst, ◌∙◌, arith, []}
 use Rattle.std.proofs.lemmas.List.{length-map}
 use Rattle.fs_vars.specs.Pairs.{Text}
 use Rattle.fs_api.specs.declared.api.Winner.{Winner}
@@ -10,6 +10,8 @@ use Rattle.fs_orig.specs.Changes.{new_orig}
 use Rattle.fs_places.specs.declared.numbered.Numbered.{Numbered}
 use Rattle.fs_places.specs.Places.{held_in, with_held, least_free}
 use Rattle.fs_places.specs.Rows.{place_of, row_of, with_held_at, with_new_row, without_row}
+use Rattle.fs_places.proofs.RowLemmas.{free_least}
+use Rattle.fs_places.proofs.TableLemmas.{something_there, IsRow, HasRow, row_found, no_row, row_written, row_removed, row_added, numbers_in, numbers_held, number_at, number_there, row_of_number, numbers_removed, numbers_added, taken_in, full_taken, taken_numbers}
 use Rattle.fs_state.specs.declared.conn.Conn.{Conn}
 use Rattle.fs_state.specs.declared.job.Job.{Job}
 use Rattle.fs_state.specs.declared.job.JobWork.{JobWork}
@@ -22,8 +24,6 @@ use Rattle.fs_machine.specs.Attempts.{seconds, tried_by_job, originate_begun}
 use Rattle.fs_machine.specs.Owing.{after_job_begin, after_job_end}
 use Rattle.fs_machine.specs.Step.{new_conn, arrived}
 use Rattle.fs_machine.specs.Owed.{Parts}
-use Rattle.fs_machine.proofs.RowLemmas.{free_least}
-use Rattle.fs_machine.proofs.TableLemmas.{something_there, IsRow, HasRow, row_found, no_row, row_written, row_removed, row_added, numbers_in, numbers_held, number_at, number_there, row_of_number, numbers_removed, numbers_added, taken_in, full_taken, taken_numbers}
 use Rattle.fs_machine.proofs.OwedBooks.{Conns, Jobs, Books, books_of, books_same, PartEach, Linked, HasNumber, tried_by, trying_in, Tries, Sound, Near, Goes, Few}
 use Rattle.fs_machine.proofs.Kept.{DoesJob}
 use Rattle.fs_machine.proofs.RestLemmas.{leg_made_rest}

@@ -1,14 +1,19 @@
 -- Behind every run each reply that is owed has one job that owes it, and somebody has something to do.
-use Rattle.std.proofs.Common.{◌≡◌, ◌≢◌, ℕ, ◌+◌, ◌-◌, ◌*◌, ◌^◌, ◌≤◌, min, true, List, [], ◌∷◌, Option, None, Some, is_some, if◌then◌else◌, zero, suc, refl, sym, ap, subst, ◌∙◌, arith}
+use Rattle.std.proofs.Common.{◌≡◌, ◌≢◌, ℕ, ◌+◌, ◌-◌, ◌*◌, ◌^◌, ◌≤◌, min, true, List, ◌∷◌, Option, None, Some, is_some, refl, sym, ap, ◌∙◌, arith, [], if◌then◌else◌}
 use Rattle.std.specs.Option.{option_and_then}
 use Rattle.std.proofs.lemmas.Bool.{ltb-false}
 use Rattle.std.proofs.lemmas.List.{length-map}
+use Rattle.std.proofs.lemmas.Option.{none-some}
 use Rattle.fs_chan.specs.declared.due.Due.{Due}
 use Rattle.fs_chan.specs.declared.due.Due.TheVariants.{Now, At}
 use Rattle.fs_doc.specs.Reading.{Configuration}
 use Rattle.fs_orig.specs.declared.orig.Orig.{Orig}
 use Rattle.fs_places.specs.declared.numbered.Numbered.{Numbered}
 use Rattle.fs_places.specs.Places.{held_in, no_places}
+use Rattle.fs_places.proofs.TableLemmas.{something_there, one_there, none_held, HasRow, row_is, row_found, row_of_held, row_of_number, number_at, numbers_in, taken_in, one_if, taken_numbers, none_taken}
+use Rattle.fs_places.specs.Least.{lesser}
+use Rattle.fs_places.proofs.LeastLemmas.{lesser_never, least_never}
+use Rattle.fs_places.proofs.NumberLemmas.{no_number, none_numbered}
 use Rattle.fs_state.specs.declared.conn.Conn.{Conn}
 use Rattle.fs_state.specs.declared.job.Job.{Job}
 use Rattle.fs_state.specs.declared.job.JobWork.{JobWork}
@@ -19,12 +24,11 @@ use Rattle.fs_machine.specs.declared.due.DueActor.TheVariants as actor
 use Rattle.fs_machine.specs.declared.entry.Entry.{Entry}
 use Rattle.fs_machine.specs.Entries.{cost_of}
 use Rattle.fs_machine.specs.Questions.{owed_of, owed_to, owes}
-use Rattle.fs_machine.specs.Due.{orig_due, work_due, job_due, is_now, later_of, lesser, least_of, row_moment, due_number, due_slot, due_job, first_chan_moment, first_job_moment, actor_or, later_or_never, due_among_all, next_due}
+use Rattle.fs_machine.specs.Due.{orig_due, work_due, job_due, is_now, later_of, row_moment, due_number, due_slot, due_job, first_chan_moment, first_job_moment, actor_or, later_or_never, due_among_all, next_due}
 use Rattle.fs_machine.specs.Step.{act_done, step, refusal_of}
 use Rattle.fs_machine.specs.Runs.{run_from, IsRunFrom}
 use Rattle.fs_machine.specs.Owed.{HasOneJob, AreOwed}
-use Rattle.fs_machine.proofs.TableLemmas.{nothing_there, something_there, one_there, none_held, HasRow, row_is, row_found, row_of_held, row_of_number, number_at, numbers_in, numbers_held, taken_in, one_if, taken_numbers, none_taken}
-use Rattle.fs_machine.proofs.OwedBooks.{Books, books_of, tried_by, Numbers, HasJob, HasNumber, trying_in, Sound, Goes, Few, Paid}
+use Rattle.fs_machine.proofs.OwedBooks.{Books, books_of, tried_by, HasJob, HasNumber, trying_in, Sound, Goes, Few, Paid}
 use Rattle.fs_machine.proofs.FrameLemmas.{some_cost}
 use Rattle.fs_machine.proofs.OwedJobs.{parts_of}
 use Rattle.fs_machine.proofs.OrderLemmas.{not_full, not_refused}
@@ -36,21 +40,6 @@ use Rattle.fs_machine.proofs.OwedActs.{goes_acted}
 pub record Holds (b : Books) : Type 0 where
   pub sound : Sound b
   pub paid : Paid b
-
--- at no place of an empty table stands a number
-no_number : (T : Type 0) (count place number : ℕ) → held_in (numbers_in (no_places {T = Numbered T} count)) place ≡ Some number → ⊥
-no_number T count place number is =
-    by (held_in (no_places {T = Numbered T} count) place) refl (sym (numbers_held (no_places {T = Numbered T} count) place) ∙ is)
-  where
-    by : (held : Option (Numbered T)) → held_in (no_places {T = Numbered T} count) place ≡ held → number_at held ≡ Some number → ⊥
-    by None at e = nothing_there number e
-    by (Some row) at e = none_held count place row at
-
-none_numbered : {T : Type 0} → (count : ℕ) → Numbers (no_places {T = Numbered T} count) 0
-none_numbered count = record {
-  apart = λ p q a c is_a is_c e. absurd (none_held count p a is_a);
-  within = λ p a is. absurd (none_held count p a is);
-}
 
 pub holds_empty : (config : Configuration) → config.settings.journal_limit ≤ 1073741824 → Holds (books_of (empty config))
 holds_empty config small = record {
@@ -127,7 +116,7 @@ holds_run (entry ∷ entries) s run h = holds_run entries (step s entry).state r
 -- ---- what is owed
 
 orig_is_due : (now : ℕ) (x : Orig) (o : Option Orig) → o ≡ Some x → orig_due now o ≡ None → ⊥
-orig_is_due now x None is none = nothing_there x is
+orig_is_due now x None is none = none-some x is
 orig_is_due now x (Some o) is none = cc none
 
 -- work has a next moment, if its origination is there
@@ -158,7 +147,7 @@ are_owed s h = record { owed = λ conn since is. owed conn since is; parted = λ
     owed conn since is = by (conn_of s conn) refl
       where
         by : (found : Option Conn) → conn_of s conn ≡ found → HasOneJob s conn
-        by None at = absurd (nothing_there since (sym (ap (λ (found : Option Conn). option_and_then owed_of found) at) ∙ is))
+        by None at = absurd (none-some since (sym (ap (λ (found : Option Conn). option_and_then owed_of found) at) ∙ is))
         by (Some c) at =
             let row = row_found s.conns conn c at in
             let since_is : c.owed ≡ Some since = sym (ap (λ (found : Option Conn). option_and_then owed_of found) at) ∙ is in
@@ -182,18 +171,6 @@ run_is_owed config entries small run =
 
 -- ---- who has something to do
 
--- the lesser of two numbers is there where one of them is
-lesser_none : (a b : Option ℕ) → lesser a b ≡ None → (a ≡ None) × (b ≡ None)
-lesser_none None b is = (refl, is)
-lesser_none (Some a) None is = absurd (something_there a is)
-lesser_none (Some a) (Some b) is = absurd (something_there (min a b) is)
-
--- where things have no least number, none of them has one
-least_none : {T : Type 0} → (number : Option T → Option ℕ) (things : List (Option T)) (place : ℕ) (x : T) → least_of number things ≡ None → held_in things place ≡ Some x → number (Some x) ≡ None
-least_none number [] place x is there = absurd (nothing_there x there)
-least_none {T} number (thing ∷ things) zero x is there = subst (λ (held : Option T). number held ≡ None) there (lesser_none (number thing) (least_of number things) is).0
-least_none number (thing ∷ things) (suc place) x is there = least_none number things place x (lesser_none (number thing) (least_of number things) is).1 there
-
 -- what is due is due now or later
 due_some : (due : Option Due) (number : ℕ) → (if is_now due then Some number else None) ≡ None → later_of due ≡ None → due ≡ None
 due_some None number now later = refl
@@ -210,8 +187,10 @@ never_among s (Some slot) job moment is = absurd (cc is)
 never_due : (s : Switch) (q : ℕ) (row : Numbered Job) → held_in s.jobs q ≡ Some row → due_among_all s ≡ actor.Never → work_due s row.held.work ≡ None
 never_due s q row there is =
     let none = never_among s (due_slot s) (due_job s) (lesser (first_chan_moment s) (first_job_moment s)) is in
-    let no_moment = lesser_none (first_chan_moment s) (first_job_moment s) none.1 in
-    due_some (work_due s row.held.work) row.number (least_none (due_number s) s.jobs q row none.0 there) (least_none (row_moment s) s.jobs q row no_moment.1 there)
+    let no_moment = lesser_never (first_chan_moment s) (first_job_moment s) none.1 in
+    due_some (work_due s row.held.work) row.number
+    (ap (due_number s) (sym there) ∙ least_never (due_number s) s.jobs refl none.0 q)
+    (ap (row_moment s) (sym there) ∙ least_never (row_moment s) s.jobs refl no_moment.1 q)
 
 -- at another moment the same work is due
 due_at_moment : (s : Switch) (now : ℕ) (work : JobWork) → work_due (at_moment now s) work ≡ None → work_due s work ≡ None

@@ -1,74 +1,17 @@
 -- How the facts on connections, on jobs and on originations go through single changes of their tables.
-use Rattle.std.proofs.Common.{◌≡◌, ◌≢◌, ℕ, ◌+◌, ◌<◌, ◌≤◌, List, [], ◌∷◌, length, Option, None, Some, refl, sym, ap, subst, ◌∙◌, inl, inr, arith}
+use Rattle.std.proofs.Common.{◌≡◌, ◌≢◌, ℕ, ◌+◌, ◌<◌, ◌≤◌, List, ◌∷◌, length, Option, None, Some, refl, sym, ap, subst, ◌∙◌, inl, inr, arith, []}
 use Rattle.std.proofs.lemmas.List.{length-set}
 use Rattle.std.proofs.lemmas.List.Sums.{sum_by-cons, sum_by-set}
+use Rattle.std.proofs.lemmas.Option.{none-some, same_Some}
 use Rattle.fs_places.specs.declared.numbered.Numbered.{Numbered}
 use Rattle.fs_places.specs.Places.{held_in, with_held}
+use Rattle.fs_places.proofs.HeldLemmas.{held_here, held_within}
+use Rattle.fs_places.proofs.TableLemmas.{IsWrittenOrKept, written_or_kept, kept_without, still_there, not_free, one_there, one_if, taken_in, taken_more, taken_less}
+use Rattle.fs_places.proofs.NumberLemmas.{Numbers, numbers_changed, numbers_gone, numbers_come, numbers_more}
 use Rattle.fs_state.specs.declared.conn.Conn.{Conn}
 use Rattle.fs_state.specs.declared.job.Job.{Job}
 use Rattle.fs_machine.specs.Owed.{Parts}
-use Rattle.fs_machine.proofs.HeldLemmas.{held_here, held_within}
-use Rattle.fs_machine.proofs.TableLemmas.{nothing_there, same_there, IsWrittenOrKept, written_or_kept, kept_without, still_there, not_free, one_there, one_if, taken_in}
-use Rattle.fs_machine.proofs.OwedBooks.{Conns, Jobs, Numbers, PartEach, HasJob, Owes, Linked, tried_by, tried_in, tries, trying_in, HasNumber, Tries}
-
--- ---- numbers
-
--- a thing is changed, and keeps its number
-numbers_changed : {T : Type 0} → (rows : List (Option (Numbered T))) (drawn p : ℕ) (old new : Numbered T) → held_in rows p ≡ Some old → new.number ≡ old.number →
-    Numbers rows drawn → Numbers (with_held rows p (Some new)) drawn
-numbers_changed {T} rows drawn p old new there same h = record {
-  apart = λ q r x z ex ez e. h.apart q r (was q x ex).0 (was r z ez).0 (was q x ex).1 (was r z ez).1 ((was q x ex).2 ∙ (e ∙ sym (was r z ez).2));
-  within = λ q x e. subst (λ (n : ℕ). n ≤ drawn) (was q x e).2 (h.within q (was q x e).0 (was q x e).1);
-}
-  where
-    by : (q : ℕ) (x : Numbered T) → IsWrittenOrKept rows p (Some new) q x → (y : Numbered T) × (held_in rows q ≡ Some y) × (y.number ≡ x.number)
-    by q x (inl here) = (old, ap (λ (k : ℕ). held_in rows k) here.0 ∙ there, sym same ∙ ap (λ (y : Numbered T). y.number) (same_there new x here.1))
-    by q x (inr kept) = (x, kept.1, refl)
-
-    -- what stands there had its number before
-    was : (q : ℕ) (x : Numbered T) → held_in (with_held rows p (Some new)) q ≡ Some x → (y : Numbered T) × (held_in rows q ≡ Some y) × (y.number ≡ x.number)
-    was q x e = by q x (written_or_kept rows p (Some new) q x e)
-
--- a thing is gone
-numbers_gone : {T : Type 0} → (rows : List (Option (Numbered T))) (drawn p : ℕ) → Numbers rows drawn → Numbers (with_held rows p None) drawn
-numbers_gone rows drawn p h = record {
-  apart = λ q r x z ex ez e. h.apart q r x z (kept_without rows p q x ex).1 (kept_without rows p r z ez).1 e;
-  within = λ q x e. h.within q x (kept_without rows p q x e).1;
-}
-
--- a thing comes, of the next number
-numbers_come : {T : Type 0} → (rows : List (Option (Numbered T))) (drawn p : ℕ) (new : Numbered T) → new.number ≡ drawn + 1 → Numbers rows drawn → Numbers (with_held rows p (Some new)) (drawn + 1)
-numbers_come {T} rows drawn p new fresh h = record {
-  apart = λ q r x z ex ez e. apart q r x z (written_or_kept rows p (Some new) q x ex) (written_or_kept rows p (Some new) r z ez) e;
-  within = λ q x e. within q x (written_or_kept rows p (Some new) q x e);
-}
-  where
-    number_of : (x : Numbered T) → Some new ≡ Some x → x.number ≡ drawn + 1
-    number_of x e = sym (ap (λ (y : Numbered T). y.number) (same_there new x e)) ∙ fresh
-
-    apart : (q r : ℕ) (x z : Numbered T) → IsWrittenOrKept rows p (Some new) q x →
-        IsWrittenOrKept rows p (Some new) r z → x.number ≡ z.number → q ≡ r
-    apart q r x z (inl one) (inl two) e = one.0 ∙ sym two.0
-    apart q r x z (inl one) (inr two) e =
-        let first : x.number ≡ drawn + 1 = number_of x one.1 in
-        let second : z.number ≤ drawn = h.within r z two.1 in
-        absurd (omega (arith, first, second, e))
-    apart q r x z (inr one) (inl two) e =
-        let first : x.number ≤ drawn = h.within q x one.1 in
-        let second : z.number ≡ drawn + 1 = number_of z two.1 in
-        absurd (omega (arith, first, second, e))
-    apart q r x z (inr one) (inr two) e = h.apart q r x z one.1 two.1 e
-
-    within : (q : ℕ) (x : Numbered T) → IsWrittenOrKept rows p (Some new) q x → x.number ≤ drawn + 1
-    within q x (inl here) = let is : x.number ≡ drawn + 1 = number_of x here.1 in omega (arith, is)
-    within q x (inr kept) = let is : x.number ≤ drawn = h.within q x kept.1 in omega (arith, is)
-
--- a number was drawn for which there was no place
-numbers_more : {T : Type 0} → (rows : List (Option (Numbered T))) (drawn : ℕ) → Numbers rows drawn → Numbers rows (drawn + 1)
-numbers_more rows drawn h = record {
-  apart = h.apart;
-  within = λ q x e. let is : x.number ≤ drawn = h.within q x e in omega (arith, is);
-}
+use Rattle.fs_machine.proofs.OwedBooks.{Conns, Jobs, PartEach, HasJob, Owes, Linked, tried_by, tried_in, tries, trying_in, HasNumber, Tries}
 
 -- ---- phases
 
@@ -76,7 +19,7 @@ parts_put : (conns : Conns) (p : ℕ) (new : Numbered Conn) → Parts new.held �
 parts_put conns p new parts each q x e = by (written_or_kept conns p (Some new) q x e)
   where
     by : IsWrittenOrKept conns p (Some new) q x → Parts x.held
-    by (inl here) = subst (λ (y : Numbered Conn). Parts y.held) (same_there new x here.1) parts
+    by (inl here) = subst (λ (y : Numbered Conn). Parts y.held) (same_Some new x here.1) parts
     by (inr kept) = each q x kept.1
 
 parts_gone : (conns : Conns) (p : ℕ) → PartEach conns → PartEach (with_held conns p None)
@@ -97,7 +40,7 @@ owes_changed conns jobs drawn p old new there same same_owed h = record {
     by : (q : ℕ) (x : Numbered Conn) → IsWrittenOrKept conns p (Some new) q x →
         (y : Numbered Conn) × (held_in conns q ≡ Some y) × (y.number ≡ x.number) × (y.held.owed ≡ x.held.owed)
     by q x (inl here) =
-        let is : new ≡ x = same_there new x here.1 in
+        let is : new ≡ x = same_Some new x here.1 in
         (old, ap (λ (k : ℕ). held_in conns k) here.0 ∙ there, sym same ∙ ap (λ (y : Numbered Conn). y.number) is, sym same_owed ∙ ap (λ (y : Numbered Conn). y.held.owed) is)
     by q x (inr kept) = (x, kept.1, refl, refl)
 
@@ -124,13 +67,13 @@ owes_come conns jobs drawn p new fresh none h = record {
 }
   where
     owed : (q : ℕ) (x : Numbered Conn) (since : ℕ) → IsWrittenOrKept conns p (Some new) q x → x.held.owed ≡ Some since → HasJob jobs x.number
-    owed q x since (inl here) o = absurd (nothing_there since (sym none ∙ (ap (λ (y : Numbered Conn). y.held.owed) (same_there new x here.1) ∙ o)))
+    owed q x since (inl here) o = absurd (none-some since (sym none ∙ (ap (λ (y : Numbered Conn). y.held.owed) (same_Some new x here.1) ∙ o)))
     owed q x since (inr kept) o = h.owed q x since kept.1 o
 
     owes : (r : ℕ) (job : Numbered Job) (q : ℕ) (x : Numbered Conn) → held_in jobs r ≡ Some job → IsWrittenOrKept conns p (Some new) q x →
         x.number ≡ job.held.conn → x.held.owed ≢ None
     owes r job q x ej (inl here) is =
-        let number : new.number ≡ x.number = ap (λ (y : Numbered Conn). y.number) (same_there new x here.1) in
+        let number : new.number ≡ x.number = ap (λ (y : Numbered Conn). y.number) (same_Some new x here.1) in
         let drawn_before : job.held.conn ≤ drawn = h.within r job ej in
         absurd (omega (arith, number, drawn_before, fresh, is))
     owes r job q x ej (inr kept) is = h.owes r job q x ej kept.1 is
@@ -156,10 +99,10 @@ owes_begun conns jobs drawn p q old new job there none same now within free for 
 }
   where
     conn_of : (j : Numbered Job) → Some job ≡ Some j → j.held.conn ≡ old.number
-    conn_of j e = sym (ap (λ (y : Numbered Job). y.held.conn) (same_there job j e)) ∙ for
+    conn_of j e = sym (ap (λ (y : Numbered Job). y.held.conn) (same_Some job j e)) ∙ for
 
     number_of : (x : Numbered Conn) → Some new ≡ Some x → x.number ≡ old.number
-    number_of x e = sym (ap (λ (y : Numbered Conn). y.number) (same_there new x e)) ∙ same
+    number_of x e = sym (ap (λ (y : Numbered Conn). y.number) (same_Some new x e)) ∙ same
 
     -- no job was for it
     no_job : (r : ℕ) (j : Numbered Job) → held_in jobs r ≡ Some j → j.held.conn ≡ old.number → ⊥
@@ -173,7 +116,7 @@ owes_begun conns jobs drawn p q old new job there none same now within free for 
 
     owes : (r : ℕ) (j : Numbered Job) (k : ℕ) (x : Numbered Conn) → IsWrittenOrKept jobs q (Some job) r j →
         IsWrittenOrKept conns p (Some new) k x → x.number ≡ j.held.conn → x.held.owed ≢ None
-    owes r j k x of_job (inl here) is = subst (λ (y : Numbered Conn). y.held.owed ≢ None) (same_there new x here.1) now
+    owes r j k x of_job (inl here) is = subst (λ (y : Numbered Conn). y.held.owed ≢ None) (same_Some new x here.1) now
     owes r j k x (inl begun) (inr kept) is = absurd (kept.0 (n.apart k p x old kept.1 there (is ∙ conn_of j begun.1)))
     owes r j k x (inr before) (inr kept) is = h.owes r j k x before.1 kept.1 is
 
@@ -200,10 +143,10 @@ owes_ended conns jobs drawn p q old new job stands there for same none n h = rec
 }
   where
     number_of : (x : Numbered Conn) → Some new ≡ Some x → x.number ≡ job.held.conn
-    number_of x e = sym (ap (λ (y : Numbered Conn). y.number) (same_there new x e)) ∙ (same ∙ for)
+    number_of x e = sym (ap (λ (y : Numbered Conn). y.number) (same_Some new x e)) ∙ (same ∙ for)
 
     owed : (k : ℕ) (x : Numbered Conn) (since : ℕ) → IsWrittenOrKept conns p (Some new) k x → x.held.owed ≡ Some since → HasJob (with_held jobs q None) x.number
-    owed k x since (inl here) o = absurd (nothing_there since (sym none ∙ (ap (λ (y : Numbered Conn). y.held.owed) (same_there new x here.1) ∙ o)))
+    owed k x since (inl here) o = absurd (none-some since (sym none ∙ (ap (λ (y : Numbered Conn). y.held.owed) (same_Some new x here.1) ∙ o)))
     owed k x since (inr kept) o =
         let had : HasJob jobs x.number = h.owed k x since kept.1 o in
         let is : had.0 ≡ q → job ≡ had.1 = λ at. one_there jobs q had.0 job had.1 stands had.2 at in
@@ -324,18 +267,6 @@ trying_ended jobs q job stands =
     let zero_more : tries None ≡ 0 = refl in
     omega (arith, sums, one, zero_more)
 
-taken_more : (origs : List (Option ℕ)) (p number : ℕ) → p < length origs → held_in origs p ≡ None → taken_in (with_held origs p (Some number)) ≡ taken_in origs + 1
-taken_more origs p number within free =
-    let sums : taken_in (with_held origs p (Some number)) + one_if (held_in origs p) ≡ taken_in origs + 1 = sum_by-set one_if origs p (Some number) None within in
-    let none : one_if (held_in origs p) ≡ 0 = ap one_if free in
-    omega (arith, sums, none)
-
-taken_less : (origs : List (Option ℕ)) (p number : ℕ) → held_in origs p ≡ Some number → taken_in (with_held origs p None) + 1 ≡ taken_in origs
-taken_less origs p number stands =
-    let sums : taken_in (with_held origs p None) + one_if (held_in origs p) ≡ taken_in origs + 0 = sum_by-set one_if origs p None None (held_within origs p number stands) in
-    let one : one_if (held_in origs p) ≡ 1 = ap one_if stands in
-    omega (arith, sums, one)
-
 -- a job begins that tries nothing
 pub tries_slept : (jobs : Jobs) (origs : List (Option ℕ)) (drawn q : ℕ) (job : Numbered Job) → q < length jobs → held_in jobs q ≡ None → tried_by job.held.work ≡ None →
     Tries jobs origs drawn → Tries (with_held jobs q (Some job)) origs drawn
@@ -349,7 +280,7 @@ tries_slept jobs origs drawn q job within free none h = record {
 }
   where
     no_number : (j : Numbered Job) (number : ℕ) → Some job ≡ Some j → tried_by j.held.work ≡ Some number → ⊥
-    no_number j number e t = nothing_there number (sym none ∙ (ap (λ (y : Numbered Job). tried_by y.held.work) (same_there job j e) ∙ t))
+    no_number j number e t = none-some number (sym none ∙ (ap (λ (y : Numbered Job). tried_by y.held.work) (same_Some job j e) ∙ t))
 
     there : (r : ℕ) (j : Numbered Job) (number : ℕ) → IsWrittenOrKept jobs q (Some job) r j → tried_by j.held.work ≡ Some number → HasNumber origs number
     there r j number (inl begun) t = absurd (no_number j number begun.1 t)
@@ -381,7 +312,7 @@ tries_begun jobs origs drawn q p job within free orig_within orig_free new h = r
 }
   where
     number_of : (j : Numbered Job) (number : ℕ) → Some job ≡ Some j → tried_by j.held.work ≡ Some number → number ≡ drawn + 1
-    number_of j number e t = same_there number (drawn + 1) (sym t ∙ (sym (ap (λ (y : Numbered Job). tried_by y.held.work) (same_there job j e)) ∙ new))
+    number_of j number e t = same_Some number (drawn + 1) (sym t ∙ (sym (ap (λ (y : Numbered Job). tried_by y.held.work) (same_Some job j e)) ∙ new))
 
     -- what was tried before was drawn before
     drawn_before : (r : ℕ) (j : Numbered Job) (number : ℕ) → held_in jobs r ≡ Some j → tried_by j.held.work ≡ Some number → number ≤ drawn
@@ -408,7 +339,7 @@ tries_begun jobs origs drawn q p job within free orig_within orig_free new h = r
     alone r t x z number (inr one) (inr two) tx tz = h.alone r t x z number one.1 two.1 tx tz
 
     most : (k number : ℕ) → IsWrittenOrKept origs p (Some (drawn + 1)) k number → number ≤ drawn + 1
-    most k number (inl here) = let is : drawn + 1 ≡ number = same_there (drawn + 1) number here.1 in omega (arith, is)
+    most k number (inl here) = let is : drawn + 1 ≡ number = same_Some (drawn + 1) number here.1 in omega (arith, is)
     most k number (inr kept) = let is : number ≤ drawn = h.within k number kept.1 in omega (arith, is)
 
     fewer : taken_in (with_held origs p (Some (drawn + 1))) ≤ trying_in (with_held jobs q (Some job))

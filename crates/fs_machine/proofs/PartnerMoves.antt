@@ -6,11 +6,11 @@ use Rattle.fs_api.specs.declared.api.Winner.TheVariants.{App, Route}
 use Rattle.fs_chan.specs.declared.chan.Chan.{Chan}
 use Rattle.fs_chan.specs.Changes.{is_live}
 use Rattle.fs_orig.specs.Changes.{with_answer}
+use Rattle.fs_places.proofs.HeldLemmas.{IsFree, held_within}
 use Rattle.fs_state.specs.Switch.{Switch, chan_at, with_chan, with_next_identifier, identifier_of}
 use Rattle.fs_state.specs.Moves.{after_move_from, orig_changed, leg_changed, partner_of, partner_at, after_one_hangup, after_hangup_with, after_hangup}
 use Rattle.fs_machine.specs.declared.originations.Call.{Call}
 use Rattle.fs_machine.specs.Originations.{end_of, end_made, leg_end, far_end, pair_made, won_by, won}
-use Rattle.fs_machine.proofs.HeldLemmas.{IsFree, held_within}
 use Rattle.fs_machine.proofs.Kept.{Fact, Links, KeptByMoves}
 use Rattle.fs_machine.proofs.Walk.{new_lives, execute_lives, routing_lives, state_told_kept}
 use Rattle.fs_machine.proofs.FrontLemmas.{Front, front_of, orig_changed_front, moves_by_front}

@@ -9,6 +9,7 @@ use Rattle.fs_orig.specs.declared.orig.Orig.{Orig}
 use Rattle.fs_orig.specs.Changes.{with_answer}
 use Rattle.fs_places.specs.declared.numbered.Numbered.{Numbered}
 use Rattle.fs_places.specs.Rows.{row_of}
+use Rattle.fs_places.proofs.TableLemmas.{numbers_in, numbers_kept}
 use Rattle.fs_state.specs.declared.conn.Conn.{Conn}
 use Rattle.fs_state.specs.declared.gift.Gift.{Gift}
 use Rattle.fs_state.specs.declared.job.Job.{Job}
@@ -21,7 +22,6 @@ use Rattle.fs_machine.specs.declared.originations.Caller.{Caller}
 use Rattle.fs_machine.specs.Originations.{leg_made, won_by, won}
 use Rattle.fs_machine.specs.Attempts.{all_hung}
 use Rattle.fs_machine.specs.Work.{worked}
-use Rattle.fs_machine.proofs.TableLemmas.{numbers_in, numbers_kept}
 use Rattle.fs_machine.proofs.Kept.{Fact, KeptByCalls, DoesJob}
 use Rattle.fs_machine.proofs.Walk.{state_told_kept, hung_kept, all_hung_kept, worked_kept, leg_made_kept}
 

@@ -1,13 +1,13 @@
 -- What of a switch tells identifiers, and what becomes of it.
 use Rattle.std.proofs.Common.{◌≡◌, ℕ, ◌+◌, ◌-◌, ◌<◌, ◌≤◌, ◌^◌, min, List, length, Option, None, Some, option_map, sym, ap, ◌∙◌, arith}
 use Rattle.fs_text.specs.CoreId.{uuid}
+use Rattle.fs_text.proofs.NamingLemmas.{Naming, naming_kept, naming_more}
 use Rattle.fs_vars.specs.Pairs.{Text}
 use Rattle.fs_doc.specs.Reading.{Configuration}
 use Rattle.fs_chan.specs.declared.chan.Chan.{Chan}
 use Rattle.fs_places.specs.Places.{held_in, with_held}
+use Rattle.fs_places.proofs.HeldLemmas.{held_here, held_there, held_within, at_each}
 use Rattle.fs_state.specs.Switch.{Switch}
-use Rattle.fs_machine.proofs.IdentifierLemmas.{Naming, naming_kept, naming_more}
-use Rattle.fs_machine.proofs.HeldLemmas.{held_here, held_there, held_within, at_each}
 
 -- what is seen of a switch
 pub record Seen : Type 0 where

@@ -1,6 +1,7 @@
--- In every run live channels have partners, which agree, the texts of channels keep their limits, and identifiers differ.
+-- In every run live channels have partners, which agree, the texts of channels keep their limits, identifiers differ, and legs are channels.
 use Rattle.std.proofs.Common.{◌≡◌, ℕ, ◌+◌, ◌-◌, ◌*◌, ◌<◌, ◌≤◌, ◌^◌, min, true, IsSome, List, [], ◌∷◌, Option, None, Some, option_and_then, option_map, refl, sym, ap, subst, ◌∙◌, arith}
 use Rattle.std.proofs.lemmas.Bool.{both_ways, false≢true, ltb-false}
+use Rattle.fs_text.proofs.NamingLemmas.{naming_none}
 use Rattle.fs_doc.specs.Reading.{Configuration}
 use Rattle.fs_chan.specs.declared.chan.Chan.{Chan}
 use Rattle.fs_chan.specs.Changes.{is_live}
@@ -8,17 +9,17 @@ use Rattle.fs_orig.specs.declared.orig.Orig.{Orig}
 use Rattle.fs_places.specs.declared.numbered.Numbered.{Numbered}
 use Rattle.fs_places.specs.Places.{no_places, held_in}
 use Rattle.fs_places.specs.Rows.{has_number}
+use Rattle.fs_places.proofs.HeldLemmas.{nothing_held}
 use Rattle.fs_state.specs.declared.job.Job.{Job}
 use Rattle.fs_state.specs.Switch.{Switch, empty, chan_at, at_moment, after_entry}
 use Rattle.fs_state.specs.Moves.{partner_of}
+use Rattle.fs_state.proofs.LegTables.{Seat, seat_at, seat_number}
 use Rattle.fs_machine.specs.declared.entry.Entry.{Entry}
 use Rattle.fs_machine.specs.declared.entry.Act.{Act}
 use Rattle.fs_machine.specs.Entries.{cost_of}
 use Rattle.fs_machine.specs.Step.{refusal_of, act_done, step}
 use Rattle.fs_machine.specs.Runs.{run_from, IsRunFrom}
-use Rattle.fs_machine.specs.Sound.{HasPartner, PartnersAgree, HasLivePartner, LiveHasPartner, ProfilesAreShort, IdentifiersDiffer}
-use Rattle.fs_machine.proofs.IdentifierLemmas.{naming_none}
-use Rattle.fs_machine.proofs.HeldLemmas.{nothing_held}
+use Rattle.fs_machine.specs.Sound.{HasPartner, PartnersAgree, HasLivePartner, LiveHasPartner, ProfilesAreShort, IdentifiersDiffer, LegsAreChannels}
 use Rattle.fs_machine.proofs.TieLemmas.{lives_as, named_in, Ties}
 use Rattle.fs_machine.proofs.FrameLemmas.{some_cost}
 use Rattle.fs_machine.proofs.OrderLemmas.{acted_cost, not_full}
@@ -29,8 +30,7 @@ use Rattle.fs_machine.proofs.OwedLaws.{Holds, holds_empty, holds_step}
 use Rattle.fs_machine.proofs.PartnerMoves.{Partners, partners_moves}
 use Rattle.fs_machine.proofs.SeenLemmas.{seen, uuid_of, uuid_in, Named, Numbers, numbers_stay}
 use Rattle.fs_machine.proofs.IdentifierMoves.{NumbersFrom, numbers_moves}
-use Rattle.fs_machine.proofs.LegTables.{Seat, seat_at, seat_number}
-use Rattle.fs_machine.proofs.LegMoves.{roles_of, LegsStand, Legs, legs_moves}
+use Rattle.fs_machine.proofs.LegMoves.{roles_of, LegsStand, Legs, legs_are_channels, legs_moves}
 use Rattle.fs_machine.proofs.WinnerMoves.{ShortIn, WinnersAreShort, Winners, winners_moves}
 use Rattle.fs_machine.proofs.ChannelMoves.{FitsIn, AllFit, Fit, fit_there, fit_moves}
 
@@ -116,8 +116,9 @@ run_stands s (entry ∷ entries) run holds h =
     let next : Holds (books_of (step s entry).state) = holds_step s entry run.0 holds in
     run_stands (step s entry).state entries run.1 next (step_stands s entry next h)
 
-all_fit : (config : Configuration) (entries : List Entry) → config.settings.journal_limit ≤ 1073741824 → IsRunFrom (empty config) entries → AllFit (run_from (empty config) entries).channels
-all_fit config entries small run = (run_stands (empty config) entries run (holds_empty config small) (nothing_stands config)).fit
+all_stand : (config : Configuration) (entries : List Entry) → config.settings.journal_limit ≤ 1073741824 → IsRunFrom (empty config) entries →
+    Stands (run_from (empty config) entries)
+all_stand config entries small run = run_stands (empty config) entries run (holds_empty config small) (nothing_stands config)
 
 -- as the definitions have it
 live_partner : (s : Switch) → PartnersAgree s → AllFit s.channels → LiveHasPartner s
@@ -128,14 +129,18 @@ live_partner s agree fit = record { each = λ slot c there live. by slot c there
     by slot c there live (Some other) is some =
         record { other = other; partner = is; back = agree.back slot other (record { chan = c; there = there; live = live; partner = is }) }
 
+pub run_has_legs : (config : Configuration) (entries : List Entry) → config.settings.journal_limit ≤ 1073741824 → IsRunFrom (empty config) entries →
+    LegsAreChannels (run_from (empty config) entries)
+run_has_legs config entries small run = legs_are_channels (run_from (empty config) entries) (all_stand config entries small run).legs
+
 pub live_has_partner : (config : Configuration) (entries : List Entry) → config.settings.journal_limit ≤ 1073741824 → IsRunFrom (empty config) entries →
     LiveHasPartner (run_from (empty config) entries)
-live_has_partner config entries small run = live_partner (run_from (empty config) entries) (partners_agree config entries) (all_fit config entries small run)
+live_has_partner config entries small run = live_partner (run_from (empty config) entries) (partners_agree config entries) (all_stand config entries small run).fit
 
 pub profiles_are_short : (config : Configuration) (entries : List Entry) → config.settings.journal_limit ≤ 1073741824 → IsRunFrom (empty config) entries →
     ProfilesAreShort (run_from (empty config) entries)
 profiles_are_short config entries small run =
-    record { each = λ slot c there. (fit_there (run_from (empty config) entries) slot c there (all_fit config entries small run)).short }
+    record { each = λ slot c there. (fit_there (run_from (empty config) entries) slot c there (all_stand config entries small run).fit).short }
 
 -- ---- identifiers
 

@@ -7,9 +7,9 @@ use Rattle.fs_chan.specs.Changes.{is_live, hung_up}
 use Rattle.fs_orig.specs.declared.orig.Orig.{Orig}
 use Rattle.fs_orig.specs.Changes.{with_death}
 use Rattle.fs_places.specs.Places.{held_in, with_held}
+use Rattle.fs_places.proofs.HeldLemmas.{held_here, held_there, held_within, at_each}
 use Rattle.fs_state.specs.Switch.{Switch, chan_at, with_chan, with_event}
 use Rattle.fs_state.specs.Moves.{with_state_events, leg_changed, its_leg_changed, hangup_event, after_hangup_from, after_one_hangup}
-use Rattle.fs_machine.proofs.HeldLemmas.{held_here, held_there, held_within, at_each}
 use Rattle.fs_machine.proofs.PartnerLemmas.{LiveNamers, Agree, lone, agree_kept, Cuts, live_cut, CutsAll, AreClosed, none_cut, one_more_cut, all_cut, joined}
 use Rattle.fs_machine.proofs.Walk.{state_told_kept}
 use Rattle.fs_machine.proofs.FrontLemmas.{Front, orig_changed_front}

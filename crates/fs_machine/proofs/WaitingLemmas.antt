@@ -1,25 +1,22 @@
 -- What waits for connections, before and after a change.
-use Rattle.std.proofs.Common.{◌≡◌, ℕ, zero, suc, ◌+◌, ◌-◌, ◌^◌, ◌<◌, ◌≤◌, ◌==◌, min, Bool, true, false, if◌then◌else◌, List, [], ◌∷◌, ◌++◌, length, drop, Option, None, Some, ◌⊎◌, inl, inr, refl, sym, ap, subst, ◌∙◌, append_assoc, append-nil, arith}
+use Rattle.std.proofs.Common.{◌≡◌, ℕ, ◌+◌, ◌-◌, ◌^◌, ◌<◌, ◌≤◌, ◌==◌, min, Bool, true, false, if◌then◌else◌, List, [], ◌∷◌, ◌++◌, length, drop, Option, None, Some, ◌⊎◌, inl, inr, refl, sym, ap, subst, ◌∙◌, append_assoc, append-nil, arith}
 use Rattle.std.proofs.lemmas.List.{get_or-set_same, get_or-set_other, length-set}
-use Rattle.std.proofs.lemmas.Bool.{eqb-true, eqb-false, cases_eq}
+use Rattle.std.proofs.lemmas.Bool.{cases_eq}
 use Rattle.fs_places.specs.declared.numbered.Numbered.{Numbered}
 use Rattle.fs_places.specs.Places.{held_in, least_free}
-use Rattle.fs_places.specs.Rows.{has_number, place_of, with_held_at, with_new_row}
+use Rattle.fs_places.specs.Rows.{has_number, place_of, with_new_row}
+use Rattle.fs_places.proofs.RowLemmas.{AreDistinct, AreWithin, held_of, row_at, row_none, each_put_at, length_put_at, place_stands, place_within, places_apart, above_nowhere, places_same, distinct_same, distinct-without_row, within-without_row, place_of-without_row_same, place_of-without_row_other, distinct-with_new_row, within-with_new_row, place_of-with_new_row_other, new_stands, new_free}
 use Rattle.fs_state.specs.declared.conn.Conn.{Conn}
 use Rattle.fs_state.specs.declared.gift.Gift.{Gift}
 use Rattle.fs_state.specs.Drawn as numbers
-use Rattle.fs_state.specs.Queues.{Frames, queue_at, with_queue, without_first_frame, without_frames, with_frames_at, delivered}
+use Rattle.fs_state.specs.Queues.{Frames, queue_at, without_first_frame, without_frames, with_frames_at, delivered}
 use Rattle.fs_state.specs.Switch.{Switch, waiting_at, waiting_for, changed_at, with_frame_taken, without_conn, after_entry}
+use Rattle.fs_state.proofs.GiftLemmas.{AreQuiet, quiet_less, quiet_taken, quiet_delivered, changed_length, given_length, delivered_length, one_given}
 use Rattle.fs_machine.specs.Connections.{phase_of, phase_at}
 use Rattle.fs_machine.specs.Step.{is_closed, new_conn, arrived}
 use Rattle.fs_machine.specs.Frames.{frames_among, given_in}
-use Rattle.fs_machine.proofs.RowLemmas.{IsFree, AreDistinct, AreWithin, held_of, row_at, row_none, each_put_at, length_put_at, place_stands, place_within, places_apart, free_apart, above_nowhere, places_same, distinct_same, distinct-without_row, within-without_row, place_of-without_row_same, place_of-without_row_other, distinct-with_new_row, within-with_new_row, place_of-with_new_row_other, new_stands, new_free, less_free}
 use Rattle.fs_machine.proofs.RestLemmas.{whichever}
 use Rattle.fs_machine.proofs.KeepLemmas.{is_shut, AreOpen, Keeps}
-
--- where no connection stands nothing waits
-abbrev pub AreQuiet : List (Option (Numbered Conn)) → List Frames → Type 0
-AreQuiet conns queues = (place : ℕ) → IsFree conns place → queue_at queues place ≡ []
 
 -- the connections of a switch and its queues fit together
 pub record Ordered (s : Switch) : Type 0 where
@@ -68,67 +65,7 @@ keeps_place s t keeps conn = places_same s.conns t.conns keeps.numbers conn
 
 -- ---- other queues
 
--- the queue of a connection may change
-quiet_put : (conns : List (Option (Numbered Conn))) (queues : List Frames) (number place : ℕ) (queue : Frames) → place_of conns number ≡ Some place →
-    AreQuiet conns queues → AreQuiet conns (with_queue place queue queues)
-quiet_put conns queues number place queue is quiet free empty =
-    get_or-set_other queues place free queue [] (free_apart conns number place free is empty) ∙ quiet free empty
-
--- a queue that was emptied is empty
-queue_emptied : (queues : List Frames) (put : ℕ) → queue_at (with_queue put [] queues) put ≡ []
-queue_emptied [] put = refl
-queue_emptied (queue ∷ queues) zero = refl
-queue_emptied (queue ∷ queues) (suc put) = queue_emptied queues put
-
--- no change takes a queue away
-changed_length : (change : ℕ → List Frames → List Frames) → ((place : ℕ) (queues : List Frames) → length (change place queues) ≡ length queues) →
-    (found : Option ℕ) (queues : List Frames) → length (changed_at change found queues) ≡ length queues
-changed_length change each None queues = refl
-changed_length change each (Some place) queues = each place queues
-
 -- ---- gifts
-
--- no gift makes a queue
-given_length : (found : Option ℕ) (frames : Frames) (queues : List Frames) → length (with_frames_at found frames queues) ≡ length queues
-given_length None frames queues = refl
-given_length (Some place) frames queues = length-set queues place (queue_at queues place ++ frames)
-
-delivered_length : (conns : List (Option (Numbered Conn))) (gifts : List Gift) (queues : List Frames) → length (delivered conns gifts queues) ≡ length queues
-delivered_length conns [] queues = refl
-delivered_length conns (gift ∷ gifts) queues =
-    delivered_length conns gifts (with_frames_at (place_of conns gift.conn) gift.frames queues) ∙ given_length (place_of conns gift.conn) gift.frames queues
-
--- a gift goes to no place without a connection
-quiet_given : (conns : List (Option (Numbered Conn))) (queues : List Frames) (number : ℕ) (frames : Frames) (found : Option ℕ) → place_of conns number ≡ found →
-    AreQuiet conns queues → AreQuiet conns (with_frames_at found frames queues)
-quiet_given conns queues number frames None is quiet free empty = quiet free empty
-quiet_given conns queues number frames (Some place) is quiet free empty = quiet_put conns queues number place (queue_at queues place ++ frames) is quiet free empty
-
-quiet_delivered : (conns : List (Option (Numbered Conn))) (gifts : List Gift) (queues : List Frames) → AreQuiet conns queues → AreQuiet conns (delivered conns gifts queues)
-quiet_delivered conns [] queues quiet free empty = quiet free empty
-quiet_delivered conns (gift ∷ gifts) queues quiet free empty =
-    quiet_delivered conns gifts (with_frames_at (place_of conns gift.conn) gift.frames queues)
-    (quiet_given conns queues gift.conn gift.frames (place_of conns gift.conn) refl quiet) free empty
-
--- a gift waits behind what waits for its connection, and for no other
-one_given : (conns : List (Option (Numbered Conn))) (queues : List Frames) (conn place : ℕ) (gift : Gift) → place_of conns conn ≡ Some place → place < length queues →
-    queue_at (with_frames_at (place_of conns gift.conn) gift.frames queues) place ≡ queue_at queues place ++ (if gift.conn == conn then gift.frames else [])
-one_given conns queues conn place gift is within = by (gift.conn == conn) refl
-  where
-    other : (found : Option ℕ) → place_of conns gift.conn ≡ found → (gift.conn == conn) ≡ false → queue_at (with_frames_at found gift.frames queues) place ≡ queue_at queues place ++ []
-    other None there e = sym (append-nil (queue_at queues place))
-    other (Some others) there e =
-        get_or-set_other queues others place (queue_at queues others ++ gift.frames) []
-        (λ same. eqb-false gift.conn conn e (sym (places_apart conns conn gift.conn place others is there same)))
-        ∙ sym (append-nil (queue_at queues place))
-
-    by : (b : Bool) → (gift.conn == conn) ≡ b →
-        queue_at (with_frames_at (place_of conns gift.conn) gift.frames queues) place ≡ queue_at queues place ++ (if b then gift.frames
-        else [])
-    by true e =
-        ap (λ found. queue_at (with_frames_at found gift.frames queues) place) (ap (place_of conns) (eqb-true gift.conn conn e) ∙ is)
-        ∙ get_or-set_same queues place (queue_at queues place ++ gift.frames) [] within
-    by false e = other (place_of conns gift.conn) refl e
 
 -- all gifts, one after another
 all_given : (conns : List (Option (Numbered Conn))) (conn place : ℕ) (gifts : List Gift) (queues : List Frames) → place_of conns conn ≡ Some place → place < length queues →
@@ -181,12 +118,6 @@ closed_quietly cost t conn ordered none =
 
 -- ---- a frame is taken
 
--- the place from which a frame is taken has a connection
-quiet_taken : (conns : List (Option (Numbered Conn))) (queues : List Frames) (number : ℕ) (found : Option ℕ) → place_of conns number ≡ found →
-    AreQuiet conns queues → AreQuiet conns (changed_at without_first_frame found queues)
-quiet_taken conns queues number None is quiet free empty = quiet free empty
-quiet_taken conns queues number (Some place) is quiet free empty = quiet_put conns queues number place (drop 1 (queue_at queues place)) is quiet free empty
-
 pub taken_ordered : (taker : ℕ) (s : Switch) → Ordered s → Ordered (with_frame_taken taker s)
 taken_ordered taker s ordered = record {
   distinct = ordered.distinct;
@@ -217,16 +148,6 @@ taken_other taker conn s differ = by (place_of s.conns taker) (place_of s.conns 
         get_or-set_other s.queues place mine (drop 1 (queue_at s.queues place)) [] (λ same. differ (sym (places_apart s.conns conn taker mine place is is_there same)))
 
 -- ---- a connection goes
-
--- the place that is left is quiet
-quiet_less : (conns : List (Option (Numbered Conn))) (queues : List Frames) (found : Option ℕ) → AreQuiet conns queues →
-    AreQuiet (with_held_at conns None found) (changed_at without_frames found queues)
-quiet_less conns queues None quiet place free = quiet place free
-quiet_less conns queues (Some put) quiet place free = by (cases_eq place put)
-  where
-    by : (place ≡ put) ⊎ (place ≡ put → ⊥) → queue_at (without_frames put queues) place ≡ []
-    by (inl same) = subst (λ p. queue_at (without_frames put queues) p ≡ []) (sym same) (queue_emptied queues put)
-    by (inr differ) = get_or-set_other queues put place [] [] differ ∙ quiet place (less_free conns put place differ free)
 
 pub without_ordered : (gone : ℕ) (s : Switch) → Ordered s → Ordered (without_conn gone s)
 without_ordered gone s ordered = record {

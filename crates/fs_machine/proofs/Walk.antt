@@ -29,6 +29,7 @@ use Rattle.fs_orig.specs.Changes.{with_answer, with_death}
 use Rattle.fs_orig.specs.Endpoints as endpoints
 use Rattle.fs_orig.specs.Endpoints.{endpoint_of}
 use Rattle.fs_places.specs.Places.{held_in}
+use Rattle.fs_places.proofs.HeldLemmas.{held_here, held_within, free_place}
 use Rattle.fs_plan.specs.declared.hunt.Hunt.{Hunt}
 use Rattle.fs_state.specs.declared.event.Event.{Event}
 use Rattle.fs_state.specs.Switch.{Switch, chan_at, with_chan, free_slot, with_event}
@@ -39,7 +40,6 @@ use Rattle.fs_machine.specs.Applications.{with_variable, without_variable, with_
 use Rattle.fs_machine.specs.Work.{with_variables, routed_to, actions_for, too_long_cause, found_for, routed_by, routing_from, first_state, worked_waiting, worked_in, worked_from, worked}
 use Rattle.fs_machine.specs.Originations.{Made, made_in, with_second, free_pair, is_congested, made_of, leg_made}
 use Rattle.fs_machine.specs.Attempts.{all_hung}
-use Rattle.fs_machine.proofs.HeldLemmas.{held_here, held_within, free_place}
 use Rattle.fs_machine.proofs.ShortLemmas.{sent_short, application_short, endpoint_short}
 use Rattle.fs_machine.proofs.Kept.{Fact, Stays, KeptByCalls, KeptByBirths}
 

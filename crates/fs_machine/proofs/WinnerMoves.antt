@@ -5,6 +5,8 @@ use Rattle.fs_api.specs.declared.api.Winner.{Winner}
 use Rattle.fs_places.specs.declared.numbered.Numbered.{Numbered}
 use Rattle.fs_places.specs.Places.{held_in, least_free}
 use Rattle.fs_places.specs.Rows.{place_of}
+use Rattle.fs_places.proofs.RowLemmas.{each_put_at}
+use Rattle.fs_places.proofs.TableLemmas.{row_found}
 use Rattle.fs_state.specs.declared.conn.Conn.{Conn}
 use Rattle.fs_state.specs.declared.conn.Parting.TheVariants as parting
 use Rattle.fs_state.specs.declared.job.Job.{Job}
@@ -17,8 +19,6 @@ use Rattle.fs_machine.specs.Connections.{conn_changed, admitted, parted, owed_si
 use Rattle.fs_machine.specs.Originations.{leg_made, won}
 use Rattle.fs_machine.specs.Attempts.{orig_begun, originate_begun}
 use Rattle.fs_machine.specs.Owing.{after_job_begin, after_job_end}
-use Rattle.fs_machine.proofs.RowLemmas.{each_put_at}
-use Rattle.fs_machine.proofs.TableLemmas.{row_found}
 use Rattle.fs_machine.proofs.Kept.{Fact, DoesJob, IsShortWinner, KeptByMoves}
 use Rattle.fs_machine.proofs.FrontLemmas.{conn_unread}
 use Rattle.fs_machine.proofs.RestLemmas.{Rest, rest_of, calls_by_rest, leg_made_rest, won_rest}

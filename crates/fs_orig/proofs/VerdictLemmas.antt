@@ -10,8 +10,8 @@ use Rattle.fs_orig.specs.declared.orig.Orig.{Orig}
 use Rattle.fs_orig.specs.declared.plan.LegPlan.{LegPlan}
 use Rattle.fs_orig.specs.declared.verdict.Verdict.{Verdict}
 use Rattle.fs_orig.specs.declared.verdict.Verdict.TheVariants.{Wait, Won, LegExpired, NextGroup, Failed, Expired}
-use Rattle.fs_orig.specs.Legs.{is_at, answer_of, first_answer, winner, last_death, cause_at, last_cause, any_lives}
-use Rattle.fs_orig.specs.Verdicts.{limit_of, has_come, expired_leg, least_deadline, next_group, won_or, leg_expired_or, next_or_failed, unanswered, verdict_of}
+use Rattle.fs_orig.specs.Legs.{is_at, answer_of, first_answer, winner, last_death, cause_at, last_cause, any_lives, lives}
+use Rattle.fs_orig.specs.Verdicts.{limit_of, has_come, expired_leg, least_deadline, next_group, won_or, leg_expired_or, next_or_failed, unanswered, verdict_of, due_moment_by}
 use Rattle.fs_orig.specs.Meaning.{is_timeout, is_wait, answer_at, IsWinner, limit_at, IsFirstToExpire, death_at, death_cause_at, IsLastToDie, IsWithCauses}
 use Rattle.fs_orig.specs.Changes.{may_enter_next}
 use Rattle.fs_orig.proofs.Positions.{passes, IsFirst, position_is_first, position_is_none, IsLast, last_is}
@@ -395,3 +395,22 @@ unfolding verdict_of
 failed_is now cause o h causes =
     let w : (any_lives o.legs ≡ false) × (unwrap_or (last_cause o.legs) NormalUnspecified ≡ cause) = has_failed (winner o.legs) (nat_le o.deadline now) (expired_leg now o.legs) (any_lives o.legs) (least_deadline o) (next_group o) (last_cause o.legs) cause h in
     last_to_die o.legs cause w.0 causes w.1
+
+-- ---- what a verdict brings
+
+-- a verdict that is to wait no more is due at once
+pub timeout_due : (now : ℕ) (v : Verdict) → is_timeout v ≡ true → due_moment_by now v ≡ now
+timeout_due now (Wait until) is = absurd (cc)
+timeout_due now (Won position) is = refl
+timeout_due now (LegExpired position) is = refl
+timeout_due now NextGroup is = refl
+timeout_due now (Failed cause) is = refl
+timeout_due now Expired is = refl
+
+-- the leg lives that has won
+pub winner_lives : (now position : ℕ) (o : Orig) (leg : OrigLeg) → verdict_of now o ≡ Won position → slice_get o.legs position ≡ Some leg → lives leg ≡ true
+winner_lives now position o leg is there = answers (lives leg) refl (sym (ap (option_and_then answer_of) there) ∙ (won_is now position o is).answered)
+  where
+    answers : (test : Bool) → lives leg ≡ test → cond test leg.answered None ≡ Some (won_is now position o is).place → lives leg ≡ true
+    answers true is answered = is
+    answers false is answered = absurd (cc)

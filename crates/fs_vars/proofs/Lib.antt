@@ -5,3 +5,4 @@ pub mod DigitLemmas
 pub mod ExpansionLemmas
 pub mod OutputLemmas
 pub mod LawLemmas
+pub mod GlobalLemmas

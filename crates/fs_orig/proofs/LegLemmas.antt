@@ -2,7 +2,7 @@
 use Rattle.std.proofs.Common.{◌≡◌, ℕ, ◌+◌, ◌<◌, ◌≤◌, List, [], ◌∷◌, length, drop, get_or, Option, None, Some, refl, ap, ◌∙◌}
 use Rattle.std.proofs.lemmas.List.{at_drop_more, at_drop_all}
 use Rattle.fs_orig.specs.declared.leg.OrigLeg.{OrigLeg}
-use Rattle.fs_machine.specs.Attempts.{living_slot, living_slots}
+use Rattle.fs_orig.specs.Legs.{living_slot, living_slots}
 
 -- a slot in front of others, if there is one
 abbrev in_front : Option ℕ → List ℕ → List ℕ

@@ -1,25 +1,19 @@
 -- What stands at the places of a table, behind one write too, and how many places are taken.
-use Rattle.std.proofs.Common.{◌≡◌, ◌≢◌, ◌⊎◌, ℕ, zero, suc, ◌+◌, true, false, List, [], ◌∷◌, length, map, Option, None, Some, is_none, refl, sym, ap, subst, ◌∙◌, inl, inr, ⊎_elim, arith}
+use Rattle.std.proofs.Common.{◌≡◌, ◌≢◌, ◌⊎◌, ℕ, zero, suc, ◌+◌, ◌<◌, true, false, List, ◌∷◌, length, map, Option, None, Some, is_none, refl, sym, ap, subst, ◌∙◌, inl, inr, ⊎_elim, arith, []}
 use Rattle.std.specs.List.{slice_set, sum_by}
 use Rattle.std.proofs.lemmas.List.{get_or-set_other, set-get_or, map-set}
-use Rattle.std.proofs.lemmas.List.Sums.{sum_by-cons}
+use Rattle.std.proofs.lemmas.List.Sums.{sum_by-cons, sum_by-set}
 use Rattle.std.proofs.lemmas.Bool.{eqb-true, eqb-false}
+use Rattle.std.proofs.lemmas.Option.{none-some, same_Some}
 use Rattle.fs_places.specs.declared.numbered.Numbered.{Numbered}
 use Rattle.fs_places.specs.Places.{no_places, held_in, with_held, first_place, least_free}
 use Rattle.fs_places.specs.Rows.{has_number, place_of, row_of, with_held_at, with_row, without_row, with_new_row}
-use Rattle.fs_machine.proofs.HeldLemmas.{nothing_held}
-use Rattle.fs_machine.proofs.RowLemmas.{held_of, row_at, row_none, place_stands, none_stands}
+use Rattle.fs_places.proofs.HeldLemmas.{held_within, nothing_held}
+use Rattle.fs_places.proofs.RowLemmas.{held_of, row_at, row_none, place_stands, none_stands}
 
--- ---- values that are there
-
-pub nothing_there : {T : Type 0} → (x : T) → None ≡ Some x → ⊥
-nothing_there x is = cc is
-
+-- what is there is something
 pub something_there : {T : Type 0} → (x : T) → Some x ≡ None → ⊥
 something_there x is = cc is
-
-pub same_there : {T : Type 0} → (x y : T) → Some x ≡ Some y → x ≡ y
-same_there x y is = cc is
 
 -- ---- one write
 
@@ -30,7 +24,7 @@ IsWrittenOrKept places place held other x = ((other ≡ place) × (held ≡ Some
 -- what stands at a place behind a write was written there, or stands at another place as before
 pub written_or_kept : {T : Type 0} → (places : List (Option T)) (place : ℕ) (held : Option T) (other : ℕ) (x : T) → held_in (with_held places place held) other ≡ Some x →
     IsWrittenOrKept places place held other x
-written_or_kept [] place held other x is = absurd (nothing_there x is)
+written_or_kept [] place held other x is = absurd (none-some x is)
 written_or_kept (first ∷ more) zero held zero x is = inl (refl, is)
 written_or_kept (first ∷ more) zero held (suc other) x is = inr ((λ same. omega (arith, same)), is)
 written_or_kept (first ∷ more) (suc place) held zero x is = inr ((λ same. omega (arith, same)), is)
@@ -45,7 +39,7 @@ pub kept_without : {T : Type 0} → (places : List (Option T)) (place other : �
     (other ≢ place) × (held_in places other ≡ Some x)
 kept_without places place other x is =
     ⊎_elim
-    (λ (here : (other ≡ place) × (None ≡ Some x)). absurd (nothing_there x here.1))
+    (λ (here : (other ≡ place) × (None ≡ Some x)). absurd (none-some x here.1))
     (λ (there : (other ≢ place) × (held_in places other ≡ Some x)). there)
     (written_or_kept places place None other x is)
 
@@ -56,16 +50,16 @@ still_there places place held other x apart is = get_or-set_other places place o
 
 -- what stands somewhere does not stand at a free place
 pub not_free : {T : Type 0} → (places : List (Option T)) (place other : ℕ) (x : T) → held_in places place ≡ None → held_in places other ≡ Some x → other ≢ place
-not_free places place other x free is same = nothing_there x (sym free ∙ (ap (λ (p : ℕ). held_in places p) (sym same) ∙ is))
+not_free places place other x free is same = none-some x (sym free ∙ (ap (λ (p : ℕ). held_in places p) (sym same) ∙ is))
 
 -- what stands at one place is one
 pub one_there : {T : Type 0} → (places : List (Option T)) (place other : ℕ) (x y : T) → held_in places place ≡ Some x → held_in places other ≡ Some y → other ≡ place → x ≡ y
-one_there places place other x y is is_other same = same_there x y (sym is ∙ (ap (λ (p : ℕ). held_in places p) (sym same) ∙ is_other))
+one_there places place other x y is is_other same = same_Some x y (sym is ∙ (ap (λ (p : ℕ). held_in places p) (sym same) ∙ is_other))
 
 -- nothing stands in a table of empty places
 pub none_held : {T : Type 0} → (count place : ℕ) (x : T) → held_in (no_places {T = T} count) place ≡ Some x → ⊥
 unfolding no_places
-none_held {T} count place x is = nothing_there x (sym (nothing_held T count place) ∙ is)
+none_held {T} count place x is = none-some x (sym (nothing_held T count place) ∙ is)
 
 -- ---- numbers
 
@@ -102,10 +96,10 @@ pub row_found : {T : Type 0} → (places : List (Option (Numbered T))) (number :
 row_found {T} places number x is = by (place_of places number) refl
   where
     by : (found : Option ℕ) → place_of places number ≡ found → (place : ℕ) × (row : Numbered T) × IsRow places number place row × (row.held ≡ x)
-    by None at = absurd (nothing_there x (sym (row_none places number at) ∙ is))
+    by None at = absurd (none-some x (sym (row_none places number at) ∙ is))
     by (Some place) at =
         let found : HasRow places number = row_there places number place at in
-        (found.0, found.1, found.2, same_there found.1.held x (sym (row_is places number found.0 found.1 found.2) ∙ is))
+        (found.0, found.1, found.2, same_Some found.1.held x (sym (row_is places number found.0 found.1 found.2) ∙ is))
 
 -- what stands at a place has a row of its number
 pub row_of_held : {T : Type 0} → (places : List (Option (Numbered T))) (k : ℕ) (row : Numbered T) → held_in places k ≡ Some row → HasRow places row.number
@@ -152,8 +146,8 @@ pub number_there : {T : Type 0} → (places : List (Option (Numbered T))) (numbe
 number_there places number place row h = numbers_held places place ∙ (ap number_at h.there ∙ ap Some h.numbered)
 
 numbered_row : {T : Type 0} → (held : Option (Numbered T)) (number : ℕ) → number_at held ≡ Some number → (row : Numbered T) × (held ≡ Some row) × (row.number ≡ number)
-numbered_row None number is = absurd (nothing_there number is)
-numbered_row (Some row) number is = (row, refl, same_there row.number number is)
+numbered_row None number is = absurd (none-some number is)
+numbered_row (Some row) number is = (row, refl, same_Some row.number number is)
 
 -- a number that stands somewhere has a row
 pub row_of_number : {T : Type 0} → (places : List (Option (Numbered T))) (number k : ℕ) → held_in (numbers_in places) k ≡ Some number → HasRow places number
@@ -216,6 +210,20 @@ taken_numbers (Some row ∷ more) =
     let one : taken_in (numbers_in (Some row ∷ more)) ≡ 1 + taken_in (numbers_in more) = sum_by-cons one_if (Some row.number) (numbers_in more) in
     let other : taken_in (Some row ∷ more) ≡ 1 + taken_in more = sum_by-cons one_if (Some row) more in
     omega (arith, rest, one, other)
+
+-- one more is taken where something is put at an empty place, and one less where a place is emptied
+pub taken_more : {T : Type 0} → (places : List (Option T)) (place : ℕ) (x : T) → place < length places → held_in places place ≡ None →
+    taken_in (with_held places place (Some x)) ≡ taken_in places + 1
+taken_more places place x within free =
+    let sums : taken_in (with_held places place (Some x)) + one_if (held_in places place) ≡ taken_in places + 1 = sum_by-set one_if places place (Some x) None within in
+    let none : one_if (held_in places place) ≡ 0 = ap one_if free in
+    omega (arith, sums, none)
+
+pub taken_less : {T : Type 0} → (places : List (Option T)) (place : ℕ) (x : T) → held_in places place ≡ Some x → taken_in (with_held places place None) + 1 ≡ taken_in places
+taken_less places place x stands =
+    let sums : taken_in (with_held places place None) + one_if (held_in places place) ≡ taken_in places + 0 = sum_by-set one_if places place None None (held_within places place x stands) in
+    let one : one_if (held_in places place) ≡ 1 = ap one_if stands in
+    omega (arith, sums, one)
 
 -- a table of empty places has none that is taken
 pub none_taken : {T : Type 0} → (measure : Option T → ℕ) (count : ℕ) → measure None ≡ 0 → sum_by measure (no_places {T = T} count) ≡ 0

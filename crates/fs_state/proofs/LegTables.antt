@@ -2,6 +2,7 @@
 use Rattle.std.proofs.Common.{◌≡◌, ℕ, zero, suc, ◌&&◌, Bool, true, false, if◌then◌else◌, List, [], ◌∷◌, Option, None, Some, slice_get, ◌⊎◌, inl, inr, refl, sym, ap, subst, ◌∙◌, true≢false}
 use Rattle.std.specs.List.{slice_set}
 use Rattle.std.proofs.lemmas.Bool.{cases_eq, both_ways, eqb-true, eq-eqb}
+use Rattle.std.proofs.lemmas.Option.{none-some, same_Some}
 use Rattle.fs_text.specs.declared.causes.Cause.{Cause}
 use Rattle.fs_orig.specs.declared.leg.OrigLeg.{OrigLeg}
 use Rattle.fs_orig.specs.declared.orig.Orig.{Orig}
@@ -12,10 +13,10 @@ use Rattle.fs_orig.proofs.Positions.{passes, position_is_first, position_is_none
 use Rattle.fs_places.specs.declared.numbered.Numbered.{Numbered}
 use Rattle.fs_places.specs.Places.{held_in, with_held, least_free}
 use Rattle.fs_places.specs.Rows.{has_number, place_of, row_of, with_held_at, with_row, without_row, with_new_row}
+use Rattle.fs_places.proofs.HeldLemmas.{held_here, held_there, at_each}
+use Rattle.fs_places.proofs.RowLemmas.{AreDistinct, place_stands, place_within, free_least}
+use Rattle.fs_places.proofs.TableLemmas.{row_found, row_written}
 use Rattle.fs_state.specs.Moves.{leg_changed_at, leg_changed}
-use Rattle.fs_machine.proofs.HeldLemmas.{held_here, held_there, at_each}
-use Rattle.fs_machine.proofs.RowLemmas.{AreDistinct, place_stands, place_within, free_least}
-use Rattle.fs_machine.proofs.TableLemmas.{nothing_there, same_there, row_found, row_written}
 
 abbrev pub Origs : Type 0
 Origs = List (Option (Numbered Orig))
@@ -57,26 +58,26 @@ Fewer old new = (place : ℕ) → FewerIn (held_in old place) (held_in new place
 
 -- the seat is of this number
 pub seat_its : (number : ℕ) (leg : Option OrigLeg) (seat : Seat) → seat_of number leg ≡ Some seat → seat.number ≡ number
-seat_its number None seat h = absurd (nothing_there seat h)
+seat_its number None seat h = absurd (none-some seat h)
 seat_its number (Some leg) seat h = by (lives leg) h
   where
     by : (test : Bool) → seat_if test number leg.slot ≡ Some seat → seat.number ≡ number
-    by true h = sym (ap (λ (x : Seat). x.number) (same_there (seated number leg.slot) seat h))
-    by false h = absurd (nothing_there seat h)
+    by true h = sym (ap (λ (x : Seat). x.number) (same_Some (seated number leg.slot) seat h))
+    by false h = absurd (none-some seat h)
 
 pub seat_number : (position : ℕ) (held : Option (Numbered Orig)) (seat : Seat) → seat_in position held ≡ Some seat → has_number seat.number held ≡ true
-seat_number position None seat h = absurd (nothing_there seat h)
+seat_number position None seat h = absurd (none-some seat h)
 seat_number position (Some row) seat h = eq-eqb row.number seat.number (sym (seat_its row.number (slice_get row.held.legs position) seat h))
 
 -- who has a seat in a slot lives there, and has it if he does
 seat_lives : (number slot : ℕ) (leg : Option OrigLeg) → seat_of number leg ≡ Some (in_slot number slot) → passes (legs.lives_in slot) leg ≡ true
-seat_lives number slot None h = absurd (nothing_there (in_slot number slot) h)
+seat_lives number slot None h = absurd (none-some (in_slot number slot) h)
 seat_lives number slot (Some leg) h = by (lives leg) leg.slot h
   where
     by : (test : Bool) (which : Option ℕ) → seat_if test number which ≡ Some (in_slot number slot) → (test && legs.is_at slot which) ≡ true
     by true which h =
-        ap (legs.is_at slot) (ap (λ (x : Seat). x.slot) (same_there (seated number which) (in_slot number slot) h)) ∙ eq-eqb slot slot refl
-    by false which h = absurd (nothing_there (in_slot number slot) h)
+        ap (legs.is_at slot) (ap (λ (x : Seat). x.slot) (same_Some (seated number which) (in_slot number slot) h)) ∙ eq-eqb slot slot refl
+    by false which h = absurd (none-some (in_slot number slot) h)
 
 lives_seated : (number slot : ℕ) (leg : OrigLeg) → legs.lives_in slot leg ≡ true → seat_of number (Some leg) ≡ Some (in_slot number slot)
 lives_seated number slot leg = by (lives leg) leg.slot
@@ -89,7 +90,7 @@ lives_seated number slot leg = by (lives leg) leg.slot
 -- ---- one leg of a list is changed
 
 set_here : (these : List OrigLeg) (first : ℕ) (old new : OrigLeg) → slice_get these first ≡ Some old → slice_get (slice_set these first new) first ≡ Some new
-set_here [] first old new is = absurd (nothing_there old is)
+set_here [] first old new is = absurd (none-some old is)
 set_here (leg ∷ more) zero old new is = refl
 set_here (leg ∷ more) (suc first) old new is = set_here more first old new is
 
@@ -116,8 +117,8 @@ no_seat : (place : ℕ) (cause : Cause) (number : ℕ) (leg : OrigLeg) (seat : S
 no_seat place cause number leg seat = by (lives leg) refl
   where
     by : (test : Bool) → lives leg ≡ test → seat_of number (Some (if test then record leg { died = Some place; cause = Some cause } else leg)) ≡ Some seat → ⊥
-    by true is h = nothing_there seat h
-    by false is h = nothing_there seat (sym (ap (λ (b : Bool). seat_if b number leg.slot) is) ∙ h)
+    by true is h = none-some seat h
+    by false is h = none-some seat (sym (ap (λ (b : Bool). seat_if b number leg.slot) is) ∙ h)
 
 pub death_spares : (place : ℕ) (cause : Cause) → Spares (with_leg_death place cause)
 death_spares place cause number leg seat h = absurd (no_seat place cause number leg seat h)
@@ -200,7 +201,7 @@ without_fewer origs number = by (place_of origs number) refl
   where
     by : (found : Option ℕ) → place_of origs number ≡ found → Fewer origs (with_held_at origs None found)
     by None is = λ place position seat h. h
-    by (Some at) is = at_each origs at None FewerIn (place_within origs number at is) (λ position seat h. absurd (nothing_there seat h)) (λ held position seat h. h)
+    by (Some at) is = at_each origs at None FewerIn (place_within origs number at is) (λ position seat h. absurd (none-some seat h)) (λ held position seat h. h)
 
 -- a death leaves no leg of this origination in the slot
 pub death_leaves_none : (origs : Origs) (number : ℕ) (o : Orig) (slot place : ℕ) (cause : Cause) → AreDistinct origs → row_of origs number ≡ Some o →
@@ -235,7 +236,7 @@ new_or_old origs next o leg one place position seat = by (least_free origs 0) re
   where
     only : (q : ℕ) → seat_of next (slice_get (leg ∷ []) q) ≡ Some seat → (q ≡ 0) × (seat_of next (Some leg) ≡ Some seat)
     only zero h = (refl, h)
-    only (suc q) h = absurd (nothing_there seat h)
+    only (suc q) h = absurd (none-some seat h)
 
     at : (put : ℕ) → least_free origs 0 ≡ Some put → (place ≡ put) ⊎ (place ≡ put → ⊥) → seat_at (with_held origs put (as_row next o)) place position ≡ Some seat →
         ((position ≡ 0) × (seat_of next (Some leg) ≡ Some seat)) ⊎ (seat_at origs place position ≡ Some seat)

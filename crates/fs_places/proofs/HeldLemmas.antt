@@ -3,7 +3,7 @@ use Rattle.std.proofs.Common.{◌≡◌, ℕ, zero, suc, ◌<◌, ◌≤◌, Lis
 use Rattle.std.proofs.lemmas.List.{get_or-set_same, get_or-set_other, get_or_past, get_or-drop, length-drop}
 use Rattle.std.proofs.lemmas.Bool.{cases_eq, cases_lt}
 use Rattle.fs_places.specs.Places.{no_places, held_in, with_held, least_free}
-use Rattle.fs_machine.proofs.RowLemmas.{place_found, is_nothing}
+use Rattle.fs_places.proofs.RowLemmas.{place_found, is_nothing}
 
 -- ---- one place is written
 

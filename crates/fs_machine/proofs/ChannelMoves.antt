@@ -112,5 +112,5 @@ fit_moves before stand winners =
       hung = λ cause slot {s = s} h. hung_fit cause slot s h;
       gone = λ slot old {s = s} there dead h. each_put FitsIn s.channels slot None h tt;
     })
-    (record { spent = λ h. h; pair = λ call orig a b {s = s} short first second h. pair_fit call orig a b s short h })
+    (record { spent = λ h. h; more = λ below h. h; pair = λ call orig a b {s = s} short first second h. pair_fit call orig a b s short h })
     (λ a winner leg does has h. wins_fit a winner leg before does has stand winners h)

@@ -1,5 +1,5 @@
--- Each act draws two identifiers at most, and each of them stands in one slot.
-use Rattle.std.proofs.Common.{◌≡◌, ℕ, ◌+◌, ◌<◌, Bool, true, false, length, Option, None, Some, unwrap_or, refl, sym, ap, subst, length-set}
+-- Each act draws so many identifiers at most as its stages tell, and each of them stands in one slot.
+use Rattle.std.proofs.Common.{◌≡◌, ℕ, ◌+◌, ◌<◌, length, Option, None, Some, unwrap_or, refl, sym, ap, subst, length-set}
 use Rattle.fs_text.specs.declared.causes.Cause.{Cause}
 use Rattle.fs_api.specs.declared.api.Winner.{Winner}
 use Rattle.fs_api.specs.declared.api.Winner.TheVariants.{App, Route}
@@ -12,14 +12,14 @@ use Rattle.fs_state.specs.Moves.{after_move_from, orig_changed, leg_changed, aft
 use Rattle.fs_machine.specs.declared.originations.Call.{Call}
 use Rattle.fs_machine.specs.declared.originations.End.{End}
 use Rattle.fs_machine.specs.Originations.{end_of, end_made, leg_end, far_end, pair_made, won_by, won}
-use Rattle.fs_machine.proofs.Kept.{Fact, Links, KeptByMoves}
+use Rattle.fs_machine.proofs.Kept.{Stage, Fact, Links, KeptByMoves}
 use Rattle.fs_machine.proofs.Walk.{state_told_kept, hung_kept}
 use Rattle.fs_machine.proofs.FrontLemmas.{Front, front_of, orig_changed_front, moves_by_front}
-use Rattle.fs_machine.proofs.SeenLemmas.{Seen, seen, put, Numbers, numbers_then, numbers_quietly, numbers_fewer, numbers_same, numbers_gone, numbers_new}
+use Rattle.fs_machine.proofs.SeenLemmas.{Seen, seen, put, Numbers, numbers_then, numbers_quietly, numbers_more, numbers_same, numbers_gone, numbers_new}
 
-abbrev pub drawn_by : Bool → ℕ
-drawn_by true = 0
-drawn_by false = 2
+abbrev pub drawn_by : Stage → ℕ
+drawn_by None = 0
+drawn_by (Some n) = n
 
 -- so many at most were drawn since
 abbrev pub NumbersFrom : Seen → Fact
@@ -53,7 +53,7 @@ module _ (x : Seen) where
       hung_kept (λ (t : Switch). Numbers more x (seen t)) (λ event t plain k. k) (λ why place c t is k. put_numbers more place c (hung_up why c) t is refl k)
       (λ change number t k. front_numbers more t (orig_changed change number t) (orig_changed_front change number t) k) cause slot s h
 
-  won_numbers : (winner : Winner) (slot : ℕ) (s : Switch) → Numbers 2 x (seen s) → Numbers 2 x (seen (won winner slot s))
+  won_numbers : (winner : Winner) (slot : ℕ) (s : Switch) → Numbers 0 x (seen s) → Numbers 0 x (seen (won winner slot s))
   unfolding won
   won_numbers winner slot s h = by (chan_at s slot) refl
     where
@@ -61,11 +61,11 @@ module _ (x : Seen) where
       same_uuid (App application argument) c = refl
       same_uuid (Route to) c = refl
 
-      by : (found : Option Chan) → chan_at s slot ≡ found → Numbers 2 x (seen (after_move_from (won_by winner) slot found s))
+      by : (found : Option Chan) → chan_at s slot ≡ found → Numbers 0 x (seen (after_move_from (won_by winner) slot found s))
       by None is = h
       by (Some c) is =
-          state_told_kept (λ (t : Switch). Numbers 2 x (seen t)) (λ event t plain k. k) c.state (won_by winner c).state {s = with_chan slot (Some (won_by winner c)) s}
-          (put_numbers 2 slot c (won_by winner c) s is (same_uuid winner c) h)
+          state_told_kept (λ (t : Switch). Numbers 0 x (seen t)) (λ event t plain k. k) c.state (won_by winner c).state {s = with_chan slot (Some (won_by winner c)) s}
+          (put_numbers 0 slot c (won_by winner c) s is (same_uuid winner c) h)
 
   pub numbers_moves : (before : Switch) → KeptByMoves before (NumbersFrom x)
   numbers_moves before =
@@ -81,7 +81,8 @@ module _ (x : Seen) where
         gone = λ slot old {b = b} {s = s} there dead h. numbers_quietly (drawn_by b) x (seen s) (put slot None (seen s)) h (numbers_gone (seen s) slot old there);
       })
       (record {
-        spent = λ {s = s} h. numbers_fewer x (seen s) h;
-        pair = λ call orig a b {s = s} short first second h. numbers_then 0 2 x (seen s) (seen (pair_made call orig a b s)) h (pair_numbers call orig a b s first second);
+        spent = λ h. h;
+        more = λ {n = n} {m = m} {s = s} below h. numbers_more n m x (seen s) below h;
+        pair = λ call orig a b {n = n} {s = s} short first second h. numbers_then n 2 x (seen s) (seen (pair_made call orig a b s)) h (pair_numbers call orig a b s first second);
       })
       (λ a winner leg does has h. won_numbers winner (unwrap_or leg.slot 0) before h)

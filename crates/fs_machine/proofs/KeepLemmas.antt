@@ -266,9 +266,10 @@ module _ (conn : ℕ) (s : Switch) where
   commands_keep : KeptByCommands conn (KeepsFrom (Some conn) s)
   commands_keep = record {
     spent = λ h. h;
+    more = λ below h. h;
     gave = λ frame h. gave_keeps frame h;
-    admitted = admitted_keeps;
-    parted = leaves_keeps;
+    admitted = λ fresh h. admitted_keeps fresh h;
+    parted = λ why leaves h. leaves_keeps why leaves h;
     sleeps = sleeps_keep;
     originates = λ endpoint winner caller timeout short room h. originates_keep endpoint winner caller timeout h;
   }

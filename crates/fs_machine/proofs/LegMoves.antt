@@ -392,11 +392,11 @@ legs_calls = record {
 }
 
 legs_births : KeptByBirths Legs
-legs_births = record { spent = λ h. h; pair = λ call orig a b {s = s} short first second h few. pair_legs call orig a b s first second (h few) }
+legs_births = record { spent = λ h. h; more = λ below h. h; pair = λ call orig a b {s = s} short first second h few. pair_legs call orig a b s first second (h few) }
 
 originates_legs : (conn : ℕ) (endpoint : Text) (winner : Winner) (caller : Caller) (timeout : Option ℕ) (s : Switch) → Stand (roles_of s) →
     Stand (roles_of (originate_begun conn endpoint winner caller timeout s))
-originates_legs conn endpoint winner caller timeout s h = tried (leg_made endpoint caller (next_orig_number s) s) next (leg_stands endpoint caller (next_orig_number s) s) (leg_made_kept Legs legs_births endpoint caller (next_orig_number s) {s = s} h)
+originates_legs conn endpoint winner caller timeout s h = tried (leg_made endpoint caller (next_orig_number s) s) next (leg_stands endpoint caller (next_orig_number s) s) (leg_made_kept Legs legs_births endpoint caller (next_orig_number s) {n = 0} {s = s} h)
   where
     next : next_orig_number (leg_made endpoint caller (next_orig_number s) s).state ≡ next_orig_number s
     next = ap (λ (r : Rest). min (r.origs_drawn + 1) (2 ^ 64 - 1)) (leg_made_rest endpoint caller (next_orig_number s) s)
@@ -430,6 +430,7 @@ legs_moves before = record {
   };
   commands = λ conn. record {
     spent = λ h. h;
+    more = λ below h. h;
     gave = λ frame h. h;
     admitted = λ {s = s} fresh h. same_roles s (conn_changed admitted conn s) (conn_roles admitted conn s) h;
     parted = λ why {s = s} leaves h. same_roles s (conn_changed (parted why) conn s) (conn_roles (parted why) conn s) h;

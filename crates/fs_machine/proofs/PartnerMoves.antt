@@ -72,5 +72,5 @@ partners_moves before =
       hung = λ cause slot {s = s} h. hung_partners cause slot s h;
       gone = λ slot old {s = s} there dead h. ties_gone partner_of s.channels slot old there dead h;
     })
-    (record { spent = λ h. h; pair = λ call orig a b {s = s} short first second h. pair_partners call orig a b s first second h })
+    (record { spent = λ h. h; more = λ below h. h; pair = λ call orig a b {s = s} short first second h. pair_partners call orig a b s first second h })
     (λ a winner leg does has h. won_partners winner (unwrap_or leg.slot 0) before h)

@@ -22,7 +22,7 @@ use Rattle.fs_machine.specs.declared.originations.Caller.{Caller}
 use Rattle.fs_machine.specs.Originations.{leg_made, won_by, won}
 use Rattle.fs_machine.specs.Attempts.{all_hung}
 use Rattle.fs_machine.specs.Work.{worked}
-use Rattle.fs_machine.proofs.Kept.{Fact, KeptByCalls, DoesJob}
+use Rattle.fs_machine.proofs.Kept.{Stage, Fact, KeptByCalls, DoesJob}
 use Rattle.fs_machine.proofs.Walk.{state_told_kept, hung_kept, all_hung_kept, worked_kept, leg_made_kept}
 
 -- what is left of a switch without channels, globals, news and identifiers; of originations that is their numbers
@@ -86,11 +86,11 @@ hung_rest cause slot s =
 -- ---- facts on the rest
 
 -- a fact that holds wherever the rest is the same is kept by what happens to channels
-module _ (P : Fact) (same : (b : Bool) (t u : Switch) → P b t → rest_of u ≡ rest_of t → P b u) where
-  answers_same : (place slot number : ℕ) {b : Bool} {s : Switch} → P b s → P b (orig_changed (leg_changed (λ position. with_answer position place) slot) number s)
+module _ (P : Fact) (same : (b : Stage) (t u : Switch) → P b t → rest_of u ≡ rest_of t → P b u) where
+  answers_same : (place slot number : ℕ) {b : Stage} {s : Switch} → P b s → P b (orig_changed (leg_changed (λ position. with_answer position place) slot) number s)
   answers_same place slot number {b} {s} h = same b s _ h (orig_changed_rest (leg_changed (λ position. with_answer position place) slot) number s)
 
-  hung_same : (cause : Cause) (slot : ℕ) {b : Bool} {s : Switch} → P b s → P b (after_hangup cause slot s)
+  hung_same : (cause : Cause) (slot : ℕ) {b : Stage} {s : Switch} → P b s → P b (after_hangup cause slot s)
   hung_same cause slot {b} {s} h = same b s _ h (hung_rest cause slot s)
 
   pub calls_by_rest : KeptByCalls P
@@ -110,10 +110,10 @@ same_rest : (s : Switch) → KeptByCalls (SameRest s)
 same_rest s = calls_by_rest (SameRest s) (λ b t u h e. e ∙ h)
 
 pub all_hung_rest : (cause : Cause) (slots : List ℕ) (s : Switch) → rest_of (all_hung cause slots s) ≡ rest_of s
-all_hung_rest cause slots s = all_hung_kept (SameRest s) (same_rest s) cause slots {b = false} {s = s} refl
+all_hung_rest cause slots s = all_hung_kept (SameRest s) (same_rest s) cause slots {b = None} {s = s} refl
 
 pub worked_rest : (slot : ℕ) (s : Switch) → rest_of (worked slot s) ≡ rest_of s
-worked_rest slot s = worked_kept (SameRest s) (same_rest s) slot {b = false} {s = s} refl
+worked_rest slot s = worked_kept (SameRest s) (same_rest s) slot {b = None} {s = s} refl
 
 pub won_rest : (winner : Winner) (slot : ℕ) (s : Switch) → rest_of (won winner slot s) ≡ rest_of s
 unfolding won
@@ -123,7 +123,7 @@ won_rest winner slot s = moved_rest (won_by winner) slot s
 
 pub leg_made_rest : (endpoint : Text) (caller : Caller) (orig : ℕ) (s : Switch) → rest_of (leg_made endpoint caller orig s).state ≡ rest_of s
 leg_made_rest endpoint caller orig s =
-    leg_made_kept (SameRest s) (record { spent = λ h. h; pair = λ call orig a b short first second h. h }) endpoint caller orig {s = s} refl
+    leg_made_kept (SameRest s) (record { spent = λ h. h; more = λ below h. h; pair = λ call orig a b short first second h. h }) endpoint caller orig {n = 0} {s = s} refl
 
 -- ---- a job is the one that it was
 

@@ -56,9 +56,9 @@ numbers_quietly more x y z first then = record {
   most = omega (arith, first.most, then.most);
 }
 
--- where none is drawn, at most two are
-pub numbers_fewer : (x y : Seen) → Numbers 0 x y → Numbers 2 x y
-numbers_fewer x y numbers = record { names = numbers.names; few = numbers.few; most = omega (arith, numbers.most) }
+-- more may be drawn than were
+pub numbers_more : (n m : ℕ) (x y : Seen) → n ≤ m → Numbers n x y → Numbers m x y
+numbers_more n m x y below numbers = record { names = numbers.names; few = numbers.few; most = omega (arith, numbers.most, below) }
 
 -- ---- something else stands in a slot
 

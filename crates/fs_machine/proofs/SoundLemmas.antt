@@ -16,15 +16,15 @@ use Rattle.fs_state.specs.Moves.{partner_of}
 use Rattle.fs_state.proofs.LegTables.{Seat, seat_at, seat_number}
 use Rattle.fs_machine.specs.declared.entry.Entry.{Entry}
 use Rattle.fs_machine.specs.declared.entry.Act.{Act}
+use Rattle.fs_machine.specs.declared.entry.Act.TheVariants as act
 use Rattle.fs_machine.specs.Entries.{cost_of}
 use Rattle.fs_machine.specs.Step.{refusal_of, act_done, step}
 use Rattle.fs_machine.specs.Runs.{run_from, IsRunFrom}
 use Rattle.fs_machine.specs.Sound.{HasPartner, PartnersAgree, HasLivePartner, LiveHasPartner, ProfilesAreShort, IdentifiersDiffer, LegsAreChannels}
 use Rattle.fs_machine.proofs.TieLemmas.{lives_as, named_in, Ties}
-use Rattle.fs_machine.proofs.FrameLemmas.{some_cost}
 use Rattle.fs_machine.proofs.OrderLemmas.{acted_cost, not_full}
 use Rattle.fs_machine.proofs.FramesLaws.{config_step}
-use Rattle.fs_machine.proofs.ActWalk.{acted_kept}
+use Rattle.fs_machine.proofs.ActWalk.{most_drawn, acted_kept}
 use Rattle.fs_machine.proofs.OwedBooks.{books_of}
 use Rattle.fs_machine.proofs.OwedLaws.{Holds, holds_empty, holds_step}
 use Rattle.fs_machine.proofs.PartnerMoves.{Partners, partners_moves}
@@ -162,21 +162,31 @@ has_room : (s : Switch) (entry : Entry) → refusal_of s entry ≡ None → s.co
 has_room s entry defined = ltb-false s.config.settings.journal_limit (s.cost + 65600) (not_full s entry defined)
 
 -- one entry more, of which all that counts is known
-closed_counted : (s t : Switch) (cost : ℕ) → Numbers 2 (seen s) (seen t) → t.cost ≡ s.cost → 64 ≤ cost → s.cost + 65600 ≤ 1073741824 → Counted s → Counted (after_entry cost t)
-closed_counted s t cost numbers same least room h =
-    let most : t.drawn.identifiers ≤ s.drawn.identifiers + 2 = numbers.most in
+closed_counted : (s t : Switch) (cost more : ℕ) → Numbers more (seen s) (seen t) → t.cost ≡ s.cost → 32 * more ≤ min cost 65600 → s.cost + 65600 ≤ 1073741824 → Counted s →
+    Counted (after_entry cost t)
+closed_counted s t cost more numbers same least room h =
+    let most : t.drawn.identifiers ≤ s.drawn.identifiers + more = numbers.most in
     let paid : 32 * s.drawn.identifiers ≤ s.cost = h.paid in
-    let few : t.drawn.identifiers < 2 ^ 62 - 1 = omega (arith, most, paid, room) in
+    let few : t.drawn.identifiers < 2 ^ 62 - 1 = omega (arith, most, paid, least, room) in
     record { named = numbers.names few h.named; paid = omega (arith, most, same, paid, least, room) }
 
-acted_numbers : (a : Act) (s : Switch) → Numbers 2 (seen s) (seen (act_done a s).state)
+-- an act costs 32 for each identifier that it may draw
+drawn_paid : (a : Act) → 32 * most_drawn a ≤ min (cost_of a) 65600
+drawn_paid act.Arrive = omega arith
+drawn_paid (act.Command conn block) = omega arith
+drawn_paid (act.Take conn) = omega arith
+drawn_paid (act.Close conn how) = omega arith
+drawn_paid (act.Work slot) = omega arith
+drawn_paid (act.Job number) = omega arith
+
+acted_numbers : (a : Act) (s : Switch) → Numbers (most_drawn a) (seen s) (seen (act_done a s).state)
 acted_numbers a s = acted_kept s (NumbersFrom (seen s)) (numbers_moves (seen s) s) a (numbers_stay (seen s))
 
 step_counted : (s : Switch) (entry : Entry) → s.cost + 65600 ≤ 1073741824 → Counted s → Counted (step s entry).state
 unfolding step
 step_counted s entry room h =
-    closed_counted (at_moment entry.moment s) (act_done entry.act (at_moment entry.moment s)).state (cost_of entry.act) (acted_numbers entry.act (at_moment entry.moment s)) (acted_cost entry.act (at_moment entry.moment s))
-    (some_cost entry.act) room
+    closed_counted (at_moment entry.moment s) (act_done entry.act (at_moment entry.moment s)).state (cost_of entry.act) (most_drawn entry.act) (acted_numbers entry.act (at_moment entry.moment s)) (acted_cost entry.act (at_moment entry.moment s))
+    (drawn_paid entry.act) room
     (record { named = h.named; paid = h.paid })
 
 run_counted : (s : Switch) (entries : List Entry) → s.config.settings.journal_limit ≤ 1073741824 → IsRunFrom s entries → Counted s → Counted (run_from s entries)

@@ -85,6 +85,7 @@ winners_moves before = record {
   };
   commands = λ conn. record {
     spent = λ h. h;
+    more = λ below h. h;
     gave = λ frame h. h;
     admitted = λ {s = s} fresh h. same_winners s (conn_changed admitted conn s) (conn_jobs admitted conn s) h;
     parted = λ why {s = s} leaves h. same_winners s (conn_changed (parted why) conn s) (conn_jobs (parted why) conn s) h;

@@ -47,7 +47,8 @@ ready_told : (runs : Bool) (told : ℕ) → cond runs (Some Now) None ≡ Some (
 ready_told true told h = absurd (cc)
 ready_told false told h = absurd (cc)
 
-to_come_wait : (now told : ℕ) (state : State) (wait : Wait) (messages : List Action) → due_in_wait now state wait messages ≡ Some (At told) → now < told
+to_come_wait : (now told : ℕ) (state : State) (wait : Wait) (messages : List Action) →
+    due_in_wait now state wait messages ≡ Some (At told) → now < told
 to_come_wait now told state Ready messages h = absurd (ready_told (runs_actions state Ready) told h)
 to_come_wait now told state (Sleep until) messages h = to_come_at now until told (cc)
 to_come_wait now told state Parked [] h = absurd (cc)
@@ -56,7 +57,8 @@ to_come_wait now told state (Socket conn) [] h = absurd (cc)
 to_come_wait now told state (Socket conn) (message ∷ messages) h = absurd (cc)
 to_come_wait now told state _ messages h = absurd (cc)
 
-has_come_wait : (now told : ℕ) (state : State) (wait : Wait) (messages : List Action) → due_in_wait now state wait messages ≡ Some (At told) → due_in_wait told state wait messages ≡ Some Now
+has_come_wait : (now told : ℕ) (state : State) (wait : Wait) (messages : List Action) →
+    due_in_wait now state wait messages ≡ Some (At told) → due_in_wait told state wait messages ≡ Some Now
 has_come_wait now told state Ready messages h = absurd (ready_told (runs_actions state Ready) told h)
 has_come_wait now told state (Sleep until) messages h = ap Some (has_come_at now until told (cc))
 has_come_wait now told state Parked [] h = absurd (cc)
@@ -65,28 +67,33 @@ has_come_wait now told state (Socket conn) [] h = absurd (cc)
 has_come_wait now told state (Socket conn) (message ∷ messages) h = absurd (cc)
 has_come_wait now told state _ messages h = absurd (cc)
 
-stays_wait : (now later : ℕ) (state : State) (wait : Wait) (messages : List Action) → now ≤ later → due_in_wait now state wait messages ≡ Some Now → due_in_wait later state wait messages ≡ Some Now
+stays_wait : (now later : ℕ) (state : State) (wait : Wait) (messages : List Action) → now ≤ later →
+    due_in_wait now state wait messages ≡ Some Now → due_in_wait later state wait messages ≡ Some Now
 stays_wait now later state (Sleep until) messages more h = ap Some (stays_at now later until more (cc))
 stays_wait now later state _ messages more h = h
 
 -- ---- a channel
 
-to_come_in : (now told : ℕ) (state : State) (wait : Wait) (messages : List Action) → due_in now state wait messages ≡ Some (At told) → now < told
+to_come_in : (now told : ℕ) (state : State) (wait : Wait) (messages : List Action) → due_in now state wait messages ≡ Some (At told) →
+    now < told
 to_come_in now told CsExecute wait messages h = to_come_wait now told CsExecute wait messages h
 to_come_in now told CsPark wait messages h = to_come_wait now told CsPark wait messages h
 to_come_in now told _ wait messages h = absurd (cc)
 
-has_come_in : (now told : ℕ) (state : State) (wait : Wait) (messages : List Action) → due_in now state wait messages ≡ Some (At told) → due_in told state wait messages ≡ Some Now
+has_come_in : (now told : ℕ) (state : State) (wait : Wait) (messages : List Action) → due_in now state wait messages ≡ Some (At told) →
+    due_in told state wait messages ≡ Some Now
 has_come_in now told CsExecute wait messages h = has_come_wait now told CsExecute wait messages h
 has_come_in now told CsPark wait messages h = has_come_wait now told CsPark wait messages h
 has_come_in now told _ wait messages h = absurd (cc)
 
-stays_in : (now later : ℕ) (state : State) (wait : Wait) (messages : List Action) → now ≤ later → due_in now state wait messages ≡ Some Now → due_in later state wait messages ≡ Some Now
+stays_in : (now later : ℕ) (state : State) (wait : Wait) (messages : List Action) → now ≤ later →
+    due_in now state wait messages ≡ Some Now → due_in later state wait messages ≡ Some Now
 stays_in now later CsExecute wait messages more h = stays_wait now later CsExecute wait messages more h
 stays_in now later CsPark wait messages more h = stays_wait now later CsPark wait messages more h
 stays_in now later _ wait messages more h = h
 
-next_in : (now : ℕ) (state : State) (wait : Wait) (messages actions : List Action) → is_some (first_of (pending_in state wait messages actions)) ≡ true → due_in now state wait messages ≡ Some Now
+next_in : (now : ℕ) (state : State) (wait : Wait) (messages actions : List Action) →
+    is_some (first_of (pending_in state wait messages actions)) ≡ true → due_in now state wait messages ≡ Some Now
 next_in now CsExecute Ready messages actions h = refl
 next_in now CsExecute Parked [] actions h = absurd (cc)
 next_in now CsExecute Parked (message ∷ messages) actions h = refl

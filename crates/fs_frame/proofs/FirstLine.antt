@@ -18,7 +18,8 @@ cr_kept text some last = sym (ends_with_other (length text - 1) text (omega (ari
 
 -- the text in front of the first LF is the one looked for, or else that of the lines behind it
 pub first_line : (bytes : List ℕ) → 1 ≤ length (drop (position_or_len is_lf bytes) bytes) →
-    first_text (lines_of bytes) ≡ cond (has_bytes (without_cr (take (position_or_len is_lf bytes) bytes))) (without_cr (take (position_or_len is_lf bytes) bytes))
+    first_text (lines_of bytes) ≡ cond (has_bytes (without_cr (take (position_or_len is_lf bytes) bytes)))
+    (without_cr (take (position_or_len is_lf bytes) bytes))
     (first_text (lines_of (drop 1 (drop (position_or_len is_lf bytes) bytes))))
 first_line bytes some = by (first_lf bytes)
   where
@@ -35,12 +36,16 @@ first_line bytes some = by (first_lf bytes)
         first_text (lines_of bytes) ≡ text (take (position_or_len is_lf bytes) bytes) (drop 1 (drop (position_or_len is_lf bytes) bytes))
     by (inl has) =
         let place : ℕ = position_or_len is_lf bytes in
-        let front : take place bytes ≡ has.content = ap (take place) has.split ∙ take_at has.content (10 ∷ has.more) place (sym (lf_at bytes has)) in
-        let behind : drop 1 (drop place bytes) ≡ has.more = ap (λ bs. drop 1 (drop place bs)) has.split ∙ ap (drop 1) (drop_at has.content (10 ∷ has.more) place (sym (lf_at bytes has))) in
+        let front : take place bytes ≡ has.content = ap (take place) has.split
+        ∙ take_at has.content (10 ∷ has.more) place (sym (lf_at bytes has)) in
+        let behind : drop 1 (drop place bytes) ≡ has.more = ap (λ bs. drop 1 (drop place bs)) has.split
+        ∙ ap (drop 1) (drop_at has.content (10 ∷ has.more) place (sym (lf_at bytes has))) in
         ap (λ bs. first_text (lines_of bs)) has.split ∙ of has.content has.more has.no_lf ∙ sym (rw (front, behind) refl)
     by (inr none) = absurd (omega (arith, some, position_or_len-none is_lf bytes none, length-drop (position_or_len is_lf bytes) bytes))
 
 -- without an LF there is none
 pub none_first : (bytes : List ℕ) → length (drop (position_or_len is_lf bytes) bytes) < 1 → first_text (lines_of bytes) ≡ []
 none_first bytes none =
-    ap first_text (lines_of-none bytes (no_line bytes (drop (position_or_len is_lf bytes) bytes) (position_or_len is_lf bytes) refl refl (omega (arith, none))))
+    ap first_text
+    (lines_of-none bytes
+    (no_line bytes (drop (position_or_len is_lf bytes) bytes) (position_or_len is_lf bytes) refl refl (omega (arith, none))))

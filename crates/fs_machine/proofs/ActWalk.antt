@@ -17,7 +17,7 @@ use Rattle.fs_orig.specs.declared.orig.Orig.{Orig}
 use Rattle.fs_orig.specs.declared.verdict.Verdict.{Verdict}
 use Rattle.fs_orig.specs.declared.verdict.Verdict.TheVariants as verdict
 use Rattle.fs_orig.specs.Endpoints.{is_one_leg}
-use Rattle.fs_orig.specs.Legs.{lives, living_slots}
+use Rattle.fs_orig.specs.Legs.{living_slots}
 use Rattle.fs_orig.specs.Verdicts.{verdict_of}
 use Rattle.fs_orig.proofs.VerdictLemmas.{winner_lives}
 use Rattle.fs_state.specs.declared.conn.Phase.{Phase}
@@ -56,19 +56,25 @@ module _ (before : Switch) (P : Fact) (calls : KeptByCalls P) (jobs : KeptByJobs
     where
       by : (leg : Option OrigLeg) → slice_get o.legs position ≡ leg → P (Some 0) (won_at a winner leg before)
       by None at = h
-      by (Some leg) at = jobs.wins a winner leg does (record { orig = o; there = there; position = position; at = at; lives = winner_lives before.moment position o leg is at }) h
+      by (Some leg) at =
+          jobs.wins a winner leg does
+          (record { orig = o; there = there; position = position; at = at; lives = winner_lives before.moment position o leg is at }) h
   judged_kept (verdict.Failed cause) a winner o is there does h = jobs.failed a winner cause does h
   judged_kept verdict.Expired a winner o is there does h =
-      jobs.failed a winner NoAnswer (does_same does (all_hung_rest NoAnswer (living_slots o.legs) before)) (all_hung_kept P calls NoAnswer (living_slots o.legs) h)
+      jobs.failed a winner NoAnswer (does_same does (all_hung_rest NoAnswer (living_slots o.legs) before))
+      (all_hung_kept P calls NoAnswer (living_slots o.legs) h)
   judged_kept _ a winner o is there does h = h
 
-  job_works_kept : (what : JobWork) (number conn : ℕ) → DoesJob before number conn what → P (Some 0) before → P (Some 0) (after_job_work what number conn before)
+  job_works_kept : (what : JobWork) (number conn : ℕ) → DoesJob before number conn what → P (Some 0) before →
+      P (Some 0) (after_job_work what number conn before)
   job_works_kept (work.Sleep until) number conn does h = jobs.woken number conn until ok does h
   job_works_kept (work.Originate orig winner) number conn does h = by (orig_of before orig) refl
     where
-      by : (found : Option Orig) → orig_of before orig ≡ found → P (Some 0) (after_verdict_from (record { job = number; conn = conn; orig = orig }) winner found before)
+      by : (found : Option Orig) → orig_of before orig ≡ found →
+          P (Some 0) (after_verdict_from (record { job = number; conn = conn; orig = orig }) winner found before)
       by None there = h
-      by (Some o) there = judged_kept (verdict_of before.moment o) (record { job = number; conn = conn; orig = orig }) winner o refl there does h
+      by (Some o) there =
+          judged_kept (verdict_of before.moment o) (record { job = number; conn = conn; orig = orig }) winner o refl there does h
 
   pub job_kept : (number : ℕ) → P (Some 0) before → P (Some 0) (job_done number before)
   unfolding job_done
@@ -97,7 +103,8 @@ module _ (conn : ℕ) (P : Fact) (calls : KeptByCalls P) (commands : KeptByComma
   slept_kept : (milliseconds : ℕ) {s : Switch} → P None s → P (Some 2) (slept conn milliseconds s).state
   slept_kept milliseconds {s} h = by (is_full_of_jobs s) refl
     where
-      by : (full : Bool) → is_full_of_jobs s ≡ full → P (Some 2) (if full then says too_many_jobs s else owes (sleep_begun conn milliseconds s)).state
+      by : (full : Bool) → is_full_of_jobs s ≡ full →
+          P (Some 2) (if full then says too_many_jobs s else owes (sleep_begun conn milliseconds s)).state
       by true is = drew_none h
       by false is = commands.more (omega arith) (commands.sleeps (moment_after s.moment (milliseconds * 1000)) is h)
 
@@ -106,7 +113,10 @@ module _ (conn : ℕ) (P : Fact) (calls : KeptByCalls P) (commands : KeptByComma
   originated_kept url winner caller timeout {s} short h = by (is_full_of_jobs s) refl
     where
       by : (full : Bool) → is_full_of_jobs s ≡ full →
-          P (Some 2) (if full then says too_many_jobs s else (if is_one_leg url then owes (originate_begun conn url winner caller timeout s) else says (failed_text InvalidNumberFormat) s)).state
+          P (Some 2)
+          (if full then says too_many_jobs
+          s else (if is_one_leg url then owes (originate_begun conn url winner caller timeout s) else says
+          (failed_text InvalidNumberFormat) s)).state
       by true is = drew_none h
       by false is = done_either (is_one_leg url) _ _ (commands.originates url winner caller timeout short is h) (drew_none h)
 
@@ -120,7 +130,8 @@ module _ (conn : ℕ) (P : Fact) (calls : KeptByCalls P) (commands : KeptByComma
   done_plainly_kept (api.UuidExists uuid) short h = drew_none h
   done_plainly_kept (api.UuidKill uuid cause) {s} short h = killed_kept cause (slot_named uuid s) h
   done_plainly_kept (api.UuidGetvar uuid name) short h = drew_none h
-  done_plainly_kept (api.Originate url winner cid_name cid_number timeout) short h = originated_kept url winner (record { name = cid_name; number = cid_number }) timeout short h
+  done_plainly_kept (api.Originate url winner cid_name cid_number timeout) short h =
+      originated_kept url winner (record { name = cid_name; number = cid_number }) timeout short h
   done_plainly_kept (api.Usage which) short h = drew_none h
   done_plainly_kept (api.Unknown name) short h = drew_none h
 
@@ -140,7 +151,9 @@ module _ (conn : ℕ) (P : Fact) (calls : KeptByCalls P) (commands : KeptByComma
   offered_kept : (given : Text) {s : Switch} → phase_at s conn ≡ phase.Fresh → P (Some 2) s → P (Some 2) (offered conn given s)
   offered_kept given {s} fresh h = by (bytes_eq given s.config.settings.password)
     where
-      by : (same : Bool) → P (Some 2) (if same then command.replied conn accepted (conn_changed admitted conn s) else dismissed conn parting.AuthRefused invalid s)
+      by : (same : Bool) →
+          P (Some 2)
+          (if same then command.replied conn accepted (conn_changed admitted conn s) else dismissed conn parting.AuthRefused invalid s)
       by true = commands.gave (command_reply accepted) (commands.admitted fresh h)
       by false = dismissed_kept parting.AuthRefused invalid tt h
 
@@ -155,7 +168,8 @@ module _ (conn : ℕ) (P : Fact) (calls : KeptByCalls P) (commands : KeptByComma
       by phase.Fresh is command.Unknown = commands.gave (command_reply not_found) (drew_none h)
       by phase.Ready is (command.Auth given) = commands.gave (command_reply not_found) (drew_none h)
       by phase.Ready is command.Exit = dismissed_kept parting.Exit bye tt (drew_none h)
-      by phase.Ready is (command.Api text) = responded_kept (done_by conn (api_of text) s).answer (done_kept (api_of text) (api_short text) h)
+      by phase.Ready is (command.Api text) =
+          responded_kept (done_by conn (api_of text) s).answer (done_kept (api_of text) (api_short text) h)
       by phase.Ready is command.Unknown = commands.gave (command_reply not_found) (drew_none h)
       by phase.Ending is given = drew_none h
       by phase.Closed is given = drew_none h

@@ -44,7 +44,8 @@ known_in : (s : Switch) → Sound (books_of s) → AreKnown s
 known_in s h = record { known = λ place job is. job_is_known s place job h is }
 
 -- behind every run they are so
-pub run_is_known : (config : Configuration) (entries : List Entry) → config.settings.journal_limit ≤ 1073741824 → IsRunFrom (empty config) entries → AreKnown (run_from (empty config) entries)
+pub run_is_known : (config : Configuration) (entries : List Entry) → config.settings.journal_limit ≤ 1073741824 →
+    IsRunFrom (empty config) entries → AreKnown (run_from (empty config) entries)
 run_is_known config entries small run =
     let h : Holds (books_of (run_from (empty config) entries)) = holds_run entries (empty config) run (holds_empty config small) in
     known_in (run_from (empty config) entries) h.sound
@@ -65,24 +66,30 @@ slot_works s slot is =
 job_works : (s : Switch) (number : ℕ) → AreKnown s → due_job s ≡ Some number → refused_act (Works number) s ≡ None
 job_works s number are is = let found = least_held (due_number s) s.jobs number is in at found.0 (held_in s.jobs found.0) refl found.1
   where
-    by : (row : Numbered Job) → job_of s row.number ≡ Some row.held → (due : Bool) → is_now (work_due s row.held.work) ≡ due → (if due then Some row.number else None) ≡ Some number →
+    by : (row : Numbered Job) → job_of s row.number ≡ Some row.held → (due : Bool) → is_now (work_due s row.held.work) ≡ due →
+        (if due then Some row.number else None) ≡ Some number →
         not_due (job_due number s) ≡ None
     by row known true now e =
-        let due : job_due row.number s ≡ work_due s row.held.work = ap (λ (found : Option Job). option_and_then (λ (job : Job). work_due s job.work) found) known in
-        subst (λ n. not_due (job_due n s) ≡ None) (same_Some row.number number e) (now_accepted (job_due row.number s) (ap is_now due ∙ now))
+        let due : job_due row.number s ≡ work_due s row.held.work =
+        ap (λ (found : Option Job). option_and_then (λ (job : Job). work_due s job.work) found) known in
+        subst (λ n. not_due (job_due n s) ≡ None) (same_Some row.number number e)
+        (now_accepted (job_due row.number s) (ap is_now due ∙ now))
     by row known false now e = absurd (none-some number e)
 
-    at : (place : ℕ) (held : Option (Numbered Job)) → held_in s.jobs place ≡ held → due_number s held ≡ Some number → not_due (job_due number s) ≡ None
+    at : (place : ℕ) (held : Option (Numbered Job)) → held_in s.jobs place ≡ held → due_number s held ≡ Some number →
+        not_due (job_due number s) ≡ None
     at place None there e = absurd (none-some number e)
     at place (Some row) there e = by row (are.known place row there) (is_now (work_due s row.held.work)) refl e
 
-slot_among : (slot job moment : Option ℕ) (n : ℕ) → actor_or actor.Slot slot (actor_or actor.Job job (later_or_never moment)) ≡ actor.Slot n → slot ≡ Some n
+slot_among : (slot job moment : Option ℕ) (n : ℕ) →
+    actor_or actor.Slot slot (actor_or actor.Job job (later_or_never moment)) ≡ actor.Slot n → slot ≡ Some n
 slot_among (Some slot) job moment n is = let same : slot ≡ n = cc is in ap Some same
 slot_among None (Some job) moment n is = absurd (cc is)
 slot_among None None (Some moment) n is = absurd (cc is)
 slot_among None None None n is = absurd (cc is)
 
-job_among : (slot job moment : Option ℕ) (n : ℕ) → actor_or actor.Slot slot (actor_or actor.Job job (later_or_never moment)) ≡ actor.Job n → job ≡ Some n
+job_among : (slot job moment : Option ℕ) (n : ℕ) → actor_or actor.Slot slot (actor_or actor.Job job (later_or_never moment)) ≡ actor.Job n →
+    job ≡ Some n
 job_among (Some slot) job moment n is = absurd (cc is)
 job_among None (Some job) moment n is = let same : job ≡ n = cc is in ap Some same
 job_among None None (Some moment) n is = absurd (cc is)
@@ -96,15 +103,18 @@ slot_accepted s now slot is =
     slot_works t slot (slot_among (due_slot t) (due_job t) (lesser (first_chan_moment t) (first_job_moment t)) slot is)
 
 -- and so does the job
-pub job_accepted : (s : Switch) (now number : ℕ) → AreKnown s → next_due now s ≡ actor.Job number → refused_act (Works number) (at_moment now s) ≡ None
+pub job_accepted : (s : Switch) (now number : ℕ) → AreKnown s → next_due now s ≡ actor.Job number →
+    refused_act (Works number) (at_moment now s) ≡ None
 unfolding next_due
 job_accepted s now number are is =
     let t = at_moment now s in
-    job_works t number (record { known = are.known }) (job_among (due_slot t) (due_job t) (lesser (first_chan_moment t) (first_job_moment t)) number is)
+    job_works t number (record { known = are.known })
+    (job_among (due_slot t) (due_job t) (lesser (first_chan_moment t) (first_job_moment t)) number is)
 
 -- ---- what is due later
 
-later_among : (slot job found : Option ℕ) (moment : ℕ) → actor_or actor.Slot slot (actor_or actor.Job job (later_or_never found)) ≡ actor.Later moment → found ≡ Some moment
+later_among : (slot job found : Option ℕ) (moment : ℕ) →
+    actor_or actor.Slot slot (actor_or actor.Job job (later_or_never found)) ≡ actor.Later moment → found ≡ Some moment
 later_among (Some slot) job found moment is = absurd (cc is)
 later_among None (Some job) found moment is = absurd (cc is)
 later_among None None (Some found) moment is = let same : found ≡ moment = cc is in ap Some same
@@ -116,20 +126,25 @@ later_at (Some Now) n h = absurd (cc)
 later_at (Some (At moment)) n h = cc
 
 -- where a verdict is to wait until the moment, it is decided then
-wait_comes : (now until moment : ℕ) (o : Orig) → verdicts.verdict_of now o ≡ verdict.Wait until → due_at now until ≡ At moment → due_at moment (verdicts.due_moment_of moment o) ≡ Now
+wait_comes : (now until moment : ℕ) (o : Orig) → verdicts.verdict_of now o ≡ verdict.Wait until → due_at now until ≡ At moment →
+    due_at moment (verdicts.due_moment_of moment o) ≡ Now
 wait_comes now until moment o told is = by (leb until now) refl is
   where
-    by : (past : Bool) → leb until now ≡ past → (if past then Now else At until) ≡ At moment → due_at moment (verdicts.due_moment_of moment o) ≡ Now
+    by : (past : Bool) → leb until now ≡ past → (if past then Now else At until) ≡ At moment →
+        due_at moment (verdicts.due_moment_of moment o) ≡ Now
     by true past e = absurd (cc e)
     by false past e =
         let same : until ≡ moment = cc e in
-        ap (due_at moment) (timeout_due moment (verdicts.verdict_of moment o) (then_expires now moment until o told (omega (arith, same)))) ∙ due_now moment
+        ap (due_at moment) (timeout_due moment (verdicts.verdict_of moment o) (then_expires now moment until o told (omega (arith, same))))
+        ∙ due_now moment
 
 orig_comes : (now moment : ℕ) (o : Option Orig) → orig_due now o ≡ Some (At moment) → orig_due moment o ≡ Some Now
 orig_comes now moment None is = absurd (cc)
-orig_comes now moment (Some o) is = ap Some (by (verdicts.verdict_of now o) refl (same_Some (due_at now (verdicts.due_moment_of now o)) (At moment) is))
+orig_comes now moment (Some o) is =
+    ap Some (by (verdicts.verdict_of now o) refl (same_Some (due_at now (verdicts.due_moment_of now o)) (At moment) is))
   where
-    by : (v : Verdict) → verdicts.verdict_of now o ≡ v → due_at now (verdicts.due_moment_by now v) ≡ At moment → due_at moment (verdicts.due_moment_of moment o) ≡ Now
+    by : (v : Verdict) → verdicts.verdict_of now o ≡ v → due_at now (verdicts.due_moment_by now v) ≡ At moment →
+        due_at moment (verdicts.due_moment_of moment o) ≡ Now
     by (verdict.Wait until) told e = wait_comes now until moment o told e
     by (verdict.Won position) told e = absurd (never_later now moment e)
     by (verdict.LegExpired position) told e = absurd (never_later now moment e)
@@ -137,11 +152,13 @@ orig_comes now moment (Some o) is = ap Some (by (verdicts.verdict_of now o) refl
     by (verdict.Failed cause) told e = absurd (never_later now moment e)
     by verdict.Expired told e = absurd (never_later now moment e)
 
-work_comes : (s : Switch) (now moment : ℕ) (work : JobWork) → work_due (record s { moment = now }) work ≡ Some (At moment) → work_due (record s { moment = moment }) work ≡ Some Now
+work_comes : (s : Switch) (now moment : ℕ) (work : JobWork) → work_due (record s { moment = now }) work ≡ Some (At moment) →
+    work_due (record s { moment = moment }) work ≡ Some Now
 work_comes s now moment (Sleep until) is = ap Some (has_come_at now until moment (same_Some (due_at now until) (At moment) is))
 work_comes s now moment (Originate orig winner) is = orig_comes now moment (orig_of s orig) is
 
-chan_comes : (s : Switch) (now moment : ℕ) (held : Option Chan) → chan_moment (record s { moment = now }) held ≡ Some moment → is_due (record s { moment = moment }) held ≡ true
+chan_comes : (s : Switch) (now moment : ℕ) (held : Option Chan) → chan_moment (record s { moment = now }) held ≡ Some moment →
+    is_due (record s { moment = moment }) held ≡ true
 chan_comes s now moment None is = absurd (none-some moment is)
 chan_comes s now moment (Some c) is = ap is_now (has_come now moment c (later_at (due_of now c) moment is))
 
@@ -149,8 +166,11 @@ row_comes : (s : Switch) (now moment : ℕ) (held : Option (Numbered Job)) → r
     (number : ℕ) × (due_number (record s { moment = moment }) held ≡ Some number)
 row_comes s now moment None is = absurd (none-some moment is)
 row_comes s now moment (Some row) is =
-    let t : Switch = record s { moment = now } in
-    (row.number, ap (λ due. number_where (is_now due) (Some row)) (work_comes s now moment row.held.work (later_at (work_due t row.held.work) moment is)))
+    let t : Switch = record s { moment = now } in (
+      row.number,
+      ap (λ due. number_where (is_now due) (Some row))
+          (work_comes s now moment row.held.work (later_at (work_due t row.held.work) moment is)),
+    )
 
 -- a slot has something to do, or a job has
 abbrev pub IsDue : DueActor → Type 0
@@ -163,7 +183,8 @@ slot_is_due : (s : Switch) (place : ℕ) → is_due s (held_in s.channels place)
 slot_is_due s place due = by (due_slot s) refl
   where
     by : (found : Option ℕ) → due_slot s ≡ found →
-        IsDue (actor_or actor.Slot found (actor_or actor.Job (due_job s) (later_or_never (lesser (first_chan_moment s) (first_job_moment s)))))
+        IsDue (actor_or actor.Slot found
+        (actor_or actor.Job (due_job s) (later_or_never (lesser (first_chan_moment s) (first_job_moment s)))))
     by (Some slot) is = tt
     by None is = absurd (both_ways (is_due s (held_in s.channels place)) (none_found (is_due s) refl s.channels 0 is place) due)
 
@@ -176,12 +197,15 @@ job_is_due s place number due = by (due_slot s) (due_job s) refl
     by None (Some job) is = tt
     by None None is = absurd (none-some number (sym (least_never (due_number s) s.jobs refl is place) ∙ due))
 
-due_behind : (s : Switch) (now moment : ℕ) → due_among_all (record s { moment = now }) ≡ actor.Later moment → IsDue (due_among_all (record s { moment = moment }))
+due_behind : (s : Switch) (now moment : ℕ) → due_among_all (record s { moment = now }) ≡ actor.Later moment →
+    IsDue (due_among_all (record s { moment = moment }))
 due_behind s now moment is =
     let t : Switch = record s { moment = now } in
-    by (lesser_is (first_chan_moment t) (first_job_moment t) moment (later_among (due_slot t) (due_job t) (lesser (first_chan_moment t) (first_job_moment t)) moment is))
+    by (lesser_is (first_chan_moment t) (first_job_moment t) moment
+    (later_among (due_slot t) (due_job t) (lesser (first_chan_moment t) (first_job_moment t)) moment is))
   where
-    by : (first_chan_moment (record s { moment = now }) ≡ Some moment) ⊎ (first_job_moment (record s { moment = now }) ≡ Some moment) → IsDue (due_among_all (record s { moment = moment }))
+    by : (first_chan_moment (record s { moment = now }) ≡ Some moment) ⊎ (first_job_moment (record s { moment = now }) ≡ Some moment) →
+        IsDue (due_among_all (record s { moment = moment }))
     by (inl chan) =
         let found = least_held (chan_moment (record s { moment = now })) s.channels moment chan in
         slot_is_due (record s { moment = moment }) found.0 (chan_comes s now moment (held_in s.channels found.0) found.1)

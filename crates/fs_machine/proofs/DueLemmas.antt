@@ -42,15 +42,18 @@ moment_after : (k : ℕ) (found : Option ℕ) (moment : ℕ) → IsAfter k found
 moment_after k None moment after h = absurd (cc)
 moment_after k (Some n) moment after h = after moment (cc)
 
-all_after : (s : Switch) (slot job : Option ℕ) (moment : ℕ) → due_slot s ≡ slot → due_job s ≡ job → due_among_all s ≡ actor.Later moment → s.moment < moment
+all_after : (s : Switch) (slot job : Option ℕ) (moment : ℕ) → due_slot s ≡ slot → due_job s ≡ job → due_among_all s ≡ actor.Later moment →
+    s.moment < moment
 all_after s (Some slot) job moment is_slot is_job h = absurd (cc)
 all_after s None (Some job) moment is_slot is_job h = absurd (cc)
 all_after s None None moment is_slot is_job h =
     moment_after s.moment (lesser (first_chan_moment s) (first_job_moment s)) moment
-    (lesser_after s.moment (first_chan_moment s) (first_job_moment s) (least_after s.moment (chan_moment s) (chan_after s) s.channels) (least_after s.moment (row_moment s) (row_after s) s.jobs))
+    (lesser_after s.moment (first_chan_moment s) (first_job_moment s) (least_after s.moment (chan_moment s) (chan_after s) s.channels)
+    (least_after s.moment (row_moment s) (row_after s) s.jobs))
     (cc)
 
 pub next_to_come : (now : ℕ) (s : Switch) (moment : ℕ) → due_among_all (at_moment now s) ≡ actor.Later moment → now < moment
 next_to_come now s moment h =
-    let later : max s.moment now < moment = all_after (at_moment now s) (due_slot (at_moment now s)) (due_job (at_moment now s)) moment refl refl h in
+    let later : max s.moment now < moment =
+    all_after (at_moment now s) (due_slot (at_moment now s)) (due_job (at_moment now s)) moment refl refl h in
     omega (arith, later)

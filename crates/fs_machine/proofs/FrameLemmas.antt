@@ -24,14 +24,17 @@ some_cost (Work slot) = omega arith
 some_cost (Job number) = omega arith
 
 -- what a journal with one more entry hands out
-pub handed_more : (conn : ℕ) (s : Switch) (entries : List Entry) (entry : Entry) → handed_from conn s (entries ++ entry ∷ []) ≡ handed_from conn s entries ++ handed_in conn entry.act (run_from s entries)
+pub handed_more : (conn : ℕ) (s : Switch) (entries : List Entry) (entry : Entry) →
+    handed_from conn s (entries ++ entry ∷ []) ≡ handed_from conn s entries ++ handed_in conn entry.act (run_from s entries)
 handed_more conn s [] entry = append-nil (handed_in conn entry.act s)
 handed_more conn s (first ∷ entries) entry =
     ap (λ frames. handed_in conn first.act s ++ frames) (handed_more conn (step s first).state entries entry)
-    ∙ sym (append_assoc (handed_in conn first.act s) (handed_from conn (step s first).state entries) (handed_in conn entry.act (run_from (step s first).state entries)))
+    ∙ sym (append_assoc (handed_in conn first.act s) (handed_from conn (step s first).state entries)
+    (handed_in conn entry.act (run_from (step s first).state entries)))
 
 -- a Take answers the first frame that waits
-pub take_answers : (s : Switch) (moment conn : ℕ) → (step s (record { moment = moment; act = Take conn })).reply ≡ reply.Frame (unwrap_or (slice_get (waiting_for s conn) 0) [])
+pub take_answers : (s : Switch) (moment conn : ℕ) →
+    (step s (record { moment = moment; act = Take conn })).reply ≡ reply.Frame (unwrap_or (slice_get (waiting_for s conn) 0) [])
 unfolding step
 take_answers s moment conn = refl
 
@@ -42,10 +45,12 @@ take_owes s moment taker conn = refl
 
 -- a connection that reads commands and is owed no reply gives one, unless the journal is full
 pub command_refused : (s : Switch) (moment conn : ℕ) (block : Text) → reads (phase_at s conn) ≡ true → owes s conn ≡ false →
-    refusal_of s (record { moment = moment; act = Command conn block }) ≡ refused_where (is_full s) (refusal.JournalFull s.cost s.config.settings.journal_limit) None
+    refusal_of s (record { moment = moment; act = Command conn block }) ≡ refused_where (is_full s)
+    (refusal.JournalFull s.cost s.config.settings.journal_limit) None
 unfolding refusal_of
 command_refused s moment conn block is_reading owes_none =
-    ap (λ test. refused_where (is_full s) (refusal.JournalFull s.cost s.config.settings.journal_limit) (refused_where (not test) refusal.Gone (busy (owed_to s conn)))) is_reading
+    ap (λ test. refused_where (is_full s) (refusal.JournalFull s.cost s.config.settings.journal_limit)
+    (refused_where (not test) refusal.Gone (busy (owed_to s conn)))) is_reading
     ∙ ap (refused_where (is_full s) (refusal.JournalFull s.cost s.config.settings.journal_limit)) (not_busy (owed_to s conn) owes_none)
   where
     not_busy : (since : Option ℕ) → is_some since ≡ false → busy since ≡ None

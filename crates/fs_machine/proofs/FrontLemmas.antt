@@ -61,7 +61,8 @@ orig_changed_front change number s = by (orig_of s number)
     by (Some o) = refl
 
 -- what reads no connections does not tell a change of one
-pub conn_unread : {A : Type 0} → (read : Switch → A) → ((conns : List (Option (Numbered Conn))) (t : Switch) → read (record t { conns = conns }) ≡ read t) →
+pub conn_unread : {A : Type 0} → (read : Switch → A) →
+    ((conns : List (Option (Numbered Conn))) (t : Switch) → read (record t { conns = conns }) ≡ read t) →
     (change : Conn → Conn) (conn : ℕ) (s : Switch) → read (conn_changed change conn s) ≡ read s
 conn_unread read same change conn s = by (conn_of s conn)
   where
@@ -79,8 +80,10 @@ ended_front : (number conn : ℕ) (answer : Text) (s : Switch) → front_of (aft
 ended_front number conn answer s = conn_changed_front not_owed conn (without_job number s)
 
 -- a fact that holds wherever the front is the same is kept by all moves, if channels and births keep it, and a leg that wins
-module _ (before : Switch) (P : Fact) (same : (b : Stage) (t u : Switch) → P b t → front_of u ≡ front_of t → P b u) (calls : KeptByCalls P) (births : KeptByBirths P)
-    (wins : (a : Attempt) (winner : Winner) (leg : OrigLeg) → DoesJob before a.job a.conn (Originate a.orig winner) → HasLeg before a.orig leg → P (Some 0) before →
+module _ (before : Switch) (P : Fact) (same : (b : Stage) (t u : Switch) → P b t → front_of u ≡ front_of t → P b u) (calls : KeptByCalls P)
+    (births : KeptByBirths P)
+    (wins : (a : Attempt) (winner : Winner) (leg : OrigLeg) → DoesJob before a.job a.conn (Originate a.orig winner) →
+    HasLeg before a.orig leg → P (Some 0) before →
     P (Some 0) (won winner (unwrap_or leg.slot 0) before)) where
   changed_same : (change : Conn → Conn) (conn n : ℕ) (s : Switch) → P (Some n) s → P (Some n) (conn_changed change conn s)
   changed_same change conn n s h = same (Some n) s _ h (conn_changed_front change conn s)
@@ -95,13 +98,16 @@ module _ (before : Switch) (P : Fact) (same : (b : Stage) (t u : Switch) → P b
   sleeps_same : (conn until : ℕ) (s : Switch) → P None s → P (Some 0) (after_job_begin conn (Sleep until) s)
   sleeps_same conn until s h = same (Some 0) s _ (births.spent h) (owing_front conn (Sleep until) s)
 
-  tried_same : (conn : ℕ) (endpoint : Text) (winner : Winner) (timeout orig : ℕ) (made : Made) → P (Some 2) made.state → P (Some 2) (tried_by_job conn endpoint winner timeout orig made)
+  tried_same : (conn : ℕ) (endpoint : Text) (winner : Winner) (timeout orig : ℕ) (made : Made) → P (Some 2) made.state →
+      P (Some 2) (tried_by_job conn endpoint winner timeout orig made)
   tried_same conn endpoint winner timeout orig made h =
       same (Some 2) made.state _ h (owing_front conn (Originate orig winner) (orig_begun endpoint made.leg timeout made.state))
 
-  originates_same : (conn : ℕ) (endpoint : Text) (winner : Winner) (caller : Caller) (timeout : Option ℕ) (s : Switch) → P None s → P (Some 2) (originate_begun conn endpoint winner caller timeout s)
+  originates_same : (conn : ℕ) (endpoint : Text) (winner : Winner) (caller : Caller) (timeout : Option ℕ) (s : Switch) → P None s →
+      P (Some 2) (originate_begun conn endpoint winner caller timeout s)
   originates_same conn endpoint winner caller timeout s h =
-      tried_same conn endpoint winner (unwrap_or timeout 60) (next_orig_number s) (leg_made endpoint caller (next_orig_number s) s) (leg_made_kept P births endpoint caller (next_orig_number s) {n = 0} {s = s} (births.spent h))
+      tried_same conn endpoint winner (unwrap_or timeout 60) (next_orig_number s) (leg_made endpoint caller (next_orig_number s) s)
+      (leg_made_kept P births endpoint caller (next_orig_number s) {n = 0} {s = s} (births.spent h))
 
   pub moves_by_front : KeptByMoves before P
   moves_by_front = record {
@@ -109,7 +115,8 @@ module _ (before : Switch) (P : Fact) (same : (b : Stage) (t u : Switch) → P b
     jobs = record {
       woken = λ number conn until answer {s = s} does h. ended_same number conn answer s h;
       failed = λ a winner cause {s = s} does h. over_same a (failed_text cause) s h;
-      wins = λ a winner leg does has h. over_same a (made_text leg.uuid) (won winner (unwrap_or leg.slot 0) before) (wins a winner leg does has h);
+      wins = λ a winner leg does has h. over_same a (made_text leg.uuid) (won winner (unwrap_or leg.slot 0) before)
+          (wins a winner leg does has h);
     };
     commands = λ conn. record {
       spent = births.spent;

@@ -29,7 +29,8 @@ NumbersFrom x b t = Numbers (drawn_by b) x (seen t)
 end_numbers : (call : Call) (end : End) (s : Switch) → end.slot < length s.channels → Numbers 1 (seen s) (seen (end_made call end s))
 end_numbers call end s within = numbers_new (seen s) end.slot (end_of call end (identifier_of (with_next_identifier s))) within refl
 
-pair_numbers : (call : Call) (orig a b : ℕ) (s : Switch) → IsFree Chan s.channels 1 a → IsFree Chan s.channels (a + 1) b → Numbers 2 (seen s) (seen (pair_made call orig a b s))
+pair_numbers : (call : Call) (orig a b : ℕ) (s : Switch) → IsFree Chan s.channels 1 a → IsFree Chan s.channels (a + 1) b →
+    Numbers 2 (seen s) (seen (pair_made call orig a b s))
 pair_numbers call orig a b s free_a free_b =
     let t : Switch = end_made call (leg_end orig a b) s in
     let u : Switch = end_made call (far_end a b) t in
@@ -38,8 +39,10 @@ pair_numbers call orig a b s free_a free_b =
     (end_numbers call (far_end a b) t (subst (λ n. b < n) (sym (length-set s.channels a (Some leg))) free_b.within))
 
 module _ (x : Seen) where
-  put_numbers : (more slot : ℕ) (old new : Chan) (s : Switch) → chan_at s slot ≡ Some old → new.uuid ≡ old.uuid → Numbers more x (seen s) → Numbers more x (seen (with_chan slot (Some new) s))
-  put_numbers more slot old new s there same h = numbers_quietly more x (seen s) (put slot (Some new) (seen s)) h (numbers_same (seen s) slot old new there same)
+  put_numbers : (more slot : ℕ) (old new : Chan) (s : Switch) → chan_at s slot ≡ Some old → new.uuid ≡ old.uuid → Numbers more x (seen s) →
+      Numbers more x (seen (with_chan slot (Some new) s))
+  put_numbers more slot old new s there same h =
+      numbers_quietly more x (seen s) (put slot (Some new) (seen s)) h (numbers_same (seen s) slot old new there same)
 
   front_numbers : (more : ℕ) (t u : Switch) → front_of u ≡ front_of t → Numbers more x (seen t) → Numbers more x (seen u)
   front_numbers more t u same h = subst (λ (f : Front). Numbers more x (seen_in f)) (sym same) h
@@ -50,7 +53,8 @@ module _ (x : Seen) where
   hung_numbers : (more : ℕ) (cause : Cause) (slot : ℕ) (s : Switch) → Numbers more x (seen s) →
       Numbers more x (seen (after_hangup cause slot s))
   hung_numbers more cause slot s h =
-      hung_kept (λ (t : Switch). Numbers more x (seen t)) (λ event t plain k. k) (λ why place c t is k. put_numbers more place c (hung_up why c) t is refl k)
+      hung_kept (λ (t : Switch). Numbers more x (seen t)) (λ event t plain k. k)
+      (λ why place c t is k. put_numbers more place c (hung_up why c) t is refl k)
       (λ change number t k. front_numbers more t (orig_changed change number t) (orig_changed_front change number t) k) cause slot s h
 
   won_numbers : (winner : Winner) (slot : ℕ) (s : Switch) → Numbers 0 x (seen s) → Numbers 0 x (seen (won winner slot s))
@@ -64,7 +68,8 @@ module _ (x : Seen) where
       by : (found : Option Chan) → chan_at s slot ≡ found → Numbers 0 x (seen (after_move_from (won_by winner) slot found s))
       by None is = h
       by (Some c) is =
-          state_told_kept (λ (t : Switch). Numbers 0 x (seen t)) (λ event t plain k. k) c.state (won_by winner c).state {s = with_chan slot (Some (won_by winner c)) s}
+          state_told_kept (λ (t : Switch). Numbers 0 x (seen t)) (λ event t plain k. k) c.state
+          (won_by winner c).state {s = with_chan slot (Some (won_by winner c)) s}
           (put_numbers 0 slot c (won_by winner c) s is (same_uuid winner c) h)
 
   pub numbers_moves : (before : Switch) → KeptByMoves before (NumbersFrom x)
@@ -73,16 +78,20 @@ module _ (x : Seen) where
       (record {
         told = λ event plain h. h;
         globals = λ globals h. h;
-        changed = λ slot old new {b = b} {s = s} there stays h. put_numbers (drawn_by b) slot old new s there (ap (λ (l : Links). l.uuid) stays.links) h;
+        changed =
+            λ slot old new {b = b} {s = s} there stays h. put_numbers (drawn_by b) slot old new s there
+            (ap (λ (l : Links). l.uuid) stays.links) h;
         answers = λ place slot number {b = b} {s = s} h.
             front_numbers (drawn_by b) s (orig_changed (leg_changed (λ position. with_answer position place) slot) number s)
             (orig_changed_front (leg_changed (λ position. with_answer position place) slot) number s) h;
         hung = λ cause slot {b = b} {s = s} h. hung_numbers (drawn_by b) cause slot s h;
-        gone = λ slot old {b = b} {s = s} there dead h. numbers_quietly (drawn_by b) x (seen s) (put slot None (seen s)) h (numbers_gone (seen s) slot old there);
+        gone = λ slot old {b = b} {s = s} there dead h. numbers_quietly (drawn_by b) x (seen s) (put slot None (seen s)) h
+            (numbers_gone (seen s) slot old there);
       })
       (record {
         spent = λ h. h;
         more = λ {n = n} {m = m} {s = s} below h. numbers_more n m x (seen s) below h;
-        pair = λ call orig a b {n = n} {s = s} short first second h. numbers_then n 2 x (seen s) (seen (pair_made call orig a b s)) h (pair_numbers call orig a b s first second);
+        pair = λ call orig a b {n = n} {s = s} short first second h. numbers_then n 2 x (seen s) (seen (pair_made call orig a b s)) h
+            (pair_numbers call orig a b s first second);
       })
       (λ a winner leg does has h. won_numbers winner (unwrap_or leg.slot 0) before h)

@@ -31,7 +31,8 @@ use Rattle.fs_machine.specs.Owing.{after_job_begin, after_job_end}
 use Rattle.fs_machine.specs.Step.{arrived}
 use Rattle.fs_machine.specs.Sound.{HasLeg}
 
--- How far an entry has come: nothing has begun in it that draws a number, or such a thing may have, and so many identifiers were drawn at most.
+-- How far an entry has come: nothing has begun in it that draws a number, or such a thing may have, and so many identifiers were drawn at
+-- most.
 abbrev pub Stage : Type 0
 Stage = Option ℕ
 
@@ -61,16 +62,20 @@ pub record Stays (old new : Chan) : Type 0 where
 pub record KeptByCalls (P : Fact) : Type 0 where
   pub told : (event : Event) {b : Stage} {s : Switch} → event.bridge ≡ 0 → P b s → P b (with_event event s)
   pub globals : (globals : Variables) {b : Stage} {s : Switch} → P b s → P b (record s { globals = globals })
-  pub changed : (slot : ℕ) (old new : Chan) {b : Stage} {s : Switch} → chan_at s slot ≡ Some old → Stays old new → P b s → P b (with_chan slot (Some new) s)
-  pub answers : (place slot number : ℕ) {b : Stage} {s : Switch} → P b s → P b (orig_changed (leg_changed (λ position. with_answer position place) slot) number s)
+  pub changed : (slot : ℕ) (old new : Chan) {b : Stage} {s : Switch} → chan_at s slot ≡ Some old → Stays old new → P b s →
+      P b (with_chan slot (Some new) s)
+  pub answers : (place slot number : ℕ) {b : Stage} {s : Switch} → P b s →
+      P b (orig_changed (leg_changed (λ position. with_answer position place) slot) number s)
   pub hung : (cause : Cause) (slot : ℕ) {b : Stage} {s : Switch} → P b s → P b (after_hangup cause slot s)
-  pub gone : (slot : ℕ) (old : Chan) {b : Stage} {s : Switch} → chan_at s slot ≡ Some old → is_live old ≡ false → P b s → P b (with_chan slot None s)
+  pub gone : (slot : ℕ) (old : Chan) {b : Stage} {s : Switch} → chan_at s slot ≡ Some old → is_live old ≡ false → P b s →
+      P b (with_chan slot None s)
 
 -- how channels are born: each pair draws two identifiers
 pub record KeptByBirths (P : Fact) : Type 0 where
   pub spent : {s : Switch} → P None s → P (Some 0) s
   pub more : {n m : ℕ} {s : Switch} → n ≤ m → P (Some n) s → P (Some m) s
-  pub pair : (call : Call) (orig a b : ℕ) {n : ℕ} {s : Switch} → IsShortAddress call.exten call.context → IsFree Chan s.channels 1 a → IsFree Chan s.channels (a + 1) b →
+  pub pair : (call : Call) (orig a b : ℕ) {n : ℕ} {s : Switch} → IsShortAddress call.exten call.context → IsFree Chan s.channels 1 a →
+      IsFree Chan s.channels (a + 1) b →
       P (Some n) s → P (Some (n + 2)) (pair_made call orig a b s)
 
 -- ---- moves of jobs
@@ -81,9 +86,12 @@ pub record DoesJob (s : Switch) (number conn : ℕ) (what : JobWork) : Type 0 wh
 
 -- the jobs that end; a leg wins in the switch in which the entry begins
 pub record KeptByJobs (before : Switch) (P : Fact) : Type 0 where
-  pub woken : (number conn until : ℕ) (answer : Text) {s : Switch} → DoesJob s number conn (work.Sleep until) → P (Some 0) s → P (Some 0) (after_job_end number conn answer s)
-  pub failed : (a : Attempt) (winner : Winner) (cause : Cause) {s : Switch} → DoesJob s a.job a.conn (work.Originate a.orig winner) → P (Some 0) s → P (Some 0) (failed a cause s)
-  pub wins : (a : Attempt) (winner : Winner) (leg : OrigLeg) → DoesJob before a.job a.conn (work.Originate a.orig winner) → HasLeg before a.orig leg → P (Some 0) before →
+  pub woken : (number conn until : ℕ) (answer : Text) {s : Switch} → DoesJob s number conn (work.Sleep until) → P (Some 0) s →
+      P (Some 0) (after_job_end number conn answer s)
+  pub failed : (a : Attempt) (winner : Winner) (cause : Cause) {s : Switch} → DoesJob s a.job a.conn (work.Originate a.orig winner) →
+      P (Some 0) s → P (Some 0) (failed a cause s)
+  pub wins : (a : Attempt) (winner : Winner) (leg : OrigLeg) → DoesJob before a.job a.conn (work.Originate a.orig winner) →
+      HasLeg before a.orig leg → P (Some 0) before →
       P (Some 0) (after_job_end a.job a.conn (made_text leg.uuid) (without_orig a.orig (won winner (unwrap_or leg.slot 0) before)))
 
 -- ---- moves of a connection
@@ -107,7 +115,8 @@ pub record KeptByCommands (conn : ℕ) (P : Fact) : Type 0 where
   pub admitted : {n : ℕ} {s : Switch} → phase_at s conn ≡ Fresh → P (Some n) s → P (Some n) (conn_changed admitted conn s)
   pub parted : (why : Parting) {n : ℕ} {s : Switch} → LeavesBy why → P (Some n) s → P (Some n) (conn_changed (parted why) conn s)
   pub sleeps : (until : ℕ) {s : Switch} → is_full_of_jobs s ≡ false → P None s → P (Some 0) (after_job_begin conn (work.Sleep until) s)
-  pub originates : (endpoint : Text) (winner : Winner) (caller : Caller) (timeout : Option ℕ) {s : Switch} → IsShortWinner winner → is_full_of_jobs s ≡ false → P None s →
+  pub originates : (endpoint : Text) (winner : Winner) (caller : Caller) (timeout : Option ℕ) {s : Switch} → IsShortWinner winner →
+      is_full_of_jobs s ≡ false → P None s →
       P (Some 2) (originate_begun conn endpoint winner caller timeout s)
 
 -- how connections come and go, and take their frames

@@ -69,7 +69,8 @@ holds_empty config small = record {
   where
     fewer : taken_in (numbers_in (no_places {T = Numbered Orig} 1280)) ≤ trying_in (no_places {T = Numbered Job} 1024)
     fewer =
-        let same : taken_in (numbers_in (no_places {T = Numbered Orig} 1280)) ≡ taken_in (no_places {T = Numbered Orig} 1280) = taken_numbers (no_places {T = Numbered Orig} 1280) in
+        let same : taken_in (numbers_in (no_places {T = Numbered Orig} 1280)) ≡ taken_in (no_places {T = Numbered Orig} 1280) =
+        taken_numbers (no_places {T = Numbered Orig} 1280) in
         let none : taken_in (no_places {T = Numbered Orig} 1280) ≡ 0 = none_taken {T = Numbered Orig} one_if 1280 refl in
         omega (arith, same, none)
 
@@ -77,7 +78,8 @@ holds_empty config small = record {
 pub holds_step : (s : Switch) (entry : Entry) → refusal_of s entry ≡ None → Holds (books_of s) → Holds (books_of (step s entry).state)
 unfolding step
 holds_step s entry accepts h =
-    let room : s.cost + 65600 ≤ s.config.settings.journal_limit = ltb-false s.config.settings.journal_limit (s.cost + 65600) (not_full s entry accepts) in
+    let room : s.cost + 65600 ≤ s.config.settings.journal_limit =
+    ltb-false s.config.settings.journal_limit (s.cost + 65600) (not_full s entry accepts) in
     let small : s.config.settings.journal_limit ≤ 1073741824 = h.paid.limit in
     let paid_conns : 64 * s.drawn.conns ≤ s.cost = h.paid.conns in
     let paid_jobs : 64 * s.drawn.jobs ≤ s.cost = h.paid.jobs in
@@ -87,10 +89,12 @@ holds_step s entry accepts h =
       jobs = omega (arith, room, small, paid_jobs);
       origs = omega (arith, room, small, paid_origs);
     } in
-    let goes : Goes (books_of s) (books_of (act_done entry.act (at_moment entry.moment s)).state) = goes_acted entry.act (at_moment entry.moment s) (not_refused s entry accepts) few h.sound in
+    let goes : Goes (books_of s) (books_of (act_done entry.act (at_moment entry.moment s)).state) =
+    goes_acted entry.act (at_moment entry.moment s) (not_refused s entry accepts) few h.sound in
     after (act_done entry.act (at_moment entry.moment s)).state goes room small paid_conns paid_jobs paid_origs (some_cost entry.act)
   where
-    after : (t : Switch) → Goes (books_of s) (books_of t) → s.cost + 65600 ≤ s.config.settings.journal_limit → s.config.settings.journal_limit ≤ 1073741824 →
+    after : (t : Switch) → Goes (books_of s) (books_of t) → s.cost + 65600 ≤ s.config.settings.journal_limit →
+        s.config.settings.journal_limit ≤ 1073741824 →
         64 * s.drawn.conns ≤ s.cost → 64 * s.drawn.jobs ≤ s.cost → 64 * s.drawn.origs ≤ s.cost → 64 ≤ cost_of entry.act →
         Holds (record (books_of t) { cost = min (t.cost + cost_of entry.act) (2 ^ 64 - 1) })
     after t goes room small paid_conns paid_jobs paid_origs some =
@@ -120,7 +124,8 @@ orig_is_due now x None is none = none-some x is
 orig_is_due now x (Some o) is none = cc none
 
 -- work has a next moment, if its origination is there
-work_is_due : (s : Switch) (work : JobWork) → ((number : ℕ) → tried_by work ≡ Some number → HasNumber (numbers_in s.origs) number) → work_due s work ≢ None
+work_is_due : (s : Switch) (work : JobWork) → ((number : ℕ) → tried_by work ≡ Some number → HasNumber (numbers_in s.origs) number) →
+    work_due s work ≢ None
 work_is_due s (Sleep until) there none = cc none
 work_is_due s (Originate orig winner) there none =
     let had = there orig refl in
@@ -128,11 +133,13 @@ work_is_due s (Originate orig winner) there none =
     orig_is_due s.moment row.1.held (orig_of s orig) (row_is s.origs orig row.0 row.1 row.2) none
 
 -- each job is the one of its number
-pub job_is_known : (s : Switch) (q : ℕ) (job : Numbered Job) → Sound (books_of s) → held_in s.jobs q ≡ Some job → job_of s job.number ≡ Some job.held
+pub job_is_known : (s : Switch) (q : ℕ) (job : Numbered Job) → Sound (books_of s) → held_in s.jobs q ≡ Some job →
+    job_of s job.number ≡ Some job.held
 job_is_known s q job h is =
     let row : HasRow s.jobs job.number = row_of_held s.jobs q job is in
     let place : q ≡ row.0 = sym (h.linked.job_numbers.apart row.0 q row.1 job row.2.there is row.2.numbered) in
-    row_is s.jobs job.number row.0 row.1 row.2 ∙ ap (λ (j : Numbered Job). Some j.held) (one_there s.jobs row.0 q row.1 job row.2.there is place)
+    row_is s.jobs job.number row.0 row.1 row.2
+    ∙ ap (λ (j : Numbered Job). Some j.held) (one_there s.jobs row.0 q row.1 job row.2.there is place)
 
 -- each job has a next moment
 job_is_due : (s : Switch) (q : ℕ) (job : Numbered Job) → Sound (books_of s) → held_in s.jobs q ≡ Some job → job_due job.number s ≢ None
@@ -151,7 +158,8 @@ are_owed s h = record { owed = λ conn since is. owed conn since is; parted = λ
         by (Some c) at =
             let row = row_found s.conns conn c at in
             let since_is : c.owed ≡ Some since = sym (ap (λ (found : Option Conn). option_and_then owed_of found) at) ∙ is in
-            let had : HasJob s.jobs row.1.number = h.linked.owes.owed row.0 row.1 since row.2.there (ap (λ (y : Conn). y.owed) row.3 ∙ since_is) in
+            let had : HasJob s.jobs row.1.number =
+            h.linked.owes.owed row.0 row.1 since row.2.there (ap (λ (y : Conn). y.owed) row.3 ∙ since_is) in
             let for : had.1.held.conn ≡ conn = had.3 ∙ row.2.numbered in (
               had.0,
               had.1,
@@ -164,7 +172,8 @@ are_owed s h = record { owed = λ conn since is. owed conn since is; parted = λ
               },
             )
 
-pub run_is_owed : (config : Configuration) (entries : List Entry) → config.settings.journal_limit ≤ 1073741824 → IsRunFrom (empty config) entries → AreOwed (run_from (empty config) entries)
+pub run_is_owed : (config : Configuration) (entries : List Entry) → config.settings.journal_limit ≤ 1073741824 →
+    IsRunFrom (empty config) entries → AreOwed (run_from (empty config) entries)
 run_is_owed config entries small run =
     let h : Holds (books_of (run_from (empty config) entries)) = holds_run entries (empty config) run (holds_empty config small) in
     are_owed (run_from (empty config) entries) h.sound
@@ -178,13 +187,15 @@ due_some (Some Now) number now later = absurd (something_there number now)
 due_some (Some (At moment)) number now later = absurd (something_there moment later)
 
 -- nobody has something to do only where no job has
-never_among : (s : Switch) (slot job moment : Option ℕ) → actor_or actor.Slot slot (actor_or actor.Job job (later_or_never moment)) ≡ actor.Never → (job ≡ None) × (moment ≡ None)
+never_among : (s : Switch) (slot job moment : Option ℕ) →
+    actor_or actor.Slot slot (actor_or actor.Job job (later_or_never moment)) ≡ actor.Never → (job ≡ None) × (moment ≡ None)
 never_among s None None None is = (refl, refl)
 never_among s None None (Some moment) is = absurd (cc is)
 never_among s None (Some job) moment is = absurd (cc is)
 never_among s (Some slot) job moment is = absurd (cc is)
 
-never_due : (s : Switch) (q : ℕ) (row : Numbered Job) → held_in s.jobs q ≡ Some row → due_among_all s ≡ actor.Never → work_due s row.held.work ≡ None
+never_due : (s : Switch) (q : ℕ) (row : Numbered Job) → held_in s.jobs q ≡ Some row → due_among_all s ≡ actor.Never →
+    work_due s row.held.work ≡ None
 never_due s q row there is =
     let none = never_among s (due_slot s) (due_job s) (lesser (first_chan_moment s) (first_job_moment s)) is in
     let no_moment = lesser_never (first_chan_moment s) (first_job_moment s) none.1 in
@@ -202,14 +213,22 @@ due_at_moment s now (Originate orig winner) is = by (orig_of s orig) is
     by (Some o) e = absurd (cc e)
 
 -- a job that has a next moment is work that is due
-job_at_work : (s : Switch) (number : ℕ) → job_due number s ≢ None → (q : ℕ) × (row : Numbered Job) × (held_in s.jobs q ≡ Some row) × (work_due s row.held.work ≢ None)
+job_at_work : (s : Switch) (number : ℕ) → job_due number s ≢ None →
+    (q : ℕ) × (row : Numbered Job) × (held_in s.jobs q ≡ Some row) × (work_due s row.held.work ≢ None)
 job_at_work s number is_due = by (job_of s number) refl
   where
-    by : (found : Option Job) → job_of s number ≡ found → (q : ℕ) × (row : Numbered Job) × (held_in s.jobs q ≡ Some row) × (work_due s row.held.work ≢ None)
+    by : (found : Option Job) → job_of s number ≡ found →
+        (q : ℕ) × (row : Numbered Job) × (held_in s.jobs q ≡ Some row) × (work_due s row.held.work ≢ None)
     by None is = absurd (is_due (ap (λ (held : Option Job). option_and_then (λ (j : Job). work_due s j.work) held) is))
     by (Some job) is =
-        let row = row_found s.jobs number job is in
-        (row.0, row.1, row.2.there, λ none. is_due (ap (λ (held : Option Job). option_and_then (λ (j : Job). work_due s j.work) held) is ∙ (sym (ap (λ (j : Job). work_due s j.work) row.3) ∙ none)))
+        let row = row_found s.jobs number job is in (
+          row.0,
+          row.1,
+          row.2.there,
+          λ none. is_due
+              (ap (λ (held : Option Job). option_and_then (λ (j : Job). work_due s j.work) held) is
+              ∙ (sym (ap (λ (j : Job). work_due s j.work) row.3) ∙ none)),
+        )
 
 -- while a reply is owed somebody has something to do
 pub goes_on : (s : Switch) (conn now : ℕ) → AreOwed s → owes s conn ≡ true → next_due now s ≢ actor.Never
@@ -223,6 +242,8 @@ goes_on s conn now h owed never = by (owed_to s conn) refl owed
         let works = job_at_work s job.1.number job.2.due in
         works.3 (due_at_moment s now works.1.held.work (never_due (at_moment now s) works.0 works.1 works.2 never))
 
-pub run_goes_on : (config : Configuration) (entries : List Entry) → config.settings.journal_limit ≤ 1073741824 → IsRunFrom (empty config) entries → (conn now : ℕ) →
+pub run_goes_on : (config : Configuration) (entries : List Entry) → config.settings.journal_limit ≤ 1073741824 →
+    IsRunFrom (empty config) entries → (conn now : ℕ) →
     owes (run_from (empty config) entries) conn ≡ true → next_due now (run_from (empty config) entries) ≢ actor.Never
-run_goes_on config entries small run conn now owed = goes_on (run_from (empty config) entries) conn now (run_is_owed config entries small run) owed
+run_goes_on config entries small run conn now owed =
+    goes_on (run_from (empty config) entries) conn now (run_is_owed config entries small run) owed

@@ -28,7 +28,8 @@ parts_gone conns p each q x e = each q x (kept_without conns p q x e).1
 -- ---- replies that are owed
 
 -- a connection is changed that is owed what it was owed before
-owes_changed : (conns : Conns) (jobs : Jobs) (drawn p : ℕ) (old new : Numbered Conn) → held_in conns p ≡ Some old → new.number ≡ old.number → new.held.owed ≡ old.held.owed →
+owes_changed : (conns : Conns) (jobs : Jobs) (drawn p : ℕ) (old new : Numbered Conn) → held_in conns p ≡ Some old →
+    new.number ≡ old.number → new.held.owed ≡ old.held.owed →
     Owes conns jobs drawn → Owes (with_held conns p (Some new)) jobs drawn
 owes_changed conns jobs drawn p old new there same same_owed h = record {
   owed = λ q x since e o. subst (λ (n : ℕ). HasJob jobs n) (was q x e).2 (h.owed q (was q x e).0 since (was q x e).1 ((was q x e).3 ∙ o));
@@ -40,8 +41,13 @@ owes_changed conns jobs drawn p old new there same same_owed h = record {
     by : (q : ℕ) (x : Numbered Conn) → IsWrittenOrKept conns p (Some new) q x →
         (y : Numbered Conn) × (held_in conns q ≡ Some y) × (y.number ≡ x.number) × (y.held.owed ≡ x.held.owed)
     by q x (inl here) =
-        let is : new ≡ x = same_Some new x here.1 in
-        (old, ap (λ (k : ℕ). held_in conns k) here.0 ∙ there, sym same ∙ ap (λ (y : Numbered Conn). y.number) is, sym same_owed ∙ ap (λ (y : Numbered Conn). y.held.owed) is)
+        let is : new ≡ x = same_Some new x here.1 in (
+          old,
+          ap (λ (k : ℕ). held_in conns k) here.0 ∙ there,
+          sym same ∙ ap (λ (y : Numbered Conn). y.number) is,
+          sym same_owed
+              ∙ ap (λ (y : Numbered Conn). y.held.owed) is,
+        )
     by q x (inr kept) = (x, kept.1, refl, refl)
 
     was : (q : ℕ) (x : Numbered Conn) → held_in (with_held conns p (Some new)) q ≡ Some x →
@@ -66,8 +72,10 @@ owes_come conns jobs drawn p new fresh none h = record {
   within = λ q job e. let is : job.held.conn ≤ drawn = h.within q job e in omega (arith, is);
 }
   where
-    owed : (q : ℕ) (x : Numbered Conn) (since : ℕ) → IsWrittenOrKept conns p (Some new) q x → x.held.owed ≡ Some since → HasJob jobs x.number
-    owed q x since (inl here) o = absurd (none-some since (sym none ∙ (ap (λ (y : Numbered Conn). y.held.owed) (same_Some new x here.1) ∙ o)))
+    owed : (q : ℕ) (x : Numbered Conn) (since : ℕ) → IsWrittenOrKept conns p (Some new) q x → x.held.owed ≡ Some since →
+        HasJob jobs x.number
+    owed q x since (inl here) o =
+        absurd (none-some since (sym none ∙ (ap (λ (y : Numbered Conn). y.held.owed) (same_Some new x here.1) ∙ o)))
     owed q x since (inr kept) o = h.owed q x since kept.1 o
 
     owes : (r : ℕ) (job : Numbered Job) (q : ℕ) (x : Numbered Conn) → held_in jobs r ≡ Some job → IsWrittenOrKept conns p (Some new) q x →
@@ -108,7 +116,8 @@ owes_begun conns jobs drawn p q old new job there none same now within free for 
     no_job : (r : ℕ) (j : Numbered Job) → held_in jobs r ≡ Some j → j.held.conn ≡ old.number → ⊥
     no_job r j e is = h.owes r j p old e there (sym is) none
 
-    owed : (k : ℕ) (x : Numbered Conn) (since : ℕ) → IsWrittenOrKept conns p (Some new) k x → x.held.owed ≡ Some since → HasJob (with_held jobs q (Some job)) x.number
+    owed : (k : ℕ) (x : Numbered Conn) (since : ℕ) → IsWrittenOrKept conns p (Some new) k x → x.held.owed ≡ Some since →
+        HasJob (with_held jobs q (Some job)) x.number
     owed k x since (inl here) o = (q, job, held_here jobs q (Some job) within, for ∙ sym (number_of x here.1))
     owed k x since (inr kept) o =
         let had : HasJob jobs x.number = h.owed k x since kept.1 o in
@@ -128,7 +137,8 @@ owes_begun conns jobs drawn p q old new job there none same now within free for 
     alone r t x z (inr one) (inr two) is = h.alone r t x z one.1 two.1 is
 
     drawn_for : (r : ℕ) (j : Numbered Job) → IsWrittenOrKept jobs q (Some job) r j → j.held.conn ≤ drawn
-    drawn_for r j (inl begun) = let is : j.held.conn ≡ old.number = conn_of j begun.1 in let most : old.number ≤ drawn = n.within p old there in omega (arith, is, most)
+    drawn_for r j (inl begun) = let is : j.held.conn ≡ old.number = conn_of j begun.1 in
+        let most : old.number ≤ drawn = n.within p old there in omega (arith, is, most)
     drawn_for r j (inr before) = h.within r j before.1
 
 -- a job ends, and its connection is owed nothing any more
@@ -145,12 +155,15 @@ owes_ended conns jobs drawn p q old new job stands there for same none n h = rec
     number_of : (x : Numbered Conn) → Some new ≡ Some x → x.number ≡ job.held.conn
     number_of x e = sym (ap (λ (y : Numbered Conn). y.number) (same_Some new x e)) ∙ (same ∙ for)
 
-    owed : (k : ℕ) (x : Numbered Conn) (since : ℕ) → IsWrittenOrKept conns p (Some new) k x → x.held.owed ≡ Some since → HasJob (with_held jobs q None) x.number
-    owed k x since (inl here) o = absurd (none-some since (sym none ∙ (ap (λ (y : Numbered Conn). y.held.owed) (same_Some new x here.1) ∙ o)))
+    owed : (k : ℕ) (x : Numbered Conn) (since : ℕ) → IsWrittenOrKept conns p (Some new) k x → x.held.owed ≡ Some since →
+        HasJob (with_held jobs q None) x.number
+    owed k x since (inl here) o =
+        absurd (none-some since (sym none ∙ (ap (λ (y : Numbered Conn). y.held.owed) (same_Some new x here.1) ∙ o)))
     owed k x since (inr kept) o =
         let had : HasJob jobs x.number = h.owed k x since kept.1 o in
         let is : had.0 ≡ q → job ≡ had.1 = λ at. one_there jobs q had.0 job had.1 stands had.2 at in
-        let number : had.0 ≡ q → x.number ≡ old.number = λ at. sym had.3 ∙ (sym (ap (λ (j : Numbered Job). j.held.conn) (is at)) ∙ sym for) in
+        let number : had.0 ≡ q → x.number ≡ old.number = λ at. sym had.3
+        ∙ (sym (ap (λ (j : Numbered Job). j.held.conn) (is at)) ∙ sym for) in
         let other : had.0 ≢ q = λ at. kept.0 (n.apart k p x old kept.1 there (number at)) in
         (had.0, had.1, still_there jobs q None had.0 had.1 other had.2, had.3)
 
@@ -170,7 +183,8 @@ owes_dropped conns jobs drawn q job stands gone h = record {
   within = λ r j e. h.within r j (kept_without jobs q r j e).1;
 }
   where
-    owed : (k : ℕ) (x : Numbered Conn) (since : ℕ) → held_in conns k ≡ Some x → x.held.owed ≡ Some since → HasJob (with_held jobs q None) x.number
+    owed : (k : ℕ) (x : Numbered Conn) (since : ℕ) → held_in conns k ≡ Some x → x.held.owed ≡ Some since →
+        HasJob (with_held jobs q None) x.number
     owed k x since e o =
         let had : HasJob jobs x.number = h.owed k x since e o in
         let is : had.0 ≡ q → job ≡ had.1 = λ at. one_there jobs q had.0 job had.1 stands had.2 at in
@@ -180,8 +194,10 @@ owes_dropped conns jobs drawn q job stands gone h = record {
 -- ---- connections and jobs
 
 -- a connection is changed that is owed what it was owed before
-pub linked_changed : (conns : Conns) (jobs : Jobs) (drawn jobs_drawn p : ℕ) (old new : Numbered Conn) → held_in conns p ≡ Some old → new.number ≡ old.number →
-    new.held.owed ≡ old.held.owed → Parts new.held → Linked conns jobs drawn jobs_drawn → Linked (with_held conns p (Some new)) jobs drawn jobs_drawn
+pub linked_changed : (conns : Conns) (jobs : Jobs) (drawn jobs_drawn p : ℕ) (old new : Numbered Conn) → held_in conns p ≡ Some old →
+    new.number ≡ old.number →
+    new.held.owed ≡ old.held.owed → Parts new.held → Linked conns jobs drawn jobs_drawn →
+    Linked (with_held conns p (Some new)) jobs drawn jobs_drawn
 linked_changed conns jobs drawn jobs_drawn p old new there same owed parts h = record {
   numbers = numbers_changed conns drawn p old new there same h.numbers;
   parts = parts_put conns p new parts h.parts;
@@ -190,7 +206,8 @@ linked_changed conns jobs drawn jobs_drawn p old new there same owed parts h = r
 }
 
 -- a connection is gone
-pub linked_gone : (conns : Conns) (jobs : Jobs) (drawn jobs_drawn p : ℕ) → Linked conns jobs drawn jobs_drawn → Linked (with_held conns p None) jobs drawn jobs_drawn
+pub linked_gone : (conns : Conns) (jobs : Jobs) (drawn jobs_drawn p : ℕ) → Linked conns jobs drawn jobs_drawn →
+    Linked (with_held conns p None) jobs drawn jobs_drawn
 linked_gone conns jobs drawn jobs_drawn p h = record {
   numbers = numbers_gone conns drawn p h.numbers;
   parts = parts_gone conns p h.parts;
@@ -199,7 +216,8 @@ linked_gone conns jobs drawn jobs_drawn p h = record {
 }
 
 -- a connection comes that is owed nothing
-pub linked_come : (conns : Conns) (jobs : Jobs) (drawn jobs_drawn p : ℕ) (new : Numbered Conn) → new.number ≡ drawn + 1 → new.held.owed ≡ None → Parts new.held →
+pub linked_come : (conns : Conns) (jobs : Jobs) (drawn jobs_drawn p : ℕ) (new : Numbered Conn) → new.number ≡ drawn + 1 →
+    new.held.owed ≡ None → Parts new.held →
     Linked conns jobs drawn jobs_drawn → Linked (with_held conns p (Some new)) jobs (drawn + 1) jobs_drawn
 linked_come conns jobs drawn jobs_drawn p new fresh none parts h = record {
   numbers = numbers_come conns drawn p new fresh h.numbers;
@@ -209,7 +227,8 @@ linked_come conns jobs drawn jobs_drawn p new fresh none parts h = record {
 }
 
 -- there was no place for it
-pub linked_more : (conns : Conns) (jobs : Jobs) (drawn jobs_drawn : ℕ) → Linked conns jobs drawn jobs_drawn → Linked conns jobs (drawn + 1) jobs_drawn
+pub linked_more : (conns : Conns) (jobs : Jobs) (drawn jobs_drawn : ℕ) → Linked conns jobs drawn jobs_drawn →
+    Linked conns jobs (drawn + 1) jobs_drawn
 linked_more conns jobs drawn jobs_drawn h = record {
   numbers = numbers_more conns drawn h.numbers;
   parts = h.parts;
@@ -231,7 +250,8 @@ linked_begun conns jobs drawn jobs_drawn p q old new job there none same now par
 
 -- a job ends, and its connection is owed nothing any more
 pub linked_ended : (conns : Conns) (jobs : Jobs) (drawn jobs_drawn p q : ℕ) (old new : Numbered Conn) (job : Numbered Job) →
-    held_in jobs q ≡ Some job → held_in conns p ≡ Some old → old.number ≡ job.held.conn → new.number ≡ old.number → new.held.owed ≡ None → Parts new.held →
+    held_in jobs q ≡ Some job → held_in conns p ≡ Some old → old.number ≡ job.held.conn → new.number ≡ old.number → new.held.owed ≡ None →
+    Parts new.held →
     Linked conns jobs drawn jobs_drawn → Linked (with_held conns p (Some new)) (with_held jobs q None) drawn jobs_drawn
 linked_ended conns jobs drawn jobs_drawn p q old new job stands there for same none parts h = record {
   numbers = numbers_changed conns drawn p old new there same h.numbers;
@@ -254,25 +274,31 @@ linked_dropped conns jobs drawn jobs_drawn q job stands gone h = record {
 -- ---- originations that are tried
 
 -- how many are tried where a job begins, and where it ends
-trying_begun : (jobs : Jobs) (q : ℕ) (job : Numbered Job) → q < length jobs → held_in jobs q ≡ None → trying_in (with_held jobs q (Some job)) ≡ trying_in jobs + tries (Some job)
+trying_begun : (jobs : Jobs) (q : ℕ) (job : Numbered Job) → q < length jobs → held_in jobs q ≡ None →
+    trying_in (with_held jobs q (Some job)) ≡ trying_in jobs + tries (Some job)
 trying_begun jobs q job within free =
-    let sums : trying_in (with_held jobs q (Some job)) + tries (held_in jobs q) ≡ trying_in jobs + tries (Some job) = sum_by-set tries jobs q (Some job) None within in
+    let sums : trying_in (with_held jobs q (Some job)) + tries (held_in jobs q) ≡ trying_in jobs + tries (Some job) =
+    sum_by-set tries jobs q (Some job) None within in
     let none : tries (held_in jobs q) ≡ 0 = ap tries free in
     omega (arith, sums, none)
 
-trying_ended : (jobs : Jobs) (q : ℕ) (job : Numbered Job) → held_in jobs q ≡ Some job → trying_in (with_held jobs q None) + tries (Some job) ≡ trying_in jobs
+trying_ended : (jobs : Jobs) (q : ℕ) (job : Numbered Job) → held_in jobs q ≡ Some job →
+    trying_in (with_held jobs q None) + tries (Some job) ≡ trying_in jobs
 trying_ended jobs q job stands =
-    let sums : trying_in (with_held jobs q None) + tries (held_in jobs q) ≡ trying_in jobs + tries None = sum_by-set tries jobs q None None (held_within jobs q job stands) in
+    let sums : trying_in (with_held jobs q None) + tries (held_in jobs q) ≡ trying_in jobs + tries None =
+    sum_by-set tries jobs q None None (held_within jobs q job stands) in
     let one : tries (held_in jobs q) ≡ tries (Some job) = ap tries stands in
     let zero_more : tries None ≡ 0 = refl in
     omega (arith, sums, one, zero_more)
 
 -- a job begins that tries nothing
-pub tries_slept : (jobs : Jobs) (origs : List (Option ℕ)) (drawn q : ℕ) (job : Numbered Job) → q < length jobs → held_in jobs q ≡ None → tried_by job.held.work ≡ None →
+pub tries_slept : (jobs : Jobs) (origs : List (Option ℕ)) (drawn q : ℕ) (job : Numbered Job) → q < length jobs → held_in jobs q ≡ None →
+    tried_by job.held.work ≡ None →
     Tries jobs origs drawn → Tries (with_held jobs q (Some job)) origs drawn
 tries_slept jobs origs drawn q job within free none h = record {
   there = λ r j number e t. there r j number (written_or_kept jobs q (Some job) r j e) t;
-  alone = λ r t x z number ex ez tx tz. alone r t x z number (written_or_kept jobs q (Some job) r x ex) (written_or_kept jobs q (Some job) t z ez) tx tz;
+  alone = λ r t x z number ex ez tx tz. alone r t x z number (written_or_kept jobs q (Some job) r x ex)
+      (written_or_kept jobs q (Some job) t z ez) tx tz;
   within = h.within;
   fewer = fewer;
   job_places = length-set jobs q (Some job) ∙ h.job_places;
@@ -282,7 +308,8 @@ tries_slept jobs origs drawn q job within free none h = record {
     no_number : (j : Numbered Job) (number : ℕ) → Some job ≡ Some j → tried_by j.held.work ≡ Some number → ⊥
     no_number j number e t = none-some number (sym none ∙ (ap (λ (y : Numbered Job). tried_by y.held.work) (same_Some job j e) ∙ t))
 
-    there : (r : ℕ) (j : Numbered Job) (number : ℕ) → IsWrittenOrKept jobs q (Some job) r j → tried_by j.held.work ≡ Some number → HasNumber origs number
+    there : (r : ℕ) (j : Numbered Job) (number : ℕ) → IsWrittenOrKept jobs q (Some job) r j → tried_by j.held.work ≡ Some number →
+        HasNumber origs number
     there r j number (inl begun) t = absurd (no_number j number begun.1 t)
     there r j number (inr before) t = h.there r j number before.1 t
 
@@ -304,7 +331,8 @@ pub tries_begun : (jobs : Jobs) (origs : List (Option ℕ)) (drawn q p : ℕ) (j
     Tries jobs origs drawn → Tries (with_held jobs q (Some job)) (with_held origs p (Some (drawn + 1))) (drawn + 1)
 tries_begun jobs origs drawn q p job within free orig_within orig_free new h = record {
   there = λ r j number e t. there r j number (written_or_kept jobs q (Some job) r j e) t;
-  alone = λ r t x z number ex ez tx tz. alone r t x z number (written_or_kept jobs q (Some job) r x ex) (written_or_kept jobs q (Some job) t z ez) tx tz;
+  alone = λ r t x z number ex ez tx tz. alone r t x z number (written_or_kept jobs q (Some job) r x ex)
+      (written_or_kept jobs q (Some job) t z ez) tx tz;
   within = λ k number e. most k number (written_or_kept origs p (Some (drawn + 1)) k number e);
   fewer = fewer;
   job_places = length-set jobs q (Some job) ∙ h.job_places;
@@ -312,7 +340,8 @@ tries_begun jobs origs drawn q p job within free orig_within orig_free new h = r
 }
   where
     number_of : (j : Numbered Job) (number : ℕ) → Some job ≡ Some j → tried_by j.held.work ≡ Some number → number ≡ drawn + 1
-    number_of j number e t = same_Some number (drawn + 1) (sym t ∙ (sym (ap (λ (y : Numbered Job). tried_by y.held.work) (same_Some job j e)) ∙ new))
+    number_of j number e t =
+        same_Some number (drawn + 1) (sym t ∙ (sym (ap (λ (y : Numbered Job). tried_by y.held.work) (same_Some job j e)) ∙ new))
 
     -- what was tried before was drawn before
     drawn_before : (r : ℕ) (j : Numbered Job) (number : ℕ) → held_in jobs r ≡ Some j → tried_by j.held.work ≡ Some number → number ≤ drawn
@@ -346,12 +375,14 @@ tries_begun jobs origs drawn q p job within free orig_within orig_free new h = r
     fewer =
         let more : trying_in (with_held jobs q (Some job)) ≡ trying_in jobs + tries (Some job) = trying_begun jobs q job within free in
         let one : tries (Some job) ≡ 1 = ap one_if new in
-        let taken : taken_in (with_held origs p (Some (drawn + 1))) ≡ taken_in origs + 1 = taken_more origs p (drawn + 1) orig_within orig_free in
+        let taken : taken_in (with_held origs p (Some (drawn + 1))) ≡ taken_in origs + 1 =
+        taken_more origs p (drawn + 1) orig_within orig_free in
         let before : taken_in origs ≤ trying_in jobs = h.fewer in
         omega (arith, more, one, taken, before)
 
 -- a job ends that tried nothing
-pub tries_woken : (jobs : Jobs) (origs : List (Option ℕ)) (drawn q : ℕ) (job : Numbered Job) → held_in jobs q ≡ Some job → tried_by job.held.work ≡ None →
+pub tries_woken : (jobs : Jobs) (origs : List (Option ℕ)) (drawn q : ℕ) (job : Numbered Job) → held_in jobs q ≡ Some job →
+    tried_by job.held.work ≡ None →
     Tries jobs origs drawn → Tries (with_held jobs q None) origs drawn
 tries_woken jobs origs drawn q job stands none h = record {
   there = λ r j number e t. h.there r j number (kept_without jobs q r j e).1 t;
@@ -370,7 +401,8 @@ tries_woken jobs origs drawn q job stands none h = record {
         omega (arith, less, zero_less, before)
 
 -- a job ends with the origination that it tried
-pub tries_ended : (jobs : Jobs) (origs : List (Option ℕ)) (drawn q p number : ℕ) (job : Numbered Job) → held_in jobs q ≡ Some job → tried_by job.held.work ≡ Some number →
+pub tries_ended : (jobs : Jobs) (origs : List (Option ℕ)) (drawn q p number : ℕ) (job : Numbered Job) → held_in jobs q ≡ Some job →
+    tried_by job.held.work ≡ Some number →
     held_in origs p ≡ Some number → Tries jobs origs drawn → Tries (with_held jobs q None) (with_held origs p None) drawn
 tries_ended jobs origs drawn q p number job stands tried orig_stands h = record {
   there = λ r j other e t. there r j other (kept_without jobs q r j e) t;
@@ -381,7 +413,8 @@ tries_ended jobs origs drawn q p number job stands tried orig_stands h = record 
   orig_places = length-set origs p None ∙ h.orig_places;
 }
   where
-    there : (r : ℕ) (j : Numbered Job) (other : ℕ) → (r ≢ q) × (held_in jobs r ≡ Some j) → tried_by j.held.work ≡ Some other → HasNumber (with_held origs p None) other
+    there : (r : ℕ) (j : Numbered Job) (other : ℕ) → (r ≢ q) × (held_in jobs r ≡ Some j) → tried_by j.held.work ≡ Some other →
+        HasNumber (with_held origs p None) other
     there r j other before t =
         let had : HasNumber origs other = h.there r j other before.1 t in
         let is : had.0 ≡ p → number ≡ other = λ at. one_there origs p had.0 number other orig_stands had.1 at in

@@ -77,18 +77,23 @@ moved_rest change slot s = by (chan_at s slot)
   where
     by : (chan : Option Chan) → rest_of (after_move_from change slot chan s) ≡ rest_of s
     by None = refl
-    by (Some c) = state_told_kept (λ (t : Switch). rest_of t ≡ rest_of s) (λ event t plain h. h) c.state (change c).state {s = with_chan slot (Some (change c)) s} refl
+    by (Some c) =
+        state_told_kept (λ (t : Switch). rest_of t ≡ rest_of s) (λ event t plain h. h) c.state
+        (change c).state {s = with_chan slot (Some (change c)) s} refl
 
 pub hung_rest : (cause : Cause) (slot : ℕ) (s : Switch) → rest_of (after_hangup cause slot s) ≡ rest_of s
 hung_rest cause slot s =
-    hung_kept (λ (t : Switch). rest_of t ≡ rest_of s) (λ event t plain h. h) (λ why place c t is h. h) (λ change number t h. orig_changed_rest change number t ∙ h) cause slot s refl
+    hung_kept (λ (t : Switch). rest_of t ≡ rest_of s) (λ event t plain h. h) (λ why place c t is h. h)
+    (λ change number t h. orig_changed_rest change number t ∙ h) cause slot s refl
 
 -- ---- facts on the rest
 
 -- a fact that holds wherever the rest is the same is kept by what happens to channels
 module _ (P : Fact) (same : (b : Stage) (t u : Switch) → P b t → rest_of u ≡ rest_of t → P b u) where
-  answers_same : (place slot number : ℕ) {b : Stage} {s : Switch} → P b s → P b (orig_changed (leg_changed (λ position. with_answer position place) slot) number s)
-  answers_same place slot number {b} {s} h = same b s _ h (orig_changed_rest (leg_changed (λ position. with_answer position place) slot) number s)
+  answers_same : (place slot number : ℕ) {b : Stage} {s : Switch} → P b s →
+      P b (orig_changed (leg_changed (λ position. with_answer position place) slot) number s)
+  answers_same place slot number {b} {s} h =
+      same b s _ h (orig_changed_rest (leg_changed (λ position. with_answer position place) slot) number s)
 
   hung_same : (cause : Cause) (slot : ℕ) {b : Stage} {s : Switch} → P b s → P b (after_hangup cause slot s)
   hung_same cause slot {b} {s} h = same b s _ h (hung_rest cause slot s)
@@ -121,11 +126,15 @@ won_rest winner slot s = moved_rest (won_by winner) slot s
 
 -- ---- a leg is made
 
-pub leg_made_rest : (endpoint : Text) (caller : Caller) (orig : ℕ) (s : Switch) → rest_of (leg_made endpoint caller orig s).state ≡ rest_of s
+pub leg_made_rest : (endpoint : Text) (caller : Caller) (orig : ℕ) (s : Switch) →
+    rest_of (leg_made endpoint caller orig s).state ≡ rest_of s
 leg_made_rest endpoint caller orig s =
-    leg_made_kept (SameRest s) (record { spent = λ h. h; more = λ below h. h; pair = λ call orig a b short first second h. h }) endpoint caller orig {n = 0} {s = s} refl
+    leg_made_kept (SameRest s)
+    (record { spent = λ h. h; more = λ below h. h; pair = λ call orig a b short first second h. h }) endpoint caller orig {n = 0}
+    {s = s} refl
 
 -- ---- a job is the one that it was
 
-pub does_same : {s t : Switch} {number conn : ℕ} {what : JobWork} → DoesJob s number conn what → rest_of t ≡ rest_of s → DoesJob t number conn what
+pub does_same : {s t : Switch} {number conn : ℕ} {what : JobWork} → DoesJob s number conn what → rest_of t ≡ rest_of s →
+    DoesJob t number conn what
 does_same {s} {t} {number} does same = record { there = ap (λ (r : Rest). row_of r.jobs number) same ∙ does.there }

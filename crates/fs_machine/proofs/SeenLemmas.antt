@@ -64,15 +64,18 @@ numbers_more n m x y below numbers = record { names = numbers.names; few = numbe
 
 -- no slot has an identifier that it had not
 numbers_put : (x : Seen) (slot : ℕ) (new : Option Chan) →
-    ((q : ℕ) (text : Text) → uuid_in (with_held x.channels slot new) q ≡ Some text → uuid_in x.channels q ≡ Some text) → Numbers 0 x (put slot new x)
+    ((q : ℕ) (text : Text) → uuid_in (with_held x.channels slot new) q ≡ Some text → uuid_in x.channels q ≡ Some text) →
+    Numbers 0 x (put slot new x)
 numbers_put x slot new had = record {
-  names = λ few h. naming_kept x.config.settings.core_uuid x.identifiers (uuid_in x.channels) (uuid_in (with_held x.channels slot new)) had h;
+  names = λ few h. naming_kept x.config.settings.core_uuid x.identifiers (uuid_in x.channels)
+      (uuid_in (with_held x.channels slot new)) had h;
   few = λ few. few;
   most = omega arith;
 }
 
 -- the same channel, changed
-pub numbers_same : (x : Seen) (slot : ℕ) (old new : Chan) → held_in x.channels slot ≡ Some old → new.uuid ≡ old.uuid → Numbers 0 x (put slot (Some new) x)
+pub numbers_same : (x : Seen) (slot : ℕ) (old new : Chan) → held_in x.channels slot ≡ Some old → new.uuid ≡ old.uuid →
+    Numbers 0 x (put slot (Some new) x)
 numbers_same x slot old new there same =
     numbers_put x slot (Some new)
     (at_each x.channels slot (Some new) (λ a b. (text : Text) → option_map uuid_of b ≡ Some text → option_map uuid_of a ≡ Some text)
@@ -90,7 +93,8 @@ numbers_gone x slot old there =
     (λ a text e. e))
 
 -- a channel under the next identifier
-pub numbers_new : (x : Seen) (slot : ℕ) (new : Chan) → slot < length x.channels → new.uuid ≡ uuid x.config.settings.core_uuid (min (x.identifiers + 1) (2 ^ 62 - 1)) →
+pub numbers_new : (x : Seen) (slot : ℕ) (new : Chan) → slot < length x.channels →
+    new.uuid ≡ uuid x.config.settings.core_uuid (min (x.identifiers + 1) (2 ^ 62 - 1)) →
     Numbers 1 x (record (put slot (Some new) x) { identifiers = min (x.identifiers + 1) (2 ^ 62 - 1) })
 numbers_new x slot new within named = record {
   names =

@@ -33,14 +33,16 @@ pub none_closed : (s : Switch) (conn : ℕ) → place_of s.conns conn ≡ None �
 none_closed s conn is = ap (λ found. is_closed (phase_of found)) (row_none s.conns conn is)
 
 -- what stands for a connection is open
-held_open : (held : Option (Numbered Conn)) (number : ℕ) → is_shut held ≡ false → has_number number held ≡ true → is_closed (phase_of (held_of held)) ≡ false
+held_open : (held : Option (Numbered Conn)) (number : ℕ) → is_shut held ≡ false → has_number number held ≡ true →
+    is_closed (phase_of (held_of held)) ≡ false
 held_open None number shut has = absurd (cc)
 held_open (Some row) number shut has = shut
 
 -- one that is there is open
 pub some_open : (s : Switch) (conn place : ℕ) → AreOpen s.conns → place_of s.conns conn ≡ Some place → is_closed (phase_at s conn) ≡ false
 some_open s conn place opened is =
-    ap (λ found. is_closed (phase_of found)) (row_at s.conns conn place is) ∙ held_open (held_in s.conns place) conn (opened place) (place_stands s.conns conn place is)
+    ap (λ found. is_closed (phase_of found)) (row_at s.conns conn place is)
+    ∙ held_open (held_in s.conns place) conn (opened place) (place_stands s.conns conn place is)
 
 -- ---- a step that keeps the connections
 
@@ -48,19 +50,24 @@ some_open s conn place opened is =
 pub keeps_ordered : {who : Option ℕ} {may_end : Bool} → (s t : Switch) → Keeps who may_end s t → Ordered s → Ordered t
 keeps_ordered s t keeps ordered = record {
   distinct = distinct_same s.conns t.conns keeps.numbers ordered.distinct;
-  within = λ number place stands. subst (λ bound. number ≤ bound) (sym keeps.drawn) (ordered.within number place (sym (keeps.numbers number place) ∙ stands));
+  within = λ number place stands. subst (λ bound. number ≤ bound) (sym keeps.drawn)
+      (ordered.within number place (sym (keeps.numbers number place) ∙ stands));
   opened = keeps.opened ordered.opened;
   places = ap length keeps.queues ∙ ordered.places ∙ sym keeps.places;
-  quiet = λ place free. ap (λ queues. queue_at queues place) keeps.queues ∙ ordered.quiet place (λ number. sym (keeps.numbers number place) ∙ free number);
+  quiet = λ place free. ap (λ queues. queue_at queues place) keeps.queues
+      ∙ ordered.quiet place (λ number. sym (keeps.numbers number place) ∙ free number);
 }
 
 -- the same frames wait
-pub keeps_waiting : {who : Option ℕ} {may_end : Bool} → (s t : Switch) → Keeps who may_end s t → (conn : ℕ) → waiting_for t conn ≡ waiting_for s conn
+pub keeps_waiting : {who : Option ℕ} {may_end : Bool} → (s t : Switch) → Keeps who may_end s t → (conn : ℕ) →
+    waiting_for t conn ≡ waiting_for s conn
 keeps_waiting s t keeps conn =
-    ap (λ queues. waiting_at queues (place_of t.conns conn)) keeps.queues ∙ ap (waiting_at s.queues) (places_same s.conns t.conns keeps.numbers conn)
+    ap (λ queues. waiting_at queues (place_of t.conns conn)) keeps.queues
+    ∙ ap (waiting_at s.queues) (places_same s.conns t.conns keeps.numbers conn)
 
 -- each connection has the same place
-pub keeps_place : {who : Option ℕ} {may_end : Bool} → (s t : Switch) → Keeps who may_end s t → (conn : ℕ) → place_of t.conns conn ≡ place_of s.conns conn
+pub keeps_place : {who : Option ℕ} {may_end : Bool} → (s t : Switch) → Keeps who may_end s t → (conn : ℕ) →
+    place_of t.conns conn ≡ place_of s.conns conn
 keeps_place s t keeps conn = places_same s.conns t.conns keeps.numbers conn
 
 -- ---- other queues
@@ -68,7 +75,8 @@ keeps_place s t keeps conn = places_same s.conns t.conns keeps.numbers conn
 -- ---- gifts
 
 -- all gifts, one after another
-all_given : (conns : List (Option (Numbered Conn))) (conn place : ℕ) (gifts : List Gift) (queues : List Frames) → place_of conns conn ≡ Some place → place < length queues →
+all_given : (conns : List (Option (Numbered Conn))) (conn place : ℕ) (gifts : List Gift) (queues : List Frames) →
+    place_of conns conn ≡ Some place → place < length queues →
     queue_at (delivered conns gifts queues) place ≡ queue_at queues place ++ frames_among conn gifts
 all_given conns conn place [] queues is within = sym (append-nil (queue_at queues place))
 all_given conns conn place (gift ∷ gifts) queues is within =
@@ -98,11 +106,13 @@ pub closed_waits : (cost : ℕ) (t : Switch) (conn : ℕ) → Ordered t →
     waiting_for (after_entry cost t) conn ≡ waiting_for t conn ++ given_in conn t
 closed_waits cost t conn ordered = by (place_of t.conns conn) refl
   where
-    by : (found : Option ℕ) → place_of t.conns conn ≡ found → waiting_at (delivered t.conns t.given t.queues) found ≡ waiting_at t.queues found ++ given_in conn t
+    by : (found : Option ℕ) → place_of t.conns conn ≡ found →
+        waiting_at (delivered t.conns t.given t.queues) found ≡ waiting_at t.queues found ++ given_in conn t
     by None is = sym (none_given t conn is)
     by (Some place) is =
         all_given t.conns conn place t.given t.queues is (subst (λ n. place < n) (sym ordered.places) (place_within t.conns conn place is))
-        ∙ ap (λ b. queue_at t.queues place ++ (if b then [] else frames_among conn t.given)) (sym (some_open t conn place ordered.opened is))
+        ∙ ap (λ b. queue_at t.queues place ++ (if b then [] else frames_among conn t.given))
+        (sym (some_open t conn place ordered.opened is))
 
 -- where no gift is nothing is given
 pub nothing_given : (t : Switch) (conn : ℕ) → t.given ≡ [] → given_in conn t ≡ []
@@ -114,7 +124,8 @@ nothing_given t conn none =
 pub closed_quietly : (cost : ℕ) (t : Switch) (conn : ℕ) → Ordered t → t.given ≡ [] →
     waiting_for (after_entry cost t) conn ≡ waiting_for t conn
 closed_quietly cost t conn ordered none =
-    closed_waits cost t conn ordered ∙ ap (λ frames. waiting_for t conn ++ frames) (nothing_given t conn none) ∙ append-nil (waiting_for t conn)
+    closed_waits cost t conn ordered ∙ ap (λ frames. waiting_for t conn ++ frames) (nothing_given t conn none)
+    ∙ append-nil (waiting_for t conn)
 
 -- ---- a frame is taken
 
@@ -123,7 +134,8 @@ taken_ordered taker s ordered = record {
   distinct = ordered.distinct;
   within = ordered.within;
   opened = ordered.opened;
-  places = changed_length without_first_frame (λ place queues. length-set queues place (drop 1 (queue_at queues place))) (place_of s.conns taker) s.queues ∙ ordered.places;
+  places = changed_length without_first_frame (λ place queues. length-set queues place (drop 1 (queue_at queues place)))
+      (place_of s.conns taker) s.queues ∙ ordered.places;
   quiet = quiet_taken s.conns s.queues taker (place_of s.conns taker) refl ordered.quiet;
 }
 
@@ -131,10 +143,12 @@ taken_ordered taker s ordered = record {
 pub taken_same : (conn : ℕ) (s : Switch) → Ordered s → waiting_for (with_frame_taken conn s) conn ≡ drop 1 (waiting_for s conn)
 taken_same conn s ordered = by (place_of s.conns conn) refl
   where
-    by : (found : Option ℕ) → place_of s.conns conn ≡ found → waiting_at (changed_at without_first_frame found s.queues) found ≡ drop 1 (waiting_at s.queues found)
+    by : (found : Option ℕ) → place_of s.conns conn ≡ found →
+        waiting_at (changed_at without_first_frame found s.queues) found ≡ drop 1 (waiting_at s.queues found)
     by None is = refl
     by (Some place) is =
-        get_or-set_same s.queues place (drop 1 (queue_at s.queues place)) [] (subst (λ n. place < n) (sym ordered.places) (place_within s.conns conn place is))
+        get_or-set_same s.queues place (drop 1 (queue_at s.queues place)) []
+        (subst (λ n. place < n) (sym ordered.places) (place_within s.conns conn place is))
 
 -- and for all others what waited
 pub taken_other : (taker conn : ℕ) (s : Switch) → (taker ≡ conn → ⊥) → waiting_for (with_frame_taken taker s) conn ≡ waiting_for s conn
@@ -145,7 +159,8 @@ taken_other taker conn s differ = by (place_of s.conns taker) (place_of s.conns 
     by None found is_there is = refl
     by (Some place) None is_there is = refl
     by (Some place) (Some mine) is_there is =
-        get_or-set_other s.queues place mine (drop 1 (queue_at s.queues place)) [] (λ same. differ (sym (places_apart s.conns conn taker mine place is is_there same)))
+        get_or-set_other s.queues place mine (drop 1 (queue_at s.queues place)) []
+        (λ same. differ (sym (places_apart s.conns conn taker mine place is is_there same)))
 
 -- ---- a connection goes
 
@@ -162,7 +177,8 @@ without_ordered gone s ordered = record {
 
 -- nothing waits for it any more
 pub without_same : (gone : ℕ) (s : Switch) → Ordered s → waiting_for (without_conn gone s) gone ≡ []
-without_same gone s ordered = ap (waiting_at (changed_at without_frames (place_of s.conns gone) s.queues)) (place_of-without_row_same s.conns gone ordered.distinct)
+without_same gone s ordered =
+    ap (waiting_at (changed_at without_frames (place_of s.conns gone) s.queues)) (place_of-without_row_same s.conns gone ordered.distinct)
 
 -- for all others waits what waited
 pub without_other : (gone conn : ℕ) (s : Switch) → (gone ≡ conn → ⊥) → waiting_for (without_conn gone s) conn ≡ waiting_for s conn
@@ -185,45 +201,58 @@ number_above drawn room = omega arith
 
 -- so no connection has it
 pub number_new : (s : Switch) → Ordered s → s.drawn.conns < 2 ^ 32 - 1 → place_of s.conns (numbers.with_conn s.drawn).conns ≡ None
-number_new s ordered room = above_nowhere s.conns s.drawn.conns (numbers.with_conn s.drawn).conns ordered.within (number_above s.drawn.conns room)
+number_new s ordered room =
+    above_nowhere s.conns s.drawn.conns (numbers.with_conn s.drawn).conns ordered.within (number_above s.drawn.conns room)
 
 pub arrived_ordered : (s : Switch) → Ordered s → s.drawn.conns < 2 ^ 32 - 1 → Ordered (arrived s).state
 arrived_ordered s ordered room = record {
   distinct = distinct-with_new_row s.conns (numbers.with_conn s.drawn).conns new_conn ordered.distinct (number_new s ordered room);
   within = within-with_new_row s.conns (numbers.with_conn s.drawn).conns new_conn (numbers.with_conn s.drawn).conns
       (λ number place stands. omega (arith, ordered.within number place stands, number_above s.drawn.conns room)) (omega arith);
-  opened = each_put_at (λ held. is_shut held ≡ false) s.conns (Some (record { number = (numbers.with_conn s.drawn).conns; held = new_conn })) (least_free s.conns 0) ordered.opened refl;
-  places = ordered.places ∙ sym (length_put_at s.conns (Some (record { number = (numbers.with_conn s.drawn).conns; held = new_conn })) (least_free s.conns 0));
+  opened =
+      each_put_at (λ held. is_shut held ≡ false) s.conns (Some (record { number = (numbers.with_conn s.drawn).conns; held = new_conn }))
+      (least_free s.conns 0) ordered.opened refl;
+  places = ordered.places
+      ∙ sym (length_put_at s.conns (Some (record { number = (numbers.with_conn s.drawn).conns; held = new_conn })) (least_free s.conns 0));
   quiet = λ place free. ordered.quiet place (new_free s.conns (numbers.with_conn s.drawn).conns new_conn place free);
 }
 
 -- nothing waits for it yet but what the entry gives
-pub arrived_waits : (s : Switch) (conn : ℕ) → Ordered s → s.drawn.conns < 2 ^ 32 - 1 → waiting_for (arrived s).state conn ≡ waiting_for s conn
+pub arrived_waits : (s : Switch) (conn : ℕ) → Ordered s → s.drawn.conns < 2 ^ 32 - 1 →
+    waiting_for (arrived s).state conn ≡ waiting_for s conn
 arrived_waits s conn ordered room = by (cases_eq (numbers.with_conn s.drawn).conns conn)
   where
     new : place_of s.conns (numbers.with_conn s.drawn).conns ≡ None
     new = number_new s ordered room
 
-    nothing : (found : Option ℕ) → place_of (with_new_row s.conns (numbers.with_conn s.drawn).conns new_conn) (numbers.with_conn s.drawn).conns ≡ found → waiting_at s.queues found ≡ []
+    nothing : (found : Option ℕ) →
+        place_of (with_new_row s.conns (numbers.with_conn s.drawn).conns new_conn) (numbers.with_conn s.drawn).conns ≡ found →
+        waiting_at s.queues found ≡ []
     nothing None is = refl
     nothing (Some place) is =
         ordered.quiet place (new_stands s.conns (numbers.with_conn s.drawn).conns new_conn place new
         (place_stands (with_new_row s.conns (numbers.with_conn s.drawn).conns new_conn) (numbers.with_conn s.drawn).conns place is))
 
-    by : ((numbers.with_conn s.drawn).conns ≡ conn) ⊎ ((numbers.with_conn s.drawn).conns ≡ conn → ⊥) → waiting_for (arrived s).state conn ≡ waiting_for s conn
+    by : ((numbers.with_conn s.drawn).conns ≡ conn) ⊎ ((numbers.with_conn s.drawn).conns ≡ conn → ⊥) →
+        waiting_for (arrived s).state conn ≡ waiting_for s conn
     by (inl same) = subst (λ number. waiting_for (arrived s).state number ≡ waiting_for s number) same
-        (nothing (place_of (with_new_row s.conns (numbers.with_conn s.drawn).conns new_conn) (numbers.with_conn s.drawn).conns) refl ∙ sym (ap (waiting_at s.queues) new))
+        (nothing (place_of (with_new_row s.conns (numbers.with_conn s.drawn).conns new_conn) (numbers.with_conn s.drawn).conns) refl
+        ∙ sym (ap (waiting_at s.queues) new))
     by (inr differ) = ap (waiting_at s.queues) (place_of-with_new_row_other s.conns (numbers.with_conn s.drawn).conns new_conn conn differ)
 
 -- one that had a smaller number, and is gone, stays so
-pub arrived_gone : (s : Switch) (conn : ℕ) → s.drawn.conns < 2 ^ 32 - 1 → place_of s.conns conn ≡ None → conn ≤ s.drawn.conns → place_of (arrived s).state.conns conn ≡ None
+pub arrived_gone : (s : Switch) (conn : ℕ) → s.drawn.conns < 2 ^ 32 - 1 → place_of s.conns conn ≡ None → conn ≤ s.drawn.conns →
+    place_of (arrived s).state.conns conn ≡ None
 arrived_gone s conn room none below =
-    place_of-with_new_row_other s.conns (numbers.with_conn s.drawn).conns new_conn conn (λ same. omega (arith, number_above s.drawn.conns room, below, same)) ∙ none
+    place_of-with_new_row_other s.conns (numbers.with_conn s.drawn).conns new_conn conn
+    (λ same. omega (arith, number_above s.drawn.conns room, below, same)) ∙ none
 
 -- one that is gone stays so when another goes
-pub without_gone : (gone : ℕ) (s : Switch) (conn : ℕ) → Ordered s → place_of s.conns conn ≡ None → place_of (without_conn gone s).conns conn ≡ None
+pub without_gone : (gone : ℕ) (s : Switch) (conn : ℕ) → Ordered s → place_of s.conns conn ≡ None →
+    place_of (without_conn gone s).conns conn ≡ None
 without_gone gone s conn ordered none = by (cases_eq gone conn)
   where
     by : (gone ≡ conn) ⊎ (gone ≡ conn → ⊥) → place_of (without_conn gone s).conns conn ≡ None
-    by (inl same) = subst (λ number. place_of (without_conn gone s).conns number ≡ None) same (place_of-without_row_same s.conns gone ordered.distinct)
+    by (inl same) =
+        subst (λ number. place_of (without_conn gone s).conns number ≡ None) same (place_of-without_row_same s.conns gone ordered.distinct)
     by (inr differ) = place_of-without_row_other s.conns gone conn differ ∙ none

@@ -13,7 +13,6 @@ use Rattle.fs_orig.specs.declared.verdict.Verdict.TheVariants as verdict
 use Rattle.fs_orig.specs.Legs.{living_slots}
 use Rattle.fs_orig.specs.Changes.{new_orig}
 use Rattle.fs_orig.specs.Verdicts.{verdict_of}
-use Rattle.fs_state.specs.declared.job.Job.{Job}
 use Rattle.fs_state.specs.declared.job.JobWork.TheVariants.{Originate}
 use Rattle.fs_state.specs.Switch.{Switch, next_orig_number, next_job_number, with_new_orig, without_orig}
 use Rattle.fs_state.specs.Moves.{after_hangup}

@@ -57,7 +57,8 @@ pub record IsChannelOf (s : Switch) (number : ℕ) (leg : OrigLeg) : Type 0 wher
 -- each living leg of an origination is a live channel that names the origination, and no two are the same one
 pub record LegsAreChannels (s : Switch) : Type 0 where
   pub each : (number : ℕ) (leg : OrigLeg) → HasLeg s number leg → IsChannelOf s number leg
-  pub apart : (number : ℕ) (leg other : OrigLeg) (one : HasLeg s number leg) (two : HasLeg s number other) → leg.slot ≡ other.slot → one.position ≡ two.position
+  pub apart : (number : ℕ) (leg other : OrigLeg) (one : HasLeg s number leg) (two : HasLeg s number other) → leg.slot ≡ other.slot →
+      one.position ≡ two.position
 
 -- what holds of the state of every machine
 pub record IsSound (s : Switch) : Type 0 where

@@ -19,8 +19,10 @@ lesser_assoc (Some a) (Some b) None = refl
 lesser_assoc (Some a) (Some b) (Some c) = ap Some (omega arith)
 
 -- the thing at a place is looked at, and then those behind it
-pub least_next : {T : Type 0} → (number : T → Option ℕ) (things : List T) (place : ℕ) (default : T) (so_far : Option ℕ) → place < length things →
-    lesser so_far (least_of number (drop place things)) ≡ lesser (lesser so_far (number (get_or things place default))) (least_of number (drop (place + 1) things))
+pub least_next : {T : Type 0} → (number : T → Option ℕ) (things : List T) (place : ℕ) (default : T) (so_far : Option ℕ) →
+    place < length things →
+    lesser so_far (least_of number (drop place things)) ≡ lesser (lesser so_far (number (get_or things place default)))
+    (least_of number (drop (place + 1) things))
 least_next number things place default so_far within =
     at_drop_more (λ left. lesser so_far (least_of number left)) things place default within
     ∙ lesser_assoc so_far (number (get_or things place default)) (least_of number (drop (place + 1) things))
@@ -32,21 +34,27 @@ least_done number things place so_far past =
     at_drop_all (λ left. lesser so_far (least_of number left)) things place past ∙ lesser_none so_far
 
 -- nothing stands any more
-none_here : {T : Type 0} → (number : Option T → Option ℕ) (places : List (Option T)) (at : ℕ) (least : Option ℕ) (over : Bool) → leb (length places) at ≡ over → number None ≡ None → IsEmptyFrom at places →
+none_here : {T : Type 0} → (number : Option T → Option ℕ) (places : List (Option T)) (at : ℕ) (least : Option ℕ) (over : Bool) →
+    leb (length places) at ≡ over → number None ≡ None → IsEmptyFrom at places →
     lesser least (least_of number (drop (at + 1) places)) ≡ least → lesser least (least_of number (drop at places)) ≡ least
 none_here number places at least true is none empty behind = least_done number places at least (leb-true (length places) at is)
 none_here number places at least false is none empty behind =
-    let here : lesser least (number (get_or places at None)) ≡ least = ap (λ held. lesser least (number held)) (empty.each at (omega arith)) ∙ ap (lesser least) none ∙ lesser_none least in
-    least_next number places at None least (leb-false (length places) at is) ∙ ap (λ so. lesser so (least_of number (drop (at + 1) places))) here ∙ behind
+    let here : lesser least (number (get_or places at None)) ≡ least = ap (λ held. lesser least (number held)) (empty.each at (omega arith))
+    ∙ ap (lesser least) none ∙ lesser_none least in
+    least_next number places at None least (leb-false (length places) at is)
+    ∙ ap (λ so. lesser so (least_of number (drop (at + 1) places))) here ∙ behind
 
-none_down : {T : Type 0} → (number : Option T → Option ℕ) (places : List (Option T)) (left at : ℕ) (least : Option ℕ) → length places ≤ at + left → number None ≡ None → IsEmptyFrom at places →
+none_down : {T : Type 0} → (number : Option T → Option ℕ) (places : List (Option T)) (left at : ℕ) (least : Option ℕ) →
+    length places ≤ at + left → number None ≡ None → IsEmptyFrom at places →
     lesser least (least_of number (drop at places)) ≡ least
 none_down number places zero at least past none empty = least_done number places at least (omega (arith, past))
 none_down number places (suc left) at least past none empty =
     none_here number places at least (leb (length places) at) refl none empty
-    (none_down number places left (at + 1) least (omega (arith, past)) none (record { each = λ place behind. empty.each place (omega (arith, behind)) }))
+    (none_down number places left (at + 1) least (omega (arith, past)) none
+    (record { each = λ place behind. empty.each place (omega (arith, behind)) }))
 
-pub least_empty : {T : Type 0} → (number : Option T → Option ℕ) (places : List (Option T)) (place : ℕ) (so_far : Option ℕ) → number None ≡ None → IsEmptyFrom place places →
+pub least_empty : {T : Type 0} → (number : Option T → Option ℕ) (places : List (Option T)) (place : ℕ) (so_far : Option ℕ) →
+    number None ≡ None → IsEmptyFrom place places →
     lesser so_far (least_of number (drop place places)) ≡ so_far
 least_empty number places place so_far none empty = none_down number places (length places) place so_far (omega arith) none empty
 
@@ -72,20 +80,25 @@ lesser_never (Some a) None is = absurd (cc is)
 lesser_never (Some a) (Some b) is = absurd (cc is)
 
 -- the least is that of something at a place
-pub least_held : {T : Type 0} → (number : Option T → Option ℕ) (things : List (Option T)) (n : ℕ) → least_of number things ≡ Some n → (place : ℕ) × (number (held_in things place) ≡ Some n)
+pub least_held : {T : Type 0} → (number : Option T → Option ℕ) (things : List (Option T)) (n : ℕ) → least_of number things ≡ Some n →
+    (place : ℕ) × (number (held_in things place) ≡ Some n)
 least_held number [] n is = absurd (none-some n is)
-least_held {T} number (thing ∷ things) n is = by (lesser_is (number thing) (least_of number things) n is) (λ there. least_held number things n there)
+least_held {T} number (thing ∷ things) n is =
+    by (lesser_is (number thing) (least_of number things) n is) (λ there. least_held number things n there)
   where
-    by : (number thing ≡ Some n) ⊎ (least_of number things ≡ Some n) → (least_of number things ≡ Some n → (place : ℕ) × (number (held_in things place) ≡ Some n)) →
+    by : (number thing ≡ Some n) ⊎ (least_of number things ≡ Some n) →
+        (least_of number things ≡ Some n → (place : ℕ) × (number (held_in things place) ≡ Some n)) →
         (place : ℕ) × (number (held_in (thing ∷ things) place) ≡ Some n)
     by (inl here) more = (zero, here)
     by (inr there) more = let found = more there in (suc found.0, found.1)
 
 -- without one nothing has a number
-pub least_never : {T : Type 0} → (number : Option T → Option ℕ) (things : List (Option T)) → number None ≡ None → least_of number things ≡ None → (place : ℕ) → number (held_in things place) ≡ None
+pub least_never : {T : Type 0} → (number : Option T → Option ℕ) (things : List (Option T)) → number None ≡ None →
+    least_of number things ≡ None → (place : ℕ) → number (held_in things place) ≡ None
 least_never number [] none is place = none
 least_never number (thing ∷ things) none is zero = (lesser_never (number thing) (least_of number things) is).0
-least_never number (thing ∷ things) none is (suc place) = least_never number things none (lesser_never (number thing) (least_of number things) is).1 place
+least_never number (thing ∷ things) none is (suc place) =
+    least_never number things none (lesser_never (number thing) (least_of number things) is).1 place
 
 -- ---- all are greater than a number
 
@@ -98,6 +111,7 @@ lesser_after k None b ha hb n e = hb n e
 lesser_after k (Some a) None ha hb n e = ha n e
 lesser_after k (Some a) (Some b) ha hb n e = omega (arith, ha a refl, hb b refl, ap (λ found. unwrap_or found 0) e)
 
-pub least_after : {T : Type 0} → (k : ℕ) (number : T → Option ℕ) → ((x : T) → IsAfter k (number x)) → (xs : List T) → IsAfter k (least_of number xs)
+pub least_after : {T : Type 0} → (k : ℕ) (number : T → Option ℕ) → ((x : T) → IsAfter k (number x)) → (xs : List T) →
+    IsAfter k (least_of number xs)
 least_after k number each [] n e = absurd (cc)
 least_after k number each (x ∷ xs) n e = lesser_after k (number x) (least_of number xs) (each x) (least_after k number each xs) n e

@@ -11,30 +11,37 @@ pub record Numbers {T : Type 0} (rows : List (Option (Numbered T))) (drawn : ℕ
   pub within : (p : ℕ) (a : Numbered T) → held_in rows p ≡ Some a → a.number ≤ drawn
 
 -- a thing is changed, and keeps its number
-pub numbers_changed : {T : Type 0} → (rows : List (Option (Numbered T))) (drawn p : ℕ) (old new : Numbered T) → held_in rows p ≡ Some old → new.number ≡ old.number →
+pub numbers_changed : {T : Type 0} → (rows : List (Option (Numbered T))) (drawn p : ℕ) (old new : Numbered T) → held_in rows p ≡ Some old →
+    new.number ≡ old.number →
     Numbers rows drawn → Numbers (with_held rows p (Some new)) drawn
 numbers_changed {T} rows drawn p old new there same h = record {
-  apart = λ q r x z ex ez e. h.apart q r (was q x ex).0 (was r z ez).0 (was q x ex).1 (was r z ez).1 ((was q x ex).2 ∙ (e ∙ sym (was r z ez).2));
+  apart = λ q r x z ex ez e. h.apart q r (was q x ex).0 (was r z ez).0 (was q x ex).1 (was r z ez).1
+      ((was q x ex).2 ∙ (e ∙ sym (was r z ez).2));
   within = λ q x e. subst (λ (n : ℕ). n ≤ drawn) (was q x e).2 (h.within q (was q x e).0 (was q x e).1);
 }
   where
-    by : (q : ℕ) (x : Numbered T) → IsWrittenOrKept rows p (Some new) q x → (y : Numbered T) × (held_in rows q ≡ Some y) × (y.number ≡ x.number)
-    by q x (inl here) = (old, ap (λ (k : ℕ). held_in rows k) here.0 ∙ there, sym same ∙ ap (λ (y : Numbered T). y.number) (same_Some new x here.1))
+    by : (q : ℕ) (x : Numbered T) → IsWrittenOrKept rows p (Some new) q x →
+        (y : Numbered T) × (held_in rows q ≡ Some y) × (y.number ≡ x.number)
+    by q x (inl here) =
+        (old, ap (λ (k : ℕ). held_in rows k) here.0 ∙ there, sym same ∙ ap (λ (y : Numbered T). y.number) (same_Some new x here.1))
     by q x (inr kept) = (x, kept.1, refl)
 
     -- what stands there had its number before
-    was : (q : ℕ) (x : Numbered T) → held_in (with_held rows p (Some new)) q ≡ Some x → (y : Numbered T) × (held_in rows q ≡ Some y) × (y.number ≡ x.number)
+    was : (q : ℕ) (x : Numbered T) → held_in (with_held rows p (Some new)) q ≡ Some x →
+        (y : Numbered T) × (held_in rows q ≡ Some y) × (y.number ≡ x.number)
     was q x e = by q x (written_or_kept rows p (Some new) q x e)
 
 -- a thing is gone
-pub numbers_gone : {T : Type 0} → (rows : List (Option (Numbered T))) (drawn p : ℕ) → Numbers rows drawn → Numbers (with_held rows p None) drawn
+pub numbers_gone : {T : Type 0} → (rows : List (Option (Numbered T))) (drawn p : ℕ) → Numbers rows drawn →
+    Numbers (with_held rows p None) drawn
 numbers_gone rows drawn p h = record {
   apart = λ q r x z ex ez e. h.apart q r x z (kept_without rows p q x ex).1 (kept_without rows p r z ez).1 e;
   within = λ q x e. h.within q x (kept_without rows p q x e).1;
 }
 
 -- a thing comes, of the next number
-pub numbers_come : {T : Type 0} → (rows : List (Option (Numbered T))) (drawn p : ℕ) (new : Numbered T) → new.number ≡ drawn + 1 → Numbers rows drawn → Numbers (with_held rows p (Some new)) (drawn + 1)
+pub numbers_come : {T : Type 0} → (rows : List (Option (Numbered T))) (drawn p : ℕ) (new : Numbered T) → new.number ≡ drawn + 1 →
+    Numbers rows drawn → Numbers (with_held rows p (Some new)) (drawn + 1)
 numbers_come {T} rows drawn p new fresh h = record {
   apart = λ q r x z ex ez e. apart q r x z (written_or_kept rows p (Some new) q x ex) (written_or_kept rows p (Some new) r z ez) e;
   within = λ q x e. within q x (written_or_kept rows p (Some new) q x e);

@@ -1,5 +1,5 @@
 -- What stands in the queues once gifts are delivered, a frame is taken or a connection goes.
-use Rattle.std.proofs.Common.{◌≡◌, ℕ, zero, suc, ◌<◌, ◌==◌, Bool, true, false, if◌then◌else◌, List, [], ◌∷◌, ◌++◌, length, take, drop, replicate, Option, None, Some, unwrap_or, slice_get, ◌⊎◌, inl, inr, refl, sym, ap, subst, ◌∙◌, append-nil}
+use Rattle.std.proofs.Common.{◌≡◌, ℕ, zero, suc, ◌<◌, ◌==◌, Bool, true, false, if◌then◌else◌, List, [], ◌∷◌, ◌++◌, length, take, drop, Option, None, Some, unwrap_or, slice_get, ◌⊎◌, inl, inr, refl, sym, ap, subst, ◌∙◌, append-nil}
 use Rattle.std.specs.List.{concat}
 use Rattle.std.proofs.lemmas.List.{get_or-set_same, get_or-set_other, length-set, length-replicate}
 use Rattle.std.proofs.lemmas.Bool.{eqb-true, eqb-false, cases_eq}
@@ -23,7 +23,8 @@ abbrev pub AreQuiet : List (Option (Numbered Conn)) → List Frames → Type 0
 AreQuiet conns queues = (place : ℕ) → IsFree conns place → queue_at queues place ≡ []
 
 -- the queue of a connection may change
-pub quiet_put : (conns : List (Option (Numbered Conn))) (queues : List Frames) (number place : ℕ) (queue : Frames) → place_of conns number ≡ Some place →
+pub quiet_put : (conns : List (Option (Numbered Conn))) (queues : List Frames) (number place : ℕ) (queue : Frames) →
+    place_of conns number ≡ Some place →
     AreQuiet conns queues → AreQuiet conns (with_queue place queue queues)
 quiet_put conns queues number place queue is quiet free empty =
     get_or-set_other queues place free queue [] (free_apart conns number place free is empty) ∙ quiet free empty
@@ -36,7 +37,8 @@ unfolding no_queues no_places
 as_many T count = length-replicate {A = Frames} count [] ∙ sym (length-replicate {A = Option T} count None)
 
 -- no change takes a queue away
-pub changed_length : (change : ℕ → List Frames → List Frames) → ((place : ℕ) (queues : List Frames) → length (change place queues) ≡ length queues) →
+pub changed_length : (change : ℕ → List Frames → List Frames) →
+    ((place : ℕ) (queues : List Frames) → length (change place queues) ≡ length queues) →
     (found : Option ℕ) (queues : List Frames) → length (changed_at change found queues) ≡ length queues
 changed_length change each None queues = refl
 changed_length change each (Some place) queues = each place queues
@@ -46,10 +48,12 @@ pub given_length : (found : Option ℕ) (frames : Frames) (queues : List Frames)
 given_length None frames queues = refl
 given_length (Some place) frames queues = length-set queues place (queue_at queues place ++ frames)
 
-pub delivered_length : (conns : List (Option (Numbered Conn))) (gifts : List Gift) (queues : List Frames) → length (delivered conns gifts queues) ≡ length queues
+pub delivered_length : (conns : List (Option (Numbered Conn))) (gifts : List Gift) (queues : List Frames) →
+    length (delivered conns gifts queues) ≡ length queues
 delivered_length conns [] queues = refl
 delivered_length conns (gift ∷ gifts) queues =
-    delivered_length conns gifts (with_frames_at (place_of conns gift.conn) gift.frames queues) ∙ given_length (place_of conns gift.conn) gift.frames queues
+    delivered_length conns gifts (with_frames_at (place_of conns gift.conn) gift.frames queues)
+    ∙ given_length (place_of conns gift.conn) gift.frames queues
 
 -- ---- queues without a connection
 
@@ -64,22 +68,27 @@ queue_emptied (queue ∷ queues) zero = refl
 queue_emptied (queue ∷ queues) (suc put) = queue_emptied queues put
 
 -- a gift goes to no place without a connection
-pub quiet_given : (conns : List (Option (Numbered Conn))) (queues : List Frames) (number : ℕ) (frames : Frames) (found : Option ℕ) → place_of conns number ≡ found →
+pub quiet_given : (conns : List (Option (Numbered Conn))) (queues : List Frames) (number : ℕ) (frames : Frames) (found : Option ℕ) →
+    place_of conns number ≡ found →
     AreQuiet conns queues → AreQuiet conns (with_frames_at found frames queues)
 quiet_given conns queues number frames None is quiet free empty = quiet free empty
-quiet_given conns queues number frames (Some place) is quiet free empty = quiet_put conns queues number place (queue_at queues place ++ frames) is quiet free empty
+quiet_given conns queues number frames (Some place) is quiet free empty =
+    quiet_put conns queues number place (queue_at queues place ++ frames) is quiet free empty
 
-pub quiet_delivered : (conns : List (Option (Numbered Conn))) (gifts : List Gift) (queues : List Frames) → AreQuiet conns queues → AreQuiet conns (delivered conns gifts queues)
+pub quiet_delivered : (conns : List (Option (Numbered Conn))) (gifts : List Gift) (queues : List Frames) → AreQuiet conns queues →
+    AreQuiet conns (delivered conns gifts queues)
 quiet_delivered conns [] queues quiet free empty = quiet free empty
 quiet_delivered conns (gift ∷ gifts) queues quiet free empty =
     quiet_delivered conns gifts (with_frames_at (place_of conns gift.conn) gift.frames queues)
     (quiet_given conns queues gift.conn gift.frames (place_of conns gift.conn) refl quiet) free empty
 
 -- the place from which a frame is taken has a connection
-pub quiet_taken : (conns : List (Option (Numbered Conn))) (queues : List Frames) (number : ℕ) (found : Option ℕ) → place_of conns number ≡ found →
+pub quiet_taken : (conns : List (Option (Numbered Conn))) (queues : List Frames) (number : ℕ) (found : Option ℕ) →
+    place_of conns number ≡ found →
     AreQuiet conns queues → AreQuiet conns (changed_at without_first_frame found queues)
 quiet_taken conns queues number None is quiet free empty = quiet free empty
-quiet_taken conns queues number (Some place) is quiet free empty = quiet_put conns queues number place (drop 1 (queue_at queues place)) is quiet free empty
+quiet_taken conns queues number (Some place) is quiet free empty =
+    quiet_put conns queues number place (drop 1 (queue_at queues place)) is quiet free empty
 
 -- the place that is left is quiet
 pub quiet_less : (conns : List (Option (Numbered Conn))) (queues : List Frames) (found : Option ℕ) → AreQuiet conns queues →
@@ -94,11 +103,14 @@ quiet_less conns queues (Some put) quiet place free = by (cases_eq place put)
 -- ---- a gift
 
 -- a gift waits behind what waits for its connection, and for no other
-pub one_given : (conns : List (Option (Numbered Conn))) (queues : List Frames) (conn place : ℕ) (gift : Gift) → place_of conns conn ≡ Some place → place < length queues →
-    queue_at (with_frames_at (place_of conns gift.conn) gift.frames queues) place ≡ queue_at queues place ++ (if gift.conn == conn then gift.frames else [])
+pub one_given : (conns : List (Option (Numbered Conn))) (queues : List Frames) (conn place : ℕ) (gift : Gift) →
+    place_of conns conn ≡ Some place → place < length queues →
+    queue_at (with_frames_at (place_of conns gift.conn) gift.frames queues) place ≡ queue_at queues
+    place ++ (if gift.conn == conn then gift.frames else [])
 one_given conns queues conn place gift is within = by (gift.conn == conn) refl
   where
-    other : (found : Option ℕ) → place_of conns gift.conn ≡ found → (gift.conn == conn) ≡ false → queue_at (with_frames_at found gift.frames queues) place ≡ queue_at queues place ++ []
+    other : (found : Option ℕ) → place_of conns gift.conn ≡ found → (gift.conn == conn) ≡ false →
+        queue_at (with_frames_at found gift.frames queues) place ≡ queue_at queues place ++ []
     other None there e = sym (append-nil (queue_at queues place))
     other (Some others) there e =
         get_or-set_other queues others place (queue_at queues others ++ gift.frames) []

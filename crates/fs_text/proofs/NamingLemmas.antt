@@ -26,7 +26,8 @@ naming_none core drawn U none = record {
     no_name a text e = let nothing : U a ≡ None = none a in cc
 
 -- what slots have, they had
-pub naming_kept : (core drawn : ℕ) (U V : ℕ → Option (List ℕ)) → ((q : ℕ) (text : List ℕ) → V q ≡ Some text → U q ≡ Some text) → Naming core drawn U → Naming core drawn V
+pub naming_kept : (core drawn : ℕ) (U V : ℕ → Option (List ℕ)) → ((q : ℕ) (text : List ℕ) → V q ≡ Some text → U q ≡ Some text) →
+    Naming core drawn U → Naming core drawn V
 naming_kept core drawn U V had h = record {
   known = λ a text e. h.known a text (had a text e);
   once = λ a b text here there. h.once a b text (had a text here) (had b text there);
@@ -53,7 +54,8 @@ naming_more core drawn more slot U V later small new others h = record {
         let same : more ≡ old.number = uuid_tells core more old.number small (omega (arith, old.so_far, later)) old.is in
         omega (arith, old.so_far, later, same)
 
-    once_by : (a b : ℕ) (text : List ℕ) → (a ≡ slot) ⊎ (a ≡ slot → ⊥) → (b ≡ slot) ⊎ (b ≡ slot → ⊥) → V a ≡ Some text → V b ≡ Some text → a ≡ b
+    once_by : (a b : ℕ) (text : List ℕ) → (a ≡ slot) ⊎ (a ≡ slot → ⊥) → (b ≡ slot) ⊎ (b ≡ slot → ⊥) → V a ≡ Some text → V b ≡ Some text →
+        a ≡ b
     once_by a b text (inl same) (inl both) here there = same ∙ sym both
     once_by a b text (inl same) (inr other) here there = absurd (is_new b other (cc))
     once_by a b text (inr other) (inl same) here there = absurd (is_new a other (cc))

@@ -3,10 +3,11 @@ use Rattle.std.proofs.Common.{◌≡◌, ◌≢◌, ℕ, ◌-◌, ◌<◌, List,
 use Rattle.fs_ports.specs.Ports.{Output, Writes, Stopped}
 use Rattle.fs_ports.proofs.Sides.{writes_both, stopped_later}
 use Rattle.fs_state.specs.Switch.{waiting_for}
+use Rattle.fs_state.proofs.GiftLemmas.{first_bytes}
 use Rattle.fs_machine.specs.declared.entry.Act.TheVariants.{Take}
 use Rattle.fs_machine.specs.declared.reply.Reply.{Reply}
 use Rattle.fs_machine.specs.declared.reply.Reply.TheVariants as reply
-use Rattle.fs_machine.proofs.FrameLemmas.{take_answers, first_bytes}
+use Rattle.fs_machine.proofs.FrameLemmas.{take_answers}
 use Rattle.fs_conn.specs.declared.stop.Stop.{Stop}
 use Rattle.fs_conn.specs.declared.stop.Stop.TheVariants.{Over, OutOfMemory, WriteFault}
 use Rattle.fs_conn.specs.Play.{Play, switch_of, output_of, after_trying_act, repeated, after_taking_all, after_taking_all_as}

@@ -1,10 +1,9 @@
 -- What a turn of a conversation comes to.
-use Rattle.std.proofs.Common.{◌≡◌, ◌≢◌, ℕ, ◌<◌, ◌≤◌, Bool, true, false, cond, List, [], ◌∷◌, ◌++◌, length, Option, None, Some, Err, sym, refl, ap, ◌∙◌, subst, append_assoc, append-nil, length-append, arith, ◌&&◌, not, nat_lt, if◌then◌else◌}
+use Rattle.std.proofs.Common.{◌≡◌, ◌≢◌, ℕ, ◌<◌, ◌≤◌, Bool, true, false, cond, List, [], ◌∷◌, ◌++◌, length, Option, None, Some, Err, sym, refl, ap, ◌∙◌, subst, append_assoc, append-nil, length-append, arith, ◌&&◌, not, if◌then◌else◌}
 use Rattle.std.specs.List.{AllByRecursion, concat}
 use Rattle.std.specs.Option.{option_and_then}
 use Rattle.std.specs.Io.KnownBytes.{IsAtEnd}
 use Rattle.std.proofs.lemmas.List.Folds.{concat-append}
-use Rattle.std.proofs.lemmas.Bool.{ltb-false}
 use Rattle.fs_doc.specs.Reading.{Configuration}
 use Rattle.fs_ports.specs.Counts.{raised}
 use Rattle.fs_ports.specs.Ports.{Input, Output, Reads}
@@ -13,7 +12,7 @@ use Rattle.fs_frame.specs.Block.{IsBlock, too_long}
 use Rattle.fs_frame.specs.Blocks.{HasNoBlock, blocks_of, rest_of}
 use Rattle.fs_frame.specs.Stream.{Stream, new_stream, fed_with}
 use Rattle.fs_frame.specs.Next.{HandsOut}
-use Rattle.fs_frame.proofs.BlockLaws.{AllByRecursion-append, blocks_of-append, rest_of-append, blocks_of-no_block, rest_of-no_block, front_of-no_block}
+use Rattle.fs_frame.proofs.BlockLaws.{AllByRecursion-append, blocks_of-append, rest_of-append, blocks_of-no_block, rest_of-no_block, short_rest}
 use Rattle.fs_state.specs.declared.conn.Conn.{Conn}
 use Rattle.fs_state.specs.declared.conn.Phase.{Phase}
 use Rattle.fs_state.specs.declared.conn.Phase.TheVariants.{Fresh, Ready, Ending, Closed}
@@ -300,17 +299,6 @@ falls_behind old mid new stream later block mid_is new_is costs spent =
     let config : new.config ≡ old.config =
     ap (λ (p : Play). p.config) new_is ∙ (goes_followed.begins mid).config ∙ ap (λ (p : Play). p.config) mid_is ∙ ((goes_entered (Command 1 block)).begins old).config in
     let limit = ap (λ (c : Configuration). c.settings.journal_limit) config in omega (arith, limit, costs.more, costs.free, spent)
-
--- bytes with no block in front that are not too long
-short_rest : (rest : List ℕ) → HasNoBlock rest → too_long rest ≡ false → length rest ≤ 65536
-unfolding too_long
-short_rest rest no_block short =
-    let nothing = front_of-no_block rest no_block in
-    let few : (nat_lt 65536 (length rest) && true) ≡ false = rw nothing at short in omega (arith, ltb-false 65536 (length rest) (and_true (nat_lt 65536 (length rest)) few))
-  where
-    and_true : (b : Bool) → (b && true) ≡ false → b ≡ false
-    and_true true e = e
-    and_true false e = refl
 
 -- a piece that was read
 pub falls_fed : (p : Play) (old new : Stream) (piece : List ℕ) → HasNoBlock old.rest → too_long old.rest ≡ false → new.rest ≡ old.rest → 0 < length piece →

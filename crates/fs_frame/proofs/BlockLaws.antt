@@ -1,6 +1,6 @@
 -- How blocks lie in a stream.
-use Rattle.std.proofs.Common.{◌≡◌, ◌≤◌, ◌<◌, ℕ, zero, suc, true, is_none, nat_lt, List, [], ◌∷◌, ◌++◌, length, drop, Option, None, Some, refl, sym, ◌∙◌, ap, append_assoc, arith, length-append}
-use Rattle.std.proofs.lemmas.Bool.{and_from, and_parts, lt-ltb, ltb-true}
+use Rattle.std.proofs.Common.{◌≡◌, ◌≤◌, ◌<◌, ℕ, zero, suc, true, is_none, nat_lt, List, [], ◌∷◌, ◌++◌, length, drop, Option, None, Some, refl, sym, ◌∙◌, ap, append_assoc, arith, length-append, Bool, false, ◌&&◌}
+use Rattle.std.proofs.lemmas.Bool.{and_from, and_parts, lt-ltb, ltb-true, ltb-false}
 use Rattle.std.proofs.lemmas.List.{take_at}
 use Rattle.std.proofs.lemmas.List.Folds.{concat-append}
 use Rattle.std.proofs.lemmas.List.Prefix.{front_rest}
@@ -19,7 +19,8 @@ length-block [] is_block =
 length-block (byte ∷ block) is_block = omega arith
 
 -- what holds of each of two lists' elements holds of those of the two together
-pub AllByRecursion-append : (P : List ℕ → Type 0) (xs ys : List (List ℕ)) → AllByRecursion P xs → AllByRecursion P ys → AllByRecursion P (xs ++ ys)
+pub AllByRecursion-append : (P : List ℕ → Type 0) (xs ys : List (List ℕ)) → AllByRecursion P xs → AllByRecursion P ys →
+    AllByRecursion P (xs ++ ys)
 AllByRecursion-append P [] ys all more = more
 AllByRecursion-append P (x ∷ xs) ys all more = (all.0, AllByRecursion-append P xs ys all.1 more)
 
@@ -29,13 +30,16 @@ front_of-no_block bytes no_block = step (front_of bytes) refl
   where
     step : (found : Option (List ℕ)) → front_of bytes ≡ found → found ≡ None
     step None is = refl
-    step (Some block) is = let stands : StandsInFront block bytes = front_of-stands bytes block is in absurd (no_block block stands.more stands.is_block stands.split)
+    step (Some block) is = let stands : StandsInFront block bytes = front_of-stands bytes block is in
+        absurd (no_block block stands.more stands.is_block stands.split)
 
 pub HasNoBlock-front_of : (bytes : List ℕ) → front_of bytes ≡ None → HasNoBlock bytes
-HasNoBlock-front_of bytes nothing block more is_block split = let found : front_of (block ++ more) ≡ Some block = front_of-append block more is_block in cc
+HasNoBlock-front_of bytes nothing block more is_block split =
+    let found : front_of (block ++ more) ≡ Some block = front_of-append block more is_block in cc
 
 -- the first blocks of a stream that falls into blocks and a rest are those blocks
-first_blocks-splits : (blocks : List (List ℕ)) (n : ℕ) (stream rest : List ℕ) → Splits stream blocks rest → length stream ≤ n → first_blocks n stream ≡ blocks
+first_blocks-splits : (blocks : List (List ℕ)) (n : ℕ) (stream rest : List ℕ) → Splits stream blocks rest → length stream ≤ n →
+    first_blocks n stream ≡ blocks
 unfolding first_blocks
 first_blocks-splits [] zero stream rest split fits = refl
 first_blocks-splits [] (suc n) stream rest split fits =
@@ -49,7 +53,8 @@ first_blocks-splits (block ∷ blocks) (suc n) stream rest split fits =
     let whole : stream ≡ block ++ behind = split.whole ∙ append_assoc block (concat blocks) rest in
     let found : front_of stream ≡ Some block = rw whole (front_of-append block behind split.each.0) in
     let again : first_blocks n behind ≡ blocks =
-    first_blocks-splits blocks n behind rest (record { whole = refl; each = split.each.1; last = split.last }) (omega (arith, length-block block split.each.0, length-append block behind, ap length whole)) in
+    first_blocks-splits blocks n behind rest (record { whole = refl; each = split.each.1; last = split.last })
+    (omega (arith, length-block block split.each.0, length-append block behind, ap length whole)) in
     rw (found, front_rest stream block behind whole, again) refl
 
 -- the stream falls into these blocks and some rest
@@ -60,7 +65,8 @@ record Falls (stream : List ℕ) (blocks : List (List ℕ)) : Type 0 where
 no_more : (stream : List ℕ) → front_of stream ≡ None → Falls stream []
 no_more stream nothing = record { rest = stream; splits = record { whole = refl; each = tt; last = HasNoBlock-front_of stream nothing } }
 
-falls_behind : (stream block more : List ℕ) (blocks : List (List ℕ)) → stream ≡ block ++ more → IsBlock block → Falls more blocks → Falls stream (block ∷ blocks)
+falls_behind : (stream block more : List ℕ) (blocks : List (List ℕ)) → stream ≡ block ++ more → IsBlock block → Falls more blocks →
+    Falls stream (block ∷ blocks)
 falls_behind stream block more blocks split is_block falls = record {
   rest = falls.rest;
   splits = record {
@@ -82,7 +88,9 @@ falls (suc n) stream fits = step (front_of stream) refl (λ (more : List ℕ). f
     step (Some block) is again =
         let stands : StandsInFront block stream = front_of-stands stream block is in
         rw (front_rest stream block stands.more stands.split)
-        (falls_behind stream block stands.more (first_blocks n stands.more) stands.split stands.is_block (again stands.more (omega (arith, length-block block stands.is_block, length-append block stands.more, ap length stands.split))))
+        (falls_behind stream block stands.more (first_blocks n stands.more) stands.split stands.is_block
+        (again stands.more
+        (omega (arith, length-block block stands.is_block, length-append block stands.more, ap length stands.split))))
 
 -- a stream falls into its blocks and its rest
 pub splits : (stream : List ℕ) → Splits stream (blocks_of stream) (rest_of stream)
@@ -98,23 +106,30 @@ blocks_of-splits stream rest blocks split = first_blocks-splits blocks (length s
 
 pub rest_of-splits : (stream rest : List ℕ) (blocks : List (List ℕ)) → Splits stream blocks rest → rest_of stream ≡ rest
 unfolding rest_of
-rest_of-splits stream rest blocks split = rw (blocks_of-splits stream rest blocks split) (front_rest stream (concat blocks) rest split.whole)
+rest_of-splits stream rest blocks split =
+    rw (blocks_of-splits stream rest blocks split) (front_rest stream (concat blocks) rest split.whole)
 
 -- blocks in front are the first blocks of the stream, and leave its rest
-splits-append : (blocks : List (List ℕ)) (more : List ℕ) → AllByRecursion IsBlock blocks → Splits (concat blocks ++ more) (blocks ++ blocks_of more) (rest_of more)
+splits-append : (blocks : List (List ℕ)) (more : List ℕ) → AllByRecursion IsBlock blocks →
+    Splits (concat blocks ++ more) (blocks ++ blocks_of more) (rest_of more)
 splits-append blocks more each =
     let behind : Splits more (blocks_of more) (rest_of more) = splits more in
     record {
-      whole = rw (concat-append blocks (blocks_of more), append_assoc (concat blocks) (concat (blocks_of more)) (rest_of more)) (ap (λ (bytes : List ℕ). concat blocks ++ bytes) behind.whole);
+      whole = rw (concat-append blocks (blocks_of more), append_assoc (concat blocks) (concat (blocks_of more)) (rest_of more))
+          (ap (λ (bytes : List ℕ). concat blocks ++ bytes) behind.whole);
       each = AllByRecursion-append IsBlock blocks (blocks_of more) each behind.each;
       last = behind.last;
     }
 
-pub blocks_of-append : (blocks : List (List ℕ)) (more : List ℕ) → AllByRecursion IsBlock blocks → blocks_of (concat blocks ++ more) ≡ blocks ++ blocks_of more
-blocks_of-append blocks more each = blocks_of-splits (concat blocks ++ more) (rest_of more) (blocks ++ blocks_of more) (splits-append blocks more each)
+pub blocks_of-append : (blocks : List (List ℕ)) (more : List ℕ) → AllByRecursion IsBlock blocks →
+    blocks_of (concat blocks ++ more) ≡ blocks ++ blocks_of more
+blocks_of-append blocks more each =
+    blocks_of-splits (concat blocks ++ more) (rest_of more) (blocks ++ blocks_of more) (splits-append blocks more each)
 
-pub rest_of-append : (blocks : List (List ℕ)) (more : List ℕ) → AllByRecursion IsBlock blocks → rest_of (concat blocks ++ more) ≡ rest_of more
-rest_of-append blocks more each = rest_of-splits (concat blocks ++ more) (rest_of more) (blocks ++ blocks_of more) (splits-append blocks more each)
+pub rest_of-append : (blocks : List (List ℕ)) (more : List ℕ) → AllByRecursion IsBlock blocks →
+    rest_of (concat blocks ++ more) ≡ rest_of more
+rest_of-append blocks more each =
+    rest_of-splits (concat blocks ++ more) (rest_of more) (blocks ++ blocks_of more) (splits-append blocks more each)
 
 -- where no block stands in front there is none, and all is the rest
 pub blocks_of-no_block : (rest : List ℕ) → HasNoBlock rest → blocks_of rest ≡ []
@@ -126,7 +141,8 @@ rest_of-no_block rest no_block = rest_of-splits rest rest [] (record { whole = r
 -- no block stands in front of a rest that is too long
 pub HasNoBlock-too_long : (rest : List ℕ) → too_long rest ≡ true → HasNoBlock rest
 unfolding too_long
-HasNoBlock-too_long rest long = HasNoBlock-front_of rest (none_is (front_of rest) (and_parts (nat_lt 65536 (length rest)) (is_none (front_of rest)) long).1)
+HasNoBlock-too_long rest long =
+    HasNoBlock-front_of rest (none_is (front_of rest) (and_parts (nat_lt 65536 (length rest)) (is_none (front_of rest)) long).1)
   where
     none_is : (found : Option (List ℕ)) → is_none found ≡ true → found ≡ None
     none_is None is = refl
@@ -136,8 +152,22 @@ HasNoBlock-too_long rest long = HasNoBlock-front_of rest (none_is (front_of rest
 pub too_long-append : (rest more : List ℕ) → too_long rest ≡ true → too_long (rest ++ more) ≡ true
 unfolding too_long
 too_long-append rest more long =
-    let parts : (nat_lt 65536 (length rest) ≡ true) × (is_none (front_of rest) ≡ true) = and_parts (nat_lt 65536 (length rest)) (is_none (front_of rest)) long in
+    let parts : (nat_lt 65536 (length rest) ≡ true) × (is_none (front_of rest) ≡ true) =
+    and_parts (nat_lt 65536 (length rest)) (is_none (front_of rest)) long in
     let over : 65536 < length rest = ltb-true 65536 (length rest) parts.0 in
-    let same : front_of rest ≡ front_of (rest ++ more) = ap front_of (sym (take_at rest more (length rest) refl)) ∙ front_of-take (length rest) (rest ++ more) (omega arith) in
+    let same : front_of rest ≡ front_of (rest ++ more) = ap front_of (sym (take_at rest more (length rest) refl))
+    ∙ front_of-take (length rest) (rest ++ more) (omega arith) in
     and_from (nat_lt 65536 (length (rest ++ more))) (is_none (front_of (rest ++ more)))
     (lt-ltb 65536 (length (rest ++ more)) (omega (arith, over, length-append rest more))) (rw (← same) parts.1)
+
+-- bytes with no block in front that are not too long
+pub short_rest : (rest : List ℕ) → HasNoBlock rest → too_long rest ≡ false → length rest ≤ 65536
+unfolding too_long
+short_rest rest no_block short =
+    let nothing = front_of-no_block rest no_block in
+    let few : (nat_lt 65536 (length rest) && true) ≡ false = rw nothing at short in
+    omega (arith, ltb-false 65536 (length rest) (and_true (nat_lt 65536 (length rest)) few))
+  where
+    and_true : (b : Bool) → (b && true) ≡ false → b ≡ false
+    and_true true e = e
+    and_true false e = refl

@@ -24,15 +24,18 @@ lines_of-parts : (empties : List (List ℕ)) (command : List ℕ) (headers : Lis
 lines_of-parts empties command headers end more are_empty is_command are_headers is_end =
     rw (
       grouped_behind (concat empties) command (concat headers) end more,
-      lines_of-lines empties (command ++ (concat headers ++ (end ++ more))) (AllByRecursion-lines (λ line. text_of line ≡ []) empties are_empty),
+      lines_of-lines empties (command ++ (concat headers ++ (end ++ more)))
+          (AllByRecursion-lines (λ line. text_of line ≡ []) empties are_empty),
       lines_of-line command (concat headers ++ (end ++ more)) is_command.0,
       lines_of-lines headers (end ++ more) (AllByRecursion-lines (λ line. text_of line ≡ [] → ⊥) headers are_headers),
       lines_of-line end more is_end.0,
     )
     refl
 
-lines_of-head : (bytes more : List ℕ) (head : IsHead bytes) → lines_of (bytes ++ more) ≡ head.empties ++ head.command ∷ (head.headers ++ head.end ∷ lines_of more)
-lines_of-head bytes more head = ap (λ (bs : List ℕ). lines_of (bs ++ more)) head.spelling ∙ lines_of-parts head.empties head.command head.headers head.end more head.are_empty head.is_command head.are_headers head.is_end
+lines_of-head : (bytes more : List ℕ) (head : IsHead bytes) →
+    lines_of (bytes ++ more) ≡ head.empties ++ head.command ∷ (head.headers ++ head.end ∷ lines_of more)
+lines_of-head bytes more head = ap (λ (bs : List ℕ). lines_of (bs ++ more)) head.spelling
+    ∙ lines_of-parts head.empties head.command head.headers head.end more head.are_empty head.is_command head.are_headers head.is_end
 
 -- the line of a head is the text of its command line
 pub line_of-head : (bytes : List ℕ) (head : IsHead bytes) → line_of bytes ≡ text_of head.command
@@ -47,7 +50,9 @@ head_of-head : (bytes more : List ℕ) (head : IsHead bytes) → head_of (lines_
 head_of-head bytes more head =
     let whole : bytes ≡ concat head.empties ++ (head.command ++ (concat head.headers ++ head.end)) =
     head.spelling ∙ grouped (concat head.empties) head.command (concat head.headers) head.end in
-    ap head_of (lines_of-head bytes more head) ∙ head_of-parts head.empties head.command head.headers head.end (lines_of more) head.are_empty head.is_command head.are_headers head.is_end ∙ ap (λ (bs : List ℕ). Some bs) (sym whole)
+    ap head_of (lines_of-head bytes more head)
+    ∙ head_of-parts head.empties head.command head.headers head.end
+    (lines_of more) head.are_empty head.is_command head.are_headers head.is_end ∙ ap (λ (bs : List ℕ). Some bs) (sym whole)
 
 pub front_of-found : (bytes head : List ℕ) → head_of (lines_of bytes) ≡ Some head → length head ≤ 65536 → front_of bytes ≡ Some head
 unfolding front_of
@@ -67,7 +72,8 @@ pub record HeadInFront (head bytes : List ℕ) : Type 0 where
   pub more : List ℕ
   pub split : bytes ≡ head ++ more
 
-spelling-headed : (lines : List (List ℕ)) (bytes : List ℕ) (headed : Headed lines bytes) → bytes ≡ spelling_of headed.empties headed.command headed.ended.headers headed.ended.end
+spelling-headed : (lines : List (List ℕ)) (bytes : List ℕ) (headed : Headed lines bytes) →
+    bytes ≡ spelling_of headed.empties headed.command headed.ended.headers headed.ended.end
 spelling-headed lines bytes headed =
     headed.spelling ∙ ap (λ (bs : List ℕ). concat headed.empties ++ (headed.command ++ bs)) headed.ended.spelling ∙
     sym (grouped (concat headed.empties) headed.command (concat headed.ended.headers) headed.ended.end)
@@ -75,11 +81,14 @@ spelling-headed lines bytes headed =
 -- the bytes of lines that begin with a head
 concat-headed : (lines : List (List ℕ)) (bytes : List ℕ) (headed : Headed lines bytes) → concat lines ≡ bytes ++ concat headed.ended.more
 concat-headed lines bytes headed =
-    let parts : concat lines ≡ concat headed.empties ++ (headed.command ++ (concat headed.ended.headers ++ (headed.ended.end ++ concat headed.ended.more))) =
+    let parts : concat lines ≡ concat
+    headed.empties ++ (headed.command ++ (concat headed.ended.headers ++ (headed.ended.end ++ concat headed.ended.more))) =
     ap concat headed.split ∙ concat-append headed.empties (headed.command ∷ headed.ended_lines) ∙
     ap (λ (ls : List (List ℕ)). concat headed.empties ++ (headed.command ++ concat ls)) headed.ended.split ∙
-    ap (λ (bs : List ℕ). concat headed.empties ++ (headed.command ++ bs)) (concat-append headed.ended.headers (headed.ended.end ∷ headed.ended.more)) in
-    parts ∙ sym (grouped_behind (concat headed.empties) headed.command (concat headed.ended.headers) headed.ended.end (concat headed.ended.more)) ∙
+    ap (λ (bs : List ℕ). concat headed.empties ++ (headed.command ++ bs))
+    (concat-append headed.ended.headers (headed.ended.end ∷ headed.ended.more)) in
+    parts ∙ sym
+    (grouped_behind (concat headed.empties) headed.command (concat headed.ended.headers) headed.ended.end (concat headed.ended.more)) ∙
     ap (λ (bs : List ℕ). bs ++ concat headed.ended.more) (sym (spelling-headed lines bytes headed))
 
 IsHead-headed : (lines : List (List ℕ)) (bytes : List ℕ) → Headed lines bytes → IsHead bytes
@@ -103,7 +112,8 @@ head_of-stands bytes head found =
     record {
       is_head = IsHead-headed (lines_of bytes) head headed;
       more = concat headed.ended.more ++ are.behind;
-      split = are.split ∙ ap (λ (bs : List ℕ). bs ++ are.behind) (concat-headed (lines_of bytes) head headed) ∙ append_assoc head (concat headed.ended.more) are.behind;
+      split = are.split ∙ ap (λ (bs : List ℕ). bs ++ are.behind) (concat-headed (lines_of bytes) head headed)
+          ∙ append_assoc head (concat headed.ended.more) are.behind;
     }
 
 -- a block stands in front of the bytes
@@ -135,9 +145,11 @@ front_of-stands bytes block found = step (head_of (lines_of bytes)) refl
         record { is_block = record { head = stands.is_head; within = parts.1 }; more = stands.more; split = stands.split }
 
 -- a front that is no longer than so many bytes is a front of these
-front_within : (n : ℕ) (bytes front more : List ℕ) → bytes ≡ front ++ more → length front ≤ n → take n bytes ≡ front ++ drop (length front) (take n bytes)
+front_within : (n : ℕ) (bytes front more : List ℕ) → bytes ≡ front ++ more → length front ≤ n →
+    take n bytes ≡ front ++ drop (length front) (take n bytes)
 front_within n bytes front more split fits =
-    let same : take (length front) (take n bytes) ≡ front = take-take (length front) n bytes fits ∙ ap (λ (bs : List ℕ). take (length front) bs) split ∙ take_at front more (length front) refl in
+    let same : take (length front) (take n bytes) ≡ front = take-take (length front) n bytes fits
+    ∙ ap (λ (bs : List ℕ). take (length front) bs) split ∙ take_at front more (length front) refl in
     sym (take-append-drop (length front) (take n bytes)) ∙ ap (λ (bs : List ℕ). bs ++ drop (length front) (take n bytes)) same
 
 -- the block in front is found in as many bytes as it may have
@@ -149,7 +161,8 @@ front_of-take n bytes enough = step (front_of bytes) refl
     grown (Some block) is nothing =
         let stands : StandsInFront block (take n bytes) = front_of-stands (take n bytes) block is in
         let split : bytes ≡ block ++ (stands.more ++ drop n bytes) =
-        sym (take-append-drop n bytes) ∙ ap (λ (bs : List ℕ). bs ++ drop n bytes) stands.split ∙ append_assoc block stands.more (drop n bytes) in
+        sym (take-append-drop n bytes) ∙ ap (λ (bs : List ℕ). bs ++ drop n bytes) stands.split
+        ∙ append_assoc block stands.more (drop n bytes) in
         let found : front_of bytes ≡ Some block = ap front_of split ∙ front_of-append block (stands.more ++ drop n bytes) stands.is_block in
         cc
 
@@ -157,5 +170,6 @@ front_of-take n bytes enough = step (front_of bytes) refl
     step None is = grown (front_of (take n bytes)) refl is ∙ sym is
     step (Some block) is =
         let stands : StandsInFront block bytes = front_of-stands bytes block is in
-        let split : take n bytes ≡ block ++ drop (length block) (take n bytes) = front_within n bytes block stands.more stands.split (omega (arith, stands.is_block.within)) in
+        let split : take n bytes ≡ block ++ drop (length block) (take n bytes) =
+        front_within n bytes block stands.more stands.split (omega (arith, stands.is_block.within)) in
         ap front_of split ∙ front_of-append block (drop (length block) (take n bytes)) stands.is_block ∙ sym is

@@ -34,21 +34,26 @@ whole_front bytes len line found =
     let reach : (length (within_reach bytes) ≤ 65536) × (length (within_reach bytes) ≤ length bytes) = length-reach bytes in
     let head : List ℕ = take len (within_reach bytes) in
     let stands : HeadInFront head (within_reach bytes) = head_of-stands (within_reach bytes) head found.head in
-    let is_block : IsBlock head = record { head = stands.is_head; within = omega (arith, ap length stands.split, length-append head stands.more) } in
+    let is_block : IsBlock head =
+    record { head = stands.is_head; within = omega (arith, ap length stands.split, length-append head stands.more) } in
     let same : head ≡ take len bytes = take-reach bytes len (omega (arith, found.within)) in
-    let front : front_of bytes ≡ Some head = sym (front_of-reach bytes) ∙ ap front_of stands.split ∙ front_of-append head stands.more is_block in
+    let front : front_of bytes ≡ Some head = sym (front_of-reach bytes) ∙ ap front_of stands.split
+    ∙ front_of-append head stands.more is_block in
     record { within = omega (arith, found.within); block = front ∙ ap (λ (bs : List ℕ). Some bs) same; line_is = rw (← same) found.line_is }
 
 -- what was found within reach stands in front
 pub IsFront-found : (bytes : List ℕ) (front : Front) → IsFound (within_reach bytes) front → IsFront bytes front
 IsFront-found bytes (Whole len line) found = whole_front bytes len line found
-IsFront-found bytes (Open scan) found = record { no_block = sym (front_of-reach bytes) ∙ front_of-no_head (within_reach bytes) found.1; is_scanned = found.0 }
+IsFront-found bytes (Open scan) found =
+    record { no_block = sym (front_of-reach bytes) ∙ front_of-no_head (within_reach bytes) found.1; is_scanned = found.0 }
 
 -- a buffer with one more piece
-pub IsLaidOut-fed : (bytes piece : List ℕ) (lent start : ℕ) (scan : Scan) → IsLaidOut bytes lent start scan → IsLaidOut (bytes ++ piece) lent start scan
+pub IsLaidOut-fed : (bytes piece : List ℕ) (lent start : ℕ) (scan : Scan) → IsLaidOut bytes lent start scan →
+    IsLaidOut (bytes ++ piece) lent start scan
 unfolding within_reach
 IsLaidOut-fed bytes piece lent start scan laid_out = record {
   lent_within = laid_out.lent_within;
   start_within = omega (arith, laid_out.start_within, length-append bytes piece);
-  is_scanned = rw (drop-append-le start bytes piece laid_out.start_within) (IsScanned-fed 65536 (drop start bytes) piece scan laid_out.is_scanned);
+  is_scanned =
+      rw (drop-append-le start bytes piece laid_out.start_within) (IsScanned-fed 65536 (drop start bytes) piece scan laid_out.is_scanned);
 }

@@ -5,3 +5,4 @@ pub mod FrontLaws
 pub mod BlockLaws
 pub mod StreamLaws
 pub mod CallLaws
+pub mod FirstLine

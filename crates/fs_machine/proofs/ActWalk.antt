@@ -1,5 +1,5 @@
 -- The walk goes on: jobs, commands and all acts.
-use Rattle.std.proofs.Common.{◌≡◌, ℕ, ◌*◌, nat_lt, Bool, true, false, if◌then◌else◌, length, slice_get, Option, None, Some, option_and_then, refl, sym, ap, ◌∙◌}
+use Rattle.std.proofs.Common.{◌≡◌, ℕ, ◌*◌, arith, nat_lt, Bool, true, false, if◌then◌else◌, length, slice_get, Option, None, Some, refl}
 use Rattle.std.specs.Str.{bytes_eq}
 use Rattle.fs_text.specs.declared.causes.Cause.{Cause}
 use Rattle.fs_text.specs.declared.causes.Cause.TheVariants.{NoAnswer, InvalidNumberFormat}
@@ -17,9 +17,9 @@ use Rattle.fs_orig.specs.declared.orig.Orig.{Orig}
 use Rattle.fs_orig.specs.declared.verdict.Verdict.{Verdict}
 use Rattle.fs_orig.specs.declared.verdict.Verdict.TheVariants as verdict
 use Rattle.fs_orig.specs.Endpoints.{is_one_leg}
-use Rattle.fs_orig.specs.Legs.{lives, answer_of}
+use Rattle.fs_orig.specs.Legs.{living_slots}
 use Rattle.fs_orig.specs.Verdicts.{verdict_of}
-use Rattle.fs_orig.proofs.VerdictLemmas.{won_is}
+use Rattle.fs_orig.proofs.VerdictLemmas.{winner_lives}
 use Rattle.fs_state.specs.declared.conn.Phase.{Phase}
 use Rattle.fs_state.specs.declared.conn.Phase.TheVariants as phase
 use Rattle.fs_state.specs.declared.conn.Parting.{Parting}
@@ -36,7 +36,7 @@ use Rattle.fs_machine.specs.declared.attempts.Attempt.{Attempt}
 use Rattle.fs_machine.specs.declared.originations.Caller.{Caller}
 use Rattle.fs_machine.specs.Texts.{ok, accepted, invalid, bye, not_found, notice, command_reply, api_response, spoken, too_many_jobs, failed_text}
 use Rattle.fs_machine.specs.Connections.{phase_at, conn_changed, admitted}
-use Rattle.fs_machine.specs.Attempts.{originate_begun, living_slots, won_at, after_verdict, after_verdict_from}
+use Rattle.fs_machine.specs.Attempts.{originate_begun, won_at, after_verdict, after_verdict_from}
 use Rattle.fs_machine.specs.Jobs.{sleep_begun, after_job_work, job_done_from, job_done}
 use Rattle.fs_machine.specs.Api.{Done, says, owes, killed, slept, originated, done_plainly, done_by}
 use Rattle.fs_machine.specs.Commands as command
@@ -49,132 +49,148 @@ use Rattle.fs_machine.proofs.RestLemmas.{all_hung_rest, does_same}
 
 -- ---- jobs
 
--- the leg lives that has won
-winner_lives : (now position : ℕ) (o : Orig) (leg : OrigLeg) → verdict_of now o ≡ verdict.Won position → slice_get o.legs position ≡ Some leg → lives leg ≡ true
-winner_lives now position o leg is there = answers (lives leg) refl (sym (ap (option_and_then answer_of) there) ∙ (won_is now position o is).answered)
-  where
-    answers : (test : Bool) → lives leg ≡ test → (if test then leg.answered else None) ≡ Some (won_is now position o is).place → lives leg ≡ true
-    answers true is answered = is
-    answers false is answered = absurd (cc)
-
 module _ (before : Switch) (P : Fact) (calls : KeptByCalls P) (jobs : KeptByJobs before P) where
   judged_kept : (v : Verdict) (a : Attempt) (winner : Winner) (o : Orig) → verdict_of before.moment o ≡ v → orig_of before a.orig ≡ Some o →
-      DoesJob before a.job a.conn (work.Originate a.orig winner) → P false before → P false (after_verdict v a winner o before)
+      DoesJob before a.job a.conn (work.Originate a.orig winner) → P (Some 0) before → P (Some 0) (after_verdict v a winner o before)
   judged_kept (verdict.Won position) a winner o is there does h = by (slice_get o.legs position) refl
     where
-      by : (leg : Option OrigLeg) → slice_get o.legs position ≡ leg → P false (won_at a winner leg before)
+      by : (leg : Option OrigLeg) → slice_get o.legs position ≡ leg → P (Some 0) (won_at a winner leg before)
       by None at = h
-      by (Some leg) at = jobs.wins a winner leg does (record { orig = o; there = there; position = position; at = at; lives = winner_lives before.moment position o leg is at }) h
+      by (Some leg) at =
+          jobs.wins a winner leg does
+          (record { orig = o; there = there; position = position; at = at; lives = winner_lives before.moment position o leg is at }) h
   judged_kept (verdict.Failed cause) a winner o is there does h = jobs.failed a winner cause does h
   judged_kept verdict.Expired a winner o is there does h =
-      jobs.failed a winner NoAnswer (does_same does (all_hung_rest NoAnswer (living_slots o.legs) before)) (all_hung_kept P calls NoAnswer (living_slots o.legs) h)
+      jobs.failed a winner NoAnswer (does_same does (all_hung_rest NoAnswer (living_slots o.legs) before))
+      (all_hung_kept P calls NoAnswer (living_slots o.legs) h)
   judged_kept _ a winner o is there does h = h
 
-  job_works_kept : (what : JobWork) (number conn : ℕ) → DoesJob before number conn what → P false before → P false (after_job_work what number conn before)
+  job_works_kept : (what : JobWork) (number conn : ℕ) → DoesJob before number conn what → P (Some 0) before →
+      P (Some 0) (after_job_work what number conn before)
   job_works_kept (work.Sleep until) number conn does h = jobs.woken number conn until ok does h
   job_works_kept (work.Originate orig winner) number conn does h = by (orig_of before orig) refl
     where
-      by : (found : Option Orig) → orig_of before orig ≡ found → P false (after_verdict_from (record { job = number; conn = conn; orig = orig }) winner found before)
+      by : (found : Option Orig) → orig_of before orig ≡ found →
+          P (Some 0) (after_verdict_from (record { job = number; conn = conn; orig = orig }) winner found before)
       by None there = h
-      by (Some o) there = judged_kept (verdict_of before.moment o) (record { job = number; conn = conn; orig = orig }) winner o refl there does h
+      by (Some o) there =
+          judged_kept (verdict_of before.moment o) (record { job = number; conn = conn; orig = orig }) winner o refl there does h
 
-  pub job_kept : (number : ℕ) → P false before → P false (job_done number before)
+  pub job_kept : (number : ℕ) → P (Some 0) before → P (Some 0) (job_done number before)
   unfolding job_done
   job_kept number h = by (job_of before number) refl
     where
-      by : (found : Option Job) → job_of before number ≡ found → P false (job_done_from number found before)
+      by : (found : Option Job) → job_of before number ≡ found → P (Some 0) (job_done_from number found before)
       by None is = h
       by (Some job) is = job_works_kept job.work number job.conn (record { there = is }) h
 
 -- ---- commands
 
+-- a command may make a leg, which is a pair of channels
 module _ (conn : ℕ) (P : Fact) (calls : KeptByCalls P) (commands : KeptByCommands conn P) where
-  done_either : (test : Bool) (x y : Done) → P false x.state → P false y.state → P false (if test then x else y).state
+  -- nothing is drawn, so two at most are
+  drew_none : {s : Switch} → P None s → P (Some 2) s
+  drew_none h = commands.more (omega arith) (commands.spent h)
+
+  done_either : (test : Bool) (x y : Done) → P (Some 2) x.state → P (Some 2) y.state → P (Some 2) (if test then x else y).state
   done_either true x y first second = first
   done_either false x y first second = second
 
-  killed_kept : (cause : Cause) (slot : Option ℕ) {s : Switch} → P true s → P false (killed cause slot s).state
-  killed_kept cause None h = commands.spent h
-  killed_kept cause (Some slot) h = commands.spent (calls.hung cause slot h)
+  killed_kept : (cause : Cause) (slot : Option ℕ) {s : Switch} → P None s → P (Some 2) (killed cause slot s).state
+  killed_kept cause None h = drew_none h
+  killed_kept cause (Some slot) h = drew_none (calls.hung cause slot h)
 
-  slept_kept : (milliseconds : ℕ) {s : Switch} → P true s → P false (slept conn milliseconds s).state
+  slept_kept : (milliseconds : ℕ) {s : Switch} → P None s → P (Some 2) (slept conn milliseconds s).state
   slept_kept milliseconds {s} h = by (is_full_of_jobs s) refl
     where
-      by : (full : Bool) → is_full_of_jobs s ≡ full → P false (if full then says too_many_jobs s else owes (sleep_begun conn milliseconds s)).state
-      by true is = commands.spent h
-      by false is = commands.sleeps (moment_after s.moment (milliseconds * 1000)) is h
+      by : (full : Bool) → is_full_of_jobs s ≡ full →
+          P (Some 2) (if full then says too_many_jobs s else owes (sleep_begun conn milliseconds s)).state
+      by true is = drew_none h
+      by false is = commands.more (omega arith) (commands.sleeps (moment_after s.moment (milliseconds * 1000)) is h)
 
-  originated_kept : (url : Text) (winner : Winner) (caller : Caller) (timeout : Option ℕ) {s : Switch} → IsShortWinner winner → P true s →
-      P false (originated conn url winner caller timeout s).state
+  originated_kept : (url : Text) (winner : Winner) (caller : Caller) (timeout : Option ℕ) {s : Switch} → IsShortWinner winner → P None s →
+      P (Some 2) (originated conn url winner caller timeout s).state
   originated_kept url winner caller timeout {s} short h = by (is_full_of_jobs s) refl
     where
       by : (full : Bool) → is_full_of_jobs s ≡ full →
-          P false (if full then says too_many_jobs s else (if is_one_leg url then owes (originate_begun conn url winner caller timeout s) else says (failed_text InvalidNumberFormat) s)).state
-      by true is = commands.spent h
-      by false is = done_either (is_one_leg url) _ _ (commands.originates url winner caller timeout short is h) (commands.spent h)
+          P (Some 2)
+          (if full then says too_many_jobs
+          s else (if is_one_leg url then owes (originate_begun conn url winner caller timeout s) else says
+          (failed_text InvalidNumberFormat) s)).state
+      by true is = drew_none h
+      by false is = done_either (is_one_leg url) _ _ (commands.originates url winner caller timeout short is h) (drew_none h)
 
-  done_plainly_kept : (what : Api) {s : Switch} → NamesShort what → P true s → P false (done_plainly conn what s).state
-  done_plainly_kept (api.Echo text) short h = commands.spent h
-  done_plainly_kept (api.Expand text) short h = commands.spent h
-  done_plainly_kept (api.GlobalGetvar name) short h = commands.spent h
+  done_plainly_kept : (what : Api) {s : Switch} → NamesShort what → P None s → P (Some 2) (done_plainly conn what s).state
+  done_plainly_kept (api.Echo text) short h = drew_none h
+  done_plainly_kept (api.Expand text) short h = drew_none h
+  done_plainly_kept (api.GlobalGetvar name) short h = drew_none h
   done_plainly_kept (api.GlobalSetvar name value) {s} short h =
-      done_either (can_set s.globals name value) _ _ (calls.globals (set_to s.globals name value) (commands.spent h)) (commands.spent h)
+      done_either (can_set s.globals name value) _ _ (calls.globals (set_to s.globals name value) (drew_none h)) (drew_none h)
   done_plainly_kept (api.Msleep milliseconds) short h = slept_kept milliseconds h
-  done_plainly_kept (api.UuidExists uuid) short h = commands.spent h
+  done_plainly_kept (api.UuidExists uuid) short h = drew_none h
   done_plainly_kept (api.UuidKill uuid cause) {s} short h = killed_kept cause (slot_named uuid s) h
-  done_plainly_kept (api.UuidGetvar uuid name) short h = commands.spent h
-  done_plainly_kept (api.Originate url winner cid_name cid_number timeout) short h = originated_kept url winner (record { name = cid_name; number = cid_number }) timeout short h
-  done_plainly_kept (api.Usage which) short h = commands.spent h
-  done_plainly_kept (api.Unknown name) short h = commands.spent h
+  done_plainly_kept (api.UuidGetvar uuid name) short h = drew_none h
+  done_plainly_kept (api.Originate url winner cid_name cid_number timeout) short h =
+      originated_kept url winner (record { name = cid_name; number = cid_number }) timeout short h
+  done_plainly_kept (api.Usage which) short h = drew_none h
+  done_plainly_kept (api.Unknown name) short h = drew_none h
 
-  done_kept : (what : Api) {s : Switch} → NamesShort what → P true s → P false (done_by conn what s).state
+  done_kept : (what : Api) {s : Switch} → NamesShort what → P None s → P (Some 2) (done_by conn what s).state
   done_kept (api.Expand text) {s} short h =
       let given : Text = expanded s.globals.pairs text in
-      done_either (nat_lt 65536 (length given)) _ _ (commands.spent h) (done_plainly_kept (expanded_api_of given) (expanded_short given) h)
+      done_either (nat_lt 65536 (length given)) _ _ (drew_none h) (done_plainly_kept (expanded_api_of given) (expanded_short given) h)
   done_kept other short h = done_plainly_kept other short h
 
-  responded_kept : (answer : Option Text) {s : Switch} → P false s → P false (responded_with conn answer s)
+  responded_kept : (answer : Option Text) {s : Switch} → P (Some 2) s → P (Some 2) (responded_with conn answer s)
   responded_kept None h = h
   responded_kept (Some answer) h = commands.gave (api_response (spoken answer)) h
 
-  dismissed_kept : (why : Parting) (text : Text) {s : Switch} → LeavesBy why → P false s → P false (dismissed conn why text s)
+  dismissed_kept : (why : Parting) (text : Text) {s : Switch} → LeavesBy why → P (Some 2) s → P (Some 2) (dismissed conn why text s)
   dismissed_kept why text leaves h = commands.gave notice (commands.gave (command_reply text) (commands.parted why leaves h))
 
-  offered_kept : (given : Text) {s : Switch} → phase_at s conn ≡ phase.Fresh → P false s → P false (offered conn given s)
+  offered_kept : (given : Text) {s : Switch} → phase_at s conn ≡ phase.Fresh → P (Some 2) s → P (Some 2) (offered conn given s)
   offered_kept given {s} fresh h = by (bytes_eq given s.config.settings.password)
     where
-      by : (same : Bool) → P false (if same then command.replied conn accepted (conn_changed admitted conn s) else dismissed conn parting.AuthRefused invalid s)
+      by : (same : Bool) →
+          P (Some 2)
+          (if same then command.replied conn accepted (conn_changed admitted conn s) else dismissed conn parting.AuthRefused invalid s)
       by true = commands.gave (command_reply accepted) (commands.admitted fresh h)
       by false = dismissed_kept parting.AuthRefused invalid tt h
 
-  pub commanded_kept : (c : Command) {s : Switch} → P true s → P false (command_done conn c s)
+  pub commanded_kept : (c : Command) {s : Switch} → P None s → P (Some 2) (command_done conn c s)
   unfolding command_done
   commanded_kept c {s} h = by (phase_at s conn) refl c
     where
-      by : (at : Phase) → phase_at s conn ≡ at → (given : Command) → P false (command_done_in at conn given s)
-      by phase.Fresh is (command.Auth given) = offered_kept given is (commands.spent h)
-      by phase.Fresh is command.Exit = dismissed_kept parting.Exit bye tt (commands.spent h)
-      by phase.Fresh is (command.Api text) = commands.gave (command_reply not_found) (commands.spent h)
-      by phase.Fresh is command.Unknown = commands.gave (command_reply not_found) (commands.spent h)
-      by phase.Ready is (command.Auth given) = commands.gave (command_reply not_found) (commands.spent h)
-      by phase.Ready is command.Exit = dismissed_kept parting.Exit bye tt (commands.spent h)
-      by phase.Ready is (command.Api text) = responded_kept (done_by conn (api_of text) s).answer (done_kept (api_of text) (api_short text) h)
-      by phase.Ready is command.Unknown = commands.gave (command_reply not_found) (commands.spent h)
-      by phase.Ending is given = commands.spent h
-      by phase.Closed is given = commands.spent h
+      by : (at : Phase) → phase_at s conn ≡ at → (given : Command) → P (Some 2) (command_done_in at conn given s)
+      by phase.Fresh is (command.Auth given) = offered_kept given is (drew_none h)
+      by phase.Fresh is command.Exit = dismissed_kept parting.Exit bye tt (drew_none h)
+      by phase.Fresh is (command.Api text) = commands.gave (command_reply not_found) (drew_none h)
+      by phase.Fresh is command.Unknown = commands.gave (command_reply not_found) (drew_none h)
+      by phase.Ready is (command.Auth given) = commands.gave (command_reply not_found) (drew_none h)
+      by phase.Ready is command.Exit = dismissed_kept parting.Exit bye tt (drew_none h)
+      by phase.Ready is (command.Api text) =
+          responded_kept (done_by conn (api_of text) s).answer (done_kept (api_of text) (api_short text) h)
+      by phase.Ready is command.Unknown = commands.gave (command_reply not_found) (drew_none h)
+      by phase.Ending is given = drew_none h
+      by phase.Closed is given = drew_none h
 
 -- ---- all acts
 
+-- how many identifiers an act draws at most
+abbrev pub most_drawn : Act → ℕ
+most_drawn (act.Command conn block) = 2
+most_drawn _ = 0
+
 module _ (before : Switch) (P : Fact) (kept : KeptByMoves before P) where
-  spent : {s : Switch} → P true s → P false s
+  spent : {s : Switch} → P None s → P (Some 0) s
   spent h = (kept.commands 0).spent h
 
-  closed_kept : (how : Closing) (conn : ℕ) {s : Switch} → P false s → P false (closed_by how conn s)
+  closed_kept : (how : Closing) (conn : ℕ) {s : Switch} → P (Some 0) s → P (Some 0) (closed_by how conn s)
   closed_kept closing.EndOfInput conn h = kept.visits.silent conn h
   closed_kept closing.Sent conn h = kept.visits.left conn h
   closed_kept closing.Failed conn h = kept.visits.left conn h
 
-  pub acted_kept : (a : Act) → P true before → P false (act_done a before).state
+  pub acted_kept : (a : Act) → P None before → P (Some (most_drawn a)) (act_done a before).state
   acted_kept act.Arrive h = kept.visits.arrived h
   acted_kept (act.Command conn block) h = commanded_kept conn P kept.calls (kept.commands conn) (command_of (line_of block)) h
   acted_kept (act.Take conn) h = kept.visits.taken conn (spent h)

@@ -1,5 +1,6 @@
 -- Each act keeps a partner for each live channel, and the texts of all channels within their limits.
 use Rattle.std.proofs.Common.{◌≡◌, ℕ, true, List, Option, None, Some, IsSome, unwrap_or, refl, sym, ap, subst, ◌∙◌, true≢false}
+use Rattle.std.proofs.lemmas.Option.{same_Some}
 use Rattle.fs_text.specs.declared.causes.Cause.{Cause}
 use Rattle.fs_api.specs.declared.api.Winner.{Winner}
 use Rattle.fs_api.specs.declared.api.Winner.TheVariants.{App, Route}
@@ -9,20 +10,20 @@ use Rattle.fs_orig.specs.declared.leg.OrigLeg.{OrigLeg}
 use Rattle.fs_orig.specs.Changes.{with_answer}
 use Rattle.fs_orig.specs.Endpoints.{IsShortAddress}
 use Rattle.fs_places.specs.Places.{held_in}
+use Rattle.fs_places.proofs.RowLemmas.{each_put}
 use Rattle.fs_state.specs.declared.job.JobWork.TheVariants.{Originate}
 use Rattle.fs_state.specs.Switch.{Switch, chan_at, with_chan, with_next_identifier, identifier_of}
 use Rattle.fs_state.specs.Moves.{after_move_from, orig_changed, leg_changed, after_hangup}
+use Rattle.fs_state.proofs.LegTables.{seated}
 use Rattle.fs_machine.specs.declared.attempts.Attempt.{Attempt}
 use Rattle.fs_machine.specs.declared.originations.Call.{Call}
 use Rattle.fs_machine.specs.declared.originations.End.{End}
 use Rattle.fs_machine.specs.Originations.{target_of, end_of, end_made, leg_end, far_end, pair_made, won_by, won}
-use Rattle.fs_machine.proofs.RowLemmas.{each_put}
-use Rattle.fs_machine.proofs.TableLemmas.{same_there}
-use Rattle.fs_machine.proofs.Kept.{Fact, Links, Stays, DoesJob, HasLeg, IsShortWinner, KeptByMoves}
+use Rattle.fs_machine.specs.Sound.{HasLeg}
+use Rattle.fs_machine.proofs.Kept.{Fact, Links, Stays, DoesJob, IsShortWinner, KeptByMoves}
 use Rattle.fs_machine.proofs.ShortLemmas.{sent_short, profile_short}
 use Rattle.fs_machine.proofs.Walk.{hangup_dead, state_told_kept, hung_kept}
 use Rattle.fs_machine.proofs.FrontLemmas.{Front, front_of, orig_changed_front, moves_by_front}
-use Rattle.fs_machine.proofs.LegTables.{seated}
 use Rattle.fs_machine.proofs.LegMoves.{roles_of, IsLegOf, LegsStand, has_leg}
 use Rattle.fs_machine.proofs.WinnerMoves.{WinnersAreShort, winner_of_job}
 
@@ -59,42 +60,55 @@ stays_fit old new stays fit = record {
 hung_fit : (cause : Cause) (slot : ℕ) (s : Switch) → AllFit s.channels → AllFit (after_hangup cause slot s).channels
 hung_fit cause slot s h =
     hung_kept (λ (t : Switch). AllFit t.channels) (λ event t plain k. k)
-    (λ why place c t is k. put_fit place (hung_up why c) t (record { partner = λ live. absurd (true≢false (sym live ∙ hangup_dead)); short = (fit_there t place c is k).short }) k)
-    (λ change number t k. same_fit (front_of t) (front_of (orig_changed change number t)) (orig_changed_front change number t) k) cause slot s h
+    (λ why place c t is k. put_fit place (hung_up why c) t
+    (record { partner = λ live. absurd (true≢false (sym live ∙ hangup_dead)); short = (fit_there t place c is k).short }) k)
+    (λ change number t k. same_fit (front_of t) (front_of (orig_changed change number t)) (orig_changed_front change number t) k) cause slot
+    s h
 
 -- ---- two channels are made
 
-end_fit : (call : Call) (end : End) (s : Switch) → IsShortAddress call.exten call.context → AllFit s.channels → AllFit (end_made call end s).channels
+end_fit : (call : Call) (end : End) (s : Switch) → IsShortAddress call.exten call.context → AllFit s.channels →
+    AllFit (end_made call end s).channels
 end_fit call end s short h =
     put_fit end.slot (end_of call end (identifier_of (with_next_identifier s))) (with_next_identifier s)
-    (record { partner = λ live. refl; short = profile_short call end.direction s.config.settings.core_uuid (with_next_identifier s).drawn.identifiers short }) h
+    (record {
+      partner =
+          λ live. refl;
+      short = profile_short call end.direction s.config.settings.core_uuid (with_next_identifier s).drawn.identifiers short;
+    }) h
 
-pair_fit : (call : Call) (orig a b : ℕ) (s : Switch) → IsShortAddress call.exten call.context → AllFit s.channels → AllFit (pair_made call orig a b s).channels
-pair_fit call orig a b s short h = end_fit call (far_end a b) (end_made call (leg_end orig a b) s) short (end_fit call (leg_end orig a b) s short h)
+pair_fit : (call : Call) (orig a b : ℕ) (s : Switch) → IsShortAddress call.exten call.context → AllFit s.channels →
+    AllFit (pair_made call orig a b s).channels
+pair_fit call orig a b s short h =
+    end_fit call (far_end a b) (end_made call (leg_end orig a b) s) short (end_fit call (leg_end orig a b) s short h)
 
 -- ---- a leg wins
 
 won_by_fit : (winner : Winner) (c : Chan) → IsShortWinner winner → is_live c ≡ true → IsFit c → IsFit (won_by winner c)
 won_by_fit (App application argument) c short live fit = record { partner = λ lives. fit.partner live; short = fit.short }
-won_by_fit (Route to) c short live fit = record { partner = λ lives. fit.partner live; short = sent_short (target_of to) c.profile short fit.short }
+won_by_fit (Route to) c short live fit =
+    record { partner = λ lives. fit.partner live; short = sent_short (target_of to) c.profile short fit.short }
 
-won_at_fit : (winner : Winner) (slot : ℕ) (s : Switch) → IsShortWinner winner → ((c : Chan) → chan_at s slot ≡ Some c → is_live c ≡ true) → AllFit s.channels → AllFit (won winner slot s).channels
+won_at_fit : (winner : Winner) (slot : ℕ) (s : Switch) → IsShortWinner winner → ((c : Chan) → chan_at s slot ≡ Some c → is_live c ≡ true) →
+    AllFit s.channels → AllFit (won winner slot s).channels
 unfolding won
 won_at_fit winner slot s short live h = by (chan_at s slot) refl
   where
     by : (found : Option Chan) → chan_at s slot ≡ found → AllFit (after_move_from (won_by winner) slot found s).channels
     by None is = h
     by (Some c) is =
-        state_told_kept (λ (t : Switch). AllFit t.channels) (λ event t plain k. k) c.state (won_by winner c).state {s = with_chan slot (Some (won_by winner c)) s}
+        state_told_kept (λ (t : Switch). AllFit t.channels) (λ event t plain k. k) c.state
+        (won_by winner c).state {s = with_chan slot (Some (won_by winner c)) s}
         (put_fit slot (won_by winner c) s (won_by_fit winner c short (live c is) (fit_there s slot c is h)) h)
 
-wins_fit : (a : Attempt) (winner : Winner) (leg : OrigLeg) (s : Switch) → DoesJob s a.job a.conn (Originate a.orig winner) → HasLeg s a.orig leg → LegsStand (roles_of s) → WinnersAreShort s.jobs →
+wins_fit : (a : Attempt) (winner : Winner) (leg : OrigLeg) (s : Switch) → DoesJob s a.job a.conn (Originate a.orig winner) →
+    HasLeg s a.orig leg → LegsStand (roles_of s) → WinnersAreShort s.jobs →
     AllFit s.channels → AllFit (won winner (unwrap_or leg.slot 0) s).channels
 wins_fit a winner leg s does has stand short h =
     let stands : IsLegOf s.channels (seated a.orig leg.slot) = has_leg s a.orig leg has stand in
     let same : unwrap_or leg.slot 0 ≡ stands.at = ap (λ (slot : Option ℕ). unwrap_or slot 0) stands.is in
     won_at_fit winner (unwrap_or leg.slot 0) s (winner_of_job s a.job a.conn a.orig winner does short)
-    (λ c is. ap is_live (same_there c stands.chan (sym is ∙ (ap (chan_at s) same ∙ stands.there))) ∙ stands.live) h
+    (λ c is. ap is_live (same_Some c stands.chan (sym is ∙ (ap (chan_at s) same ∙ stands.there))) ∙ stands.live) h
 
 -- ---- every move
 
@@ -111,5 +125,5 @@ fit_moves before stand winners =
       hung = λ cause slot {s = s} h. hung_fit cause slot s h;
       gone = λ slot old {s = s} there dead h. each_put FitsIn s.channels slot None h tt;
     })
-    (record { spent = λ h. h; pair = λ call orig a b {s = s} short first second h. pair_fit call orig a b s short h })
+    (record { spent = λ h. h; more = λ below h. h; pair = λ call orig a b {s = s} short first second h. pair_fit call orig a b s short h })
     (λ a winner leg does has h. wins_fit a winner leg before does has stand winners h)

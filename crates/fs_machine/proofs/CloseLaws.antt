@@ -3,6 +3,7 @@ use Rattle.std.proofs.Common.{◌≡◌, ◌≢◌, ℕ, ◌==◌, Bool, true, f
 use Rattle.std.specs.Option.{option_and_then}
 use Rattle.std.proofs.lemmas.Option.{none-some}
 use Rattle.fs_places.specs.Rows.{place_of, row_of, with_row}
+use Rattle.fs_places.proofs.RowLemmas.{row_none, row_of-with_row_same}
 use Rattle.fs_state.specs.declared.conn.Conn.{Conn}
 use Rattle.fs_state.specs.declared.conn.Phase.{Phase}
 use Rattle.fs_state.specs.declared.conn.Phase.TheVariants.{Fresh, Ready, Ending, Closed}
@@ -16,7 +17,6 @@ use Rattle.fs_machine.specs.Connections.{phase_of, phase_at, parted, conn_change
 use Rattle.fs_machine.specs.Questions.{owed_of, owes}
 use Rattle.fs_machine.specs.Owed.{PartsIn, Parts, AreOwed}
 use Rattle.fs_machine.specs.Step.{step, reads, is_closed, is_ending, refused_where, refused_act}
-use Rattle.fs_machine.proofs.RowLemmas.{row_none, row_of-with_row_same}
 
 -- one that is there and reads no commands is ending
 ending_in : (c : Conn) → Parts c → reads c.phase ≡ false → c.phase ≡ Ending
@@ -33,7 +33,8 @@ ending_at s conn owed there none = by (conn_of s conn) refl
   where
     by : (found : Option Conn) → conn_of s conn ≡ found → phase_at s conn ≡ Ending
     by None is = absurd (there is)
-    by (Some c) is = ap phase_of is ∙ ending_in c (owed.parted conn c is) (sym (ap (λ (found : Option Conn). reads (phase_of found)) is) ∙ none)
+    by (Some c) is =
+        ap phase_of is ∙ ending_in c (owed.parted conn c is) (sym (ap (λ (found : Option Conn). reads (phase_of found)) is) ∙ none)
 
 -- a connection that is there is changed
 changed_at : (s : Switch) (conn : ℕ) (c d : Conn) → conn_of s conn ≡ Some c → row_of (with_row s.conns conn d) conn ≡ Some d
@@ -48,18 +49,22 @@ owed_in found = is_some (option_and_then owed_of found)
 
 -- the end of its input parts one that reads commands, and changes nothing in what it is owed
 pub end_parts : (s : Switch) (moment conn : ℕ) → reads (phase_at s conn) ≡ true → owes s conn ≡ false →
-    (phase_at (step s (record { moment = moment; act = Close conn EndOfInput })).state conn ≡ Ending) × (owes (step s (record { moment = moment; act = Close conn EndOfInput })).state conn ≡ false)
+    (phase_at (step s (record { moment = moment; act = Close conn EndOfInput })).state conn ≡ Ending) × (owes
+    (step s (record { moment = moment; act = Close conn EndOfInput })).state conn ≡ false)
 unfolding step
 end_parts s moment conn reading free = by (conn_of s conn) refl
   where
     by : (found : Option Conn) → conn_of s conn ≡ found →
         (phase_at (conn_changed_from (parted parting.EndOfInput) conn found (at_moment moment s)) conn ≡ Ending)
         × (owes (conn_changed_from (parted parting.EndOfInput) conn found (at_moment moment s)) conn ≡ false)
-    by None is = let closed : reads Closed ≡ true = ap (λ (found : Option Conn). reads (phase_of found)) (sym is) ∙ reading in absurd (cc closed)
-    by (Some c) is = let there = changed_at s conn c (parted parting.EndOfInput c) is in (ap phase_of there, ap owed_in there ∙ sym (ap owed_in is) ∙ free)
+    by None is =
+        let closed : reads Closed ≡ true = ap (λ (found : Option Conn). reads (phase_of found)) (sym is) ∙ reading in absurd (cc closed)
+    by (Some c) is = let there = changed_at s conn c (parted parting.EndOfInput c) is in
+        (ap phase_of there, ap owed_in there ∙ sym (ap owed_in is) ∙ free)
 
 -- taking a frame leaves the phase
-pub take_leaves_phase : (s : Switch) (moment conn : ℕ) → phase_at (step s (record { moment = moment; act = Take conn })).state conn ≡ phase_at s conn
+pub take_leaves_phase : (s : Switch) (moment conn : ℕ) →
+    phase_at (step s (record { moment = moment; act = Take conn })).state conn ≡ phase_at s conn
 unfolding step
 take_leaves_phase s moment conn = refl
 
@@ -68,9 +73,12 @@ abbrev unsent_in : Phase → ℕ → Bool → Bool
 unsent_in now queued owed = not (is_ending now) || (not (queued == 0) || owed)
 
 -- one that is ending, for which nothing waits and that is owed nothing can be closed
-pub sent_accepted : (s : Switch) (conn : ℕ) → phase_at s conn ≡ Ending → waiting_for s conn ≡ [] → owes s conn ≡ false → refused_act (Close conn Sent) s ≡ None
+pub sent_accepted : (s : Switch) (conn : ℕ) → phase_at s conn ≡ Ending → waiting_for s conn ≡ [] → owes s conn ≡ false →
+    refused_act (Close conn Sent) s ≡ None
 sent_accepted s conn ending nothing free =
     ap (λ (now : Phase). refused_where (is_closed now) refusal.Gone
-    (refused_where (unsent_in now (length (waiting_for s conn)) (owes s conn)) (refusal.Unsent (length (waiting_for s conn)) (owes s conn)) None)) ending
-    ∙ ap (λ (frames : Frames). refused_where (unsent_in Ending (length frames) (owes s conn)) (refusal.Unsent (length frames) (owes s conn)) None) nothing
+    (refused_where (unsent_in now (length (waiting_for s conn)) (owes s conn))
+    (refusal.Unsent (length (waiting_for s conn)) (owes s conn)) None)) ending
+    ∙ ap (λ (frames : Frames). refused_where (unsent_in Ending (length frames) (owes s conn))
+    (refusal.Unsent (length frames) (owes s conn)) None) nothing
     ∙ ap (λ (owed : Bool). refused_where (unsent_in Ending 0 owed) (refusal.Unsent 0 owed) None) free

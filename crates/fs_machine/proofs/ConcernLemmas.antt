@@ -5,6 +5,7 @@ use Rattle.std.proofs.lemmas.Option.{same_Some, none-some}
 use Rattle.fs_doc.specs.Reading.{Configuration}
 use Rattle.fs_places.specs.Places.{least_free}
 use Rattle.fs_places.specs.Rows.{place_of, row_of, with_new_row}
+use Rattle.fs_places.proofs.RowLemmas.{row_none, row_of-without_row_other, row_of-with_new_row_same, row_of-with_new_row_other}
 use Rattle.fs_state.specs.declared.conn.Phase.{Phase}
 use Rattle.fs_state.specs.declared.conn.Phase.TheVariants.{Fresh, Ready, Ending, Closed}
 use Rattle.fs_state.specs.Drawn as numbers
@@ -22,7 +23,6 @@ use Rattle.fs_machine.specs.Step.{reads, is_closed, busy, refused_where, refused
 use Rattle.fs_machine.specs.Runs.{run_from, IsRunFrom}
 use Rattle.fs_machine.specs.Frames.{frames_among, given_in, given_by, handed_in, command_in}
 use Rattle.fs_machine.specs.Concerns.{actor_of, IsOwn, IsOthers, Comes, Concerns}
-use Rattle.fs_machine.proofs.RowLemmas.{row_none, row_of-without_row_other, row_of-with_new_row_same, row_of-with_new_row_other}
 use Rattle.fs_machine.proofs.KeepLemmas.{Settles, settles_same, Keeps, act_keeps}
 use Rattle.fs_machine.proofs.WaitingLemmas.{Ordered, none_closed, keeps_waiting, closed_waits, taken_other, without_other, number_new, arrived_ordered, arrived_waits}
 use Rattle.fs_machine.proofs.OrderLemmas.{Orderly, acted_ordered, none_refused, not_full, not_refused, room_left, advanced_orderly, run_orderly, empty_orderly}
@@ -37,7 +37,8 @@ whose act s = actor_of act
 
 is_its : (found : Option ℕ) (conn : ℕ) → (found ≡ Some conn) ⊎ (found ≡ Some conn → ⊥)
 is_its None conn = inr (λ same. none-some conn same)
-is_its (Some number) conn = elim (cases_eq number conn) [ inl same ↦ inl (ap Some same) | inr differ ↦ inr (λ same. differ (same_Some number conn same)) ]
+is_its (Some number) conn =
+    elim (cases_eq number conn) [ inl same ↦ inl (ap Some same) | inr differ ↦ inr (λ same. differ (same_Some number conn same)) ]
 
 -- ---- an act of others
 
@@ -46,7 +47,8 @@ record Spares (conn : ℕ) (s t : Switch) : Type 0 where
   settles : Settles (conn_of s conn) (conn_of t conn)
   waits : waiting_for t conn ≡ waiting_for s conn
 
-keeps_spares : {who : Option ℕ} {may_end : Bool} → (conn : ℕ) (s t : Switch) → Keeps who may_end s t → (who ≡ Some conn → ⊥) → Spares conn s t
+keeps_spares : {who : Option ℕ} {may_end : Bool} → (conn : ℕ) (s t : Switch) → Keeps who may_end s t → (who ≡ Some conn → ⊥) →
+    Spares conn s t
 keeps_spares conn s t keeps apart = record { settles = keeps.others conn apart; waits = keeps_waiting s t keeps conn }
 
 -- one that goes spares the others
@@ -56,7 +58,8 @@ without_spares conn gone s differ = record {
   waits = without_other gone conn s differ;
 }
 
-act_spares : (conn : ℕ) (act : Act) (s : Switch) → Ordered s → s.drawn.conns < 2 ^ 32 - 1 → (whose act s ≡ Some conn → ⊥) → Spares conn s (act_done act s).state
+act_spares : (conn : ℕ) (act : Act) (s : Switch) → Ordered s → s.drawn.conns < 2 ^ 32 - 1 → (whose act s ≡ Some conn → ⊥) →
+    Spares conn s (act_done act s).state
 act_spares conn Arrive s ordered room apart = record {
   settles = settles_same (conn_of s conn) (conn_of (arrived s).state conn)
       (row_of-with_new_row_other s.conns (numbers.with_conn s.drawn).conns new_conn conn (λ same. apart (ap Some same)));
@@ -77,20 +80,24 @@ others_actor conn act s apart same = apart same
 
 -- it gives no command
 others_command : (conn : ℕ) (act : Act) (s : Switch) → (whose act s ≡ Some conn → ⊥) → command_in conn act ≡ []
-others_command conn (Command giver block) s apart = ap (λ b. if b then block ∷ [] else []) (ne_eqb giver conn (λ same. apart (ap Some same)))
+others_command conn (Command giver block) s apart =
+    ap (λ b. if b then block ∷ [] else []) (ne_eqb giver conn (λ same. apart (ap Some same)))
 others_command conn _ s apart = refl
 
 -- nothing is handed out
 others_handed : (conn : ℕ) (act : Act) (s t : Switch) → (whose act t ≡ Some conn → ⊥) → handed_in conn act s ≡ []
-others_handed conn (Take taker) s t apart = ap (λ b. if b then take 1 (waiting_for s conn) else []) (ne_eqb taker conn (λ same. apart (ap Some same)))
+others_handed conn (Take taker) s t apart =
+    ap (λ b. if b then take 1 (waiting_for s conn) else []) (ne_eqb taker conn (λ same. apart (ap Some same)))
 others_handed conn _ s t apart = refl
 
-others : (conn : ℕ) (s : Switch) (entry : Entry) → Orderly s → refusal_of s entry ≡ None → (whose entry.act (at_moment entry.moment s) ≡ Some conn → ⊥) → IsOthers conn s entry
+others : (conn : ℕ) (s : Switch) (entry : Entry) → Orderly s → refusal_of s entry ≡ None →
+    (whose entry.act (at_moment entry.moment s) ≡ Some conn → ⊥) → IsOthers conn s entry
 unfolding step given_by
 others conn s entry orderly none apart =
     let ordered : Ordered (at_moment entry.moment s) = (advanced_orderly entry.moment s orderly).ordered in
     let room : s.drawn.conns < 2 ^ 32 - 1 = room_left s orderly (not_full s entry none) in
-    let spares : Spares conn (at_moment entry.moment s) (act_done entry.act (at_moment entry.moment s)).state = act_spares conn entry.act (at_moment entry.moment s) ordered room apart in
+    let spares : Spares conn (at_moment entry.moment s) (act_done entry.act (at_moment entry.moment s)).state =
+    act_spares conn entry.act (at_moment entry.moment s) ordered room apart in
     record {
       actor = others_actor conn entry.act (at_moment entry.moment s) apart;
       commands = others_command conn entry.act (at_moment entry.moment s) apart;
@@ -98,7 +105,8 @@ others conn s entry orderly none apart =
       phase = spares.settles.phase;
       owed = spares.settles.owed;
       frames =
-          closed_waits (cost_of entry.act) (act_done entry.act (at_moment entry.moment s)).state conn (acted_ordered entry.act (at_moment entry.moment s) ordered room)
+          closed_waits (cost_of entry.act) (act_done entry.act (at_moment entry.moment s)).state conn
+          (acted_ordered entry.act (at_moment entry.moment s) ordered room)
           ∙ ap (λ frames. frames ++ given_in conn (act_done entry.act (at_moment entry.moment s)).state) spares.waits;
     }
 
@@ -112,7 +120,8 @@ reads_open Ending e = refl
 reads_open Closed e = absurd (cc)
 
 -- whose act is not refused is open
-actor_open : (act : Act) (number : ℕ) (s : Switch) → actor_of act ≡ Some number → refused_act act s ≡ None → is_closed (phase_at s number) ≡ false
+actor_open : (act : Act) (number : ℕ) (s : Switch) → actor_of act ≡ Some number → refused_act act s ≡ None →
+    is_closed (phase_at s number) ≡ false
 actor_open Arrive number s same none = absurd (none-some number same)
 actor_open (Command conn block) number s same none =
     subst (λ n. is_closed (phase_at s n) ≡ false) (same_Some conn number same)
@@ -123,16 +132,20 @@ actor_open (Take conn) number s same none =
 actor_open (Close conn EndOfInput) number s same none =
     subst (λ n. is_closed (phase_at s n) ≡ false) (same_Some conn number same)
     (reads_open (phase_at s conn) (none_refused (not (reads (phase_at s conn))) refusal.Gone None none).0)
-actor_open (Close conn Sent) number s same none = subst (λ n. is_closed (phase_at s n) ≡ false) (same_Some conn number same) (close_refused s conn none).0
+actor_open (Close conn Sent) number s same none =
+    subst (λ n. is_closed (phase_at s n) ≡ false) (same_Some conn number same) (close_refused s conn none).0
 actor_open (Close conn Failed) number s same none =
-    subst (λ n. is_closed (phase_at s n) ≡ false) (same_Some conn number same) (none_refused (is_closed (phase_at s conn)) refusal.Gone None none).0
+    subst (λ n. is_closed (phase_at s n) ≡ false) (same_Some conn number same)
+    (none_refused (is_closed (phase_at s conn)) refusal.Gone None none).0
 actor_open (Work slot) number s same none = absurd (none-some number same)
 actor_open (Job job) number s same none = absurd (none-some number same)
 
 -- one that is closed by an entry is given nothing
-closed_gives_none : (conn : ℕ) (s : Switch) (entry : Entry) → is_closed (phase_at (step s entry).state conn) ≡ true → given_by conn s entry ≡ []
+closed_gives_none : (conn : ℕ) (s : Switch) (entry : Entry) → is_closed (phase_at (step s entry).state conn) ≡ true →
+    given_by conn s entry ≡ []
 unfolding step given_by
-closed_gives_none conn s entry gone = ap (λ b. if b then [] else frames_among conn (act_done entry.act (at_moment entry.moment s)).state.given) gone
+closed_gives_none conn s entry gone =
+    ap (λ b. if b then [] else frames_among conn (act_done entry.act (at_moment entry.moment s)).state.given) gone
 
 own : (conn : ℕ) (s : Switch) (entry : Entry) → Orderly s → refusal_of s entry ≡ None → actor_of entry.act ≡ Some conn → IsOwn conn s entry
 own conn s entry orderly none actor = record {
@@ -142,11 +155,13 @@ own conn s entry orderly none actor = record {
   last = closed_gives_none conn s entry;
 }
   where
-    by : (waiting_for s conn ++ given_by conn s entry ≡ handed_in conn entry.act s ++ waiting_for (step s entry).state conn) ⊎ Lost conn s entry →
+    by : (waiting_for s conn ++ given_by conn s entry ≡ handed_in conn entry.act s ++ waiting_for (step s entry).state conn) ⊎ Lost conn s
+        entry →
         is_closed (phase_at (step s entry).state conn) ≡ false →
         waiting_for s conn ++ given_by conn s entry ≡ handed_in conn entry.act s ++ waiting_for (step s entry).state conn
     by (inl follows) still = follows
-    by (inr lost) still = absurd (both_ways (is_closed (phase_at (step s entry).state conn)) still (none_closed (step s entry).state conn lost.gone))
+    by (inr lost) still =
+        absurd (both_ways (is_closed (phase_at (step s entry).state conn)) still (none_closed (step s entry).state conn lost.gone))
 
 -- ---- the act by which it comes
 
@@ -171,7 +186,9 @@ comes moment s orderly none =
     let room : s.drawn.conns < 2 ^ 32 - 1 = room_left s orderly (not_full s (record { moment = moment; act = Arrive }) none) in
     let nowhere : place_of s.conns new ≡ None = number_new s orderly.ordered room in
     let there : conn_of (arrived (at_moment moment s)).state new ≡ Some new_conn =
-    new_there s orderly.ordered room (none_refused (is_full_of_conns s) (refusal.TooMany (places_for_conns s)) None (not_refused s (record { moment = moment; act = Arrive }) none)).0 in
+    new_there s orderly.ordered room
+    (none_refused (is_full_of_conns s) (refusal.TooMany (places_for_conns s)) None
+    (not_refused s (record { moment = moment; act = Arrive }) none)).0 in
     let given : given_in new (arrived (at_moment moment s)).state ≡ auth_request ∷ [] =
     ap (λ found. if is_closed (phase_of found) then [] else frames_among new (arrived (at_moment moment s)).state.given) there
     ∙ ap (λ gifts. frames_among new (gifts ++ record { conn = new; frames = auth_request ∷ [] } ∷ [])) orderly.given
@@ -183,7 +200,8 @@ comes moment s orderly none =
       given = given;
       frames =
           closed_waits 64 (arrived (at_moment moment s)).state new (arrived_ordered (at_moment moment s) ordered room)
-          ∙ ap (λ frames. frames ++ given_in new (arrived (at_moment moment s)).state) (arrived_waits (at_moment moment s) new ordered room ∙ none_waits s new nowhere)
+          ∙ ap (λ frames. frames ++ given_in new (arrived (at_moment moment s)).state)
+          (arrived_waits (at_moment moment s) new ordered room ∙ none_waits s new nowhere)
           ∙ given;
     }
 
@@ -193,8 +211,11 @@ act_concerns : (conn moment : ℕ) (act : Act) (s : Switch) → Orderly s → re
     Concerns conn s (record { moment = moment; act = act })
 act_concerns conn moment Arrive s orderly none =
     elim (cases_eq (numbers.with_conn s.drawn).conns conn) [
-      | inl same ↦ inr (inr (subst (λ number. Comes number s (record { moment = moment; act = Arrive })) same (comes moment s orderly none)))
-      | inr differ ↦ inr (inl (others conn s (record { moment = moment; act = Arrive }) orderly none (λ same. differ (same_Some (numbers.with_conn s.drawn).conns conn same))))
+      | inl same ↦
+          inr (inr (subst (λ number. Comes number s (record { moment = moment; act = Arrive })) same (comes moment s orderly none)))
+      | inr differ ↦
+          inr (inl (others conn s (record { moment = moment; act = Arrive }) orderly none
+          (λ same. differ (same_Some (numbers.with_conn s.drawn).conns conn same))))
     ]
 act_concerns conn moment act s orderly none =
     elim (is_its (actor_of act) conn) [
@@ -206,4 +227,5 @@ pub concerns : (config : Configuration) (entries : List Entry) (entry : Entry) (
     IsRunFrom (empty config) (entries ++ entry ∷ []) → Concerns conn (run_from (empty config) entries) entry
 concerns config entries entry conn limit run =
     let front = run_front (empty config) entries entry run in
-    act_concerns conn entry.moment entry.act (run_from (empty config) entries) (run_orderly (empty config) entries (empty_orderly config limit) front.0) front.1
+    act_concerns conn entry.moment entry.act (run_from (empty config) entries)
+    (run_orderly (empty config) entries (empty_orderly config limit) front.0) front.1

@@ -1,21 +1,24 @@
 -- Whoever has something to do is not refused it, and what is due later is due once its moment has come.
-use Rattle.std.proofs.Common.{◌≡◌, ℕ, zero, suc, ◌<◌, ◌≤◌, min, max, leb, if◌then◌else◌, Bool, true, false, List, [], ◌∷◌, Option, None, Some, ◌⊎◌, inl, inr, refl, sym, ap, subst, ◌∙◌, arith}
+use Rattle.std.proofs.Common.{◌≡◌, ℕ, ◌<◌, ◌≤◌, max, leb, Bool, true, false, List, Option, None, Some, ◌⊎◌, inl, inr, refl, sym, ap, subst, ◌∙◌, arith, if◌then◌else◌}
 use Rattle.std.specs.Option.{option_and_then}
-use Rattle.std.proofs.lemmas.Bool.{both_ways, leb-true, leb-false, le-leb}
+use Rattle.std.proofs.lemmas.Bool.{both_ways}
+use Rattle.std.proofs.lemmas.Option.{none-some, same_Some}
 use Rattle.fs_chan.specs.declared.chan.Chan.{Chan}
 use Rattle.fs_chan.specs.declared.due.Due.{Due}
 use Rattle.fs_chan.specs.declared.due.Due.TheVariants.{Now, At}
 use Rattle.fs_chan.specs.Work.{due_at, due_of}
-use Rattle.fs_chan.proofs.WorkLemmas.{has_come}
+use Rattle.fs_chan.proofs.WorkLemmas.{has_come, due_now, has_come_at, never_later}
 use Rattle.fs_doc.specs.Reading.{Configuration}
 use Rattle.fs_orig.specs.declared.orig.Orig.{Orig}
 use Rattle.fs_orig.specs.declared.verdict.Verdict.{Verdict}
 use Rattle.fs_orig.specs.declared.verdict.Verdict.TheVariants as verdict
-use Rattle.fs_orig.specs.Meaning.{is_timeout}
 use Rattle.fs_orig.specs.Verdicts as verdicts
-use Rattle.fs_orig.proofs.VerdictLemmas.{then_expires}
+use Rattle.fs_orig.proofs.VerdictLemmas.{then_expires, timeout_due}
 use Rattle.fs_places.specs.declared.numbered.Numbered.{Numbered}
 use Rattle.fs_places.specs.Places.{held_in}
+use Rattle.fs_places.proofs.RowLemmas.{place_found, none_found}
+use Rattle.fs_places.specs.Least.{lesser}
+use Rattle.fs_places.proofs.LeastLemmas.{lesser_is, least_held, least_never}
 use Rattle.fs_state.specs.declared.job.Job.{Job}
 use Rattle.fs_state.specs.declared.job.JobWork.{JobWork}
 use Rattle.fs_state.specs.declared.job.JobWork.TheVariants.{Sleep, Originate}
@@ -24,11 +27,9 @@ use Rattle.fs_machine.specs.declared.due.DueActor.{DueActor}
 use Rattle.fs_machine.specs.declared.due.DueActor.TheVariants as actor
 use Rattle.fs_machine.specs.declared.entry.Entry.{Entry}
 use Rattle.fs_machine.specs.declared.entry.Act.TheVariants.{Work, Job as Works}
-use Rattle.fs_machine.specs.Due.{slot_due, orig_due, work_due, job_due, is_now, later_of, is_due, due_slot, lesser, least_of, chan_moment, row_moment, number_where, due_number, due_job, first_chan_moment, first_job_moment, actor_or, later_or_never, due_among_all, next_due}
+use Rattle.fs_machine.specs.Due.{slot_due, orig_due, work_due, job_due, is_now, later_of, is_due, due_slot, chan_moment, row_moment, number_where, due_number, due_job, first_chan_moment, first_job_moment, actor_or, later_or_never, due_among_all, next_due}
 use Rattle.fs_machine.specs.Step.{not_due, refused_act}
 use Rattle.fs_machine.specs.Runs.{run_from, IsRunFrom}
-use Rattle.fs_machine.proofs.TableLemmas.{nothing_there, something_there, same_there}
-use Rattle.fs_machine.proofs.RowLemmas.{place_found, none_found}
 use Rattle.fs_machine.proofs.DueLemmas.{next_to_come}
 use Rattle.fs_machine.proofs.OwedBooks.{books_of, Sound}
 use Rattle.fs_machine.proofs.OwedLaws.{Holds, holds_empty, holds_run, job_is_known}
@@ -43,46 +44,11 @@ known_in : (s : Switch) → Sound (books_of s) → AreKnown s
 known_in s h = record { known = λ place job is. job_is_known s place job h is }
 
 -- behind every run they are so
-pub run_is_known : (config : Configuration) (entries : List Entry) → config.settings.journal_limit ≤ 1073741824 → IsRunFrom (empty config) entries → AreKnown (run_from (empty config) entries)
+pub run_is_known : (config : Configuration) (entries : List Entry) → config.settings.journal_limit ≤ 1073741824 →
+    IsRunFrom (empty config) entries → AreKnown (run_from (empty config) entries)
 run_is_known config entries small run =
     let h : Holds (books_of (run_from (empty config) entries)) = holds_run entries (empty config) run (holds_empty config small) in
     known_in (run_from (empty config) entries) h.sound
-
--- ---- the least of some numbers
-
--- it is one of the two
-lesser_is : (a b : Option ℕ) (n : ℕ) → lesser a b ≡ Some n → (a ≡ Some n) ⊎ (b ≡ Some n)
-lesser_is None b n is = inr is
-lesser_is (Some a) None n is = inl is
-lesser_is (Some a) (Some b) n is = by (leb a b) refl
-  where
-    least : min a b ≡ n
-    least = same_there (min a b) n is
-
-    by : (less : Bool) → leb a b ≡ less → (Some a ≡ Some n) ⊎ (Some b ≡ Some n)
-    by true less = let same : a ≡ n = omega (arith, least, leb-true a b less) in inl (ap Some same)
-    by false less = let same : b ≡ n = omega (arith, least, leb-false a b less) in inr (ap Some same)
-
-lesser_never : (a b : Option ℕ) → lesser a b ≡ None → (a ≡ None) × (b ≡ None)
-lesser_never None b is = (refl, is)
-lesser_never (Some a) None is = absurd (something_there a is)
-lesser_never (Some a) (Some b) is = absurd (something_there (min a b) is)
-
--- it is that of something at a place
-least_held : {T : Type 0} → (number : Option T → Option ℕ) (things : List (Option T)) (n : ℕ) → least_of number things ≡ Some n → (place : ℕ) × (number (held_in things place) ≡ Some n)
-least_held number [] n is = absurd (nothing_there n is)
-least_held {T} number (thing ∷ things) n is = by (lesser_is (number thing) (least_of number things) n is) (λ there. least_held number things n there)
-  where
-    by : (number thing ≡ Some n) ⊎ (least_of number things ≡ Some n) → (least_of number things ≡ Some n → (place : ℕ) × (number (held_in things place) ≡ Some n)) →
-        (place : ℕ) × (number (held_in (thing ∷ things) place) ≡ Some n)
-    by (inl here) more = (zero, here)
-    by (inr there) more = let found = more there in (suc found.0, found.1)
-
--- without one nothing has a number
-least_never : {T : Type 0} → (number : Option T → Option ℕ) (things : List (Option T)) → number None ≡ None → least_of number things ≡ None → (place : ℕ) → number (held_in things place) ≡ None
-least_never number [] none is place = none
-least_never number (thing ∷ things) none is zero = (lesser_never (number thing) (least_of number things) is).0
-least_never number (thing ∷ things) none is (suc place) = least_never number things none (lesser_never (number thing) (least_of number things) is).1 place
 
 -- ---- who has something to do is not refused
 
@@ -100,24 +66,30 @@ slot_works s slot is =
 job_works : (s : Switch) (number : ℕ) → AreKnown s → due_job s ≡ Some number → refused_act (Works number) s ≡ None
 job_works s number are is = let found = least_held (due_number s) s.jobs number is in at found.0 (held_in s.jobs found.0) refl found.1
   where
-    by : (row : Numbered Job) → job_of s row.number ≡ Some row.held → (due : Bool) → is_now (work_due s row.held.work) ≡ due → (if due then Some row.number else None) ≡ Some number →
+    by : (row : Numbered Job) → job_of s row.number ≡ Some row.held → (due : Bool) → is_now (work_due s row.held.work) ≡ due →
+        (if due then Some row.number else None) ≡ Some number →
         not_due (job_due number s) ≡ None
     by row known true now e =
-        let due : job_due row.number s ≡ work_due s row.held.work = ap (λ (found : Option Job). option_and_then (λ (job : Job). work_due s job.work) found) known in
-        subst (λ n. not_due (job_due n s) ≡ None) (same_there row.number number e) (now_accepted (job_due row.number s) (ap is_now due ∙ now))
-    by row known false now e = absurd (nothing_there number e)
+        let due : job_due row.number s ≡ work_due s row.held.work =
+        ap (λ (found : Option Job). option_and_then (λ (job : Job). work_due s job.work) found) known in
+        subst (λ n. not_due (job_due n s) ≡ None) (same_Some row.number number e)
+        (now_accepted (job_due row.number s) (ap is_now due ∙ now))
+    by row known false now e = absurd (none-some number e)
 
-    at : (place : ℕ) (held : Option (Numbered Job)) → held_in s.jobs place ≡ held → due_number s held ≡ Some number → not_due (job_due number s) ≡ None
-    at place None there e = absurd (nothing_there number e)
+    at : (place : ℕ) (held : Option (Numbered Job)) → held_in s.jobs place ≡ held → due_number s held ≡ Some number →
+        not_due (job_due number s) ≡ None
+    at place None there e = absurd (none-some number e)
     at place (Some row) there e = by row (are.known place row there) (is_now (work_due s row.held.work)) refl e
 
-slot_among : (slot job moment : Option ℕ) (n : ℕ) → actor_or actor.Slot slot (actor_or actor.Job job (later_or_never moment)) ≡ actor.Slot n → slot ≡ Some n
+slot_among : (slot job moment : Option ℕ) (n : ℕ) →
+    actor_or actor.Slot slot (actor_or actor.Job job (later_or_never moment)) ≡ actor.Slot n → slot ≡ Some n
 slot_among (Some slot) job moment n is = let same : slot ≡ n = cc is in ap Some same
 slot_among None (Some job) moment n is = absurd (cc is)
 slot_among None None (Some moment) n is = absurd (cc is)
 slot_among None None None n is = absurd (cc is)
 
-job_among : (slot job moment : Option ℕ) (n : ℕ) → actor_or actor.Slot slot (actor_or actor.Job job (later_or_never moment)) ≡ actor.Job n → job ≡ Some n
+job_among : (slot job moment : Option ℕ) (n : ℕ) → actor_or actor.Slot slot (actor_or actor.Job job (later_or_never moment)) ≡ actor.Job n →
+    job ≡ Some n
 job_among (Some slot) job moment n is = absurd (cc is)
 job_among None (Some job) moment n is = let same : job ≡ n = cc is in ap Some same
 job_among None None (Some moment) n is = absurd (cc is)
@@ -131,15 +103,18 @@ slot_accepted s now slot is =
     slot_works t slot (slot_among (due_slot t) (due_job t) (lesser (first_chan_moment t) (first_job_moment t)) slot is)
 
 -- and so does the job
-pub job_accepted : (s : Switch) (now number : ℕ) → AreKnown s → next_due now s ≡ actor.Job number → refused_act (Works number) (at_moment now s) ≡ None
+pub job_accepted : (s : Switch) (now number : ℕ) → AreKnown s → next_due now s ≡ actor.Job number →
+    refused_act (Works number) (at_moment now s) ≡ None
 unfolding next_due
 job_accepted s now number are is =
     let t = at_moment now s in
-    job_works t number (record { known = are.known }) (job_among (due_slot t) (due_job t) (lesser (first_chan_moment t) (first_job_moment t)) number is)
+    job_works t number (record { known = are.known })
+    (job_among (due_slot t) (due_job t) (lesser (first_chan_moment t) (first_job_moment t)) number is)
 
 -- ---- what is due later
 
-later_among : (slot job found : Option ℕ) (moment : ℕ) → actor_or actor.Slot slot (actor_or actor.Job job (later_or_never found)) ≡ actor.Later moment → found ≡ Some moment
+later_among : (slot job found : Option ℕ) (moment : ℕ) →
+    actor_or actor.Slot slot (actor_or actor.Job job (later_or_never found)) ≡ actor.Later moment → found ≡ Some moment
 later_among (Some slot) job found moment is = absurd (cc is)
 later_among None (Some job) found moment is = absurd (cc is)
 later_among None None (Some found) moment is = let same : found ≡ moment = cc is in ap Some same
@@ -150,45 +125,26 @@ later_at None n h = absurd (cc)
 later_at (Some Now) n h = absurd (cc)
 later_at (Some (At moment)) n h = cc
 
--- at its own moment a thing is due
-due_now : (moment : ℕ) → due_at moment moment ≡ Now
-due_now moment = ap (λ b. if b then Now else At moment) (le-leb moment moment (omega arith))
-
-at_comes : (now until moment : ℕ) → due_at now until ≡ At moment → due_at moment until ≡ Now
-at_comes now until moment is = by (leb until now) refl is
-  where
-    by : (past : Bool) → leb until now ≡ past → (if past then Now else At until) ≡ At moment → due_at moment until ≡ Now
-    by true past e = absurd (cc e)
-    by false past e = let same : moment ≡ until = cc e in subst (λ m. due_at m until ≡ Now) (sym same) (due_now until)
-
--- a verdict that is to wait no more is due at once
-timeout_due : (now : ℕ) (v : Verdict) → is_timeout v ≡ true → verdicts.due_moment_by now v ≡ now
-timeout_due now (verdict.Wait until) is = absurd (cc)
-timeout_due now (verdict.Won position) is = refl
-timeout_due now (verdict.LegExpired position) is = refl
-timeout_due now verdict.NextGroup is = refl
-timeout_due now (verdict.Failed cause) is = refl
-timeout_due now verdict.Expired is = refl
-
--- where it is due at once, it is not later
-never_later : (now moment : ℕ) → due_at now now ≡ At moment → ⊥
-never_later now moment is = let e : Now ≡ At moment = sym (due_now now) ∙ is in cc e
-
 -- where a verdict is to wait until the moment, it is decided then
-wait_comes : (now until moment : ℕ) (o : Orig) → verdicts.verdict_of now o ≡ verdict.Wait until → due_at now until ≡ At moment → due_at moment (verdicts.due_moment_of moment o) ≡ Now
+wait_comes : (now until moment : ℕ) (o : Orig) → verdicts.verdict_of now o ≡ verdict.Wait until → due_at now until ≡ At moment →
+    due_at moment (verdicts.due_moment_of moment o) ≡ Now
 wait_comes now until moment o told is = by (leb until now) refl is
   where
-    by : (past : Bool) → leb until now ≡ past → (if past then Now else At until) ≡ At moment → due_at moment (verdicts.due_moment_of moment o) ≡ Now
+    by : (past : Bool) → leb until now ≡ past → (if past then Now else At until) ≡ At moment →
+        due_at moment (verdicts.due_moment_of moment o) ≡ Now
     by true past e = absurd (cc e)
     by false past e =
         let same : until ≡ moment = cc e in
-        ap (due_at moment) (timeout_due moment (verdicts.verdict_of moment o) (then_expires now moment until o told (omega (arith, same)))) ∙ due_now moment
+        ap (due_at moment) (timeout_due moment (verdicts.verdict_of moment o) (then_expires now moment until o told (omega (arith, same))))
+        ∙ due_now moment
 
 orig_comes : (now moment : ℕ) (o : Option Orig) → orig_due now o ≡ Some (At moment) → orig_due moment o ≡ Some Now
 orig_comes now moment None is = absurd (cc)
-orig_comes now moment (Some o) is = ap Some (by (verdicts.verdict_of now o) refl (same_there (due_at now (verdicts.due_moment_of now o)) (At moment) is))
+orig_comes now moment (Some o) is =
+    ap Some (by (verdicts.verdict_of now o) refl (same_Some (due_at now (verdicts.due_moment_of now o)) (At moment) is))
   where
-    by : (v : Verdict) → verdicts.verdict_of now o ≡ v → due_at now (verdicts.due_moment_by now v) ≡ At moment → due_at moment (verdicts.due_moment_of moment o) ≡ Now
+    by : (v : Verdict) → verdicts.verdict_of now o ≡ v → due_at now (verdicts.due_moment_by now v) ≡ At moment →
+        due_at moment (verdicts.due_moment_of moment o) ≡ Now
     by (verdict.Wait until) told e = wait_comes now until moment o told e
     by (verdict.Won position) told e = absurd (never_later now moment e)
     by (verdict.LegExpired position) told e = absurd (never_later now moment e)
@@ -196,20 +152,25 @@ orig_comes now moment (Some o) is = ap Some (by (verdicts.verdict_of now o) refl
     by (verdict.Failed cause) told e = absurd (never_later now moment e)
     by verdict.Expired told e = absurd (never_later now moment e)
 
-work_comes : (s : Switch) (now moment : ℕ) (work : JobWork) → work_due (record s { moment = now }) work ≡ Some (At moment) → work_due (record s { moment = moment }) work ≡ Some Now
-work_comes s now moment (Sleep until) is = ap Some (at_comes now until moment (same_there (due_at now until) (At moment) is))
+work_comes : (s : Switch) (now moment : ℕ) (work : JobWork) → work_due (record s { moment = now }) work ≡ Some (At moment) →
+    work_due (record s { moment = moment }) work ≡ Some Now
+work_comes s now moment (Sleep until) is = ap Some (has_come_at now until moment (same_Some (due_at now until) (At moment) is))
 work_comes s now moment (Originate orig winner) is = orig_comes now moment (orig_of s orig) is
 
-chan_comes : (s : Switch) (now moment : ℕ) (held : Option Chan) → chan_moment (record s { moment = now }) held ≡ Some moment → is_due (record s { moment = moment }) held ≡ true
-chan_comes s now moment None is = absurd (nothing_there moment is)
+chan_comes : (s : Switch) (now moment : ℕ) (held : Option Chan) → chan_moment (record s { moment = now }) held ≡ Some moment →
+    is_due (record s { moment = moment }) held ≡ true
+chan_comes s now moment None is = absurd (none-some moment is)
 chan_comes s now moment (Some c) is = ap is_now (has_come now moment c (later_at (due_of now c) moment is))
 
 row_comes : (s : Switch) (now moment : ℕ) (held : Option (Numbered Job)) → row_moment (record s { moment = now }) held ≡ Some moment →
     (number : ℕ) × (due_number (record s { moment = moment }) held ≡ Some number)
-row_comes s now moment None is = absurd (nothing_there moment is)
+row_comes s now moment None is = absurd (none-some moment is)
 row_comes s now moment (Some row) is =
-    let t : Switch = record s { moment = now } in
-    (row.number, ap (λ due. number_where (is_now due) (Some row)) (work_comes s now moment row.held.work (later_at (work_due t row.held.work) moment is)))
+    let t : Switch = record s { moment = now } in (
+      row.number,
+      ap (λ due. number_where (is_now due) (Some row))
+          (work_comes s now moment row.held.work (later_at (work_due t row.held.work) moment is)),
+    )
 
 -- a slot has something to do, or a job has
 abbrev pub IsDue : DueActor → Type 0
@@ -222,7 +183,8 @@ slot_is_due : (s : Switch) (place : ℕ) → is_due s (held_in s.channels place)
 slot_is_due s place due = by (due_slot s) refl
   where
     by : (found : Option ℕ) → due_slot s ≡ found →
-        IsDue (actor_or actor.Slot found (actor_or actor.Job (due_job s) (later_or_never (lesser (first_chan_moment s) (first_job_moment s)))))
+        IsDue (actor_or actor.Slot found
+        (actor_or actor.Job (due_job s) (later_or_never (lesser (first_chan_moment s) (first_job_moment s)))))
     by (Some slot) is = tt
     by None is = absurd (both_ways (is_due s (held_in s.channels place)) (none_found (is_due s) refl s.channels 0 is place) due)
 
@@ -233,14 +195,17 @@ job_is_due s place number due = by (due_slot s) (due_job s) refl
         IsDue (actor_or actor.Slot slot (actor_or actor.Job job (later_or_never (lesser (first_chan_moment s) (first_job_moment s)))))
     by (Some slot) job is = tt
     by None (Some job) is = tt
-    by None None is = absurd (nothing_there number (sym (least_never (due_number s) s.jobs refl is place) ∙ due))
+    by None None is = absurd (none-some number (sym (least_never (due_number s) s.jobs refl is place) ∙ due))
 
-due_behind : (s : Switch) (now moment : ℕ) → due_among_all (record s { moment = now }) ≡ actor.Later moment → IsDue (due_among_all (record s { moment = moment }))
+due_behind : (s : Switch) (now moment : ℕ) → due_among_all (record s { moment = now }) ≡ actor.Later moment →
+    IsDue (due_among_all (record s { moment = moment }))
 due_behind s now moment is =
     let t : Switch = record s { moment = now } in
-    by (lesser_is (first_chan_moment t) (first_job_moment t) moment (later_among (due_slot t) (due_job t) (lesser (first_chan_moment t) (first_job_moment t)) moment is))
+    by (lesser_is (first_chan_moment t) (first_job_moment t) moment
+    (later_among (due_slot t) (due_job t) (lesser (first_chan_moment t) (first_job_moment t)) moment is))
   where
-    by : (first_chan_moment (record s { moment = now }) ≡ Some moment) ⊎ (first_job_moment (record s { moment = now }) ≡ Some moment) → IsDue (due_among_all (record s { moment = moment }))
+    by : (first_chan_moment (record s { moment = now }) ≡ Some moment) ⊎ (first_job_moment (record s { moment = now }) ≡ Some moment) →
+        IsDue (due_among_all (record s { moment = moment }))
     by (inl chan) =
         let found = least_held (chan_moment (record s { moment = now })) s.channels moment chan in
         slot_is_due (record s { moment = moment }) found.0 (chan_comes s now moment (held_in s.channels found.0) found.1)

@@ -1,40 +1,21 @@
 -- A moment that is told is still to come.
-use Rattle.std.proofs.Common.{◌≡◌, ℕ, ◌<◌, Bool, true, false, cond, max, List, [], ◌∷◌, Option, None, Some, unwrap_or, refl, subst, ap, arith, leb}
-use Rattle.std.proofs.lemmas.Bool.{leb-false}
+use Rattle.std.proofs.Common.{◌≡◌, ℕ, ◌<◌, max, Option, None, Some, refl, arith}
 use Rattle.fs_chan.specs.declared.chan.Chan.{Chan}
 use Rattle.fs_chan.specs.declared.due.Due.{Due}
 use Rattle.fs_chan.specs.declared.due.Due.TheVariants.{Now, At}
-use Rattle.fs_chan.specs.Work.{due_at, due_of}
-use Rattle.fs_chan.proofs.WorkLemmas.{is_to_come}
+use Rattle.fs_chan.specs.Work.{due_of}
+use Rattle.fs_chan.proofs.WorkLemmas.{is_to_come, to_come_at}
 use Rattle.fs_orig.specs.declared.orig.Orig.{Orig}
 use Rattle.fs_orig.specs.Verdicts as verdicts
 use Rattle.fs_places.specs.declared.numbered.Numbered.{Numbered}
+use Rattle.fs_places.specs.Least.{lesser}
+use Rattle.fs_places.proofs.LeastLemmas.{IsAfter, lesser_after, least_after}
 use Rattle.fs_state.specs.declared.job.Job.{Job}
 use Rattle.fs_state.specs.declared.job.JobWork.{JobWork}
 use Rattle.fs_state.specs.declared.job.JobWork.TheVariants.{Sleep, Originate}
 use Rattle.fs_state.specs.Switch.{Switch, orig_of, at_moment}
 use Rattle.fs_machine.specs.declared.due.DueActor.TheVariants as actor
-use Rattle.fs_machine.specs.Due.{orig_due, work_due, later_of, lesser, least_of, chan_moment, row_moment, due_slot, due_job, first_chan_moment, first_job_moment, later_or_never, due_among_all}
-
--- where there is such a number, it is greater
-abbrev IsAfter : ℕ → Option ℕ → Type 0
-IsAfter k found = (n : ℕ) → found ≡ Some n → k < n
-
-lesser_after : (k : ℕ) (a b : Option ℕ) → IsAfter k a → IsAfter k b → IsAfter k (lesser a b)
-lesser_after k None b ha hb n e = hb n e
-lesser_after k (Some a) None ha hb n e = ha n e
-lesser_after k (Some a) (Some b) ha hb n e = omega (arith, ha a refl, hb b refl, ap (λ found. unwrap_or found 0) e)
-
-least_after : {T : Type 0} → (k : ℕ) (number : T → Option ℕ) → ((x : T) → IsAfter k (number x)) → (xs : List T) → IsAfter k (least_of number xs)
-least_after k number each [] n e = absurd (cc)
-least_after k number each (x ∷ xs) n e = lesser_after k (number x) (least_of number xs) (each x) (least_after k number each xs) n e
-
-to_come_at : (now until told : ℕ) → due_at now until ≡ At told → now < told
-to_come_at now until told h = by_test (leb until now) refl h
-  where
-    by_test : (past : Bool) → leb until now ≡ past → cond past Now (At until) ≡ At told → now < told
-    by_test true is h = absurd (cc)
-    by_test false is h = let same : until ≡ told = cc in subst (λ t. now < t) same (leb-false until now is)
+use Rattle.fs_machine.specs.Due.{orig_due, work_due, later_of, chan_moment, row_moment, due_slot, due_job, first_chan_moment, first_job_moment, later_or_never, due_among_all}
 
 later_at : (due : Option Due) (n : ℕ) → later_of due ≡ Some n → due ≡ Some (At n)
 later_at None n h = absurd (cc)
@@ -61,15 +42,18 @@ moment_after : (k : ℕ) (found : Option ℕ) (moment : ℕ) → IsAfter k found
 moment_after k None moment after h = absurd (cc)
 moment_after k (Some n) moment after h = after moment (cc)
 
-all_after : (s : Switch) (slot job : Option ℕ) (moment : ℕ) → due_slot s ≡ slot → due_job s ≡ job → due_among_all s ≡ actor.Later moment → s.moment < moment
+all_after : (s : Switch) (slot job : Option ℕ) (moment : ℕ) → due_slot s ≡ slot → due_job s ≡ job → due_among_all s ≡ actor.Later moment →
+    s.moment < moment
 all_after s (Some slot) job moment is_slot is_job h = absurd (cc)
 all_after s None (Some job) moment is_slot is_job h = absurd (cc)
 all_after s None None moment is_slot is_job h =
     moment_after s.moment (lesser (first_chan_moment s) (first_job_moment s)) moment
-    (lesser_after s.moment (first_chan_moment s) (first_job_moment s) (least_after s.moment (chan_moment s) (chan_after s) s.channels) (least_after s.moment (row_moment s) (row_after s) s.jobs))
+    (lesser_after s.moment (first_chan_moment s) (first_job_moment s) (least_after s.moment (chan_moment s) (chan_after s) s.channels)
+    (least_after s.moment (row_moment s) (row_after s) s.jobs))
     (cc)
 
 pub next_to_come : (now : ℕ) (s : Switch) (moment : ℕ) → due_among_all (at_moment now s) ≡ actor.Later moment → now < moment
 next_to_come now s moment h =
-    let later : max s.moment now < moment = all_after (at_moment now s) (due_slot (at_moment now s)) (due_job (at_moment now s)) moment refl refl h in
+    let later : max s.moment now < moment =
+    all_after (at_moment now s) (due_slot (at_moment now s)) (due_job (at_moment now s)) moment refl refl h in
     omega (arith, later)

@@ -1,8 +1,6 @@
 -- What entries cost and hand out, and what the acts of a connection answer and are refused for.
-use Rattle.std.proofs.Common.{◌≡◌, ℕ, ◌≤◌, true, false, List, [], ◌∷◌, ◌++◌, Option, None, Some, is_some, unwrap_or, slice_get, take, not, refl, sym, ap, ◌∙◌, append_assoc, append-nil, arith}
-use Rattle.std.specs.List.{concat}
+use Rattle.std.proofs.Common.{◌≡◌, ℕ, ◌≤◌, true, false, List, [], ◌∷◌, ◌++◌, Option, None, Some, is_some, unwrap_or, slice_get, not, refl, sym, ap, ◌∙◌, append_assoc, append-nil, arith}
 use Rattle.fs_vars.specs.Pairs.{Text}
-use Rattle.fs_state.specs.Queues.{Frames}
 use Rattle.fs_state.specs.Switch.{Switch, waiting_for}
 use Rattle.fs_machine.specs.declared.entry.Entry.{Entry}
 use Rattle.fs_machine.specs.declared.entry.Act.{Act}
@@ -26,14 +24,17 @@ some_cost (Work slot) = omega arith
 some_cost (Job number) = omega arith
 
 -- what a journal with one more entry hands out
-pub handed_more : (conn : ℕ) (s : Switch) (entries : List Entry) (entry : Entry) → handed_from conn s (entries ++ entry ∷ []) ≡ handed_from conn s entries ++ handed_in conn entry.act (run_from s entries)
+pub handed_more : (conn : ℕ) (s : Switch) (entries : List Entry) (entry : Entry) →
+    handed_from conn s (entries ++ entry ∷ []) ≡ handed_from conn s entries ++ handed_in conn entry.act (run_from s entries)
 handed_more conn s [] entry = append-nil (handed_in conn entry.act s)
 handed_more conn s (first ∷ entries) entry =
     ap (λ frames. handed_in conn first.act s ++ frames) (handed_more conn (step s first).state entries entry)
-    ∙ sym (append_assoc (handed_in conn first.act s) (handed_from conn (step s first).state entries) (handed_in conn entry.act (run_from (step s first).state entries)))
+    ∙ sym (append_assoc (handed_in conn first.act s) (handed_from conn (step s first).state entries)
+    (handed_in conn entry.act (run_from (step s first).state entries)))
 
 -- a Take answers the first frame that waits
-pub take_answers : (s : Switch) (moment conn : ℕ) → (step s (record { moment = moment; act = Take conn })).reply ≡ reply.Frame (unwrap_or (slice_get (waiting_for s conn) 0) [])
+pub take_answers : (s : Switch) (moment conn : ℕ) →
+    (step s (record { moment = moment; act = Take conn })).reply ≡ reply.Frame (unwrap_or (slice_get (waiting_for s conn) 0) [])
 unfolding step
 take_answers s moment conn = refl
 
@@ -42,17 +43,14 @@ pub take_owes : (s : Switch) (moment taker conn : ℕ) → owes (step s (record 
 unfolding step
 take_owes s moment taker conn = refl
 
--- the bytes of the first frame
-pub first_bytes : (frames : Frames) → concat (take 1 frames) ≡ unwrap_or (slice_get frames 0) []
-first_bytes [] = refl
-first_bytes (frame ∷ frames) = append-nil frame
-
 -- a connection that reads commands and is owed no reply gives one, unless the journal is full
 pub command_refused : (s : Switch) (moment conn : ℕ) (block : Text) → reads (phase_at s conn) ≡ true → owes s conn ≡ false →
-    refusal_of s (record { moment = moment; act = Command conn block }) ≡ refused_where (is_full s) (refusal.JournalFull s.cost s.config.settings.journal_limit) None
+    refusal_of s (record { moment = moment; act = Command conn block }) ≡ refused_where (is_full s)
+    (refusal.JournalFull s.cost s.config.settings.journal_limit) None
 unfolding refusal_of
 command_refused s moment conn block is_reading owes_none =
-    ap (λ test. refused_where (is_full s) (refusal.JournalFull s.cost s.config.settings.journal_limit) (refused_where (not test) refusal.Gone (busy (owed_to s conn)))) is_reading
+    ap (λ test. refused_where (is_full s) (refusal.JournalFull s.cost s.config.settings.journal_limit)
+    (refused_where (not test) refusal.Gone (busy (owed_to s conn)))) is_reading
     ∙ ap (refused_where (is_full s) (refusal.JournalFull s.cost s.config.settings.journal_limit)) (not_busy (owed_to s conn) owes_none)
   where
     not_busy : (since : Option ℕ) → is_some since ≡ false → busy since ≡ None

@@ -4,6 +4,7 @@ use Rattle.std.proofs.lemmas.Bool.{both_ways, eqb-true, eqb-false, cases_eq, or_
 use Rattle.std.proofs.lemmas.List.{nil_from_length}
 use Rattle.fs_doc.specs.Reading.{Configuration}
 use Rattle.fs_places.specs.Rows.{place_of}
+use Rattle.fs_places.proofs.RowLemmas.{place_stands, place_of-without_row_same}
 use Rattle.fs_state.specs.Queues.{Frames}
 use Rattle.fs_state.specs.Switch.{Switch, empty, waiting_at, waiting_for, with_frame_taken, without_conn, at_moment, after_entry}
 use Rattle.fs_machine.specs.declared.entry.Entry.{Entry}
@@ -18,7 +19,6 @@ use Rattle.fs_machine.specs.Step.{is_closed, is_ending, is_unsent, refused_where
 use Rattle.fs_machine.specs.Runs.{run_from, IsRunFrom}
 use Rattle.fs_machine.specs.Frames.{given_in, given_by, frames_from, handed_in, handed_from}
 use Rattle.fs_machine.proofs.FrameLemmas.{handed_more}
-use Rattle.fs_machine.proofs.RowLemmas.{place_stands, place_of-without_row_same}
 use Rattle.fs_machine.proofs.RestLemmas.{whichever}
 use Rattle.fs_machine.proofs.KeepLemmas.{Keeps, act_keeps}
 use Rattle.fs_machine.proofs.WaitingLemmas.{Ordered, none_closed, some_open, keeps_waiting, closed_waits, closed_quietly, none_given, nothing_given, taken_ordered, taken_same, taken_other, without_ordered, without_same, without_other, arrived_waits}
@@ -28,7 +28,9 @@ use Rattle.fs_machine.proofs.OrderLemmas.{Orderly, acted_ordered, acted_config, 
 
 -- what waited and what is given is what is handed out and what then waits
 abbrev Follows : ℕ → Act → Switch → Type 0
-Follows conn act s = waiting_for s conn ++ given_in conn (act_done act s).state ≡ handed_in conn act s ++ waiting_for (after_entry (cost_of act) (act_done act s).state) conn
+Follows conn act s =
+    waiting_for s conn ++ given_in conn (act_done act s).state ≡ handed_in conn act s ++ waiting_for
+    (after_entry (cost_of act) (act_done act s).state) conn
 
 -- or else the connection is gone, and what waited for it is dropped
 record Drops (conn : ℕ) (act : Act) (s : Switch) : Type 0 where
@@ -38,14 +40,16 @@ record Drops (conn : ℕ) (act : Act) (s : Switch) : Type 0 where
   drawn : conn ≤ (act_done act s).state.drawn.conns
 
 -- an act that hands out nothing, and leaves what waits
-quiet_follows : (conn : ℕ) (act : Act) (s : Switch) → handed_in conn act s ≡ [] → Ordered (act_done act s).state → waiting_for (act_done act s).state conn ≡ waiting_for s conn → Follows conn act s
+quiet_follows : (conn : ℕ) (act : Act) (s : Switch) → handed_in conn act s ≡ [] → Ordered (act_done act s).state →
+    waiting_for (act_done act s).state conn ≡ waiting_for s conn → Follows conn act s
 quiet_follows conn act s handed ordered same =
     sym (closed_waits (cost_of act) (act_done act s).state conn ordered ∙ ap (λ frames. frames ++ given_in conn (act_done act s).state)
     same)
     ∙ ap (λ frames. frames ++ waiting_for (after_entry (cost_of act) (act_done act s).state) conn) (sym handed)
 
 -- an act that keeps the connections
-keeps_follows : {who : Option ℕ} {may_end : Bool} → (conn : ℕ) (act : Act) (s : Switch) → handed_in conn act s ≡ [] → Ordered (act_done act s).state → Keeps who may_end s (act_done act s).state → Follows conn act s
+keeps_follows : {who : Option ℕ} {may_end : Bool} → (conn : ℕ) (act : Act) (s : Switch) → handed_in conn act s ≡ [] →
+    Ordered (act_done act s).state → Keeps who may_end s (act_done act s).state → Follows conn act s
 keeps_follows conn act s handed ordered keeps = quiet_follows conn act s handed ordered (keeps_waiting s (act_done act s).state keeps conn)
 
 -- a frame that is taken is handed out, and the others wait
@@ -62,19 +66,23 @@ take_follows conn taker s orderly = by (taker == conn) refl
     waits = closed_quietly 64 (with_frame_taken taker s) conn ordered orderly.given
 
     by : (b : Bool) → (taker == conn) ≡ b →
-        waiting_for s conn ++ given_in conn (with_frame_taken taker s) ≡ (if b then take 1 (waiting_for s conn) else []) ++ waiting_for (after_entry 64 (with_frame_taken taker s)) conn
+        waiting_for s conn ++ given_in conn (with_frame_taken taker s) ≡ (if b then take 1 (waiting_for s conn) else []) ++ waiting_for
+        (after_entry 64 (with_frame_taken taker s)) conn
     by true e =
         ap (λ frames. waiting_for s conn ++ frames) none ∙ append-nil (waiting_for s conn)
         ∙ sym (take-append-drop 1 (waiting_for s conn))
         ∙ ap (λ frames. take 1 (waiting_for s conn) ++ frames)
-        (sym (waits ∙ subst (λ number. waiting_for (with_frame_taken number s) conn ≡ drop 1 (waiting_for s conn)) (sym (eqb-true taker conn e)) (taken_same conn s orderly.ordered)))
+        (sym (waits
+        ∙ subst (λ number. waiting_for (with_frame_taken number s) conn ≡ drop 1 (waiting_for s conn)) (sym (eqb-true taker conn e))
+        (taken_same conn s orderly.ordered)))
     by false e =
         ap (λ frames. waiting_for s conn ++ frames) none ∙ append-nil (waiting_for s conn)
         ∙ sym (waits ∙ taken_other taker conn s (eqb-false taker conn e))
 
 -- why a connection of which all was sent cannot be closed
 pub close_refused : (s : Switch) (conn : ℕ) → refused_act (Close conn Sent) s ≡ None →
-    (is_closed (phase_at s conn) ≡ false) × (refused_where (is_unsent s conn) (refusal.Unsent (length (waiting_for s conn)) (is_some (owed_to s conn))) None ≡ None)
+    (is_closed (phase_at s conn) ≡ false) × (refused_where (is_unsent s conn)
+    (refusal.Unsent (length (waiting_for s conn)) (is_some (owed_to s conn))) None ≡ None)
 close_refused s conn none =
     none_refused (is_closed (phase_at s conn)) refusal.Gone
     (refused_where (is_unsent s conn) (refusal.Unsent (length (waiting_for s conn)) (is_some (owed_to s conn))) None) none
@@ -82,7 +90,9 @@ close_refused s conn none =
 -- nothing waits for such a connection
 pub sent_all : (s : Switch) (conn : ℕ) → refused_act (Close conn Sent) s ≡ None → waiting_for s conn ≡ []
 sent_all s conn none =
-    let sent = (none_refused (is_unsent s conn) (refusal.Unsent (length (waiting_for s conn)) (is_some (owed_to s conn))) None (close_refused s conn none).1).0 in
+    let sent =
+    (none_refused (is_unsent s conn) (refusal.Unsent (length (waiting_for s conn)) (is_some (owed_to s conn))) None
+    (close_refused s conn none).1).0 in
     let parts = or_parts (not (is_ending (phase_at s conn))) (not (length (waiting_for s conn) == 0) || is_some (owed_to s conn)) sent in
     let waits = or_parts (not (length (waiting_for s conn) == 0)) (is_some (owed_to s conn)) parts.1 in
     nil_from_length (waiting_for s conn) (eqb-true (length (waiting_for s conn)) 0 (not-false (length (waiting_for s conn) == 0) waits.0))
@@ -93,7 +103,9 @@ sent_follows conn gone s orderly none =
     quiet_follows conn (Close gone Sent) s refl (without_ordered gone s orderly.ordered) (by (cases_eq gone conn))
   where
     by : (gone ≡ conn) ⊎ (gone ≡ conn → ⊥) → waiting_for (without_conn gone s) conn ≡ waiting_for s conn
-    by (inl same) = subst (λ number. waiting_for (without_conn gone s) number ≡ waiting_for s number) same (without_same gone s orderly.ordered ∙ sym (sent_all s gone none))
+    by (inl same) =
+        subst (λ number. waiting_for (without_conn gone s) number ≡ waiting_for s number) same
+        (without_same gone s orderly.ordered ∙ sym (sent_all s gone none))
     by (inr differ) = without_other gone conn s differ
 
 -- a connection that is open has a number that was drawn
@@ -114,12 +126,14 @@ failed_drops conn s orderly none = record {
 }
 
 -- and the others do not feel it
-failed_follows : (conn gone : ℕ) (s : Switch) → Orderly s → refused_act (Close gone Failed) s ≡ None → Follows conn (Close gone Failed) s ⊎ Drops conn (Close gone Failed) s
+failed_follows : (conn gone : ℕ) (s : Switch) → Orderly s → refused_act (Close gone Failed) s ≡ None →
+    Follows conn (Close gone Failed) s ⊎ Drops conn (Close gone Failed) s
 failed_follows conn gone s orderly none = by (cases_eq gone conn)
   where
     by : (gone ≡ conn) ⊎ (gone ≡ conn → ⊥) → Follows conn (Close gone Failed) s ⊎ Drops conn (Close gone Failed) s
     by (inl same) = inr (subst (λ number. Drops number (Close gone Failed) s) same (failed_drops gone s orderly none))
-    by (inr differ) = inl (quiet_follows conn (Close gone Failed) s refl (without_ordered gone s orderly.ordered) (without_other gone conn s differ))
+    by (inr differ) =
+        inl (quiet_follows conn (Close gone Failed) s refl (without_ordered gone s orderly.ordered) (without_other gone conn s differ))
 
 -- an act that closes no connection as failed
 abbrev pub IsUnfailed : Act → Type 0
@@ -127,16 +141,19 @@ IsUnfailed (Close gone Failed) = ⊥
 IsUnfailed _ = Unit {0}
 
 -- each such act that is not refused
-unfailed_follows : (conn : ℕ) (act : Act) (s : Switch) → IsUnfailed act → Orderly s → s.drawn.conns < 2 ^ 32 - 1 → refused_act act s ≡ None → Follows conn act s
+unfailed_follows : (conn : ℕ) (act : Act) (s : Switch) → IsUnfailed act → Orderly s → s.drawn.conns < 2 ^ 32 - 1 →
+    refused_act act s ≡ None → Follows conn act s
 unfailed_follows conn Arrive s such orderly room none =
     quiet_follows conn Arrive s refl (acted_ordered Arrive s orderly.ordered room) (arrived_waits s conn orderly.ordered room)
 unfailed_follows conn (Take taker) s such orderly room none = take_follows conn taker s orderly
 unfailed_follows conn (Close gone Sent) s such orderly room none = sent_follows conn gone s orderly none
 unfailed_follows conn (Close gone Failed) s such orderly room none = absurd such
-unfailed_follows conn act s such orderly room none = keeps_follows conn act s refl (acted_ordered act s orderly.ordered room) (act_keeps act s)
+unfailed_follows conn act s such orderly room none =
+    keeps_follows conn act s refl (acted_ordered act s orderly.ordered room) (act_keeps act s)
 
 -- each act that is not refused
-act_follows : (conn : ℕ) (act : Act) (s : Switch) → Orderly s → s.drawn.conns < 2 ^ 32 - 1 → refused_act act s ≡ None → Follows conn act s ⊎ Drops conn act s
+act_follows : (conn : ℕ) (act : Act) (s : Switch) → Orderly s → s.drawn.conns < 2 ^ 32 - 1 → refused_act act s ≡ None →
+    Follows conn act s ⊎ Drops conn act s
 act_follows conn (Close gone Failed) s orderly room none = failed_follows conn gone s orderly none
 act_follows conn act s orderly room none = inl (unfailed_follows conn act s tt orderly room none)
 
@@ -157,7 +174,8 @@ pub record Lost (conn : ℕ) (s : Switch) (entry : Entry) : Type 0 where
 entry_waits : (conn : ℕ) (s : Switch) (entry : Entry) → Follows conn entry.act (at_moment entry.moment s) →
     waiting_for s conn ++ given_by conn s entry ≡ handed_in conn entry.act s ++ waiting_for (step s entry).state conn
 unfolding step given_by
-entry_waits conn s entry follows = follows ∙ ap (λ frames. frames ++ waiting_for (step s entry).state conn) (handed_advanced conn entry.moment entry.act s)
+entry_waits conn s entry follows =
+    follows ∙ ap (λ frames. frames ++ waiting_for (step s entry).state conn) (handed_advanced conn entry.moment entry.act s)
 
 entry_drops : (conn : ℕ) (s : Switch) (entry : Entry) → Drops conn entry.act (at_moment entry.moment s) → Lost conn s entry
 unfolding step given_by
@@ -171,10 +189,12 @@ entry_drops conn s entry drops = record {
 pub entry_follows : (conn : ℕ) (s : Switch) (entry : Entry) → Orderly s → refusal_of s entry ≡ None →
     (waiting_for s conn ++ given_by conn s entry ≡ handed_in conn entry.act s ++ waiting_for (step s entry).state conn) ⊎ Lost conn s entry
 entry_follows conn s entry orderly none =
-    by (act_follows conn entry.act (at_moment entry.moment s) (advanced_orderly entry.moment s orderly) (room_left s orderly (not_full s entry none)) (not_refused s entry none))
+    by (act_follows conn entry.act (at_moment entry.moment s) (advanced_orderly entry.moment s orderly)
+    (room_left s orderly (not_full s entry none)) (not_refused s entry none))
   where
     by : Follows conn entry.act (at_moment entry.moment s) ⊎ Drops conn entry.act (at_moment entry.moment s) →
-        (waiting_for s conn ++ given_by conn s entry ≡ handed_in conn entry.act s ++ waiting_for (step s entry).state conn) ⊎ Lost conn s entry
+        (waiting_for s conn ++ given_by conn s entry ≡ handed_in conn entry.act s ++ waiting_for (step s entry).state conn) ⊎ Lost conn s
+        entry
     by (inl follows) = inl (entry_waits conn s entry follows)
     by (inr drops) = inr (entry_drops conn s entry drops)
 
@@ -187,11 +207,13 @@ none_waits s conn none = ap (waiting_at s.queues) none
 -- and nothing is handed out to it
 none_handed : (conn : ℕ) (act : Act) (s : Switch) → place_of s.conns conn ≡ None → handed_in conn act s ≡ []
 none_handed conn (Take taker) s none =
-    whichever (λ (frames : Frames). frames ≡ []) (taker == conn) (take 1 (waiting_for s conn)) [] (ap (take 1) (none_waits s conn none)) refl
+    whichever (λ (frames : Frames). frames ≡ []) (taker == conn) (take 1 (waiting_for s conn)) []
+    (ap (take 1) (none_waits s conn none)) refl
 none_handed conn _ s none = refl
 
 -- an entry leaves it gone
-entry_gone : (conn : ℕ) (s : Switch) (entry : Entry) → Orderly s → refusal_of s entry ≡ None → place_of s.conns conn ≡ None → conn ≤ s.drawn.conns → Lost conn s entry
+entry_gone : (conn : ℕ) (s : Switch) (entry : Entry) → Orderly s → refusal_of s entry ≡ None → place_of s.conns conn ≡ None →
+    conn ≤ s.drawn.conns → Lost conn s entry
 unfolding step given_by
 entry_gone conn s entry orderly none nowhere below =
     let room : s.drawn.conns < 2 ^ 32 - 1 = room_left s orderly (not_full s entry none) in
@@ -210,7 +232,8 @@ record StaysGone (conn : ℕ) (s : Switch) (entries : List Entry) : Type 0 where
   handed : handed_from conn s entries ≡ []
   gone : place_of (run_from s entries).conns conn ≡ None
 
-stays_gone : (conn : ℕ) (s : Switch) (entries : List Entry) → Orderly s → IsRunFrom s entries → place_of s.conns conn ≡ None → conn ≤ s.drawn.conns → StaysGone conn s entries
+stays_gone : (conn : ℕ) (s : Switch) (entries : List Entry) → Orderly s → IsRunFrom s entries → place_of s.conns conn ≡ None →
+    conn ≤ s.drawn.conns → StaysGone conn s entries
 stays_gone conn s [] orderly run nowhere below = record { given = refl; handed = refl; gone = nowhere }
 stays_gone conn s (entry ∷ entries) orderly run nowhere below =
     let first = entry_gone conn s entry orderly run.0 nowhere below in
@@ -236,32 +259,39 @@ regrouped waits given handed later from behind more first rest =
     ∙ ap (λ frames. handed ++ frames) rest ∙ sym (append_assoc handed behind more)
 
 -- what waits alone, with nothing given and nothing handed out
-none_more : (waits given from handed behind : Frames) → given ≡ [] → from ≡ [] → handed ≡ [] → behind ≡ [] → waits ++ (given ++ from) ≡ (handed ++ behind) ++ waits
+none_more : (waits given from handed behind : Frames) → given ≡ [] → from ≡ [] → handed ≡ [] → behind ≡ [] →
+    waits ++ (given ++ from) ≡ (handed ++ behind) ++ waits
 none_more waits given from handed behind a b c d =
     ap (λ frames. waits ++ (frames ++ from)) a ∙ ap (λ frames. waits ++ frames) b ∙ append-nil waits
     ∙ sym (ap (λ frames. (frames ++ behind) ++ waits) c ∙ ap (λ frames. frames ++ waits) d)
 
 -- one entry in front of others
-one_more : (conn : ℕ) (s : Switch) (entry : Entry) (entries : List Entry) → Orderly s → IsRunFrom s (entry ∷ entries) → HandedOut conn (step s entry).state entries →
+one_more : (conn : ℕ) (s : Switch) (entry : Entry) (entries : List Entry) → Orderly s → IsRunFrom s (entry ∷ entries) →
+    HandedOut conn (step s entry).state entries →
     HandedOut conn s (entry ∷ entries)
 one_more conn s entry entries orderly run rest = by (entry_follows conn s entry orderly run.0)
   where
     lost : Lost conn s entry → StaysGone conn (step s entry).state entries → HandedOut conn s (entry ∷ entries)
     lost first gone = record {
       more = waiting_for s conn;
-      split = none_more (waiting_for s conn) (given_by conn s entry) (frames_from conn (step s entry).state entries) (handed_in conn entry.act s)
+      split = none_more (waiting_for s conn) (given_by conn s entry) (frames_from conn (step s entry).state entries)
+          (handed_in conn entry.act s)
           (handed_from conn (step s entry).state entries) first.given gone.given first.handed gone.handed;
-      waits = λ is_open. absurd (both_ways (is_closed (phase_at (run_from (step s entry).state entries) conn)) is_open (none_closed (run_from (step s entry).state entries) conn gone.gone));
+      waits = λ is_open. absurd
+          (both_ways (is_closed (phase_at (run_from (step s entry).state entries) conn)) is_open
+          (none_closed (run_from (step s entry).state entries) conn gone.gone));
     }
 
-    by : (waiting_for s conn ++ given_by conn s entry ≡ handed_in conn entry.act s ++ waiting_for (step s entry).state conn) ⊎ Lost conn s entry → HandedOut conn s (entry ∷ entries)
+    by : (waiting_for s conn ++ given_by conn s entry ≡ handed_in conn entry.act s ++ waiting_for (step s entry).state conn) ⊎ Lost conn s
+        entry → HandedOut conn s (entry ∷ entries)
     by (inl follows) = record {
       more = rest.more;
       split = regrouped (waiting_for s conn) (given_by conn s entry) (handed_in conn entry.act s) (waiting_for (step s entry).state conn)
           (frames_from conn (step s entry).state entries) (handed_from conn (step s entry).state entries) rest.more follows rest.split;
       waits = rest.waits;
     }
-    by (inr first) = lost first (stays_gone conn (step s entry).state entries (entry_orderly s entry orderly run.0) run.1 first.gone first.drawn)
+    by (inr first) =
+        lost first (stays_gone conn (step s entry).state entries (entry_orderly s entry orderly run.0) run.1 first.gone first.drawn)
 
 handed_out : (conn : ℕ) (s : Switch) (entries : List Entry) → Orderly s → IsRunFrom s entries → HandedOut conn s entries
 handed_out conn s [] orderly run = record { more = waiting_for s conn; split = append-nil (waiting_for s conn); waits = λ is_open. refl }
@@ -271,14 +301,16 @@ handed_out conn s (entry ∷ entries) orderly run =
 -- ---- from the empty switch
 
 -- what is handed out is the first of what is given
-pub handed_first : (config : Configuration) (entries : List Entry) (conn : ℕ) → config.settings.journal_limit ≤ 1073741824 → IsRunFrom (empty config) entries →
+pub handed_first : (config : Configuration) (entries : List Entry) (conn : ℕ) → config.settings.journal_limit ≤ 1073741824 →
+    IsRunFrom (empty config) entries →
     (more : Frames) × (frames_from conn (empty config) entries ≡ handed_from conn (empty config) entries ++ more)
 handed_first config entries conn limit run =
     let all = handed_out conn (empty config) entries (empty_orderly config limit) run in
     (all.more, ap (λ frames. frames ++ frames_from conn (empty config) entries) (sym (empty_waits config conn)) ∙ all.split)
 
 -- while the connection is open the others wait
-pub handed_open : (config : Configuration) (entries : List Entry) (conn : ℕ) → config.settings.journal_limit ≤ 1073741824 → IsRunFrom (empty config) entries →
+pub handed_open : (config : Configuration) (entries : List Entry) (conn : ℕ) → config.settings.journal_limit ≤ 1073741824 →
+    IsRunFrom (empty config) entries →
     is_closed (phase_at (run_from (empty config) entries) conn) ≡ false →
     frames_from conn (empty config) entries ≡ handed_from conn (empty config) entries ++ waiting_for (run_from (empty config) entries) conn
 handed_open config entries conn limit run is_open =
@@ -292,10 +324,12 @@ frames_more : (conn : ℕ) (s : Switch) (entries : List Entry) (entry : Entry) �
 frames_more conn s [] entry = append-nil (given_by conn s entry)
 frames_more conn s (first ∷ entries) entry =
     ap (λ frames. given_by conn s first ++ frames) (frames_more conn (step s first).state entries entry)
-    ∙ sym (append_assoc (given_by conn s first) (frames_from conn (step s first).state entries) (given_by conn (run_from (step s first).state entries) entry))
+    ∙ sym (append_assoc (given_by conn s first) (frames_from conn (step s first).state entries)
+    (given_by conn (run_from (step s first).state entries) entry))
 
 -- the front of a run with one more entry, and that entry
-pub run_front : (s : Switch) (entries : List Entry) (entry : Entry) → IsRunFrom s (entries ++ entry ∷ []) → IsRunFrom s entries × (refusal_of (run_from s entries) entry ≡ None)
+pub run_front : (s : Switch) (entries : List Entry) (entry : Entry) → IsRunFrom s (entries ++ entry ∷ []) →
+    IsRunFrom s entries × (refusal_of (run_from s entries) entry ≡ None)
 run_front s [] entry run = (tt, run.0)
 run_front s (first ∷ entries) entry run = let rest = run_front (step s first).state entries entry run.1 in ((run.0, rest.0), rest.1)
 
@@ -305,7 +339,8 @@ unfolding given_by
 close_gives_none s moment conn none = nothing_given (without_conn conn (at_moment moment s)) conn none
 
 -- a connection that can be closed so is open
-close_open : (s : Switch) (moment conn : ℕ) → refusal_of s (record { moment = moment; act = Close conn Sent }) ≡ None → is_closed (phase_at s conn) ≡ false
+close_open : (s : Switch) (moment conn : ℕ) → refusal_of s (record { moment = moment; act = Close conn Sent }) ≡ None →
+    is_closed (phase_at s conn) ≡ false
 close_open s moment conn none =
     (close_refused (at_moment moment s) conn (not_refused s (record { moment = moment; act = Close conn Sent }) none)).0
 
@@ -316,7 +351,8 @@ pub handed_sent : (config : Configuration) (entries : List Entry) (moment conn :
     ≡ handed_from conn (empty config) (entries ++ record { moment = moment; act = Close conn Sent } ∷ [])
 handed_sent config entries moment conn limit run = result
   where
-    front : IsRunFrom (empty config) entries × (refusal_of (run_from (empty config) entries) (record { moment = moment; act = Close conn Sent }) ≡ None)
+    front : IsRunFrom
+        (empty config) entries × (refusal_of (run_from (empty config) entries) (record { moment = moment; act = Close conn Sent }) ≡ None)
     front = run_front (empty config) entries (record { moment = moment; act = Close conn Sent }) run
 
     orderly : Orderly (run_from (empty config) entries)
@@ -335,10 +371,12 @@ handed_sent config entries moment conn limit run = result
         ≡ handed_from conn (empty config) (entries ++ record { moment = moment; act = Close conn Sent } ∷ [])
     result =
         frames_more conn (empty config) entries (record { moment = moment; act = Close conn Sent })
-        ∙ ap (λ frames. frames_from conn (empty config) entries ++ frames) (close_gives_none (run_from (empty config) entries) moment conn orderly.given)
+        ∙ ap (λ frames. frames_from conn (empty config) entries ++ frames)
+        (close_gives_none (run_from (empty config) entries) moment conn orderly.given)
         ∙ append-nil (frames_from conn (empty config) entries)
         ∙ before
-        ∙ sym (handed_more conn (empty config) entries (record { moment = moment; act = Close conn Sent }) ∙ append-nil (handed_from conn (empty config) entries))
+        ∙ sym (handed_more conn (empty config) entries (record { moment = moment; act = Close conn Sent })
+        ∙ append-nil (handed_from conn (empty config) entries))
 
 -- ---- runs that close no connection as failed
 
@@ -346,7 +384,8 @@ abbrev pub AreUnfailed : List Entry → Type 0
 AreUnfailed [] = Unit {0}
 AreUnfailed (entry ∷ entries) = IsUnfailed entry.act × AreUnfailed entries
 
-pub unfailed_more : (entries : List Entry) (entry : Entry) → AreUnfailed entries → IsUnfailed entry.act → AreUnfailed (entries ++ entry ∷ [])
+pub unfailed_more : (entries : List Entry) (entry : Entry) → AreUnfailed entries → IsUnfailed entry.act →
+    AreUnfailed (entries ++ entry ∷ [])
 unfailed_more [] entry all such = (such, tt)
 unfailed_more (first ∷ entries) entry all such = (all.0, unfailed_more entries entry all.1 such)
 
@@ -355,16 +394,22 @@ waits_on : (conn : ℕ) (s : Switch) (entries : List Entry) → Orderly s → Is
     waiting_for s conn ++ frames_from conn s entries ≡ handed_from conn s entries ++ waiting_for (run_from s entries) conn
 waits_on conn s [] orderly run unfailed = append-nil (waiting_for s conn)
 waits_on conn s (entry ∷ entries) orderly run unfailed =
-    let follows = unfailed_follows conn entry.act (at_moment entry.moment s) unfailed.0 (advanced_orderly entry.moment s orderly) (room_left s orderly (not_full s entry run.0)) (not_refused s entry run.0) in
-    regrouped (waiting_for s conn) (given_by conn s entry) (handed_in conn entry.act s) (waiting_for (step s entry).state conn) (frames_from conn (step s entry).state entries)
-    (handed_from conn (step s entry).state entries) (waiting_for (run_from (step s entry).state entries) conn) (entry_waits conn s entry follows)
+    let follows =
+    unfailed_follows conn entry.act (at_moment entry.moment s) unfailed.0 (advanced_orderly entry.moment s orderly)
+    (room_left s orderly (not_full s entry run.0)) (not_refused s entry run.0) in
+    regrouped (waiting_for s conn) (given_by conn s entry) (handed_in conn entry.act s) (waiting_for (step s entry).state conn)
+    (frames_from conn (step s entry).state entries)
+    (handed_from conn (step s entry).state entries) (waiting_for (run_from (step s entry).state entries) conn)
+    (entry_waits conn s entry follows)
     (waits_on conn (step s entry).state entries (entry_orderly s entry orderly run.0) run.1 unfailed.1)
 
 -- so nothing is lost
-pub handed_unfailed : (config : Configuration) (entries : List Entry) (conn : ℕ) → config.settings.journal_limit ≤ 1073741824 → IsRunFrom (empty config) entries → AreUnfailed entries →
+pub handed_unfailed : (config : Configuration) (entries : List Entry) (conn : ℕ) → config.settings.journal_limit ≤ 1073741824 →
+    IsRunFrom (empty config) entries → AreUnfailed entries →
     frames_from conn (empty config) entries ≡ handed_from conn (empty config) entries ++ waiting_for (run_from (empty config) entries) conn
 handed_unfailed config entries conn limit run unfailed =
-    ap (λ frames. frames ++ frames_from conn (empty config) entries) (sym (empty_waits config conn)) ∙ waits_on conn (empty config) entries (empty_orderly config limit) run unfailed
+    ap (λ frames. frames ++ frames_from conn (empty config) entries) (sym (empty_waits config conn))
+    ∙ waits_on conn (empty config) entries (empty_orderly config limit) run unfailed
 
 -- ---- what the switch was configured by
 
@@ -380,30 +425,39 @@ config_run s (entry ∷ entries) = config_run (step s entry).state entries ∙ c
 -- ---- single steps behind a run
 
 -- nothing waits for a connection that is closed
-pub closed_waits_not : (config : Configuration) (entries : List Entry) (conn : ℕ) → config.settings.journal_limit ≤ 1073741824 → IsRunFrom (empty config) entries →
+pub closed_waits_not : (config : Configuration) (entries : List Entry) (conn : ℕ) → config.settings.journal_limit ≤ 1073741824 →
+    IsRunFrom (empty config) entries →
     is_closed (phase_at (run_from (empty config) entries) conn) ≡ true → waiting_for (run_from (empty config) entries) conn ≡ []
 closed_waits_not config entries conn limit run gone = by (place_of (run_from (empty config) entries).conns conn) refl
   where
-    by : (found : Option ℕ) → place_of (run_from (empty config) entries).conns conn ≡ found → waiting_for (run_from (empty config) entries) conn ≡ []
+    by : (found : Option ℕ) → place_of (run_from (empty config) entries).conns conn ≡ found →
+        waiting_for (run_from (empty config) entries) conn ≡ []
     by None is = none_waits (run_from (empty config) entries) conn is
     by (Some place) is = absurd (both_ways (is_closed (phase_at (run_from (empty config) entries) conn))
-        (some_open (run_from (empty config) entries) conn place (run_orderly (empty config) entries (empty_orderly config limit) run).ordered.opened is) gone)
+        (some_open (run_from (empty config) entries) conn place
+        (run_orderly (empty config) entries (empty_orderly config limit) run).ordered.opened is) gone)
 
 -- a frame that is taken leaves the others, and the phase of the connection
-take_leaves : (s : Switch) (moment conn : ℕ) → Orderly s → waiting_for (step s (record { moment = moment; act = Take conn })).state conn ≡ drop 1 (waiting_for s conn)
+take_leaves : (s : Switch) (moment conn : ℕ) → Orderly s →
+    waiting_for (step s (record { moment = moment; act = Take conn })).state conn ≡ drop 1 (waiting_for s conn)
 unfolding step
 take_leaves s moment conn orderly =
-    closed_quietly 64 (with_frame_taken conn (at_moment moment s)) conn (taken_ordered conn (at_moment moment s) (advanced_orderly moment s orderly).ordered) orderly.given
+    closed_quietly 64 (with_frame_taken conn (at_moment moment s)) conn
+    (taken_ordered conn (at_moment moment s) (advanced_orderly moment s orderly).ordered) orderly.given
     ∙ taken_same conn (at_moment moment s) (advanced_orderly moment s orderly).ordered
 
-take_leaves_phase : (s : Switch) (moment conn : ℕ) → phase_at (step s (record { moment = moment; act = Take conn })).state conn ≡ phase_at s conn
+take_leaves_phase : (s : Switch) (moment conn : ℕ) →
+    phase_at (step s (record { moment = moment; act = Take conn })).state conn ≡ phase_at s conn
 unfolding step
 take_leaves_phase s moment conn = refl
 
-pub take_leaves_rest : (config : Configuration) (entries : List Entry) (moment conn : ℕ) → config.settings.journal_limit ≤ 1073741824 → IsRunFrom (empty config) entries →
+pub take_leaves_rest : (config : Configuration) (entries : List Entry) (moment conn : ℕ) → config.settings.journal_limit ≤ 1073741824 →
+    IsRunFrom (empty config) entries →
     is_closed (phase_at (run_from (empty config) entries) conn) ≡ false →
-    (waiting_for (step (run_from (empty config) entries) (record { moment = moment; act = Take conn })).state conn ≡ drop 1 (waiting_for (run_from (empty config) entries) conn))
-    × (phase_at (step (run_from (empty config) entries) (record { moment = moment; act = Take conn })).state conn ≡ phase_at (run_from (empty config) entries) conn)
+    (waiting_for (step (run_from (empty config) entries) (record { moment = moment; act = Take conn })).state conn ≡ drop 1
+    (waiting_for (run_from (empty config) entries) conn))
+    × (phase_at (step (run_from (empty config) entries) (record { moment = moment; act = Take conn })).state conn ≡ phase_at
+    (run_from (empty config) entries) conn)
 take_leaves_rest config entries moment conn limit run is_open = (
   take_leaves (run_from (empty config) entries) moment conn (run_orderly (empty config) entries (empty_orderly config limit) run),
   take_leaves_phase (run_from (empty config) entries) moment conn,

@@ -1,5 +1,5 @@
 -- What happens to connections, jobs and originations leaves channels as they are, and all that channels see.
-use Rattle.std.proofs.Common.{◌≡◌, ℕ, Bool, true, false, List, Option, None, Some, unwrap_or, refl}
+use Rattle.std.proofs.Common.{◌≡◌, ℕ, List, Option, None, Some, unwrap_or, refl}
 use Rattle.fs_vars.specs.Pairs.{Text}
 use Rattle.fs_vars.specs.Variables.{Variables}
 use Rattle.fs_doc.specs.Reading.{Configuration}
@@ -24,7 +24,8 @@ use Rattle.fs_machine.specs.Connections.{conn_changed_from, conn_changed, admitt
 use Rattle.fs_machine.specs.Originations.{Made, leg_made, won}
 use Rattle.fs_machine.specs.Attempts.{orig_begun, tried_by_job, originate_begun}
 use Rattle.fs_machine.specs.Owing.{after_job_begin, after_job_end}
-use Rattle.fs_machine.proofs.Kept.{Fact, KeptByCalls, KeptByBirths, DoesJob, HasLeg, KeptByMoves}
+use Rattle.fs_machine.specs.Sound.{HasLeg}
+use Rattle.fs_machine.proofs.Kept.{Stage, Fact, KeptByCalls, KeptByBirths, DoesJob, KeptByMoves}
 use Rattle.fs_machine.proofs.Walk.{leg_made_kept}
 
 -- what is left of a switch without connections, jobs, originations and what they are given
@@ -60,7 +61,8 @@ orig_changed_front change number s = by (orig_of s number)
     by (Some o) = refl
 
 -- what reads no connections does not tell a change of one
-pub conn_unread : {A : Type 0} → (read : Switch → A) → ((conns : List (Option (Numbered Conn))) (t : Switch) → read (record t { conns = conns }) ≡ read t) →
+pub conn_unread : {A : Type 0} → (read : Switch → A) →
+    ((conns : List (Option (Numbered Conn))) (t : Switch) → read (record t { conns = conns }) ≡ read t) →
     (change : Conn → Conn) (conn : ℕ) (s : Switch) → read (conn_changed change conn s) ≡ read s
 conn_unread read same change conn s = by (conn_of s conn)
   where
@@ -78,28 +80,34 @@ ended_front : (number conn : ℕ) (answer : Text) (s : Switch) → front_of (aft
 ended_front number conn answer s = conn_changed_front not_owed conn (without_job number s)
 
 -- a fact that holds wherever the front is the same is kept by all moves, if channels and births keep it, and a leg that wins
-module _ (before : Switch) (P : Fact) (same : (b : Bool) (t u : Switch) → P b t → front_of u ≡ front_of t → P b u) (calls : KeptByCalls P) (births : KeptByBirths P)
-    (wins : (a : Attempt) (winner : Winner) (leg : OrigLeg) → DoesJob before a.job a.conn (Originate a.orig winner) → HasLeg before a.orig leg → P false before →
-    P false (won winner (unwrap_or leg.slot 0) before)) where
-  changed_same : (change : Conn → Conn) (conn : ℕ) (s : Switch) → P false s → P false (conn_changed change conn s)
-  changed_same change conn s h = same false s _ h (conn_changed_front change conn s)
+module _ (before : Switch) (P : Fact) (same : (b : Stage) (t u : Switch) → P b t → front_of u ≡ front_of t → P b u) (calls : KeptByCalls P)
+    (births : KeptByBirths P)
+    (wins : (a : Attempt) (winner : Winner) (leg : OrigLeg) → DoesJob before a.job a.conn (Originate a.orig winner) →
+    HasLeg before a.orig leg → P (Some 0) before →
+    P (Some 0) (won winner (unwrap_or leg.slot 0) before)) where
+  changed_same : (change : Conn → Conn) (conn n : ℕ) (s : Switch) → P (Some n) s → P (Some n) (conn_changed change conn s)
+  changed_same change conn n s h = same (Some n) s _ h (conn_changed_front change conn s)
 
-  ended_same : (number conn : ℕ) (answer : Text) (s : Switch) → P false s → P false (after_job_end number conn answer s)
-  ended_same number conn answer s h = same false s _ h (ended_front number conn answer s)
+  ended_same : (number conn : ℕ) (answer : Text) (s : Switch) → P (Some 0) s → P (Some 0) (after_job_end number conn answer s)
+  ended_same number conn answer s h = same (Some 0) s _ h (ended_front number conn answer s)
 
-  over_same : (a : Attempt) (answer : Text) (s : Switch) → P false s → P false (after_job_end a.job a.conn answer (without_orig a.orig s))
-  over_same a answer s h = ended_same a.job a.conn answer (without_orig a.orig s) (same false s _ h refl)
+  over_same : (a : Attempt) (answer : Text) (s : Switch) → P (Some 0) s →
+      P (Some 0) (after_job_end a.job a.conn answer (without_orig a.orig s))
+  over_same a answer s h = ended_same a.job a.conn answer (without_orig a.orig s) (same (Some 0) s _ h refl)
 
-  sleeps_same : (conn until : ℕ) (s : Switch) → P true s → P false (after_job_begin conn (Sleep until) s)
-  sleeps_same conn until s h = same false s _ (births.spent h) (owing_front conn (Sleep until) s)
+  sleeps_same : (conn until : ℕ) (s : Switch) → P None s → P (Some 0) (after_job_begin conn (Sleep until) s)
+  sleeps_same conn until s h = same (Some 0) s _ (births.spent h) (owing_front conn (Sleep until) s)
 
-  tried_same : (conn : ℕ) (endpoint : Text) (winner : Winner) (timeout orig : ℕ) (made : Made) → P false made.state → P false (tried_by_job conn endpoint winner timeout orig made)
+  tried_same : (conn : ℕ) (endpoint : Text) (winner : Winner) (timeout orig : ℕ) (made : Made) → P (Some 2) made.state →
+      P (Some 2) (tried_by_job conn endpoint winner timeout orig made)
   tried_same conn endpoint winner timeout orig made h =
-      same false made.state _ h (owing_front conn (Originate orig winner) (orig_begun endpoint made.leg timeout made.state))
+      same (Some 2) made.state _ h (owing_front conn (Originate orig winner) (orig_begun endpoint made.leg timeout made.state))
 
-  originates_same : (conn : ℕ) (endpoint : Text) (winner : Winner) (caller : Caller) (timeout : Option ℕ) (s : Switch) → P true s → P false (originate_begun conn endpoint winner caller timeout s)
+  originates_same : (conn : ℕ) (endpoint : Text) (winner : Winner) (caller : Caller) (timeout : Option ℕ) (s : Switch) → P None s →
+      P (Some 2) (originate_begun conn endpoint winner caller timeout s)
   originates_same conn endpoint winner caller timeout s h =
-      tried_same conn endpoint winner (unwrap_or timeout 60) (next_orig_number s) (leg_made endpoint caller (next_orig_number s) s) (leg_made_kept P births endpoint caller (next_orig_number s) {s = s} h)
+      tried_same conn endpoint winner (unwrap_or timeout 60) (next_orig_number s) (leg_made endpoint caller (next_orig_number s) s)
+      (leg_made_kept P births endpoint caller (next_orig_number s) {n = 0} {s = s} (births.spent h))
 
   pub moves_by_front : KeptByMoves before P
   moves_by_front = record {
@@ -107,20 +115,22 @@ module _ (before : Switch) (P : Fact) (same : (b : Bool) (t u : Switch) → P b 
     jobs = record {
       woken = λ number conn until answer {s = s} does h. ended_same number conn answer s h;
       failed = λ a winner cause {s = s} does h. over_same a (failed_text cause) s h;
-      wins = λ a winner leg does has h. over_same a (made_text leg.uuid) (won winner (unwrap_or leg.slot 0) before) (wins a winner leg does has h);
+      wins = λ a winner leg does has h. over_same a (made_text leg.uuid) (won winner (unwrap_or leg.slot 0) before)
+          (wins a winner leg does has h);
     };
     commands = λ conn. record {
       spent = births.spent;
+      more = births.more;
       gave = λ frame h. same _ _ _ h refl;
-      admitted = λ {s = s} fresh h. changed_same admitted conn s h;
-      parted = λ why {s = s} leaves h. changed_same (parted why) conn s h;
+      admitted = λ {n = n} {s = s} fresh h. changed_same admitted conn n s h;
+      parted = λ why {n = n} {s = s} leaves h. changed_same (parted why) conn n s h;
       sleeps = λ until {s = s} room h. sleeps_same conn until s h;
       originates = λ endpoint winner caller timeout {s = s} short room h. originates_same conn endpoint winner caller timeout s h;
     };
     visits = record {
       arrived = λ h. same _ _ _ (births.spent h) refl;
       taken = λ conn h. same _ _ _ h refl;
-      silent = λ conn {s = s} h. changed_same (parted parting.EndOfInput) conn s h;
+      silent = λ conn {s = s} h. changed_same (parted parting.EndOfInput) conn 0 s h;
       left = λ conn h. same _ _ _ h refl;
     };
   }

@@ -7,6 +7,7 @@ use Rattle.fs_doc.specs.Limits.{IsWithin}
 use Rattle.fs_places.specs.declared.numbered.Numbered.{Numbered}
 use Rattle.fs_places.specs.Places.{no_places, least_free}
 use Rattle.fs_places.specs.Rows.{row_of, with_new_row}
+use Rattle.fs_places.proofs.RowLemmas.{row_none, row_gone, places_same, row_of-with_new_row, row_of-with_new_row_other}
 use Rattle.fs_state.specs.declared.conn.Conn.{Conn}
 use Rattle.fs_state.specs.Drawn as numbers
 use Rattle.fs_state.specs.Switch.{Switch, empty, conn_of, at_moment}
@@ -16,7 +17,6 @@ use Rattle.fs_machine.specs.declared.entry.Act.TheVariants.{Arrive, Take, Close}
 use Rattle.fs_machine.specs.declared.refusal.Refusal.TheVariants as refusal
 use Rattle.fs_machine.specs.Here.{IsHere}
 use Rattle.fs_machine.specs.Step.{refused_where, refusal_of, new_conn, arrived, act_done, step}
-use Rattle.fs_machine.proofs.RowLemmas.{row_none, row_gone, places_same, row_of-with_new_row, row_of-with_new_row_other}
 use Rattle.fs_machine.proofs.KeepLemmas.{Hears, Keeps, act_keeps}
 
 -- ---- each act
@@ -52,10 +52,15 @@ arrived_here : (conn : ℕ) (s : Switch) → IsHere conn s → IsHere conn (arri
 arrived_here conn s here = by (cases_eq (numbers.with_conn s.drawn).conns conn)
   where
     same_number : (number : ℕ) → number ≡ conn →
-        (row_of (with_new_row s.conns number new_conn) number ≡ Some new_conn) ⊎ (row_of (with_new_row s.conns number new_conn) number ≡ row_of s.conns number) →
-        (row_of (with_new_row s.conns number new_conn) conn ≡ Some new_conn) ⊎ (row_of (with_new_row s.conns number new_conn) conn ≡ row_of s.conns conn)
+        (row_of (with_new_row s.conns number new_conn) number ≡ Some new_conn) ⊎ (row_of
+        (with_new_row s.conns number new_conn) number ≡ row_of s.conns number) →
+        (row_of (with_new_row s.conns number new_conn) conn ≡ Some new_conn) ⊎ (row_of
+        (with_new_row s.conns number new_conn) conn ≡ row_of s.conns conn)
     same_number number same found =
-        subst (λ n. (row_of (with_new_row s.conns number new_conn) n ≡ Some new_conn) ⊎ (row_of (with_new_row s.conns number new_conn) n ≡ row_of s.conns n)) same found
+        subst (λ n.
+        (row_of (with_new_row s.conns number new_conn) n ≡ Some new_conn) ⊎
+        (row_of (with_new_row s.conns number new_conn) n ≡ row_of s.conns n))
+        same found
 
     by : ((numbers.with_conn s.drawn).conns ≡ conn) ⊎ ((numbers.with_conn s.drawn).conns ≡ conn → ⊥) → IsHere conn (arrived s).state
     by (inl same) =
@@ -63,7 +68,8 @@ arrived_here conn s here = by (cases_eq (numbers.with_conn s.drawn).conns conn)
           | inl new ↦ fresh_here conn (arrived s).state new
           | inr old ↦ same_here conn s (arrived s).state old here
         ]
-    by (inr differ) = same_here conn s (arrived s).state (row_of-with_new_row_other s.conns (numbers.with_conn s.drawn).conns new_conn conn differ) here
+    by (inr differ) =
+        same_here conn s (arrived s).state (row_of-with_new_row_other s.conns (numbers.with_conn s.drawn).conns new_conn conn differ) here
 
 acted_here : (conn : ℕ) (act : Act) (s : Switch) → ClosesNone act → IsHere conn s → IsHere conn (act_done act s).state
 acted_here conn Arrive s such here = arrived_here conn s here
@@ -93,16 +99,22 @@ first_row zero some = absurd (omega (arith, some))
 first_row (suc count) some = refl
 
 -- it may come
-pub arrival_accepted : (config : Configuration) (moment : ℕ) → IsWithin config → refusal_of (empty config) (record { moment = moment; act = Arrive }) ≡ None
+pub arrival_accepted : (config : Configuration) (moment : ℕ) → IsWithin config →
+    refusal_of (empty config) (record { moment = moment; act = Arrive }) ≡ None
 unfolding refusal_of
 arrival_accepted config moment within =
     let places = config.settings.max_connections in
-    ap (λ full. refused_where full (refusal.JournalFull 0 config.settings.journal_limit) (refused_where (is_none (least_free (no_places {T = Numbered Conn} places) 0)) (refusal.TooMany (min (length (no_places {T = Numbered Conn} places)) (2 ^ 16 - 1))) None))
+    ap (λ full. refused_where full (refusal.JournalFull 0 config.settings.journal_limit)
+    (refused_where (is_none (least_free (no_places {T = Numbered Conn} places) 0))
+    (refusal.TooMany (min (length (no_places {T = Numbered Conn} places)) (2 ^ 16 - 1))) None))
     (le-ltb config.settings.journal_limit (0 + 65600) (omega (arith, within.settings.journal.0)))
-    ∙ ap (λ full. refused_where full (refusal.TooMany (min (length (no_places {T = Numbered Conn} places)) (2 ^ 16 - 1))) None) (has_place places within.settings.connections.0)
+    ∙ ap (λ full. refused_where full (refusal.TooMany (min (length (no_places {T = Numbered Conn} places)) (2 ^ 16 - 1))) None)
+    (has_place places within.settings.connections.0)
 
 -- and then it is here
-pub arrival_here : (config : Configuration) (moment : ℕ) → IsWithin config → IsHere 1 (step (empty config) (record { moment = moment; act = Arrive })).state
+pub arrival_here : (config : Configuration) (moment : ℕ) → IsWithin config →
+    IsHere 1 (step (empty config) (record { moment = moment; act = Arrive })).state
 unfolding step
 arrival_here config moment within =
-    fresh_here 1 (step (empty config) (record { moment = moment; act = Arrive })).state (first_row config.settings.max_connections within.settings.connections.0)
+    fresh_here 1 (step (empty config) (record { moment = moment; act = Arrive })).state
+    (first_row config.settings.max_connections within.settings.connections.0)

@@ -1,25 +1,25 @@
--- Each act draws two identifiers at most, and each of them stands in one slot.
-use Rattle.std.proofs.Common.{◌≡◌, ℕ, ◌+◌, ◌<◌, Bool, true, false, length, Option, None, Some, unwrap_or, refl, sym, ap, subst, length-set}
+-- Each act draws so many identifiers at most as its stages tell, and each of them stands in one slot.
+use Rattle.std.proofs.Common.{◌≡◌, ℕ, ◌+◌, ◌<◌, length, Option, None, Some, unwrap_or, refl, sym, ap, subst, length-set}
 use Rattle.fs_text.specs.declared.causes.Cause.{Cause}
 use Rattle.fs_api.specs.declared.api.Winner.{Winner}
 use Rattle.fs_api.specs.declared.api.Winner.TheVariants.{App, Route}
 use Rattle.fs_chan.specs.declared.chan.Chan.{Chan}
 use Rattle.fs_chan.specs.Changes.{hung_up}
 use Rattle.fs_orig.specs.Changes.{with_answer}
+use Rattle.fs_places.proofs.HeldLemmas.{IsFree}
 use Rattle.fs_state.specs.Switch.{Switch, chan_at, with_chan, with_next_identifier, identifier_of}
 use Rattle.fs_state.specs.Moves.{after_move_from, orig_changed, leg_changed, after_hangup}
 use Rattle.fs_machine.specs.declared.originations.Call.{Call}
 use Rattle.fs_machine.specs.declared.originations.End.{End}
 use Rattle.fs_machine.specs.Originations.{end_of, end_made, leg_end, far_end, pair_made, won_by, won}
-use Rattle.fs_machine.proofs.HeldLemmas.{IsFree}
-use Rattle.fs_machine.proofs.Kept.{Fact, Links, KeptByMoves}
+use Rattle.fs_machine.proofs.Kept.{Stage, Fact, Links, KeptByMoves}
 use Rattle.fs_machine.proofs.Walk.{state_told_kept, hung_kept}
 use Rattle.fs_machine.proofs.FrontLemmas.{Front, front_of, orig_changed_front, moves_by_front}
-use Rattle.fs_machine.proofs.SeenLemmas.{Seen, seen, put, Numbers, numbers_then, numbers_quietly, numbers_fewer, numbers_same, numbers_gone, numbers_new}
+use Rattle.fs_machine.proofs.SeenLemmas.{Seen, seen, put, Numbers, numbers_then, numbers_quietly, numbers_more, numbers_same, numbers_gone, numbers_new}
 
-abbrev pub drawn_by : Bool → ℕ
-drawn_by true = 0
-drawn_by false = 2
+abbrev pub drawn_by : Stage → ℕ
+drawn_by None = 0
+drawn_by (Some n) = n
 
 -- so many at most were drawn since
 abbrev pub NumbersFrom : Seen → Fact
@@ -29,7 +29,8 @@ NumbersFrom x b t = Numbers (drawn_by b) x (seen t)
 end_numbers : (call : Call) (end : End) (s : Switch) → end.slot < length s.channels → Numbers 1 (seen s) (seen (end_made call end s))
 end_numbers call end s within = numbers_new (seen s) end.slot (end_of call end (identifier_of (with_next_identifier s))) within refl
 
-pair_numbers : (call : Call) (orig a b : ℕ) (s : Switch) → IsFree Chan s.channels 1 a → IsFree Chan s.channels (a + 1) b → Numbers 2 (seen s) (seen (pair_made call orig a b s))
+pair_numbers : (call : Call) (orig a b : ℕ) (s : Switch) → IsFree Chan s.channels 1 a → IsFree Chan s.channels (a + 1) b →
+    Numbers 2 (seen s) (seen (pair_made call orig a b s))
 pair_numbers call orig a b s free_a free_b =
     let t : Switch = end_made call (leg_end orig a b) s in
     let u : Switch = end_made call (far_end a b) t in
@@ -38,8 +39,10 @@ pair_numbers call orig a b s free_a free_b =
     (end_numbers call (far_end a b) t (subst (λ n. b < n) (sym (length-set s.channels a (Some leg))) free_b.within))
 
 module _ (x : Seen) where
-  put_numbers : (more slot : ℕ) (old new : Chan) (s : Switch) → chan_at s slot ≡ Some old → new.uuid ≡ old.uuid → Numbers more x (seen s) → Numbers more x (seen (with_chan slot (Some new) s))
-  put_numbers more slot old new s there same h = numbers_quietly more x (seen s) (put slot (Some new) (seen s)) h (numbers_same (seen s) slot old new there same)
+  put_numbers : (more slot : ℕ) (old new : Chan) (s : Switch) → chan_at s slot ≡ Some old → new.uuid ≡ old.uuid → Numbers more x (seen s) →
+      Numbers more x (seen (with_chan slot (Some new) s))
+  put_numbers more slot old new s there same h =
+      numbers_quietly more x (seen s) (put slot (Some new) (seen s)) h (numbers_same (seen s) slot old new there same)
 
   front_numbers : (more : ℕ) (t u : Switch) → front_of u ≡ front_of t → Numbers more x (seen t) → Numbers more x (seen u)
   front_numbers more t u same h = subst (λ (f : Front). Numbers more x (seen_in f)) (sym same) h
@@ -50,10 +53,11 @@ module _ (x : Seen) where
   hung_numbers : (more : ℕ) (cause : Cause) (slot : ℕ) (s : Switch) → Numbers more x (seen s) →
       Numbers more x (seen (after_hangup cause slot s))
   hung_numbers more cause slot s h =
-      hung_kept (λ (t : Switch). Numbers more x (seen t)) (λ event t plain k. k) (λ why place c t is k. put_numbers more place c (hung_up why c) t is refl k)
+      hung_kept (λ (t : Switch). Numbers more x (seen t)) (λ event t plain k. k)
+      (λ why place c t is k. put_numbers more place c (hung_up why c) t is refl k)
       (λ change number t k. front_numbers more t (orig_changed change number t) (orig_changed_front change number t) k) cause slot s h
 
-  won_numbers : (winner : Winner) (slot : ℕ) (s : Switch) → Numbers 2 x (seen s) → Numbers 2 x (seen (won winner slot s))
+  won_numbers : (winner : Winner) (slot : ℕ) (s : Switch) → Numbers 0 x (seen s) → Numbers 0 x (seen (won winner slot s))
   unfolding won
   won_numbers winner slot s h = by (chan_at s slot) refl
     where
@@ -61,11 +65,12 @@ module _ (x : Seen) where
       same_uuid (App application argument) c = refl
       same_uuid (Route to) c = refl
 
-      by : (found : Option Chan) → chan_at s slot ≡ found → Numbers 2 x (seen (after_move_from (won_by winner) slot found s))
+      by : (found : Option Chan) → chan_at s slot ≡ found → Numbers 0 x (seen (after_move_from (won_by winner) slot found s))
       by None is = h
       by (Some c) is =
-          state_told_kept (λ (t : Switch). Numbers 2 x (seen t)) (λ event t plain k. k) c.state (won_by winner c).state {s = with_chan slot (Some (won_by winner c)) s}
-          (put_numbers 2 slot c (won_by winner c) s is (same_uuid winner c) h)
+          state_told_kept (λ (t : Switch). Numbers 0 x (seen t)) (λ event t plain k. k) c.state
+          (won_by winner c).state {s = with_chan slot (Some (won_by winner c)) s}
+          (put_numbers 0 slot c (won_by winner c) s is (same_uuid winner c) h)
 
   pub numbers_moves : (before : Switch) → KeptByMoves before (NumbersFrom x)
   numbers_moves before =
@@ -73,15 +78,20 @@ module _ (x : Seen) where
       (record {
         told = λ event plain h. h;
         globals = λ globals h. h;
-        changed = λ slot old new {b = b} {s = s} there stays h. put_numbers (drawn_by b) slot old new s there (ap (λ (l : Links). l.uuid) stays.links) h;
+        changed =
+            λ slot old new {b = b} {s = s} there stays h. put_numbers (drawn_by b) slot old new s there
+            (ap (λ (l : Links). l.uuid) stays.links) h;
         answers = λ place slot number {b = b} {s = s} h.
             front_numbers (drawn_by b) s (orig_changed (leg_changed (λ position. with_answer position place) slot) number s)
             (orig_changed_front (leg_changed (λ position. with_answer position place) slot) number s) h;
         hung = λ cause slot {b = b} {s = s} h. hung_numbers (drawn_by b) cause slot s h;
-        gone = λ slot old {b = b} {s = s} there dead h. numbers_quietly (drawn_by b) x (seen s) (put slot None (seen s)) h (numbers_gone (seen s) slot old there);
+        gone = λ slot old {b = b} {s = s} there dead h. numbers_quietly (drawn_by b) x (seen s) (put slot None (seen s)) h
+            (numbers_gone (seen s) slot old there);
       })
       (record {
-        spent = λ {s = s} h. numbers_fewer x (seen s) h;
-        pair = λ call orig a b {s = s} short first second h. numbers_then 0 2 x (seen s) (seen (pair_made call orig a b s)) h (pair_numbers call orig a b s first second);
+        spent = λ h. h;
+        more = λ {n = n} {m = m} {s = s} below h. numbers_more n m x (seen s) below h;
+        pair = λ call orig a b {n = n} {s = s} short first second h. numbers_then n 2 x (seen s) (seen (pair_made call orig a b s)) h
+            (pair_numbers call orig a b s first second);
       })
       (λ a winner leg does has h. won_numbers winner (unwrap_or leg.slot 0) before h)

@@ -9,6 +9,7 @@ use Rattle.fs_orig.specs.declared.leg.OrigLeg.{OrigLeg}
 use Rattle.fs_places.specs.declared.numbered.Numbered.{Numbered}
 use Rattle.fs_places.specs.Places.{held_in}
 use Rattle.fs_places.specs.Rows.{has_number, place_of, row_of, with_row}
+use Rattle.fs_places.proofs.RowLemmas.{each_put_at, length_put_at, SameNumbers, held_of, row_at, row_none, numbers-with_row, row_of-with_row_same, row_of-with_row_other}
 use Rattle.fs_state.specs.Queues.{Frames}
 use Rattle.fs_state.specs.declared.conn.Conn.{Conn}
 use Rattle.fs_state.specs.declared.conn.Phase.TheVariants.{Fresh}
@@ -32,7 +33,6 @@ use Rattle.fs_machine.specs.Owing.{after_job_begin, after_job_end}
 use Rattle.fs_machine.specs.Commands.{Command, command_of, command_done}
 use Rattle.fs_machine.specs.Work.{worked}
 use Rattle.fs_machine.specs.Step.{is_closed, act_done}
-use Rattle.fs_machine.proofs.RowLemmas.{each_put_at, length_put_at, SameNumbers, held_of, row_at, row_none, numbers-with_row, row_of-with_row_same, row_of-with_row_other}
 use Rattle.fs_machine.proofs.Kept.{Fact, KeptByCalls, KeptByJobs, LeavesBy, KeptByCommands}
 use Rattle.fs_machine.proofs.RestLemmas.{Rest, rest_of, calls_by_rest, leg_made_rest, worked_rest, won_rest}
 use Rattle.fs_machine.proofs.ActWalk.{job_kept, commanded_kept}
@@ -75,7 +75,8 @@ Hears conn = option_and_then parting_of conn ≢ Some parting.EndOfInput
 hears_same : (old new : Option Conn) → new ≡ old → Hears old → Hears new
 hears_same old new same heard = subst Hears (sym same) heard
 
--- The connections of one switch stand where those of another do, and the same waits for them. All settle but the one, if there is one, whose
+-- The connections of one switch stand where those of another do, and the same waits for them. All settle but the one, if there is one,
+-- whose
 -- act it is. No input ends, unless one may.
 pub record Keeps (who : Option ℕ) (may_end : Bool) (s t : Switch) : Type 0 where
   pub numbers : SameNumbers s.conns t.conns
@@ -100,7 +101,8 @@ keeps_same s t same = record {
 pub keeps_refl : {who : Option ℕ} {may_end : Bool} → (s : Switch) → Keeps who may_end s s
 keeps_refl s = keeps_same s s refl
 
-pub keeps_trans : {who : Option ℕ} {may_end : Bool} → (s t u : Switch) → Keeps who may_end s t → Keeps who may_end t u → Keeps who may_end s u
+pub keeps_trans : {who : Option ℕ} {may_end : Bool} → (s t u : Switch) → Keeps who may_end s t → Keeps who may_end t u →
+    Keeps who may_end s u
 keeps_trans s t u first second = record {
   numbers = λ number place. second.numbers number place ∙ first.numbers number place;
   places = second.places ∙ first.places;
@@ -114,7 +116,8 @@ keeps_trans s t u first second = record {
   hears = λ none number heard. second.hears none number (first.hears none number heard);
 }
 
-pub keeps_on : {who : Option ℕ} {may_end : Bool} → (s t u : Switch) → Keeps who may_end s t → sockets_of u ≡ sockets_of t → Keeps who may_end s u
+pub keeps_on : {who : Option ℕ} {may_end : Bool} → (s t u : Switch) → Keeps who may_end s t → sockets_of u ≡ sockets_of t →
+    Keeps who may_end s u
 keeps_on s t u keeps same = keeps_trans s t u keeps (keeps_same t u same)
 
 -- ---- a connection is changed
@@ -123,7 +126,8 @@ open_held : (held : Option (Numbered Conn)) (c : Conn) → is_shut held ≡ fals
 open_held None c shut is = absurd (cc)
 open_held (Some row) c shut is = subst (λ (d : Conn). is_closed d.phase ≡ false) (same_Some row.held c is) shut
 
-row_open : (rows : List (Option (Numbered Conn))) (number : ℕ) (c : Conn) → AreOpen rows → row_of rows number ≡ Some c → is_closed c.phase ≡ false
+row_open : (rows : List (Option (Numbered Conn))) (number : ℕ) (c : Conn) → AreOpen rows → row_of rows number ≡ Some c →
+    is_closed c.phase ≡ false
 row_open rows number c each is = by (place_of rows number) refl
   where
     by : (found : Option ℕ) → place_of rows number ≡ found → is_closed c.phase ≡ false
@@ -131,7 +135,8 @@ row_open rows number c each is = by (place_of rows number) refl
     by (Some place) there = open_held (held_in rows place) c (each place) (sym (row_at rows number place there) ∙ is)
 
 -- one that is there and is changed has what it is changed to
-row_changed : (rows : List (Option (Numbered Conn))) (number : ℕ) (c d : Conn) → row_of rows number ≡ Some c → row_of (with_row rows number d) number ≡ Some d
+row_changed : (rows : List (Option (Numbered Conn))) (number : ℕ) (c d : Conn) → row_of rows number ≡ Some c →
+    row_of (with_row rows number d) number ≡ Some d
 row_changed rows number c d is = by (place_of rows number) refl
   where
     by : (found : Option ℕ) → place_of rows number ≡ found → row_of (with_row rows number d) number ≡ Some d
@@ -139,13 +144,16 @@ row_changed rows number c d is = by (place_of rows number) refl
     by (Some place) there = row_of-with_row_same rows number place d there
 
 -- what holds of its change, and of what stays the same, holds of each connection
-row_holds : (Holds : Option Conn → Option Conn → Type 0) → ((old new : Option Conn) → new ≡ old → Holds old new) → (rows : List (Option (Numbered Conn))) (number : ℕ) (c d : Conn) →
-    row_of rows number ≡ Some c → (other : ℕ) → (number ≡ other → Holds (Some c) (Some d)) → Holds (row_of rows other) (row_of (with_row rows number d) other)
+row_holds : (Holds : Option Conn → Option Conn → Type 0) → ((old new : Option Conn) → new ≡ old → Holds old new) →
+    (rows : List (Option (Numbered Conn))) (number : ℕ) (c d : Conn) →
+    row_of rows number ≡ Some c → (other : ℕ) → (number ≡ other → Holds (Some c) (Some d)) →
+    Holds (row_of rows other) (row_of (with_row rows number d) other)
 row_holds Holds stays rows number c d is other changes = by (cases_eq number other)
   where
     by : (number ≡ other) ⊎ (number ≡ other → ⊥) → Holds (row_of rows other) (row_of (with_row rows number d) other)
     by (inl same) = subst (λ n. Holds (row_of rows n) (row_of (with_row rows number d) n)) same
-        (subst (λ old. Holds old (row_of (with_row rows number d) number)) (sym is) (subst (Holds (Some c)) (sym (row_changed rows number c d is)) (changes same)))
+        (subst (λ old. Holds old (row_of (with_row rows number d) number)) (sym is)
+        (subst (Holds (Some c)) (sym (row_changed rows number c d is)) (changes same)))
     by (inr differ) = stays (row_of rows other) (row_of (with_row rows number d) other) (row_of-with_row_other rows number d other differ)
 
 -- a change leaves the input as it is, or one may end
@@ -153,7 +161,8 @@ abbrev HearsOn : Bool → (Conn → Conn) → Type 0
 HearsOn may_end change = may_end ≡ false → (c : Conn) → Hears (Some c) → Hears (Some (change c))
 
 -- it is changed in its place, if it is there, and does not go; by an act that is not its own it settles
-pub conn_changed_keeps : {who : Option ℕ} {may_end : Bool} → (change : Conn → Conn) → ((c : Conn) → is_closed c.phase ≡ false → is_closed (change c).phase ≡ false) →
+pub conn_changed_keeps : {who : Option ℕ} {may_end : Bool} → (change : Conn → Conn) →
+    ((c : Conn) → is_closed c.phase ≡ false → is_closed (change c).phase ≡ false) →
     HearsOn may_end change → (number : ℕ) → ((who ≡ Some number → ⊥) → (c : Conn) → Settles (Some c) (Some (change c))) → (s : Switch) →
     Keeps who may_end s (conn_changed change number s)
 conn_changed_keeps {who} {may_end} change stays hears number settles s = by (conn_of s number) refl
@@ -165,14 +174,18 @@ conn_changed_keeps {who} {may_end} change stays hears number settles s = by (con
       places = length_put_at s.conns (Some (record { number = number; held = change c })) (place_of s.conns number);
       queues = refl;
       drawn = refl;
-      opened = λ each. each_put_at (λ held. is_shut held ≡ false) s.conns (Some (record { number = number; held = change c })) (place_of s.conns number) each
+      opened = λ each. each_put_at (λ held. is_shut held ≡ false) s.conns (Some (record { number = number; held = change c }))
+          (place_of s.conns number) each
           (stays c (row_open s.conns number c each is));
-      others = λ other apart. row_holds Settles settles_same s.conns number c (change c) is other (λ same. settles (λ own. apart (own ∙ ap Some same)) c);
-      hears = λ none other. row_holds (λ old new. Hears old → Hears new) hears_same s.conns number c (change c) is other (λ same. hears none c);
+      others = λ other apart. row_holds Settles settles_same s.conns number c (change c) is other
+          (λ same. settles (λ own. apart (own ∙ ap Some same)) c);
+      hears = λ none other. row_holds (λ old new. Hears old → Hears new) hears_same s.conns number c (change c) is other
+          (λ same. hears none c);
     }
 
 -- its own act may change it in each way
-pub own_changed_keeps : {may_end : Bool} → (change : Conn → Conn) → ((c : Conn) → is_closed c.phase ≡ false → is_closed (change c).phase ≡ false) → HearsOn may_end change →
+pub own_changed_keeps : {may_end : Bool} → (change : Conn → Conn) →
+    ((c : Conn) → is_closed c.phase ≡ false → is_closed (change c).phase ≡ false) → HearsOn may_end change →
     (conn : ℕ) (s : Switch) → Keeps (Some conn) may_end s (conn_changed change conn s)
 own_changed_keeps change stays hears conn s = conn_changed_keeps change stays hears conn (λ apart c. absurd (apart refl)) s
 
@@ -195,16 +208,19 @@ parted_keeps why conn s = own_changed_keeps (parted why) (λ c h. refl) (parted_
 owing_keeps : (conn : ℕ) (work : JobWork) (s : Switch) → Keeps (Some conn) false s (after_job_begin conn work s)
 owing_keeps conn work s =
     let begun : Switch = with_new_job (record { conn = conn; work = work }) s in
-    keeps_trans s begun (conn_changed (owed_since s.entries) conn begun) (keeps_same s begun refl) (own_changed_keeps (owed_since s.entries) (λ c h. h) (λ none c heard. heard) conn begun)
+    keeps_trans s begun (conn_changed (owed_since s.entries) conn begun) (keeps_same s begun refl)
+    (own_changed_keeps (owed_since s.entries) (λ c h. h) (λ none c heard. heard) conn begun)
 
 ended_keeps : {who : Option ℕ} → (number conn : ℕ) (answer : Text) (s : Switch) → Keeps who false s (after_job_end number conn answer s)
 ended_keeps number conn answer s =
     keeps_on s (conn_changed not_owed conn (without_job number s)) (after_job_end number conn answer s)
     (keeps_trans s (without_job number s) (conn_changed not_owed conn (without_job number s)) (keeps_same s (without_job number s) refl)
-    (conn_changed_keeps not_owed (λ c h. h) (λ none c heard. heard) conn (λ apart c. record { phase = refl; owed = λ none. refl }) (without_job number s)))
+    (conn_changed_keeps not_owed (λ c h. h) (λ none c heard. heard) conn (λ apart c. record { phase = refl; owed = λ none. refl })
+    (without_job number s)))
     refl
 
-begun_keeps : (conn : ℕ) (endpoint : Text) (winner : Winner) (timeout orig : ℕ) (made : Made) (s : Switch) → sockets_of made.state ≡ sockets_of s →
+begun_keeps : (conn : ℕ) (endpoint : Text) (winner : Winner) (timeout orig : ℕ) (made : Made) (s : Switch) →
+    sockets_of made.state ≡ sockets_of s →
     Keeps (Some conn) false s (tried_by_job conn endpoint winner timeout orig made)
 begun_keeps conn endpoint winner timeout orig made s same =
     keeps_trans s (orig_begun endpoint made.leg timeout made.state) (tried_by_job conn endpoint winner timeout orig made)
@@ -222,12 +238,15 @@ calls_keep who s = calls_by_rest (KeepsFrom who s) (λ b t u h same. keeps_on s 
 
 -- the jobs that end
 module _ (s : Switch) where
-  over_keeps : (a : Attempt) (answer : Text) (t u : Switch) → sockets_of u ≡ sockets_of t → Keeps None false s t → Keeps None false s (after_job_end a.job a.conn answer (without_orig a.orig u))
+  over_keeps : (a : Attempt) (answer : Text) (t u : Switch) → sockets_of u ≡ sockets_of t → Keeps None false s t →
+      Keeps None false s (after_job_end a.job a.conn answer (without_orig a.orig u))
   over_keeps a answer t u same h =
-      keeps_trans s (without_orig a.orig u) (after_job_end a.job a.conn answer (without_orig a.orig u)) (keeps_on s t (without_orig a.orig u) h same)
+      keeps_trans s (without_orig a.orig u) (after_job_end a.job a.conn answer (without_orig a.orig u))
+      (keeps_on s t (without_orig a.orig u) h same)
       (ended_keeps a.job a.conn answer (without_orig a.orig u))
 
-  wins_keep : (a : Attempt) (winner : Winner) (leg : OrigLeg) → Keeps None false s s → Keeps None false s (after_job_end a.job a.conn (made_text leg.uuid) (without_orig a.orig (won winner (unwrap_or leg.slot 0) s)))
+  wins_keep : (a : Attempt) (winner : Winner) (leg : OrigLeg) → Keeps None false s s →
+      Keeps None false s (after_job_end a.job a.conn (made_text leg.uuid) (without_orig a.orig (won winner (unwrap_or leg.slot 0) s)))
   wins_keep a winner leg h =
       let t : Switch = won winner (unwrap_or leg.slot 0) s in
       over_keeps a (made_text leg.uuid) s t (sockets_same s t (won_rest winner (unwrap_or leg.slot 0) s)) h
@@ -245,15 +264,20 @@ module _ (conn : ℕ) (s : Switch) where
   gave_keeps : (frame : Text) {t : Switch} → Keeps (Some conn) false s t → Keeps (Some conn) false s (with_gift conn frame t)
   gave_keeps frame {t} h = keeps_on s t (with_gift conn frame t) h refl
 
-  admitted_keeps : {t : Switch} → phase_at t conn ≡ Fresh → Keeps (Some conn) false s t → Keeps (Some conn) false s (conn_changed admitted conn t)
-  admitted_keeps {t} fresh h = keeps_trans s t (conn_changed admitted conn t) h (own_changed_keeps admitted (λ c h. refl) (λ none c heard. heard) conn t)
+  admitted_keeps : {t : Switch} → phase_at t conn ≡ Fresh → Keeps (Some conn) false s t →
+      Keeps (Some conn) false s (conn_changed admitted conn t)
+  admitted_keeps {t} fresh h =
+      keeps_trans s t (conn_changed admitted conn t) h (own_changed_keeps admitted (λ c h. refl) (λ none c heard. heard) conn t)
 
-  leaves_keeps : (why : Parting) {t : Switch} → LeavesBy why → Keeps (Some conn) false s t → Keeps (Some conn) false s (conn_changed (parted why) conn t)
+  leaves_keeps : (why : Parting) {t : Switch} → LeavesBy why → Keeps (Some conn) false s t →
+      Keeps (Some conn) false s (conn_changed (parted why) conn t)
   leaves_keeps parting.Exit {t} leaves h = keeps_trans s t (conn_changed (parted parting.Exit) conn t) h (parted_keeps parting.Exit conn t)
-  leaves_keeps parting.AuthRefused {t} leaves h = keeps_trans s t (conn_changed (parted parting.AuthRefused) conn t) h (parted_keeps parting.AuthRefused conn t)
+  leaves_keeps parting.AuthRefused {t} leaves h =
+      keeps_trans s t (conn_changed (parted parting.AuthRefused) conn t) h (parted_keeps parting.AuthRefused conn t)
   leaves_keeps parting.EndOfInput leaves h = absurd leaves
 
-  sleeps_keep : (until : ℕ) {t : Switch} → is_full_of_jobs t ≡ false → Keeps (Some conn) false s t → Keeps (Some conn) false s (after_job_begin conn (Sleep until) t)
+  sleeps_keep : (until : ℕ) {t : Switch} → is_full_of_jobs t ≡ false → Keeps (Some conn) false s t →
+      Keeps (Some conn) false s (after_job_begin conn (Sleep until) t)
   sleeps_keep until {t} room h = keeps_trans s t (after_job_begin conn (Sleep until) t) h (owing_keeps conn (Sleep until) t)
 
   originates_keep : (endpoint : Text) (winner : Winner) (caller : Caller) (timeout : Option ℕ) {t : Switch} → Keeps (Some conn) false s t →
@@ -266,9 +290,10 @@ module _ (conn : ℕ) (s : Switch) where
   commands_keep : KeptByCommands conn (KeepsFrom (Some conn) s)
   commands_keep = record {
     spent = λ h. h;
+    more = λ below h. h;
     gave = λ frame h. gave_keeps frame h;
-    admitted = admitted_keeps;
-    parted = leaves_keeps;
+    admitted = λ fresh h. admitted_keeps fresh h;
+    parted = λ why leaves h. leaves_keeps why leaves h;
     sleeps = sleeps_keep;
     originates = λ endpoint winner caller timeout short room h. originates_keep endpoint winner caller timeout h;
   }
@@ -282,7 +307,8 @@ job_done_keeps : (number : ℕ) (s : Switch) → Keeps None false s (job_done nu
 job_done_keeps number s = job_kept s (KeepsFrom None s) (calls_keep None s) (jobs_keep s) number (keeps_refl s)
 
 commanded_keeps : (conn : ℕ) (command : Command) (s : Switch) → Keeps (Some conn) false s (command_done conn command s)
-commanded_keeps conn command s = commanded_kept conn (KeepsFrom (Some conn) s) (calls_keep (Some conn) s) (commands_keep conn s) command {s = s} (keeps_refl s)
+commanded_keeps conn command s =
+    commanded_kept conn (KeepsFrom (Some conn) s) (calls_keep (Some conn) s) (commands_keep conn s) command {s = s} (keeps_refl s)
 
 -- those that open no connection, close none, and take no frame
 abbrev pub ActKeeps : Act → Switch → Type 0

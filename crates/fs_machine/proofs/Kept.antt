@@ -1,5 +1,5 @@
 -- What a fact on switches has to bear for every entry to keep it: a case for each move that entries are made of.
-use Rattle.std.proofs.Common.{◌≡◌, ℕ, ◌+◌, Bool, true, false, Option, None, Some, slice_get, unwrap_or}
+use Rattle.std.proofs.Common.{◌≡◌, ℕ, ◌+◌, ◌≤◌, false, Option, None, Some, unwrap_or}
 use Rattle.fs_text.specs.declared.causes.Cause.{Cause}
 use Rattle.fs_vars.specs.Pairs.{Text}
 use Rattle.fs_vars.specs.Variables.{Variables}
@@ -9,17 +9,16 @@ use Rattle.fs_chan.specs.declared.chan.Chan.{Chan}
 use Rattle.fs_chan.specs.declared.peer.Peer.{Peer}
 use Rattle.fs_chan.specs.Changes.{is_live, IsShortTarget, HasShortFields}
 use Rattle.fs_orig.specs.declared.leg.OrigLeg.{OrigLeg}
-use Rattle.fs_orig.specs.declared.orig.Orig.{Orig}
-use Rattle.fs_orig.specs.Legs.{lives}
 use Rattle.fs_orig.specs.Changes.{with_answer}
 use Rattle.fs_orig.specs.Endpoints.{IsShortAddress}
+use Rattle.fs_places.proofs.HeldLemmas.{IsFree}
 use Rattle.fs_state.specs.declared.conn.Phase.TheVariants.{Fresh}
 use Rattle.fs_state.specs.declared.conn.Parting.{Parting}
 use Rattle.fs_state.specs.declared.conn.Parting.TheVariants as parting
 use Rattle.fs_state.specs.declared.event.Event.{Event}
 use Rattle.fs_state.specs.declared.job.JobWork.{JobWork}
 use Rattle.fs_state.specs.declared.job.JobWork.TheVariants as work
-use Rattle.fs_state.specs.Switch.{Switch, chan_at, with_chan, is_full_of_jobs, orig_of, job_of, without_orig, without_conn, with_frame_taken, with_event, with_gift}
+use Rattle.fs_state.specs.Switch.{Switch, chan_at, with_chan, is_full_of_jobs, job_of, without_orig, without_conn, with_frame_taken, with_event, with_gift}
 use Rattle.fs_state.specs.Moves.{orig_changed, leg_changed, after_hangup}
 use Rattle.fs_machine.specs.declared.attempts.Attempt.{Attempt}
 use Rattle.fs_machine.specs.declared.originations.Call.{Call}
@@ -30,11 +29,16 @@ use Rattle.fs_machine.specs.Originations.{pair_made, target_of, won}
 use Rattle.fs_machine.specs.Attempts.{originate_begun, failed}
 use Rattle.fs_machine.specs.Owing.{after_job_begin, after_job_end}
 use Rattle.fs_machine.specs.Step.{arrived}
-use Rattle.fs_machine.proofs.HeldLemmas.{IsFree}
+use Rattle.fs_machine.specs.Sound.{HasLeg}
 
--- A fact on a switch while an entry is done. By true nothing has begun in this entry that draws a number, by false one such thing may have.
+-- How far an entry has come: nothing has begun in it that draws a number, or such a thing may have, and so many identifiers were drawn at
+-- most.
+abbrev pub Stage : Type 0
+Stage = Option ℕ
+
+-- A fact on a switch while an entry is done, at each stage of it.
 abbrev pub Fact : Type 1
-Fact = Bool → Switch → Type 0
+Fact = Stage → Switch → Type 0
 
 -- ---- moves of channels
 
@@ -56,18 +60,23 @@ pub record Stays (old new : Chan) : Type 0 where
 
 -- what channels do, and what is done to them; no event tells of a bridge
 pub record KeptByCalls (P : Fact) : Type 0 where
-  pub told : (event : Event) {b : Bool} {s : Switch} → event.bridge ≡ 0 → P b s → P b (with_event event s)
-  pub globals : (globals : Variables) {b : Bool} {s : Switch} → P b s → P b (record s { globals = globals })
-  pub changed : (slot : ℕ) (old new : Chan) {b : Bool} {s : Switch} → chan_at s slot ≡ Some old → Stays old new → P b s → P b (with_chan slot (Some new) s)
-  pub answers : (place slot number : ℕ) {b : Bool} {s : Switch} → P b s → P b (orig_changed (leg_changed (λ position. with_answer position place) slot) number s)
-  pub hung : (cause : Cause) (slot : ℕ) {b : Bool} {s : Switch} → P b s → P b (after_hangup cause slot s)
-  pub gone : (slot : ℕ) (old : Chan) {b : Bool} {s : Switch} → chan_at s slot ≡ Some old → is_live old ≡ false → P b s → P b (with_chan slot None s)
+  pub told : (event : Event) {b : Stage} {s : Switch} → event.bridge ≡ 0 → P b s → P b (with_event event s)
+  pub globals : (globals : Variables) {b : Stage} {s : Switch} → P b s → P b (record s { globals = globals })
+  pub changed : (slot : ℕ) (old new : Chan) {b : Stage} {s : Switch} → chan_at s slot ≡ Some old → Stays old new → P b s →
+      P b (with_chan slot (Some new) s)
+  pub answers : (place slot number : ℕ) {b : Stage} {s : Switch} → P b s →
+      P b (orig_changed (leg_changed (λ position. with_answer position place) slot) number s)
+  pub hung : (cause : Cause) (slot : ℕ) {b : Stage} {s : Switch} → P b s → P b (after_hangup cause slot s)
+  pub gone : (slot : ℕ) (old : Chan) {b : Stage} {s : Switch} → chan_at s slot ≡ Some old → is_live old ≡ false → P b s →
+      P b (with_chan slot None s)
 
--- how channels are born
+-- how channels are born: each pair draws two identifiers
 pub record KeptByBirths (P : Fact) : Type 0 where
-  pub spent : {s : Switch} → P true s → P false s
-  pub pair : (call : Call) (orig a b : ℕ) {s : Switch} → IsShortAddress call.exten call.context → IsFree Chan s.channels 1 a → IsFree Chan s.channels (a + 1) b → P true s →
-      P false (pair_made call orig a b s)
+  pub spent : {s : Switch} → P None s → P (Some 0) s
+  pub more : {n m : ℕ} {s : Switch} → n ≤ m → P (Some n) s → P (Some m) s
+  pub pair : (call : Call) (orig a b : ℕ) {n : ℕ} {s : Switch} → IsShortAddress call.exten call.context → IsFree Chan s.channels 1 a →
+      IsFree Chan s.channels (a + 1) b →
+      P (Some n) s → P (Some (n + 2)) (pair_made call orig a b s)
 
 -- ---- moves of jobs
 
@@ -75,20 +84,15 @@ pub record KeptByBirths (P : Fact) : Type 0 where
 pub record DoesJob (s : Switch) (number conn : ℕ) (what : JobWork) : Type 0 where
   pub there : job_of s number ≡ Some (record { conn = conn; work = what })
 
--- a leg of the origination of this number lives
-pub record HasLeg (s : Switch) (number : ℕ) (leg : OrigLeg) : Type 0 where
-  pub orig : Orig
-  pub there : orig_of s number ≡ Some orig
-  pub position : ℕ
-  pub at : slice_get orig.legs position ≡ Some leg
-  pub lives : lives leg ≡ true
-
 -- the jobs that end; a leg wins in the switch in which the entry begins
 pub record KeptByJobs (before : Switch) (P : Fact) : Type 0 where
-  pub woken : (number conn until : ℕ) (answer : Text) {s : Switch} → DoesJob s number conn (work.Sleep until) → P false s → P false (after_job_end number conn answer s)
-  pub failed : (a : Attempt) (winner : Winner) (cause : Cause) {s : Switch} → DoesJob s a.job a.conn (work.Originate a.orig winner) → P false s → P false (failed a cause s)
-  pub wins : (a : Attempt) (winner : Winner) (leg : OrigLeg) → DoesJob before a.job a.conn (work.Originate a.orig winner) → HasLeg before a.orig leg → P false before →
-      P false (after_job_end a.job a.conn (made_text leg.uuid) (without_orig a.orig (won winner (unwrap_or leg.slot 0) before)))
+  pub woken : (number conn until : ℕ) (answer : Text) {s : Switch} → DoesJob s number conn (work.Sleep until) → P (Some 0) s →
+      P (Some 0) (after_job_end number conn answer s)
+  pub failed : (a : Attempt) (winner : Winner) (cause : Cause) {s : Switch} → DoesJob s a.job a.conn (work.Originate a.orig winner) →
+      P (Some 0) s → P (Some 0) (failed a cause s)
+  pub wins : (a : Attempt) (winner : Winner) (leg : OrigLeg) → DoesJob before a.job a.conn (work.Originate a.orig winner) →
+      HasLeg before a.orig leg → P (Some 0) before →
+      P (Some 0) (after_job_end a.job a.conn (made_text leg.uuid) (without_orig a.orig (won winner (unwrap_or leg.slot 0) before)))
 
 -- ---- moves of a connection
 
@@ -105,20 +109,22 @@ IsShortWinner (Route to) = IsShortTarget (target_of to)
 
 -- what the commands of a connection do
 pub record KeptByCommands (conn : ℕ) (P : Fact) : Type 0 where
-  pub spent : {s : Switch} → P true s → P false s
-  pub gave : (frame : Text) {b : Bool} {s : Switch} → P b s → P b (with_gift conn frame s)
-  pub admitted : {s : Switch} → phase_at s conn ≡ Fresh → P false s → P false (conn_changed admitted conn s)
-  pub parted : (why : Parting) {s : Switch} → LeavesBy why → P false s → P false (conn_changed (parted why) conn s)
-  pub sleeps : (until : ℕ) {s : Switch} → is_full_of_jobs s ≡ false → P true s → P false (after_job_begin conn (work.Sleep until) s)
-  pub originates : (endpoint : Text) (winner : Winner) (caller : Caller) (timeout : Option ℕ) {s : Switch} → IsShortWinner winner → is_full_of_jobs s ≡ false → P true s →
-      P false (originate_begun conn endpoint winner caller timeout s)
+  pub spent : {s : Switch} → P None s → P (Some 0) s
+  pub more : {n m : ℕ} {s : Switch} → n ≤ m → P (Some n) s → P (Some m) s
+  pub gave : (frame : Text) {b : Stage} {s : Switch} → P b s → P b (with_gift conn frame s)
+  pub admitted : {n : ℕ} {s : Switch} → phase_at s conn ≡ Fresh → P (Some n) s → P (Some n) (conn_changed admitted conn s)
+  pub parted : (why : Parting) {n : ℕ} {s : Switch} → LeavesBy why → P (Some n) s → P (Some n) (conn_changed (parted why) conn s)
+  pub sleeps : (until : ℕ) {s : Switch} → is_full_of_jobs s ≡ false → P None s → P (Some 0) (after_job_begin conn (work.Sleep until) s)
+  pub originates : (endpoint : Text) (winner : Winner) (caller : Caller) (timeout : Option ℕ) {s : Switch} → IsShortWinner winner →
+      is_full_of_jobs s ≡ false → P None s →
+      P (Some 2) (originate_begun conn endpoint winner caller timeout s)
 
 -- how connections come and go, and take their frames
 pub record KeptByVisits (P : Fact) : Type 0 where
-  pub arrived : {s : Switch} → P true s → P false (arrived s).state
-  pub taken : (conn : ℕ) {s : Switch} → P false s → P false (with_frame_taken conn s)
-  pub silent : (conn : ℕ) {s : Switch} → P false s → P false (conn_changed (parted parting.EndOfInput) conn s)
-  pub left : (conn : ℕ) {s : Switch} → P false s → P false (without_conn conn s)
+  pub arrived : {s : Switch} → P None s → P (Some 0) (arrived s).state
+  pub taken : (conn : ℕ) {s : Switch} → P (Some 0) s → P (Some 0) (with_frame_taken conn s)
+  pub silent : (conn : ℕ) {s : Switch} → P (Some 0) s → P (Some 0) (conn_changed (parted parting.EndOfInput) conn s)
+  pub left : (conn : ℕ) {s : Switch} → P (Some 0) s → P (Some 0) (without_conn conn s)
 
 -- every move of an entry that begins in a switch
 pub record KeptByMoves (before : Switch) (P : Fact) : Type 0 where

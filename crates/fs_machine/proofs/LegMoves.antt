@@ -1,6 +1,7 @@
 -- Each act leaves each living leg of an origination a live channel that names the origination.
 use Rattle.std.proofs.Common.{◌≡◌, ℕ, ◌+◌, ◌-◌, ◌<◌, ◌^◌, min, Bool, true, false, if◌then◌else◌, List, [], ◌∷◌, Option, None, Some, option_map, option_and_then, unwrap_or, ◌⊎◌, inl, inr, refl, sym, ap, subst, ◌∙◌, arith, true≢false}
 use Rattle.std.proofs.lemmas.Bool.{cases_eq, both_ways}
+use Rattle.std.proofs.lemmas.Option.{none-some, same_Some}
 use Rattle.fs_text.specs.declared.states.State.TheVariants.{CsHangup}
 use Rattle.fs_text.specs.declared.causes.Cause.{Cause}
 use Rattle.fs_text.specs.declared.causes.Cause.TheVariants.{SwitchCongestion}
@@ -17,11 +18,14 @@ use Rattle.fs_orig.specs.Changes.{with_leg_answer, with_leg_death, with_answer, 
 use Rattle.fs_orig.specs.Endpoints.{endpoint_of}
 use Rattle.fs_places.specs.Places.{held_in, with_held}
 use Rattle.fs_places.specs.Rows.{has_number, place_of, row_of, with_row, without_row}
+use Rattle.fs_places.proofs.HeldLemmas.{IsFree, free_place, held_here, held_there, held_within}
+use Rattle.fs_places.proofs.RowLemmas.{AreDistinct, AreWithin, row_gone, none_stands, above_nowhere, distinct_same, numbers-with_row, place_of-without_row_same, distinct-without_row, within-without_row, distinct-with_new_row, within-with_new_row}
 use Rattle.fs_state.specs.declared.conn.Conn.{Conn}
 use Rattle.fs_state.specs.declared.conn.Parting.TheVariants as parting
 use Rattle.fs_state.specs.declared.job.JobWork.TheVariants.{Sleep, Originate}
 use Rattle.fs_state.specs.Switch.{Switch, chan_at, with_chan, free_slot, with_next_identifier, identifier_of, next_orig_number, orig_of, with_orig, with_new_orig, without_orig, with_new_job, without_job, with_event}
 use Rattle.fs_state.specs.Moves.{with_state_events, after_move_from, orig_changed_from, orig_changed, leg_changed, its_leg_changed, hangup_event, after_hangup_from, after_one_hangup, after_hangup}
+use Rattle.fs_state.proofs.LegTables.{Origs, Seat, seated, seat_if, seat_of, seat_in, seat_at, in_slot, Fewer, seat_number, seat_its, answer_spares, death_spares, touched_spares, row_there, changed_fewer, without_fewer, death_leaves_none, new_or_old}
 use Rattle.fs_machine.specs.declared.attempts.Attempt.{Attempt}
 use Rattle.fs_machine.specs.declared.originations.Call.{Call}
 use Rattle.fs_machine.specs.declared.originations.Caller.{Caller}
@@ -30,11 +34,8 @@ use Rattle.fs_machine.specs.Connections.{conn_changed, admitted, parted, owed_si
 use Rattle.fs_machine.specs.Originations.{end_of, end_made, leg_end, far_end, pair_made, Made, made_dead, is_congested, made_in, with_second, free_pair, made_of, leg_made, won_by, won}
 use Rattle.fs_machine.specs.Attempts.{orig_begun, tried_by_job, originate_begun}
 use Rattle.fs_machine.specs.Owing.{after_job_begin, after_job_end}
-use Rattle.fs_machine.proofs.HeldLemmas.{IsFree, free_place, held_here, held_there, held_within}
-use Rattle.fs_machine.proofs.RowLemmas.{AreDistinct, AreWithin, row_gone, none_stands, above_nowhere, distinct_same, numbers-with_row, place_of-without_row_same, distinct-without_row, within-without_row, distinct-with_new_row, within-with_new_row}
-use Rattle.fs_machine.proofs.TableLemmas.{nothing_there, same_there}
-use Rattle.fs_machine.proofs.Kept.{Fact, Links, KeptByCalls, KeptByBirths, HasLeg, KeptByMoves}
-use Rattle.fs_machine.proofs.LegTables.{Origs, Seat, seated, seat_if, seat_of, seat_in, seat_at, in_slot, Fewer, seat_number, seat_its, answer_spares, death_spares, touched_spares, row_there, changed_fewer, without_fewer, death_leaves_none, new_or_old}
+use Rattle.fs_machine.specs.Sound.{HasLeg, LegsAreChannels}
+use Rattle.fs_machine.proofs.Kept.{Fact, Links, KeptByCalls, KeptByBirths, KeptByMoves}
 use Rattle.fs_machine.proofs.Walk.{new_lives, state_told_kept, pair_hung_kept, leg_made_kept}
 use Rattle.fs_machine.proofs.FrontLemmas.{conn_unread}
 use Rattle.fs_machine.proofs.RestLemmas.{Rest, rest_of, orig_changed_rest, hung_rest, leg_made_rest, won_rest}
@@ -65,7 +66,8 @@ pub record IsLegOf (channels : Channels) (seat : Seat) : Type 0 where
   pub live : is_live chan ≡ true
   pub names : chan.leg_of ≡ Some seat.number
 
--- Originations have numbers of their own that were drawn, each living leg is a live channel that names its origination, and no two legs of one
+-- Originations have numbers of their own that were drawn, each living leg is a live channel that names its origination, and no two legs of
+-- one
 -- are in one slot.
 pub record LegsStand (r : Roles) : Type 0 where
   pub distinct : AreDistinct r.origs
@@ -74,13 +76,22 @@ pub record LegsStand (r : Roles) : Type 0 where
   pub apart : (place p q : ℕ) (seat : Seat) → seat_at r.origs place p ≡ Some seat → seat_at r.origs place q ≡ Some seat → p ≡ q
 
 -- a leg stands where nothing was written
-leg_elsewhere : (channels : Channels) (slot : ℕ) (new : Option Chan) (seat : Seat) → (leg : IsLegOf channels seat) → (leg.at ≡ slot → ⊥) → IsLegOf (with_held channels slot new) seat
+leg_elsewhere : (channels : Channels) (slot : ℕ) (new : Option Chan) (seat : Seat) → (leg : IsLegOf channels seat) → (leg.at ≡ slot → ⊥) →
+    IsLegOf (with_held channels slot new) seat
 leg_elsewhere channels slot new seat leg other =
-    record { at = leg.at; is = leg.is; chan = leg.chan; there = held_there channels slot leg.at new other ∙ leg.there; live = leg.live; names = leg.names }
+    record {
+      at = leg.at;
+      is = leg.is;
+      chan = leg.chan;
+      there = held_there channels slot leg.at new other ∙ leg.there;
+      live = leg.live;
+      names = leg.names;
+    }
 
 -- there are as many legs or fewer, and each stands
 legs_fewer : (r : Roles) (channels : Channels) (origs : Origs) → AreDistinct origs → AreWithin r.drawn origs → Fewer r.origs origs →
-    ((place position : ℕ) (seat : Seat) → seat_at origs place position ≡ Some seat → IsLegOf r.channels seat → IsLegOf channels seat) → LegsStand r →
+    ((place position : ℕ) (seat : Seat) → seat_at origs place position ≡ Some seat → IsLegOf r.channels seat → IsLegOf channels seat) →
+    LegsStand r →
     LegsStand (record { channels = channels; origs = origs; drawn = r.drawn })
 legs_fewer r channels origs distinct within fewer stand h = record {
   distinct = distinct;
@@ -90,31 +101,36 @@ legs_fewer r channels origs distinct within fewer stand h = record {
 }
 
 -- the channel of a slot gives place to anything, where no leg that is left lives in this slot and is the channel's
-legs_cut : (r : Roles) (origs : Origs) (slot : ℕ) (old : Chan) (new : Option Chan) → held_in r.channels slot ≡ Some old → AreDistinct origs → AreWithin r.drawn origs → Fewer r.origs origs →
+legs_cut : (r : Roles) (origs : Origs) (slot : ℕ) (old : Chan) (new : Option Chan) → held_in r.channels slot ≡ Some old →
+    AreDistinct origs → AreWithin r.drawn origs → Fewer r.origs origs →
     ((place position number : ℕ) → seat_at origs place position ≡ Some (in_slot number slot) → old.leg_of ≡ Some number → ⊥) → LegsStand r →
     LegsStand (record { channels = with_held r.channels slot new; origs = origs; drawn = r.drawn })
 legs_cut r origs slot old new there distinct within fewer none =
     legs_fewer r (with_held r.channels slot new) origs distinct within fewer
     (λ place position seat has leg. leg_elsewhere r.channels slot new seat leg (λ same. here place position seat has leg same))
   where
-    here : (place position : ℕ) (seat : Seat) → seat_at origs place position ≡ Some seat → (leg : IsLegOf r.channels seat) → leg.at ≡ slot → ⊥
+    here : (place position : ℕ) (seat : Seat) → seat_at origs place position ≡ Some seat → (leg : IsLegOf r.channels seat) → leg.at ≡ slot →
+        ⊥
     here place position seat has leg same =
-        let is : old ≡ leg.chan = same_there old leg.chan (sym there ∙ (ap (held_in r.channels) (sym same) ∙ leg.there)) in
+        let is : old ≡ leg.chan = same_Some old leg.chan (sym there ∙ (ap (held_in r.channels) (sym same) ∙ leg.there)) in
         let sits : seat ≡ in_slot seat.number slot = ap (λ (which : Option ℕ). seated seat.number which) (leg.is ∙ ap Some same) in
         none place position seat.number (has ∙ ap Some sits) (ap (λ (c : Chan). c.leg_of) is ∙ leg.names)
 
 -- the channels change, and each leg stands still
-legs_follow : (r : Roles) (channels : Channels) → ((seat : Seat) → IsLegOf r.channels seat → IsLegOf channels seat) → LegsStand r → LegsStand (record r { channels = channels })
-legs_follow r channels follow h = legs_fewer r channels r.origs h.distinct h.within (λ place position seat has. has) (λ place position seat has. follow seat) h
+legs_follow : (r : Roles) (channels : Channels) → ((seat : Seat) → IsLegOf r.channels seat → IsLegOf channels seat) → LegsStand r →
+    LegsStand (record r { channels = channels })
+legs_follow r channels follow h =
+    legs_fewer r channels r.origs h.distinct h.within (λ place position seat has. has) (λ place position seat has. follow seat) h
 
 -- the channel of a slot is the leg that it was
-put_follows : (channels : Channels) (slot : ℕ) (old new : Chan) → held_in channels slot ≡ Some old → new.leg_of ≡ old.leg_of → is_live new ≡ is_live old →
+put_follows : (channels : Channels) (slot : ℕ) (old new : Chan) → held_in channels slot ≡ Some old → new.leg_of ≡ old.leg_of →
+    is_live new ≡ is_live old →
     (seat : Seat) → IsLegOf channels seat → IsLegOf (with_held channels slot (Some new)) seat
 put_follows channels slot old new there same live seat leg = by (cases_eq leg.at slot)
   where
     by : (leg.at ≡ slot) ⊎ (leg.at ≡ slot → ⊥) → IsLegOf (with_held channels slot (Some new)) seat
     by (inl here) =
-        let is : old ≡ leg.chan = same_there old leg.chan (sym there ∙ (ap (held_in channels) (sym here) ∙ leg.there)) in
+        let is : old ≡ leg.chan = same_Some old leg.chan (sym there ∙ (ap (held_in channels) (sym here) ∙ leg.there)) in
         record {
           at = slot;
           is = leg.is ∙ ap Some here;
@@ -129,40 +145,48 @@ put_follows channels slot old new there same live seat leg = by (cases_eq leg.at
 free_follows : (channels : Channels) (slot : ℕ) (new : Option Chan) → ((c : Chan) → held_in channels slot ≡ Some c → is_live c ≡ false) →
     (seat : Seat) → IsLegOf channels seat → IsLegOf (with_held channels slot new) seat
 free_follows channels slot new dead seat leg =
-    leg_elsewhere channels slot new seat leg (λ same. true≢false (sym leg.live ∙ dead leg.chan (ap (held_in channels) (sym same) ∙ leg.there)))
+    leg_elsewhere channels slot new seat leg
+    (λ same. true≢false (sym leg.live ∙ dead leg.chan (ap (held_in channels) (sym same) ∙ leg.there)))
 
 -- ---- a channel is hung up, and the leg that it is dies
 
 cut_roles : (cause : Cause) (slot : ℕ) (c : Chan) (s : Switch) →
-    roles_of (with_state_events c.state CsHangup (with_event (hangup_event cause) (with_chan slot (Some (hung_up cause c)) s))) ≡ record (roles_of s) { channels = with_held s.channels slot (Some (hung_up cause c)) }
+    roles_of (with_state_events c.state CsHangup (with_event (hangup_event cause) (with_chan slot (Some (hung_up cause c)) s))) ≡ record
+    (roles_of s) { channels = with_held s.channels slot (Some (hung_up cause c)) }
 cut_roles cause slot c s =
     let cut : Switch = with_event (hangup_event cause) (with_chan slot (Some (hung_up cause c)) s) in
-    state_told_kept (λ (t : Switch). roles_of t ≡ record (roles_of s) { channels = with_held s.channels slot (Some (hung_up cause c)) }) (λ event t plain h. h) c.state CsHangup {s = cut} refl
+    state_told_kept (λ (t : Switch). roles_of t ≡ record (roles_of s) { channels = with_held s.channels slot (Some (hung_up cause c)) })
+    (λ event t plain h. h) c.state CsHangup {s = cut} refl
 
 -- so each leg stands behind a hangup
 module _ (cause : Cause) (slot : ℕ) (c : Chan) (s : Switch) (there : chan_at s slot ≡ Some c) (h : LegsStand (roles_of s)) where
   after_death : (origs : Origs) → AreDistinct origs → AreWithin s.drawn.origs origs → Fewer s.origs origs →
       ((place position number : ℕ) → seat_at origs place position ≡ Some (in_slot number slot) → c.leg_of ≡ Some number → ⊥) →
-      (t : Switch) → roles_of t ≡ record (roles_of s) { channels = with_held s.channels slot (Some (hung_up cause c)); origs = origs } → LegsStand (roles_of t)
-  after_death origs distinct within fewer none t same = subst LegsStand (sym same) (legs_cut (roles_of s) origs slot c (Some (hung_up cause c)) there distinct within fewer none h)
+      (t : Switch) → roles_of t ≡ record (roles_of s) { channels = with_held s.channels slot (Some (hung_up cause c)); origs = origs } →
+      LegsStand (roles_of t)
+  after_death origs distinct within fewer none t same =
+      subst LegsStand (sym same) (legs_cut (roles_of s) origs slot c (Some (hung_up cause c)) there distinct within fewer none h)
 
   no_death : ((place position number : ℕ) → seat_at s.origs place position ≡ Some (in_slot number slot) → c.leg_of ≡ Some number → ⊥) →
-      (t : Switch) → roles_of t ≡ record (roles_of s) { channels = with_held s.channels slot (Some (hung_up cause c)) } → LegsStand (roles_of t)
+      (t : Switch) → roles_of t ≡ record (roles_of s) { channels = with_held s.channels slot (Some (hung_up cause c)) } →
+      LegsStand (roles_of t)
   no_death none t same = after_death s.origs h.distinct h.within (λ place position seat has. has) none t same
 
   its_death : (place : ℕ) (leg_of : Option ℕ) → c.leg_of ≡ leg_of → (t : Switch) →
-      roles_of t ≡ record (roles_of s) { channels = with_held s.channels slot (Some (hung_up cause c)) } → LegsStand (roles_of (its_leg_changed (λ p. with_death p place cause) slot leg_of t))
-  its_death place None is t same = no_death (λ at position number has its. nothing_there number (sym is ∙ its)) t same
+      roles_of t ≡ record (roles_of s) { channels = with_held s.channels slot (Some (hung_up cause c)) } →
+      LegsStand (roles_of (its_leg_changed (λ p. with_death p place cause) slot leg_of t))
+  its_death place None is t same = no_death (λ at position number has its. none-some number (sym is ∙ its)) t same
   its_death place (Some number) is t same = by (orig_of t number) refl
     where
       -- the number is the origination's
       its : (n : ℕ) → c.leg_of ≡ Some n → n ≡ number
-      its n e = same_there n number (sym e ∙ is)
+      its n e = same_Some n number (sym e ∙ is)
 
       known : (found : Option Orig) → orig_of t number ≡ found → orig_of s number ≡ found
       known found is = ap (λ (r : Roles). row_of r.origs number) (sym same) ∙ is
 
-      by : (found : Option Orig) → orig_of t number ≡ found → LegsStand (roles_of (orig_changed_from (leg_changed (λ p. with_death p place cause) slot) number found t))
+      by : (found : Option Orig) → orig_of t number ≡ found →
+          LegsStand (roles_of (orig_changed_from (leg_changed (λ p. with_death p place cause) slot) number found t))
       by None none =
           no_death
           (λ at position n has e. both_ways (has_number n (held_in s.origs at))
@@ -171,8 +195,10 @@ module _ (cause : Cause) (slot : ℕ) (c : Chan) (s : Switch) (there : chan_at s
       by (Some o) found =
           let dead : Orig = leg_changed (λ p. with_death p place cause) slot o in
           let origs : Origs = with_row s.origs number dead in
-          after_death origs (distinct_same s.origs origs (numbers-with_row s.origs number dead) h.distinct) (within_same s.origs number dead s.drawn.origs h.within)
-          (changed_fewer s.origs number o dead (known (Some o) found) (touched_spares (with_leg_death place cause) (death_spares place cause) slot number o))
+          after_death origs (distinct_same s.origs origs (numbers-with_row s.origs number dead) h.distinct)
+          (within_same s.origs number dead s.drawn.origs h.within)
+          (changed_fewer s.origs number o dead (known (Some o) found)
+          (touched_spares (with_leg_death place cause) (death_spares place cause) slot number o))
           (λ at position n has e. death_leaves_none s.origs number o slot place cause h.distinct (known (Some o) found) h.apart at position
           (has ∙ ap (λ (m : ℕ). Some (in_slot m slot)) (its n e)))
           (with_orig number dead t) (ap (λ (r : Roles). record r { origs = with_row r.origs number dead }) same)
@@ -183,7 +209,10 @@ one_hung_legs cause slot s h = by (chan_at s slot) refl
     of : (c : Chan) → chan_at s slot ≡ Some c → (test : Bool) →
         LegsStand (roles_of (if test then its_leg_changed (λ position. with_death position s.entries cause) slot c.leg_of
         (with_state_events c.state CsHangup (with_event (hangup_event cause) (with_chan slot (Some (hung_up cause c)) s))) else s))
-    of c is true = its_death cause slot c s is h s.entries c.leg_of refl (with_state_events c.state CsHangup (with_event (hangup_event cause) (with_chan slot (Some (hung_up cause c)) s))) (cut_roles cause slot c s)
+    of c is true =
+        its_death cause slot c s is h s.entries c.leg_of refl
+        (with_state_events c.state CsHangup (with_event (hangup_event cause) (with_chan slot (Some (hung_up cause c)) s)))
+        (cut_roles cause slot c s)
     of c is false = h
 
     by : (found : Option Chan) → chan_at s slot ≡ found → LegsStand (roles_of (after_hangup_from cause slot found s))
@@ -192,16 +221,20 @@ one_hung_legs cause slot s h = by (chan_at s slot) refl
 
 -- ---- a leg is answered
 
-answered_legs : (place slot number : ℕ) (s : Switch) → LegsStand (roles_of s) → LegsStand (roles_of (orig_changed (leg_changed (λ position. with_answer position place) slot) number s))
+answered_legs : (place slot number : ℕ) (s : Switch) → LegsStand (roles_of s) →
+    LegsStand (roles_of (orig_changed (leg_changed (λ position. with_answer position place) slot) number s))
 answered_legs place slot number s h = by (orig_of s number) refl
   where
-    by : (found : Option Orig) → orig_of s number ≡ found → LegsStand (roles_of (orig_changed_from (leg_changed (λ position. with_answer position place) slot) number found s))
+    by : (found : Option Orig) → orig_of s number ≡ found →
+        LegsStand (roles_of (orig_changed_from (leg_changed (λ position. with_answer position place) slot) number found s))
     by None is = h
     by (Some o) is =
         let new : Orig = leg_changed (λ position. with_answer position place) slot o in
         let origs : Origs = with_row s.origs number new in
-        legs_fewer (roles_of s) s.channels origs (distinct_same s.origs origs (numbers-with_row s.origs number new) h.distinct) (within_same s.origs number new s.drawn.origs h.within)
-        (changed_fewer s.origs number o new is (touched_spares (with_leg_answer place) (answer_spares place) slot number o)) (λ at position seat has leg. leg) h
+        legs_fewer (roles_of s) s.channels origs (distinct_same s.origs origs (numbers-with_row s.origs number new) h.distinct)
+        (within_same s.origs number new s.drawn.origs h.within)
+        (changed_fewer s.origs number o new is (touched_spares (with_leg_answer place) (answer_spares place) slot number o))
+        (λ at position seat has leg. leg) h
 
 -- ---- a leg is made
 
@@ -209,7 +242,8 @@ answered_legs place slot number s h = by (orig_of s number) refl
 abbrev MadeStands : ℕ → Made → Type 0
 MadeStands orig made = lives made.leg ≡ true → IsLegOf made.state.channels (seated orig made.leg.slot)
 
-pair_leg : (call : Call) (orig a : ℕ) (s : Switch) → free_slot 1 s ≡ Some a → (found : Option ℕ) → free_slot (a + 1) s ≡ found → MadeStands orig (made_in call orig (option_map (λ b. (a, b)) found) s)
+pair_leg : (call : Call) (orig a : ℕ) (s : Switch) → free_slot 1 s ≡ Some a → (found : Option ℕ) → free_slot (a + 1) s ≡ found →
+    MadeStands orig (made_in call orig (option_map (λ b. (a, b)) found) s)
 pair_leg call orig a s is_a None is_b live = absurd (true≢false (sym live))
 pair_leg call orig a s is_a (Some b) is_b live =
     let free_a : IsFree Chan s.channels 1 a = free_place Chan s.channels 1 a is_a in
@@ -221,13 +255,15 @@ pair_leg call orig a s is_a (Some b) is_b live =
       is = refl;
       chan = leg;
       there =
-          held_there t.channels b a (Some (end_of call (far_end a b) (identifier_of (with_next_identifier t)))) (λ same. omega (arith, free_b.behind, same))
+          held_there t.channels b a (Some (end_of call (far_end a b) (identifier_of (with_next_identifier t))))
+          (λ same. omega (arith, free_b.behind, same))
           ∙ held_here s.channels a (Some leg) free_a.within;
       live = new_lives;
       names = refl;
     }
 
-loopback_leg : (call : Call) (orig : ℕ) (s : Switch) (congested : Bool) → MadeStands orig (if congested then made_dead SwitchCongestion s else made_in call orig (free_pair s) s)
+loopback_leg : (call : Call) (orig : ℕ) (s : Switch) (congested : Bool) →
+    MadeStands orig (if congested then made_dead SwitchCongestion s else made_in call orig (free_pair s) s)
 loopback_leg call orig s true live = absurd (true≢false (sym live))
 loopback_leg call orig s false live = by (free_slot 1 s) refl live
   where
@@ -237,24 +273,29 @@ loopback_leg call orig s false live = by (free_slot 1 s) refl live
 
 made_leg : (endpoint : Endpoint) (caller : Caller) (orig : ℕ) (s : Switch) → MadeStands orig (made_of endpoint caller orig s)
 made_leg (Dead cause) caller orig s live = absurd (true≢false (sym live))
-made_leg (Loopback exten context) caller orig s live = loopback_leg (record { exten = exten; context = context; caller = caller }) orig s (is_congested s) live
+made_leg (Loopback exten context) caller orig s live =
+    loopback_leg (record { exten = exten; context = context; caller = caller }) orig s (is_congested s) live
 
 leg_stands : (endpoint : Text) (caller : Caller) (orig : ℕ) (s : Switch) → MadeStands orig (leg_made endpoint caller orig s)
 unfolding leg_made
 leg_stands endpoint caller orig s = made_leg (endpoint_of endpoint) caller orig s
 
-pair_legs : (call : Call) (orig a b : ℕ) (s : Switch) → IsFree Chan s.channels 1 a → IsFree Chan s.channels (a + 1) b → LegsStand (roles_of s) → LegsStand (roles_of (pair_made call orig a b s))
+pair_legs : (call : Call) (orig a b : ℕ) (s : Switch) → IsFree Chan s.channels 1 a → IsFree Chan s.channels (a + 1) b →
+    LegsStand (roles_of s) → LegsStand (roles_of (pair_made call orig a b s))
 pair_legs call orig a b s free_a free_b h =
     let leg : Option Chan = Some (end_of call (leg_end orig a b) (identifier_of (with_next_identifier s))) in
     let t : Switch = end_made call (leg_end orig a b) s in
     let far : Option Chan = Some (end_of call (far_end a b) (identifier_of (with_next_identifier t))) in
     let still : held_in t.channels b ≡ None = held_there s.channels a b leg (λ same. omega (arith, free_b.behind, same)) ∙ free_b.free in
-    legs_follow (roles_of t) (with_held t.channels b far) (free_follows t.channels b far (λ c there. absurd (nothing_there c (sym still ∙ there))))
-    (legs_follow (roles_of s) (with_held s.channels a leg) (free_follows s.channels a leg (λ c there. absurd (nothing_there c (sym free_a.free ∙ there)))) h)
+    legs_follow (roles_of t) (with_held t.channels b far)
+    (free_follows t.channels b far (λ c there. absurd (none-some c (sym still ∙ there))))
+    (legs_follow (roles_of s) (with_held s.channels a leg)
+    (free_follows s.channels a leg (λ c there. absurd (none-some c (sym free_a.free ∙ there)))) h)
 
 -- ---- an origination of one leg begins
 
-new_orig_legs : (o : Orig) (leg : OrigLeg) (t : Switch) → o.legs ≡ leg ∷ [] → t.drawn.origs < 2 ^ 62 → (lives leg ≡ true → IsLegOf t.channels (seated (next_orig_number t) leg.slot)) →
+new_orig_legs : (o : Orig) (leg : OrigLeg) (t : Switch) → o.legs ≡ leg ∷ [] → t.drawn.origs < 2 ^ 62 →
+    (lives leg ≡ true → IsLegOf t.channels (seated (next_orig_number t) leg.slot)) →
     LegsStand (roles_of t) → LegsStand (roles_of (with_new_orig o t))
 new_orig_legs o leg t one few mine h = record {
   distinct = distinct-with_new_row t.origs (next_orig_number t) o h.distinct nowhere;
@@ -262,7 +303,8 @@ new_orig_legs o leg t one few mine h = record {
       (omega arith);
   stand = λ place position seat has. stand place position seat (new_or_old t.origs (next_orig_number t) o leg one place position seat has);
   apart = λ place p q seat first second.
-      apart place p q seat (new_or_old t.origs (next_orig_number t) o leg one place p seat first) (new_or_old t.origs (next_orig_number t) o leg one place q seat second);
+      apart place p q seat (new_or_old t.origs (next_orig_number t) o leg one place p seat first)
+      (new_or_old t.origs (next_orig_number t) o leg one place q seat second);
 }
   where
     next : next_orig_number t ≡ t.drawn.origs + 1
@@ -273,20 +315,25 @@ new_orig_legs o leg t one few mine h = record {
 
     by_life : (seat : Seat) (test : Bool) → lives leg ≡ test → seat_if test (next_orig_number t) leg.slot ≡ Some seat →
         IsLegOf t.channels seat
-    by_life seat true live h = subst (IsLegOf t.channels) (same_there (seated (next_orig_number t) leg.slot) seat h) (mine live)
-    by_life seat false live h = absurd (nothing_there seat h)
+    by_life seat true live h = subst (IsLegOf t.channels) (same_Some (seated (next_orig_number t) leg.slot) seat h) (mine live)
+    by_life seat false live h = absurd (none-some seat h)
 
-    stand : (place position : ℕ) (seat : Seat) → ((position ≡ 0) × (seat_of (next_orig_number t) (Some leg) ≡ Some seat)) ⊎ (seat_at t.origs place position ≡ Some seat) → IsLegOf t.channels seat
+    stand : (place position : ℕ) (seat : Seat) →
+        ((position ≡ 0) × (seat_of (next_orig_number t) (Some leg) ≡ Some seat)) ⊎ (seat_at t.origs place position ≡ Some seat) →
+        IsLegOf t.channels seat
     stand place position seat (inl new) = by_life seat (lives leg) refl new.1
     stand place position seat (inr old) = h.stand place position seat old
 
     -- none that was there has the number
-    not_old : (place position : ℕ) (seat : Seat) → seat_at t.origs place position ≡ Some seat → seat_of (next_orig_number t) (Some leg) ≡ Some seat → ⊥
+    not_old : (place position : ℕ) (seat : Seat) → seat_at t.origs place position ≡ Some seat →
+        seat_of (next_orig_number t) (Some leg) ≡ Some seat → ⊥
     not_old place position seat old new =
         both_ways (has_number (next_orig_number t) (held_in t.origs place)) (none_stands t.origs (next_orig_number t) nowhere place)
-        (subst (λ (n : ℕ). has_number n (held_in t.origs place) ≡ true) (seat_its (next_orig_number t) (Some leg) seat new) (seat_number position (held_in t.origs place) seat old))
+        (subst (λ (n : ℕ). has_number n (held_in t.origs place) ≡ true) (seat_its (next_orig_number t) (Some leg) seat new)
+        (seat_number position (held_in t.origs place) seat old))
 
-    apart : (place p q : ℕ) (seat : Seat) → ((p ≡ 0) × (seat_of (next_orig_number t) (Some leg) ≡ Some seat)) ⊎ (seat_at t.origs place p ≡ Some seat) →
+    apart : (place p q : ℕ) (seat : Seat) →
+        ((p ≡ 0) × (seat_of (next_orig_number t) (Some leg) ≡ Some seat)) ⊎ (seat_at t.origs place p ≡ Some seat) →
         ((q ≡ 0) × (seat_of (next_orig_number t) (Some leg) ≡ Some seat)) ⊎ (seat_at t.origs place q ≡ Some seat) → p ≡ q
     apart place p q seat (inl a) (inl b) = a.0 ∙ sym b.0
     apart place p q seat (inl a) (inr b) = absurd (not_old place q seat b a.1)
@@ -309,48 +356,78 @@ same_roles : (s t : Switch) → roles_of t ≡ roles_of s → Stand (roles_of s)
 same_roles s t same h = subst Stand (sym same) h
 
 -- what keeps legs, and draws none
-legs_then : (s t : Switch) → rest_of t ≡ rest_of s → (LegsStand (roles_of s) → LegsStand (roles_of t)) → Stand (roles_of s) → Stand (roles_of t)
+legs_then : (s t : Switch) → rest_of t ≡ rest_of s → (LegsStand (roles_of s) → LegsStand (roles_of t)) → Stand (roles_of s) →
+    Stand (roles_of t)
 legs_then s t same keeps h few = keeps (h (subst (λ (n : ℕ). n < 2 ^ 62) (ap (λ (r : Rest). r.origs_drawn) same) few))
 
 -- ---- an origination ends
 
 without_legs : (number : ℕ) (s : Switch) → LegsStand (roles_of s) → LegsStand (roles_of (without_orig number s))
 without_legs number s h =
-    legs_fewer (roles_of s) s.channels (without_row s.origs number) (distinct-without_row s.origs number h.distinct) (within-without_row s.origs number s.drawn.origs h.within)
+    legs_fewer (roles_of s) s.channels (without_row s.origs number) (distinct-without_row s.origs number h.distinct)
+    (within-without_row s.origs number s.drawn.origs h.within)
     (without_fewer s.origs number) (λ place position seat has leg. leg) h
 
 won_roles : (winner : Winner) (slot : ℕ) (c : Chan) (s : Switch) → chan_at s slot ≡ Some c →
     roles_of (won winner slot s) ≡ record (roles_of s) { channels = with_held s.channels slot (Some (won_by winner c)) }
 unfolding won
 won_roles winner slot c s there =
-    subst (λ (found : Option Chan). roles_of (after_move_from (won_by winner) slot found s) ≡ record (roles_of s) { channels = with_held s.channels slot (Some (won_by winner c)) }) (sym there)
-    (state_told_kept (λ (t : Switch). roles_of t ≡ record (roles_of s) { channels = with_held s.channels slot (Some (won_by winner c)) }) (λ event t plain h. h) c.state (won_by winner c).state
+    subst (λ (found : Option Chan). roles_of (after_move_from (won_by winner) slot found s) ≡ record
+    (roles_of s) { channels = with_held s.channels slot (Some (won_by winner c)) }) (sym there)
+    (state_told_kept (λ (t : Switch). roles_of t ≡ record (roles_of s) { channels = with_held s.channels slot (Some (won_by winner c)) })
+    (λ event t plain h. h) c.state (won_by winner c).state
     {s = with_chan slot (Some (won_by winner c)) s} refl)
 
--- a living leg stands
-pub has_leg : (s : Switch) (number : ℕ) (leg : OrigLeg) → HasLeg s number leg → LegsStand (roles_of s) → IsLegOf s.channels (seated number leg.slot)
-has_leg s number leg has h =
+-- the seat of a living leg
+seat_there : (s : Switch) (number : ℕ) (leg : OrigLeg) (has : HasLeg s number leg) →
+    (place : ℕ) × (place_of s.origs number ≡ Some place) × (seat_at s.origs place has.position ≡ Some (seated number leg.slot))
+seat_there s number leg has =
     let row = row_there s.origs number has.orig has.there in
     let sits : seat_of number (Some leg) ≡ Some (seated number leg.slot) = ap (λ (test : Bool). seat_if test number leg.slot) has.lives in
-    h.stand row.0 has.position (seated number leg.slot) (ap (seat_in has.position) row.2 ∙ (ap (seat_of number) has.at ∙ sits))
+    (row.0, row.1, ap (seat_in has.position) row.2 ∙ (ap (seat_of number) has.at ∙ sits))
 
-won_legs : (winner : Winner) (number : ℕ) (leg : OrigLeg) (s : Switch) → HasLeg s number leg → LegsStand (roles_of s) → LegsStand (roles_of (without_orig number (won winner (unwrap_or leg.slot 0) s)))
+-- a living leg stands
+pub has_leg : (s : Switch) (number : ℕ) (leg : OrigLeg) → HasLeg s number leg → LegsStand (roles_of s) →
+    IsLegOf s.channels (seated number leg.slot)
+has_leg s number leg has h =
+    let seat = seat_there s number leg has in
+    h.stand seat.0 has.position (seated number leg.slot) seat.2
+
+-- as the definition has it
+pub legs_are_channels : (s : Switch) → LegsStand (roles_of s) → LegsAreChannels s
+legs_are_channels s h = record {
+  each = λ number leg has.
+      let is : IsLegOf s.channels (seated number leg.slot) = has_leg s number leg has h in
+      record { slot = is.at; is = is.is; chan = is.chan; there = is.there; live = is.live; names = is.names };
+  apart = λ number leg other one two same.
+      let first = seat_there s number leg one in
+      let second = seat_there s number other two in
+      let place : second.0 ≡ first.0 = same_Some second.0 first.0 (sym second.1 ∙ first.1) in
+      h.apart first.0 one.position two.position (seated number leg.slot) first.2
+      (subst (λ (at : ℕ). seat_at s.origs at two.position ≡ Some (seated number leg.slot)) place
+      (second.2 ∙ ap (λ (slot : Option ℕ). Some (seated number slot)) (sym same)));
+}
+
+won_legs : (winner : Winner) (number : ℕ) (leg : OrigLeg) (s : Switch) → HasLeg s number leg → LegsStand (roles_of s) →
+    LegsStand (roles_of (without_orig number (won winner (unwrap_or leg.slot 0) s)))
 won_legs winner number leg s has h =
     let stands : IsLegOf s.channels (seated number leg.slot) = has_leg s number leg has h in
     at stands.at (ap (λ (slot : Option ℕ). unwrap_or slot 0) stands.is) stands.chan stands.there stands.names
   where
-    at : (slot : ℕ) → unwrap_or leg.slot 0 ≡ slot → (c : Chan) → chan_at s slot ≡ Some c → c.leg_of ≡ Some number → LegsStand (roles_of (without_orig number (won winner (unwrap_or leg.slot 0) s)))
+    at : (slot : ℕ) → unwrap_or leg.slot 0 ≡ slot → (c : Chan) → chan_at s slot ≡ Some c → c.leg_of ≡ Some number →
+        LegsStand (roles_of (without_orig number (won winner (unwrap_or leg.slot 0) s)))
     at slot same c there names =
         subst (λ (n : ℕ). LegsStand (roles_of (without_orig number (won winner n s)))) (sym same)
         (subst (λ (r : Roles). LegsStand (record r { origs = without_row r.origs number })) (sym (won_roles winner slot c s there))
-        (legs_cut (roles_of s) (without_row s.origs number) slot c (Some (won_by winner c)) there (distinct-without_row s.origs number h.distinct)
+        (legs_cut (roles_of s) (without_row s.origs number) slot c (Some (won_by winner c)) there
+        (distinct-without_row s.origs number h.distinct)
         (within-without_row s.origs number s.drawn.origs h.within) (without_fewer s.origs number) gone h))
       where
         gone : (place position n : ℕ) → seat_at (without_row s.origs number) place position ≡ Some (in_slot n slot) → c.leg_of ≡ Some n → ⊥
         gone place position n left is =
             both_ways (has_number number (held_in (without_row s.origs number) place))
             (none_stands (without_row s.origs number) number (place_of-without_row_same s.origs number h.distinct) place)
-            (subst (λ (m : ℕ). has_number m (held_in (without_row s.origs number) place) ≡ true) (same_there n number (sym is ∙ names))
+            (subst (λ (m : ℕ). has_number m (held_in (without_row s.origs number) place) ≡ true) (same_Some n number (sym is ∙ names))
             (seat_number position (held_in (without_row s.origs number) place) (in_slot n slot) left))
 
 -- ---- every move
@@ -360,21 +437,33 @@ legs_calls = record {
   told = λ event plain h. h;
   globals = λ globals h. h;
   changed = λ slot old new {s = s} there stays h few.
-      legs_follow (roles_of s) (with_held s.channels slot (Some new)) (put_follows s.channels slot old new there (ap (λ (l : Links). l.leg_of) stays.links) stays.live) (h few);
+      legs_follow (roles_of s) (with_held s.channels slot (Some new))
+      (put_follows s.channels slot old new there (ap (λ (l : Links). l.leg_of) stays.links) stays.live) (h few);
   answers = λ place slot number {s = s} h.
-      legs_then s (orig_changed (leg_changed (λ position. with_answer position place) slot) number s) (orig_changed_rest (leg_changed (λ position. with_answer position place) slot) number s)
+      legs_then s (orig_changed (leg_changed (λ position. with_answer position place) slot) number s)
+      (orig_changed_rest (leg_changed (λ position. with_answer position place) slot) number s)
       (answered_legs place slot number s) h;
-  hung = λ cause slot {s = s} h. legs_then s (after_hangup cause slot s) (hung_rest cause slot s) (pair_hung_kept (λ (t : Switch). LegsStand (roles_of t)) one_hung_legs cause slot s) h;
+  hung = λ cause slot {s = s} h. legs_then s (after_hangup cause slot s) (hung_rest cause slot s)
+      (pair_hung_kept (λ (t : Switch). LegsStand (roles_of t)) one_hung_legs cause slot s) h;
   gone = λ slot old {s = s} there dead h few.
-      legs_follow (roles_of s) (with_held s.channels slot None) (free_follows s.channels slot None (λ c is. ap is_live (same_there c old (sym is ∙ there)) ∙ dead)) (h few);
+      legs_follow (roles_of s) (with_held s.channels slot None)
+      (free_follows s.channels slot None (λ c is. ap is_live (same_Some c old (sym is ∙ there)) ∙ dead)) (h few);
 }
 
 legs_births : KeptByBirths Legs
-legs_births = record { spent = λ h. h; pair = λ call orig a b {s = s} short first second h few. pair_legs call orig a b s first second (h few) }
+legs_births =
+    record {
+      spent =
+          λ h. h;
+      more = λ below h. h;
+      pair = λ call orig a b {s = s} short first second h few. pair_legs call orig a b s first second (h few);
+    }
 
 originates_legs : (conn : ℕ) (endpoint : Text) (winner : Winner) (caller : Caller) (timeout : Option ℕ) (s : Switch) → Stand (roles_of s) →
     Stand (roles_of (originate_begun conn endpoint winner caller timeout s))
-originates_legs conn endpoint winner caller timeout s h = tried (leg_made endpoint caller (next_orig_number s) s) next (leg_stands endpoint caller (next_orig_number s) s) (leg_made_kept Legs legs_births endpoint caller (next_orig_number s) {s = s} h)
+originates_legs conn endpoint winner caller timeout s h =
+    tried (leg_made endpoint caller (next_orig_number s) s) next (leg_stands endpoint caller (next_orig_number s) s)
+    (leg_made_kept Legs legs_births endpoint caller (next_orig_number s) {n = 0} {s = s} h)
   where
     next : next_orig_number (leg_made endpoint caller (next_orig_number s) s).state ≡ next_orig_number s
     next = ap (λ (r : Rest). min (r.origs_drawn + 1) (2 ^ 64 - 1)) (leg_made_rest endpoint caller (next_orig_number s) s)
@@ -384,9 +473,11 @@ originates_legs conn endpoint winner caller timeout s h = tried (leg_made endpoi
         Stand (roles_of (tried_by_job conn endpoint winner (unwrap_or timeout 60) (next_orig_number s) made))
     tried made same stands h =
         let t : Switch = orig_begun endpoint made.leg (unwrap_or timeout 60) made.state in
-        same_roles t (after_job_begin conn (Originate (next_orig_number s) winner) t) (conn_roles (owed_since t.entries) conn (with_new_job (record { conn = conn; work = Originate (next_orig_number s) winner }) t))
+        same_roles t (after_job_begin conn (Originate (next_orig_number s) winner) t)
+        (conn_roles (owed_since t.entries) conn (with_new_job (record { conn = conn; work = Originate (next_orig_number s) winner }) t))
         (λ few. let fewer : made.state.drawn.origs < 2 ^ 62 = omega (arith, few) in
-        new_orig_legs _ made.leg made.state refl fewer (λ live. subst (λ (n : ℕ). IsLegOf made.state.channels (seated n made.leg.slot)) (sym same) (stands live)) (h fewer))
+        new_orig_legs _ made.leg made.state refl fewer
+        (λ live. subst (λ (n : ℕ). IsLegOf made.state.channels (seated n made.leg.slot)) (sym same) (stands live)) (h fewer))
 
 ended_legs : (number conn : ℕ) (answer : Text) (s : Switch) → Stand (roles_of s) → Stand (roles_of (after_job_end number conn answer s))
 ended_legs number conn answer s h = same_roles s (after_job_end number conn answer s) (conn_roles not_owed conn (without_job number s)) h
@@ -396,28 +487,33 @@ wins_legs : (a : Attempt) (winner : Winner) (leg : OrigLeg) (s : Switch) → Has
 wins_legs a winner leg s has h =
     let slot : ℕ = unwrap_or leg.slot 0 in
     ended_legs a.job a.conn (made_text leg.uuid) (without_orig a.orig (won winner slot s))
-    (λ few. won_legs winner a.orig leg s has (h (subst (λ (n : ℕ). n < 2 ^ 62) (ap (λ (r : Rest). r.origs_drawn) (won_rest winner slot s)) few)))
+    (λ few. won_legs winner a.orig leg s has
+    (h (subst (λ (n : ℕ). n < 2 ^ 62) (ap (λ (r : Rest). r.origs_drawn) (won_rest winner slot s)) few)))
 
 pub legs_moves : (before : Switch) → KeptByMoves before Legs
 legs_moves before = record {
   calls = legs_calls;
   jobs = record {
     woken = λ number conn until answer {s = s} does h. ended_legs number conn answer s h;
-    failed = λ a winner cause {s = s} does h. ended_legs a.job a.conn (failed_text cause) (without_orig a.orig s) (λ few. without_legs a.orig s (h few));
+    failed = λ a winner cause {s = s} does h. ended_legs a.job a.conn (failed_text cause) (without_orig a.orig s)
+        (λ few. without_legs a.orig s (h few));
     wins = λ a winner leg does has h. wins_legs a winner leg before has h;
   };
   commands = λ conn. record {
     spent = λ h. h;
+    more = λ below h. h;
     gave = λ frame h. h;
     admitted = λ {s = s} fresh h. same_roles s (conn_changed admitted conn s) (conn_roles admitted conn s) h;
     parted = λ why {s = s} leaves h. same_roles s (conn_changed (parted why) conn s) (conn_roles (parted why) conn s) h;
-    sleeps = λ until {s = s} room h. same_roles s (after_job_begin conn (Sleep until) s) (conn_roles (owed_since s.entries) conn (with_new_job (record { conn = conn; work = Sleep until }) s)) h;
+    sleeps = λ until {s = s} room h. same_roles s (after_job_begin conn (Sleep until) s)
+        (conn_roles (owed_since s.entries) conn (with_new_job (record { conn = conn; work = Sleep until }) s)) h;
     originates = λ endpoint winner caller timeout {s = s} short room h. originates_legs conn endpoint winner caller timeout s h;
   };
   visits = record {
     arrived = λ h. h;
     taken = λ conn h. h;
-    silent = λ conn {s = s} h. same_roles s (conn_changed (parted parting.EndOfInput) conn s) (conn_roles (parted parting.EndOfInput) conn s) h;
+    silent = λ conn {s = s} h. same_roles s (conn_changed (parted parting.EndOfInput) conn s)
+        (conn_roles (parted parting.EndOfInput) conn s) h;
     left = λ conn h. h;
   };
 }

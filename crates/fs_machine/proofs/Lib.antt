@@ -1,12 +1,6 @@
-pub mod ApiLemmas
-pub mod LineLemmas
 pub mod RunLemmas
-pub mod LeastLemmas
 pub mod FrameLemmas
-pub mod LegLemmas
 pub mod DueLemmas
-pub mod RowLemmas
-pub mod HeldLemmas
 pub mod Kept
 pub mod ShortLemmas
 pub mod Walk
@@ -22,7 +16,6 @@ pub mod ConcernLemmas
 pub mod HereLemmas
 pub mod EventLemmas
 pub mod RefusalLemmas
-pub mod TableLemmas
 pub mod OwedBooks
 pub mod OwedLemmas
 pub mod OwedJobs
@@ -31,12 +24,10 @@ pub mod OwedLaws
 pub mod DueLaws
 pub mod CloseLaws
 pub mod PartnerLemmas
-pub mod IdentifierLemmas
 pub mod SeenLemmas
 pub mod TieLemmas
 pub mod PartnerMoves
 pub mod IdentifierMoves
-pub mod LegTables
 pub mod LegMoves
 pub mod WinnerMoves
 pub mod ChannelMoves

@@ -1,14 +1,15 @@
 -- Behind the entries of a run the connections and their queues fit together.
-use Rattle.std.proofs.Common.{◌≡◌, ℕ, ◌+◌, ◌*◌, ◌-◌, ◌^◌, ◌<◌, ◌≤◌, min, Bool, true, false, List, [], ◌∷◌, length, Option, None, refl, sym, ap, subst, ◌∙◌, arith}
+use Rattle.std.proofs.Common.{◌≡◌, ℕ, ◌+◌, ◌*◌, ◌-◌, ◌^◌, ◌<◌, ◌≤◌, min, Bool, true, false, List, [], ◌∷◌, Option, None, refl, sym, ap, subst, ◌∙◌, arith}
 use Rattle.std.proofs.lemmas.Bool.{both_ways, ltb-false}
-use Rattle.std.proofs.lemmas.List.{length-replicate}
 use Rattle.fs_doc.specs.Reading.{Configuration}
 use Rattle.fs_places.specs.declared.numbered.Numbered.{Numbered}
-use Rattle.fs_places.specs.Places.{no_places, held_in}
+use Rattle.fs_places.specs.Places.{held_in}
 use Rattle.fs_places.specs.Rows.{has_number, place_of}
+use Rattle.fs_places.proofs.RowLemmas.{nowhere}
+use Rattle.fs_places.proofs.HeldLemmas.{nothing_held}
 use Rattle.fs_state.specs.declared.conn.Conn.{Conn}
-use Rattle.fs_state.specs.Queues.{Frames, queue_at, no_queues}
 use Rattle.fs_state.specs.Switch.{Switch, empty, waiting_at, waiting_for, at_moment, after_entry}
+use Rattle.fs_state.proofs.GiftLemmas.{none_waits, as_many}
 use Rattle.fs_machine.specs.declared.entry.Entry.{Entry}
 use Rattle.fs_machine.specs.declared.entry.Act.{Act}
 use Rattle.fs_machine.specs.declared.entry.Act.TheVariants.{Arrive, Take, Close}
@@ -18,8 +19,6 @@ use Rattle.fs_machine.specs.declared.refusal.Refusal.TheVariants as refusal
 use Rattle.fs_machine.specs.Entries.{cost_of, is_full}
 use Rattle.fs_machine.specs.Step.{refused_where, refused_act, refusal_of, act_done, step}
 use Rattle.fs_machine.specs.Runs.{run_from, IsRunFrom}
-use Rattle.fs_machine.proofs.RowLemmas.{nowhere}
-use Rattle.fs_machine.proofs.HeldLemmas.{all_alike, nothing_held}
 use Rattle.fs_machine.proofs.ConstantMoves.{Constants, acted_constants}
 use Rattle.fs_machine.proofs.KeepLemmas.{is_shut, keeps_same, act_keeps}
 use Rattle.fs_machine.proofs.WaitingLemmas.{Ordered, keeps_ordered, keeps_place, closed_ordered, taken_ordered, without_ordered, arrived_ordered, arrived_gone, without_gone}
@@ -63,7 +62,8 @@ acted_drawn (Close conn Failed) s room = next_same s.drawn.conns s.drawn.conns r
 acted_drawn act s room = next_same s.drawn.conns (act_done act s).state.drawn.conns (act_keeps act s).drawn
 
 -- a connection that had its number and is gone stays so
-pub acted_gone : (act : Act) (s : Switch) (conn : ℕ) → Ordered s → s.drawn.conns < 2 ^ 32 - 1 → place_of s.conns conn ≡ None → conn ≤ s.drawn.conns →
+pub acted_gone : (act : Act) (s : Switch) (conn : ℕ) → Ordered s → s.drawn.conns < 2 ^ 32 - 1 → place_of s.conns conn ≡ None →
+    conn ≤ s.drawn.conns →
     place_of (act_done act s).state.conns conn ≡ None
 acted_gone Arrive s conn ordered room none below = arrived_gone s conn room none below
 acted_gone (Take taker) s conn ordered room none below = none
@@ -74,18 +74,23 @@ acted_gone act s conn ordered room none below = keeps_place s (act_done act s).s
 -- ---- refusals
 
 -- without a refusal its test fails, and no other refusal follows
-pub none_refused : (test : Bool) (why : Refusal) (otherwise : Option Refusal) → refused_where test why otherwise ≡ None → (test ≡ false) × (otherwise ≡ None)
+pub none_refused : (test : Bool) (why : Refusal) (otherwise : Option Refusal) → refused_where test why otherwise ≡ None →
+    (test ≡ false) × (otherwise ≡ None)
 none_refused true why otherwise none = absurd (cc)
 none_refused false why otherwise none = (refl, none)
 
 -- an entry that is not refused came where the journal was not full, and its act is not refused
 pub not_full : (s : Switch) (entry : Entry) → refusal_of s entry ≡ None → is_full s ≡ false
 unfolding refusal_of
-not_full s entry none = (none_refused (is_full s) (refusal.JournalFull s.cost s.config.settings.journal_limit) (refused_act entry.act (at_moment entry.moment s)) none).0
+not_full s entry none =
+    (none_refused (is_full s) (refusal.JournalFull s.cost s.config.settings.journal_limit)
+    (refused_act entry.act (at_moment entry.moment s)) none).0
 
 pub not_refused : (s : Switch) (entry : Entry) → refusal_of s entry ≡ None → refused_act entry.act (at_moment entry.moment s) ≡ None
 unfolding refusal_of
-not_refused s entry none = (none_refused (is_full s) (refusal.JournalFull s.cost s.config.settings.journal_limit) (refused_act entry.act (at_moment entry.moment s)) none).1
+not_refused s entry none =
+    (none_refused (is_full s) (refusal.JournalFull s.cost s.config.settings.journal_limit)
+    (refused_act entry.act (at_moment entry.moment s)) none).1
 
 -- ---- between entries
 
@@ -103,13 +108,16 @@ room_left s orderly below =
 
 -- the clock is no matter of connections
 pub advanced_ordered : (now : ℕ) (s : Switch) → Ordered s → Ordered (at_moment now s)
-advanced_ordered now s ordered = keeps_ordered s (at_moment now s) (keeps_same {who = None} {may_end = false} s (at_moment now s) refl) ordered
+advanced_ordered now s ordered =
+    keeps_ordered s (at_moment now s) (keeps_same {who = None} {may_end = false} s (at_moment now s) refl) ordered
 
 pub advanced_orderly : (now : ℕ) (s : Switch) → Orderly s → Orderly (at_moment now s)
-advanced_orderly now s orderly = record { ordered = advanced_ordered now s orderly.ordered; given = orderly.given; paid = orderly.paid; limit = orderly.limit }
+advanced_orderly now s orderly =
+    record { ordered = advanced_ordered now s orderly.ordered; given = orderly.given; paid = orderly.paid; limit = orderly.limit }
 
 -- the number that is drawn next is paid for by the cost of an entry
-paid_more : (drawn later cost spent limit : ℕ) → later ≤ drawn + 1 → 64 * drawn ≤ cost → cost + 65600 ≤ limit → limit ≤ 1073741824 → 64 ≤ spent →
+paid_more : (drawn later cost spent limit : ℕ) → later ≤ drawn + 1 → 64 * drawn ≤ cost → cost + 65600 ≤ limit → limit ≤ 1073741824 →
+    64 ≤ spent →
     64 * later ≤ min (cost + spent) (2 ^ 64 - 1)
 paid_more drawn later cost spent limit next paid below small some = omega (arith, next, paid, below, small, some)
 
@@ -118,7 +126,8 @@ act_orderly act s orderly below = record {
   ordered = closed_ordered (cost_of act) (act_done act s).state (acted_ordered act s orderly.ordered (room_left s orderly below));
   given = refl;
   paid = subst (λ cost. 64 * (act_done act s).state.drawn.conns ≤ min (cost + cost_of act) (2 ^ 64 - 1)) (sym (acted_cost act s))
-      (paid_more s.drawn.conns (act_done act s).state.drawn.conns s.cost (cost_of act) s.config.settings.journal_limit (acted_drawn act s (room_left s orderly below)).1 orderly.paid
+      (paid_more s.drawn.conns (act_done act s).state.drawn.conns s.cost (cost_of act) s.config.settings.journal_limit
+      (acted_drawn act s (room_left s orderly below)).1 orderly.paid
       (ltb-false s.config.settings.journal_limit (s.cost + 65600) below) orderly.limit (some_cost act));
   limit = subst (λ (config : Configuration). config.settings.journal_limit ≤ 1073741824) (sym (acted_config act s)) orderly.limit;
 }
@@ -126,7 +135,8 @@ act_orderly act s orderly below = record {
 -- so it stays from entry to entry
 pub entry_orderly : (s : Switch) (entry : Entry) → Orderly s → refusal_of s entry ≡ None → Orderly (step s entry).state
 unfolding step
-entry_orderly s entry orderly none = act_orderly entry.act (at_moment entry.moment s) (advanced_orderly entry.moment s orderly) (not_full s entry none)
+entry_orderly s entry orderly none =
+    act_orderly entry.act (at_moment entry.moment s) (advanced_orderly entry.moment s orderly) (not_full s entry none)
 
 pub run_orderly : (s : Switch) (entries : List Entry) → Orderly s → IsRunFrom s entries → Orderly (run_from s entries)
 run_orderly s [] orderly run = orderly
@@ -134,26 +144,23 @@ run_orderly s (entry ∷ entries) orderly run = run_orderly (step s entry).state
 
 -- ---- the empty switch
 
-none_waits : (count place : ℕ) → queue_at (no_queues count) place ≡ []
-unfolding no_queues
-none_waits count place = all_alike {A = Frames} count place []
-
--- there are as many queues as places
-as_many : (T : Type 0) (count : ℕ) → length (no_queues count) ≡ length (no_places {T = T} count)
-unfolding no_queues no_places
-as_many T count = length-replicate {A = Frames} count [] ∙ sym (length-replicate {A = Option T} count None)
-
 -- no connection is there
 pub empty_nowhere : (config : Configuration) (conn : ℕ) → place_of (empty config).conns conn ≡ None
-empty_nowhere config conn = nowhere (empty config).conns conn (λ place. ap (has_number conn) (nothing_held (Numbered Conn) config.settings.max_connections place))
+empty_nowhere config conn =
+    nowhere (empty config).conns conn (λ place. ap (has_number conn) (nothing_held (Numbered Conn) config.settings.max_connections place))
 
 pub empty_waits : (config : Configuration) (conn : ℕ) → waiting_for (empty config) conn ≡ []
 empty_waits config conn = ap (waiting_at (empty config).queues) (empty_nowhere config conn)
 
 empty_ordered : (config : Configuration) → Ordered (empty config)
 empty_ordered config = record {
-  distinct = λ number p q first second. absurd (both_ways (has_number number (held_in (empty config).conns p)) (ap (has_number number) (nothing_held (Numbered Conn) config.settings.max_connections p)) first);
-  within = λ number place stands. absurd (both_ways (has_number number (held_in (empty config).conns place)) (ap (has_number number) (nothing_held (Numbered Conn) config.settings.max_connections place)) stands);
+  distinct =
+      λ number p q first second. absurd
+      (both_ways (has_number number (held_in (empty config).conns p))
+      (ap (has_number number) (nothing_held (Numbered Conn) config.settings.max_connections p)) first);
+  within = λ number place stands. absurd
+      (both_ways (has_number number (held_in (empty config).conns place))
+      (ap (has_number number) (nothing_held (Numbered Conn) config.settings.max_connections place)) stands);
   opened = λ place. ap is_shut (nothing_held (Numbered Conn) config.settings.max_connections place);
   places = as_many (Numbered Conn) config.settings.max_connections;
   quiet = λ place free. none_waits config.settings.max_connections place;

@@ -1,5 +1,5 @@
 -- What entries do keeps the facts on connections, on jobs and on originations.
-use Rattle.std.proofs.Common.{◌≡◌, ℕ, Bool, true, false, not, Option, None, Some, is_none, unwrap_or, refl, sym, ap, subst, ◌∙◌}
+use Rattle.std.proofs.Common.{◌≡◌, ℕ, true, false, not, Option, None, Some, is_none, unwrap_or, refl, sym, ap, subst, ◌∙◌}
 use Rattle.std.specs.Option.{option_and_then}
 use Rattle.std.proofs.lemmas.Bool.{false≢true, not-false}
 use Rattle.fs_vars.specs.Pairs.{Text}
@@ -8,6 +8,7 @@ use Rattle.fs_api.specs.declared.api.Winner.{Winner}
 use Rattle.fs_orig.specs.declared.leg.OrigLeg.{OrigLeg}
 use Rattle.fs_places.specs.Places.{least_free}
 use Rattle.fs_places.specs.Rows.{row_of}
+use Rattle.fs_places.proofs.TableLemmas.{something_there}
 use Rattle.fs_state.specs.declared.conn.Conn.{Conn}
 use Rattle.fs_state.specs.declared.conn.Phase.{Phase}
 use Rattle.fs_state.specs.declared.conn.Phase.TheVariants as phase
@@ -31,8 +32,7 @@ use Rattle.fs_machine.specs.Owing.{after_job_begin, after_job_end}
 use Rattle.fs_machine.specs.Commands.{command_of}
 use Rattle.fs_machine.specs.Step.{reads, busy, refused_act, closed_by, act_done}
 use Rattle.fs_machine.specs.Owed.{PartsIn}
-use Rattle.fs_machine.proofs.TableLemmas.{something_there}
-use Rattle.fs_machine.proofs.Kept.{Fact, KeptByCalls, DoesJob, KeptByJobs, KeptByCommands}
+use Rattle.fs_machine.proofs.Kept.{Stage, Fact, KeptByCalls, DoesJob, KeptByJobs, KeptByCommands}
 use Rattle.fs_machine.proofs.Walk.{worked_kept}
 use Rattle.fs_machine.proofs.RestLemmas.{rest_of, calls_by_rest, does_same, won_rest}
 use Rattle.fs_machine.proofs.OrderLemmas.{none_refused}
@@ -62,12 +62,12 @@ may_owe s conn reading none = by (conn_of s conn) refl
 
 -- at first the books are what they were; once something has begun they are as they must be, near what they were
 abbrev GoesFrom : Books → Fact
-GoesFrom b true t = books_of t ≡ b
-GoesFrom b false t = Goes b (books_of t)
+GoesFrom b None t = books_of t ≡ b
+GoesFrom b (Some n) t = Goes b (books_of t)
 
-goes_same : (b : Books) (fresh : Bool) (t u : Switch) → GoesFrom b fresh t → rest_of u ≡ rest_of t → GoesFrom b fresh u
-goes_same b true t u h same = books_same t u same ∙ h
-goes_same b false t u h same = subst (λ (x : Books). Goes b x) (sym (books_same t u same)) h
+goes_same : (b : Books) (stage : Stage) (t u : Switch) → GoesFrom b stage t → rest_of u ≡ rest_of t → GoesFrom b stage u
+goes_same b None t u h same = books_same t u same ∙ h
+goes_same b (Some n) t u h same = subst (λ (x : Books). Goes b x) (sym (books_same t u same)) h
 
 calls_go : (b : Books) → KeptByCalls (GoesFrom b)
 calls_go b = calls_by_rest (GoesFrom b) (goes_same b)
@@ -76,11 +76,13 @@ goes_spent : (b : Books) → Sound b → (t : Switch) → books_of t ≡ b → G
 goes_spent b sound t same = subst (λ (x : Books). Goes b x) (sym same) (record { sound = sound; near = near_self b })
 
 -- the jobs that end
-wins_go : (b : Books) (s : Switch) (a : Attempt) (winner : Winner) (leg : OrigLeg) → DoesJob s a.job a.conn (work.Originate a.orig winner) → Goes b (books_of s) →
+wins_go : (b : Books) (s : Switch) (a : Attempt) (winner : Winner) (leg : OrigLeg) → DoesJob s a.job a.conn (work.Originate a.orig winner) →
+    Goes b (books_of s) →
     Goes b (books_of (after_job_end a.job a.conn (made_text leg.uuid) (without_orig a.orig (won winner (unwrap_or leg.slot 0) s))))
 wins_go b s a winner leg does h =
     let slot : ℕ = unwrap_or leg.slot 0 in
-    goes_over b (won winner slot s) a.job a.conn a.orig winner (made_text leg.uuid) (does_same does (won_rest winner slot s)) (goes_same b false s (won winner slot s) h (won_rest winner slot s))
+    goes_over b (won winner slot s) a.job a.conn a.orig winner (made_text leg.uuid) (does_same does (won_rest winner slot s))
+    (goes_same b (Some 0) s (won winner slot s) h (won_rest winner slot s))
 
 jobs_go : (b : Books) (before : Switch) → KeptByJobs before (GoesFrom b)
 jobs_go b before = record {
@@ -90,13 +92,16 @@ jobs_go b before = record {
 }
 
 -- the commands of a connection that is there and is owed nothing, where few numbers were drawn
-module _ (b : Books) (conn : ℕ) (c : Conn) (there : row_of b.conns conn ≡ Some c) (none : c.owed ≡ None) (few : Few b) (sound : Sound b) where
+module _ (b : Books) (conn : ℕ) (c : Conn) (there : row_of b.conns conn ≡ Some c) (none : c.owed ≡ None) (few : Few b)
+    (sound : Sound b) where
   parted_goes : (why : Parting) (s : Switch) → Goes b (books_of s) → Goes b (books_of (conn_changed (parted why) conn s))
   parted_goes why s h = goes_conn b (parted why) conn s (λ x is. something_there why) (λ x. refl) h
 
   admitted_goes : (s : Switch) → phase_at s conn ≡ phase.Fresh → Goes b (books_of s) → Goes b (books_of (conn_changed admitted conn s))
   admitted_goes s fresh h =
-      goes_conn b admitted conn s (λ x is. subst (λ (at : Phase). PartsIn at x.parting) (sym (ap phase_of is) ∙ fresh) (parts_of s conn x h.sound.linked.parts is)) (λ x. refl) h
+      goes_conn b admitted conn s
+      (λ x is. subst (λ (at : Phase). PartsIn at x.parting) (sym (ap phase_of is) ∙ fresh) (parts_of s conn x h.sound.linked.parts is))
+      (λ x. refl) h
 
   a_place : (s : Switch) → is_full_of_jobs s ≡ false → (q : ℕ) × (least_free s.jobs 0 ≡ Some q)
   a_place s room = by (least_free s.jobs 0) refl room
@@ -113,23 +118,26 @@ module _ (b : Books) (conn : ℕ) (c : Conn) (there : row_of b.conns conn ≡ So
       Goes b (books_of (after_job_begin conn (work.Sleep until) s))
   sleeps_go until s room same =
       let place = a_place s room in
-      from s (after_job_begin conn (work.Sleep until) s) same (goes_sleep s conn until c place.0 (ap (λ (x : Books). row_of x.conns conn) same ∙ there) none place.1)
+      from s (after_job_begin conn (work.Sleep until) s) same
+      (goes_sleep s conn until c place.0 (ap (λ (x : Books). row_of x.conns conn) same ∙ there) none place.1)
 
-  originates_go : (endpoint : Text) (winner : Winner) (caller : Caller) (timeout : Option ℕ) (s : Switch) → is_full_of_jobs s ≡ false → books_of s ≡ b →
+  originates_go : (endpoint : Text) (winner : Winner) (caller : Caller) (timeout : Option ℕ) (s : Switch) → is_full_of_jobs s ≡ false →
+      books_of s ≡ b →
       Goes b (books_of (originate_begun conn endpoint winner caller timeout s))
   originates_go endpoint winner caller timeout s room same =
       let place = a_place s room in
       from s (originate_begun conn endpoint winner caller timeout s) same
       (goes_originate s conn endpoint winner caller timeout c place.0 (ap (λ (x : Books). row_of x.conns conn) same ∙ there) none place.1)
 
-  gave_goes : (frame : Text) (fresh : Bool) (s : Switch) → GoesFrom b fresh s → GoesFrom b fresh (with_gift conn frame s)
-  gave_goes frame true s h = h
-  gave_goes frame false s h = h
+  gave_goes : (frame : Text) (stage : Stage) (s : Switch) → GoesFrom b stage s → GoesFrom b stage (with_gift conn frame s)
+  gave_goes frame None s h = h
+  gave_goes frame (Some n) s h = h
 
   commands_go : KeptByCommands conn (GoesFrom b)
   commands_go = record {
     spent = λ {s = s} h. goes_spent b sound s h;
-    gave = λ frame {b = fresh} {s = s} h. gave_goes frame fresh s h;
+    more = λ below h. h;
+    gave = λ frame {b = stage} {s = s} h. gave_goes frame stage s h;
     admitted = λ {s = s} new h. admitted_goes s new h;
     parted = λ why {s = s} leaves h. parted_goes why s h;
     sleeps = λ until {s = s} room h. sleeps_go until s room h;
@@ -139,17 +147,22 @@ module _ (b : Books) (conn : ℕ) (c : Conn) (there : row_of b.conns conn ≡ So
 -- ---- acts
 
 closed_goes : (how : Closing) (conn : ℕ) (s : Switch) → Goes (books_of s) (books_of s) → Goes (books_of s) (books_of (closed_by how conn s))
-closed_goes closing.EndOfInput conn s h = goes_conn (books_of s) (parted parting.EndOfInput) conn s (λ c is. something_there parting.EndOfInput) (λ c. refl) h
+closed_goes closing.EndOfInput conn s h =
+    goes_conn (books_of s) (parted parting.EndOfInput) conn s (λ c is. something_there parting.EndOfInput) (λ c. refl) h
 closed_goes closing.Sent conn s h = goes_gone (books_of s) conn s h
 closed_goes closing.Failed conn s h = goes_gone (books_of s) conn s h
 
-pub goes_acted : (what : Act) (s : Switch) → refused_act what s ≡ None → Few (books_of s) → Sound (books_of s) → Goes (books_of s) (books_of (act_done what s).state)
+pub goes_acted : (what : Act) (s : Switch) → refused_act what s ≡ None → Few (books_of s) → Sound (books_of s) →
+    Goes (books_of s) (books_of (act_done what s).state)
 goes_acted act.Arrive s accepts few h = goes_arrived s few h
 goes_acted (act.Command conn block) s accepts few h =
     let passed = none_refused (not (reads (phase_at s conn))) refusal.Gone (busy (owed_to s conn)) accepts in
     let giver = may_owe s conn (not-false (reads (phase_at s conn)) passed.0) (not_busy (owed_to s conn) passed.1) in
-    commanded_kept conn (GoesFrom (books_of s)) (calls_go (books_of s)) (commands_go (books_of s) conn giver.0 giver.1.there giver.1.none few h) (command_of (line_of block)) {s = s} refl
+    commanded_kept conn (GoesFrom (books_of s)) (calls_go (books_of s))
+    (commands_go (books_of s) conn giver.0 giver.1.there giver.1.none few h) (command_of (line_of block)) {s = s} refl
 goes_acted (act.Take conn) s accepts few h = goes_spent (books_of s) h s refl
 goes_acted (act.Close conn how) s accepts few h = closed_goes how conn s (goes_spent (books_of s) h s refl)
-goes_acted (act.Work slot) s accepts few h = worked_kept (GoesFrom (books_of s)) (calls_go (books_of s)) slot {b = false} {s = s} (goes_spent (books_of s) h s refl)
-goes_acted (act.Job number) s accepts few h = job_kept s (GoesFrom (books_of s)) (calls_go (books_of s)) (jobs_go (books_of s) s) number (goes_spent (books_of s) h s refl)
+goes_acted (act.Work slot) s accepts few h =
+    worked_kept (GoesFrom (books_of s)) (calls_go (books_of s)) slot {b = Some 0} {s = s} (goes_spent (books_of s) h s refl)
+goes_acted (act.Job number) s accepts few h =
+    job_kept s (GoesFrom (books_of s)) (calls_go (books_of s)) (jobs_go (books_of s) s) number (goes_spent (books_of s) h s refl)

@@ -3,13 +3,14 @@ use Rattle.std.proofs.Common.{◌≡◌, ◌≢◌, ℕ, ◌+◌, ◌*◌, ◌^�
 use Rattle.std.specs.List.{sum_by}
 use Rattle.fs_places.specs.declared.numbered.Numbered.{Numbered}
 use Rattle.fs_places.specs.Places.{held_in}
+use Rattle.fs_places.proofs.TableLemmas.{numbers_in, one_if, taken_in}
+use Rattle.fs_places.proofs.NumberLemmas.{Numbers}
 use Rattle.fs_state.specs.declared.conn.Conn.{Conn}
 use Rattle.fs_state.specs.declared.job.Job.{Job}
 use Rattle.fs_state.specs.declared.job.JobWork.{JobWork}
 use Rattle.fs_state.specs.declared.job.JobWork.TheVariants.{Sleep, Originate}
 use Rattle.fs_state.specs.Switch.{Switch}
 use Rattle.fs_machine.specs.Owed.{Parts}
-use Rattle.fs_machine.proofs.TableLemmas.{numbers_in, one_if, taken_in}
 use Rattle.fs_machine.proofs.RestLemmas.{Rest, rest_of}
 
 abbrev pub Conns : Type 0
@@ -59,11 +60,6 @@ books_same s t same = ap books_in same
 
 -- ---- connections
 
--- each thing has a number of its own that was drawn
-pub record Numbers {T : Type 0} (rows : List (Option (Numbered T))) (drawn : ℕ) : Type 0 where
-  pub apart : (p q : ℕ) (a c : Numbered T) → held_in rows p ≡ Some a → held_in rows q ≡ Some c → a.number ≡ c.number → p ≡ q
-  pub within : (p : ℕ) (a : Numbered T) → held_in rows p ≡ Some a → a.number ≤ drawn
-
 -- each connection parts as its phase says
 abbrev pub PartEach : Conns → Type 0
 PartEach conns = (p : ℕ) (a : Numbered Conn) → held_in conns p ≡ Some a → Parts a.held
@@ -76,7 +72,8 @@ HasJob jobs conn = (q : ℕ) × (job : Numbered Job) × (held_in jobs q ≡ Some
 -- a reply that is owed has one job, and the connection of a job is owed a reply, if it is still there
 pub record Owes (conns : Conns) (jobs : Jobs) (drawn : ℕ) : Type 0 where
   pub owed : (p : ℕ) (a : Numbered Conn) (since : ℕ) → held_in conns p ≡ Some a → a.held.owed ≡ Some since → HasJob jobs a.number
-  pub owes : (q : ℕ) (job : Numbered Job) (p : ℕ) (a : Numbered Conn) → held_in jobs q ≡ Some job → held_in conns p ≡ Some a → a.number ≡ job.held.conn → a.held.owed ≢ None
+  pub owes : (q : ℕ) (job : Numbered Job) (p : ℕ) (a : Numbered Conn) → held_in jobs q ≡ Some job → held_in conns p ≡ Some a →
+      a.number ≡ job.held.conn → a.held.owed ≢ None
   pub alone : (q r : ℕ) (a c : Numbered Job) → held_in jobs q ≡ Some a → held_in jobs r ≡ Some c → a.held.conn ≡ c.held.conn → q ≡ r
   pub within : (q : ℕ) (job : Numbered Job) → held_in jobs q ≡ Some job → job.held.conn ≤ drawn
 
@@ -110,8 +107,10 @@ HasNumber origs number = (p : ℕ) × (held_in origs p ≡ Some number)
 -- what a job tries is there, is tried by no other job, and has a number that was drawn; there is no more than is tried, so there is always
 -- a place for one more
 pub record Tries (jobs : Jobs) (origs : List (Option ℕ)) (drawn : ℕ) : Type 0 where
-  pub there : (q : ℕ) (job : Numbered Job) (number : ℕ) → held_in jobs q ≡ Some job → tried_by job.held.work ≡ Some number → HasNumber origs number
-  pub alone : (q r : ℕ) (a c : Numbered Job) (number : ℕ) → held_in jobs q ≡ Some a → held_in jobs r ≡ Some c → tried_by a.held.work ≡ Some number → tried_by c.held.work ≡ Some number → q ≡ r
+  pub there : (q : ℕ) (job : Numbered Job) (number : ℕ) → held_in jobs q ≡ Some job → tried_by job.held.work ≡ Some number →
+      HasNumber origs number
+  pub alone : (q r : ℕ) (a c : Numbered Job) (number : ℕ) → held_in jobs q ≡ Some a → held_in jobs r ≡ Some c →
+      tried_by a.held.work ≡ Some number → tried_by c.held.work ≡ Some number → q ≡ r
   pub within : (p number : ℕ) → held_in origs p ≡ Some number → number ≤ drawn
   pub fewer : taken_in origs ≤ trying_in jobs
   pub job_places : length jobs ≡ 1024

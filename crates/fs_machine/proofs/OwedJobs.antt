@@ -1,5 +1,5 @@
 -- Changes of connections, and jobs that begin and end, in a switch.
-use Rattle.std.proofs.Common.{◌≡◌, ◌≢◌, ℕ, ◌+◌, ◌-◌, ◌^◌, ◌<◌, ◌≤◌, min, List, [], ◌∷◌, length, Option, None, Some, unwrap_or, refl, sym, ap, subst, ◌∙◌, arith}
+use Rattle.std.proofs.Common.{◌≡◌, ◌≢◌, ℕ, ◌+◌, ◌-◌, ◌^◌, ◌<◌, ◌≤◌, min, List, ◌∷◌, length, Option, None, Some, unwrap_or, refl, sym, ap, subst, ◌∙◌, arith, []}
 use Rattle.std.proofs.lemmas.List.{length-map}
 use Rattle.fs_vars.specs.Pairs.{Text}
 use Rattle.fs_api.specs.declared.api.Winner.{Winner}
@@ -10,6 +10,8 @@ use Rattle.fs_orig.specs.Changes.{new_orig}
 use Rattle.fs_places.specs.declared.numbered.Numbered.{Numbered}
 use Rattle.fs_places.specs.Places.{held_in, with_held, least_free}
 use Rattle.fs_places.specs.Rows.{place_of, row_of, with_held_at, with_new_row, without_row}
+use Rattle.fs_places.proofs.RowLemmas.{free_least}
+use Rattle.fs_places.proofs.TableLemmas.{something_there, IsRow, HasRow, row_found, no_row, row_written, row_removed, row_added, numbers_in, numbers_held, number_at, number_there, row_of_number, numbers_removed, numbers_added, taken_in, full_taken, taken_numbers}
 use Rattle.fs_state.specs.declared.conn.Conn.{Conn}
 use Rattle.fs_state.specs.declared.job.Job.{Job}
 use Rattle.fs_state.specs.declared.job.JobWork.{JobWork}
@@ -22,8 +24,6 @@ use Rattle.fs_machine.specs.Attempts.{seconds, tried_by_job, originate_begun}
 use Rattle.fs_machine.specs.Owing.{after_job_begin, after_job_end}
 use Rattle.fs_machine.specs.Step.{new_conn, arrived}
 use Rattle.fs_machine.specs.Owed.{Parts}
-use Rattle.fs_machine.proofs.RowLemmas.{free_least}
-use Rattle.fs_machine.proofs.TableLemmas.{something_there, IsRow, HasRow, row_found, no_row, row_written, row_removed, row_added, numbers_in, numbers_held, number_at, number_there, row_of_number, numbers_removed, numbers_added, taken_in, full_taken, taken_numbers}
 use Rattle.fs_machine.proofs.OwedBooks.{Conns, Jobs, Books, books_of, books_same, PartEach, Linked, HasNumber, tried_by, trying_in, Tries, Sound, Near, Goes, Few}
 use Rattle.fs_machine.proofs.Kept.{DoesJob}
 use Rattle.fs_machine.proofs.RestLemmas.{leg_made_rest}
@@ -31,16 +31,20 @@ use Rattle.fs_machine.proofs.OwedLemmas.{linked_changed, linked_gone, linked_com
 
 -- ---- nothing of it changes
 
-pub near_same : (old new : Books) → new.conns_drawn ≡ old.conns_drawn → new.jobs_drawn ≡ old.jobs_drawn → new.origs_drawn ≡ old.origs_drawn →
+pub near_same : (old new : Books) → new.conns_drawn ≡ old.conns_drawn → new.jobs_drawn ≡ old.jobs_drawn →
+    new.origs_drawn ≡ old.origs_drawn →
     new.cost ≡ old.cost → new.limit ≡ old.limit → Near old new
-near_same old new conns jobs origs cost limit = record { conns = omega (arith, conns); jobs = omega (arith, jobs); origs = omega (arith, origs); cost = cost; limit = limit }
+near_same old new conns jobs origs cost limit =
+    record { conns = omega (arith, conns); jobs = omega (arith, jobs); origs = omega (arith, origs); cost = cost; limit = limit }
 
 pub near_self : (b : Books) → Near b b
 near_self b = near_same b b refl refl refl refl refl
 
 -- no number more is drawn, and the cost stays
-goes_by : (mid b new : Books) → Linked new.conns new.jobs new.conns_drawn new.jobs_drawn → Tries new.jobs new.origs new.origs_drawn → Goes b mid →
-    new.conns_drawn ≡ mid.conns_drawn → new.jobs_drawn ≡ mid.jobs_drawn → new.origs_drawn ≡ mid.origs_drawn → new.cost ≡ mid.cost → new.limit ≡ mid.limit → Goes b new
+goes_by : (mid b new : Books) → Linked new.conns new.jobs new.conns_drawn new.jobs_drawn → Tries new.jobs new.origs new.origs_drawn →
+    Goes b mid →
+    new.conns_drawn ≡ mid.conns_drawn → new.jobs_drawn ≡ mid.jobs_drawn → new.origs_drawn ≡ mid.origs_drawn → new.cost ≡ mid.cost →
+    new.limit ≡ mid.limit → Goes b new
 goes_by mid b new linked tries h conns jobs origs cost limit = record {
   sound = record { linked = linked; tries = tries };
   near = record {
@@ -61,7 +65,8 @@ parts_of s conn c each is =
     subst (λ (y : Conn). Parts y) found.3 (each found.0 found.1 found.2.there)
 
 -- one is changed that is owed what it was owed before
-pub goes_conn : (b : Books) (change : Conn → Conn) (conn : ℕ) (s : Switch) → ((c : Conn) → conn_of s conn ≡ Some c → Parts (change c)) → ((c : Conn) → (change c).owed ≡ c.owed) →
+pub goes_conn : (b : Books) (change : Conn → Conn) (conn : ℕ) (s : Switch) → ((c : Conn) → conn_of s conn ≡ Some c → Parts (change c)) →
+    ((c : Conn) → (change c).owed ≡ c.owed) →
     Goes b (books_of s) → Goes b (books_of (conn_changed change conn s))
 goes_conn b change conn s parts same h = by (conn_of s conn) refl
   where
@@ -71,9 +76,12 @@ goes_conn b change conn s parts same h = by (conn_of s conn) refl
         let found = row_found s.conns conn c is in
         let new : Numbered Conn = record { number = conn; held = change c } in
         let fits : Linked (with_held s.conns found.0 (Some new)) s.jobs s.drawn.conns s.drawn.jobs =
-        linked_changed s.conns s.jobs s.drawn.conns s.drawn.jobs found.0 found.1 new found.2.there (sym found.2.numbered) (same c ∙ sym (ap (λ (y : Conn). y.owed) found.3)) (parts c is) h.sound.linked in
-        subst (λ (conns : Conns). Goes b (record (books_of s) { conns = conns })) (sym (row_written s.conns conn found.0 (change c) found.2.at))
-        (goes_by (books_of s) b (record (books_of s) { conns = with_held s.conns found.0 (Some new) }) fits h.sound.tries h refl refl refl refl refl)
+        linked_changed s.conns s.jobs s.drawn.conns s.drawn.jobs found.0 found.1 new found.2.there (sym found.2.numbered)
+        (same c ∙ sym (ap (λ (y : Conn). y.owed) found.3)) (parts c is) h.sound.linked in
+        subst (λ (conns : Conns). Goes b (record (books_of s) { conns = conns }))
+        (sym (row_written s.conns conn found.0 (change c) found.2.at))
+        (goes_by (books_of s) b
+        (record (books_of s) { conns = with_held s.conns found.0 (Some new) }) fits h.sound.tries h refl refl refl refl refl)
 
 -- one is gone
 pub goes_gone : (b : Books) (conn : ℕ) (s : Switch) → Goes b (books_of s) → Goes b (books_of (without_conn conn s))
@@ -82,25 +90,33 @@ goes_gone b conn s h = by (place_of s.conns conn)
     by : (found : Option ℕ) → Goes b (record (books_of s) { conns = with_held_at {T = Numbered Conn} s.conns None found })
     by None = h
     by (Some place) =
-        goes_by (books_of s) b (record (books_of s) { conns = with_held s.conns place None }) (linked_gone s.conns s.jobs s.drawn.conns s.drawn.jobs place h.sound.linked) h.sound.tries h
+        goes_by (books_of s) b (record (books_of s) { conns = with_held s.conns place None })
+        (linked_gone s.conns s.jobs s.drawn.conns s.drawn.jobs place h.sound.linked) h.sound.tries h
         refl refl refl refl refl
 
 -- one comes
 pub goes_arrived : (s : Switch) → Few (books_of s) → Sound (books_of s) → Goes (books_of s) (books_of (arrived s).state)
 goes_arrived s few h =
-    subst (λ (n : ℕ). Goes (books_of s) (record (books_of s) { conns = with_new_row s.conns n new_conn; conns_drawn = n })) (sym next) (by (least_free s.conns 0))
+    subst (λ (n : ℕ). Goes (books_of s) (record (books_of s) { conns = with_new_row s.conns n new_conn; conns_drawn = n })) (sym next)
+    (by (least_free s.conns 0))
   where
     next : min (s.drawn.conns + 1) (2 ^ 32 - 1) ≡ s.drawn.conns + 1
     next = let most : s.drawn.conns < 2 ^ 30 = few.conns in omega (arith, most)
 
-    by : (found : Option ℕ) → Goes (books_of s) (record (books_of s) { conns = with_held_at {T = Numbered Conn} s.conns (Some (record { number = s.drawn.conns + 1; held = new_conn })) found; conns_drawn = s.drawn.conns + 1 })
+    by : (found : Option ℕ) →
+        Goes (books_of s)
+        (record (books_of s) {
+          conns = with_held_at {T = Numbered Conn} s.conns (Some (record { number = s.drawn.conns + 1; held = new_conn })) found;
+          conns_drawn = s.drawn.conns + 1;
+        })
     by None = record {
       sound = record { linked = linked_more s.conns s.jobs s.drawn.conns s.drawn.jobs h.linked; tries = h.tries };
       near = record { conns = omega arith; jobs = omega arith; origs = omega arith; cost = refl; limit = refl };
     }
     by (Some place) = record {
       sound = record {
-        linked = linked_come s.conns s.jobs s.drawn.conns s.drawn.jobs place (record { number = s.drawn.conns + 1; held = new_conn }) refl refl refl h.linked;
+        linked = linked_come s.conns s.jobs s.drawn.conns s.drawn.jobs place
+            (record { number = s.drawn.conns + 1; held = new_conn }) refl refl refl h.linked;
         tries = h.tries;
       };
       near = record { conns = omega arith; jobs = omega arith; origs = omega arith; cost = refl; limit = refl };
@@ -113,9 +129,11 @@ abbrev job_for : ℕ → ℕ → JobWork → Numbered Job
 job_for number conn work = record { number = number; held = record { conn = conn; work = work } }
 
 -- it begins for a connection that is owed nothing, where a place for it is free
-goes_owing : (b : Books) (u : Switch) (conn : ℕ) (work : JobWork) (c : Conn) (q : ℕ) → conn_of u conn ≡ Some c → c.owed ≡ None → least_free u.jobs 0 ≡ Some q →
+goes_owing : (b : Books) (u : Switch) (conn : ℕ) (work : JobWork) (c : Conn) (q : ℕ) → conn_of u conn ≡ Some c → c.owed ≡ None →
+    least_free u.jobs 0 ≡ Some q →
     u.drawn.jobs < 2 ^ 30 → u.drawn.jobs ≡ b.jobs_drawn → Linked u.conns u.jobs u.drawn.conns u.drawn.jobs →
-    Tries (with_held u.jobs q (Some (job_for (next_job_number u) conn work))) (numbers_in u.origs) u.drawn.origs → Near b (books_of u) → Goes b (books_of (after_job_begin conn work u))
+    Tries (with_held u.jobs q (Some (job_for (next_job_number u) conn work))) (numbers_in u.origs) u.drawn.origs → Near b (books_of u) →
+    Goes b (books_of (after_job_begin conn work u))
 goes_owing b u conn work c q is none is_free few same_jobs linked tries near =
     let found = row_found u.conns conn c is in
     let free = free_least u.jobs q is_free in
@@ -124,23 +142,33 @@ goes_owing b u conn work c q is none is_free few same_jobs linked tries near =
     let job : Numbered Job = job_for (next_job_number u) conn work in
     let new : Numbered Conn = record { number = conn; held = owed_since u.entries c } in
     let begun_fit : Linked (with_held u.conns found.0 (Some new)) (with_held u.jobs q (Some job)) u.drawn.conns (u.drawn.jobs + 1) =
-    linked_begun u.conns u.jobs u.drawn.conns u.drawn.jobs found.0 q found.1 new job found.2.there (ap (λ (y : Conn). y.owed) found.3 ∙ none) (sym found.2.numbered) (something_there u.entries)
+    linked_begun u.conns u.jobs u.drawn.conns u.drawn.jobs found.0 q found.1 new job found.2.there
+    (ap (λ (y : Conn). y.owed) found.3 ∙ none) (sym found.2.numbered) (something_there u.entries)
     (parts_of u conn c linked.parts is) free.1 free.0 (sym found.2.numbered) next linked in
     let fits : Linked (with_held u.conns found.0 (Some new)) (with_held u.jobs q (Some job)) u.drawn.conns (next_job_number u) =
     subst (λ (n : ℕ). Linked (with_held u.conns found.0 (Some new)) (with_held u.jobs q (Some job)) u.drawn.conns n) (sym next) begun_fit in
-    let goes : Goes b (record (books_of u) { conns = with_held u.conns found.0 (Some new); jobs = with_held u.jobs q (Some job); jobs_drawn = next_job_number u }) = record {
+    let goes : Goes b
+    (record (books_of u)
+    { conns = with_held u.conns found.0 (Some new); jobs = with_held u.jobs q (Some job); jobs_drawn = next_job_number u }) = record {
       sound = record { linked = fits; tries = tries };
       near = record { conns = near.conns; jobs = omega (arith, next, same_jobs); origs = near.origs; cost = near.cost; limit = near.limit };
     } in
-    let with_its_job : Goes b (record (books_of u) { conns = with_held u.conns found.0 (Some new); jobs = with_new_row u.jobs (next_job_number u) held; jobs_drawn = next_job_number u }) =
-    subst (λ (jobs : Jobs). Goes b (record (books_of u) { conns = with_held u.conns found.0 (Some new); jobs = jobs; jobs_drawn = next_job_number u })) (sym (row_added u.jobs (next_job_number u) q held is_free)) goes in
+    let with_its_job : Goes b
+    (record (books_of u)
+    { conns = with_held u.conns found.0 (Some new); jobs = with_new_row u.jobs (next_job_number u) held; jobs_drawn = next_job_number u }) =
+    subst (λ (jobs : Jobs). Goes b
+    (record (books_of u) { conns = with_held u.conns found.0 (Some new); jobs = jobs; jobs_drawn = next_job_number u }))
+    (sym (row_added u.jobs (next_job_number u) q held is_free)) goes in
     let with_both : Goes b (books_of (with_conn conn (owed_since u.entries c) (with_new_job held u))) =
-    subst (λ (conns : Conns). Goes b (record (books_of u) { conns = conns; jobs = with_new_row u.jobs (next_job_number u) held; jobs_drawn = next_job_number u }))
+    subst (λ (conns : Conns). Goes b
+    (record (books_of u) { conns = conns; jobs = with_new_row u.jobs (next_job_number u) held; jobs_drawn = next_job_number u }))
     (sym (row_written u.conns conn found.0 (owed_since u.entries c) found.2.at)) with_its_job in
-    subst (λ (there : Option Conn). Goes b (books_of (conn_changed_from (owed_since u.entries) conn there (with_new_job held u)))) (sym is) with_both
+    subst (λ (there : Option Conn). Goes b (books_of (conn_changed_from (owed_since u.entries) conn there (with_new_job held u))))
+    (sym is) with_both
 
 -- msleep
-pub goes_sleep : (s : Switch) (conn until : ℕ) (c : Conn) (q : ℕ) → conn_of s conn ≡ Some c → c.owed ≡ None → least_free s.jobs 0 ≡ Some q → Few (books_of s) →
+pub goes_sleep : (s : Switch) (conn until : ℕ) (c : Conn) (q : ℕ) → conn_of s conn ≡ Some c → c.owed ≡ None → least_free s.jobs 0 ≡ Some q →
+    Few (books_of s) →
     Sound (books_of s) → Goes (books_of s) (books_of (after_job_begin conn (Sleep until) s))
 goes_sleep s conn until c q is none is_free few h =
     let free = free_least s.jobs q is_free in
@@ -151,7 +179,8 @@ goes_sleep s conn until c q is none is_free few h =
 -- ---- an origination begins
 
 -- a place for one more is always free
-orig_place : (jobs : Jobs) (origs : List (Option (Numbered Orig))) (drawn : ℕ) → Tries jobs (numbers_in origs) drawn → least_free origs 0 ≢ None
+orig_place : (jobs : Jobs) (origs : List (Option (Numbered Orig))) (drawn : ℕ) → Tries jobs (numbers_in origs) drawn →
+    least_free origs 0 ≢ None
 orig_place jobs origs drawn h none =
     let all : taken_in origs ≡ length origs = full_taken origs none in
     let same : taken_in (numbers_in origs) ≡ taken_in origs = taken_numbers origs in
@@ -163,8 +192,10 @@ orig_place jobs origs drawn h none =
     omega (arith, all, same, fewer, most, job_places, orig_places, lengths)
 
 -- at that place it is there, and the job that tries it
-begun_at : (b : Books) (t : Switch) (conn orig : ℕ) (winner : Winner) (o : Orig) (c : Conn) (q p : ℕ) → conn_of t conn ≡ Some c → c.owed ≡ None → least_free t.jobs 0 ≡ Some q →
-    least_free t.origs 0 ≡ Some p → t.drawn.jobs < 2 ^ 30 → orig ≡ t.drawn.origs + 1 → next_orig_number t ≡ t.drawn.origs + 1 → Sound (books_of t) → b ≡ books_of t →
+begun_at : (b : Books) (t : Switch) (conn orig : ℕ) (winner : Winner) (o : Orig) (c : Conn) (q p : ℕ) → conn_of t conn ≡ Some c →
+    c.owed ≡ None → least_free t.jobs 0 ≡ Some q →
+    least_free t.origs 0 ≡ Some p → t.drawn.jobs < 2 ^ 30 → orig ≡ t.drawn.origs + 1 → next_orig_number t ≡ t.drawn.origs + 1 →
+    Sound (books_of t) → b ≡ books_of t →
     Goes b (books_of (after_job_begin conn (Originate orig winner) (with_new_orig o t)))
 begun_at b t conn orig winner o c q p is none is_free is_orig_free few is_next next h same =
     let free = free_least t.jobs q is_free in
@@ -173,19 +204,24 @@ begun_at b t conn orig winner o c q p is none is_free is_orig_free few is_next n
     let lengths : length (numbers_in t.origs) ≡ length t.origs = length-map t.origs number_at in
     let number_within : p < length (numbers_in t.origs) = subst (λ (n : ℕ). p < n) (sym lengths) orig_free.1 in
     let tried : Tries (with_held t.jobs q (Some job)) (with_held (numbers_in t.origs) p (Some (t.drawn.origs + 1))) (t.drawn.origs + 1) =
-    tries_begun t.jobs (numbers_in t.origs) t.drawn.origs q p job free.1 free.0 number_within (numbers_held t.origs p ∙ ap number_at orig_free.0) (ap Some is_next) h.tries in
+    tries_begun t.jobs (numbers_in t.origs) t.drawn.origs q p job free.1 free.0 number_within
+    (numbers_held t.origs p ∙ ap number_at orig_free.0) (ap Some is_next) h.tries in
     let tried_next : Tries (with_held t.jobs q (Some job)) (with_held (numbers_in t.origs) p (Some (next_orig_number t)))
     (next_orig_number t) =
     subst (λ (n : ℕ). Tries (with_held t.jobs q (Some job)) (with_held (numbers_in t.origs) p (Some n)) n) (sym next) tried in
     let tried_there : Tries (with_held t.jobs q (Some job)) (numbers_in (with_new_row t.origs (next_orig_number t) o)) (next_orig_number t)
     =
-    subst (λ (origs : List (Option ℕ)). Tries (with_held t.jobs q (Some job)) origs (next_orig_number t)) (sym (numbers_added t.origs (next_orig_number t) p o is_orig_free)) tried_next in
-    let near_t : Near (books_of t) (books_of (with_new_orig o t)) = record { conns = omega arith; jobs = omega arith; origs = omega (arith, next); cost = refl; limit = refl } in
-    goes_owing b (with_new_orig o t) conn (Originate orig winner) c q is none is_free few (sym (ap (λ (x : Books). x.jobs_drawn) same)) h.linked tried_there
+    subst (λ (origs : List (Option ℕ)). Tries (with_held t.jobs q (Some job)) origs (next_orig_number t))
+    (sym (numbers_added t.origs (next_orig_number t) p o is_orig_free)) tried_next in
+    let near_t : Near (books_of t) (books_of (with_new_orig o t)) =
+    record { conns = omega arith; jobs = omega arith; origs = omega (arith, next); cost = refl; limit = refl } in
+    goes_owing b (with_new_orig o t) conn (Originate orig winner) c q is none is_free few
+    (sym (ap (λ (x : Books). x.jobs_drawn) same)) h.linked tried_there
     (subst (λ (old : Books). Near old (books_of (with_new_orig o t))) (sym same) near_t)
 
 -- originate, once its leg was made
-goes_tried : (s : Switch) (made : Made) (conn : ℕ) (endpoint : Text) (winner : Winner) (timeout : ℕ) (c : Conn) (q : ℕ) → books_of made.state ≡ books_of s →
+goes_tried : (s : Switch) (made : Made) (conn : ℕ) (endpoint : Text) (winner : Winner) (timeout : ℕ) (c : Conn) (q : ℕ) →
+    books_of made.state ≡ books_of s →
     conn_of s conn ≡ Some c → c.owed ≡ None → least_free s.jobs 0 ≡ Some q → Few (books_of s) → Sound (books_of s) →
     Goes (books_of s) (books_of (tried_by_job conn endpoint winner timeout (next_orig_number s) made))
 goes_tried s made conn endpoint winner timeout c q same is none is_free few h = by (least_free made.state.origs 0) refl
@@ -202,13 +238,16 @@ goes_tried s made conn endpoint winner timeout c q same is none is_free few h = 
     sound : Sound (books_of made.state)
     sound = subst (λ (b : Books). Sound b) (sym same) h
 
-    by : (found : Option ℕ) → least_free made.state.origs 0 ≡ found → Goes (books_of s) (books_of (tried_by_job conn endpoint winner timeout (next_orig_number s) made))
+    by : (found : Option ℕ) → least_free made.state.origs 0 ≡ found →
+        Goes (books_of s) (books_of (tried_by_job conn endpoint winner timeout (next_orig_number s) made))
     by None is_none = absurd (orig_place made.state.jobs made.state.origs made.state.drawn.origs sound.tries is_none)
     by (Some p) is_orig_free =
         begun_at (books_of s) made.state conn (next_orig_number s) winner
-        (new_orig (owner.Job (next_job_number made.state)) ((record { endpoint = endpoint; pairs = [] } ∷ []) ∷ []) (made.leg ∷ []) (moment_after made.state.moment (seconds timeout)))
+        (new_orig (owner.Job (next_job_number made.state)) ((record { endpoint = endpoint; pairs = [] } ∷ []) ∷ []) (made.leg ∷ [])
+        (moment_after made.state.moment (seconds timeout)))
         c q p
-        (ap (λ (b : Books). row_of b.conns conn) same ∙ is) none (ap (λ (b : Books). least_free b.jobs 0) same ∙ is_free) is_orig_free few_jobs
+        (ap (λ (b : Books). row_of b.conns conn) same ∙ is) none
+        (ap (λ (b : Books). least_free b.jobs 0) same ∙ is_free) is_orig_free few_jobs
         (omega (arith, few_origs, drawn)) (omega (arith, few_origs, drawn)) sound (sym same)
 
 -- originate
@@ -223,7 +262,8 @@ goes_originate s conn endpoint winner caller timeout c q is none is_free few h =
 -- ---- a job ends
 
 -- it ends, and its connection, if it is there, is owed nothing any more
-goes_ended : (b : Books) (u : Switch) (number conn : ℕ) (answer : Text) (q : ℕ) (row : Numbered Job) → IsRow u.jobs number q row → row.held.conn ≡ conn →
+goes_ended : (b : Books) (u : Switch) (number conn : ℕ) (answer : Text) (q : ℕ) (row : Numbered Job) → IsRow u.jobs number q row →
+    row.held.conn ≡ conn →
     Linked u.conns u.jobs u.drawn.conns u.drawn.jobs → Tries (with_held u.jobs q None) (numbers_in u.origs) u.drawn.origs →
     Near b (books_of u) → Goes b (books_of (after_job_end number conn answer u))
 goes_ended b u number conn answer q row stands for linked tries near = by (conn_of u conn) refl
@@ -233,9 +273,11 @@ goes_ended b u number conn answer q row stands for linked tries near = by (conn_
 
     by : (found : Option Conn) → conn_of u conn ≡ found → Goes b (books_of (conn_changed_from not_owed conn found (without_job number u)))
     by None is =
-        let gone : (p : ℕ) (a : Numbered Conn) → held_in u.conns p ≡ Some a → a.number ≢ row.held.conn = λ p a e same. no_row u.conns conn p a is e (same ∙ for) in
+        let gone : (p : ℕ) (a : Numbered Conn) → held_in u.conns p ≡ Some a →
+        a.number ≢ row.held.conn = λ p a e same. no_row u.conns conn p a is e (same ∙ for) in
         let goes : Goes b (record (books_of u) { jobs = with_held u.jobs q None }) = record {
-          sound = record { linked = linked_dropped u.conns u.jobs u.drawn.conns u.drawn.jobs q row stands.there gone linked; tries = tries };
+          sound = record
+              { linked = linked_dropped u.conns u.jobs u.drawn.conns u.drawn.jobs q row stands.there gone linked; tries = tries };
           near = record { conns = near.conns; jobs = near.jobs; origs = near.origs; cost = near.cost; limit = near.limit };
         } in
         subst (λ (jobs : Jobs). Goes b (record (books_of u) { jobs = jobs })) (sym without) goes
@@ -243,42 +285,52 @@ goes_ended b u number conn answer q row stands for linked tries near = by (conn_
         let found = row_found u.conns conn c is in
         let new : Numbered Conn = record { number = conn; held = not_owed c } in
         let fits : Linked (with_held u.conns found.0 (Some new)) (with_held u.jobs q None) u.drawn.conns u.drawn.jobs =
-        linked_ended u.conns u.jobs u.drawn.conns u.drawn.jobs found.0 q found.1 new row stands.there found.2.there (found.2.numbered ∙ sym for) (sym found.2.numbered) refl
+        linked_ended u.conns u.jobs u.drawn.conns u.drawn.jobs found.0 q found.1 new row stands.there found.2.there
+        (found.2.numbered ∙ sym for) (sym found.2.numbered) refl
         (parts_of u conn c linked.parts is) linked in
         let goes : Goes b (record (books_of u) { conns = with_held u.conns found.0 (Some new); jobs = with_held u.jobs q None }) = record {
           sound = record { linked = fits; tries = tries };
           near = record { conns = near.conns; jobs = near.jobs; origs = near.origs; cost = near.cost; limit = near.limit };
         } in
-        let without_its_job : Goes b (record (books_of u) { conns = with_held u.conns found.0 (Some new); jobs = without_row u.jobs number }) =
-        subst (λ (jobs : Jobs). Goes b (record (books_of u) { conns = with_held u.conns found.0 (Some new); jobs = jobs })) (sym without) goes in
-        subst (λ (conns : Conns). Goes b (record (books_of u) { conns = conns; jobs = without_row u.jobs number })) (sym (row_written u.conns conn found.0 (not_owed c) found.2.at)) without_its_job
+        let without_its_job : Goes b
+        (record (books_of u) { conns = with_held u.conns found.0 (Some new); jobs = without_row u.jobs number }) =
+        subst (λ (jobs : Jobs). Goes b (record (books_of u) { conns = with_held u.conns found.0 (Some new); jobs = jobs }))
+        (sym without) goes in
+        subst (λ (conns : Conns). Goes b (record (books_of u) { conns = conns; jobs = without_row u.jobs number }))
+        (sym (row_written u.conns conn found.0 (not_owed c) found.2.at)) without_its_job
 
 -- a job that slept ends
-pub goes_woken : (b : Books) (s : Switch) (number conn until : ℕ) (answer : Text) → DoesJob s number conn (Sleep until) → Goes b (books_of s) → Goes b (books_of (after_job_end number conn answer s))
+pub goes_woken : (b : Books) (s : Switch) (number conn until : ℕ) (answer : Text) → DoesJob s number conn (Sleep until) →
+    Goes b (books_of s) → Goes b (books_of (after_job_end number conn answer s))
 goes_woken b s number conn until answer does h =
     let found = row_found s.jobs number (record { conn = conn; work = Sleep until }) does.there in
     goes_ended b s number conn answer found.0 found.1 found.2 (ap (λ (y : Job). y.conn) found.3) h.sound.linked
-    (tries_woken s.jobs (numbers_in s.origs) s.drawn.origs found.0 found.1 found.2.there (ap (λ (y : Job). tried_by y.work) found.3) h.sound.tries) h.near
+    (tries_woken s.jobs (numbers_in s.origs) s.drawn.origs found.0 found.1 found.2.there
+    (ap (λ (y : Job). tried_by y.work) found.3) h.sound.tries) h.near
 
 -- a job ends with the row of the origination that it tried
-tries_without : (jobs : Jobs) (origs : List (Option (Numbered Orig))) (drawn q number : ℕ) (job : Numbered Job) → held_in jobs q ≡ Some job → tried_by job.held.work ≡ Some number →
+tries_without : (jobs : Jobs) (origs : List (Option (Numbered Orig))) (drawn q number : ℕ) (job : Numbered Job) →
+    held_in jobs q ≡ Some job → tried_by job.held.work ≡ Some number →
     Tries jobs (numbers_in origs) drawn → Tries (with_held jobs q None) (numbers_in (without_row origs number)) drawn
 tries_without jobs origs drawn q number job stands tried h = by (h.there q job number stands tried)
   where
     at : HasRow origs number → Tries (with_held jobs q None) (numbers_in (without_row origs number)) drawn
     at row =
-        subst (λ (numbers : List (Option ℕ)). Tries (with_held jobs q None) numbers drawn) (sym (numbers_removed origs number row.0 row.2.at))
+        subst (λ (numbers : List (Option ℕ)). Tries (with_held jobs q None) numbers drawn)
+        (sym (numbers_removed origs number row.0 row.2.at))
         (tries_ended jobs (numbers_in origs) drawn q row.0 number job stands tried (number_there origs number row.0 row.1 row.2) h)
 
     by : HasNumber (numbers_in origs) number → Tries (with_held jobs q None) (numbers_in (without_row origs number)) drawn
     by had = at (row_of_number origs number had.0 had.1)
 
 -- a job ends with the origination that it tried
-pub goes_over : (b : Books) (s : Switch) (number conn orig : ℕ) (winner : Winner) (answer : Text) → DoesJob s number conn (Originate orig winner) → Goes b (books_of s) →
+pub goes_over : (b : Books) (s : Switch) (number conn orig : ℕ) (winner : Winner) (answer : Text) →
+    DoesJob s number conn (Originate orig winner) → Goes b (books_of s) →
     Goes b (books_of (after_job_end number conn answer (without_orig orig s)))
 goes_over b s number conn orig winner answer does h =
     let found = row_found s.jobs number (record { conn = conn; work = Originate orig winner }) does.there in
     let fits : Tries (with_held s.jobs found.0 None) (numbers_in (without_row s.origs orig)) s.drawn.origs =
-    tries_without s.jobs s.origs s.drawn.origs found.0 orig found.1 found.2.there (ap (λ (y : Job). tried_by y.work) found.3) h.sound.tries in
+    tries_without s.jobs s.origs s.drawn.origs found.0 orig found.1 found.2.there
+    (ap (λ (y : Job). tried_by y.work) found.3) h.sound.tries in
     goes_ended b (without_orig orig s) number conn answer found.0 found.1 found.2 (ap (λ (y : Job). y.conn) found.3) h.sound.linked fits
     (record { conns = h.near.conns; jobs = h.near.jobs; origs = h.near.origs; cost = h.near.cost; limit = h.near.limit })

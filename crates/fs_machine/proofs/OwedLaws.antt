@@ -1,14 +1,19 @@
 -- Behind every run each reply that is owed has one job that owes it, and somebody has something to do.
-use Rattle.std.proofs.Common.{◌≡◌, ◌≢◌, ℕ, ◌+◌, ◌-◌, ◌*◌, ◌^◌, ◌≤◌, min, true, List, [], ◌∷◌, Option, None, Some, is_some, if◌then◌else◌, zero, suc, refl, sym, ap, subst, ◌∙◌, arith}
+use Rattle.std.proofs.Common.{◌≡◌, ◌≢◌, ℕ, ◌+◌, ◌-◌, ◌*◌, ◌^◌, ◌≤◌, min, true, List, ◌∷◌, Option, None, Some, is_some, refl, sym, ap, ◌∙◌, arith, [], if◌then◌else◌}
 use Rattle.std.specs.Option.{option_and_then}
 use Rattle.std.proofs.lemmas.Bool.{ltb-false}
 use Rattle.std.proofs.lemmas.List.{length-map}
+use Rattle.std.proofs.lemmas.Option.{none-some}
 use Rattle.fs_chan.specs.declared.due.Due.{Due}
 use Rattle.fs_chan.specs.declared.due.Due.TheVariants.{Now, At}
 use Rattle.fs_doc.specs.Reading.{Configuration}
 use Rattle.fs_orig.specs.declared.orig.Orig.{Orig}
 use Rattle.fs_places.specs.declared.numbered.Numbered.{Numbered}
 use Rattle.fs_places.specs.Places.{held_in, no_places}
+use Rattle.fs_places.proofs.TableLemmas.{something_there, one_there, none_held, HasRow, row_is, row_found, row_of_held, row_of_number, number_at, numbers_in, taken_in, one_if, taken_numbers, none_taken}
+use Rattle.fs_places.specs.Least.{lesser}
+use Rattle.fs_places.proofs.LeastLemmas.{lesser_never, least_never}
+use Rattle.fs_places.proofs.NumberLemmas.{no_number, none_numbered}
 use Rattle.fs_state.specs.declared.conn.Conn.{Conn}
 use Rattle.fs_state.specs.declared.job.Job.{Job}
 use Rattle.fs_state.specs.declared.job.JobWork.{JobWork}
@@ -19,12 +24,11 @@ use Rattle.fs_machine.specs.declared.due.DueActor.TheVariants as actor
 use Rattle.fs_machine.specs.declared.entry.Entry.{Entry}
 use Rattle.fs_machine.specs.Entries.{cost_of}
 use Rattle.fs_machine.specs.Questions.{owed_of, owed_to, owes}
-use Rattle.fs_machine.specs.Due.{orig_due, work_due, job_due, is_now, later_of, lesser, least_of, row_moment, due_number, due_slot, due_job, first_chan_moment, first_job_moment, actor_or, later_or_never, due_among_all, next_due}
+use Rattle.fs_machine.specs.Due.{orig_due, work_due, job_due, is_now, later_of, row_moment, due_number, due_slot, due_job, first_chan_moment, first_job_moment, actor_or, later_or_never, due_among_all, next_due}
 use Rattle.fs_machine.specs.Step.{act_done, step, refusal_of}
 use Rattle.fs_machine.specs.Runs.{run_from, IsRunFrom}
 use Rattle.fs_machine.specs.Owed.{HasOneJob, AreOwed}
-use Rattle.fs_machine.proofs.TableLemmas.{nothing_there, something_there, one_there, none_held, HasRow, row_is, row_found, row_of_held, row_of_number, number_at, numbers_in, numbers_held, taken_in, one_if, taken_numbers, none_taken}
-use Rattle.fs_machine.proofs.OwedBooks.{Books, books_of, tried_by, Numbers, HasJob, HasNumber, trying_in, Sound, Goes, Few, Paid}
+use Rattle.fs_machine.proofs.OwedBooks.{Books, books_of, tried_by, HasJob, HasNumber, trying_in, Sound, Goes, Few, Paid}
 use Rattle.fs_machine.proofs.FrameLemmas.{some_cost}
 use Rattle.fs_machine.proofs.OwedJobs.{parts_of}
 use Rattle.fs_machine.proofs.OrderLemmas.{not_full, not_refused}
@@ -36,21 +40,6 @@ use Rattle.fs_machine.proofs.OwedActs.{goes_acted}
 pub record Holds (b : Books) : Type 0 where
   pub sound : Sound b
   pub paid : Paid b
-
--- at no place of an empty table stands a number
-no_number : (T : Type 0) (count place number : ℕ) → held_in (numbers_in (no_places {T = Numbered T} count)) place ≡ Some number → ⊥
-no_number T count place number is =
-    by (held_in (no_places {T = Numbered T} count) place) refl (sym (numbers_held (no_places {T = Numbered T} count) place) ∙ is)
-  where
-    by : (held : Option (Numbered T)) → held_in (no_places {T = Numbered T} count) place ≡ held → number_at held ≡ Some number → ⊥
-    by None at e = nothing_there number e
-    by (Some row) at e = none_held count place row at
-
-none_numbered : {T : Type 0} → (count : ℕ) → Numbers (no_places {T = Numbered T} count) 0
-none_numbered count = record {
-  apart = λ p q a c is_a is_c e. absurd (none_held count p a is_a);
-  within = λ p a is. absurd (none_held count p a is);
-}
 
 pub holds_empty : (config : Configuration) → config.settings.journal_limit ≤ 1073741824 → Holds (books_of (empty config))
 holds_empty config small = record {
@@ -80,7 +69,8 @@ holds_empty config small = record {
   where
     fewer : taken_in (numbers_in (no_places {T = Numbered Orig} 1280)) ≤ trying_in (no_places {T = Numbered Job} 1024)
     fewer =
-        let same : taken_in (numbers_in (no_places {T = Numbered Orig} 1280)) ≡ taken_in (no_places {T = Numbered Orig} 1280) = taken_numbers (no_places {T = Numbered Orig} 1280) in
+        let same : taken_in (numbers_in (no_places {T = Numbered Orig} 1280)) ≡ taken_in (no_places {T = Numbered Orig} 1280) =
+        taken_numbers (no_places {T = Numbered Orig} 1280) in
         let none : taken_in (no_places {T = Numbered Orig} 1280) ≡ 0 = none_taken {T = Numbered Orig} one_if 1280 refl in
         omega (arith, same, none)
 
@@ -88,7 +78,8 @@ holds_empty config small = record {
 pub holds_step : (s : Switch) (entry : Entry) → refusal_of s entry ≡ None → Holds (books_of s) → Holds (books_of (step s entry).state)
 unfolding step
 holds_step s entry accepts h =
-    let room : s.cost + 65600 ≤ s.config.settings.journal_limit = ltb-false s.config.settings.journal_limit (s.cost + 65600) (not_full s entry accepts) in
+    let room : s.cost + 65600 ≤ s.config.settings.journal_limit =
+    ltb-false s.config.settings.journal_limit (s.cost + 65600) (not_full s entry accepts) in
     let small : s.config.settings.journal_limit ≤ 1073741824 = h.paid.limit in
     let paid_conns : 64 * s.drawn.conns ≤ s.cost = h.paid.conns in
     let paid_jobs : 64 * s.drawn.jobs ≤ s.cost = h.paid.jobs in
@@ -98,10 +89,12 @@ holds_step s entry accepts h =
       jobs = omega (arith, room, small, paid_jobs);
       origs = omega (arith, room, small, paid_origs);
     } in
-    let goes : Goes (books_of s) (books_of (act_done entry.act (at_moment entry.moment s)).state) = goes_acted entry.act (at_moment entry.moment s) (not_refused s entry accepts) few h.sound in
+    let goes : Goes (books_of s) (books_of (act_done entry.act (at_moment entry.moment s)).state) =
+    goes_acted entry.act (at_moment entry.moment s) (not_refused s entry accepts) few h.sound in
     after (act_done entry.act (at_moment entry.moment s)).state goes room small paid_conns paid_jobs paid_origs (some_cost entry.act)
   where
-    after : (t : Switch) → Goes (books_of s) (books_of t) → s.cost + 65600 ≤ s.config.settings.journal_limit → s.config.settings.journal_limit ≤ 1073741824 →
+    after : (t : Switch) → Goes (books_of s) (books_of t) → s.cost + 65600 ≤ s.config.settings.journal_limit →
+        s.config.settings.journal_limit ≤ 1073741824 →
         64 * s.drawn.conns ≤ s.cost → 64 * s.drawn.jobs ≤ s.cost → 64 * s.drawn.origs ≤ s.cost → 64 ≤ cost_of entry.act →
         Holds (record (books_of t) { cost = min (t.cost + cost_of entry.act) (2 ^ 64 - 1) })
     after t goes room small paid_conns paid_jobs paid_origs some =
@@ -127,11 +120,12 @@ holds_run (entry ∷ entries) s run h = holds_run entries (step s entry).state r
 -- ---- what is owed
 
 orig_is_due : (now : ℕ) (x : Orig) (o : Option Orig) → o ≡ Some x → orig_due now o ≡ None → ⊥
-orig_is_due now x None is none = nothing_there x is
+orig_is_due now x None is none = none-some x is
 orig_is_due now x (Some o) is none = cc none
 
 -- work has a next moment, if its origination is there
-work_is_due : (s : Switch) (work : JobWork) → ((number : ℕ) → tried_by work ≡ Some number → HasNumber (numbers_in s.origs) number) → work_due s work ≢ None
+work_is_due : (s : Switch) (work : JobWork) → ((number : ℕ) → tried_by work ≡ Some number → HasNumber (numbers_in s.origs) number) →
+    work_due s work ≢ None
 work_is_due s (Sleep until) there none = cc none
 work_is_due s (Originate orig winner) there none =
     let had = there orig refl in
@@ -139,11 +133,13 @@ work_is_due s (Originate orig winner) there none =
     orig_is_due s.moment row.1.held (orig_of s orig) (row_is s.origs orig row.0 row.1 row.2) none
 
 -- each job is the one of its number
-pub job_is_known : (s : Switch) (q : ℕ) (job : Numbered Job) → Sound (books_of s) → held_in s.jobs q ≡ Some job → job_of s job.number ≡ Some job.held
+pub job_is_known : (s : Switch) (q : ℕ) (job : Numbered Job) → Sound (books_of s) → held_in s.jobs q ≡ Some job →
+    job_of s job.number ≡ Some job.held
 job_is_known s q job h is =
     let row : HasRow s.jobs job.number = row_of_held s.jobs q job is in
     let place : q ≡ row.0 = sym (h.linked.job_numbers.apart row.0 q row.1 job row.2.there is row.2.numbered) in
-    row_is s.jobs job.number row.0 row.1 row.2 ∙ ap (λ (j : Numbered Job). Some j.held) (one_there s.jobs row.0 q row.1 job row.2.there is place)
+    row_is s.jobs job.number row.0 row.1 row.2
+    ∙ ap (λ (j : Numbered Job). Some j.held) (one_there s.jobs row.0 q row.1 job row.2.there is place)
 
 -- each job has a next moment
 job_is_due : (s : Switch) (q : ℕ) (job : Numbered Job) → Sound (books_of s) → held_in s.jobs q ≡ Some job → job_due job.number s ≢ None
@@ -158,11 +154,12 @@ are_owed s h = record { owed = λ conn since is. owed conn since is; parted = λ
     owed conn since is = by (conn_of s conn) refl
       where
         by : (found : Option Conn) → conn_of s conn ≡ found → HasOneJob s conn
-        by None at = absurd (nothing_there since (sym (ap (λ (found : Option Conn). option_and_then owed_of found) at) ∙ is))
+        by None at = absurd (none-some since (sym (ap (λ (found : Option Conn). option_and_then owed_of found) at) ∙ is))
         by (Some c) at =
             let row = row_found s.conns conn c at in
             let since_is : c.owed ≡ Some since = sym (ap (λ (found : Option Conn). option_and_then owed_of found) at) ∙ is in
-            let had : HasJob s.jobs row.1.number = h.linked.owes.owed row.0 row.1 since row.2.there (ap (λ (y : Conn). y.owed) row.3 ∙ since_is) in
+            let had : HasJob s.jobs row.1.number =
+            h.linked.owes.owed row.0 row.1 since row.2.there (ap (λ (y : Conn). y.owed) row.3 ∙ since_is) in
             let for : had.1.held.conn ≡ conn = had.3 ∙ row.2.numbered in (
               had.0,
               had.1,
@@ -175,24 +172,13 @@ are_owed s h = record { owed = λ conn since is. owed conn since is; parted = λ
               },
             )
 
-pub run_is_owed : (config : Configuration) (entries : List Entry) → config.settings.journal_limit ≤ 1073741824 → IsRunFrom (empty config) entries → AreOwed (run_from (empty config) entries)
+pub run_is_owed : (config : Configuration) (entries : List Entry) → config.settings.journal_limit ≤ 1073741824 →
+    IsRunFrom (empty config) entries → AreOwed (run_from (empty config) entries)
 run_is_owed config entries small run =
     let h : Holds (books_of (run_from (empty config) entries)) = holds_run entries (empty config) run (holds_empty config small) in
     are_owed (run_from (empty config) entries) h.sound
 
 -- ---- who has something to do
-
--- the lesser of two numbers is there where one of them is
-lesser_none : (a b : Option ℕ) → lesser a b ≡ None → (a ≡ None) × (b ≡ None)
-lesser_none None b is = (refl, is)
-lesser_none (Some a) None is = absurd (something_there a is)
-lesser_none (Some a) (Some b) is = absurd (something_there (min a b) is)
-
--- where things have no least number, none of them has one
-least_none : {T : Type 0} → (number : Option T → Option ℕ) (things : List (Option T)) (place : ℕ) (x : T) → least_of number things ≡ None → held_in things place ≡ Some x → number (Some x) ≡ None
-least_none number [] place x is there = absurd (nothing_there x there)
-least_none {T} number (thing ∷ things) zero x is there = subst (λ (held : Option T). number held ≡ None) there (lesser_none (number thing) (least_of number things) is).0
-least_none number (thing ∷ things) (suc place) x is there = least_none number things place x (lesser_none (number thing) (least_of number things) is).1 there
 
 -- what is due is due now or later
 due_some : (due : Option Due) (number : ℕ) → (if is_now due then Some number else None) ≡ None → later_of due ≡ None → due ≡ None
@@ -201,17 +187,21 @@ due_some (Some Now) number now later = absurd (something_there number now)
 due_some (Some (At moment)) number now later = absurd (something_there moment later)
 
 -- nobody has something to do only where no job has
-never_among : (s : Switch) (slot job moment : Option ℕ) → actor_or actor.Slot slot (actor_or actor.Job job (later_or_never moment)) ≡ actor.Never → (job ≡ None) × (moment ≡ None)
+never_among : (s : Switch) (slot job moment : Option ℕ) →
+    actor_or actor.Slot slot (actor_or actor.Job job (later_or_never moment)) ≡ actor.Never → (job ≡ None) × (moment ≡ None)
 never_among s None None None is = (refl, refl)
 never_among s None None (Some moment) is = absurd (cc is)
 never_among s None (Some job) moment is = absurd (cc is)
 never_among s (Some slot) job moment is = absurd (cc is)
 
-never_due : (s : Switch) (q : ℕ) (row : Numbered Job) → held_in s.jobs q ≡ Some row → due_among_all s ≡ actor.Never → work_due s row.held.work ≡ None
+never_due : (s : Switch) (q : ℕ) (row : Numbered Job) → held_in s.jobs q ≡ Some row → due_among_all s ≡ actor.Never →
+    work_due s row.held.work ≡ None
 never_due s q row there is =
     let none = never_among s (due_slot s) (due_job s) (lesser (first_chan_moment s) (first_job_moment s)) is in
-    let no_moment = lesser_none (first_chan_moment s) (first_job_moment s) none.1 in
-    due_some (work_due s row.held.work) row.number (least_none (due_number s) s.jobs q row none.0 there) (least_none (row_moment s) s.jobs q row no_moment.1 there)
+    let no_moment = lesser_never (first_chan_moment s) (first_job_moment s) none.1 in
+    due_some (work_due s row.held.work) row.number
+    (ap (due_number s) (sym there) ∙ least_never (due_number s) s.jobs refl none.0 q)
+    (ap (row_moment s) (sym there) ∙ least_never (row_moment s) s.jobs refl no_moment.1 q)
 
 -- at another moment the same work is due
 due_at_moment : (s : Switch) (now : ℕ) (work : JobWork) → work_due (at_moment now s) work ≡ None → work_due s work ≡ None
@@ -223,14 +213,22 @@ due_at_moment s now (Originate orig winner) is = by (orig_of s orig) is
     by (Some o) e = absurd (cc e)
 
 -- a job that has a next moment is work that is due
-job_at_work : (s : Switch) (number : ℕ) → job_due number s ≢ None → (q : ℕ) × (row : Numbered Job) × (held_in s.jobs q ≡ Some row) × (work_due s row.held.work ≢ None)
+job_at_work : (s : Switch) (number : ℕ) → job_due number s ≢ None →
+    (q : ℕ) × (row : Numbered Job) × (held_in s.jobs q ≡ Some row) × (work_due s row.held.work ≢ None)
 job_at_work s number is_due = by (job_of s number) refl
   where
-    by : (found : Option Job) → job_of s number ≡ found → (q : ℕ) × (row : Numbered Job) × (held_in s.jobs q ≡ Some row) × (work_due s row.held.work ≢ None)
+    by : (found : Option Job) → job_of s number ≡ found →
+        (q : ℕ) × (row : Numbered Job) × (held_in s.jobs q ≡ Some row) × (work_due s row.held.work ≢ None)
     by None is = absurd (is_due (ap (λ (held : Option Job). option_and_then (λ (j : Job). work_due s j.work) held) is))
     by (Some job) is =
-        let row = row_found s.jobs number job is in
-        (row.0, row.1, row.2.there, λ none. is_due (ap (λ (held : Option Job). option_and_then (λ (j : Job). work_due s j.work) held) is ∙ (sym (ap (λ (j : Job). work_due s j.work) row.3) ∙ none)))
+        let row = row_found s.jobs number job is in (
+          row.0,
+          row.1,
+          row.2.there,
+          λ none. is_due
+              (ap (λ (held : Option Job). option_and_then (λ (j : Job). work_due s j.work) held) is
+              ∙ (sym (ap (λ (j : Job). work_due s j.work) row.3) ∙ none)),
+        )
 
 -- while a reply is owed somebody has something to do
 pub goes_on : (s : Switch) (conn now : ℕ) → AreOwed s → owes s conn ≡ true → next_due now s ≢ actor.Never
@@ -244,6 +242,8 @@ goes_on s conn now h owed never = by (owed_to s conn) refl owed
         let works = job_at_work s job.1.number job.2.due in
         works.3 (due_at_moment s now works.1.held.work (never_due (at_moment now s) works.0 works.1 works.2 never))
 
-pub run_goes_on : (config : Configuration) (entries : List Entry) → config.settings.journal_limit ≤ 1073741824 → IsRunFrom (empty config) entries → (conn now : ℕ) →
+pub run_goes_on : (config : Configuration) (entries : List Entry) → config.settings.journal_limit ≤ 1073741824 →
+    IsRunFrom (empty config) entries → (conn now : ℕ) →
     owes (run_from (empty config) entries) conn ≡ true → next_due now (run_from (empty config) entries) ≢ actor.Never
-run_goes_on config entries small run conn now owed = goes_on (run_from (empty config) entries) conn now (run_is_owed config entries small run) owed
+run_goes_on config entries small run conn now owed =
+    goes_on (run_from (empty config) entries) conn now (run_is_owed config entries small run) owed

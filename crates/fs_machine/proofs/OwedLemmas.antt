@@ -1,74 +1,17 @@
 -- How the facts on connections, on jobs and on originations go through single changes of their tables.
-use Rattle.std.proofs.Common.{◌≡◌, ◌≢◌, ℕ, ◌+◌, ◌<◌, ◌≤◌, List, [], ◌∷◌, length, Option, None, Some, refl, sym, ap, subst, ◌∙◌, inl, inr, arith}
+use Rattle.std.proofs.Common.{◌≡◌, ◌≢◌, ℕ, ◌+◌, ◌<◌, ◌≤◌, List, ◌∷◌, length, Option, None, Some, refl, sym, ap, subst, ◌∙◌, inl, inr, arith, []}
 use Rattle.std.proofs.lemmas.List.{length-set}
 use Rattle.std.proofs.lemmas.List.Sums.{sum_by-cons, sum_by-set}
+use Rattle.std.proofs.lemmas.Option.{none-some, same_Some}
 use Rattle.fs_places.specs.declared.numbered.Numbered.{Numbered}
 use Rattle.fs_places.specs.Places.{held_in, with_held}
+use Rattle.fs_places.proofs.HeldLemmas.{held_here, held_within}
+use Rattle.fs_places.proofs.TableLemmas.{IsWrittenOrKept, written_or_kept, kept_without, still_there, not_free, one_there, one_if, taken_in, taken_more, taken_less}
+use Rattle.fs_places.proofs.NumberLemmas.{Numbers, numbers_changed, numbers_gone, numbers_come, numbers_more}
 use Rattle.fs_state.specs.declared.conn.Conn.{Conn}
 use Rattle.fs_state.specs.declared.job.Job.{Job}
 use Rattle.fs_machine.specs.Owed.{Parts}
-use Rattle.fs_machine.proofs.HeldLemmas.{held_here, held_within}
-use Rattle.fs_machine.proofs.TableLemmas.{nothing_there, same_there, IsWrittenOrKept, written_or_kept, kept_without, still_there, not_free, one_there, one_if, taken_in}
-use Rattle.fs_machine.proofs.OwedBooks.{Conns, Jobs, Numbers, PartEach, HasJob, Owes, Linked, tried_by, tried_in, tries, trying_in, HasNumber, Tries}
-
--- ---- numbers
-
--- a thing is changed, and keeps its number
-numbers_changed : {T : Type 0} → (rows : List (Option (Numbered T))) (drawn p : ℕ) (old new : Numbered T) → held_in rows p ≡ Some old → new.number ≡ old.number →
-    Numbers rows drawn → Numbers (with_held rows p (Some new)) drawn
-numbers_changed {T} rows drawn p old new there same h = record {
-  apart = λ q r x z ex ez e. h.apart q r (was q x ex).0 (was r z ez).0 (was q x ex).1 (was r z ez).1 ((was q x ex).2 ∙ (e ∙ sym (was r z ez).2));
-  within = λ q x e. subst (λ (n : ℕ). n ≤ drawn) (was q x e).2 (h.within q (was q x e).0 (was q x e).1);
-}
-  where
-    by : (q : ℕ) (x : Numbered T) → IsWrittenOrKept rows p (Some new) q x → (y : Numbered T) × (held_in rows q ≡ Some y) × (y.number ≡ x.number)
-    by q x (inl here) = (old, ap (λ (k : ℕ). held_in rows k) here.0 ∙ there, sym same ∙ ap (λ (y : Numbered T). y.number) (same_there new x here.1))
-    by q x (inr kept) = (x, kept.1, refl)
-
-    -- what stands there had its number before
-    was : (q : ℕ) (x : Numbered T) → held_in (with_held rows p (Some new)) q ≡ Some x → (y : Numbered T) × (held_in rows q ≡ Some y) × (y.number ≡ x.number)
-    was q x e = by q x (written_or_kept rows p (Some new) q x e)
-
--- a thing is gone
-numbers_gone : {T : Type 0} → (rows : List (Option (Numbered T))) (drawn p : ℕ) → Numbers rows drawn → Numbers (with_held rows p None) drawn
-numbers_gone rows drawn p h = record {
-  apart = λ q r x z ex ez e. h.apart q r x z (kept_without rows p q x ex).1 (kept_without rows p r z ez).1 e;
-  within = λ q x e. h.within q x (kept_without rows p q x e).1;
-}
-
--- a thing comes, of the next number
-numbers_come : {T : Type 0} → (rows : List (Option (Numbered T))) (drawn p : ℕ) (new : Numbered T) → new.number ≡ drawn + 1 → Numbers rows drawn → Numbers (with_held rows p (Some new)) (drawn + 1)
-numbers_come {T} rows drawn p new fresh h = record {
-  apart = λ q r x z ex ez e. apart q r x z (written_or_kept rows p (Some new) q x ex) (written_or_kept rows p (Some new) r z ez) e;
-  within = λ q x e. within q x (written_or_kept rows p (Some new) q x e);
-}
-  where
-    number_of : (x : Numbered T) → Some new ≡ Some x → x.number ≡ drawn + 1
-    number_of x e = sym (ap (λ (y : Numbered T). y.number) (same_there new x e)) ∙ fresh
-
-    apart : (q r : ℕ) (x z : Numbered T) → IsWrittenOrKept rows p (Some new) q x →
-        IsWrittenOrKept rows p (Some new) r z → x.number ≡ z.number → q ≡ r
-    apart q r x z (inl one) (inl two) e = one.0 ∙ sym two.0
-    apart q r x z (inl one) (inr two) e =
-        let first : x.number ≡ drawn + 1 = number_of x one.1 in
-        let second : z.number ≤ drawn = h.within r z two.1 in
-        absurd (omega (arith, first, second, e))
-    apart q r x z (inr one) (inl two) e =
-        let first : x.number ≤ drawn = h.within q x one.1 in
-        let second : z.number ≡ drawn + 1 = number_of z two.1 in
-        absurd (omega (arith, first, second, e))
-    apart q r x z (inr one) (inr two) e = h.apart q r x z one.1 two.1 e
-
-    within : (q : ℕ) (x : Numbered T) → IsWrittenOrKept rows p (Some new) q x → x.number ≤ drawn + 1
-    within q x (inl here) = let is : x.number ≡ drawn + 1 = number_of x here.1 in omega (arith, is)
-    within q x (inr kept) = let is : x.number ≤ drawn = h.within q x kept.1 in omega (arith, is)
-
--- a number was drawn for which there was no place
-numbers_more : {T : Type 0} → (rows : List (Option (Numbered T))) (drawn : ℕ) → Numbers rows drawn → Numbers rows (drawn + 1)
-numbers_more rows drawn h = record {
-  apart = h.apart;
-  within = λ q x e. let is : x.number ≤ drawn = h.within q x e in omega (arith, is);
-}
+use Rattle.fs_machine.proofs.OwedBooks.{Conns, Jobs, PartEach, HasJob, Owes, Linked, tried_by, tried_in, tries, trying_in, HasNumber, Tries}
 
 -- ---- phases
 
@@ -76,7 +19,7 @@ parts_put : (conns : Conns) (p : ℕ) (new : Numbered Conn) → Parts new.held �
 parts_put conns p new parts each q x e = by (written_or_kept conns p (Some new) q x e)
   where
     by : IsWrittenOrKept conns p (Some new) q x → Parts x.held
-    by (inl here) = subst (λ (y : Numbered Conn). Parts y.held) (same_there new x here.1) parts
+    by (inl here) = subst (λ (y : Numbered Conn). Parts y.held) (same_Some new x here.1) parts
     by (inr kept) = each q x kept.1
 
 parts_gone : (conns : Conns) (p : ℕ) → PartEach conns → PartEach (with_held conns p None)
@@ -85,7 +28,8 @@ parts_gone conns p each q x e = each q x (kept_without conns p q x e).1
 -- ---- replies that are owed
 
 -- a connection is changed that is owed what it was owed before
-owes_changed : (conns : Conns) (jobs : Jobs) (drawn p : ℕ) (old new : Numbered Conn) → held_in conns p ≡ Some old → new.number ≡ old.number → new.held.owed ≡ old.held.owed →
+owes_changed : (conns : Conns) (jobs : Jobs) (drawn p : ℕ) (old new : Numbered Conn) → held_in conns p ≡ Some old →
+    new.number ≡ old.number → new.held.owed ≡ old.held.owed →
     Owes conns jobs drawn → Owes (with_held conns p (Some new)) jobs drawn
 owes_changed conns jobs drawn p old new there same same_owed h = record {
   owed = λ q x since e o. subst (λ (n : ℕ). HasJob jobs n) (was q x e).2 (h.owed q (was q x e).0 since (was q x e).1 ((was q x e).3 ∙ o));
@@ -97,8 +41,13 @@ owes_changed conns jobs drawn p old new there same same_owed h = record {
     by : (q : ℕ) (x : Numbered Conn) → IsWrittenOrKept conns p (Some new) q x →
         (y : Numbered Conn) × (held_in conns q ≡ Some y) × (y.number ≡ x.number) × (y.held.owed ≡ x.held.owed)
     by q x (inl here) =
-        let is : new ≡ x = same_there new x here.1 in
-        (old, ap (λ (k : ℕ). held_in conns k) here.0 ∙ there, sym same ∙ ap (λ (y : Numbered Conn). y.number) is, sym same_owed ∙ ap (λ (y : Numbered Conn). y.held.owed) is)
+        let is : new ≡ x = same_Some new x here.1 in (
+          old,
+          ap (λ (k : ℕ). held_in conns k) here.0 ∙ there,
+          sym same ∙ ap (λ (y : Numbered Conn). y.number) is,
+          sym same_owed
+              ∙ ap (λ (y : Numbered Conn). y.held.owed) is,
+        )
     by q x (inr kept) = (x, kept.1, refl, refl)
 
     was : (q : ℕ) (x : Numbered Conn) → held_in (with_held conns p (Some new)) q ≡ Some x →
@@ -123,14 +72,16 @@ owes_come conns jobs drawn p new fresh none h = record {
   within = λ q job e. let is : job.held.conn ≤ drawn = h.within q job e in omega (arith, is);
 }
   where
-    owed : (q : ℕ) (x : Numbered Conn) (since : ℕ) → IsWrittenOrKept conns p (Some new) q x → x.held.owed ≡ Some since → HasJob jobs x.number
-    owed q x since (inl here) o = absurd (nothing_there since (sym none ∙ (ap (λ (y : Numbered Conn). y.held.owed) (same_there new x here.1) ∙ o)))
+    owed : (q : ℕ) (x : Numbered Conn) (since : ℕ) → IsWrittenOrKept conns p (Some new) q x → x.held.owed ≡ Some since →
+        HasJob jobs x.number
+    owed q x since (inl here) o =
+        absurd (none-some since (sym none ∙ (ap (λ (y : Numbered Conn). y.held.owed) (same_Some new x here.1) ∙ o)))
     owed q x since (inr kept) o = h.owed q x since kept.1 o
 
     owes : (r : ℕ) (job : Numbered Job) (q : ℕ) (x : Numbered Conn) → held_in jobs r ≡ Some job → IsWrittenOrKept conns p (Some new) q x →
         x.number ≡ job.held.conn → x.held.owed ≢ None
     owes r job q x ej (inl here) is =
-        let number : new.number ≡ x.number = ap (λ (y : Numbered Conn). y.number) (same_there new x here.1) in
+        let number : new.number ≡ x.number = ap (λ (y : Numbered Conn). y.number) (same_Some new x here.1) in
         let drawn_before : job.held.conn ≤ drawn = h.within r job ej in
         absurd (omega (arith, number, drawn_before, fresh, is))
     owes r job q x ej (inr kept) is = h.owes r job q x ej kept.1 is
@@ -156,16 +107,17 @@ owes_begun conns jobs drawn p q old new job there none same now within free for 
 }
   where
     conn_of : (j : Numbered Job) → Some job ≡ Some j → j.held.conn ≡ old.number
-    conn_of j e = sym (ap (λ (y : Numbered Job). y.held.conn) (same_there job j e)) ∙ for
+    conn_of j e = sym (ap (λ (y : Numbered Job). y.held.conn) (same_Some job j e)) ∙ for
 
     number_of : (x : Numbered Conn) → Some new ≡ Some x → x.number ≡ old.number
-    number_of x e = sym (ap (λ (y : Numbered Conn). y.number) (same_there new x e)) ∙ same
+    number_of x e = sym (ap (λ (y : Numbered Conn). y.number) (same_Some new x e)) ∙ same
 
     -- no job was for it
     no_job : (r : ℕ) (j : Numbered Job) → held_in jobs r ≡ Some j → j.held.conn ≡ old.number → ⊥
     no_job r j e is = h.owes r j p old e there (sym is) none
 
-    owed : (k : ℕ) (x : Numbered Conn) (since : ℕ) → IsWrittenOrKept conns p (Some new) k x → x.held.owed ≡ Some since → HasJob (with_held jobs q (Some job)) x.number
+    owed : (k : ℕ) (x : Numbered Conn) (since : ℕ) → IsWrittenOrKept conns p (Some new) k x → x.held.owed ≡ Some since →
+        HasJob (with_held jobs q (Some job)) x.number
     owed k x since (inl here) o = (q, job, held_here jobs q (Some job) within, for ∙ sym (number_of x here.1))
     owed k x since (inr kept) o =
         let had : HasJob jobs x.number = h.owed k x since kept.1 o in
@@ -173,7 +125,7 @@ owes_begun conns jobs drawn p q old new job there none same now within free for 
 
     owes : (r : ℕ) (j : Numbered Job) (k : ℕ) (x : Numbered Conn) → IsWrittenOrKept jobs q (Some job) r j →
         IsWrittenOrKept conns p (Some new) k x → x.number ≡ j.held.conn → x.held.owed ≢ None
-    owes r j k x of_job (inl here) is = subst (λ (y : Numbered Conn). y.held.owed ≢ None) (same_there new x here.1) now
+    owes r j k x of_job (inl here) is = subst (λ (y : Numbered Conn). y.held.owed ≢ None) (same_Some new x here.1) now
     owes r j k x (inl begun) (inr kept) is = absurd (kept.0 (n.apart k p x old kept.1 there (is ∙ conn_of j begun.1)))
     owes r j k x (inr before) (inr kept) is = h.owes r j k x before.1 kept.1 is
 
@@ -185,7 +137,8 @@ owes_begun conns jobs drawn p q old new job there none same now within free for 
     alone r t x z (inr one) (inr two) is = h.alone r t x z one.1 two.1 is
 
     drawn_for : (r : ℕ) (j : Numbered Job) → IsWrittenOrKept jobs q (Some job) r j → j.held.conn ≤ drawn
-    drawn_for r j (inl begun) = let is : j.held.conn ≡ old.number = conn_of j begun.1 in let most : old.number ≤ drawn = n.within p old there in omega (arith, is, most)
+    drawn_for r j (inl begun) = let is : j.held.conn ≡ old.number = conn_of j begun.1 in
+        let most : old.number ≤ drawn = n.within p old there in omega (arith, is, most)
     drawn_for r j (inr before) = h.within r j before.1
 
 -- a job ends, and its connection is owed nothing any more
@@ -200,14 +153,17 @@ owes_ended conns jobs drawn p q old new job stands there for same none n h = rec
 }
   where
     number_of : (x : Numbered Conn) → Some new ≡ Some x → x.number ≡ job.held.conn
-    number_of x e = sym (ap (λ (y : Numbered Conn). y.number) (same_there new x e)) ∙ (same ∙ for)
+    number_of x e = sym (ap (λ (y : Numbered Conn). y.number) (same_Some new x e)) ∙ (same ∙ for)
 
-    owed : (k : ℕ) (x : Numbered Conn) (since : ℕ) → IsWrittenOrKept conns p (Some new) k x → x.held.owed ≡ Some since → HasJob (with_held jobs q None) x.number
-    owed k x since (inl here) o = absurd (nothing_there since (sym none ∙ (ap (λ (y : Numbered Conn). y.held.owed) (same_there new x here.1) ∙ o)))
+    owed : (k : ℕ) (x : Numbered Conn) (since : ℕ) → IsWrittenOrKept conns p (Some new) k x → x.held.owed ≡ Some since →
+        HasJob (with_held jobs q None) x.number
+    owed k x since (inl here) o =
+        absurd (none-some since (sym none ∙ (ap (λ (y : Numbered Conn). y.held.owed) (same_Some new x here.1) ∙ o)))
     owed k x since (inr kept) o =
         let had : HasJob jobs x.number = h.owed k x since kept.1 o in
         let is : had.0 ≡ q → job ≡ had.1 = λ at. one_there jobs q had.0 job had.1 stands had.2 at in
-        let number : had.0 ≡ q → x.number ≡ old.number = λ at. sym had.3 ∙ (sym (ap (λ (j : Numbered Job). j.held.conn) (is at)) ∙ sym for) in
+        let number : had.0 ≡ q → x.number ≡ old.number = λ at. sym had.3
+        ∙ (sym (ap (λ (j : Numbered Job). j.held.conn) (is at)) ∙ sym for) in
         let other : had.0 ≢ q = λ at. kept.0 (n.apart k p x old kept.1 there (number at)) in
         (had.0, had.1, still_there jobs q None had.0 had.1 other had.2, had.3)
 
@@ -227,7 +183,8 @@ owes_dropped conns jobs drawn q job stands gone h = record {
   within = λ r j e. h.within r j (kept_without jobs q r j e).1;
 }
   where
-    owed : (k : ℕ) (x : Numbered Conn) (since : ℕ) → held_in conns k ≡ Some x → x.held.owed ≡ Some since → HasJob (with_held jobs q None) x.number
+    owed : (k : ℕ) (x : Numbered Conn) (since : ℕ) → held_in conns k ≡ Some x → x.held.owed ≡ Some since →
+        HasJob (with_held jobs q None) x.number
     owed k x since e o =
         let had : HasJob jobs x.number = h.owed k x since e o in
         let is : had.0 ≡ q → job ≡ had.1 = λ at. one_there jobs q had.0 job had.1 stands had.2 at in
@@ -237,8 +194,10 @@ owes_dropped conns jobs drawn q job stands gone h = record {
 -- ---- connections and jobs
 
 -- a connection is changed that is owed what it was owed before
-pub linked_changed : (conns : Conns) (jobs : Jobs) (drawn jobs_drawn p : ℕ) (old new : Numbered Conn) → held_in conns p ≡ Some old → new.number ≡ old.number →
-    new.held.owed ≡ old.held.owed → Parts new.held → Linked conns jobs drawn jobs_drawn → Linked (with_held conns p (Some new)) jobs drawn jobs_drawn
+pub linked_changed : (conns : Conns) (jobs : Jobs) (drawn jobs_drawn p : ℕ) (old new : Numbered Conn) → held_in conns p ≡ Some old →
+    new.number ≡ old.number →
+    new.held.owed ≡ old.held.owed → Parts new.held → Linked conns jobs drawn jobs_drawn →
+    Linked (with_held conns p (Some new)) jobs drawn jobs_drawn
 linked_changed conns jobs drawn jobs_drawn p old new there same owed parts h = record {
   numbers = numbers_changed conns drawn p old new there same h.numbers;
   parts = parts_put conns p new parts h.parts;
@@ -247,7 +206,8 @@ linked_changed conns jobs drawn jobs_drawn p old new there same owed parts h = r
 }
 
 -- a connection is gone
-pub linked_gone : (conns : Conns) (jobs : Jobs) (drawn jobs_drawn p : ℕ) → Linked conns jobs drawn jobs_drawn → Linked (with_held conns p None) jobs drawn jobs_drawn
+pub linked_gone : (conns : Conns) (jobs : Jobs) (drawn jobs_drawn p : ℕ) → Linked conns jobs drawn jobs_drawn →
+    Linked (with_held conns p None) jobs drawn jobs_drawn
 linked_gone conns jobs drawn jobs_drawn p h = record {
   numbers = numbers_gone conns drawn p h.numbers;
   parts = parts_gone conns p h.parts;
@@ -256,7 +216,8 @@ linked_gone conns jobs drawn jobs_drawn p h = record {
 }
 
 -- a connection comes that is owed nothing
-pub linked_come : (conns : Conns) (jobs : Jobs) (drawn jobs_drawn p : ℕ) (new : Numbered Conn) → new.number ≡ drawn + 1 → new.held.owed ≡ None → Parts new.held →
+pub linked_come : (conns : Conns) (jobs : Jobs) (drawn jobs_drawn p : ℕ) (new : Numbered Conn) → new.number ≡ drawn + 1 →
+    new.held.owed ≡ None → Parts new.held →
     Linked conns jobs drawn jobs_drawn → Linked (with_held conns p (Some new)) jobs (drawn + 1) jobs_drawn
 linked_come conns jobs drawn jobs_drawn p new fresh none parts h = record {
   numbers = numbers_come conns drawn p new fresh h.numbers;
@@ -266,7 +227,8 @@ linked_come conns jobs drawn jobs_drawn p new fresh none parts h = record {
 }
 
 -- there was no place for it
-pub linked_more : (conns : Conns) (jobs : Jobs) (drawn jobs_drawn : ℕ) → Linked conns jobs drawn jobs_drawn → Linked conns jobs (drawn + 1) jobs_drawn
+pub linked_more : (conns : Conns) (jobs : Jobs) (drawn jobs_drawn : ℕ) → Linked conns jobs drawn jobs_drawn →
+    Linked conns jobs (drawn + 1) jobs_drawn
 linked_more conns jobs drawn jobs_drawn h = record {
   numbers = numbers_more conns drawn h.numbers;
   parts = h.parts;
@@ -288,7 +250,8 @@ linked_begun conns jobs drawn jobs_drawn p q old new job there none same now par
 
 -- a job ends, and its connection is owed nothing any more
 pub linked_ended : (conns : Conns) (jobs : Jobs) (drawn jobs_drawn p q : ℕ) (old new : Numbered Conn) (job : Numbered Job) →
-    held_in jobs q ≡ Some job → held_in conns p ≡ Some old → old.number ≡ job.held.conn → new.number ≡ old.number → new.held.owed ≡ None → Parts new.held →
+    held_in jobs q ≡ Some job → held_in conns p ≡ Some old → old.number ≡ job.held.conn → new.number ≡ old.number → new.held.owed ≡ None →
+    Parts new.held →
     Linked conns jobs drawn jobs_drawn → Linked (with_held conns p (Some new)) (with_held jobs q None) drawn jobs_drawn
 linked_ended conns jobs drawn jobs_drawn p q old new job stands there for same none parts h = record {
   numbers = numbers_changed conns drawn p old new there same h.numbers;
@@ -311,37 +274,31 @@ linked_dropped conns jobs drawn jobs_drawn q job stands gone h = record {
 -- ---- originations that are tried
 
 -- how many are tried where a job begins, and where it ends
-trying_begun : (jobs : Jobs) (q : ℕ) (job : Numbered Job) → q < length jobs → held_in jobs q ≡ None → trying_in (with_held jobs q (Some job)) ≡ trying_in jobs + tries (Some job)
+trying_begun : (jobs : Jobs) (q : ℕ) (job : Numbered Job) → q < length jobs → held_in jobs q ≡ None →
+    trying_in (with_held jobs q (Some job)) ≡ trying_in jobs + tries (Some job)
 trying_begun jobs q job within free =
-    let sums : trying_in (with_held jobs q (Some job)) + tries (held_in jobs q) ≡ trying_in jobs + tries (Some job) = sum_by-set tries jobs q (Some job) None within in
+    let sums : trying_in (with_held jobs q (Some job)) + tries (held_in jobs q) ≡ trying_in jobs + tries (Some job) =
+    sum_by-set tries jobs q (Some job) None within in
     let none : tries (held_in jobs q) ≡ 0 = ap tries free in
     omega (arith, sums, none)
 
-trying_ended : (jobs : Jobs) (q : ℕ) (job : Numbered Job) → held_in jobs q ≡ Some job → trying_in (with_held jobs q None) + tries (Some job) ≡ trying_in jobs
+trying_ended : (jobs : Jobs) (q : ℕ) (job : Numbered Job) → held_in jobs q ≡ Some job →
+    trying_in (with_held jobs q None) + tries (Some job) ≡ trying_in jobs
 trying_ended jobs q job stands =
-    let sums : trying_in (with_held jobs q None) + tries (held_in jobs q) ≡ trying_in jobs + tries None = sum_by-set tries jobs q None None (held_within jobs q job stands) in
+    let sums : trying_in (with_held jobs q None) + tries (held_in jobs q) ≡ trying_in jobs + tries None =
+    sum_by-set tries jobs q None None (held_within jobs q job stands) in
     let one : tries (held_in jobs q) ≡ tries (Some job) = ap tries stands in
     let zero_more : tries None ≡ 0 = refl in
     omega (arith, sums, one, zero_more)
 
-taken_more : (origs : List (Option ℕ)) (p number : ℕ) → p < length origs → held_in origs p ≡ None → taken_in (with_held origs p (Some number)) ≡ taken_in origs + 1
-taken_more origs p number within free =
-    let sums : taken_in (with_held origs p (Some number)) + one_if (held_in origs p) ≡ taken_in origs + 1 = sum_by-set one_if origs p (Some number) None within in
-    let none : one_if (held_in origs p) ≡ 0 = ap one_if free in
-    omega (arith, sums, none)
-
-taken_less : (origs : List (Option ℕ)) (p number : ℕ) → held_in origs p ≡ Some number → taken_in (with_held origs p None) + 1 ≡ taken_in origs
-taken_less origs p number stands =
-    let sums : taken_in (with_held origs p None) + one_if (held_in origs p) ≡ taken_in origs + 0 = sum_by-set one_if origs p None None (held_within origs p number stands) in
-    let one : one_if (held_in origs p) ≡ 1 = ap one_if stands in
-    omega (arith, sums, one)
-
 -- a job begins that tries nothing
-pub tries_slept : (jobs : Jobs) (origs : List (Option ℕ)) (drawn q : ℕ) (job : Numbered Job) → q < length jobs → held_in jobs q ≡ None → tried_by job.held.work ≡ None →
+pub tries_slept : (jobs : Jobs) (origs : List (Option ℕ)) (drawn q : ℕ) (job : Numbered Job) → q < length jobs → held_in jobs q ≡ None →
+    tried_by job.held.work ≡ None →
     Tries jobs origs drawn → Tries (with_held jobs q (Some job)) origs drawn
 tries_slept jobs origs drawn q job within free none h = record {
   there = λ r j number e t. there r j number (written_or_kept jobs q (Some job) r j e) t;
-  alone = λ r t x z number ex ez tx tz. alone r t x z number (written_or_kept jobs q (Some job) r x ex) (written_or_kept jobs q (Some job) t z ez) tx tz;
+  alone = λ r t x z number ex ez tx tz. alone r t x z number (written_or_kept jobs q (Some job) r x ex)
+      (written_or_kept jobs q (Some job) t z ez) tx tz;
   within = h.within;
   fewer = fewer;
   job_places = length-set jobs q (Some job) ∙ h.job_places;
@@ -349,9 +306,10 @@ tries_slept jobs origs drawn q job within free none h = record {
 }
   where
     no_number : (j : Numbered Job) (number : ℕ) → Some job ≡ Some j → tried_by j.held.work ≡ Some number → ⊥
-    no_number j number e t = nothing_there number (sym none ∙ (ap (λ (y : Numbered Job). tried_by y.held.work) (same_there job j e) ∙ t))
+    no_number j number e t = none-some number (sym none ∙ (ap (λ (y : Numbered Job). tried_by y.held.work) (same_Some job j e) ∙ t))
 
-    there : (r : ℕ) (j : Numbered Job) (number : ℕ) → IsWrittenOrKept jobs q (Some job) r j → tried_by j.held.work ≡ Some number → HasNumber origs number
+    there : (r : ℕ) (j : Numbered Job) (number : ℕ) → IsWrittenOrKept jobs q (Some job) r j → tried_by j.held.work ≡ Some number →
+        HasNumber origs number
     there r j number (inl begun) t = absurd (no_number j number begun.1 t)
     there r j number (inr before) t = h.there r j number before.1 t
 
@@ -373,7 +331,8 @@ pub tries_begun : (jobs : Jobs) (origs : List (Option ℕ)) (drawn q p : ℕ) (j
     Tries jobs origs drawn → Tries (with_held jobs q (Some job)) (with_held origs p (Some (drawn + 1))) (drawn + 1)
 tries_begun jobs origs drawn q p job within free orig_within orig_free new h = record {
   there = λ r j number e t. there r j number (written_or_kept jobs q (Some job) r j e) t;
-  alone = λ r t x z number ex ez tx tz. alone r t x z number (written_or_kept jobs q (Some job) r x ex) (written_or_kept jobs q (Some job) t z ez) tx tz;
+  alone = λ r t x z number ex ez tx tz. alone r t x z number (written_or_kept jobs q (Some job) r x ex)
+      (written_or_kept jobs q (Some job) t z ez) tx tz;
   within = λ k number e. most k number (written_or_kept origs p (Some (drawn + 1)) k number e);
   fewer = fewer;
   job_places = length-set jobs q (Some job) ∙ h.job_places;
@@ -381,7 +340,8 @@ tries_begun jobs origs drawn q p job within free orig_within orig_free new h = r
 }
   where
     number_of : (j : Numbered Job) (number : ℕ) → Some job ≡ Some j → tried_by j.held.work ≡ Some number → number ≡ drawn + 1
-    number_of j number e t = same_there number (drawn + 1) (sym t ∙ (sym (ap (λ (y : Numbered Job). tried_by y.held.work) (same_there job j e)) ∙ new))
+    number_of j number e t =
+        same_Some number (drawn + 1) (sym t ∙ (sym (ap (λ (y : Numbered Job). tried_by y.held.work) (same_Some job j e)) ∙ new))
 
     -- what was tried before was drawn before
     drawn_before : (r : ℕ) (j : Numbered Job) (number : ℕ) → held_in jobs r ≡ Some j → tried_by j.held.work ≡ Some number → number ≤ drawn
@@ -408,19 +368,21 @@ tries_begun jobs origs drawn q p job within free orig_within orig_free new h = r
     alone r t x z number (inr one) (inr two) tx tz = h.alone r t x z number one.1 two.1 tx tz
 
     most : (k number : ℕ) → IsWrittenOrKept origs p (Some (drawn + 1)) k number → number ≤ drawn + 1
-    most k number (inl here) = let is : drawn + 1 ≡ number = same_there (drawn + 1) number here.1 in omega (arith, is)
+    most k number (inl here) = let is : drawn + 1 ≡ number = same_Some (drawn + 1) number here.1 in omega (arith, is)
     most k number (inr kept) = let is : number ≤ drawn = h.within k number kept.1 in omega (arith, is)
 
     fewer : taken_in (with_held origs p (Some (drawn + 1))) ≤ trying_in (with_held jobs q (Some job))
     fewer =
         let more : trying_in (with_held jobs q (Some job)) ≡ trying_in jobs + tries (Some job) = trying_begun jobs q job within free in
         let one : tries (Some job) ≡ 1 = ap one_if new in
-        let taken : taken_in (with_held origs p (Some (drawn + 1))) ≡ taken_in origs + 1 = taken_more origs p (drawn + 1) orig_within orig_free in
+        let taken : taken_in (with_held origs p (Some (drawn + 1))) ≡ taken_in origs + 1 =
+        taken_more origs p (drawn + 1) orig_within orig_free in
         let before : taken_in origs ≤ trying_in jobs = h.fewer in
         omega (arith, more, one, taken, before)
 
 -- a job ends that tried nothing
-pub tries_woken : (jobs : Jobs) (origs : List (Option ℕ)) (drawn q : ℕ) (job : Numbered Job) → held_in jobs q ≡ Some job → tried_by job.held.work ≡ None →
+pub tries_woken : (jobs : Jobs) (origs : List (Option ℕ)) (drawn q : ℕ) (job : Numbered Job) → held_in jobs q ≡ Some job →
+    tried_by job.held.work ≡ None →
     Tries jobs origs drawn → Tries (with_held jobs q None) origs drawn
 tries_woken jobs origs drawn q job stands none h = record {
   there = λ r j number e t. h.there r j number (kept_without jobs q r j e).1 t;
@@ -439,7 +401,8 @@ tries_woken jobs origs drawn q job stands none h = record {
         omega (arith, less, zero_less, before)
 
 -- a job ends with the origination that it tried
-pub tries_ended : (jobs : Jobs) (origs : List (Option ℕ)) (drawn q p number : ℕ) (job : Numbered Job) → held_in jobs q ≡ Some job → tried_by job.held.work ≡ Some number →
+pub tries_ended : (jobs : Jobs) (origs : List (Option ℕ)) (drawn q p number : ℕ) (job : Numbered Job) → held_in jobs q ≡ Some job →
+    tried_by job.held.work ≡ Some number →
     held_in origs p ≡ Some number → Tries jobs origs drawn → Tries (with_held jobs q None) (with_held origs p None) drawn
 tries_ended jobs origs drawn q p number job stands tried orig_stands h = record {
   there = λ r j other e t. there r j other (kept_without jobs q r j e) t;
@@ -450,7 +413,8 @@ tries_ended jobs origs drawn q p number job stands tried orig_stands h = record 
   orig_places = length-set origs p None ∙ h.orig_places;
 }
   where
-    there : (r : ℕ) (j : Numbered Job) (other : ℕ) → (r ≢ q) × (held_in jobs r ≡ Some j) → tried_by j.held.work ≡ Some other → HasNumber (with_held origs p None) other
+    there : (r : ℕ) (j : Numbered Job) (other : ℕ) → (r ≢ q) × (held_in jobs r ≡ Some j) → tried_by j.held.work ≡ Some other →
+        HasNumber (with_held origs p None) other
     there r j other before t =
         let had : HasNumber origs other = h.there r j other before.1 t in
         let is : had.0 ≡ p → number ≡ other = λ at. one_there origs p had.0 number other orig_stands had.1 at in

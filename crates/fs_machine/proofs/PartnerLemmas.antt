@@ -92,7 +92,8 @@ none_of q a slots isnt = by (cases_eq q a)
 pub none_cut : (P : ℕ → Option ℕ) (L : ℕ → Bool) → CutsAll [] P P L L
 none_cut P L = record { here = λ q is. absurd (true≢false (sym is)); partners = λ q isnt. refl; lives = λ q isnt. refl }
 
-pub one_more_cut : (a : ℕ) (slots : List ℕ) (P Q R : ℕ → Option ℕ) (L M N : ℕ → Bool) → Cuts a P Q L M → CutsAll slots Q R M N → CutsAll (a ∷ slots) P R L N
+pub one_more_cut : (a : ℕ) (slots : List ℕ) (P Q R : ℕ → Option ℕ) (L M N : ℕ → Bool) → Cuts a P Q L M → CutsAll slots Q R M N →
+    CutsAll (a ∷ slots) P R L N
 one_more_cut a slots P Q R L M N first later = record {
   here = λ q is. here_by q (one_of q a slots is) (among q slots) refl;
   partners = λ q isnt. later.partners q (none_of q a slots isnt).1 ∙ first.partners q (none_of q a slots isnt).0;
@@ -146,7 +147,8 @@ two_closed a b P forth back c d named is = by (one_of c a (b ∷ []) is)
 -- ---- two slots are joined
 
 -- two that named none, and were named by none, name each other
-pub joined : (a b : ℕ) (P Q : ℕ → Option ℕ) (L M : ℕ → Bool) → P a ≡ None → P b ≡ None → Q a ≡ Some b → Q b ≡ Some a → M a ≡ true → M b ≡ true →
+pub joined : (a b : ℕ) (P Q : ℕ → Option ℕ) (L M : ℕ → Bool) → P a ≡ None → P b ≡ None → Q a ≡ Some b → Q b ≡ Some a → M a ≡ true →
+    M b ≡ true →
     ((q : ℕ) → (q ≡ a → ⊥) → (q ≡ b → ⊥) → Q q ≡ P q) → ((q : ℕ) → (q ≡ a → ⊥) → (q ≡ b → ⊥) → M q ≡ L q) → Agree P L → Agree Q M
 joined a b P Q L M free_a free_b names_a names_b live_a live_b partners lives h = record {
   back = λ c d e. back_by c d (cases_eq c a) (cases_eq c b) e;

@@ -17,7 +17,8 @@ use Rattle.fs_machine.specs.Due.{slot_due, job_due}
 use Rattle.fs_machine.specs.Step.{reads, is_closed, is_unsent, refusal_of, refused_where, refused_act, refused_close, places_for_conns, not_due, busy}
 
 -- no other test refuses so
-not_full : (test : Bool) (other : Refusal) (otherwise : Option Refusal) (cost limit : ℕ) → other ≢ refusal.JournalFull cost limit → otherwise ≢ Some (refusal.JournalFull cost limit) →
+not_full : (test : Bool) (other : Refusal) (otherwise : Option Refusal) (cost limit : ℕ) → other ≢ refusal.JournalFull cost limit →
+    otherwise ≢ Some (refusal.JournalFull cost limit) →
     refused_where test other otherwise ≢ Some (refusal.JournalFull cost limit)
 not_full true other otherwise cost limit not_other not_then is = let same : other ≡ refusal.JournalFull cost limit = cc in not_other same
 not_full false other otherwise cost limit not_other not_then is = not_then is
@@ -48,30 +49,41 @@ nothing : (cost limit : ℕ) → None ≢ Some (refusal.JournalFull cost limit)
 nothing cost limit is = cc
 
 not_closing : (conn : ℕ) (how : Closing) (s : Switch) (cost limit : ℕ) → refused_close conn how s ≢ Some (refusal.JournalFull cost limit)
-not_closing conn EndOfInput s cost limit = not_full (not (reads (phase_at s conn))) refusal.Gone None cost limit (gone cost limit) (nothing cost limit)
+not_closing conn EndOfInput s cost limit =
+    not_full (not (reads (phase_at s conn))) refusal.Gone None cost limit (gone cost limit) (nothing cost limit)
 not_closing conn Sent s cost limit =
     let queued = length (waiting_for s conn) in
     let owed = is_some (owed_to s conn) in
-    not_full (is_closed (phase_at s conn)) refusal.Gone (refused_where (is_unsent s conn) (refusal.Unsent queued owed) None) cost limit (gone cost limit)
+    not_full (is_closed (phase_at s conn)) refusal.Gone (refused_where (is_unsent s conn) (refusal.Unsent queued owed) None) cost limit
+    (gone cost limit)
     (not_full (is_unsent s conn) (refusal.Unsent queued owed) None cost limit (unsent queued owed cost limit) (nothing cost limit))
-not_closing conn Failed s cost limit = not_full (is_closed (phase_at s conn)) refusal.Gone None cost limit (gone cost limit) (nothing cost limit)
+not_closing conn Failed s cost limit =
+    not_full (is_closed (phase_at s conn)) refusal.Gone None cost limit (gone cost limit) (nothing cost limit)
 
 not_acting : (act : Act) (s : Switch) (cost limit : ℕ) → refused_act act s ≢ Some (refusal.JournalFull cost limit)
-not_acting Arrive s cost limit = not_full (is_full_of_conns s) (refusal.TooMany (places_for_conns s)) None cost limit (many (places_for_conns s) cost limit) (nothing cost limit)
-not_acting (Command conn block) s cost limit = not_full (not (reads (phase_at s conn))) refusal.Gone (busy (owed_to s conn)) cost limit (gone cost limit) (not_busy (owed_to s conn) cost limit)
+not_acting Arrive s cost limit =
+    not_full (is_full_of_conns s) (refusal.TooMany (places_for_conns s)) None cost limit (many (places_for_conns s) cost limit)
+    (nothing cost limit)
+not_acting (Command conn block) s cost limit =
+    not_full (not (reads (phase_at s conn))) refusal.Gone (busy (owed_to s conn)) cost limit (gone cost limit)
+    (not_busy (owed_to s conn) cost limit)
 not_acting (Take conn) s cost limit =
-    not_full (is_closed (phase_at s conn)) refusal.Gone (refused_where (length (waiting_for s conn) == 0) refusal.Empty None) cost limit (gone cost limit)
+    not_full (is_closed (phase_at s conn)) refusal.Gone (refused_where (length (waiting_for s conn) == 0) refusal.Empty None) cost limit
+    (gone cost limit)
     (not_full (length (waiting_for s conn) == 0) refusal.Empty None cost limit (vacant cost limit) (nothing cost limit))
 not_acting (Close conn how) s cost limit = not_closing conn how s cost limit
 not_acting (Work slot) s cost limit = not_yet (slot_due slot s) cost limit
 not_acting (Job number) s cost limit = not_yet (job_due number s) cost limit
 
 -- an entry that is refused so comes where the journal is full
-pub full_refused : (s : Switch) (entry : Entry) (cost limit : ℕ) → refusal_of s entry ≡ Some (refusal.JournalFull cost limit) → (is_full s ≡ true) × (cost ≡ s.cost) × (limit ≡ s.config.settings.journal_limit)
+pub full_refused : (s : Switch) (entry : Entry) (cost limit : ℕ) → refusal_of s entry ≡ Some (refusal.JournalFull cost limit) →
+    (is_full s ≡ true) × (cost ≡ s.cost) × (limit ≡ s.config.settings.journal_limit)
 unfolding refusal_of
 full_refused s entry cost limit is = by (is_full s) refl is
   where
-    by : (full : Bool) → is_full s ≡ full → refused_where full (refusal.JournalFull s.cost s.config.settings.journal_limit) (refused_act entry.act (at_moment entry.moment s)) ≡ Some (refusal.JournalFull cost limit) →
+    by : (full : Bool) → is_full s ≡ full →
+        refused_where full (refusal.JournalFull s.cost s.config.settings.journal_limit)
+        (refused_act entry.act (at_moment entry.moment s)) ≡ Some (refusal.JournalFull cost limit) →
         (is_full s ≡ true) × (cost ≡ s.cost) × (limit ≡ s.config.settings.journal_limit)
     by true full e = (full, cc, cc)
     by false full e = absurd (not_acting entry.act (at_moment entry.moment s) cost limit e)

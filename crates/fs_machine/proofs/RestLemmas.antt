@@ -9,6 +9,7 @@ use Rattle.fs_orig.specs.declared.orig.Orig.{Orig}
 use Rattle.fs_orig.specs.Changes.{with_answer}
 use Rattle.fs_places.specs.declared.numbered.Numbered.{Numbered}
 use Rattle.fs_places.specs.Rows.{row_of}
+use Rattle.fs_places.proofs.TableLemmas.{numbers_in, numbers_kept}
 use Rattle.fs_state.specs.declared.conn.Conn.{Conn}
 use Rattle.fs_state.specs.declared.gift.Gift.{Gift}
 use Rattle.fs_state.specs.declared.job.Job.{Job}
@@ -21,8 +22,7 @@ use Rattle.fs_machine.specs.declared.originations.Caller.{Caller}
 use Rattle.fs_machine.specs.Originations.{leg_made, won_by, won}
 use Rattle.fs_machine.specs.Attempts.{all_hung}
 use Rattle.fs_machine.specs.Work.{worked}
-use Rattle.fs_machine.proofs.TableLemmas.{numbers_in, numbers_kept}
-use Rattle.fs_machine.proofs.Kept.{Fact, KeptByCalls, DoesJob}
+use Rattle.fs_machine.proofs.Kept.{Stage, Fact, KeptByCalls, DoesJob}
 use Rattle.fs_machine.proofs.Walk.{state_told_kept, hung_kept, all_hung_kept, worked_kept, leg_made_kept}
 
 -- what is left of a switch without channels, globals, news and identifiers; of originations that is their numbers
@@ -77,20 +77,25 @@ moved_rest change slot s = by (chan_at s slot)
   where
     by : (chan : Option Chan) → rest_of (after_move_from change slot chan s) ≡ rest_of s
     by None = refl
-    by (Some c) = state_told_kept (λ (t : Switch). rest_of t ≡ rest_of s) (λ event t plain h. h) c.state (change c).state {s = with_chan slot (Some (change c)) s} refl
+    by (Some c) =
+        state_told_kept (λ (t : Switch). rest_of t ≡ rest_of s) (λ event t plain h. h) c.state
+        (change c).state {s = with_chan slot (Some (change c)) s} refl
 
 pub hung_rest : (cause : Cause) (slot : ℕ) (s : Switch) → rest_of (after_hangup cause slot s) ≡ rest_of s
 hung_rest cause slot s =
-    hung_kept (λ (t : Switch). rest_of t ≡ rest_of s) (λ event t plain h. h) (λ why place c t is h. h) (λ change number t h. orig_changed_rest change number t ∙ h) cause slot s refl
+    hung_kept (λ (t : Switch). rest_of t ≡ rest_of s) (λ event t plain h. h) (λ why place c t is h. h)
+    (λ change number t h. orig_changed_rest change number t ∙ h) cause slot s refl
 
 -- ---- facts on the rest
 
 -- a fact that holds wherever the rest is the same is kept by what happens to channels
-module _ (P : Fact) (same : (b : Bool) (t u : Switch) → P b t → rest_of u ≡ rest_of t → P b u) where
-  answers_same : (place slot number : ℕ) {b : Bool} {s : Switch} → P b s → P b (orig_changed (leg_changed (λ position. with_answer position place) slot) number s)
-  answers_same place slot number {b} {s} h = same b s _ h (orig_changed_rest (leg_changed (λ position. with_answer position place) slot) number s)
+module _ (P : Fact) (same : (b : Stage) (t u : Switch) → P b t → rest_of u ≡ rest_of t → P b u) where
+  answers_same : (place slot number : ℕ) {b : Stage} {s : Switch} → P b s →
+      P b (orig_changed (leg_changed (λ position. with_answer position place) slot) number s)
+  answers_same place slot number {b} {s} h =
+      same b s _ h (orig_changed_rest (leg_changed (λ position. with_answer position place) slot) number s)
 
-  hung_same : (cause : Cause) (slot : ℕ) {b : Bool} {s : Switch} → P b s → P b (after_hangup cause slot s)
+  hung_same : (cause : Cause) (slot : ℕ) {b : Stage} {s : Switch} → P b s → P b (after_hangup cause slot s)
   hung_same cause slot {b} {s} h = same b s _ h (hung_rest cause slot s)
 
   pub calls_by_rest : KeptByCalls P
@@ -110,10 +115,10 @@ same_rest : (s : Switch) → KeptByCalls (SameRest s)
 same_rest s = calls_by_rest (SameRest s) (λ b t u h e. e ∙ h)
 
 pub all_hung_rest : (cause : Cause) (slots : List ℕ) (s : Switch) → rest_of (all_hung cause slots s) ≡ rest_of s
-all_hung_rest cause slots s = all_hung_kept (SameRest s) (same_rest s) cause slots {b = false} {s = s} refl
+all_hung_rest cause slots s = all_hung_kept (SameRest s) (same_rest s) cause slots {b = None} {s = s} refl
 
 pub worked_rest : (slot : ℕ) (s : Switch) → rest_of (worked slot s) ≡ rest_of s
-worked_rest slot s = worked_kept (SameRest s) (same_rest s) slot {b = false} {s = s} refl
+worked_rest slot s = worked_kept (SameRest s) (same_rest s) slot {b = None} {s = s} refl
 
 pub won_rest : (winner : Winner) (slot : ℕ) (s : Switch) → rest_of (won winner slot s) ≡ rest_of s
 unfolding won
@@ -121,11 +126,15 @@ won_rest winner slot s = moved_rest (won_by winner) slot s
 
 -- ---- a leg is made
 
-pub leg_made_rest : (endpoint : Text) (caller : Caller) (orig : ℕ) (s : Switch) → rest_of (leg_made endpoint caller orig s).state ≡ rest_of s
+pub leg_made_rest : (endpoint : Text) (caller : Caller) (orig : ℕ) (s : Switch) →
+    rest_of (leg_made endpoint caller orig s).state ≡ rest_of s
 leg_made_rest endpoint caller orig s =
-    leg_made_kept (SameRest s) (record { spent = λ h. h; pair = λ call orig a b short first second h. h }) endpoint caller orig {s = s} refl
+    leg_made_kept (SameRest s)
+    (record { spent = λ h. h; more = λ below h. h; pair = λ call orig a b short first second h. h }) endpoint caller orig {n = 0}
+    {s = s} refl
 
 -- ---- a job is the one that it was
 
-pub does_same : {s t : Switch} {number conn : ℕ} {what : JobWork} → DoesJob s number conn what → rest_of t ≡ rest_of s → DoesJob t number conn what
+pub does_same : {s t : Switch} {number conn : ℕ} {what : JobWork} → DoesJob s number conn what → rest_of t ≡ rest_of s →
+    DoesJob t number conn what
 does_same {s} {t} {number} does same = record { there = ap (λ (r : Rest). row_of r.jobs number) same ∙ does.there }

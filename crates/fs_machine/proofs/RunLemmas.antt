@@ -9,17 +9,21 @@ use Rattle.fs_machine.specs.Entries.{cost_of}
 use Rattle.fs_machine.specs.Step.{Acted, step, refusal_of}
 use Rattle.fs_machine.specs.Runs.{run_from, IsRunFrom, StandsFor, IsPrepared}
 
-pub run_more : (s : Switch) (entries : List Entry) (entry : Entry) → run_from s (entries ++ entry ∷ []) ≡ (step (run_from s entries) entry).state
+pub run_more : (s : Switch) (entries : List Entry) (entry : Entry) →
+    run_from s (entries ++ entry ∷ []) ≡ (step (run_from s entries) entry).state
 run_more s [] entry = refl
 run_more s (first ∷ entries) entry = run_more (step s first).state entries entry
 
-pub is_run_more : (s : Switch) (entries : List Entry) (entry : Entry) → IsRunFrom s entries → refusal_of (run_from s entries) entry ≡ None → IsRunFrom s (entries ++ entry ∷ [])
+pub is_run_more : (s : Switch) (entries : List Entry) (entry : Entry) → IsRunFrom s entries → refusal_of (run_from s entries) entry ≡ None →
+    IsRunFrom s (entries ++ entry ∷ [])
 is_run_more s [] entry run defined = (defined, tt)
 is_run_more s (first ∷ entries) entry run defined = (run.0, is_run_more (step s first).state entries entry run.1 defined)
 
 -- what was prepared from the state that a journal makes is the state that the longer one makes
-pub stands_more : (kept : Switch) (journal : List Entry) (entry : Entry) (delta : Delta) (reply : Reply) → StandsFor kept.config kept journal →
-    IsPrepared (run_from (empty kept.config) journal) entry delta reply → StandsFor kept.config (after_entry (cost_of entry.act) (after kept delta)) (journal ++ entry ∷ [])
+pub stands_more : (kept : Switch) (journal : List Entry) (entry : Entry) (delta : Delta) (reply : Reply) →
+    StandsFor kept.config kept journal →
+    IsPrepared (run_from (empty kept.config) journal) entry delta reply →
+    StandsFor kept.config (after_entry (cost_of entry.act) (after kept delta)) (journal ++ entry ∷ [])
 stands_more kept journal entry delta reply stands prepared = record {
   state =
       ap (λ s. after_entry (cost_of entry.act) (after s delta)) stands.state
@@ -28,6 +32,8 @@ stands_more kept journal entry delta reply stands prepared = record {
 }
 
 -- what was prepared costs what its act does
-pub cost_more : (s : Switch) (journal : List Entry) (entry : Entry) (delta : Delta) (reply : Reply) → IsPrepared (run_from s journal) entry delta reply →
+pub cost_more : (s : Switch) (journal : List Entry) (entry : Entry) (delta : Delta) (reply : Reply) →
+    IsPrepared (run_from s journal) entry delta reply →
     (run_from s (journal ++ entry ∷ [])).cost ≡ min ((run_from s journal).cost + cost_of entry.act) (2 ^ 64 - 1)
-cost_more s journal entry delta reply prepared = ap (λ (t : Switch). t.cost) (run_more s journal entry) ∙ ap (λ (t : Acted). t.state.cost) prepared.steps
+cost_more s journal entry delta reply prepared =
+    ap (λ (t : Switch). t.cost) (run_more s journal entry) ∙ ap (λ (t : Acted). t.state.cost) prepared.steps

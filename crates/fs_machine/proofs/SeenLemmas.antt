@@ -1,13 +1,13 @@
 -- What of a switch tells identifiers, and what becomes of it.
 use Rattle.std.proofs.Common.{◌≡◌, ℕ, ◌+◌, ◌-◌, ◌<◌, ◌≤◌, ◌^◌, min, List, length, Option, None, Some, option_map, sym, ap, ◌∙◌, arith}
 use Rattle.fs_text.specs.CoreId.{uuid}
+use Rattle.fs_text.proofs.NamingLemmas.{Naming, naming_kept, naming_more}
 use Rattle.fs_vars.specs.Pairs.{Text}
 use Rattle.fs_doc.specs.Reading.{Configuration}
 use Rattle.fs_chan.specs.declared.chan.Chan.{Chan}
 use Rattle.fs_places.specs.Places.{held_in, with_held}
+use Rattle.fs_places.proofs.HeldLemmas.{held_here, held_there, held_within, at_each}
 use Rattle.fs_state.specs.Switch.{Switch}
-use Rattle.fs_machine.proofs.IdentifierLemmas.{Naming, naming_kept, naming_more}
-use Rattle.fs_machine.proofs.HeldLemmas.{held_here, held_there, held_within, at_each}
 
 -- what is seen of a switch
 pub record Seen : Type 0 where
@@ -56,23 +56,26 @@ numbers_quietly more x y z first then = record {
   most = omega (arith, first.most, then.most);
 }
 
--- where none is drawn, at most two are
-pub numbers_fewer : (x y : Seen) → Numbers 0 x y → Numbers 2 x y
-numbers_fewer x y numbers = record { names = numbers.names; few = numbers.few; most = omega (arith, numbers.most) }
+-- more may be drawn than were
+pub numbers_more : (n m : ℕ) (x y : Seen) → n ≤ m → Numbers n x y → Numbers m x y
+numbers_more n m x y below numbers = record { names = numbers.names; few = numbers.few; most = omega (arith, numbers.most, below) }
 
 -- ---- something else stands in a slot
 
 -- no slot has an identifier that it had not
 numbers_put : (x : Seen) (slot : ℕ) (new : Option Chan) →
-    ((q : ℕ) (text : Text) → uuid_in (with_held x.channels slot new) q ≡ Some text → uuid_in x.channels q ≡ Some text) → Numbers 0 x (put slot new x)
+    ((q : ℕ) (text : Text) → uuid_in (with_held x.channels slot new) q ≡ Some text → uuid_in x.channels q ≡ Some text) →
+    Numbers 0 x (put slot new x)
 numbers_put x slot new had = record {
-  names = λ few h. naming_kept x.config.settings.core_uuid x.identifiers (uuid_in x.channels) (uuid_in (with_held x.channels slot new)) had h;
+  names = λ few h. naming_kept x.config.settings.core_uuid x.identifiers (uuid_in x.channels)
+      (uuid_in (with_held x.channels slot new)) had h;
   few = λ few. few;
   most = omega arith;
 }
 
 -- the same channel, changed
-pub numbers_same : (x : Seen) (slot : ℕ) (old new : Chan) → held_in x.channels slot ≡ Some old → new.uuid ≡ old.uuid → Numbers 0 x (put slot (Some new) x)
+pub numbers_same : (x : Seen) (slot : ℕ) (old new : Chan) → held_in x.channels slot ≡ Some old → new.uuid ≡ old.uuid →
+    Numbers 0 x (put slot (Some new) x)
 numbers_same x slot old new there same =
     numbers_put x slot (Some new)
     (at_each x.channels slot (Some new) (λ a b. (text : Text) → option_map uuid_of b ≡ Some text → option_map uuid_of a ≡ Some text)
@@ -90,7 +93,8 @@ numbers_gone x slot old there =
     (λ a text e. e))
 
 -- a channel under the next identifier
-pub numbers_new : (x : Seen) (slot : ℕ) (new : Chan) → slot < length x.channels → new.uuid ≡ uuid x.config.settings.core_uuid (min (x.identifiers + 1) (2 ^ 62 - 1)) →
+pub numbers_new : (x : Seen) (slot : ℕ) (new : Chan) → slot < length x.channels →
+    new.uuid ≡ uuid x.config.settings.core_uuid (min (x.identifiers + 1) (2 ^ 62 - 1)) →
     Numbers 1 x (record (put slot (Some new) x) { identifiers = min (x.identifiers + 1) (2 ^ 62 - 1) })
 numbers_new x slot new within named = record {
   names =

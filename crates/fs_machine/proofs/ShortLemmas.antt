@@ -48,7 +48,8 @@ right_holds false b h = absurd (cc)
 
 -- ---- a channel is routed anew
 
-or_short : (text : Option Text) (otherwise : Text) → IfSome text (λ t. length t ≤ 256) → length otherwise ≤ 256 → length (unwrap_or text otherwise) ≤ 256
+or_short : (text : Option Text) (otherwise : Text) → IfSome text (λ t. length t ≤ 256) → length otherwise ≤ 256 →
+    length (unwrap_or text otherwise) ≤ 256
 or_short None otherwise short other = other
 or_short (Some t) otherwise short other = short
 
@@ -75,7 +76,8 @@ word_short [] short = tt
 word_short (byte ∷ bytes) short = short
 
 -- what holds of both applications, by what the test says, holds of the one that it chooses
-app_by : (test : Bool) (x y : Application) → (test ≡ true → apps.IsShortApplication x) → (test ≡ false → apps.IsShortApplication y) → apps.IsShortApplication (if test then x else y)
+app_by : (test : Bool) (x y : Application) → (test ≡ true → apps.IsShortApplication x) → (test ≡ false → apps.IsShortApplication y) →
+    apps.IsShortApplication (if test then x else y)
 app_by true x y first second = first refl
 app_by false x y first second = second refl
 
@@ -132,11 +134,13 @@ abbrev pub NamesShort : Api → Type 0
 NamesShort (api.Originate url winner cid_name cid_number timeout) = IsShortWinner winner
 NamesShort _ = Unit {0}
 
-winner_by : (test : Bool) (x y : Option Winner) → (test ≡ true → IfSome x IsShortWinner) → (test ≡ false → IfSome y IsShortWinner) → IfSome (if test then x else y) IsShortWinner
+winner_by : (test : Bool) (x y : Option Winner) → (test ≡ true → IfSome x IsShortWinner) → (test ≡ false → IfSome y IsShortWinner) →
+    IfSome (if test then x else y) IsShortWinner
 winner_by true x y first second = first refl
 winner_by false x y first second = second refl
 
-route_short : (exten dialplan context : Text) → length exten ≤ 256 → (originates.is_short dialplan && originates.is_short context) ≡ true → IsShortWinner (originates.route_winner exten dialplan context)
+route_short : (exten dialplan context : Text) → length exten ≤ 256 → (originates.is_short dialplan && originates.is_short context) ≡ true →
+    IsShortWinner (originates.route_winner exten dialplan context)
 route_short exten dialplan context short both = record {
   exten = short;
   dialplan = leb-true (length dialplan) 256 (left_holds (originates.is_short dialplan) (originates.is_short context) both);
@@ -154,7 +158,8 @@ winner_short (byte ∷ bytes) dialplan context =
     (λ short. route_short (byte ∷ bytes) dialplan context (leb-true (length (byte ∷ bytes)) 256 short) both) (λ none. tt)))
     (λ none. tt)
 
-originated_short : (url rest : Text) (winner : Option Winner) → IfSome winner IsShortWinner → NamesShort (originates.originate_with url winner rest)
+originated_short : (url rest : Text) (winner : Option Winner) → IfSome winner IsShortWinner →
+    NamesShort (originates.originate_with url winner rest)
 originated_short url rest None short = tt
 originated_short url rest (Some winner) short = short
 
@@ -184,12 +189,14 @@ sleeping_short (Some n) = by (nat_le n 3600000)
     by false = tt
 
 -- a command with arguments, where there are any
-needs_short : (usage : Which) (read : Text → Api) (arguments : Text) → ((text : Text) → NamesShort (read text)) → NamesShort (readings.needs usage read arguments)
+needs_short : (usage : Which) (read : Text → Api) (arguments : Text) → ((text : Text) → NamesShort (read text)) →
+    NamesShort (readings.needs usage read arguments)
 needs_short usage read [] short = tt
 needs_short usage read (byte ∷ bytes) short = short (byte ∷ bytes)
 
 reading_short : (arguments : Text) → NamesShort (readings.uuid_getvar_of arguments)
-reading_short arguments = needs_short which.UuidGetvar (λ name. api.UuidGetvar (word_of arguments) (word_of name)) (behind_word arguments) (λ name. tt)
+reading_short arguments =
+    needs_short which.UuidGetvar (λ name. api.UuidGetvar (word_of arguments) (word_of name)) (behind_word arguments) (λ name. tt)
 
 -- whichever name it has
 command_short : (echoes expands gets sets sleeps tries exists reads kills : Bool) (name arguments : Text) → NamesShort
@@ -204,14 +211,19 @@ command_short : (echoes expands gets sets sleeps tries exists reads kills : Bool
     else (if kills then readings.needs which.UuidKill readings.uuid_kill_of arguments
     else api.Unknown name)))))))))
 command_short true expands gets sets sleeps tries exists reads kills name arguments = tt
-command_short false true gets sets sleeps tries exists reads kills name arguments = needs_short which.Expand api.Expand arguments (λ text. tt)
+command_short false true gets sets sleeps tries exists reads kills name arguments =
+    needs_short which.Expand api.Expand arguments (λ text. tt)
 command_short false false true sets sleeps tries exists reads kills name arguments = getting_short arguments
-command_short false false false true sleeps tries exists reads kills name arguments = needs_short which.GlobalSetvar readings.global_setvar_of arguments (λ text. tt)
+command_short false false false true sleeps tries exists reads kills name arguments =
+    needs_short which.GlobalSetvar readings.global_setvar_of arguments (λ text. tt)
 command_short false false false false true tries exists reads kills name arguments = sleeping_short (read_u64 (word_of arguments))
 command_short false false false false false true exists reads kills name arguments = originate_short arguments
-command_short false false false false false false true reads kills name arguments = needs_short which.UuidExists readings.uuid_exists_of arguments (λ text. tt)
-command_short false false false false false false false true kills name arguments = needs_short which.UuidGetvar readings.uuid_getvar_of arguments reading_short
-command_short false false false false false false false false true name arguments = needs_short which.UuidKill readings.uuid_kill_of arguments (λ text. tt)
+command_short false false false false false false true reads kills name arguments =
+    needs_short which.UuidExists readings.uuid_exists_of arguments (λ text. tt)
+command_short false false false false false false false true kills name arguments =
+    needs_short which.UuidGetvar readings.uuid_getvar_of arguments reading_short
+command_short false false false false false false false false true name arguments =
+    needs_short which.UuidKill readings.uuid_kill_of arguments (λ text. tt)
 command_short false false false false false false false false false name arguments = tt
 
 named_short : (name arguments : Text) → NamesShort (api_named name arguments)
@@ -231,7 +243,8 @@ expanded_short text = without_short (api_of text) (api_short text)
 
 -- ---- the endpoint of a leg
 
-end_by : (test : Bool) (x y : Endpoint) → (test ≡ true → endpoints.IsShortEndpoint x) → (test ≡ false → endpoints.IsShortEndpoint y) → endpoints.IsShortEndpoint (if test then x else y)
+end_by : (test : Bool) (x y : Endpoint) → (test ≡ true → endpoints.IsShortEndpoint x) → (test ≡ false → endpoints.IsShortEndpoint y) →
+    endpoints.IsShortEndpoint (if test then x else y)
 end_by true x y first second = first refl
 end_by false x y first second = second refl
 
@@ -248,7 +261,9 @@ address_short (byte ∷ bytes) context dialplan =
     (λ same. record {
       exten_there = omega arith;
       exten_short = leb-true (length exten) 256 (left_holds (endpoints.is_short exten) (endpoints.is_short context) short);
-      context_short = part_or_short (codes "default") context 256 (omega arith) (leb-true (length context) 256 (right_holds (endpoints.is_short exten) (endpoints.is_short context) short));
+      context_short =
+          part_or_short (codes "default") context 256 (omega arith)
+          (leb-true (length context) 256 (right_holds (endpoints.is_short exten) (endpoints.is_short context) short));
     })
     (λ differs. tt))
 
@@ -258,7 +273,8 @@ endpoint_short text =
     let parts : Text = endpoints.other_parts text in
     end_by (bytes_eq (endpoints.first_part text) (codes "error")) (endpoints.error_of (endpoints.first_part parts)) _ (λ fails. tt)
     (λ other. end_by (bytes_eq (endpoints.first_part text) (codes "loopback")) (endpoints.loopback_of parts) (Dead DestinationOutOfOrder)
-    (λ loops. address_short (endpoints.first_part parts) (endpoints.first_part (endpoints.other_parts parts)) (endpoints.other_parts (endpoints.other_parts parts))) (λ none. tt))
+    (λ loops. address_short (endpoints.first_part parts) (endpoints.first_part (endpoints.other_parts parts))
+    (endpoints.other_parts (endpoints.other_parts parts))) (λ none. tt))
 
 -- ---- the profile of a new channel
 

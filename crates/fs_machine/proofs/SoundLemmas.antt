@@ -1,6 +1,8 @@
--- In every run live channels have partners, which agree, the texts of channels keep their limits, and identifiers differ.
+-- In every run live channels have partners, which agree, the texts of channels keep their limits, identifiers differ, and legs are
+-- channels.
 use Rattle.std.proofs.Common.{◌≡◌, ℕ, ◌+◌, ◌-◌, ◌*◌, ◌<◌, ◌≤◌, ◌^◌, min, true, IsSome, List, [], ◌∷◌, Option, None, Some, option_and_then, option_map, refl, sym, ap, subst, ◌∙◌, arith}
 use Rattle.std.proofs.lemmas.Bool.{both_ways, false≢true, ltb-false}
+use Rattle.fs_text.proofs.NamingLemmas.{naming_none}
 use Rattle.fs_doc.specs.Reading.{Configuration}
 use Rattle.fs_chan.specs.declared.chan.Chan.{Chan}
 use Rattle.fs_chan.specs.Changes.{is_live}
@@ -8,29 +10,28 @@ use Rattle.fs_orig.specs.declared.orig.Orig.{Orig}
 use Rattle.fs_places.specs.declared.numbered.Numbered.{Numbered}
 use Rattle.fs_places.specs.Places.{no_places, held_in}
 use Rattle.fs_places.specs.Rows.{has_number}
+use Rattle.fs_places.proofs.HeldLemmas.{nothing_held}
 use Rattle.fs_state.specs.declared.job.Job.{Job}
 use Rattle.fs_state.specs.Switch.{Switch, empty, chan_at, at_moment, after_entry}
 use Rattle.fs_state.specs.Moves.{partner_of}
+use Rattle.fs_state.proofs.LegTables.{Seat, seat_at, seat_number}
 use Rattle.fs_machine.specs.declared.entry.Entry.{Entry}
 use Rattle.fs_machine.specs.declared.entry.Act.{Act}
+use Rattle.fs_machine.specs.declared.entry.Act.TheVariants as act
 use Rattle.fs_machine.specs.Entries.{cost_of}
 use Rattle.fs_machine.specs.Step.{refusal_of, act_done, step}
 use Rattle.fs_machine.specs.Runs.{run_from, IsRunFrom}
-use Rattle.fs_machine.specs.Sound.{HasPartner, PartnersAgree, HasLivePartner, LiveHasPartner, ProfilesAreShort, IdentifiersDiffer}
-use Rattle.fs_machine.proofs.IdentifierLemmas.{naming_none}
-use Rattle.fs_machine.proofs.HeldLemmas.{nothing_held}
+use Rattle.fs_machine.specs.Sound.{HasPartner, PartnersAgree, HasLivePartner, LiveHasPartner, ProfilesAreShort, IdentifiersDiffer, LegsAreChannels}
 use Rattle.fs_machine.proofs.TieLemmas.{lives_as, named_in, Ties}
-use Rattle.fs_machine.proofs.FrameLemmas.{some_cost}
 use Rattle.fs_machine.proofs.OrderLemmas.{acted_cost, not_full}
 use Rattle.fs_machine.proofs.FramesLaws.{config_step}
-use Rattle.fs_machine.proofs.ActWalk.{acted_kept}
+use Rattle.fs_machine.proofs.ActWalk.{most_drawn, acted_kept}
 use Rattle.fs_machine.proofs.OwedBooks.{books_of}
 use Rattle.fs_machine.proofs.OwedLaws.{Holds, holds_empty, holds_step}
 use Rattle.fs_machine.proofs.PartnerMoves.{Partners, partners_moves}
 use Rattle.fs_machine.proofs.SeenLemmas.{seen, uuid_of, uuid_in, Named, Numbers, numbers_stay}
 use Rattle.fs_machine.proofs.IdentifierMoves.{NumbersFrom, numbers_moves}
-use Rattle.fs_machine.proofs.LegTables.{Seat, seat_at, seat_number}
-use Rattle.fs_machine.proofs.LegMoves.{roles_of, LegsStand, Legs, legs_moves}
+use Rattle.fs_machine.proofs.LegMoves.{roles_of, LegsStand, Legs, legs_are_channels, legs_moves}
 use Rattle.fs_machine.proofs.WinnerMoves.{ShortIn, WinnersAreShort, Winners, winners_moves}
 use Rattle.fs_machine.proofs.ChannelMoves.{FitsIn, AllFit, Fit, fit_there, fit_moves}
 
@@ -45,7 +46,8 @@ nothing_named config = record {
   where
     none : (a b : ℕ) → named_in partner_of (empty config).channels a ≡ Some b → ⊥
     none a b e =
-        let nothing : named_in partner_of (empty config).channels a ≡ None = ap (option_and_then partner_of) (nothing_held Chan (config.settings.max_sessions + 1) a) in
+        let nothing : named_in partner_of (empty config).channels a ≡ None =
+        ap (option_and_then partner_of) (nothing_held Chan (config.settings.max_sessions + 1) a) in
         cc
 
 step_agrees : (s : Switch) (entry : Entry) → Ties partner_of s.channels → Ties partner_of (step s entry).state.channels
@@ -60,7 +62,8 @@ run_agrees s (entry ∷ entries) h = run_agrees (step s entry).state entries (st
 named_back : (s : Switch) → Ties partner_of s.channels → PartnersAgree s
 named_back s h = record { back = λ slot other has. by_chan slot other has }
   where
-    there_as : (slot other : ℕ) (found : Option Chan) → chan_at s other ≡ found → option_and_then partner_of found ≡ Some slot → lives_as found ≡ true → HasPartner s other slot
+    there_as : (slot other : ℕ) (found : Option Chan) → chan_at s other ≡ found → option_and_then partner_of found ≡ Some slot →
+        lives_as found ≡ true → HasPartner s other slot
     there_as slot other None is named live = absurd (cc)
     there_as slot other (Some d) is named live = record { chan = d; there = is; live = live; partner = named }
 
@@ -82,10 +85,13 @@ record Stands (s : Switch) : Type 0 where
 
 -- none stands in an empty table
 none_stands : (T : Type 0) (count number place : ℕ) → has_number number (held_in (no_places {T = Numbered T} count) place) ≡ true → ⊥
-none_stands T count number place stands = both_ways (has_number number (held_in (no_places {T = Numbered T} count) place)) (ap (has_number number) (nothing_held (Numbered T) count place)) stands
+none_stands T count number place stands =
+    both_ways (has_number number (held_in (no_places {T = Numbered T} count) place))
+    (ap (has_number number) (nothing_held (Numbered T) count place)) stands
 
 none_seated : (place position : ℕ) (seat : Seat) → seat_at (no_places {T = Numbered Orig} 1280) place position ≡ Some seat → ⊥
-none_seated place position seat h = none_stands Orig 1280 seat.number place (seat_number position (held_in (no_places {T = Numbered Orig} 1280) place) seat h)
+none_seated place position seat h =
+    none_stands Orig 1280 seat.number place (seat_number position (held_in (no_places {T = Numbered Orig} 1280) place) seat h)
 
 nothing_stands : (config : Configuration) → Stands (empty config)
 nothing_stands config = record {
@@ -103,7 +109,9 @@ step_stands : (s : Switch) (entry : Entry) → Holds (books_of (step s entry).st
 unfolding step
 step_stands s entry holds h =
     let now : Switch = at_moment entry.moment s in
-    let paid : 64 * (act_done entry.act now).state.drawn.origs ≤ min ((act_done entry.act now).state.cost + cost_of entry.act) (2 ^ 64 - 1) = holds.paid.origs in
+    let paid : 64 * (act_done entry.act now).state.drawn.origs ≤ min ((act_done entry.act now).state.cost + cost_of entry.act) (2 ^ 64 - 1)
+    =
+    holds.paid.origs in
     record {
       legs = acted_kept now Legs (legs_moves now) entry.act (λ few. h.legs) (omega (arith, paid));
       winners = acted_kept now Winners (winners_moves now) entry.act h.winners;
@@ -116,26 +124,41 @@ run_stands s (entry ∷ entries) run holds h =
     let next : Holds (books_of (step s entry).state) = holds_step s entry run.0 holds in
     run_stands (step s entry).state entries run.1 next (step_stands s entry next h)
 
-all_fit : (config : Configuration) (entries : List Entry) → config.settings.journal_limit ≤ 1073741824 → IsRunFrom (empty config) entries → AllFit (run_from (empty config) entries).channels
-all_fit config entries small run = (run_stands (empty config) entries run (holds_empty config small) (nothing_stands config)).fit
+all_stand : (config : Configuration) (entries : List Entry) → config.settings.journal_limit ≤ 1073741824 →
+    IsRunFrom (empty config) entries →
+    Stands (run_from (empty config) entries)
+all_stand config entries small run = run_stands (empty config) entries run (holds_empty config small) (nothing_stands config)
 
 -- as the definitions have it
 live_partner : (s : Switch) → PartnersAgree s → AllFit s.channels → LiveHasPartner s
-live_partner s agree fit = record { each = λ slot c there live. by slot c there live c.partner refl ((fit_there s slot c there fit).partner live) }
+live_partner s agree fit =
+    record { each = λ slot c there live. by slot c there live c.partner refl ((fit_there s slot c there fit).partner live) }
   where
-    by : (slot : ℕ) (c : Chan) → chan_at s slot ≡ Some c → is_live c ≡ true → (partner : Option ℕ) → c.partner ≡ partner → IsSome partner → HasLivePartner s slot c
+    by : (slot : ℕ) (c : Chan) → chan_at s slot ≡ Some c → is_live c ≡ true → (partner : Option ℕ) → c.partner ≡ partner → IsSome partner →
+        HasLivePartner s slot c
     by slot c there live None is some = absurd (false≢true some)
     by slot c there live (Some other) is some =
         record { other = other; partner = is; back = agree.back slot other (record { chan = c; there = there; live = live; partner = is }) }
 
-pub live_has_partner : (config : Configuration) (entries : List Entry) → config.settings.journal_limit ≤ 1073741824 → IsRunFrom (empty config) entries →
-    LiveHasPartner (run_from (empty config) entries)
-live_has_partner config entries small run = live_partner (run_from (empty config) entries) (partners_agree config entries) (all_fit config entries small run)
+pub run_has_legs : (config : Configuration) (entries : List Entry) → config.settings.journal_limit ≤ 1073741824 →
+    IsRunFrom (empty config) entries →
+    LegsAreChannels (run_from (empty config) entries)
+run_has_legs config entries small run = legs_are_channels (run_from (empty config) entries) (all_stand config entries small run).legs
 
-pub profiles_are_short : (config : Configuration) (entries : List Entry) → config.settings.journal_limit ≤ 1073741824 → IsRunFrom (empty config) entries →
+pub live_has_partner : (config : Configuration) (entries : List Entry) → config.settings.journal_limit ≤ 1073741824 →
+    IsRunFrom (empty config) entries →
+    LiveHasPartner (run_from (empty config) entries)
+live_has_partner config entries small run =
+    live_partner (run_from (empty config) entries) (partners_agree config entries) (all_stand config entries small run).fit
+
+pub profiles_are_short : (config : Configuration) (entries : List Entry) → config.settings.journal_limit ≤ 1073741824 →
+    IsRunFrom (empty config) entries →
     ProfilesAreShort (run_from (empty config) entries)
 profiles_are_short config entries small run =
-    record { each = λ slot c there. (fit_there (run_from (empty config) entries) slot c there (all_fit config entries small run)).short }
+    record {
+      each =
+          λ slot c there. (fit_there (run_from (empty config) entries) slot c there (all_stand config entries small run).fit).short;
+    }
 
 -- ---- identifiers
 
@@ -157,24 +180,38 @@ has_room : (s : Switch) (entry : Entry) → refusal_of s entry ≡ None → s.co
 has_room s entry defined = ltb-false s.config.settings.journal_limit (s.cost + 65600) (not_full s entry defined)
 
 -- one entry more, of which all that counts is known
-closed_counted : (s t : Switch) (cost : ℕ) → Numbers 2 (seen s) (seen t) → t.cost ≡ s.cost → 64 ≤ cost → s.cost + 65600 ≤ 1073741824 → Counted s → Counted (after_entry cost t)
-closed_counted s t cost numbers same least room h =
-    let most : t.drawn.identifiers ≤ s.drawn.identifiers + 2 = numbers.most in
+closed_counted : (s t : Switch) (cost more : ℕ) → Numbers more (seen s) (seen t) → t.cost ≡ s.cost → 32 * more ≤ min cost 65600 →
+    s.cost + 65600 ≤ 1073741824 → Counted s →
+    Counted (after_entry cost t)
+closed_counted s t cost more numbers same least room h =
+    let most : t.drawn.identifiers ≤ s.drawn.identifiers + more = numbers.most in
     let paid : 32 * s.drawn.identifiers ≤ s.cost = h.paid in
-    let few : t.drawn.identifiers < 2 ^ 62 - 1 = omega (arith, most, paid, room) in
+    let few : t.drawn.identifiers < 2 ^ 62 - 1 = omega (arith, most, paid, least, room) in
     record { named = numbers.names few h.named; paid = omega (arith, most, same, paid, least, room) }
 
-acted_numbers : (a : Act) (s : Switch) → Numbers 2 (seen s) (seen (act_done a s).state)
+-- an act costs 32 for each identifier that it may draw
+drawn_paid : (a : Act) → 32 * most_drawn a ≤ min (cost_of a) 65600
+drawn_paid act.Arrive = omega arith
+drawn_paid (act.Command conn block) = omega arith
+drawn_paid (act.Take conn) = omega arith
+drawn_paid (act.Close conn how) = omega arith
+drawn_paid (act.Work slot) = omega arith
+drawn_paid (act.Job number) = omega arith
+
+acted_numbers : (a : Act) (s : Switch) → Numbers (most_drawn a) (seen s) (seen (act_done a s).state)
 acted_numbers a s = acted_kept s (NumbersFrom (seen s)) (numbers_moves (seen s) s) a (numbers_stay (seen s))
 
 step_counted : (s : Switch) (entry : Entry) → s.cost + 65600 ≤ 1073741824 → Counted s → Counted (step s entry).state
 unfolding step
 step_counted s entry room h =
-    closed_counted (at_moment entry.moment s) (act_done entry.act (at_moment entry.moment s)).state (cost_of entry.act) (acted_numbers entry.act (at_moment entry.moment s)) (acted_cost entry.act (at_moment entry.moment s))
-    (some_cost entry.act) room
+    closed_counted (at_moment entry.moment s) (act_done entry.act (at_moment entry.moment s)).state (cost_of entry.act)
+    (most_drawn entry.act)
+    (acted_numbers entry.act (at_moment entry.moment s)) (acted_cost entry.act (at_moment entry.moment s))
+    (drawn_paid entry.act) room
     (record { named = h.named; paid = h.paid })
 
-run_counted : (s : Switch) (entries : List Entry) → s.config.settings.journal_limit ≤ 1073741824 → IsRunFrom s entries → Counted s → Counted (run_from s entries)
+run_counted : (s : Switch) (entries : List Entry) → s.config.settings.journal_limit ≤ 1073741824 → IsRunFrom s entries → Counted s →
+    Counted (run_from s entries)
 run_counted s [] small run h = h
 run_counted s (entry ∷ entries) small run h =
     let room : s.cost + 65600 ≤ s.config.settings.journal_limit = has_room s entry run.0 in
@@ -190,7 +227,8 @@ told_apart s h = record {
       (h.once slot other c.uuid (ap (option_map uuid_of) is_c) (ap (option_map uuid_of) is_d ∙ ap Some (sym same)));
 }
 
-pub identifiers_differ : (config : Configuration) (entries : List Entry) → config.settings.journal_limit ≤ 1073741824 → IsRunFrom (empty config) entries →
+pub identifiers_differ : (config : Configuration) (entries : List Entry) → config.settings.journal_limit ≤ 1073741824 →
+    IsRunFrom (empty config) entries →
     IdentifiersDiffer (run_from (empty config) entries)
 identifiers_differ config entries small run =
     told_apart (run_from (empty config) entries) (run_counted (empty config) entries small run (none_counted config)).named

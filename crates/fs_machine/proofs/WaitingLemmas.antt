@@ -1,25 +1,22 @@
 -- What waits for connections, before and after a change.
-use Rattle.std.proofs.Common.{◌≡◌, ℕ, zero, suc, ◌+◌, ◌-◌, ◌^◌, ◌<◌, ◌≤◌, ◌==◌, min, Bool, true, false, if◌then◌else◌, List, [], ◌∷◌, ◌++◌, length, drop, Option, None, Some, ◌⊎◌, inl, inr, refl, sym, ap, subst, ◌∙◌, append_assoc, append-nil, arith}
+use Rattle.std.proofs.Common.{◌≡◌, ℕ, ◌+◌, ◌-◌, ◌^◌, ◌<◌, ◌≤◌, ◌==◌, min, Bool, true, false, if◌then◌else◌, List, [], ◌∷◌, ◌++◌, length, drop, Option, None, Some, ◌⊎◌, inl, inr, refl, sym, ap, subst, ◌∙◌, append_assoc, append-nil, arith}
 use Rattle.std.proofs.lemmas.List.{get_or-set_same, get_or-set_other, length-set}
-use Rattle.std.proofs.lemmas.Bool.{eqb-true, eqb-false, cases_eq}
+use Rattle.std.proofs.lemmas.Bool.{cases_eq}
 use Rattle.fs_places.specs.declared.numbered.Numbered.{Numbered}
 use Rattle.fs_places.specs.Places.{held_in, least_free}
-use Rattle.fs_places.specs.Rows.{has_number, place_of, with_held_at, with_new_row}
+use Rattle.fs_places.specs.Rows.{has_number, place_of, with_new_row}
+use Rattle.fs_places.proofs.RowLemmas.{AreDistinct, AreWithin, held_of, row_at, row_none, each_put_at, length_put_at, place_stands, place_within, places_apart, above_nowhere, places_same, distinct_same, distinct-without_row, within-without_row, place_of-without_row_same, place_of-without_row_other, distinct-with_new_row, within-with_new_row, place_of-with_new_row_other, new_stands, new_free}
 use Rattle.fs_state.specs.declared.conn.Conn.{Conn}
 use Rattle.fs_state.specs.declared.gift.Gift.{Gift}
 use Rattle.fs_state.specs.Drawn as numbers
-use Rattle.fs_state.specs.Queues.{Frames, queue_at, with_queue, without_first_frame, without_frames, with_frames_at, delivered}
+use Rattle.fs_state.specs.Queues.{Frames, queue_at, without_first_frame, without_frames, with_frames_at, delivered}
 use Rattle.fs_state.specs.Switch.{Switch, waiting_at, waiting_for, changed_at, with_frame_taken, without_conn, after_entry}
+use Rattle.fs_state.proofs.GiftLemmas.{AreQuiet, quiet_less, quiet_taken, quiet_delivered, changed_length, given_length, delivered_length, one_given}
 use Rattle.fs_machine.specs.Connections.{phase_of, phase_at}
 use Rattle.fs_machine.specs.Step.{is_closed, new_conn, arrived}
 use Rattle.fs_machine.specs.Frames.{frames_among, given_in}
-use Rattle.fs_machine.proofs.RowLemmas.{IsFree, AreDistinct, AreWithin, held_of, row_at, row_none, each_put_at, length_put_at, place_stands, place_within, places_apart, free_apart, above_nowhere, places_same, distinct_same, distinct-without_row, within-without_row, place_of-without_row_same, place_of-without_row_other, distinct-with_new_row, within-with_new_row, place_of-with_new_row_other, new_stands, new_free, less_free}
 use Rattle.fs_machine.proofs.RestLemmas.{whichever}
 use Rattle.fs_machine.proofs.KeepLemmas.{is_shut, AreOpen, Keeps}
-
--- where no connection stands nothing waits
-abbrev pub AreQuiet : List (Option (Numbered Conn)) → List Frames → Type 0
-AreQuiet conns queues = (place : ℕ) → IsFree conns place → queue_at queues place ≡ []
 
 -- the connections of a switch and its queues fit together
 pub record Ordered (s : Switch) : Type 0 where
@@ -36,14 +33,16 @@ pub none_closed : (s : Switch) (conn : ℕ) → place_of s.conns conn ≡ None �
 none_closed s conn is = ap (λ found. is_closed (phase_of found)) (row_none s.conns conn is)
 
 -- what stands for a connection is open
-held_open : (held : Option (Numbered Conn)) (number : ℕ) → is_shut held ≡ false → has_number number held ≡ true → is_closed (phase_of (held_of held)) ≡ false
+held_open : (held : Option (Numbered Conn)) (number : ℕ) → is_shut held ≡ false → has_number number held ≡ true →
+    is_closed (phase_of (held_of held)) ≡ false
 held_open None number shut has = absurd (cc)
 held_open (Some row) number shut has = shut
 
 -- one that is there is open
 pub some_open : (s : Switch) (conn place : ℕ) → AreOpen s.conns → place_of s.conns conn ≡ Some place → is_closed (phase_at s conn) ≡ false
 some_open s conn place opened is =
-    ap (λ found. is_closed (phase_of found)) (row_at s.conns conn place is) ∙ held_open (held_in s.conns place) conn (opened place) (place_stands s.conns conn place is)
+    ap (λ found. is_closed (phase_of found)) (row_at s.conns conn place is)
+    ∙ held_open (held_in s.conns place) conn (opened place) (place_stands s.conns conn place is)
 
 -- ---- a step that keeps the connections
 
@@ -51,87 +50,33 @@ some_open s conn place opened is =
 pub keeps_ordered : {who : Option ℕ} {may_end : Bool} → (s t : Switch) → Keeps who may_end s t → Ordered s → Ordered t
 keeps_ordered s t keeps ordered = record {
   distinct = distinct_same s.conns t.conns keeps.numbers ordered.distinct;
-  within = λ number place stands. subst (λ bound. number ≤ bound) (sym keeps.drawn) (ordered.within number place (sym (keeps.numbers number place) ∙ stands));
+  within = λ number place stands. subst (λ bound. number ≤ bound) (sym keeps.drawn)
+      (ordered.within number place (sym (keeps.numbers number place) ∙ stands));
   opened = keeps.opened ordered.opened;
   places = ap length keeps.queues ∙ ordered.places ∙ sym keeps.places;
-  quiet = λ place free. ap (λ queues. queue_at queues place) keeps.queues ∙ ordered.quiet place (λ number. sym (keeps.numbers number place) ∙ free number);
+  quiet = λ place free. ap (λ queues. queue_at queues place) keeps.queues
+      ∙ ordered.quiet place (λ number. sym (keeps.numbers number place) ∙ free number);
 }
 
 -- the same frames wait
-pub keeps_waiting : {who : Option ℕ} {may_end : Bool} → (s t : Switch) → Keeps who may_end s t → (conn : ℕ) → waiting_for t conn ≡ waiting_for s conn
+pub keeps_waiting : {who : Option ℕ} {may_end : Bool} → (s t : Switch) → Keeps who may_end s t → (conn : ℕ) →
+    waiting_for t conn ≡ waiting_for s conn
 keeps_waiting s t keeps conn =
-    ap (λ queues. waiting_at queues (place_of t.conns conn)) keeps.queues ∙ ap (waiting_at s.queues) (places_same s.conns t.conns keeps.numbers conn)
+    ap (λ queues. waiting_at queues (place_of t.conns conn)) keeps.queues
+    ∙ ap (waiting_at s.queues) (places_same s.conns t.conns keeps.numbers conn)
 
 -- each connection has the same place
-pub keeps_place : {who : Option ℕ} {may_end : Bool} → (s t : Switch) → Keeps who may_end s t → (conn : ℕ) → place_of t.conns conn ≡ place_of s.conns conn
+pub keeps_place : {who : Option ℕ} {may_end : Bool} → (s t : Switch) → Keeps who may_end s t → (conn : ℕ) →
+    place_of t.conns conn ≡ place_of s.conns conn
 keeps_place s t keeps conn = places_same s.conns t.conns keeps.numbers conn
 
 -- ---- other queues
 
--- the queue of a connection may change
-quiet_put : (conns : List (Option (Numbered Conn))) (queues : List Frames) (number place : ℕ) (queue : Frames) → place_of conns number ≡ Some place →
-    AreQuiet conns queues → AreQuiet conns (with_queue place queue queues)
-quiet_put conns queues number place queue is quiet free empty =
-    get_or-set_other queues place free queue [] (free_apart conns number place free is empty) ∙ quiet free empty
-
--- a queue that was emptied is empty
-queue_emptied : (queues : List Frames) (put : ℕ) → queue_at (with_queue put [] queues) put ≡ []
-queue_emptied [] put = refl
-queue_emptied (queue ∷ queues) zero = refl
-queue_emptied (queue ∷ queues) (suc put) = queue_emptied queues put
-
--- no change takes a queue away
-changed_length : (change : ℕ → List Frames → List Frames) → ((place : ℕ) (queues : List Frames) → length (change place queues) ≡ length queues) →
-    (found : Option ℕ) (queues : List Frames) → length (changed_at change found queues) ≡ length queues
-changed_length change each None queues = refl
-changed_length change each (Some place) queues = each place queues
-
 -- ---- gifts
 
--- no gift makes a queue
-given_length : (found : Option ℕ) (frames : Frames) (queues : List Frames) → length (with_frames_at found frames queues) ≡ length queues
-given_length None frames queues = refl
-given_length (Some place) frames queues = length-set queues place (queue_at queues place ++ frames)
-
-delivered_length : (conns : List (Option (Numbered Conn))) (gifts : List Gift) (queues : List Frames) → length (delivered conns gifts queues) ≡ length queues
-delivered_length conns [] queues = refl
-delivered_length conns (gift ∷ gifts) queues =
-    delivered_length conns gifts (with_frames_at (place_of conns gift.conn) gift.frames queues) ∙ given_length (place_of conns gift.conn) gift.frames queues
-
--- a gift goes to no place without a connection
-quiet_given : (conns : List (Option (Numbered Conn))) (queues : List Frames) (number : ℕ) (frames : Frames) (found : Option ℕ) → place_of conns number ≡ found →
-    AreQuiet conns queues → AreQuiet conns (with_frames_at found frames queues)
-quiet_given conns queues number frames None is quiet free empty = quiet free empty
-quiet_given conns queues number frames (Some place) is quiet free empty = quiet_put conns queues number place (queue_at queues place ++ frames) is quiet free empty
-
-quiet_delivered : (conns : List (Option (Numbered Conn))) (gifts : List Gift) (queues : List Frames) → AreQuiet conns queues → AreQuiet conns (delivered conns gifts queues)
-quiet_delivered conns [] queues quiet free empty = quiet free empty
-quiet_delivered conns (gift ∷ gifts) queues quiet free empty =
-    quiet_delivered conns gifts (with_frames_at (place_of conns gift.conn) gift.frames queues)
-    (quiet_given conns queues gift.conn gift.frames (place_of conns gift.conn) refl quiet) free empty
-
--- a gift waits behind what waits for its connection, and for no other
-one_given : (conns : List (Option (Numbered Conn))) (queues : List Frames) (conn place : ℕ) (gift : Gift) → place_of conns conn ≡ Some place → place < length queues →
-    queue_at (with_frames_at (place_of conns gift.conn) gift.frames queues) place ≡ queue_at queues place ++ (if gift.conn == conn then gift.frames else [])
-one_given conns queues conn place gift is within = by (gift.conn == conn) refl
-  where
-    other : (found : Option ℕ) → place_of conns gift.conn ≡ found → (gift.conn == conn) ≡ false → queue_at (with_frames_at found gift.frames queues) place ≡ queue_at queues place ++ []
-    other None there e = sym (append-nil (queue_at queues place))
-    other (Some others) there e =
-        get_or-set_other queues others place (queue_at queues others ++ gift.frames) []
-        (λ same. eqb-false gift.conn conn e (sym (places_apart conns conn gift.conn place others is there same)))
-        ∙ sym (append-nil (queue_at queues place))
-
-    by : (b : Bool) → (gift.conn == conn) ≡ b →
-        queue_at (with_frames_at (place_of conns gift.conn) gift.frames queues) place ≡ queue_at queues place ++ (if b then gift.frames
-        else [])
-    by true e =
-        ap (λ found. queue_at (with_frames_at found gift.frames queues) place) (ap (place_of conns) (eqb-true gift.conn conn e) ∙ is)
-        ∙ get_or-set_same queues place (queue_at queues place ++ gift.frames) [] within
-    by false e = other (place_of conns gift.conn) refl e
-
 -- all gifts, one after another
-all_given : (conns : List (Option (Numbered Conn))) (conn place : ℕ) (gifts : List Gift) (queues : List Frames) → place_of conns conn ≡ Some place → place < length queues →
+all_given : (conns : List (Option (Numbered Conn))) (conn place : ℕ) (gifts : List Gift) (queues : List Frames) →
+    place_of conns conn ≡ Some place → place < length queues →
     queue_at (delivered conns gifts queues) place ≡ queue_at queues place ++ frames_among conn gifts
 all_given conns conn place [] queues is within = sym (append-nil (queue_at queues place))
 all_given conns conn place (gift ∷ gifts) queues is within =
@@ -161,11 +106,13 @@ pub closed_waits : (cost : ℕ) (t : Switch) (conn : ℕ) → Ordered t →
     waiting_for (after_entry cost t) conn ≡ waiting_for t conn ++ given_in conn t
 closed_waits cost t conn ordered = by (place_of t.conns conn) refl
   where
-    by : (found : Option ℕ) → place_of t.conns conn ≡ found → waiting_at (delivered t.conns t.given t.queues) found ≡ waiting_at t.queues found ++ given_in conn t
+    by : (found : Option ℕ) → place_of t.conns conn ≡ found →
+        waiting_at (delivered t.conns t.given t.queues) found ≡ waiting_at t.queues found ++ given_in conn t
     by None is = sym (none_given t conn is)
     by (Some place) is =
         all_given t.conns conn place t.given t.queues is (subst (λ n. place < n) (sym ordered.places) (place_within t.conns conn place is))
-        ∙ ap (λ b. queue_at t.queues place ++ (if b then [] else frames_among conn t.given)) (sym (some_open t conn place ordered.opened is))
+        ∙ ap (λ b. queue_at t.queues place ++ (if b then [] else frames_among conn t.given))
+        (sym (some_open t conn place ordered.opened is))
 
 -- where no gift is nothing is given
 pub nothing_given : (t : Switch) (conn : ℕ) → t.given ≡ [] → given_in conn t ≡ []
@@ -177,22 +124,18 @@ nothing_given t conn none =
 pub closed_quietly : (cost : ℕ) (t : Switch) (conn : ℕ) → Ordered t → t.given ≡ [] →
     waiting_for (after_entry cost t) conn ≡ waiting_for t conn
 closed_quietly cost t conn ordered none =
-    closed_waits cost t conn ordered ∙ ap (λ frames. waiting_for t conn ++ frames) (nothing_given t conn none) ∙ append-nil (waiting_for t conn)
+    closed_waits cost t conn ordered ∙ ap (λ frames. waiting_for t conn ++ frames) (nothing_given t conn none)
+    ∙ append-nil (waiting_for t conn)
 
 -- ---- a frame is taken
-
--- the place from which a frame is taken has a connection
-quiet_taken : (conns : List (Option (Numbered Conn))) (queues : List Frames) (number : ℕ) (found : Option ℕ) → place_of conns number ≡ found →
-    AreQuiet conns queues → AreQuiet conns (changed_at without_first_frame found queues)
-quiet_taken conns queues number None is quiet free empty = quiet free empty
-quiet_taken conns queues number (Some place) is quiet free empty = quiet_put conns queues number place (drop 1 (queue_at queues place)) is quiet free empty
 
 pub taken_ordered : (taker : ℕ) (s : Switch) → Ordered s → Ordered (with_frame_taken taker s)
 taken_ordered taker s ordered = record {
   distinct = ordered.distinct;
   within = ordered.within;
   opened = ordered.opened;
-  places = changed_length without_first_frame (λ place queues. length-set queues place (drop 1 (queue_at queues place))) (place_of s.conns taker) s.queues ∙ ordered.places;
+  places = changed_length without_first_frame (λ place queues. length-set queues place (drop 1 (queue_at queues place)))
+      (place_of s.conns taker) s.queues ∙ ordered.places;
   quiet = quiet_taken s.conns s.queues taker (place_of s.conns taker) refl ordered.quiet;
 }
 
@@ -200,10 +143,12 @@ taken_ordered taker s ordered = record {
 pub taken_same : (conn : ℕ) (s : Switch) → Ordered s → waiting_for (with_frame_taken conn s) conn ≡ drop 1 (waiting_for s conn)
 taken_same conn s ordered = by (place_of s.conns conn) refl
   where
-    by : (found : Option ℕ) → place_of s.conns conn ≡ found → waiting_at (changed_at without_first_frame found s.queues) found ≡ drop 1 (waiting_at s.queues found)
+    by : (found : Option ℕ) → place_of s.conns conn ≡ found →
+        waiting_at (changed_at without_first_frame found s.queues) found ≡ drop 1 (waiting_at s.queues found)
     by None is = refl
     by (Some place) is =
-        get_or-set_same s.queues place (drop 1 (queue_at s.queues place)) [] (subst (λ n. place < n) (sym ordered.places) (place_within s.conns conn place is))
+        get_or-set_same s.queues place (drop 1 (queue_at s.queues place)) []
+        (subst (λ n. place < n) (sym ordered.places) (place_within s.conns conn place is))
 
 -- and for all others what waited
 pub taken_other : (taker conn : ℕ) (s : Switch) → (taker ≡ conn → ⊥) → waiting_for (with_frame_taken taker s) conn ≡ waiting_for s conn
@@ -214,19 +159,10 @@ taken_other taker conn s differ = by (place_of s.conns taker) (place_of s.conns 
     by None found is_there is = refl
     by (Some place) None is_there is = refl
     by (Some place) (Some mine) is_there is =
-        get_or-set_other s.queues place mine (drop 1 (queue_at s.queues place)) [] (λ same. differ (sym (places_apart s.conns conn taker mine place is is_there same)))
+        get_or-set_other s.queues place mine (drop 1 (queue_at s.queues place)) []
+        (λ same. differ (sym (places_apart s.conns conn taker mine place is is_there same)))
 
 -- ---- a connection goes
-
--- the place that is left is quiet
-quiet_less : (conns : List (Option (Numbered Conn))) (queues : List Frames) (found : Option ℕ) → AreQuiet conns queues →
-    AreQuiet (with_held_at conns None found) (changed_at without_frames found queues)
-quiet_less conns queues None quiet place free = quiet place free
-quiet_less conns queues (Some put) quiet place free = by (cases_eq place put)
-  where
-    by : (place ≡ put) ⊎ (place ≡ put → ⊥) → queue_at (without_frames put queues) place ≡ []
-    by (inl same) = subst (λ p. queue_at (without_frames put queues) p ≡ []) (sym same) (queue_emptied queues put)
-    by (inr differ) = get_or-set_other queues put place [] [] differ ∙ quiet place (less_free conns put place differ free)
 
 pub without_ordered : (gone : ℕ) (s : Switch) → Ordered s → Ordered (without_conn gone s)
 without_ordered gone s ordered = record {
@@ -241,7 +177,8 @@ without_ordered gone s ordered = record {
 
 -- nothing waits for it any more
 pub without_same : (gone : ℕ) (s : Switch) → Ordered s → waiting_for (without_conn gone s) gone ≡ []
-without_same gone s ordered = ap (waiting_at (changed_at without_frames (place_of s.conns gone) s.queues)) (place_of-without_row_same s.conns gone ordered.distinct)
+without_same gone s ordered =
+    ap (waiting_at (changed_at without_frames (place_of s.conns gone) s.queues)) (place_of-without_row_same s.conns gone ordered.distinct)
 
 -- for all others waits what waited
 pub without_other : (gone conn : ℕ) (s : Switch) → (gone ≡ conn → ⊥) → waiting_for (without_conn gone s) conn ≡ waiting_for s conn
@@ -264,45 +201,58 @@ number_above drawn room = omega arith
 
 -- so no connection has it
 pub number_new : (s : Switch) → Ordered s → s.drawn.conns < 2 ^ 32 - 1 → place_of s.conns (numbers.with_conn s.drawn).conns ≡ None
-number_new s ordered room = above_nowhere s.conns s.drawn.conns (numbers.with_conn s.drawn).conns ordered.within (number_above s.drawn.conns room)
+number_new s ordered room =
+    above_nowhere s.conns s.drawn.conns (numbers.with_conn s.drawn).conns ordered.within (number_above s.drawn.conns room)
 
 pub arrived_ordered : (s : Switch) → Ordered s → s.drawn.conns < 2 ^ 32 - 1 → Ordered (arrived s).state
 arrived_ordered s ordered room = record {
   distinct = distinct-with_new_row s.conns (numbers.with_conn s.drawn).conns new_conn ordered.distinct (number_new s ordered room);
   within = within-with_new_row s.conns (numbers.with_conn s.drawn).conns new_conn (numbers.with_conn s.drawn).conns
       (λ number place stands. omega (arith, ordered.within number place stands, number_above s.drawn.conns room)) (omega arith);
-  opened = each_put_at (λ held. is_shut held ≡ false) s.conns (Some (record { number = (numbers.with_conn s.drawn).conns; held = new_conn })) (least_free s.conns 0) ordered.opened refl;
-  places = ordered.places ∙ sym (length_put_at s.conns (Some (record { number = (numbers.with_conn s.drawn).conns; held = new_conn })) (least_free s.conns 0));
+  opened =
+      each_put_at (λ held. is_shut held ≡ false) s.conns (Some (record { number = (numbers.with_conn s.drawn).conns; held = new_conn }))
+      (least_free s.conns 0) ordered.opened refl;
+  places = ordered.places
+      ∙ sym (length_put_at s.conns (Some (record { number = (numbers.with_conn s.drawn).conns; held = new_conn })) (least_free s.conns 0));
   quiet = λ place free. ordered.quiet place (new_free s.conns (numbers.with_conn s.drawn).conns new_conn place free);
 }
 
 -- nothing waits for it yet but what the entry gives
-pub arrived_waits : (s : Switch) (conn : ℕ) → Ordered s → s.drawn.conns < 2 ^ 32 - 1 → waiting_for (arrived s).state conn ≡ waiting_for s conn
+pub arrived_waits : (s : Switch) (conn : ℕ) → Ordered s → s.drawn.conns < 2 ^ 32 - 1 →
+    waiting_for (arrived s).state conn ≡ waiting_for s conn
 arrived_waits s conn ordered room = by (cases_eq (numbers.with_conn s.drawn).conns conn)
   where
     new : place_of s.conns (numbers.with_conn s.drawn).conns ≡ None
     new = number_new s ordered room
 
-    nothing : (found : Option ℕ) → place_of (with_new_row s.conns (numbers.with_conn s.drawn).conns new_conn) (numbers.with_conn s.drawn).conns ≡ found → waiting_at s.queues found ≡ []
+    nothing : (found : Option ℕ) →
+        place_of (with_new_row s.conns (numbers.with_conn s.drawn).conns new_conn) (numbers.with_conn s.drawn).conns ≡ found →
+        waiting_at s.queues found ≡ []
     nothing None is = refl
     nothing (Some place) is =
         ordered.quiet place (new_stands s.conns (numbers.with_conn s.drawn).conns new_conn place new
         (place_stands (with_new_row s.conns (numbers.with_conn s.drawn).conns new_conn) (numbers.with_conn s.drawn).conns place is))
 
-    by : ((numbers.with_conn s.drawn).conns ≡ conn) ⊎ ((numbers.with_conn s.drawn).conns ≡ conn → ⊥) → waiting_for (arrived s).state conn ≡ waiting_for s conn
+    by : ((numbers.with_conn s.drawn).conns ≡ conn) ⊎ ((numbers.with_conn s.drawn).conns ≡ conn → ⊥) →
+        waiting_for (arrived s).state conn ≡ waiting_for s conn
     by (inl same) = subst (λ number. waiting_for (arrived s).state number ≡ waiting_for s number) same
-        (nothing (place_of (with_new_row s.conns (numbers.with_conn s.drawn).conns new_conn) (numbers.with_conn s.drawn).conns) refl ∙ sym (ap (waiting_at s.queues) new))
+        (nothing (place_of (with_new_row s.conns (numbers.with_conn s.drawn).conns new_conn) (numbers.with_conn s.drawn).conns) refl
+        ∙ sym (ap (waiting_at s.queues) new))
     by (inr differ) = ap (waiting_at s.queues) (place_of-with_new_row_other s.conns (numbers.with_conn s.drawn).conns new_conn conn differ)
 
 -- one that had a smaller number, and is gone, stays so
-pub arrived_gone : (s : Switch) (conn : ℕ) → s.drawn.conns < 2 ^ 32 - 1 → place_of s.conns conn ≡ None → conn ≤ s.drawn.conns → place_of (arrived s).state.conns conn ≡ None
+pub arrived_gone : (s : Switch) (conn : ℕ) → s.drawn.conns < 2 ^ 32 - 1 → place_of s.conns conn ≡ None → conn ≤ s.drawn.conns →
+    place_of (arrived s).state.conns conn ≡ None
 arrived_gone s conn room none below =
-    place_of-with_new_row_other s.conns (numbers.with_conn s.drawn).conns new_conn conn (λ same. omega (arith, number_above s.drawn.conns room, below, same)) ∙ none
+    place_of-with_new_row_other s.conns (numbers.with_conn s.drawn).conns new_conn conn
+    (λ same. omega (arith, number_above s.drawn.conns room, below, same)) ∙ none
 
 -- one that is gone stays so when another goes
-pub without_gone : (gone : ℕ) (s : Switch) (conn : ℕ) → Ordered s → place_of s.conns conn ≡ None → place_of (without_conn gone s).conns conn ≡ None
+pub without_gone : (gone : ℕ) (s : Switch) (conn : ℕ) → Ordered s → place_of s.conns conn ≡ None →
+    place_of (without_conn gone s).conns conn ≡ None
 without_gone gone s conn ordered none = by (cases_eq gone conn)
   where
     by : (gone ≡ conn) ⊎ (gone ≡ conn → ⊥) → place_of (without_conn gone s).conns conn ≡ None
-    by (inl same) = subst (λ number. place_of (without_conn gone s).conns number ≡ None) same (place_of-without_row_same s.conns gone ordered.distinct)
+    by (inl same) =
+        subst (λ number. place_of (without_conn gone s).conns number ≡ None) same (place_of-without_row_same s.conns gone ordered.distinct)
     by (inr differ) = place_of-without_row_other s.conns gone conn differ ∙ none

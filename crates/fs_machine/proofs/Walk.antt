@@ -1,5 +1,5 @@
 -- The one walk through what channels do: a fact that bears each of their moves is kept by all that they do.
-use Rattle.std.proofs.Common.{◌≡◌, ℕ, ◌+◌, ◌==◌, nat_lt, Bool, true, false, if◌then◌else◌, List, [], ◌∷◌, length, Option, None, Some, option_map, option_and_then, is_none, refl, sym, ap, subst, ◌∙◌}
+use Rattle.std.proofs.Common.{◌≡◌, ℕ, ◌+◌, ◌==◌, nat_lt, Bool, true, false, if◌then◌else◌, List, [], ◌∷◌, length, Option, None, Some, option_map, option_and_then, is_none, refl, sym, ap, subst, ◌∙◌, arith}
 use Rattle.fs_text.specs.declared.states.State.{State}
 use Rattle.fs_text.specs.declared.states.State.TheVariants.{CsNew, CsInit, CsRouting, CsExecute, CsPark, CsConsumeMedia, CsHangup, CsReporting}
 use Rattle.fs_text.specs.State.{state_row, state_number}
@@ -29,6 +29,7 @@ use Rattle.fs_orig.specs.Changes.{with_answer, with_death}
 use Rattle.fs_orig.specs.Endpoints as endpoints
 use Rattle.fs_orig.specs.Endpoints.{endpoint_of}
 use Rattle.fs_places.specs.Places.{held_in}
+use Rattle.fs_places.proofs.HeldLemmas.{held_here, held_within, free_place}
 use Rattle.fs_plan.specs.declared.hunt.Hunt.{Hunt}
 use Rattle.fs_state.specs.declared.event.Event.{Event}
 use Rattle.fs_state.specs.Switch.{Switch, chan_at, with_chan, free_slot, with_event}
@@ -39,9 +40,8 @@ use Rattle.fs_machine.specs.Applications.{with_variable, without_variable, with_
 use Rattle.fs_machine.specs.Work.{with_variables, routed_to, has_xml, actions_for, too_long_cause, found_for, routed_by, routing_from, first_state, worked_waiting, worked_in, worked_from, worked}
 use Rattle.fs_machine.specs.Originations.{Made, made_in, with_second, free_pair, is_congested, made_of, leg_made}
 use Rattle.fs_machine.specs.Attempts.{all_hung}
-use Rattle.fs_machine.proofs.HeldLemmas.{held_here, held_within, free_place}
 use Rattle.fs_machine.proofs.ShortLemmas.{sent_short, application_short, endpoint_short}
-use Rattle.fs_machine.proofs.Kept.{Fact, Stays, KeptByCalls, KeptByBirths}
+use Rattle.fs_machine.proofs.Kept.{Stage, Fact, Stays, KeptByCalls, KeptByBirths}
 
 -- ---- states that live
 
@@ -114,7 +114,8 @@ record LivesAt (channels : List (Option Chan)) (slot : ℕ) : Type 0 where
   there : held_in channels slot ≡ Some chan
   live : is_live chan ≡ true
 
-lives_at : (channels : List (Option Chan)) (slot : ℕ) (c : Chan) (state : State) → held_in channels slot ≡ Some c → c.state ≡ state → Lives state → LivesAt channels slot
+lives_at : (channels : List (Option Chan)) (slot : ℕ) (c : Chan) (state : State) → held_in channels slot ≡ Some c → c.state ≡ state →
+    Lives state → LivesAt channels slot
 lives_at channels slot c state there is lives = record { chan = c; there = there; live = live_by c state true is lives }
 
 -- it is the one that stands there
@@ -140,16 +141,20 @@ module _ (P : Switch → Type 0) (told_kept : (event : Event) (s : Switch) → e
   differing_kept false first second = second
 
   pub state_told_kept : (old new : State) {s : Switch} → P s → P (with_state_events old new s)
-  state_told_kept old new h = differing_kept (state_number old == state_number new) h (told_kept (plain_event ChannelState) _ refl (come_told_kept new (left_told_kept old h)))
+  state_told_kept old new h =
+      differing_kept (state_number old == state_number new) h
+      (told_kept (plain_event ChannelState) _ refl (come_told_kept new (left_told_kept old h)))
 
 -- a change that others do not see leaves the slot's channel alive
-moved_lives : (change : Chan → Chan) (slot : ℕ) (s : Switch) → AllStay change → LivesAt s.channels slot → LivesAt (after_move change slot s).channels slot
+moved_lives : (change : Chan → Chan) (slot : ℕ) (s : Switch) → AllStay change → LivesAt s.channels slot →
+    LivesAt (after_move change slot s).channels slot
 moved_lives change slot s stays at =
     let new : Chan = change at.chan in
     subst (λ (found : Option Chan). LivesAt (after_move_from change slot found s).channels slot) (sym at.there)
     (record {
       chan = new;
-      there = state_told_kept (λ (t : Switch). chan_at t slot ≡ Some new) (λ event t plain h. h) at.chan.state new.state {s = with_chan slot (Some new) s}
+      there = state_told_kept (λ (t : Switch). chan_at t slot ≡ Some new)
+          (λ event t plain h. h) at.chan.state new.state {s = with_chan slot (Some new) s}
           (held_here s.channels slot (Some new) (held_within s.channels slot at.chan at.there));
       live = (stays at.chan).live ∙ at.live;
     })
@@ -161,7 +166,9 @@ module _ (P : Switch → Type 0) (one_kept : (cause : Cause) (slot : ℕ) (s : S
   pub pair_hung_kept : (cause : Cause) (slot : ℕ) (s : Switch) → P s → P (after_hangup cause slot s)
   pair_hung_kept cause slot s h = by (partner_at s slot)
     where
-      in_order : (partner : ℕ) (test : Bool) → P (if test then after_one_hangup cause partner (after_one_hangup cause slot s) else after_one_hangup cause slot (after_one_hangup cause partner s))
+      in_order : (partner : ℕ) (test : Bool) →
+          P (if test then after_one_hangup cause partner (after_one_hangup cause slot s)
+          else after_one_hangup cause slot (after_one_hangup cause partner s))
       in_order partner true = one_kept cause partner (after_one_hangup cause slot s) (one_kept cause slot s h)
       in_order partner false = one_kept cause slot (after_one_hangup cause partner s) (one_kept cause partner s h)
 
@@ -172,7 +179,8 @@ module _ (P : Switch → Type 0) (one_kept : (cause : Cause) (slot : ℕ) (s : S
 -- for what is kept where a channel is cut off, and where its leg is changed
 
 module _ (P : Switch → Type 0) (told_kept : (event : Event) (s : Switch) → event.bridge ≡ 0 → P s → P (with_event event s))
-    (cut_kept : (cause : Cause) (slot : ℕ) (c : Chan) (s : Switch) → chan_at s slot ≡ Some c → P s → P (with_chan slot (Some (hung_up cause c)) s))
+    (cut_kept : (cause : Cause) (slot : ℕ) (c : Chan) (s : Switch) → chan_at s slot ≡ Some c → P s →
+    P (with_chan slot (Some (hung_up cause c)) s))
     (leg_kept : (change : Orig → Orig) (number : ℕ) (s : Switch) → P s → P (orig_changed change number s)) where
   dies_kept : (change : ℕ → Orig → Orig) (slot : ℕ) (leg_of : Option ℕ) (s : Switch) → P s → P (its_leg_changed change slot leg_of s)
   dies_kept change slot None s h = h
@@ -195,53 +203,61 @@ module _ (P : Switch → Type 0) (told_kept : (event : Event) (s : Switch) → e
 
 module _ (P : Fact) (kept : KeptByCalls P) where
   -- what is kept by both is kept by the one that a test chooses
-  either : (test : Bool) {b : Bool} {s t : Switch} → P b s → P b t → P b (if test then s else t)
+  either : (test : Bool) {b : Stage} {s t : Switch} → P b s → P b t → P b (if test then s else t)
   either true first second = first
   either false first second = second
 
-  told_of : (old new : State) {b : Bool} {s : Switch} → P b s → P b (with_state_events old new s)
+  told_of : (old new : State) {b : Stage} {s : Switch} → P b s → P b (with_state_events old new s)
   told_of old new {b} h = state_told_kept (P b) (λ event s plain k. kept.told event plain k) old new h
 
-  moved_there : (change : Chan → Chan) (slot : ℕ) {b : Bool} {s : Switch} → ((c : Chan) → chan_at s slot ≡ Some c → Stays c (change c)) → P b s → P b (after_move change slot s)
+  moved_there : (change : Chan → Chan) (slot : ℕ) {b : Stage} {s : Switch} → ((c : Chan) → chan_at s slot ≡ Some c → Stays c (change c)) →
+      P b s → P b (after_move change slot s)
   moved_there change slot {b} {s} stays h = by (chan_at s slot) refl
     where
       by : (found : Option Chan) → chan_at s slot ≡ found → P b (after_move_from change slot found s)
       by None is = h
       by (Some c) is = told_of c.state (change c).state (kept.changed slot c (change c) is (stays c is) h)
 
-  moved_kept : (change : Chan → Chan) (slot : ℕ) {b : Bool} {s : Switch} → AllStay change → P b s → P b (after_move change slot s)
+  moved_kept : (change : Chan → Chan) (slot : ℕ) {b : Stage} {s : Switch} → AllStay change → P b s → P b (after_move change slot s)
   moved_kept change slot stays h = moved_there change slot (λ c is. stays c) h
 
   -- a live channel is changed
-  moved_alive : (change : Chan → Chan) (slot : ℕ) {b : Bool} {s : Switch} → LivesAt s.channels slot → ((c : Chan) → is_live c ≡ true → Stays c (change c)) → P b s → P b (after_move change slot s)
+  moved_alive : (change : Chan → Chan) (slot : ℕ) {b : Stage} {s : Switch} → LivesAt s.channels slot →
+      ((c : Chan) → is_live c ≡ true → Stays c (change c)) → P b s → P b (after_move change slot s)
   moved_alive change slot {b} {s} at stays h = moved_there change slot (λ c there. stays c (is_alive s.channels slot c at there)) h
 
-  begun_kept : (slot : ℕ) {b : Bool} {s : Switch} → LivesAt s.channels slot → P b s → P b (after_begin slot s)
+  begun_kept : (slot : ℕ) {b : Stage} {s : Switch} → LivesAt s.channels slot → P b s → P b (after_begin slot s)
   begun_kept slot at h =
-      moved_alive (in_state CsInit) slot at (λ c live. record { links = refl; live = init_lives ∙ sym live; short = λ short. short }) (kept.told (plain_event ChannelCreate) refl h)
+      moved_alive (in_state CsInit) slot at (λ c live. record { links = refl; live = init_lives ∙ sym live; short = λ short. short })
+      (kept.told (plain_event ChannelCreate) refl h)
 
-  run_on_kept : (action : Action) (slot : ℕ) {b : Bool} {s : Switch} → P b s → P b (run_on action slot s)
+  run_on_kept : (action : Action) (slot : ℕ) {b : Stage} {s : Switch} → P b s → P b (run_on action slot s)
   run_on_kept action slot h = kept.told (plain_event ChannelExecute) refl (moved_kept (with_running action) slot (running_stays action) h)
 
-  completed_kept : (slot : ℕ) {b : Bool} {s : Switch} → P b s → P b (after_completion slot s)
-  completed_kept slot h = kept.told (plain_event ChannelExecuteComplete) refl (moved_kept at_rest slot (λ c. record { links = refl; live = refl; short = λ short. short }) h)
+  completed_kept : (slot : ℕ) {b : Stage} {s : Switch} → P b s → P b (after_completion slot s)
+  completed_kept slot h =
+      kept.told (plain_event ChannelExecuteComplete) refl
+      (moved_kept at_rest slot (λ c. record { links = refl; live = refl; short = λ short. short }) h)
 
   -- ---- answers
 
-  its_leg_kept : (place slot : ℕ) (leg_of : Option ℕ) {b : Bool} {s : Switch} → P b s → P b (its_leg_changed (λ position. with_answer position place) slot leg_of s)
+  its_leg_kept : (place slot : ℕ) (leg_of : Option ℕ) {b : Stage} {s : Switch} → P b s →
+      P b (its_leg_changed (λ position. with_answer position place) slot leg_of s)
   its_leg_kept place slot None h = h
   its_leg_kept place slot (Some number) h = kept.answers place slot number h
 
-  one_answered_kept : (slot : ℕ) {b : Bool} {s : Switch} → P b s → P b (after_one_answer slot s)
+  one_answered_kept : (slot : ℕ) {b : Stage} {s : Switch} → P b s → P b (after_one_answer slot s)
   one_answered_kept slot {b} {s} h = by (chan_at s slot) refl
     where
       by : (found : Option Chan) → chan_at s slot ≡ found → P b (after_answer_from slot found s)
       by None is = h
       by (Some c) is =
           either (is_none c.answered)
-          (its_leg_kept s.entries slot c.leg_of (kept.told (plain_event ChannelAnswer) refl (kept.changed slot c (with_answer_place s.entries c) is (record { links = refl; live = refl; short = λ short. short }) h))) h
+          (its_leg_kept s.entries slot c.leg_of
+          (kept.told (plain_event ChannelAnswer) refl
+          (kept.changed slot c (with_answer_place s.entries c) is (record { links = refl; live = refl; short = λ short. short }) h))) h
 
-  answered_kept : (slot : ℕ) {b : Bool} {s : Switch} → P b s → P b (after_answer slot s)
+  answered_kept : (slot : ℕ) {b : Stage} {s : Switch} → P b s → P b (after_answer slot s)
   answered_kept slot {b} {s} h = by (partner_at s slot)
     where
       by : (partner : Option ℕ) → P b (for_slot after_one_answer partner (after_one_answer slot s))
@@ -250,9 +266,11 @@ module _ (P : Fact) (kept : KeptByCalls P) where
 
   -- ---- the end of channels
 
-  reported_kept : (slot : ℕ) (c : Chan) {b : Bool} {s : Switch} → chan_at s slot ≡ Some c → c.state ≡ CsHangup → P b s → P b (after_report slot s)
+  reported_kept : (slot : ℕ) (c : Chan) {b : Stage} {s : Switch} → chan_at s slot ≡ Some c → c.state ≡ CsHangup → P b s →
+      P b (after_report slot s)
   reported_kept slot c {b} {s} is hangup h =
-      moved_there (in_state CsReporting) slot (λ d there. record { links = refl; live = reporting_dead ∙ sym (dead d there); short = λ short. short })
+      moved_there (in_state CsReporting) slot
+      (λ d there. record { links = refl; live = reporting_dead ∙ sym (dead d there); short = λ short. short })
       (kept.told (plain_event ChannelHangupComplete) refl h)
     where
       dead : (d : Chan) → chan_at s slot ≡ Some d → is_live d ≡ false
@@ -260,29 +278,38 @@ module _ (P : Fact) (kept : KeptByCalls P) where
           let same : d ≡ c = cc in
           live_by d CsHangup false (ap (λ (x : Chan). x.state) same ∙ hangup) hangup_dead
 
-  destroyed_kept : (slot : ℕ) (c : Chan) {b : Bool} {s : Switch} → chan_at s slot ≡ Some c → c.state ≡ CsReporting → P b s → P b (after_destroy slot s)
-  destroyed_kept slot c is reporting h = kept.told (plain_event ChannelDestroy) refl (kept.told (plain_event ChannelState) refl (kept.gone slot c is (live_by c CsReporting false reporting reporting_dead) h))
+  destroyed_kept : (slot : ℕ) (c : Chan) {b : Stage} {s : Switch} → chan_at s slot ≡ Some c → c.state ≡ CsReporting → P b s →
+      P b (after_destroy slot s)
+  destroyed_kept slot c is reporting h =
+      kept.told (plain_event ChannelDestroy) refl
+      (kept.told (plain_event ChannelState) refl (kept.gone slot c is (live_by c CsReporting false reporting reporting_dead) h))
 
-  pub all_hung_kept : (cause : Cause) (slots : List ℕ) {b : Bool} {s : Switch} → P b s → P b (all_hung cause slots s)
+  pub all_hung_kept : (cause : Cause) (slots : List ℕ) {b : Stage} {s : Switch} → P b s → P b (all_hung cause slots s)
   all_hung_kept cause [] h = h
   all_hung_kept cause (slot ∷ slots) h = all_hung_kept cause slots (kept.hung cause slot h)
 
   -- ---- applications
 
-  sleeping_kept : (milliseconds slot : ℕ) {b : Bool} {s : Switch} → P b s → P b (sleeping milliseconds slot s)
+  sleeping_kept : (milliseconds slot : ℕ) {b : Stage} {s : Switch} → P b s → P b (sleeping milliseconds slot s)
   sleeping_kept milliseconds slot {b} {s} h =
-      either (milliseconds == 0) (completed_kept slot h) (moved_kept (asleep s.moment milliseconds) slot (λ c. record { links = refl; live = refl; short = λ short. short }) h)
+      either (milliseconds == 0) (completed_kept slot h)
+      (moved_kept (asleep s.moment milliseconds) slot (λ c. record { links = refl; live = refl; short = λ short. short }) h)
 
-  parking_kept : (state : Option State) (slot : ℕ) {b : Bool} {s : Switch} → LivesAt s.channels slot → P b s → P b (parking_in state slot s)
+  parking_kept : (state : Option State) (slot : ℕ) {b : Stage} {s : Switch} → LivesAt s.channels slot → P b s →
+      P b (parking_in state slot s)
   parking_kept None slot at h = h
   parking_kept (Some CsPark) slot at h = completed_kept slot h
-  parking_kept (Some _) slot at h = moved_alive parked slot at (λ c live. record { links = refl; live = park_lives ∙ sym live; short = λ short. short }) h
+  parking_kept (Some _) slot at h =
+      moved_alive parked slot at (λ c live. record { links = refl; live = park_lives ∙ sym live; short = λ short. short }) h
 
-  transferred_kept : (to : Target3) (slot : ℕ) {b : Bool} {s : Switch} → IsShortTarget to → LivesAt s.channels slot → P b s → P b (after_move (transferred to) slot s)
+  transferred_kept : (to : Target3) (slot : ℕ) {b : Stage} {s : Switch} → IsShortTarget to → LivesAt s.channels slot → P b s →
+      P b (after_move (transferred to) slot s)
   transferred_kept to slot short at h =
-      moved_alive (transferred to) slot at (λ c live. record { links = refl; live = routing_lives ∙ sym live; short = sent_short to c.profile short }) h
+      moved_alive (transferred to) slot at
+      (λ c live. record { links = refl; live = routing_lives ∙ sym live; short = sent_short to c.profile short }) h
 
-  effect_kept : (what : Application) (slot : ℕ) {b : Bool} {s : Switch} → apps.IsShortApplication what → LivesAt s.channels slot → P b s → P b (effect what slot s)
+  effect_kept : (what : Application) (slot : ℕ) {b : Stage} {s : Switch} → apps.IsShortApplication what → LivesAt s.channels slot → P b s →
+      P b (effect what slot s)
   effect_kept app.Answer slot short at h = completed_kept slot (answered_kept slot h)
   effect_kept (app.Set name value) slot short at h =
       completed_kept slot (moved_kept (with_variable name value) slot (λ c. record { links = refl; live = refl; short = λ h. h }) h)
@@ -298,21 +325,23 @@ module _ (P : Fact) (kept : KeptByCalls P) where
   effect_kept (app.Transfer to) slot short at h = transferred_kept to slot short at h
   effect_kept app.Unknown slot short at h = kept.hung DestinationOutOfOrder slot h
 
-  executed_kept : (application : Text) (argument : Option Text) (slot : ℕ) {b : Bool} {s : Switch} → LivesAt s.channels slot → P b s →
+  executed_kept : (application : Text) (argument : Option Text) (slot : ℕ) {b : Stage} {s : Switch} → LivesAt s.channels slot → P b s →
       P b (executed_within application argument slot s)
   executed_kept application None slot at h = kept.hung NormalTemporaryFailure slot h
   executed_kept application (Some argument) slot {b} {s} at h =
       let action : Action = record { application = application; argument = argument } in
-      effect_kept (application_of application argument) slot (application_short application argument) (moved_lives (with_running action) slot s (running_stays action) at)
-      (run_on_kept action slot h)
+      effect_kept (application_of application argument) slot (application_short application argument)
+      (moved_lives (with_running action) slot s (running_stays action) at) (run_on_kept action slot h)
 
-  ran_next_kept : (next : Option Action) (slot : ℕ) (c : Chan) {b : Bool} {s : Switch} → LivesAt s.channels slot → P b s → P b (ran_next next slot c s)
+  ran_next_kept : (next : Option Action) (slot : ℕ) (c : Chan) {b : Stage} {s : Switch} → LivesAt s.channels slot → P b s →
+      P b (ran_next next slot c s)
   ran_next_kept None slot c at h = kept.hung NormalClearing slot h
   ran_next_kept (Some action) slot c {b} {s} at h =
-      executed_kept action.application (argument_in c s action.argument) slot (moved_lives chan.after_next slot s after_next_stays at)
+      executed_kept action.application (argument_in c s action.argument) slot
+      (moved_lives chan.after_next slot s after_next_stays at)
       (moved_kept chan.after_next slot after_next_stays h)
 
-  ran_kept : (slot : ℕ) {b : Bool} {s : Switch} → LivesAt s.channels slot → P b s → P b (ran slot s)
+  ran_kept : (slot : ℕ) {b : Stage} {s : Switch} → LivesAt s.channels slot → P b s → P b (ran slot s)
   unfolding ran
   ran_kept slot {b} {s} at h = by (chan_at s slot)
     where
@@ -322,39 +351,50 @@ module _ (P : Fact) (kept : KeptByCalls P) where
 
   -- ---- work
 
-  routed_kept : (vars : Variables) (actions : List Action) (slot : ℕ) {b : Bool} {s : Switch} → LivesAt s.channels slot → P b s → P b (routed_to vars actions slot s)
+  routed_kept : (vars : Variables) (actions : List Action) (slot : ℕ) {b : Stage} {s : Switch} → LivesAt s.channels slot → P b s →
+      P b (routed_to vars actions slot s)
   routed_kept vars actions slot at h =
-      either (length actions == 0) (kept.hung NoRouteDestination slot (moved_kept (with_variables vars) slot (λ c. record { links = refl; live = refl; short = λ short. short }) h))
-      (moved_alive (routed vars actions) slot at (λ c live. record { links = refl; live = execute_lives ∙ sym live; short = λ short. short }) h)
+      either (length actions == 0)
+      (kept.hung NoRouteDestination slot
+      (moved_kept (with_variables vars) slot (λ c. record { links = refl; live = refl; short = λ short. short }) h))
+      (moved_alive (routed vars actions) slot at
+      (λ c live. record { links = refl; live = execute_lives ∙ sym live; short = λ short. short }) h)
 
-  routed_by_kept : (hunt : Option Hunt) (c : Chan) (slot : ℕ) {b : Bool} {s : Switch} → LivesAt s.channels slot → P b s → P b (routed_by hunt c slot s)
+  routed_by_kept : (hunt : Option Hunt) (c : Chan) (slot : ℕ) {b : Stage} {s : Switch} → LivesAt s.channels slot → P b s →
+      P b (routed_by hunt c slot s)
   routed_by_kept None c slot at h = kept.hung (too_long_cause (has_xml c)) slot h
-  routed_by_kept (Some hunt) c slot at h = routed_kept hunt.vars (actions_for (has_xml c) hunt.actions) slot at (kept.globals hunt.globals h)
+  routed_by_kept (Some hunt) c slot at h =
+      routed_kept hunt.vars (actions_for (has_xml c) hunt.actions) slot at (kept.globals hunt.globals h)
 
-  routing_kept : (slot : ℕ) (found : Option Chan) {b : Bool} {s : Switch} → LivesAt s.channels slot → P b s → P b (routing_from slot found s)
+  routing_kept : (slot : ℕ) (found : Option Chan) {b : Stage} {s : Switch} → LivesAt s.channels slot → P b s →
+      P b (routing_from slot found s)
   routing_kept slot None at h = h
-  routing_kept slot (Some c) {b} {s} at h = either (may_route c) (routed_by_kept (found_for c s) c slot at h) (kept.hung ExchangeRoutingError slot h)
+  routing_kept slot (Some c) {b} {s} at h =
+      either (may_route c) (routed_by_kept (found_for c s) c slot at h) (kept.hung ExchangeRoutingError slot h)
 
-  waiting_kept : (wait : Wait) (slot : ℕ) {b : Bool} {s : Switch} → LivesAt s.channels slot → P b s → P b (worked_waiting wait slot s)
+  waiting_kept : (wait : Wait) (slot : ℕ) {b : Stage} {s : Switch} → LivesAt s.channels slot → P b s → P b (worked_waiting wait slot s)
   waiting_kept Ready slot at h = ran_kept slot at h
   waiting_kept (Sleep until) slot at h = completed_kept slot h
   waiting_kept Parked slot at h = ran_kept slot at h
   waiting_kept (Socket conn) slot at h = ran_kept slot at h
   waiting_kept _ slot at h = h
 
-  working_kept : (state : State) (slot : ℕ) (c : Chan) {b : Bool} {s : Switch} → chan_at s slot ≡ Some c → c.state ≡ state → P b s → P b (worked_in state slot c s)
+  working_kept : (state : State) (slot : ℕ) (c : Chan) {b : Stage} {s : Switch} → chan_at s slot ≡ Some c → c.state ≡ state → P b s →
+      P b (worked_in state slot c s)
   working_kept CsNew slot c {b} {s} there is h = begun_kept slot (lives_at s.channels slot c CsNew there is new_lives) h
   working_kept CsInit slot c {b} {s} there is h =
       moved_alive (in_state (first_state c.direction)) slot (lives_at s.channels slot c CsInit there is init_lives)
       (λ d live. record { links = refl; live = first_lives c.direction ∙ sym live; short = λ short. short }) h
-  working_kept CsRouting slot c {b} {s} there is h = routing_kept slot (chan_at s slot) (lives_at s.channels slot c CsRouting there is routing_lives) h
-  working_kept CsExecute slot c {b} {s} there is h = waiting_kept c.wait slot (lives_at s.channels slot c CsExecute there is execute_lives) h
+  working_kept CsRouting slot c {b} {s} there is h =
+      routing_kept slot (chan_at s slot) (lives_at s.channels slot c CsRouting there is routing_lives) h
+  working_kept CsExecute slot c {b} {s} there is h =
+      waiting_kept c.wait slot (lives_at s.channels slot c CsExecute there is execute_lives) h
   working_kept CsPark slot c {b} {s} there is h = waiting_kept c.wait slot (lives_at s.channels slot c CsPark there is park_lives) h
   working_kept CsHangup slot c there is h = reported_kept slot c there is h
   working_kept CsReporting slot c there is h = destroyed_kept slot c there is h
   working_kept _ slot c there is h = h
 
-  pub worked_kept : (slot : ℕ) {b : Bool} {s : Switch} → P b s → P b (worked slot s)
+  pub worked_kept : (slot : ℕ) {b : Stage} {s : Switch} → P b s → P b (worked slot s)
   unfolding worked
   worked_kept slot {b} {s} h = by (chan_at s slot) refl
     where
@@ -365,26 +405,36 @@ module _ (P : Fact) (kept : KeptByCalls P) where
 -- ---- births
 
 module _ (P : Fact) (births : KeptByBirths P) where
-  either_made : (test : Bool) (x y : Made) → P false x.state → P false y.state → P false (if test then x else y).state
+  either_made : (test : Bool) (x y : Made) {b : Stage} → P b x.state → P b y.state → P b (if test then x else y).state
   either_made true x y first second = first
   either_made false x y first second = second
 
-  pair_kept : (call : Call) (orig : ℕ) {s : Switch} → endpoints.IsShortAddress call.exten call.context → P true s → P false (made_in call orig (free_pair s) s).state
-  pair_kept call orig {s} short h = first (free_slot 1 s) refl
-    where
-      second : (a : ℕ) → free_slot 1 s ≡ Some a → (found : Option ℕ) → free_slot (a + 1) s ≡ found → P false (made_in call orig (option_map (λ b. (a, b)) found) s).state
-      second a is_a None is = births.spent h
-      second a is_a (Some b) is = births.pair call orig a b short (free_place Chan s.channels 1 a is_a) (free_place Chan s.channels (a + 1) b is) h
+  -- where there is no pair, no more is drawn
+  unmade : {n : ℕ} {s : Switch} → P (Some n) s → P (Some (n + 2)) s
+  unmade h = births.more (omega arith) h
 
-      first : (found : Option ℕ) → free_slot 1 s ≡ found → P false (made_in call orig (option_and_then (with_second s) found) s).state
-      first None is = births.spent h
+  pair_kept : (call : Call) (orig : ℕ) {n : ℕ} {s : Switch} → endpoints.IsShortAddress call.exten call.context → P (Some n) s →
+      P (Some (n + 2)) (made_in call orig (free_pair s) s).state
+  pair_kept call orig {n} {s} short h = first (free_slot 1 s) refl
+    where
+      second : (a : ℕ) → free_slot 1 s ≡ Some a → (found : Option ℕ) → free_slot (a + 1) s ≡ found →
+          P (Some (n + 2)) (made_in call orig (option_map (λ b. (a, b)) found) s).state
+      second a is_a None is = unmade h
+      second a is_a (Some b) is =
+          births.pair call orig a b short (free_place Chan s.channels 1 a is_a) (free_place Chan s.channels (a + 1) b is) h
+
+      first : (found : Option ℕ) → free_slot 1 s ≡ found →
+          P (Some (n + 2)) (made_in call orig (option_and_then (with_second s) found) s).state
+      first None is = unmade h
       first (Some a) is = second a is (free_slot (a + 1) s) refl
 
-  made_kept : (endpoint : Endpoint) (caller : Caller) (orig : ℕ) {s : Switch} → endpoints.IsShortEndpoint endpoint → P true s → P false (made_of endpoint caller orig s).state
-  made_kept (Dead cause) caller orig short h = births.spent h
+  made_kept : (endpoint : Endpoint) (caller : Caller) (orig : ℕ) {n : ℕ} {s : Switch} → endpoints.IsShortEndpoint endpoint → P (Some n) s →
+      P (Some (n + 2)) (made_of endpoint caller orig s).state
+  made_kept (Dead cause) caller orig short h = unmade h
   made_kept (Loopback exten context) caller orig {s} short h =
-      either_made (is_congested s) _ _ (births.spent h) (pair_kept (record { exten = exten; context = context; caller = caller }) orig short h)
+      either_made (is_congested s) _ _ (unmade h) (pair_kept (record { exten = exten; context = context; caller = caller }) orig short h)
 
-  pub leg_made_kept : (endpoint : Text) (caller : Caller) (orig : ℕ) {s : Switch} → P true s → P false (leg_made endpoint caller orig s).state
+  pub leg_made_kept : (endpoint : Text) (caller : Caller) (orig : ℕ) {n : ℕ} {s : Switch} → P (Some n) s →
+      P (Some (n + 2)) (leg_made endpoint caller orig s).state
   unfolding leg_made
   leg_made_kept endpoint caller orig h = made_kept (endpoint_of endpoint) caller orig (endpoint_short endpoint) h

@@ -5,6 +5,8 @@ use Rattle.fs_api.specs.declared.api.Winner.{Winner}
 use Rattle.fs_places.specs.declared.numbered.Numbered.{Numbered}
 use Rattle.fs_places.specs.Places.{held_in, least_free}
 use Rattle.fs_places.specs.Rows.{place_of}
+use Rattle.fs_places.proofs.RowLemmas.{each_put_at}
+use Rattle.fs_places.proofs.TableLemmas.{row_found}
 use Rattle.fs_state.specs.declared.conn.Conn.{Conn}
 use Rattle.fs_state.specs.declared.conn.Parting.TheVariants as parting
 use Rattle.fs_state.specs.declared.job.Job.{Job}
@@ -17,8 +19,6 @@ use Rattle.fs_machine.specs.Connections.{conn_changed, admitted, parted, owed_si
 use Rattle.fs_machine.specs.Originations.{leg_made, won}
 use Rattle.fs_machine.specs.Attempts.{orig_begun, originate_begun}
 use Rattle.fs_machine.specs.Owing.{after_job_begin, after_job_end}
-use Rattle.fs_machine.proofs.RowLemmas.{each_put_at}
-use Rattle.fs_machine.proofs.TableLemmas.{row_found}
 use Rattle.fs_machine.proofs.Kept.{Fact, DoesJob, IsShortWinner, KeptByMoves}
 use Rattle.fs_machine.proofs.FrontLemmas.{conn_unread}
 use Rattle.fs_machine.proofs.RestLemmas.{Rest, rest_of, calls_by_rest, leg_made_rest, won_rest}
@@ -39,7 +39,8 @@ abbrev pub Winners : Fact
 Winners b s = WinnersAreShort s.jobs
 
 -- so is that of a job that is there
-pub winner_of_job : (s : Switch) (number conn orig : ℕ) (winner : Winner) → DoesJob s number conn (Originate orig winner) → WinnersAreShort s.jobs → IsShortWinner winner
+pub winner_of_job : (s : Switch) (number conn orig : ℕ) (winner : Winner) → DoesJob s number conn (Originate orig winner) →
+    WinnersAreShort s.jobs → IsShortWinner winner
 winner_of_job s number conn orig winner does h =
     let found = row_found s.jobs number (record { conn = conn; work = Originate orig winner }) does.there in
     let there : IsShortWork found.1.held.work = subst ShortIn found.2.there (h found.0) in
@@ -51,22 +52,26 @@ conn_jobs change conn s = conn_unread (λ (t : Switch). t.jobs) (λ conns t. ref
 same_winners : (s t : Switch) → t.jobs ≡ s.jobs → WinnersAreShort s.jobs → WinnersAreShort t.jobs
 same_winners s t same h = subst WinnersAreShort (sym same) h
 
-owing_winners : (conn : ℕ) (what : JobWork) (s : Switch) → IsShortWork what → WinnersAreShort s.jobs → WinnersAreShort (after_job_begin conn what s).jobs
+owing_winners : (conn : ℕ) (what : JobWork) (s : Switch) → IsShortWork what → WinnersAreShort s.jobs →
+    WinnersAreShort (after_job_begin conn what s).jobs
 owing_winners conn what s short h =
     let begun : Switch = with_new_job (record { conn = conn; work = what }) s in
     same_winners begun (after_job_begin conn what s) (conn_jobs (owed_since s.entries) conn begun)
-    (each_put_at ShortIn s.jobs (Some (record { number = next_job_number s; held = record { conn = conn; work = what } })) (least_free s.jobs 0) h short)
+    (each_put_at ShortIn s.jobs (Some (record { number = next_job_number s; held = record { conn = conn; work = what } }))
+    (least_free s.jobs 0) h short)
 
 ended_winners : (number conn : ℕ) (answer : Text) (s : Switch) → WinnersAreShort s.jobs →
     WinnersAreShort (after_job_end number conn answer s).jobs
 ended_winners number conn answer s h =
-    same_winners (without_job number s) (after_job_end number conn answer s) (conn_jobs not_owed conn (without_job number s)) (each_put_at ShortIn s.jobs None (place_of s.jobs number) h tt)
+    same_winners (without_job number s) (after_job_end number conn answer s) (conn_jobs not_owed conn (without_job number s))
+    (each_put_at ShortIn s.jobs None (place_of s.jobs number) h tt)
 
 -- by what leaves the rest as it is
 rest_winners : (s t : Switch) → rest_of t ≡ rest_of s → WinnersAreShort s.jobs → WinnersAreShort t.jobs
 rest_winners s t same h = same_winners s t (ap (λ (r : Rest). r.jobs) same) h
 
-originates_winners : (conn : ℕ) (endpoint : Text) (winner : Winner) (caller : Caller) (timeout : Option ℕ) (s : Switch) → IsShortWinner winner → WinnersAreShort s.jobs →
+originates_winners : (conn : ℕ) (endpoint : Text) (winner : Winner) (caller : Caller) (timeout : Option ℕ) (s : Switch) →
+    IsShortWinner winner → WinnersAreShort s.jobs →
     WinnersAreShort (originate_begun conn endpoint winner caller timeout s).jobs
 originates_winners conn endpoint winner caller timeout s short h =
     let made = leg_made endpoint caller (next_orig_number s) s in
@@ -85,6 +90,7 @@ winners_moves before = record {
   };
   commands = λ conn. record {
     spent = λ h. h;
+    more = λ below h. h;
     gave = λ frame h. h;
     admitted = λ {s = s} fresh h. same_winners s (conn_changed admitted conn s) (conn_jobs admitted conn s) h;
     parted = λ why {s = s} leaves h. same_winners s (conn_changed (parted why) conn s) (conn_jobs (parted why) conn s) h;
@@ -94,7 +100,8 @@ winners_moves before = record {
   visits = record {
     arrived = λ h. h;
     taken = λ conn h. h;
-    silent = λ conn {s = s} h. same_winners s (conn_changed (parted parting.EndOfInput) conn s) (conn_jobs (parted parting.EndOfInput) conn s) h;
+    silent = λ conn {s = s} h. same_winners s (conn_changed (parted parting.EndOfInput) conn s)
+        (conn_jobs (parted parting.EndOfInput) conn s) h;
     left = λ conn h. h;
   };
 }

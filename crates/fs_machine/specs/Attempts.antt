@@ -1,6 +1,5 @@
 -- Originations that jobs try: how they begin, and what comes of them.
-use Rattle.std.specs.Prelude.{ℕ, ◌*◌, if◌then◌else◌, List, [], ◌∷◌, Option, None, Some, unwrap_or, slice_get}
-use Rattle.std.specs.List.{filter_map}
+use Rattle.std.specs.Prelude.{ℕ, ◌*◌, List, [], ◌∷◌, Option, None, Some, unwrap_or, slice_get}
 use Rattle.fs_text.specs.declared.causes.Cause.{Cause}
 use Rattle.fs_text.specs.declared.causes.Cause.TheVariants.{NoAnswer}
 use Rattle.fs_vars.specs.Pairs.{Text}
@@ -12,7 +11,7 @@ use Rattle.fs_orig.specs.declared.orig.Orig.{Orig}
 use Rattle.fs_orig.specs.declared.orig.Owner.TheVariants as owner
 use Rattle.fs_orig.specs.declared.verdict.Verdict.{Verdict}
 use Rattle.fs_orig.specs.declared.verdict.Verdict.TheVariants as verdict
-use Rattle.fs_orig.specs.Legs.{lives}
+use Rattle.fs_orig.specs.Legs.{living_slots}
 use Rattle.fs_orig.specs.Changes.{new_orig}
 use Rattle.fs_orig.specs.Verdicts.{verdict_of}
 use Rattle.fs_state.specs.declared.job.JobWork.TheVariants.{Originate}
@@ -46,13 +45,6 @@ tried_by_job conn endpoint winner timeout orig made =
 abbrev pub originate_begun : ℕ → Text → Winner → Caller → Option ℕ → Switch → Switch
 originate_begun conn endpoint winner caller timeout s =
     tried_by_job conn endpoint winner (unwrap_or timeout 60) (next_orig_number s) (leg_made endpoint caller (next_orig_number s) s)
-
--- the slots of the legs that live
-abbrev pub living_slot : OrigLeg → Option ℕ
-living_slot leg = if lives leg then leg.slot else None
-
-abbrev pub living_slots : List OrigLeg → List ℕ
-living_slots legs = filter_map living_slot legs
 
 -- the channels in these slots are hung up, one after another
 abbrev pub all_hung : Cause → List ℕ → Switch → Switch

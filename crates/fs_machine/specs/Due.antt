@@ -1,5 +1,5 @@
 -- When channels and jobs have something to do by themselves.
-use Rattle.std.specs.Prelude.{ℕ, min, Bool, true, false, if◌then◌else◌, List, [], ◌∷◌, Option, None, Some}
+use Rattle.std.specs.Prelude.{ℕ, Bool, true, false, if◌then◌else◌, Option, None, Some}
 use Rattle.std.specs.Option.{option_and_then}
 use Rattle.fs_chan.specs.declared.chan.Chan.{Chan}
 use Rattle.fs_chan.specs.declared.due.Due.{Due}
@@ -9,6 +9,7 @@ use Rattle.fs_orig.specs.declared.orig.Orig.{Orig}
 use Rattle.fs_orig.specs.Verdicts as verdicts
 use Rattle.fs_places.specs.declared.numbered.Numbered.{Numbered}
 use Rattle.fs_places.specs.Places.{first_place}
+use Rattle.fs_places.specs.Least.{lesser, least_of}
 use Rattle.fs_state.specs.declared.job.Job.{Job}
 use Rattle.fs_state.specs.declared.job.JobWork.{JobWork}
 use Rattle.fs_state.specs.declared.job.JobWork.TheVariants.{Sleep, Originate}
@@ -56,17 +57,6 @@ is_due s chan = is_now (chan_due s chan)
 
 abbrev pub due_slot : Switch → Option ℕ
 due_slot s = first_place (is_due s) s.channels 0
-
--- the lesser of two numbers, where they are there
-abbrev pub lesser : Option ℕ → Option ℕ → Option ℕ
-lesser None m = m
-lesser (Some n) None = Some n
-lesser (Some n) (Some m) = Some (min n m)
-
--- the least of the numbers that things have
-abbrev pub least_of : {T : Type 0} → (T → Option ℕ) → List T → Option ℕ
-least_of number [] = None
-least_of number (thing ∷ things) = lesser (number thing) (least_of number things)
 
 -- the moment at which a channel or a job will have something to do
 abbrev pub chan_moment : Switch → Option Chan → Option ℕ

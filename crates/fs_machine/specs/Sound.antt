@@ -1,8 +1,11 @@
--- What holds of the channels of every switch that a run comes to.
-use Rattle.std.specs.Prelude.{◌≡◌, ◌≢◌, ℕ, true, Some}
+-- What holds of the channels, and of the legs of originations, in every switch that a run comes to.
+use Rattle.std.specs.Prelude.{◌≡◌, ◌≢◌, ℕ, true, Some, slice_get}
 use Rattle.fs_chan.specs.declared.chan.Chan.{Chan}
 use Rattle.fs_chan.specs.Changes.{is_live, HasShortFields}
-use Rattle.fs_state.specs.Switch.{Switch, chan_at}
+use Rattle.fs_orig.specs.declared.leg.OrigLeg.{OrigLeg}
+use Rattle.fs_orig.specs.declared.orig.Orig.{Orig}
+use Rattle.fs_orig.specs.Legs.{lives}
+use Rattle.fs_state.specs.Switch.{Switch, chan_at, orig_of}
 use Rattle.fs_machine.specs.Owed.{AreOwed}
 
 -- a live channel stands in a slot, and the one in another slot is its loopback partner
@@ -34,10 +37,34 @@ pub record ProfilesAreShort (s : Switch) : Type 0 where
 pub record IdentifiersDiffer (s : Switch) : Type 0 where
   pub apart : (slot other : ℕ) (c d : Chan) → chan_at s slot ≡ Some c → chan_at s other ≡ Some d → slot ≢ other → c.uuid ≢ d.uuid
 
+-- a leg of the origination of this number lives
+pub record HasLeg (s : Switch) (number : ℕ) (leg : OrigLeg) : Type 0 where
+  pub orig : Orig
+  pub there : orig_of s number ≡ Some orig
+  pub position : ℕ
+  pub at : slice_get orig.legs position ≡ Some leg
+  pub lives : lives leg ≡ true
+
+-- a leg is a live channel, which names the origination of this number
+pub record IsChannelOf (s : Switch) (number : ℕ) (leg : OrigLeg) : Type 0 where
+  pub slot : ℕ
+  pub is : leg.slot ≡ Some slot
+  pub chan : Chan
+  pub there : chan_at s slot ≡ Some chan
+  pub live : is_live chan ≡ true
+  pub names : chan.leg_of ≡ Some number
+
+-- each living leg of an origination is a live channel that names the origination, and no two are the same one
+pub record LegsAreChannels (s : Switch) : Type 0 where
+  pub each : (number : ℕ) (leg : OrigLeg) → HasLeg s number leg → IsChannelOf s number leg
+  pub apart : (number : ℕ) (leg other : OrigLeg) (one : HasLeg s number leg) (two : HasLeg s number other) → leg.slot ≡ other.slot →
+      one.position ≡ two.position
+
 -- what holds of the state of every machine
 pub record IsSound (s : Switch) : Type 0 where
   pub partners : PartnersAgree s
   pub live : LiveHasPartner s
   pub profiles : ProfilesAreShort s
   pub identifiers : IdentifiersDiffer s
+  pub legs : LegsAreChannels s
   pub owed : AreOwed s

@@ -1,5 +1,6 @@
 //! Originations that jobs try: how they begin, and what comes of them.
 ghost use Rattle.std.specs.Prelude.{◌≡◌, Some, slice_get, IfOk, OnOk};
+ghost use Rattle.fs_orig.specs.Legs as legs;
 ghost use Rattle.fs_state.specs.Drafts.{drafted};
 ghost use Rattle.fs_machine.specs.Attempts as spec;
 ghost use Rattle.fs_machine.specs.Originations.{won};
@@ -160,9 +161,9 @@ fn end_attempt(draft: &mut Draft<'_>, attempt: Attempt, answer: &[u8]) -> Result
 }
 
 // The slots of the legs of an origination that live.
-#[tactic(auto, using(crate::proofs::LegLemmas::living_there, crate::proofs::LegLemmas::living_elsewhere, crate::proofs::LegLemmas::living_done))]
+#[tactic(auto, using(fs_orig::proofs::LegLemmas::living_there, fs_orig::proofs::LegLemmas::living_elsewhere, fs_orig::proofs::LegLemmas::living_done))]
 fn living_slots(alloc: Global, orig: &Orig) -> Result<Vec<u16>, Memory>
-    ensures { IfOk result (λ slots. slots.items ≡ spec.living_slots orig.now.legs) }
+    ensures { IfOk result (λ slots. slots.items ≡ legs.living_slots orig.now.legs) }
 {
     let mut slots = Vec::new(alloc);
     for leg in orig.legs.as_slice() {
@@ -175,7 +176,7 @@ fn living_slots(alloc: Global, orig: &Orig) -> Result<Vec<u16>, Memory>
 
 // The slot of a leg, if it lives.
 fn living_slot(leg: &OrigLeg) -> Option<u16>
-    ensures { result ≡ spec.living_slot leg.now }
+    ensures { result ≡ legs.living_slot leg.now }
 {
     if leg.lives() { leg.slot } else { None }
 }

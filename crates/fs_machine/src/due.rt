@@ -4,6 +4,7 @@ ghost use Rattle.std.specs.Prelude.{◌≡◌};
 ghost use Rattle.std.specs.Option.{option_copied};
 ghost use Rattle.fs_chan.specs.Work as chan;
 ghost use Rattle.fs_places.specs.Places.{held_in};
+ghost use Rattle.fs_places.specs.Least as least;
 ghost use Rattle.fs_state.specs.Drafts.{drafted};
 ghost use Rattle.fs_state.specs.Switch.{orig_of};
 ghost use Rattle.fs_machine.specs.Due as spec;
@@ -121,7 +122,7 @@ fn due_slot(draft: &Draft<'_>) -> Option<u16>
 }
 
 // The least number of a job that has something to do.
-#[tactic(auto, using(crate::proofs::LeastLemmas::least_next, crate::proofs::LeastLemmas::least_empty))]
+#[tactic(auto, using(fs_places::proofs::LeastLemmas::least_next, fs_places::proofs::LeastLemmas::least_empty))]
 fn due_job(draft: &Draft<'_>) -> Option<u64>
     ensures { result ≡ spec.due_job (drafted draft.now) }
 {
@@ -133,7 +134,7 @@ fn due_job(draft: &Draft<'_>) -> Option<u64>
 }
 
 // The first moment at which a channel will have something to do.
-#[tactic(auto, using(crate::proofs::LeastLemmas::least_next, crate::proofs::LeastLemmas::least_empty))]
+#[tactic(auto, using(fs_places::proofs::LeastLemmas::least_next, fs_places::proofs::LeastLemmas::least_empty))]
 fn first_chan_moment(draft: &Draft<'_>) -> Option<u64>
     ensures { result ≡ spec.first_chan_moment (drafted draft.now) }
 {
@@ -145,7 +146,7 @@ fn first_chan_moment(draft: &Draft<'_>) -> Option<u64>
 }
 
 // The first moment at which a job will have something to do.
-#[tactic(auto, using(crate::proofs::LeastLemmas::least_next, crate::proofs::LeastLemmas::least_empty))]
+#[tactic(auto, using(fs_places::proofs::LeastLemmas::least_next, fs_places::proofs::LeastLemmas::least_empty))]
 fn first_job_moment(draft: &Draft<'_>) -> Option<u64>
     ensures { result ≡ spec.first_job_moment (drafted draft.now) }
 {
@@ -193,7 +194,7 @@ fn later_of(due: Option<Due>) -> Option<u64>
 
 // The lesser of two numbers, where they are there.
 fn lesser(one: Option<u64>, other: Option<u64>) -> Option<u64>
-    ensures { result ≡ spec.lesser one other }
+    ensures { result ≡ least.lesser one other }
 {
     match (one, other) {
         (Some(n), Some(m)) => Some(n.min(m)),

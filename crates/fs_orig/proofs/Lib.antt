@@ -2,3 +2,4 @@ pub mod Positions
 pub mod Picks
 pub mod VerdictLemmas
 pub mod EndpointLemmas
+pub mod LegLemmas

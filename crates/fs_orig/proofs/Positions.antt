@@ -16,7 +16,8 @@ pub record IsFirst {X : Type 0} (p : X → Bool) (xs : List X) (k : ℕ) : Type 
   pub here : passes p (slice_get xs k) ≡ true
   pub before : (j : ℕ) → j < k → passes p (slice_get xs j) ≡ false
 
-before_more : {X : Type 0} (p : X → Bool) (x : X) (xs : List X) (k : ℕ) → p x ≡ false → ((j : ℕ) → j < k → passes p (slice_get xs j) ≡ false) → (j : ℕ) → j < suc k → passes p (slice_get (x ∷ xs) j) ≡ false
+before_more : {X : Type 0} (p : X → Bool) (x : X) (xs : List X) (k : ℕ) → p x ≡ false →
+    ((j : ℕ) → j < k → passes p (slice_get xs j) ≡ false) → (j : ℕ) → j < suc k → passes p (slice_get (x ∷ xs) j) ≡ false
 before_more p x xs k is before zero lt = is
 before_more p x xs k is before (suc j) lt = before j (omega arith)
 
@@ -24,7 +25,8 @@ first_from : {X : Type 0} (p : X → Bool) (xs : List X) (i q : ℕ) → positio
 first_from p [] i q h = absurd (cc)
 first_from {X} p (x ∷ xs) i q h = by_test (p x) refl (λ e. first_from p xs (i + 1) q e) h
   where
-    by_test : (b : Bool) → p x ≡ b → (position_from p (i + 1) xs ≡ Some q → (k : ℕ) × ((q ≡ (i + 1) + k) × IsFirst p xs k)) → cond b (Some i) (position_from p (i + 1) xs) ≡ Some q → (k : ℕ) × ((q ≡ i + k) × IsFirst p (x ∷ xs) k)
+    by_test : (b : Bool) → p x ≡ b → (position_from p (i + 1) xs ≡ Some q → (k : ℕ) × ((q ≡ (i + 1) + k) × IsFirst p xs k)) →
+        cond b (Some i) (position_from p (i + 1) xs) ≡ Some q → (k : ℕ) × ((q ≡ i + k) × IsFirst p (x ∷ xs) k)
     by_test true is later e =
         let same : i ≡ q = cc in
         (0, (omega (arith, same), record { here = is; before = λ j lt. absurd (omega arith) }))
@@ -43,7 +45,8 @@ none_from : {X : Type 0} (p : X → Bool) (xs : List X) (i k : ℕ) → position
 none_from p [] i k h = refl
 none_from {X} p (x ∷ xs) i k h = by_test (p x) refl (λ j e. none_from p xs (i + 1) j e) k h
   where
-    by_test : (b : Bool) → p x ≡ b → ((j : ℕ) → position_from p (i + 1) xs ≡ None → passes p (slice_get xs j) ≡ false) → (k : ℕ) → cond b (Some i) (position_from p (i + 1) xs) ≡ None → passes p (slice_get (x ∷ xs) k) ≡ false
+    by_test : (b : Bool) → p x ≡ b → ((j : ℕ) → position_from p (i + 1) xs ≡ None → passes p (slice_get xs j) ≡ false) → (k : ℕ) →
+        cond b (Some i) (position_from p (i + 1) xs) ≡ None → passes p (slice_get (x ∷ xs) k) ≡ false
     by_test true is later k e = absurd (cc)
     by_test false is later zero e = is
     by_test false is later (suc k) e = later k e
@@ -88,7 +91,8 @@ last_cases : {X C : Type 0} (h : X → Option C) (xs : List X) (o : Option C) �
 last_cases h [] o = inl (refl, λ k. refl)
 last_cases {X} {C} h (x ∷ xs) o = by_value (h x) refl (λ v. last_cases h xs v)
   where
-    by_value : (v : Option C) → h x ≡ v → ((w : Option C) → LastOr h w xs (filter_map h xs)) → LastOr h o (x ∷ xs) (cons_option v (filter_map h xs))
+    by_value : (v : Option C) → h x ≡ v → ((w : Option C) → LastOr h w xs (filter_map h xs)) →
+        LastOr h o (x ∷ xs) (cons_option v (filter_map h xs))
     by_value None is later =
         elim (later o) [
           | inl none ↦ inl (none.0, gives_none_more h x xs is none.1)
@@ -101,7 +105,8 @@ last_cases {X} {C} h (x ∷ xs) o = by_value (h x) refl (λ v. last_cases h xs v
         ]
 
 -- where an element gives a value, the last value is that of the last such element
-pub last_is : {X C : Type 0} (h : X → Option C) (xs : List X) (k : ℕ) (c : C) → option_and_then h (slice_get xs k) ≡ Some c → (last : C) × ((last_or None (filter_map h xs) ≡ Some last) × IsLast h xs last)
+pub last_is : {X C : Type 0} (h : X → Option C) (xs : List X) (k : ℕ) (c : C) → option_and_then h (slice_get xs k) ≡ Some c →
+    (last : C) × ((last_or None (filter_map h xs) ≡ Some last) × IsLast h xs last)
 last_is h xs k c is =
     elim (last_cases h xs None) [
       | inl none ↦ absurd (let never : None ≡ Some c = sym (none.1 k) ∙ is in cc)

@@ -54,3 +54,13 @@ lives_in slot leg = lives leg && is_at slot leg.slot
 -- the first position of such a leg
 abbrev pub position_in : ℕ → List OrigLeg → Option ℕ
 position_in slot legs = position (lives_in slot) legs
+
+-- ---- where they live
+
+-- the slot of a leg, if it lives
+abbrev pub living_slot : OrigLeg → Option ℕ
+living_slot leg = if lives leg then leg.slot else None
+
+-- the slots of the legs that live
+abbrev pub living_slots : List OrigLeg → List ℕ
+living_slots legs = filter_map living_slot legs

@@ -1,5 +1,5 @@
 -- What is written over a table, and what stands at its places.
-use Rattle.std.proofs.Common.{◌≡◌, ℕ, zero, suc, ◌+◌, ◌<◌, ◌≤◌, ◌==◌, max, leb, Bool, true, false, List, [], ◌∷◌, ◌++◌, length, drop, Option, None, Some, refl, sym, ap, subst, ◌∙◌, arith}
+use Rattle.std.proofs.Common.{◌≡◌, ℕ, zero, suc, ◌+◌, ◌<◌, ◌≤◌, ◌==◌, leb, Bool, true, false, List, [], ◌∷◌, ◌++◌, length, drop, Option, None, Some, refl, sym, ap, subst, ◌∙◌, arith}
 use Rattle.std.specs.Prelude.{if◌then◌else◌}
 use Rattle.std.proofs.lemmas.List.{get_or-set_same, get_or-set_other, set-set, length-set, get_or_past, at_drop_more, at_drop_all}
 use Rattle.std.proofs.lemmas.Bool.{eqb-true, leb-true, leb-false}
@@ -24,7 +24,8 @@ one_written : {T : Type 0} → (places : List (Option T)) (w : Write T) (place :
     held_in (with_held places w.place w.held) place ≡ (if w.place == place then w.held else held_in places place)
 one_written places w place within = on (w.place == place) refl
   where
-    on : (b : Bool) → (w.place == place) ≡ b → held_in (with_held places w.place w.held) place ≡ (if b then w.held else held_in places place)
+    on : (b : Bool) → (w.place == place) ≡ b →
+        held_in (with_held places w.place w.held) place ≡ (if b then w.held else held_in places place)
     on true e =
         let same : w.place ≡ place = eqb-true w.place place e in
         subst (λ p. held_in (with_held places w.place w.held) p ≡ w.held) same
@@ -42,7 +43,8 @@ written_newest places (w ∷ ws) place within =
 -- past the last place nothing stands
 pub written_past : {T : Type 0} → (places : List (Option T)) (ws : List (Write T)) (place : ℕ) → length places ≤ place →
     held_in (written places ws) place ≡ None
-written_past places ws place past = get_or_past (written places ws) place None (subst (λ n. n ≤ place) (sym (written_length places ws)) past)
+written_past places ws place past =
+    get_or_past (written places ws) place None (subst (λ n. n ≤ place) (sym (written_length places ws)) past)
 
 -- a write that is taken back stood there
 pub taken_held : {T : Type 0} → (places : List (Option T)) (ws : List (Write T)) (place : ℕ) (held : Option T) → place < length places →
@@ -55,7 +57,8 @@ taken_held places ws place held within =
 pub taken_put : {T : Type 0} → (places : List (Option T)) (ws : List (Write T)) (place : ℕ) (held other : Option T) →
     with_held (written places ws) place other ≡ with_held (written places (ws ++ record { place = place; held = held } ∷ [])) place other
 taken_put places ws place held other =
-    sym (ap (λ list. with_held list place other) (written_put places ws (record { place = place; held = held })) ∙ set-set (written places ws) place held other)
+    sym (ap (λ list. with_held list place other) (written_put places ws (record { place = place; held = held }))
+    ∙ set-set (written places ws) place held other)
 
 -- ---- what is filled
 
@@ -71,7 +74,8 @@ first_here test places place within e =
     ∙ ap (λ b. if b then Some place else first_place test (drop (place + 1) places) (place + 1)) e
 
 pub first_behind : {T : Type 0} → (test : Option T → Bool) (places : List (Option T)) (place : ℕ) → place < length places →
-    test (held_in places place) ≡ false → first_place test (drop place places) place ≡ first_place test (drop (place + 1) places) (place + 1)
+    test (held_in places place) ≡ false →
+    first_place test (drop place places) place ≡ first_place test (drop (place + 1) places) (place + 1)
 first_behind test places place within e =
     at_drop_more (λ held. first_place test held place) places place None within
     ∙ ap (λ b. if b then Some place else first_place test (drop (place + 1) places) (place + 1)) e
@@ -84,17 +88,21 @@ first_nowhere test places place past = at_drop_all (λ held. first_place test he
 empty_behind : {T : Type 0} → (places : List (Option T)) (from : ℕ) → IsEmptyFrom from places → IsEmptyFrom (from + 1) places
 empty_behind places from empty = record { each = λ place past. empty.each place (omega (arith, past)) }
 
-first_over : {T : Type 0} → (test : Option T → Bool) (places : List (Option T)) (at : ℕ) (over : Bool) → leb (length places) at ≡ over → test None ≡ false → IsEmptyFrom at places →
+first_over : {T : Type 0} → (test : Option T → Bool) (places : List (Option T)) (at : ℕ) (over : Bool) → leb (length places) at ≡ over →
+    test None ≡ false → IsEmptyFrom at places →
     first_place test (drop (at + 1) places) (at + 1) ≡ None → first_place test (drop at places) at ≡ None
 first_over test places at true is fails empty behind = first_nowhere test places at (leb-true (length places) at is)
 first_over test places at false is fails empty behind =
     first_behind test places at (leb-false (length places) at is) (ap test (empty.each at (omega arith)) ∙ fails) ∙ behind
 
-first_down : {T : Type 0} → (test : Option T → Bool) (places : List (Option T)) (left at : ℕ) → length places ≤ at + left → test None ≡ false → IsEmptyFrom at places →
+first_down : {T : Type 0} → (test : Option T → Bool) (places : List (Option T)) (left at : ℕ) → length places ≤ at + left →
+    test None ≡ false → IsEmptyFrom at places →
     first_place test (drop at places) at ≡ None
 first_down test places zero at past fails empty = first_nowhere test places at (omega (arith, past))
 first_down test places (suc left) at past fails empty =
-    first_over test places at (leb (length places) at) refl fails empty (first_down test places left (at + 1) (omega (arith, past)) fails (empty_behind places at empty))
+    first_over test places at (leb (length places) at) refl fails empty
+    (first_down test places left (at + 1) (omega (arith, past)) fails (empty_behind places at empty))
 
-pub first_empty : {T : Type 0} → (test : Option T → Bool) (places : List (Option T)) (from : ℕ) → test None ≡ false → IsEmptyFrom from places → first_place test (drop from places) from ≡ None
+pub first_empty : {T : Type 0} → (test : Option T → Bool) (places : List (Option T)) (from : ℕ) → test None ≡ false →
+    IsEmptyFrom from places → first_place test (drop from places) from ≡ None
 first_empty test places from fails empty = first_down test places (length places) from (omega arith) fails empty

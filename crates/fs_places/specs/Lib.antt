@@ -1,4 +1,5 @@
 pub mod Places
 pub mod Rows
+pub mod Least
 pub mod Sheets
 pub mod Overlays

@@ -1,3 +1,5 @@
 pub mod QueueLemmas
 pub mod SlotLemmas
 pub mod CountLemmas
+pub mod LegTables
+pub mod GiftLemmas

@@ -5,3 +5,4 @@ pub mod NumberLemmas
 pub mod Places
 pub mod TableLemmas
 pub mod TheTables
+pub mod NamingLemmas

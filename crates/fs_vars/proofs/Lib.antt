@@ -4,3 +4,4 @@ pub mod DigitLemmas
 pub mod ExpansionLemmas
 pub mod OutputLemmas
 pub mod LawLemmas
+pub mod GlobalLemmas

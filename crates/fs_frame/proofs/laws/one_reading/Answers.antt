@@ -7,7 +7,8 @@ pub returns-clause-some : goal.returns-clause-some
 returns-clause-some c stream = splits stream
 
 pub returns-clause-only : goal.returns-clause-only
-returns-clause-only c stream rest blocks split = (sym (blocks_of-splits stream rest blocks split), sym (rest_of-splits stream rest blocks split))
+returns-clause-only c stream rest blocks split =
+    (sym (blocks_of-splits stream rest blocks split), sym (rest_of-splits stream rest blocks split))
 
 pub returns-clause-line : goal.returns-clause-line
 returns-clause-line c bytes head = line_of-head bytes head

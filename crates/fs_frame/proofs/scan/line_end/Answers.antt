@@ -9,7 +9,8 @@ pub slice_bounds-place_of-start : goal.slice_bounds-place_of-start
 slice_bounds-place_of-start c = let fits : c.args.searched ≤ length c.args.bytes.now = searched-le-length _ _ c.requires in search rules
 
 pub overflow_add-result : goal.overflow_add-result
-overflow_add-result c = let fits : c.args.searched + c.place_of.result ≤ length c.args.bytes.now = place-le-length _ _ c.args.bytes.now c.requires c.place_of.ensures in search rules
+overflow_add-result c = let fits : c.args.searched + c.place_of.result ≤ length c.args.bytes.now =
+    place-le-length _ _ c.args.bytes.now c.requires c.place_of.ensures in search rules
 
 pub returns-clause-place : goal.returns-clause-place
 returns-clause-place c = position_or_len-from _ _ c.args.bytes.now c.requires c.place_of.ensures

@@ -1,5 +1,5 @@
 use Rattle.std.proofs.Common.{refl}
-use Rattle.fs_machine.proofs.ApiLemmas.{empty_fields, IfOk-globally, IfErr-globally}
+use Rattle.fs_vars.proofs.GlobalLemmas.{empty_fields, IfOk-globally, IfErr-globally}
 use Rattle.fs_machine.proofs.api.expand_globally.Goals as goal
 
 pub returns : goal.returns

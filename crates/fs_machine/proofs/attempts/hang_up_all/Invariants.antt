@@ -5,4 +5,5 @@ use Rattle.fs_machine.proofs.attempts.hang_up_all.Given as goal
 
 abbrev pub invariant-loop-slot : goal.invariant-loop-slot
 invariant-loop-slot l =
-    (l.draft.base ≡ l.fn.draft.base) × (all_hung l.cause (drop l.slot-index l.slots) (drafted l.draft) ≡ all_hung l.cause l.slots (drafted l.fn.draft))
+    (l.draft.base ≡ l.fn.draft.base) × (all_hung l.cause (drop l.slot-index l.slots) (drafted l.draft) ≡ all_hung l.cause l.slots
+    (drafted l.fn.draft))

@@ -1,6 +1,7 @@
 use Rattle.std.proofs.Common.{◌≡◌, drop}
+use Rattle.fs_places.specs.Least.{lesser, least_of}
 use Rattle.fs_state.specs.Drafts.{drafted}
-use Rattle.fs_machine.specs.Due.{lesser, least_of, due_number, due_job}
+use Rattle.fs_machine.specs.Due.{due_number, due_job}
 use Rattle.fs_machine.proofs.due.due_job.Given as goal
 
 abbrev pub invariant-loop-place : goal.invariant-loop-place

@@ -1,6 +1,7 @@
 use Rattle.std.proofs.Common.{◌≡◌, drop}
+use Rattle.fs_places.specs.Least.{lesser, least_of}
 use Rattle.fs_state.specs.Drafts.{drafted}
-use Rattle.fs_machine.specs.Due.{lesser, least_of, chan_moment, first_chan_moment}
+use Rattle.fs_machine.specs.Due.{chan_moment, first_chan_moment}
 use Rattle.fs_machine.proofs.due.first_chan_moment.Given as goal
 
 abbrev pub invariant-loop-slot : goal.invariant-loop-slot

@@ -9,7 +9,8 @@ pub returns : goal.returns
 returns c = (
   (refl, λ _. tt, c.advance-front.ensures.after),
   record {
-    answer = IsNext-front c.args.self.now c.advance-front.result c.show.result c.advance-front.ensures.front (rw c.advance-front.ensures.after at c.show.ensures);
+    answer = IsNext-front c.args.self.now c.advance-front.result c.show.result c.advance-front.ensures.front
+        (rw c.advance-front.ensures.after at c.show.ensures);
     after = tt;
   },
 )

@@ -20,8 +20,12 @@ invariant_of-self c =
     let priced = c.apply.ensures ∙ ap (λ cost. after_entry cost (after kept c.into_parts-entry.result.1)) c.cost.ensures.exact in
     let done = priced ∙ ap (λ (t : Entry × Delta × Reply). after_entry (cost_of t.0.act) (after kept t.1)) parts in
     let P : View → Type 0 = λ view. IsPrepared (state_of view) entry c.args.change.delta c.args.change.reply in
-    rw (done, added)
-    (stands_more kept entries entry c.args.change.delta c.args.change.reply c.self.invariant.0 (subst P (sym c.self.view_is) c.requires.prepared), c.self.invariant.1, c.self.invariant.2)
+    rw (done, added) (
+      stands_more kept entries entry c.args.change.delta c.args.change.reply c.self.invariant.0
+          (subst P (sym c.self.view_is) c.requires.prepared),
+      c.self.invariant.1,
+      c.self.invariant.2,
+    )
 
 pub returns-clause-cost : goal.returns-clause-cost
 returns-clause-cost c =
@@ -33,7 +37,9 @@ returns-clause-cost c =
     let priced = c.apply.ensures ∙ ap (λ cost. after_entry cost (after kept c.into_parts-entry.result.1)) c.cost.ensures.exact in
     let done = priced ∙ ap (λ (t : Entry × Delta × Reply). after_entry (cost_of t.0.act) (after kept t.1)) parts in
     let P : View → Type 0 = λ view. IsPrepared (state_of view) entry c.args.change.delta c.args.change.reply in
-    let cost = cost_more (empty kept.config) entries entry c.args.change.delta c.args.change.reply (subst P (sym c.self.view_is) c.requires.prepared) in
+    let cost =
+    cost_more (empty kept.config) entries entry c.args.change.delta c.args.change.reply
+    (subst P (sym c.self.view_is) c.requires.prepared) in
     let Q : View → Type 0 = λ view. (state_of (record {
       config = c.apply.new.self.config;
       journal = c.add.new.self.entries;

@@ -8,7 +8,8 @@ use Rattle.fs_machine.proofs.machine.Machine.sound.Goals as goal
 pub returns-clause-state : goal.returns-clause-state
 returns-clause-state c =
     let P : View → Type 0 = λ view. IsSound (state_of view) in
-    subst P c.self.view_is (sound_state c.self.inside.core.config c.self.inside.core c.self.inside.journal.entries c.self.invariant.2 c.self.invariant.0)
+    subst P c.self.view_is
+    (sound_state c.self.inside.core.config c.self.inside.core c.self.inside.journal.entries c.self.invariant.2 c.self.invariant.0)
 
 pub returns-clause-config : goal.returns-clause-config
 returns-clause-config c =

@@ -3,14 +3,16 @@ use Rattle.std.proofs.Common.{◌≡◌, ℕ, zero, suc, ◌<◌, ◌≤◌, Lis
 use Rattle.std.proofs.lemmas.List.{get_or-set_same, get_or-set_other, get_or_past, get_or-drop, length-drop}
 use Rattle.std.proofs.lemmas.Bool.{cases_eq, cases_lt}
 use Rattle.fs_places.specs.Places.{no_places, held_in, with_held, least_free}
-use Rattle.fs_machine.proofs.RowLemmas.{place_found, is_nothing}
+use Rattle.fs_places.proofs.RowLemmas.{place_found, is_nothing}
 
 -- ---- one place is written
 
-pub held_here : {T : Type 0} → (places : List (Option T)) (slot : ℕ) (new : Option T) → slot < length places → held_in (with_held places slot new) slot ≡ new
+pub held_here : {T : Type 0} → (places : List (Option T)) (slot : ℕ) (new : Option T) → slot < length places →
+    held_in (with_held places slot new) slot ≡ new
 held_here places slot new within = get_or-set_same places slot new None within
 
-pub held_there : {T : Type 0} → (places : List (Option T)) (slot q : ℕ) (new : Option T) → (q ≡ slot → ⊥) → held_in (with_held places slot new) q ≡ held_in places q
+pub held_there : {T : Type 0} → (places : List (Option T)) (slot q : ℕ) (new : Option T) → (q ≡ slot → ⊥) →
+    held_in (with_held places slot new) q ≡ held_in places q
 held_there places slot q new other = get_or-set_other places slot q new None other
 
 -- where something stands is a place
@@ -22,7 +24,8 @@ held_within places slot x e = by (cases_lt slot (length places))
     by (inr past) = let none : held_in places slot ≡ None = get_or_past places slot None past in absurd (cc)
 
 -- what relates each thing to itself, and what stood there to what is written, relates old and new everywhere
-pub at_each : {T : Type 0} → (places : List (Option T)) (slot : ℕ) (new : Option T) (R : Option T → Option T → Type 0) → slot < length places →
+pub at_each : {T : Type 0} → (places : List (Option T)) (slot : ℕ) (new : Option T) (R : Option T → Option T → Type 0) →
+    slot < length places →
     R (held_in places slot) new → ((x : Option T) → R x x) → (q : ℕ) → R (held_in places q) (held_in (with_held places slot new) q)
 at_each places slot new R within there same q = by (cases_eq q slot)
   where
@@ -46,7 +49,8 @@ free_place T places from place e =
     record {
       behind = omega (arith, found.1);
       within = omega (arith, found.1, found.3, length-drop from places);
-      free = ap (held_in places) found.1 ∙ sym (get_or-drop from places found.0 None) ∙ is_nothing (held_in (drop from places) found.0) found.2;
+      free = ap (held_in places) found.1 ∙ sym (get_or-drop from places found.0 None)
+          ∙ is_nothing (held_in (drop from places) found.0) found.2;
     }
 
 -- ---- empty places

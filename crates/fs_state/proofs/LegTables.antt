@@ -2,6 +2,7 @@
 use Rattle.std.proofs.Common.{◌≡◌, ℕ, zero, suc, ◌&&◌, Bool, true, false, if◌then◌else◌, List, [], ◌∷◌, Option, None, Some, slice_get, ◌⊎◌, inl, inr, refl, sym, ap, subst, ◌∙◌, true≢false}
 use Rattle.std.specs.List.{slice_set}
 use Rattle.std.proofs.lemmas.Bool.{cases_eq, both_ways, eqb-true, eq-eqb}
+use Rattle.std.proofs.lemmas.Option.{none-some, same_Some}
 use Rattle.fs_text.specs.declared.causes.Cause.{Cause}
 use Rattle.fs_orig.specs.declared.leg.OrigLeg.{OrigLeg}
 use Rattle.fs_orig.specs.declared.orig.Orig.{Orig}
@@ -12,10 +13,10 @@ use Rattle.fs_orig.proofs.Positions.{passes, position_is_first, position_is_none
 use Rattle.fs_places.specs.declared.numbered.Numbered.{Numbered}
 use Rattle.fs_places.specs.Places.{held_in, with_held, least_free}
 use Rattle.fs_places.specs.Rows.{has_number, place_of, row_of, with_held_at, with_row, without_row, with_new_row}
+use Rattle.fs_places.proofs.HeldLemmas.{held_here, held_there, at_each}
+use Rattle.fs_places.proofs.RowLemmas.{AreDistinct, place_stands, place_within, free_least}
+use Rattle.fs_places.proofs.TableLemmas.{row_found, row_written}
 use Rattle.fs_state.specs.Moves.{leg_changed_at, leg_changed}
-use Rattle.fs_machine.proofs.HeldLemmas.{held_here, held_there, at_each}
-use Rattle.fs_machine.proofs.RowLemmas.{AreDistinct, place_stands, place_within, free_least}
-use Rattle.fs_machine.proofs.TableLemmas.{nothing_there, same_there, row_found, row_written}
 
 abbrev pub Origs : Type 0
 Origs = List (Option (Numbered Orig))
@@ -57,26 +58,28 @@ Fewer old new = (place : ℕ) → FewerIn (held_in old place) (held_in new place
 
 -- the seat is of this number
 pub seat_its : (number : ℕ) (leg : Option OrigLeg) (seat : Seat) → seat_of number leg ≡ Some seat → seat.number ≡ number
-seat_its number None seat h = absurd (nothing_there seat h)
+seat_its number None seat h = absurd (none-some seat h)
 seat_its number (Some leg) seat h = by (lives leg) h
   where
     by : (test : Bool) → seat_if test number leg.slot ≡ Some seat → seat.number ≡ number
-    by true h = sym (ap (λ (x : Seat). x.number) (same_there (seated number leg.slot) seat h))
-    by false h = absurd (nothing_there seat h)
+    by true h = sym (ap (λ (x : Seat). x.number) (same_Some (seated number leg.slot) seat h))
+    by false h = absurd (none-some seat h)
 
-pub seat_number : (position : ℕ) (held : Option (Numbered Orig)) (seat : Seat) → seat_in position held ≡ Some seat → has_number seat.number held ≡ true
-seat_number position None seat h = absurd (nothing_there seat h)
+pub seat_number : (position : ℕ) (held : Option (Numbered Orig)) (seat : Seat) → seat_in position held ≡ Some seat →
+    has_number seat.number held ≡ true
+seat_number position None seat h = absurd (none-some seat h)
 seat_number position (Some row) seat h = eq-eqb row.number seat.number (sym (seat_its row.number (slice_get row.held.legs position) seat h))
 
 -- who has a seat in a slot lives there, and has it if he does
-seat_lives : (number slot : ℕ) (leg : Option OrigLeg) → seat_of number leg ≡ Some (in_slot number slot) → passes (legs.lives_in slot) leg ≡ true
-seat_lives number slot None h = absurd (nothing_there (in_slot number slot) h)
+seat_lives : (number slot : ℕ) (leg : Option OrigLeg) → seat_of number leg ≡ Some (in_slot number slot) →
+    passes (legs.lives_in slot) leg ≡ true
+seat_lives number slot None h = absurd (none-some (in_slot number slot) h)
 seat_lives number slot (Some leg) h = by (lives leg) leg.slot h
   where
     by : (test : Bool) (which : Option ℕ) → seat_if test number which ≡ Some (in_slot number slot) → (test && legs.is_at slot which) ≡ true
     by true which h =
-        ap (legs.is_at slot) (ap (λ (x : Seat). x.slot) (same_there (seated number which) (in_slot number slot) h)) ∙ eq-eqb slot slot refl
-    by false which h = absurd (nothing_there (in_slot number slot) h)
+        ap (legs.is_at slot) (ap (λ (x : Seat). x.slot) (same_Some (seated number which) (in_slot number slot) h)) ∙ eq-eqb slot slot refl
+    by false which h = absurd (none-some (in_slot number slot) h)
 
 lives_seated : (number slot : ℕ) (leg : OrigLeg) → legs.lives_in slot leg ≡ true → seat_of number (Some leg) ≡ Some (in_slot number slot)
 lives_seated number slot leg = by (lives leg) leg.slot
@@ -88,12 +91,14 @@ lives_seated number slot leg = by (lives leg) leg.slot
 
 -- ---- one leg of a list is changed
 
-set_here : (these : List OrigLeg) (first : ℕ) (old new : OrigLeg) → slice_get these first ≡ Some old → slice_get (slice_set these first new) first ≡ Some new
-set_here [] first old new is = absurd (nothing_there old is)
+set_here : (these : List OrigLeg) (first : ℕ) (old new : OrigLeg) → slice_get these first ≡ Some old →
+    slice_get (slice_set these first new) first ≡ Some new
+set_here [] first old new is = absurd (none-some old is)
 set_here (leg ∷ more) zero old new is = refl
 set_here (leg ∷ more) (suc first) old new is = set_here more first old new is
 
-set_there : (these : List OrigLeg) (first other : ℕ) (new : OrigLeg) → (other ≡ first → ⊥) → slice_get (slice_set these first new) other ≡ slice_get these other
+set_there : (these : List OrigLeg) (first other : ℕ) (new : OrigLeg) → (other ≡ first → ⊥) →
+    slice_get (slice_set these first new) other ≡ slice_get these other
 set_there [] first other new apart = refl
 set_there (leg ∷ more) zero zero new apart = absurd (apart refl)
 set_there (leg ∷ more) zero (suc other) new apart = refl
@@ -102,22 +107,26 @@ set_there (leg ∷ more) (suc first) (suc other) new apart = set_there more firs
 
 -- a change by which no leg comes to life or moves
 abbrev pub Spares : (OrigLeg → OrigLeg) → Type 0
-Spares change = (number : ℕ) (leg : OrigLeg) (seat : Seat) → seat_of number (Some (change leg)) ≡ Some seat → seat_of number (Some leg) ≡ Some seat
+Spares change =
+    (number : ℕ) (leg : OrigLeg) (seat : Seat) → seat_of number (Some (change leg)) ≡ Some seat → seat_of number (Some leg) ≡ Some seat
 
 pub answer_spares : (place : ℕ) → Spares (with_leg_answer place)
 answer_spares place number leg seat = by (rings leg)
   where
-    by : (test : Bool) → seat_of number (Some (if test then record leg { answered = Some place } else leg)) ≡ Some seat → seat_of number (Some leg) ≡ Some seat
+    by : (test : Bool) → seat_of number (Some (if test then record leg { answered = Some place } else leg)) ≡ Some seat →
+        seat_of number (Some leg) ≡ Some seat
     by true h = h
     by false h = h
 
 -- who died has no seat
-no_seat : (place : ℕ) (cause : Cause) (number : ℕ) (leg : OrigLeg) (seat : Seat) → seat_of number (Some (with_leg_death place cause leg)) ≡ Some seat → ⊥
+no_seat : (place : ℕ) (cause : Cause) (number : ℕ) (leg : OrigLeg) (seat : Seat) →
+    seat_of number (Some (with_leg_death place cause leg)) ≡ Some seat → ⊥
 no_seat place cause number leg seat = by (lives leg) refl
   where
-    by : (test : Bool) → lives leg ≡ test → seat_of number (Some (if test then record leg { died = Some place; cause = Some cause } else leg)) ≡ Some seat → ⊥
-    by true is h = nothing_there seat h
-    by false is h = nothing_there seat (sym (ap (λ (b : Bool). seat_if b number leg.slot) is) ∙ h)
+    by : (test : Bool) → lives leg ≡ test →
+        seat_of number (Some (if test then record leg { died = Some place; cause = Some cause } else leg)) ≡ Some seat → ⊥
+    by true is h = none-some seat h
+    by false is h = none-some seat (sym (ap (λ (b : Bool). seat_if b number leg.slot) is) ∙ h)
 
 pub death_spares : (place : ℕ) (cause : Cause) → Spares (with_leg_death place cause)
 death_spares place cause number leg seat h = absurd (no_seat place cause number leg seat h)
@@ -128,14 +137,16 @@ changed_spares : (change : OrigLeg → OrigLeg) → Spares change → (first : �
 changed_spares change spares first these number position seat = by (slice_get these first) refl
   where
     at : (old : OrigLeg) → slice_get these first ≡ Some old → (position ≡ first) ⊎ (position ≡ first → ⊥) →
-        seat_of number (slice_get (slice_set these first (change old)) position) ≡ Some seat → seat_of number (slice_get these position) ≡ Some seat
+        seat_of number (slice_get (slice_set these first (change old)) position) ≡ Some seat →
+        seat_of number (slice_get these position) ≡ Some seat
     at old is (inl same) h =
         let now : slice_get (slice_set these first (change old)) position ≡ Some (change old) =
         ap (slice_get (slice_set these first (change old))) same ∙ set_here these first old (change old) is in
         ap (seat_of number) (ap (slice_get these) same ∙ is) ∙ spares number old seat (sym (ap (seat_of number) now) ∙ h)
     at old is (inr other) h = sym (ap (seat_of number) (set_there these first position (change old) other)) ∙ h
 
-    by : (found : Option OrigLeg) → slice_get these first ≡ found → seat_of number (slice_get (with_leg change first found these) position) ≡ Some seat →
+    by : (found : Option OrigLeg) → slice_get these first ≡ found →
+        seat_of number (slice_get (with_leg change first found these) position) ≡ Some seat →
         seat_of number (slice_get these position) ≡ Some seat
     by None is h = h
     by (Some old) is h = at old is (cases_eq position first) h
@@ -150,49 +161,60 @@ pub touched_spares : (change : OrigLeg → OrigLeg) → Spares change → (slot 
     FewerIn (as_row number o) (as_row number (leg_changed (λ p x. record x { legs = with_changed_leg change p x.legs }) slot o))
 touched_spares change spares slot number o position seat = by (position_in slot o.legs)
   where
-    by : (first : Option ℕ) → seat_of number (slice_get (leg_changed_at (λ p x. record x { legs = with_changed_leg change p x.legs }) first o).legs position) ≡ Some seat →
+    by : (first : Option ℕ) →
+        seat_of number (slice_get (leg_changed_at (λ p x. record x { legs = with_changed_leg change p x.legs }) first o).legs position) ≡
+        Some seat →
         seat_of number (slice_get o.legs position) ≡ Some seat
     by None h = h
     by (Some first) h = changed_spares change spares first o.legs number position seat h
 
 -- where a slot seats one leg at most, none sits there behind a death
 none_left : (number slot place : ℕ) (cause : Cause) (o : Orig) →
-    ((p q : ℕ) → seat_of number (slice_get o.legs p) ≡ Some (in_slot number slot) → seat_of number (slice_get o.legs q) ≡ Some (in_slot number slot) → p ≡ q) →
-    (position : ℕ) → seat_of number (slice_get (leg_changed (λ p. with_death p place cause) slot o).legs position) ≡ Some (in_slot number slot) → ⊥
+    ((p q : ℕ) → seat_of number (slice_get o.legs p) ≡ Some (in_slot number slot) →
+    seat_of number (slice_get o.legs q) ≡ Some (in_slot number slot) → p ≡ q) →
+    (position : ℕ) →
+    seat_of number (slice_get (leg_changed (λ p. with_death p place cause) slot o).legs position) ≡ Some (in_slot number slot) → ⊥
 none_left number slot place cause o apart position = by (position_in slot o.legs) refl
   where
-    met : (first : ℕ) (old : Option OrigLeg) → slice_get o.legs first ≡ old → passes (legs.lives_in slot) old ≡ true → (position ≡ first) ⊎ (position ≡ first → ⊥) →
+    met : (first : ℕ) (old : Option OrigLeg) → slice_get o.legs first ≡ old → passes (legs.lives_in slot) old ≡ true →
+        (position ≡ first) ⊎ (position ≡ first → ⊥) →
         seat_of number (slice_get (with_leg (with_leg_death place cause) first old o.legs) position) ≡ Some (in_slot number slot) → ⊥
     met first None there passing either h = true≢false (sym passing)
     met first (Some old) there passing (inl same) h =
         let now : slice_get (slice_set o.legs first (with_leg_death place cause old)) position ≡ Some (with_leg_death place cause old) =
-        ap (slice_get (slice_set o.legs first (with_leg_death place cause old))) same ∙ set_here o.legs first old (with_leg_death place cause old) there in
+        ap (slice_get (slice_set o.legs first (with_leg_death place cause old))) same
+        ∙ set_here o.legs first old (with_leg_death place cause old) there in
         no_seat place cause number old (in_slot number slot) (sym (ap (seat_of number) now) ∙ h)
     met first (Some old) there passing (inr other) h =
         other
         (apart position first (sym (ap (seat_of number) (set_there o.legs first position (with_leg_death place cause old) other)) ∙ h)
         (ap (seat_of number) there ∙ lives_seated number slot old passing))
 
-    by : (first : Option ℕ) → position_in slot o.legs ≡ first → seat_of number (slice_get (leg_changed_at (λ p. with_death p place cause) first o).legs position) ≡ Some (in_slot number slot) → ⊥
+    by : (first : Option ℕ) → position_in slot o.legs ≡ first →
+        seat_of number (slice_get (leg_changed_at (λ p. with_death p place cause) first o).legs position) ≡ Some (in_slot number slot) → ⊥
     by None none h =
         both_ways (passes (legs.lives_in slot) (slice_get o.legs position)) (position_is_none (legs.lives_in slot) o.legs position none)
         (seat_lives number slot (slice_get o.legs position) h)
-    by (Some first) is h = met first (slice_get o.legs first) refl (position_is_first (legs.lives_in slot) o.legs first is).here (cases_eq position first) h
+    by (Some first) is h =
+        met first (slice_get o.legs first) refl (position_is_first (legs.lives_in slot) o.legs first is).here (cases_eq position first) h
 
 -- ---- one origination of a table is changed, or is gone
 
 -- the row of an origination that is there
-pub row_there : (origs : Origs) (number : ℕ) (o : Orig) → row_of origs number ≡ Some o → (place : ℕ) × (place_of origs number ≡ Some place) × (held_in origs place ≡ as_row number o)
+pub row_there : (origs : Origs) (number : ℕ) (o : Orig) → row_of origs number ≡ Some o →
+    (place : ℕ) × (place_of origs number ≡ Some place) × (held_in origs place ≡ as_row number o)
 row_there origs number o is =
     let found = row_found origs number o is in
     let named : as_row found.1.number o ≡ as_row number o = ap (λ (n : ℕ). as_row n o) found.2.numbered in
     (found.0, found.2.at, found.2.there ∙ (ap (as_row found.1.number) found.3 ∙ named))
 
-pub changed_fewer : (origs : Origs) (number : ℕ) (o new : Orig) → row_of origs number ≡ Some o → FewerIn (as_row number o) (as_row number new) → Fewer origs (with_row origs number new)
+pub changed_fewer : (origs : Origs) (number : ℕ) (o new : Orig) → row_of origs number ≡ Some o →
+    FewerIn (as_row number o) (as_row number new) → Fewer origs (with_row origs number new)
 changed_fewer origs number o new is fewer =
     let row = row_there origs number o is in
     subst (Fewer origs) (sym (row_written origs number row.0 new row.1))
-    (at_each origs row.0 (as_row number new) FewerIn (place_within origs number row.0 row.1) (subst (λ (held : Option (Numbered Orig)). FewerIn held (as_row number new)) (sym row.2) fewer)
+    (at_each origs row.0 (as_row number new) FewerIn (place_within origs number row.0 row.1)
+    (subst (λ (held : Option (Numbered Orig)). FewerIn held (as_row number new)) (sym row.2) fewer)
     (λ held position seat h. h))
 
 pub without_fewer : (origs : Origs) (number : ℕ) → Fewer origs (without_row origs number)
@@ -200,12 +222,16 @@ without_fewer origs number = by (place_of origs number) refl
   where
     by : (found : Option ℕ) → place_of origs number ≡ found → Fewer origs (with_held_at origs None found)
     by None is = λ place position seat h. h
-    by (Some at) is = at_each origs at None FewerIn (place_within origs number at is) (λ position seat h. absurd (nothing_there seat h)) (λ held position seat h. h)
+    by (Some at) is =
+        at_each origs at None FewerIn (place_within origs number at is) (λ position seat h. absurd (none-some seat h))
+        (λ held position seat h. h)
 
 -- a death leaves no leg of this origination in the slot
-pub death_leaves_none : (origs : Origs) (number : ℕ) (o : Orig) (slot place : ℕ) (cause : Cause) → AreDistinct origs → row_of origs number ≡ Some o →
+pub death_leaves_none : (origs : Origs) (number : ℕ) (o : Orig) (slot place : ℕ) (cause : Cause) → AreDistinct origs →
+    row_of origs number ≡ Some o →
     ((at p q : ℕ) (seat : Seat) → seat_at origs at p ≡ Some seat → seat_at origs at q ≡ Some seat → p ≡ q) →
-    (at position : ℕ) → seat_at (with_row origs number (leg_changed (λ p. with_death p place cause) slot o)) at position ≡ Some (in_slot number slot) → ⊥
+    (at position : ℕ) →
+    seat_at (with_row origs number (leg_changed (λ p. with_death p place cause) slot o)) at position ≡ Some (in_slot number slot) → ⊥
 death_leaves_none origs number o slot place cause distinct is apart at position has = by (cases_eq at row.0)
   where
     dead : Orig
@@ -221,28 +247,35 @@ death_leaves_none origs number o slot place cause distinct is apart at position 
     by (inl same) =
         none_left number slot place cause o
         (λ p q first second. apart row.0 p q (in_slot number slot) (ap (seat_in p) row.2 ∙ first) (ap (seat_in q) row.2 ∙ second)) position
-        (sym (ap (seat_in position) (ap (held_in (with_held origs row.0 (as_row number dead))) same ∙ held_here origs row.0 (as_row number dead) (place_within origs number row.0 row.1))) ∙ now)
+        (sym (ap (seat_in position)
+        (ap (held_in (with_held origs row.0 (as_row number dead))) same
+        ∙ held_here origs row.0 (as_row number dead) (place_within origs number row.0 row.1))) ∙ now)
     by (inr other) =
-        let was : seat_at origs at position ≡ Some (in_slot number slot) = sym (ap (seat_in position) (held_there origs row.0 at (as_row number dead) other)) ∙ now in
-        other (distinct number at row.0 (seat_number position (held_in origs at) (in_slot number slot) was) (place_stands origs number row.0 row.1))
+        let was : seat_at origs at position ≡ Some (in_slot number slot) =
+        sym (ap (seat_in position) (held_there origs row.0 at (as_row number dead) other)) ∙ now in
+        other (distinct number at row.0 (seat_number position (held_in origs at) (in_slot number slot) was)
+        (place_stands origs number row.0 row.1))
 
 -- ---- one origination more
 
 -- the one leg that it tries, or one that was there
 pub new_or_old : (origs : Origs) (next : ℕ) (o : Orig) (leg : OrigLeg) → o.legs ≡ leg ∷ [] → (place position : ℕ) (seat : Seat) →
-    seat_at (with_new_row origs next o) place position ≡ Some seat → ((position ≡ 0) × (seat_of next (Some leg) ≡ Some seat)) ⊎ (seat_at origs place position ≡ Some seat)
+    seat_at (with_new_row origs next o) place position ≡ Some seat →
+    ((position ≡ 0) × (seat_of next (Some leg) ≡ Some seat)) ⊎ (seat_at origs place position ≡ Some seat)
 new_or_old origs next o leg one place position seat = by (least_free origs 0) refl
   where
     only : (q : ℕ) → seat_of next (slice_get (leg ∷ []) q) ≡ Some seat → (q ≡ 0) × (seat_of next (Some leg) ≡ Some seat)
     only zero h = (refl, h)
-    only (suc q) h = absurd (nothing_there seat h)
+    only (suc q) h = absurd (none-some seat h)
 
-    at : (put : ℕ) → least_free origs 0 ≡ Some put → (place ≡ put) ⊎ (place ≡ put → ⊥) → seat_at (with_held origs put (as_row next o)) place position ≡ Some seat →
+    at : (put : ℕ) → least_free origs 0 ≡ Some put → (place ≡ put) ⊎ (place ≡ put → ⊥) →
+        seat_at (with_held origs put (as_row next o)) place position ≡ Some seat →
         ((position ≡ 0) × (seat_of next (Some leg) ≡ Some seat)) ⊎ (seat_at origs place position ≡ Some seat)
     at put free (inl same) h =
         let new : held_in (with_held origs put (as_row next o)) place ≡ as_row next o =
         ap (held_in (with_held origs put (as_row next o))) same ∙ held_here origs put (as_row next o) (free_least origs put free).1 in
-        inl (only position (ap (λ (l : List OrigLeg). seat_of next (slice_get l position)) (sym one) ∙ (sym (ap (seat_in position) new) ∙ h)))
+        inl (only position
+        (ap (λ (l : List OrigLeg). seat_of next (slice_get l position)) (sym one) ∙ (sym (ap (seat_in position) new) ∙ h)))
     at put free (inr other) h = inr (sym (ap (seat_in position) (held_there origs put place (as_row next o) other)) ∙ h)
 
     by : (found : Option ℕ) → least_free origs 0 ≡ found → seat_at (with_held_at origs (as_row next o) found) place position ≡ Some seat →

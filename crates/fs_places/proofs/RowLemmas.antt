@@ -1,5 +1,5 @@
 -- Tables of things that are known by their numbers: where these stand, and where they stand behind a change.
-use Rattle.std.proofs.Common.{◌≡◌, ℕ, zero, suc, ◌+◌, ◌<◌, ◌≤◌, ◌==◌, Bool, true, false, if◌then◌else◌, List, [], ◌∷◌, length, Option, None, Some, is_none, option_map, option_and_then, ◌⊎◌, inl, inr, refl, sym, ap, subst, ◌∙◌, arith}
+use Rattle.std.proofs.Common.{◌≡◌, ℕ, zero, suc, ◌+◌, ◌<◌, ◌≤◌, ◌==◌, Bool, true, false, List, ◌∷◌, length, Option, None, Some, is_none, option_map, option_and_then, ◌⊎◌, inl, inr, refl, sym, ap, subst, ◌∙◌, arith, [], if◌then◌else◌}
 use Rattle.std.proofs.lemmas.List.{get_or-set_same, get_or-set_other, length-set}
 use Rattle.std.proofs.lemmas.Bool.{false≢true, both_ways, eqb-true, eq-eqb, ne_eqb, cases_eq}
 use Rattle.std.proofs.lemmas.Option.{same_Some, none-some}
@@ -10,13 +10,15 @@ use Rattle.fs_places.specs.Rows.{has_number, place_of, row_of, with_held_at, wit
 -- ---- the first place of which a test holds
 
 -- the test holds there
-pub place_found : {T : Type 0} → (test : Option T → Bool) (places : List (Option T)) (from place : ℕ) → first_place test places from ≡ Some place →
+pub place_found : {T : Type 0} → (test : Option T → Bool) (places : List (Option T)) (from place : ℕ) →
+    first_place test places from ≡ Some place →
     (i : ℕ) × (place ≡ from + i) × (test (held_in places i) ≡ true) × (i < length places)
 place_found test [] from place is = absurd (cc)
 place_found test (held ∷ more) from place is = by (test held) refl (place_found test more (from + 1) place) is
   where
     by : (b : Bool) → test held ≡ b →
-        (first_place test more (from + 1) ≡ Some place → (i : ℕ) × (place ≡ (from + 1) + i) × (test (held_in more i) ≡ true) × (i < length more)) →
+        (first_place test more (from + 1) ≡ Some place →
+        (i : ℕ) × (place ≡ (from + 1) + i) × (test (held_in more i) ≡ true) × (i < length more)) →
         (if b then Some from else first_place test more (from + 1)) ≡ Some place →
         (i : ℕ) × (place ≡ from + i) × (test (held_in (held ∷ more) i) ≡ true) × (i < length (held ∷ more))
     by true e again is =
@@ -27,7 +29,8 @@ place_found test (held ∷ more) from place is = by (test held) refl (place_foun
         (suc f.0, omega (arith, f.1), f.2, omega (arith, f.3))
 
 -- without such a place it holds nowhere
-pub none_found : {T : Type 0} → (test : Option T → Bool) → test None ≡ false → (places : List (Option T)) (from : ℕ) → first_place test places from ≡ None →
+pub none_found : {T : Type 0} → (test : Option T → Bool) → test None ≡ false → (places : List (Option T)) (from : ℕ) →
+    first_place test places from ≡ None →
     (i : ℕ) → test (held_in places i) ≡ false
 none_found test empty [] from is i = empty
 none_found test empty (held ∷ more) from is i = by (test held) refl (none_found test empty more (from + 1)) is i
@@ -39,7 +42,8 @@ none_found test empty (held ∷ more) from is i = by (test held) refl (none_foun
     by false e again is (suc i) = again is i
 
 -- where it holds nowhere there is no such place
-pub found_none : {T : Type 0} → (test : Option T → Bool) (places : List (Option T)) (from : ℕ) → ((i : ℕ) → test (held_in places i) ≡ false) →
+pub found_none : {T : Type 0} → (test : Option T → Bool) (places : List (Option T)) (from : ℕ) →
+    ((i : ℕ) → test (held_in places i) ≡ false) →
     first_place test places from ≡ None
 found_none test [] from none = refl
 found_none test (held ∷ more) from none =
@@ -66,7 +70,8 @@ held_put f (row ∷ rows) (suc put) held same zero = refl
 held_put f (row ∷ rows) (suc put) held same (suc place) = held_put f rows put held same place
 
 -- what holds of each place, and of the new thing, holds of each place then
-pub each_put : {T : Type 0} → (P : Option T → Type 0) (rows : List (Option T)) (put : ℕ) (held : Option T) → ((place : ℕ) → P (held_in rows place)) → P held →
+pub each_put : {T : Type 0} → (P : Option T → Type 0) (rows : List (Option T)) (put : ℕ) (held : Option T) →
+    ((place : ℕ) → P (held_in rows place)) → P held →
     (place : ℕ) → P (held_in (with_held rows put held) place)
 each_put P [] put held each here place = each place
 each_put P (row ∷ rows) zero held each here zero = here
@@ -75,13 +80,15 @@ each_put P (row ∷ rows) (suc put) held each here zero = each zero
 each_put P (row ∷ rows) (suc put) held each here (suc place) = each_put P rows put held (λ p. each (suc p)) here place
 
 -- the same where there may be no place for the thing
-pub each_put_at : {T : Type 0} → (P : Option T → Type 0) (rows : List (Option T)) (held : Option T) (found : Option ℕ) → ((place : ℕ) → P (held_in rows place)) → P held →
+pub each_put_at : {T : Type 0} → (P : Option T → Type 0) (rows : List (Option T)) (held : Option T) (found : Option ℕ) →
+    ((place : ℕ) → P (held_in rows place)) → P held →
     (place : ℕ) → P (held_in (with_held_at rows held found) place)
 each_put_at P rows held None each here place = each place
 each_put_at P rows held (Some put) each here place = each_put P rows put held each here place
 
 -- there are as many places as before
-pub length_put_at : {T : Type 0} → (rows : List (Option T)) (held : Option T) (found : Option ℕ) → length (with_held_at rows held found) ≡ length rows
+pub length_put_at : {T : Type 0} → (rows : List (Option T)) (held : Option T) (found : Option ℕ) →
+    length (with_held_at rows held found) ≡ length rows
 length_put_at rows held None = refl
 length_put_at rows held (Some put) = length-set rows put held
 
@@ -114,43 +121,51 @@ abbrev pub SameNumbers : {T : Type 0} → List (Option (Numbered T)) → List (O
 SameNumbers old new = (number place : ℕ) → has_number number (held_in new place) ≡ has_number number (held_in old place)
 
 -- a thing of one number is of no other
-number_at : {T : Type 0} → (held : Option (Numbered T)) (number other : ℕ) → has_number number held ≡ true → has_number other held ≡ (number == other)
+number_at : {T : Type 0} → (held : Option (Numbered T)) (number other : ℕ) → has_number number held ≡ true →
+    has_number other held ≡ (number == other)
 number_at None number other is = absurd (cc)
 number_at (Some row) number other is = ap (λ n. n == other) (eqb-true row.number number is)
 
 -- so two numbers of one thing are one
-pub one_number : {T : Type 0} → (held : Option (Numbered T)) (number other : ℕ) → has_number number held ≡ true → has_number other held ≡ true → number ≡ other
+pub one_number : {T : Type 0} → (held : Option (Numbered T)) (number other : ℕ) → has_number number held ≡ true →
+    has_number other held ≡ true → number ≡ other
 one_number held number other is also = eqb-true number other (sym (number_at held number other is) ∙ also)
 
 -- and it is not of a number that differs
-pub other_number : {T : Type 0} → (held : Option (Numbered T)) (number other : ℕ) → has_number number held ≡ true → (number ≡ other → ⊥) → has_number other held ≡ false
+pub other_number : {T : Type 0} → (held : Option (Numbered T)) (number other : ℕ) → has_number number held ≡ true → (number ≡ other → ⊥) →
+    has_number other held ≡ false
 other_number held number other is differ = number_at held number other is ∙ ne_eqb number other differ
 
 -- ---- places of numbers
 
 -- at the place of a number a thing of it stands
-pub place_stands : {T : Type 0} → (rows : List (Option (Numbered T))) (number place : ℕ) → place_of rows number ≡ Some place → Stands number rows place
+pub place_stands : {T : Type 0} → (rows : List (Option (Numbered T))) (number place : ℕ) → place_of rows number ≡ Some place →
+    Stands number rows place
 place_stands rows number place is =
     let f = place_found (has_number number) rows 0 place is in
     let same : f.0 ≡ place = omega (arith, f.1) in
     subst (λ p. has_number number (held_in rows p) ≡ true) same f.2
 
 -- the place is one of the table
-pub place_within : {T : Type 0} → (rows : List (Option (Numbered T))) (number place : ℕ) → place_of rows number ≡ Some place → place < length rows
+pub place_within : {T : Type 0} → (rows : List (Option (Numbered T))) (number place : ℕ) → place_of rows number ≡ Some place →
+    place < length rows
 place_within rows number place is =
     let f = place_found (has_number number) rows 0 place is in
     omega (arith, f.1, f.3)
 
 -- a number without a place stands nowhere
-pub none_stands : {T : Type 0} → (rows : List (Option (Numbered T))) (number : ℕ) → place_of rows number ≡ None → (place : ℕ) → has_number number (held_in rows place) ≡ false
+pub none_stands : {T : Type 0} → (rows : List (Option (Numbered T))) (number : ℕ) → place_of rows number ≡ None → (place : ℕ) →
+    has_number number (held_in rows place) ≡ false
 none_stands rows number is place = none_found (has_number number) refl rows 0 is place
 
 -- a number that stands nowhere has no place
-pub nowhere : {T : Type 0} → (rows : List (Option (Numbered T))) (number : ℕ) → ((place : ℕ) → has_number number (held_in rows place) ≡ false) → place_of rows number ≡ None
+pub nowhere : {T : Type 0} → (rows : List (Option (Numbered T))) (number : ℕ) →
+    ((place : ℕ) → has_number number (held_in rows place) ≡ false) → place_of rows number ≡ None
 nowhere rows number none = found_none (has_number number) rows 0 none
 
 -- a number stands at its place, if no other place has it
-pub stands_place : {T : Type 0} → (rows : List (Option (Numbered T))) (number place : ℕ) → AreDistinct rows → Stands number rows place → place_of rows number ≡ Some place
+pub stands_place : {T : Type 0} → (rows : List (Option (Numbered T))) (number place : ℕ) → AreDistinct rows → Stands number rows place →
+    place_of rows number ≡ Some place
 stands_place rows number place distinct stands = by (place_of rows number) refl
   where
     by : (found : Option ℕ) → place_of rows number ≡ found → found ≡ Some place
@@ -158,17 +173,23 @@ stands_place rows number place distinct stands = by (place_of rows number) refl
     by (Some other) is = ap Some (distinct number other place (place_stands rows number other is) stands)
 
 -- different numbers have different places
-pub places_apart : {T : Type 0} → (rows : List (Option (Numbered T))) (number other p q : ℕ) → place_of rows number ≡ Some p → place_of rows other ≡ Some q → p ≡ q → number ≡ other
+pub places_apart : {T : Type 0} → (rows : List (Option (Numbered T))) (number other p q : ℕ) → place_of rows number ≡ Some p →
+    place_of rows other ≡ Some q → p ≡ q → number ≡ other
 places_apart rows number other p q is also same =
-    one_number (held_in rows q) number other (subst (λ place. has_number number (held_in rows place) ≡ true) same (place_stands rows number p is)) (place_stands rows other q also)
+    one_number (held_in rows q) number other
+    (subst (λ place. has_number number (held_in rows place) ≡ true) same (place_stands rows number p is))
+    (place_stands rows other q also)
 
 -- a free place is the place of no number
-pub free_apart : {T : Type 0} → (rows : List (Option (Numbered T))) (number place free : ℕ) → place_of rows number ≡ Some place → IsFree rows free → free ≡ place → ⊥
+pub free_apart : {T : Type 0} → (rows : List (Option (Numbered T))) (number place free : ℕ) → place_of rows number ≡ Some place →
+    IsFree rows free → free ≡ place → ⊥
 free_apart rows number place free is empty same =
-    both_ways (has_number number (held_in rows place)) (subst (λ p. has_number number (held_in rows p) ≡ false) same (empty number)) (place_stands rows number place is)
+    both_ways (has_number number (held_in rows place)) (subst (λ p. has_number number (held_in rows p) ≡ false) same (empty number))
+    (place_stands rows number place is)
 
 -- a number above the bound stands nowhere
-pub above_nowhere : {T : Type 0} → (rows : List (Option (Numbered T))) (bound number : ℕ) → AreWithin bound rows → bound < number → place_of rows number ≡ None
+pub above_nowhere : {T : Type 0} → (rows : List (Option (Numbered T))) (bound number : ℕ) → AreWithin bound rows → bound < number →
+    place_of rows number ≡ None
 above_nowhere rows bound number within above = nowhere rows number (λ place. by place (has_number number (held_in rows place)) refl)
   where
     by : (place : ℕ) (b : Bool) → has_number number (held_in rows place) ≡ b → b ≡ false
@@ -176,12 +197,14 @@ above_nowhere rows bound number within above = nowhere rows number (λ place. by
     by place false e = refl
 
 -- where the same numbers stand
-pub places_same : {T : Type 0} → (old new : List (Option (Numbered T))) → SameNumbers old new → (number : ℕ) → place_of new number ≡ place_of old number
+pub places_same : {T : Type 0} → (old new : List (Option (Numbered T))) → SameNumbers old new → (number : ℕ) →
+    place_of new number ≡ place_of old number
 places_same old new same number = same_place (has_number number) refl new old 0 (λ i. same number i)
 
 -- they are as distinct
 pub distinct_same : {T : Type 0} → (old new : List (Option (Numbered T))) → SameNumbers old new → AreDistinct old → AreDistinct new
-distinct_same old new same distinct number p q first second = distinct number p q (sym (same number p) ∙ first) (sym (same number q) ∙ second)
+distinct_same old new same distinct number p q first second =
+    distinct number p q (sym (same number p) ∙ first) (sym (same number q) ∙ second)
 
 -- ---- the things of numbers
 
@@ -194,7 +217,8 @@ some_held None number has none = absurd (cc)
 some_held (Some row) number has none = none-some row.held (sym none)
 
 -- the thing of a number is what stands at its place
-pub row_at : {T : Type 0} → (rows : List (Option (Numbered T))) (number place : ℕ) → place_of rows number ≡ Some place → row_of rows number ≡ held_of (held_in rows place)
+pub row_at : {T : Type 0} → (rows : List (Option (Numbered T))) (number place : ℕ) → place_of rows number ≡ Some place →
+    row_of rows number ≡ held_of (held_in rows place)
 row_at rows number place is = ap (λ found. held_of (option_and_then (λ p. held_in rows p) found)) is
 
 -- a number without a place has no thing
@@ -207,12 +231,14 @@ row_gone rows number is = by (place_of rows number) refl
   where
     by : (found : Option ℕ) → place_of rows number ≡ found → found ≡ None
     by None at = refl
-    by (Some place) at = absurd (some_held (held_in rows place) number (place_stands rows number place at) (sym (row_at rows number place at) ∙ is))
+    by (Some place) at =
+        absurd (some_held (held_in rows place) number (place_stands rows number place at) (sym (row_at rows number place at) ∙ is))
 
 -- ---- a change of one place
 
 -- a number stands where it stood, or at the changed place
-pub stands_put : {T : Type 0} → (rows : List (Option (Numbered T))) (put : ℕ) (held : Option (Numbered T)) (number place : ℕ) → Stands number (with_held rows put held) place →
+pub stands_put : {T : Type 0} → (rows : List (Option (Numbered T))) (put : ℕ) (held : Option (Numbered T)) (number place : ℕ) →
+    Stands number (with_held rows put held) place →
     ((place ≡ put) × (has_number number held ≡ true)) ⊎ (has_number number (held_in rows place) ≡ true)
 stands_put [] put held number place stands = inr stands
 stands_put (row ∷ rows) zero held number zero stands = inl (refl, stands)
@@ -224,7 +250,8 @@ stands_put (row ∷ rows) (suc put) held number (suc place) stands =
 -- numbers stay distinct where the new thing has none that stands elsewhere
 pub distinct_put : {T : Type 0} → (rows : List (Option (Numbered T))) (put : ℕ) (held : Option (Numbered T)) → AreDistinct rows →
     ((number place : ℕ) → has_number number held ≡ true → Stands number rows place → place ≡ put) → AreDistinct (with_held rows put held)
-distinct_put rows put held distinct one number p q first second = by (stands_put rows put held number p first) (stands_put rows put held number q second)
+distinct_put rows put held distinct one number p q first second =
+    by (stands_put rows put held number p first) (stands_put rows put held number q second)
   where
     by : ((p ≡ put) × (has_number number held ≡ true)) ⊎ (has_number number (held_in rows p) ≡ true) →
         ((q ≡ put) × (has_number number held ≡ true)) ⊎ (has_number number (held_in rows q) ≡ true) → p ≡ q
@@ -234,20 +261,24 @@ distinct_put rows put held distinct one number p q first second = by (stands_put
     by (inr a) (inr b) = distinct number p q a b
 
 -- they stay within a bound where the new thing is
-pub within_put : {T : Type 0} → (rows : List (Option (Numbered T))) (put : ℕ) (held : Option (Numbered T)) (bound : ℕ) → AreWithin bound rows →
+pub within_put : {T : Type 0} → (rows : List (Option (Numbered T))) (put : ℕ) (held : Option (Numbered T)) (bound : ℕ) →
+    AreWithin bound rows →
     ((number : ℕ) → has_number number held ≡ true → number ≤ bound) → AreWithin bound (with_held rows put held)
 within_put rows put held bound within new number place stands =
     elim (stands_put rows put held number place stands) [ inl f ↦ new number f.1 | inr f ↦ within number place f ]
 
 -- a number that neither the old thing nor the new one has
 pub place_put_other : {T : Type 0} → (rows : List (Option (Numbered T))) (put : ℕ) (held : Option (Numbered T)) (number : ℕ) →
-    has_number number (held_in rows put) ≡ false → has_number number held ≡ false → place_of (with_held rows put held) number ≡ place_of rows number
+    has_number number (held_in rows put) ≡ false → has_number number held ≡ false →
+    place_of (with_held rows put held) number ≡ place_of rows number
 place_put_other rows put held number before after =
-    same_place (has_number number) refl (with_held rows put held) rows 0 (λ i. held_put (has_number number) rows put held (before ∙ sym after) i)
+    same_place (has_number number) refl (with_held rows put held) rows 0
+    (λ i. held_put (has_number number) rows put held (before ∙ sym after) i)
 
 -- it has the same thing as before
 pub row_put_other : {T : Type 0} → (rows : List (Option (Numbered T))) (put : ℕ) (held : Option (Numbered T)) (number : ℕ) →
-    has_number number (held_in rows put) ≡ false → has_number number held ≡ false → row_of (with_held rows put held) number ≡ row_of rows number
+    has_number number (held_in rows put) ≡ false → has_number number held ≡ false →
+    row_of (with_held rows put held) number ≡ row_of rows number
 row_put_other rows put held number before after = by (place_of rows number) refl
   where
     same : place_of (with_held rows put held) number ≡ place_of rows number
@@ -258,25 +289,31 @@ row_put_other rows put held number before after = by (place_of rows number) refl
     by (Some place) is =
         row_at (with_held rows put held) number place (same ∙ is)
         ∙ ap held_of (get_or-set_other rows put place held None
-        (λ e. both_ways (has_number number (held_in rows put)) before (subst (λ p. has_number number (held_in rows p) ≡ true) e (place_stands rows number place is))))
+        (λ e. both_ways (has_number number (held_in rows put)) before
+        (subst (λ p. has_number number (held_in rows p) ≡ true) e (place_stands rows number place is))))
         ∙ sym (row_at rows number place is)
 
 -- ---- another thing of a number
 
 -- no number changes its place
-pub numbers-with_row : {T : Type 0} → (rows : List (Option (Numbered T))) (number : ℕ) (held : T) → SameNumbers rows (with_row rows number held)
+pub numbers-with_row : {T : Type 0} → (rows : List (Option (Numbered T))) (number : ℕ) (held : T) →
+    SameNumbers rows (with_row rows number held)
 numbers-with_row rows number held = by (place_of rows number) refl
   where
-    by : (found : Option ℕ) → place_of rows number ≡ found → SameNumbers rows (with_held_at rows (Some (record { number = number; held = held })) found)
+    by : (found : Option ℕ) → place_of rows number ≡ found →
+        SameNumbers rows (with_held_at rows (Some (record { number = number; held = held })) found)
     by None is other place = refl
     by (Some put) is other place =
-        held_put (has_number other) rows put (Some (record { number = number; held = held })) (number_at (held_in rows put) number other (place_stands rows number put is)) place
+        held_put (has_number other) rows put (Some (record { number = number; held = held }))
+        (number_at (held_in rows put) number other (place_stands rows number put is)) place
 
-pub place_of-with_row : {T : Type 0} → (rows : List (Option (Numbered T))) (number : ℕ) (held : T) (other : ℕ) → place_of (with_row rows number held) other ≡ place_of rows other
+pub place_of-with_row : {T : Type 0} → (rows : List (Option (Numbered T))) (number : ℕ) (held : T) (other : ℕ) →
+    place_of (with_row rows number held) other ≡ place_of rows other
 place_of-with_row rows number held other = places_same rows (with_row rows number held) (numbers-with_row rows number held) other
 
 -- the number has the new thing, if it had one
-pub row_of-with_row_same : {T : Type 0} → (rows : List (Option (Numbered T))) (number place : ℕ) (held : T) → place_of rows number ≡ Some place →
+pub row_of-with_row_same : {T : Type 0} → (rows : List (Option (Numbered T))) (number place : ℕ) (held : T) →
+    place_of rows number ≡ Some place →
     row_of (with_row rows number held) number ≡ Some held
 row_of-with_row_same rows number place held is =
     row_at (with_row rows number held) number place (place_of-with_row rows number held number ∙ is)
@@ -288,7 +325,8 @@ pub row_of-with_row_other : {T : Type 0} → (rows : List (Option (Numbered T)))
     row_of (with_row rows number held) other ≡ row_of rows other
 row_of-with_row_other rows number held other differ = by (place_of rows number) refl
   where
-    by : (found : Option ℕ) → place_of rows number ≡ found → row_of (with_held_at rows (Some (record { number = number; held = held })) found) other ≡ row_of rows other
+    by : (found : Option ℕ) → place_of rows number ≡ found →
+        row_of (with_held_at rows (Some (record { number = number; held = held })) found) other ≡ row_of rows other
     by None is = refl
     by (Some put) is =
         row_put_other rows put (Some (record { number = number; held = held })) other
@@ -303,7 +341,8 @@ place_of-without_row_other rows number other differ = by (place_of rows number) 
   where
     by : (found : Option ℕ) → place_of rows number ≡ found → place_of (with_held_at rows None found) other ≡ place_of rows other
     by None is = refl
-    by (Some put) is = place_put_other rows put None other (other_number (held_in rows put) number other (place_stands rows number put is) differ) refl
+    by (Some put) is =
+        place_put_other rows put None other (other_number (held_in rows put) number other (place_stands rows number put is) differ) refl
 
 -- and have what they had
 pub row_of-without_row_other : {T : Type 0} → (rows : List (Option (Numbered T))) (number other : ℕ) → (number ≡ other → ⊥) →
@@ -312,7 +351,8 @@ row_of-without_row_other rows number other differ = by (place_of rows number) re
   where
     by : (found : Option ℕ) → place_of rows number ≡ found → row_of (with_held_at rows None found) other ≡ row_of rows other
     by None is = refl
-    by (Some put) is = row_put_other rows put None other (other_number (held_in rows put) number other (place_stands rows number put is) differ) refl
+    by (Some put) is =
+        row_put_other rows put None other (other_number (held_in rows put) number other (place_stands rows number put is) differ) refl
 
 -- where no other place has the number, it is gone
 cleared : {T : Type 0} → (rows : List (Option (Numbered T))) (number put : ℕ) → AreDistinct rows → place_of rows number ≡ Some put →
@@ -324,12 +364,15 @@ cleared rows number put distinct is place = by (cases_eq place put)
     elsewhere apart false e = refl
 
     by : (place ≡ put) ⊎ (place ≡ put → ⊥) → has_number number (held_in (with_held rows put None) place) ≡ false
-    by (inl same) = subst (λ p. has_number number (held_in (with_held rows put None) p) ≡ false) (sym same) (ap (has_number number) (emptied rows put))
+    by (inl same) =
+        subst (λ p. has_number number (held_in (with_held rows put None) p) ≡ false) (sym same) (ap (has_number number) (emptied rows put))
     by (inr apart) =
-        ap (has_number number) (get_or-set_other rows put place None None apart) ∙ elsewhere apart (has_number number (held_in rows place)) refl
+        ap (has_number number) (get_or-set_other rows put place None None apart)
+        ∙ elsewhere apart (has_number number (held_in rows place)) refl
 
 -- so its number has no place
-pub place_of-without_row_same : {T : Type 0} → (rows : List (Option (Numbered T))) (number : ℕ) → AreDistinct rows → place_of (without_row rows number) number ≡ None
+pub place_of-without_row_same : {T : Type 0} → (rows : List (Option (Numbered T))) (number : ℕ) → AreDistinct rows →
+    place_of (without_row rows number) number ≡ None
 place_of-without_row_same rows number distinct = by (place_of rows number) refl
   where
     by : (found : Option ℕ) → place_of rows number ≡ found → place_of (with_held_at rows None found) number ≡ None
@@ -337,14 +380,16 @@ place_of-without_row_same rows number distinct = by (place_of rows number) refl
     by (Some put) is = nowhere (with_held rows put None) number (cleared rows number put distinct is)
 
 -- the others are as distinct, and within the same bound
-pub distinct-without_row : {T : Type 0} → (rows : List (Option (Numbered T))) (number : ℕ) → AreDistinct rows → AreDistinct (without_row rows number)
+pub distinct-without_row : {T : Type 0} → (rows : List (Option (Numbered T))) (number : ℕ) → AreDistinct rows →
+    AreDistinct (without_row rows number)
 distinct-without_row rows number distinct = by (place_of rows number)
   where
     by : (found : Option ℕ) → AreDistinct (with_held_at rows None found)
     by None = distinct
     by (Some put) = distinct_put rows put None distinct (λ n place has stands. absurd (false≢true has))
 
-pub within-without_row : {T : Type 0} → (rows : List (Option (Numbered T))) (number bound : ℕ) → AreWithin bound rows → AreWithin bound (without_row rows number)
+pub within-without_row : {T : Type 0} → (rows : List (Option (Numbered T))) (number bound : ℕ) → AreWithin bound rows →
+    AreWithin bound (without_row rows number)
 within-without_row rows number bound within = by (place_of rows number)
   where
     by : (found : Option ℕ) → AreWithin bound (with_held_at rows None found)
@@ -359,34 +404,42 @@ is_nothing None is = refl
 is_nothing (Some x) is = absurd (cc)
 
 -- nothing stands at the least free place
-pub free_least : {T : Type 0} → (rows : List (Option T)) (put : ℕ) → least_free rows 0 ≡ Some put → (held_in rows put ≡ None) × (put < length rows)
+pub free_least : {T : Type 0} → (rows : List (Option T)) (put : ℕ) → least_free rows 0 ≡ Some put →
+    (held_in rows put ≡ None) × (put < length rows)
 free_least rows put is =
     let f = place_found is_none rows 0 put is in
     let same : f.0 ≡ put = omega (arith, f.1) in
     (subst (λ p. held_in rows p ≡ None) same (is_nothing (held_in rows f.0) f.2), omega (arith, f.1, f.3))
 
 -- other numbers stand where they stood
-pub place_of-with_new_row_other : {T : Type 0} → (rows : List (Option (Numbered T))) (number : ℕ) (held : T) (other : ℕ) → (number ≡ other → ⊥) →
+pub place_of-with_new_row_other : {T : Type 0} → (rows : List (Option (Numbered T))) (number : ℕ) (held : T) (other : ℕ) →
+    (number ≡ other → ⊥) →
     place_of (with_new_row rows number held) other ≡ place_of rows other
 place_of-with_new_row_other rows number held other differ = by (least_free rows 0) refl
   where
-    by : (found : Option ℕ) → least_free rows 0 ≡ found → place_of (with_held_at rows (Some (record { number = number; held = held })) found) other ≡ place_of rows other
+    by : (found : Option ℕ) → least_free rows 0 ≡ found →
+        place_of (with_held_at rows (Some (record { number = number; held = held })) found) other ≡ place_of rows other
     by None is = refl
     by (Some put) is =
-        place_put_other rows put (Some (record { number = number; held = held })) other (ap (has_number other) (free_least rows put is).0) (ne_eqb number other differ)
+        place_put_other rows put (Some (record { number = number; held = held })) other (ap (has_number other) (free_least rows put is).0)
+        (ne_eqb number other differ)
 
 -- and have what they had
-pub row_of-with_new_row_other : {T : Type 0} → (rows : List (Option (Numbered T))) (number : ℕ) (held : T) (other : ℕ) → (number ≡ other → ⊥) →
+pub row_of-with_new_row_other : {T : Type 0} → (rows : List (Option (Numbered T))) (number : ℕ) (held : T) (other : ℕ) →
+    (number ≡ other → ⊥) →
     row_of (with_new_row rows number held) other ≡ row_of rows other
 row_of-with_new_row_other rows number held other differ = by (least_free rows 0) refl
   where
-    by : (found : Option ℕ) → least_free rows 0 ≡ found → row_of (with_held_at rows (Some (record { number = number; held = held })) found) other ≡ row_of rows other
+    by : (found : Option ℕ) → least_free rows 0 ≡ found →
+        row_of (with_held_at rows (Some (record { number = number; held = held })) found) other ≡ row_of rows other
     by None is = refl
     by (Some put) is =
-        row_put_other rows put (Some (record { number = number; held = held })) other (ap (has_number other) (free_least rows put is).0) (ne_eqb number other differ)
+        row_put_other rows put (Some (record { number = number; held = held })) other (ap (has_number other) (free_least rows put is).0)
+        (ne_eqb number other differ)
 
 -- numbers stay distinct where the new one stood nowhere
-pub distinct-with_new_row : {T : Type 0} → (rows : List (Option (Numbered T))) (number : ℕ) (held : T) → AreDistinct rows → place_of rows number ≡ None →
+pub distinct-with_new_row : {T : Type 0} → (rows : List (Option (Numbered T))) (number : ℕ) (held : T) → AreDistinct rows →
+    place_of rows number ≡ None →
     AreDistinct (with_new_row rows number held)
 distinct-with_new_row rows number held distinct new = by (least_free rows 0)
   where
@@ -397,16 +450,20 @@ distinct-with_new_row rows number held distinct new = by (least_free rows 0)
         (subst (λ m. has_number m (held_in rows place) ≡ false) (eqb-true number n has) (none_stands rows number new place)) stands))
 
 -- they stay within a bound where the new one is
-pub within-with_new_row : {T : Type 0} → (rows : List (Option (Numbered T))) (number : ℕ) (held : T) (bound : ℕ) → AreWithin bound rows → number ≤ bound →
+pub within-with_new_row : {T : Type 0} → (rows : List (Option (Numbered T))) (number : ℕ) (held : T) (bound : ℕ) → AreWithin bound rows →
+    number ≤ bound →
     AreWithin bound (with_new_row rows number held)
 within-with_new_row rows number held bound within below = by (least_free rows 0)
   where
     by : (found : Option ℕ) → AreWithin bound (with_held_at rows (Some (record { number = number; held = held })) found)
     by None = within
-    by (Some put) = within_put rows put (Some (record { number = number; held = held })) bound within (λ n has. subst (λ m. m ≤ bound) (eqb-true number n has) below)
+    by (Some put) =
+        within_put rows put (Some (record { number = number; held = held })) bound within
+        (λ n has. subst (λ m. m ≤ bound) (eqb-true number n has) below)
 
 -- a new number has the place that was free
-pub place_of-with_new_row_same : {T : Type 0} → (rows : List (Option (Numbered T))) (number : ℕ) (held : T) (put : ℕ) → AreDistinct rows → place_of rows number ≡ None →
+pub place_of-with_new_row_same : {T : Type 0} → (rows : List (Option (Numbered T))) (number : ℕ) (held : T) (put : ℕ) → AreDistinct rows →
+    place_of rows number ≡ None →
     least_free rows 0 ≡ Some put → place_of (with_new_row rows number held) number ≡ Some put
 place_of-with_new_row_same rows number held put distinct new is =
     stands_place (with_new_row rows number held) number put (distinct-with_new_row rows number held distinct new)
@@ -415,7 +472,8 @@ place_of-with_new_row_same rows number held put distinct new is =
     ∙ eq-eqb number number refl)
 
 -- and has the new thing
-pub row_of-with_new_row_same : {T : Type 0} → (rows : List (Option (Numbered T))) (number : ℕ) (held : T) (put : ℕ) → AreDistinct rows → place_of rows number ≡ None →
+pub row_of-with_new_row_same : {T : Type 0} → (rows : List (Option (Numbered T))) (number : ℕ) (held : T) (put : ℕ) → AreDistinct rows →
+    place_of rows number ≡ None →
     least_free rows 0 ≡ Some put → row_of (with_new_row rows number held) number ≡ Some held
 row_of-with_new_row_same rows number held put distinct new is =
     row_at (with_new_row rows number held) number put (place_of-with_new_row_same rows number held put distinct new is)
@@ -423,10 +481,12 @@ row_of-with_new_row_same rows number held put distinct new is =
     ∙ ap held_of (get_or-set_same rows put (Some (record { number = number; held = held })) None (free_least rows put is).1)
 
 -- the first place behind the first one
-found_next : {T : Type 0} → (test : Option T → Bool) (places : List (Option T)) (from : ℕ) → first_place test places (from + 1) ≡ option_map suc (first_place test places from)
+found_next : {T : Type 0} → (test : Option T → Bool) (places : List (Option T)) (from : ℕ) →
+    first_place test places (from + 1) ≡ option_map suc (first_place test places from)
 found_next test [] from = refl
 found_next test (held ∷ more) from =
-    elim (test held) as (λ b. (if b then Some (from + 1) else first_place test more ((from + 1) + 1)) ≡ option_map suc (if b then Some from else first_place test more (from + 1))) [
+    elim (test held) as (λ b. (if b then Some (from + 1) else first_place test more ((from + 1) + 1)) ≡ option_map suc
+    (if b then Some from else first_place test more (from + 1))) [
       | true ↦ ap Some (one_more from)
       | false ↦ found_next test more (from + 1)
     ]
@@ -439,12 +499,17 @@ row_first : {T : Type 0} → (row : Option (Numbered T)) (rows : List (Option (N
     row_of (row ∷ rows) number ≡ (if has_number number row then held_of row else row_of rows number)
 row_first row rows number =
     elim (has_number number row) as
-    (λ b. held_of (option_and_then (λ place. held_in (row ∷ rows) place) (if b then Some 0 else first_place (has_number number) rows (0 + 1))) ≡ (if b then held_of row else row_of rows number)) [
+    (λ b. held_of
+    (option_and_then (λ place. held_in (row ∷ rows) place)
+    (if b then Some 0 else first_place (has_number number) rows (0 + 1))) ≡ (if b then held_of row else row_of rows number)) [
       | true ↦ refl
-      | false ↦ ap (λ found. held_of (option_and_then (λ place. held_in (row ∷ rows) place) found)) (found_next (has_number number) rows 0) ∙ behind (place_of rows number)
+      | false ↦ ap (λ found. held_of (option_and_then (λ place. held_in (row ∷ rows) place) found)) (found_next (has_number number) rows 0)
+          ∙ behind (place_of rows number)
     ]
   where
-    behind : (found : Option ℕ) → held_of (option_and_then (λ place. held_in (row ∷ rows) place) (option_map suc found)) ≡ held_of (option_and_then (λ place. held_in rows place) found)
+    behind : (found : Option ℕ) →
+        held_of (option_and_then (λ place. held_in (row ∷ rows) place) (option_map suc found)) ≡ held_of
+        (option_and_then (λ place. held_in rows place) found)
     behind None = refl
     behind (Some place) = refl
 
@@ -454,7 +519,8 @@ row_put : {T : Type 0} → (rows : List (Option (Numbered T))) (put number : ℕ
     ⊎ (row_of (with_held rows put (Some (record { number = number; held = held }))) number ≡ row_of rows number)
 row_put [] put number held free = inr refl
 row_put (row ∷ rows) zero number held free =
-    inl (row_first (Some (record { number = number; held = held })) rows number ∙ ap (λ b. if b then Some held else row_of rows number) (eq-eqb number number refl))
+    inl (row_first (Some (record { number = number; held = held })) rows number
+    ∙ ap (λ b. if b then Some held else row_of rows number) (eq-eqb number number refl))
 row_put (row ∷ rows) (suc put) number held free =
     let before = row_first row rows number in
     let behind = row_first row (with_held rows put (Some (record { number = number; held = held }))) number in
@@ -464,7 +530,8 @@ row_put (row ∷ rows) (suc put) number held free =
     ]
   where
     by : (b : Bool) → row_of (row ∷ rows) number ≡ (if b then held_of row else row_of rows number) →
-        row_of (with_held (row ∷ rows) (suc put) (Some (record { number = number; held = held }))) number ≡ (if b then held_of row else Some held) →
+        row_of (with_held (row ∷ rows) (suc put) (Some (record { number = number; held = held })))
+        number ≡ (if b then held_of row else Some held) →
         (row_of (with_held (row ∷ rows) (suc put) (Some (record { number = number; held = held }))) number ≡ Some held)
         ⊎ (row_of (with_held (row ∷ rows) (suc put) (Some (record { number = number; held = held }))) number ≡ row_of (row ∷ rows) number)
     by true before behind = inr (behind ∙ sym before)
@@ -486,7 +553,8 @@ pub new_stands : {T : Type 0} → (rows : List (Option (Numbered T))) (number : 
     Stands number (with_new_row rows number held) place → IsFree rows place
 new_stands rows number held place new stands = by (least_free rows 0) refl stands
   where
-    by : (found : Option ℕ) → least_free rows 0 ≡ found → Stands number (with_held_at rows (Some (record { number = number; held = held })) found) place → IsFree rows place
+    by : (found : Option ℕ) → least_free rows 0 ≡ found →
+        Stands number (with_held_at rows (Some (record { number = number; held = held })) found) place → IsFree rows place
     by None is stands = absurd (both_ways (has_number number (held_in rows place)) (none_stands rows number new place) stands)
     by (Some put) is stands =
         elim (stands_put rows put (Some (record { number = number; held = held })) number place stands) [
@@ -495,18 +563,23 @@ new_stands rows number held place new stands = by (least_free rows 0) refl stand
         ]
 
 -- what is free behind it was free
-pub new_free : {T : Type 0} → (rows : List (Option (Numbered T))) (number : ℕ) (held : T) (place : ℕ) → IsFree (with_new_row rows number held) place → IsFree rows place
+pub new_free : {T : Type 0} → (rows : List (Option (Numbered T))) (number : ℕ) (held : T) (place : ℕ) →
+    IsFree (with_new_row rows number held) place → IsFree rows place
 new_free rows number held place free = by (least_free rows 0) refl free
   where
     apart : (put : ℕ) → least_free rows 0 ≡ Some put → IsFree (with_held rows put (Some (record { number = number; held = held }))) place →
         (place ≡ put) ⊎ (place ≡ put → ⊥) → IsFree rows place
-    apart put is free (inl same) n = subst (λ p. has_number n (held_in rows p) ≡ false) (sym same) (ap (has_number n) (free_least rows put is).0)
-    apart put is free (inr differ) n = sym (ap (has_number n) (get_or-set_other rows put place (Some (record { number = number; held = held })) None differ)) ∙ free n
+    apart put is free (inl same) n =
+        subst (λ p. has_number n (held_in rows p) ≡ false) (sym same) (ap (has_number n) (free_least rows put is).0)
+    apart put is free (inr differ) n =
+        sym (ap (has_number n) (get_or-set_other rows put place (Some (record { number = number; held = held })) None differ)) ∙ free n
 
-    by : (found : Option ℕ) → least_free rows 0 ≡ found → IsFree (with_held_at rows (Some (record { number = number; held = held })) found) place → IsFree rows place
+    by : (found : Option ℕ) → least_free rows 0 ≡ found →
+        IsFree (with_held_at rows (Some (record { number = number; held = held })) found) place → IsFree rows place
     by None is free = free
     by (Some put) is free = apart put is free (cases_eq place put)
 
 -- what is free once a thing is gone was free, or it is the place of that thing
-pub less_free : {T : Type 0} → (rows : List (Option (Numbered T))) (put place : ℕ) → (place ≡ put → ⊥) → IsFree (with_held rows put None) place → IsFree rows place
+pub less_free : {T : Type 0} → (rows : List (Option (Numbered T))) (put place : ℕ) → (place ≡ put → ⊥) →
+    IsFree (with_held rows put None) place → IsFree rows place
 less_free rows put place differ free n = sym (ap (has_number n) (get_or-set_other rows put place None None differ)) ∙ free n

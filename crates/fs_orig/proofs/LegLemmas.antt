@@ -2,7 +2,7 @@
 use Rattle.std.proofs.Common.{◌≡◌, ℕ, ◌+◌, ◌<◌, ◌≤◌, List, [], ◌∷◌, length, drop, get_or, Option, None, Some, refl, ap, ◌∙◌}
 use Rattle.std.proofs.lemmas.List.{at_drop_more, at_drop_all}
 use Rattle.fs_orig.specs.declared.leg.OrigLeg.{OrigLeg}
-use Rattle.fs_machine.specs.Attempts.{living_slot, living_slots}
+use Rattle.fs_orig.specs.Legs.{living_slot, living_slots}
 
 -- a slot in front of others, if there is one
 abbrev in_front : Option ℕ → List ℕ → List ℕ
@@ -16,14 +16,16 @@ one_more leg legs = on (living_slot leg)
     on slot = refl
 
 -- the leg at a place is in a slot, or not
-pub living_there : (legs : List OrigLeg) (place : ℕ) (default : OrigLeg) (slot : ℕ) → place < length legs → living_slot (get_or legs place default) ≡ Some slot →
+pub living_there : (legs : List OrigLeg) (place : ℕ) (default : OrigLeg) (slot : ℕ) → place < length legs →
+    living_slot (get_or legs place default) ≡ Some slot →
     living_slots (drop place legs) ≡ slot ∷ living_slots (drop (place + 1) legs)
 living_there legs place default slot within e =
     at_drop_more living_slots legs place default within
     ∙ one_more (get_or legs place default) (drop (place + 1) legs)
     ∙ ap (λ found. in_front found (living_slots (drop (place + 1) legs))) e
 
-pub living_elsewhere : (legs : List OrigLeg) (place : ℕ) (default : OrigLeg) → place < length legs → living_slot (get_or legs place default) ≡ None →
+pub living_elsewhere : (legs : List OrigLeg) (place : ℕ) (default : OrigLeg) → place < length legs →
+    living_slot (get_or legs place default) ≡ None →
     living_slots (drop place legs) ≡ living_slots (drop (place + 1) legs)
 living_elsewhere legs place default within e =
     at_drop_more living_slots legs place default within

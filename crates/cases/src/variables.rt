@@ -50,7 +50,7 @@ impl Variables {
             "globals" => self.vars = filled(self.alloc, Bounds::Globals, rest)?,
             "set" => self.tell_set(rest, answer)?,
             "long" => self.tell_long(rest, answer)?,
-            "unset" => self.vars.unset(&bytes_of(self.alloc, rest)?),
+            "unset" => self.vars.unset(&bytes_of(self.alloc, rest)?)?,
             "copy" => self.tell_copy(rest, answer)?,
             "list" => tell_vars(self.alloc, &self.vars, answer)?,
             _ => return self.tell_text(verb, rest, answer),
@@ -76,7 +76,7 @@ impl Variables {
     fn tell_copy(&self, name: &str, answer: &mut Answer) -> Result<(), Memory> {
         let name = bytes_of(self.alloc, name)?;
         let mut copy = self.vars.copy()?;
-        copy.unset(&name);
+        copy.unset(&name)?;
         tell_vars(self.alloc, &copy, answer)?;
         tell_vars(self.alloc, &self.vars, answer)
     }

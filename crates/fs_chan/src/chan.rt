@@ -1,11 +1,13 @@
+//! The record of a channel, and its copy.
 ghost use Rattle.std.specs.Prelude.{◌≡◌, IfOk};
 
 use crate::action::{Action, Actions};
 use crate::left::ActionsLeft;
 use crate::peer::{Direction, Peer};
+use crate::profile::SharedProfile;
 use crate::wait::Wait;
 use fs_text::{Cause, Memory, State, Txt};
-use fs_vars::{Profile, Vars};
+use fs_vars::Vars;
 use std::alloc::Global;
 
 /// A channel: one leg of a call.
@@ -19,7 +21,7 @@ pub struct Chan {
     /// Where it stands in its life.
     pub state: State,
     pub direction: Direction,
-    pub profile: Profile,
+    pub profile: SharedProfile,
     pub vars: Vars,
     /// What it is to run, as the dialplan gave it.
     pub actions: ActionsLeft,
@@ -77,7 +79,7 @@ impl Chan {
         uuid: Txt,
         slot: u16,
         direction: Direction,
-        profile: Profile,
+        profile: SharedProfile,
         vars: Vars,
     ) -> Chan
         ensures { result ≡ new_channel uuid slot direction profile vars }

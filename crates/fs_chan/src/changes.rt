@@ -1,4 +1,5 @@
-ghost use Rattle.std.specs.Prelude.{◌≡◌, true, OnOk, OnErr, is_none, unwrap_or};
+//! Each single change of a channel.
+ghost use Rattle.std.specs.Prelude.{◌≡◌, true, OnOk, OnErr, is_none};
 ghost use Rattle.fs_chan.specs.Changes as spec;
 
 use crate::action::Actions;
@@ -7,7 +8,7 @@ use crate::left::ActionsLeft;
 use crate::moment::moment_after;
 use crate::target::Target3;
 use crate::wait::Wait;
-use fs_text::{Cause, Memory, State, Txt};
+use fs_text::{Cause, Memory, State};
 use fs_vars::Vars;
 
 impl Chan {
@@ -30,20 +31,20 @@ impl Chan {
         true
     }
 
-    /// Begins to be routed to a target. What it ran, waited for and was still to run as actions is dropped; messages stay.
-    pub fn transfer(&mut self, to: Target3)
+    /// Begins to be routed to a target. What it ran, waited for and was still to run as actions is dropped;
+    /// messages stay.
+    pub fn transfer(&mut self, to: Target3) -> Result<(), Memory>
         requires { spec.IsShortTarget to }
-        ensures to { self.new ≡ spec.transferred to self.old }
+        ensures ok { OnOk result (self.new ≡ spec.transferred to self.old) }
+        ensures err { OnErr result (self.new ≡ self.old) }
         ensures short { spec.HasShortFields self.old.profile → spec.HasShortFields self.new.profile }
     {
-        let (exten, dialplan, context) = to.into_texts();
-        self.profile.destination_number = exten;
-        set_if_named(&mut self.profile.dialplan, dialplan);
-        set_if_named(&mut self.profile.context, context);
+        self.profile.send_to(to)?;
         self.actions.clear();
         self.running = None;
         self.wait = Wait::Ready;
         self.state = State::CsRouting;
+        Ok(())
     }
 
     /// Whether it may be routed once more: it was routed less than 70 times.
@@ -104,8 +105,8 @@ impl Chan {
         self.wait = Wait::Sleep { until };
     }
 
-    /// Is hung up with a cause, which its variable `hangup_cause` tells too. It waits for nothing, has nothing to run, and no longer
-    /// names a partner, a peer, an origination or a connection.
+    /// Is hung up with a cause, which its variable `hangup_cause` tells too. It waits for nothing, has nothing to run,
+    /// and no longer names a partner, a peer, an origination or a connection.
     pub fn hang_up(&mut self, cause: Cause) -> Result<(), Memory>
         ensures ok { OnOk result (self.new ≡ spec.hung_up cause self.old) }
         ensures err { OnErr result (self.new ≡ self.old) }
@@ -123,14 +124,4 @@ impl Chan {
         self.state = State::CsHangup;
         Ok(())
     }
-}
-
-/// Sets a field of a profile, where a text for it is named.
-fn set_if_named(field: &mut Txt, named: Option<Txt>)
-    ensures { field.new ≡ unwrap_or named field.old }
-{
-    let Some(text) = named else {
-        return;
-    };
-    *field = text;
 }

@@ -71,7 +71,7 @@ fn argument_in(draft: &Draft<'_>, chan: &Chan, text: &Txt) -> Result<Txt, Refuse
 {
     let scope = Scope {
         vars: &chan.vars,
-        profile: &chan.profile,
+        profile: &*chan.profile,
         globals: draft.globals(),
     };
     expand(draft.alloc(), &scope, text.as_bytes())
@@ -137,7 +137,7 @@ fn unset(draft: &mut Draft<'_>, slot: u16, name: &Txt) -> Result<(), Memory>
         return Ok(());
     };
     let state = chan.state;
-    chan.unset(name.as_bytes());
+    chan.unset(name.as_bytes())?;
     draft.put_moved(slot, state, chan)
 }
 

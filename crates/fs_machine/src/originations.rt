@@ -5,7 +5,7 @@ ghost use Rattle.fs_state.specs.Switch.{identifier_of, with_next_identifier, fre
 ghost use Rattle.fs_machine.specs.Originations as spec;
 
 use fs_api::{Route, Winner};
-use fs_chan::{Action, Actions, ActionsLeft, Chan, Direction, Target3, Wait};
+use fs_chan::{Action, Actions, ActionsLeft, Chan, Direction, SharedProfile, Target3, Wait};
 use fs_orig::{Endpoint, OrigLeg};
 use fs_state::Draft;
 use fs_text::{Cause, Memory, State, Txt};
@@ -159,6 +159,7 @@ fn end_of(alloc: Global, call: &Call, end: End, uuid: Txt) -> Result<Chan, Memor
     ensures { IfOk result (λ chan. chan ≡ spec.end_of call.now end uuid) }
 {
     let profile = loopback_profile(alloc, call, end.direction, &uuid)?;
+    let profile = SharedProfile::of(alloc, profile)?;
     let vars = Vars::new(alloc, Bounds::Channel)?;
     let mut chan = Chan::new(alloc, uuid, end.slot, end.direction, profile, vars);
     chan.partner = Some(end.partner);
@@ -246,7 +247,7 @@ fn won_by(alloc: Global, mut chan: Chan, winner: &Winner) -> Result<Chan, Memory
             chan.wait = Wait::Ready;
             chan.state = State::CsExecute;
         }
-        Winner::Route(route) => chan.transfer(target_of(route.copy()?)),
+        Winner::Route(route) => chan.transfer(target_of(route.copy()?))?,
     }
     Ok(chan)
 }

@@ -96,7 +96,7 @@ fn hunt_for(draft: &Draft<'_>, plan: &Dialplan, chan: &Chan) -> Result<Option<Hu
 {
     let scope = Scope {
         vars: &chan.vars,
-        profile: &chan.profile,
+        profile: &*chan.profile,
         globals: draft.globals(),
     };
     let context = chan.profile.context.as_bytes();

@@ -22,8 +22,7 @@ impl Hunt {
         if application == b"set".as_slice() {
             set(&mut self.vars, argument)
         } else if application == b"unset".as_slice() {
-            self.vars.unset(argument);
-            Ok(())
+            self.vars.unset(argument)
         } else if application == b"export".as_slice() {
             export(alloc, &mut self.vars, argument)
         } else if application == b"set_global".as_slice() {

@@ -1,10 +1,10 @@
 -- An output that takes the pieces of a text one after another.
-use Rattle.std.proofs.Common.{◌≡◌, ◌++◌, [], sym, ap, ◌∙◌, append_assoc, subst}
+use Rattle.std.proofs.Common.{◌≡◌, ◌++◌, [], sym, ap, ◌∙◌, subst}
 use Rattle.std.proofs.lemmas.List.{append-nil}
 use Rattle.fs_vars.specs.declared.output.Output.{Output}
 use Rattle.fs_vars.specs.Pairs.{Text, Pairs}
 use Rattle.fs_vars.specs.Expansion.{expanded}
-use Rattle.fs_vars.specs.Pieces.{Left, TakesPiece}
+use Rattle.fs_vars.specs.Pieces.{Left}
 use Rattle.fs_vars.specs.Outputs.{Holds}
 use Rattle.fs_vars.proofs.ExpansionLemmas.{expanded-nothing}
 

@@ -1,3 +1,4 @@
+//! The part of a value that a reference asks for.
 ghost use Rattle.std.specs.Prelude.{◌≡◌, ◌<◌, is_some, IfSome};
 ghost use Rattle.std.specs.List.{before_first, after_first, list_any};
 ghost use Rattle.fs_vars.specs.Parts.{is_colon, size_in, number_in, part_in, part_of};

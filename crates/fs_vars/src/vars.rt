@@ -1,4 +1,5 @@
-ghost use Rattle.std.specs.Prelude.{◌≡◌, ◌≤◌, true, [], length, if◌then◌else◌, IfOk, OnErr, option_copied};
+//! Variables within limits.
+ghost use Rattle.std.specs.Prelude.{◌≡◌, ◌≤◌, true, [], length, if◌then◌else◌, IfOk, OnOk, OnErr, option_copied};
 ghost use Rattle.fs_vars.specs.Pairs.{value_of, with_value, without, AreDistinct};
 ghost use Rattle.fs_vars.specs.Variables.{can_set, set_to, is_removal, is_within, tally_of};
 
@@ -50,7 +51,7 @@ impl Vars {
     {
         Ok(Vars {
             bounds,
-            table: Table::new(alloc),
+            table: Table::new(alloc)?,
             tally: Tally::NONE,
         })
     }
@@ -84,8 +85,8 @@ impl Vars {
 
     /// Sets a variable, and says whether it did. An empty value and `_undef_` take the variable out.
     ///
-    /// It does not, and changes nothing, where the name is empty or a limit of the bounds would be passed. A new name goes last, and
-    /// one that is there keeps its place.
+    /// It does not, and changes nothing, where the name is empty or a limit of the bounds would be passed. A new name
+    /// goes last, and one that is there keeps its place.
     #[tactic(auto, unfolding(crate::specs::Variables::can_set, crate::specs::Variables::set_to))]
     pub fn set(&mut self, name: &[u8], value: &[u8]) -> Result<bool, Memory>
         ensures answer { IfOk result (λ done. done ≡ can_set self.old name.now value.now) }
@@ -96,7 +97,7 @@ impl Vars {
             return Ok(false);
         }
         if is_removal(value) {
-            self.unset(name);
+            self.unset(name)?;
             return Ok(true);
         }
         if name.len() > NAME_LIMIT || value.len() > VALUE_LIMIT {
@@ -113,11 +114,14 @@ impl Vars {
     }
 
     /// Takes a variable out. The others keep their order.
-    pub fn unset(&mut self, name: &[u8])
-        ensures { self.new ≡ record self.old { pairs = without self.old.pairs name.now } }
+    pub fn unset(&mut self, name: &[u8]) -> Result<(), Memory>
+        ensures ok { OnOk result (self.new ≡ record self.old { pairs = without self.old.pairs name.now }) }
+        ensures err { OnErr result (self.new ≡ self.old) }
     {
-        self.tally = self.tally_without(name);
-        self.table.take(name);
+        let tally = self.tally_without(name);
+        self.table.take(name)?;
+        self.tally = tally;
+        Ok(())
     }
 
     /// What the variables count once the name is set to the value.

@@ -1,14 +1,23 @@
--- What setting and exporting a variable makes of variables.
+-- What setting, taking out and exporting a variable makes of variables.
 use Rattle.std.specs.Prelude.{◌==◌, Bool, ◌||◌, ◌&&◌, if◌then◌else◌, List, [], ◌∷◌, ◌++◌, length, Option, None, Some, codes, unwrap_or}
 use Rattle.std.specs.Borrow.{Bor}
 use Rattle.std.specs.List.{list_any, slice_split}
 use Rattle.fs_text.specs.Words.{is_byte}
-use Rattle.fs_vars.specs.Pairs.{Text, same_text, value_of}
+use Rattle.fs_vars.specs.Pairs.{Text, same_text, value_of, without}
 use Rattle.fs_vars.specs.Variables.{Variables, can_set, set_to}
+use Rattle.fs_chan.specs.declared.chan.Chan.{Chan}
 
 -- the variables once the name is set, or as they were where it cannot be
 abbrev pub with_set : Variables → Text → Text → Variables
 with_set vars name value = if can_set vars name value then set_to vars name value else vars
+
+-- the channel with other variables
+abbrev pub with_vars : Variables → Chan → Chan
+with_vars vars c = record c { vars = vars }
+
+-- the variables without the name
+abbrev pub without_name : Variables → Text → Variables
+without_name vars name = record vars { pairs = without vars.pairs name }
 
 -- the names of a comma list
 abbrev pub names_of : Text → List Text

@@ -1,5 +1,5 @@
 -- What a channel runs next, and when it has something to do by itself.
-use Rattle.std.specs.Prelude.{ℕ, Bool, true, false, nat_le, if◌then◌else◌, List, [], ◌∷◌, ◌++◌, drop, Option, None, Some}
+use Rattle.std.specs.Prelude.{◌≡◌, ℕ, ◌≤◌, Bool, true, false, nat_le, if◌then◌else◌, List, [], ◌∷◌, ◌++◌, drop, Option, None, Some}
 use Rattle.fs_text.specs.declared.states.State.{State}
 use Rattle.fs_text.specs.declared.states.State.TheVariants.{CsNew, CsInit, CsRouting, CsExecute, CsPark, CsHangup, CsReporting}
 use Rattle.fs_chan.specs.declared.action.Action.{Action}
@@ -87,3 +87,7 @@ due_in now _ wait messages = None
 
 abbrev pub due_of : ℕ → Chan → Option Due
 due_of now c = due_in now c.state c.wait c.messages
+
+-- what is to be done at once is so at each later moment
+abbrev pub StaysDue : Type 0
+StaysDue = (now later : ℕ) (c : Chan) → now ≤ later → due_of now c ≡ Some Now → due_of later c ≡ Some Now

@@ -1,11 +1,13 @@
+//! The record of a channel, and its copy.
 ghost use Rattle.std.specs.Prelude.{◌≡◌, IfOk};
 
 use crate::action::{Action, Actions};
 use crate::left::ActionsLeft;
 use crate::peer::{Direction, Peer};
+use crate::shared::SharedVars;
 use crate::wait::Wait;
 use fs_text::{Cause, Memory, State, Txt};
-use fs_vars::{Profile, Vars};
+use fs_vars::Profile;
 use std::alloc::Global;
 
 /// A channel: one leg of a call.
@@ -20,7 +22,7 @@ pub struct Chan {
     pub state: State,
     pub direction: Direction,
     pub profile: Profile,
-    pub vars: Vars,
+    pub vars: SharedVars,
     /// What it is to run, as the dialplan gave it.
     pub actions: ActionsLeft,
     /// What it is to run first, as clients sent it.
@@ -78,7 +80,7 @@ impl Chan {
         slot: u16,
         direction: Direction,
         profile: Profile,
-        vars: Vars,
+        vars: SharedVars,
     ) -> Chan
         ensures { result ≡ new_channel uuid slot direction profile vars }
     {

@@ -1,3 +1,4 @@
+//! Each single change of a channel.
 ghost use Rattle.std.specs.Prelude.{◌≡◌, true, OnOk, OnErr, is_none, unwrap_or};
 ghost use Rattle.fs_chan.specs.Changes as spec;
 
@@ -30,7 +31,8 @@ impl Chan {
         true
     }
 
-    /// Begins to be routed to a target. What it ran, waited for and was still to run as actions is dropped; messages stay.
+    /// Begins to be routed to a target. What it ran, waited for and was still to run as actions is dropped;
+    /// messages stay.
     pub fn transfer(&mut self, to: Target3)
         requires { spec.IsShortTarget to }
         ensures to { self.new ≡ spec.transferred to self.old }
@@ -59,8 +61,9 @@ impl Chan {
         ensures ok { OnOk result (self.new ≡ spec.routed vars actions self.old) }
         ensures err { OnErr result (self.new ≡ self.old) }
     {
-        self.actions = ActionsLeft::of(actions)?;
-        self.vars = vars;
+        let actions = ActionsLeft::of(actions)?;
+        self.vars.put(vars)?;
+        self.actions = actions;
         self.hops += 1;
         self.state = State::CsExecute;
         Ok(())
@@ -104,8 +107,8 @@ impl Chan {
         self.wait = Wait::Sleep { until };
     }
 
-    /// Is hung up with a cause, which its variable `hangup_cause` tells too. It waits for nothing, has nothing to run, and no longer
-    /// names a partner, a peer, an origination or a connection.
+    /// Is hung up with a cause, which its variable `hangup_cause` tells too. It waits for nothing, has nothing to run,
+    /// and no longer names a partner, a peer, an origination or a connection.
     pub fn hang_up(&mut self, cause: Cause) -> Result<(), Memory>
         ensures ok { OnOk result (self.new ≡ spec.hung_up cause self.old) }
         ensures err { OnErr result (self.new ≡ self.old) }

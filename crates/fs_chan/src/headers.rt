@@ -1,3 +1,4 @@
+//! The headers that tell of a channel.
 ghost use Rattle.std.specs.Prelude.{◌≡◌, [], ◌∷◌, ◌++◌, IfOk, OnOk};
 ghost use Rattle.fs_chan.specs.Headers as spec;
 
@@ -8,9 +9,9 @@ use std::alloc::Global;
 impl Chan {
     /// The headers that tell of the channel, with their values as they are. One with an empty value is left out.
     ///
-    /// They are `Channel-State`, `Channel-State-Number`, `Channel-Name`, `Unique-ID`, `Call-Direction`, `Answer-State` (`ringing`,
-    /// `answered` or `hangup`), `Caller-Caller-ID-Name`, `Caller-Caller-ID-Number`, `Caller-Destination-Number`, `Caller-Context` and
-    /// `Other-Leg-Unique-ID`, which is its peer's identifier.
+    /// They are `Channel-State`, `Channel-State-Number`, `Channel-Name`, `Unique-ID`, `Call-Direction`, `Answer-State`
+    /// (`ringing`, `answered` or `hangup`), `Caller-Caller-ID-Name`, `Caller-Caller-ID-Number`,
+    /// `Caller-Destination-Number`, `Caller-Context` and `Other-Leg-Unique-ID`, which is its peer's identifier.
     pub fn headers(&self, alloc: Global) -> Result<Headers, Memory>
         ensures { IfOk result (λ headers. headers ≡ spec.channel_headers self.now) }
     {

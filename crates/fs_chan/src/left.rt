@@ -1,3 +1,4 @@
+//! The actions that a channel has left, shared between its copies.
 ghost use Rattle.std.specs.Prelude.{◌≡◌, [], drop, IfOk};
 ghost use Rattle.std.specs.Option.{option_copied};
 ghost use Rattle.fs_chan.specs.Work.{first_of};

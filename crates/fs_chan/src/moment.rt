@@ -1,3 +1,4 @@
+//! Moments.
 ghost use Rattle.std.specs.Prelude.{◌≡◌};
 ghost use Rattle.fs_chan.specs.Moments.{moment_after};
 

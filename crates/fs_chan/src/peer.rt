@@ -1,3 +1,4 @@
+//! The other leg of a bridge, and who made a channel.
 ghost use Rattle.std.specs.Prelude.{◌≡◌, IfOk};
 
 use fs_text::{Memory, Txt};

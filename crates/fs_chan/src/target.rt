@@ -1,3 +1,4 @@
+//! Where a channel is transferred to.
 ghost use Rattle.std.specs.Prelude.{◌≡◌, IfOk};
 
 use fs_text::{Memory, Txt};

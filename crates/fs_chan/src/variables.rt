@@ -1,7 +1,8 @@
-ghost use Rattle.std.specs.Prelude.{◌≡◌, ◌<◌, ◌∷◌, length, IfOk, IfSome, OnOk, OnErr, is_some, unwrap_or, if◌then◌else◌};
+//! The variables of a channel: setting, taking out and exporting them.
+ghost use Rattle.std.specs.Prelude.{◌≡◌, ◌<◌, ◌∷◌, length, IfOk, IfSome, OnOk, OnErr};
+ghost use Rattle.std.specs.Prelude.{is_some, unwrap_or, if◌then◌else◌};
 ghost use Rattle.fs_chan.specs.Exports as spec;
 ghost use Rattle.fs_vars.specs.Variables.{can_set};
-ghost use Rattle.fs_vars.specs.Pairs.{without};
 
 use crate::chan::Chan;
 use fs_text::{Memory, split_at_byte};
@@ -17,32 +18,33 @@ impl Chan {
     /// It does not, and changes nothing, where the name is empty or a limit of a channel's variables would be passed.
     pub fn set(&mut self, name: &[u8], value: &[u8]) -> Result<bool, Memory>
         ensures answer { IfOk result (λ done. done ≡ can_set self.old.vars name.now value.now) }
-        ensures set { OnOk result (self.new ≡ record self.old { vars = spec.with_set self.old.vars name.now value.now }) }
+        ensures set { OnOk result (self.new ≡ spec.with_vars (spec.with_set self.old.vars name.now value.now) self.old) }
         ensures err { OnErr result (self.new ≡ self.old) }
     {
         self.vars.set(name, value)
     }
 
     /// Takes one of its variables out. The others keep their order.
-    pub fn unset(&mut self, name: &[u8])
-        ensures { self.new ≡ record self.old { vars = record self.old.vars { pairs = without self.old.vars.pairs name.now } } }
+    pub fn unset(&mut self, name: &[u8]) -> Result<(), Memory>
+        ensures ok { OnOk result (self.new ≡ spec.with_vars (spec.without_name self.old.vars name.now) self.old) }
+        ensures err { OnErr result (self.new ≡ self.old) }
     {
-        self.vars.unset(name);
+        self.vars.unset(name)
     }
 
-    /// Sets one of its variables and puts the name once into `export_vars`, the comma list of those that its new legs get, and says
-    /// whether it did.
+    /// Sets one of its variables and puts the name once into `export_vars`, the comma list of those that its new legs
+    /// get, and says whether it did.
     ///
-    /// It does not, and changes nothing, where the variable or the list cannot be set. A name that is taken out by its value is listed
-    /// too.
+    /// It does not, and changes nothing, where the variable or the list cannot be set. A name that is taken out by its
+    /// value is listed too.
     pub fn export(&mut self, alloc: Global, name: &[u8], value: &[u8]) -> Result<bool, Memory>
         ensures answer { IfOk result (λ done. done ≡ spec.can_export self.old.vars name.now value.now) }
-        ensures exported { OnOk result (self.new ≡ record self.old { vars = spec.exported self.old.vars name.now value.now }) }
+        ensures exported { OnOk result (self.new ≡ spec.with_vars (spec.exported self.old.vars name.now value.now) self.old) }
         ensures err { OnErr result (self.new ≡ self.old) }
     {
         match exported(alloc, &self.vars, name, value)? {
             Some(vars) => {
-                self.vars = vars;
+                self.vars.put(vars)?;
                 Ok(true)
             }
             None => Ok(false),
@@ -50,7 +52,8 @@ impl Chan {
     }
 }
 
-/// The variables once one of them is set, and its name put once into `export_vars`, the comma list of those that new legs get.
+/// The variables once one of them is set, and its name put once into `export_vars`, the comma list of those that new
+/// legs get.
 ///
 /// `None` where the variable or the list cannot be set. A name that is taken out by its value is listed too.
 #[tactic(auto, unfolding(crate::specs::Exports::exported))]

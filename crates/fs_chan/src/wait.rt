@@ -1,3 +1,4 @@
+//! What a channel waits for.
 ghost use Rattle.std.specs.Prelude.{◌≡◌, IfOk};
 
 use fs_text::{Memory, Txt};

@@ -1,8 +1,10 @@
-ghost use Rattle.std.specs.Prelude.{◌≡◌, ◌<◌, ◌≤◌, ℕ, true, is_some};
+//! What a channel runs next, and when.
+ghost use Rattle.std.specs.Prelude.{◌≡◌, ◌<◌, ℕ, true, is_some};
 ghost use Rattle.std.specs.Option.{option_copied};
 ghost use Rattle.fs_chan.specs.declared.chan.Chan.{Chan};
 ghost use Rattle.fs_chan.specs.declared.due.Due.TheVariants as due;
 ghost use Rattle.fs_chan.specs.Work as spec;
+ghost use Rattle.fs_chan.specs.Work.{due_of, next_action};
 
 use crate::action::Action;
 use crate::chan::Chan;
@@ -13,8 +15,8 @@ use fs_text::State;
 impl Chan {
     /// What it runs next, if there is anything: its first message, or else its first action.
     ///
-    /// Messages are run where it is ready in CS_EXECUTE, and where it is parked or held by a connection in CS_EXECUTE or CS_PARK;
-    /// actions only where it is ready in CS_EXECUTE.
+    /// Messages are run where it is ready in CS_EXECUTE, and where it is parked or held by a connection in CS_EXECUTE
+    /// or CS_PARK; actions only where it is ready in CS_EXECUTE.
     pub fn next_action(&self) -> Option<&Action>
         ensures { option_copied result ≡ spec.next_action self.now }
     {
@@ -92,14 +94,14 @@ impl Chan {
 /// Law: what a channel has to do by itself, seen at other moments.
 pub fn due_law()
     // A moment that is told is still to come.
-    ensures to_come { (now until : ℕ) (c : Chan) → spec.due_of now c ≡ Some (due.At until) → now < until }
+    ensures to_come { (now until : ℕ) (c : Chan) → due_of now c ≡ Some (due.At until) → now < until }
 
     // Once it has come, the channel has something to do.
-    ensures has_come { (now until : ℕ) (c : Chan) → spec.due_of now c ≡ Some (due.At until) → spec.due_of until c ≡ Some due.Now }
+    ensures has_come { (now until : ℕ) (c : Chan) → due_of now c ≡ Some (due.At until) → due_of until c ≡ Some due.Now }
 
     // What is to be done stays so.
-    ensures stays { (now later : ℕ) (c : Chan) → now ≤ later → spec.due_of now c ≡ Some due.Now → spec.due_of later c ≡ Some due.Now }
+    ensures stays { spec.StaysDue }
 
     // Where there is anything to run next, it is to be done at once.
-    ensures next { (now : ℕ) (c : Chan) → is_some (spec.next_action c) ≡ true → spec.due_of now c ≡ Some due.Now }
+    ensures next { (now : ℕ) (c : Chan) → is_some (next_action c) ≡ true → due_of now c ≡ Some due.Now }
 {}

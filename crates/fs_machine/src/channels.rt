@@ -55,7 +55,7 @@ fn change_by(alloc: Global, chan: &mut Chan, change: ChanChange<'_>) -> Result<(
         ChanChange::Set { name, value } => {
             let _set = chan.set(name.as_bytes(), value.as_bytes())?;
         }
-        ChanChange::Unset { name } => chan.unset(name.as_bytes()),
+        ChanChange::Unset { name } => chan.unset(name.as_bytes())?,
         ChanChange::Export { name, value } => {
             let _set = chan.export(alloc, name.as_bytes(), value.as_bytes())?;
         }

@@ -7,7 +7,7 @@ ghost use Rattle.fs_state.specs.Switch.{identifier_of, with_next_identifier, fre
 ghost use Rattle.fs_machine.specs.Originations as spec;
 
 use fs_api::{Route, Winner};
-use fs_chan::{Action, Actions, ActionsLeft, Chan, Direction, Target3, Wait};
+use fs_chan::{Action, Actions, ActionsLeft, Chan, Direction, SharedVars, Target3, Wait};
 use fs_orig::{Endpoint, OrigLeg};
 use fs_state::Draft;
 use fs_text::{Cause, Memory, State, Txt};
@@ -164,7 +164,7 @@ fn end_of(alloc: Global, call: &Call, end: End, uuid: Txt) -> Result<Chan, Memor
     ensures { IfOk result (λ chan. chan ≡ spec.end_of call.now end uuid) }
 {
     let profile = loopback_profile(alloc, call, end.direction, &uuid)?;
-    let vars = Vars::new(alloc, Bounds::Channel)?;
+    let vars = SharedVars::of(alloc, Vars::new(alloc, Bounds::Channel)?)?;
     let mut chan = Chan::new(alloc, uuid, end.slot, end.direction, profile, vars);
     chan.partner = Some(end.partner);
     chan.leg_of = end.leg_of;

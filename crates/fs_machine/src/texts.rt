@@ -3,8 +3,12 @@
 ghost use Rattle.std.specs.Prelude.{◌≡◌, IfOk};
 ghost use Rattle.fs_machine.specs.Texts as texts;
 
-use fs_text::{Cause, Memory, Txt, decimal};
+use fs_text::{Cause, Memory, Txt};
+use itoa::Buffer;
 use std::alloc::Global;
+
+// The bytes that are set aside for the headers of a frame, so that it is formed in one buffer.
+const HEADER_ROOM: usize = 80;
 
 /// The first frame of a connection.
 #[tactic(auto, unfolding(crate::specs::Texts::auth_request))]
@@ -19,7 +23,7 @@ pub(crate) fn auth_request(alloc: Global) -> Result<Txt, Memory>
 pub(crate) fn command_reply(alloc: Global, text: &[u8]) -> Result<Txt, Memory>
     ensures { IfOk result (λ t. t ≡ texts.command_reply text.now) }
 {
-    let mut frame = Vec::new(alloc);
+    let mut frame = Vec::with_capacity(alloc, text.len().saturating_add(HEADER_ROOM))?;
     frame.extend_from_slice(b"Content-Type: command/reply\nReply-Text: ")?;
     frame.extend_from_slice(text)?;
     frame.extend_from_slice(b"\n\n")?;
@@ -31,12 +35,12 @@ pub(crate) fn command_reply(alloc: Global, text: &[u8]) -> Result<Txt, Memory>
 fn with_body(alloc: Global, content_type: &[u8], body: &[u8]) -> Result<Txt, Memory>
     ensures { IfOk result (λ t. t ≡ texts.with_body content_type.now body.now) }
 {
-    let len = decimal(alloc, body.len() as u64)?;
-    let mut frame = Vec::with_capacity(alloc, body.len())?;
+    let mut digits = Buffer::new();
+    let mut frame = Vec::with_capacity(alloc, body.len().saturating_add(HEADER_ROOM))?;
     frame.extend_from_slice(b"Content-Type: ")?;
     frame.extend_from_slice(content_type)?;
     frame.extend_from_slice(b"\nContent-Length: ")?;
-    frame.extend_from_slice(len.as_bytes())?;
+    frame.extend_from_slice(digits.format(body.len()).as_bytes())?;
     frame.extend_from_slice(b"\n\n")?;
     frame.extend_from_slice(body)?;
     Txt::from_vec(frame)

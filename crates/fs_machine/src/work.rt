@@ -150,7 +150,7 @@ fn take_variables(draft: &mut Draft<'_>, slot: u16, vars: Vars) -> Result<(), Me
         return Ok(());
     };
     let state = chan.state;
-    chan.vars = vars;
+    chan.vars.put(vars)?;
     draft.put_moved(slot, state, chan)
 }
 

@@ -1,7 +1,7 @@
 -- What is written over a table, and what stands at its places.
 use Rattle.std.proofs.Common.{◌≡◌, ℕ, zero, suc, ◌+◌, ◌<◌, ◌≤◌, ◌==◌, leb, Bool, true, false, List, [], ◌∷◌, ◌++◌, length, drop, Option, None, Some, refl, sym, ap, subst, ◌∙◌, arith}
-use Rattle.std.specs.Prelude.{if◌then◌else◌}
-use Rattle.std.proofs.lemmas.List.{get_or-set_same, get_or-set_other, set-set, length-set, get_or_past, at_drop_more, at_drop_all}
+use Rattle.std.specs.Prelude.{◌-◌, slice_get, if◌then◌else◌}
+use Rattle.std.proofs.lemmas.List.{length-append, get_or-set_same, get_or-set_other, set-set, length-set, get_or_past, at_drop_more, at_drop_all}
 use Rattle.std.proofs.lemmas.Bool.{eqb-true, leb-true, leb-false}
 use Rattle.std.proofs.lemmas.Bool.Decides.{nat_tests}
 use Rattle.fs_places.specs.declared.sheet.Write.{Write}
@@ -60,6 +60,16 @@ taken_put places ws place held other =
     sym (ap (λ list. with_held list place other) (written_put places ws (record { place = place; held = held }))
     ∙ set-set (written places ws) place held other)
 
+-- the newest write is the last one
+last_put : {T : Type 0} → (ws : List (Write T)) (w : Write T) → slice_get (ws ++ w ∷ []) (length ws) ≡ Some w
+last_put [] w = refl
+last_put (v ∷ ws) w = last_put ws w
+
+pub last_write : {T : Type 0} → (ws : List (Write T)) (w : Write T) → slice_get (ws ++ w ∷ []) (length (ws ++ w ∷ []) - 1) ≡ Some w
+last_write ws w =
+    let count : length (ws ++ w ∷ []) - 1 ≡ length ws = omega (arith, length-append ws (w ∷ [])) in
+    ap (slice_get (ws ++ w ∷ [])) count ∙ last_put ws w
+
 -- ---- what is filled
 
 pub none_past : {T : Type 0} → (places : List (Option T)) → IsEmptyFrom (length places) places
@@ -83,6 +93,8 @@ first_behind test places place within e =
 pub first_nowhere : {T : Type 0} → (test : Option T → Bool) (places : List (Option T)) (place : ℕ) → length places ≤ place →
     first_place test (drop place places) place ≡ None
 first_nowhere test places place past = at_drop_all (λ held. first_place test held place) places place past
+
+pub ruleset first_rules = (first_here, first_behind, first_nowhere)
 
 -- where nothing stands any more
 empty_behind : {T : Type 0} → (places : List (Option T)) (from : ℕ) → IsEmptyFrom from places → IsEmptyFrom (from + 1) places

@@ -1,7 +1,7 @@
 //! Tables of fixed places, and what is drafted over them.
 //!
-//! A table has as many places as it was made with, and each is empty or holds one thing. A draft over a table is a sheet of writes:
-//! it is read as the table would be with them, and moved into the table without memory.
+//! A table has as many places as it was made with, and each is empty or holds one thing. A draft over a table is a
+//! sheet of writes: it is read as the table would be with them, and moved into the table without memory.
 #![tactic(auto)]
 
 mod numbered;

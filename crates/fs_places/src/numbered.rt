@@ -1,3 +1,4 @@
+//! Things that are known by their numbers, in a table.
 ghost use Rattle.std.specs.Prelude.{◌≡◌};
 ghost use Rattle.std.specs.Option.{option_copied};
 ghost use Rattle.fs_places.specs.Rows as spec;
@@ -13,7 +14,7 @@ pub struct Numbered<T> {
 
 impl<T: Drop> Places<Numbered<T>> {
     /// The least place at which a thing of a number stands.
-    #[tactic(auto, using(crate::proofs::PlaceLemmas::first_here, crate::proofs::PlaceLemmas::first_behind, crate::proofs::PlaceLemmas::first_nowhere))]
+    #[tactic(auto, using(crate::proofs::PlaceLemmas::first_rules))]
     pub fn place_of(&self, number: u64) -> Option<usize>
         ensures { result ≡ spec.place_of self.now number }
     {

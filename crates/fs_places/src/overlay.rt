@@ -1,3 +1,4 @@
+//! A table with a sheet of writes over it.
 ghost use Rattle.std.specs.Prelude.{◌≡◌, ◌<◌, ◌≤◌, [], Option, Some, length, MatchOption, IfSome, OnOk, OnErr};
 ghost use Rattle.std.specs.Option.{option_copied};
 ghost use Rattle.fs_places.specs.Places as places;
@@ -46,7 +47,7 @@ impl<'a, T: Drop> Overlay<'a, T> {
     /// What stands at a place, with what is written; past the last one stands nothing.
     #[tactic(auto, using(crate::proofs::PlaceLemmas::written_newest, crate::proofs::PlaceLemmas::written_past))]
     pub fn get(&self, place: usize) -> Option<&T>
-        ensures { option_copied result ≡ places.held_in (spec.now_of self.now) place }
+        ensures { option_copied result ≡ spec.held_at self.now place }
     {
         if place >= self.kept.len() {
             return None;
@@ -58,7 +59,7 @@ impl<'a, T: Drop> Overlay<'a, T> {
     #[tactic(auto, using(crate::proofs::PlaceLemmas::written_put))]
     pub fn put(&mut self, place: usize, held: Option<T>) -> Result<(), Memory>
         ensures kept { self.new.kept ≡ self.old.kept }
-        ensures ok { OnOk result (spec.now_of self.new ≡ places.with_held (spec.now_of self.old) place held) }
+        ensures ok { OnOk result (spec.now_of self.new ≡ spec.put_at self.old place held) }
         ensures err { OnErr result (self.new ≡ self.old) }
     {
         self.sheet.put(place, held)
@@ -68,8 +69,9 @@ impl<'a, T: Drop> Overlay<'a, T> {
     #[tactic(auto, using(crate::proofs::PlaceLemmas::taken_held, crate::proofs::PlaceLemmas::taken_put))]
     pub fn take(&mut self, place: usize) -> Option<T>
         ensures kept { self.new.kept ≡ self.old.kept }
-        ensures taken { MatchOption result (self.new ≡ self.old) (λ held. places.held_in (spec.now_of self.old) place ≡ Some held) }
-        ensures put { (held : Option T) → places.with_held (spec.now_of self.new) place held ≡ places.with_held (spec.now_of self.old) place held }
+        ensures answer { result ≡ spec.taken_back self.old place }
+        ensures taken { MatchOption result (self.new ≡ self.old) (λ held. spec.held_at self.old place ≡ Some held) }
+        ensures put { (held : Option T) → spec.put_at self.new place held ≡ spec.put_at self.old place held }
     {
         if place >= self.kept.len() {
             return None;
@@ -98,7 +100,7 @@ impl<'a, T: Drop> Overlay<'a, T> {
     }
 
     /// The least empty place from one on.
-    #[tactic(auto, using(crate::proofs::PlaceLemmas::first_here, crate::proofs::PlaceLemmas::first_behind, crate::proofs::PlaceLemmas::first_nowhere))]
+    #[tactic(auto, using(crate::proofs::PlaceLemmas::first_rules))]
     pub fn least_free(&self, from: usize) -> Option<usize>
         ensures place { result ≡ places.least_free (spec.now_of self.now) from }
         ensures within { IfSome result (λ place. place < length (spec.now_of self.now)) }

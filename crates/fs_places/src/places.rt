@@ -1,3 +1,4 @@
+//! A table of fixed places.
 ghost use Rattle.std.specs.Prelude.{◌≡◌, ◌≤◌, length, IfOk};
 ghost use Rattle.std.specs.Option.{option_copied};
 ghost use Rattle.fs_places.specs.Places as spec;

@@ -1,3 +1,4 @@
+//! Things that are known by their numbers, over a table.
 ghost use Rattle.std.specs.Prelude.{◌≡◌, Some, is_some, length, OnOk, OnErr, IfOk};
 ghost use Rattle.std.specs.Option.{option_copied};
 ghost use Rattle.fs_places.specs.Places as places;
@@ -10,7 +11,7 @@ use fs_text::Memory;
 
 impl<'a, T: Drop> Overlay<'a, Numbered<T>> {
     /// The least place at which a thing of a number stands.
-    #[tactic(auto, using(crate::proofs::PlaceLemmas::first_here, crate::proofs::PlaceLemmas::first_behind, crate::proofs::PlaceLemmas::first_nowhere))]
+    #[tactic(auto, using(crate::proofs::PlaceLemmas::first_rules))]
     pub fn place_of(&self, number: u64) -> Option<usize>
         ensures { result ≡ spec.place_of (now_of self.now) number }
     {

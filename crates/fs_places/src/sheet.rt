@@ -1,3 +1,4 @@
+//! Writes over a table.
 ghost use Rattle.std.specs.Prelude.{◌≡◌, [], ◌∷◌, ◌++◌, Some, length, MatchOption, OnOk, OnErr};
 ghost use Rattle.std.specs.Option.{option_copied};
 ghost use Rattle.fs_places.specs.Sheets as spec;
@@ -58,8 +59,10 @@ impl<T: Drop> Sheet<T> {
     }
 
     /// Takes the newest write back, if it put something at this place.
+    #[tactic(auto, using(crate::proofs::PlaceLemmas::last_write))]
     pub fn take_newest(&mut self, place: usize) -> Option<T>
-        ensures { MatchOption result (self.new ≡ self.old) (λ held. self.old ≡ self.new ++ record { place = place; held = Some held } ∷ []) }
+        ensures put { result ≡ spec.put_last self.old place }
+        ensures left { MatchOption result (self.new ≡ self.old) (λ held. self.old ≡ spec.with_put self.new place held) }
     {
         match self.writes.last() {
             Some(newest) if newest.place == place && newest.held.is_some() => {
@@ -69,7 +72,8 @@ impl<T: Drop> Sheet<T> {
         }
     }
 
-    /// What stands at a place where something is kept below the sheet: what was written there last, or else what is kept.
+    /// What stands at a place where something is kept below the sheet: what was written there last, or else what is
+    /// kept.
     pub fn over<'b>(&'b self, place: usize, kept: Option<&'b T>) -> Option<&'b T>
         ensures { option_copied result ≡ spec.newest self.now place (option_copied kept.entry) }
     {

@@ -1,5 +1,5 @@
 -- That the queues have room for what is given.
-use Rattle.std.proofs.Common.{◌≡◌, ℕ, ◌+◌, ◌-◌, ◌^◌, ◌<◌, ◌≤◌, ◌==◌, min, Bool, true, false, List, [], ◌∷◌, ◌++◌, length, drop, get_or, Option, None, Some, refl, sym, ap, subst, arith}
+use Rattle.std.proofs.Common.{◌≡◌, ℕ, ◌+◌, ◌-◌, ◌^◌, ◌<◌, ◌≤◌, ◌==◌, min, Bool, true, false, List, [], ◌∷◌, ◌++◌, length, drop, get_or, Option, None, Some, refl, sym, ap, subst, ◌∙◌, arith}
 use Rattle.std.specs.List.{slice_set}
 use Rattle.std.proofs.lemmas.List.{get_or-set_same, get_or-set_other, length-set, length-append, length-drop}
 use Rattle.std.proofs.lemmas.List.Sums.{sum_by-cons}
@@ -11,7 +11,7 @@ use Rattle.fs_places.specs.declared.numbered.Numbered.{Numbered}
 use Rattle.fs_places.specs.Rows.{place_of}
 use Rattle.fs_state.specs.declared.conn.Conn.{Conn}
 use Rattle.fs_state.specs.declared.gift.Gift.{Gift}
-use Rattle.fs_state.specs.Queues.{Frames, queue_at, with_queue, with_frames, requeued, with_frames_at, delivered, frames_given, HaveRoom}
+use Rattle.fs_state.specs.Queues.{Frames, queue_at, with_queue, behind_first, with_gift_delivered, requeued, with_frames_at, frames_given, HaveRoom}
 
 -- less fits where more does
 pub room_less : (queues : List Frames) (n m : ℕ) → n ≤ m → HaveRoom queues m → HaveRoom queues n
@@ -45,15 +45,33 @@ pub room_for_gift : (queues : List Frames) (gift : Gift) (gifts : List Gift) →
 room_for_gift queues gift gifts h =
     room_less queues (length gift.frames) (frames_given (gift ∷ gifts)) (omega (arith, given_more gift gifts)) h
 
-pub room_without_gift : (queues : List Frames) (gift : Gift) (gifts : List Gift) → HaveRoom queues (frames_given (gift ∷ gifts)) → HaveRoom queues (frames_given gifts)
-room_without_gift queues gift gifts h =
+-- and after that for the gifts behind it
+room_after_at : (at : Option ℕ) (queues : List Frames) (gift : Gift) (gifts : List Gift) → HaveRoom queues (frames_given (gift ∷ gifts)) →
+    HaveRoom (with_frames_at at gift.frames queues) (frames_given gifts)
+room_after_at None queues gift gifts h =
     room_less queues (frames_given gifts) (frames_given (gift ∷ gifts)) (omega (arith, given_more gift gifts)) h
-
-pub room_after_gift : (place : ℕ) (queues : List Frames) (gift : Gift) (gifts : List Gift) → HaveRoom queues (frames_given (gift ∷ gifts)) →
-    HaveRoom (with_frames place gift.frames queues) (frames_given gifts)
-room_after_gift place queues gift gifts h =
+room_after_at (Some place) queues gift gifts h =
     room_with place (queue_at queues place ++ gift.frames) queues (frames_given gifts) (length gift.frames) (omega (arith, length-append (queue_at queues place) gift.frames))
     (subst (HaveRoom queues) (given_more gift gifts) h)
+
+pub room_after_gift : (conns : List (Option (Numbered Conn))) (gift : Gift) (gifts : List Gift) (queues : List Frames) → HaveRoom queues (frames_given (gift ∷ gifts)) →
+    HaveRoom (with_gift_delivered conns gift queues) (frames_given gifts)
+room_after_gift conns gift gifts queues h = room_after_at (place_of conns gift.conn) queues gift gifts h
+
+-- where the first one, if there is any, is already given
+pub room_behind : (conns : List (Option (Numbered Conn))) (first : Option Gift) (gift : Gift) (more given : List Gift) (queues new : List Frames) →
+    HaveRoom queues (frames_given given) → behind_first first more ≡ given → first ≡ Some gift → new ≡ with_gift_delivered conns gift queues → HaveRoom new (frames_given more)
+room_behind conns first gift more given queues new h parts is then =
+    let whole : given ≡ gift ∷ more = sym parts ∙ ap (λ f. behind_first f more) is in
+    subst (λ q. HaveRoom q (frames_given more)) (sym then) (room_after_gift conns gift more queues (subst (λ gifts. HaveRoom queues (frames_given gifts)) whole h))
+
+pub room_without : (first : Option Gift) (more given : List Gift) (queues new : List Frames) →
+    HaveRoom queues (frames_given given) → behind_first first more ≡ given → first ≡ None → new ≡ queues → HaveRoom new (frames_given more)
+room_without first more given queues new h parts is then =
+    let whole : given ≡ more = sym parts ∙ ap (λ f. behind_first f more) is in
+    subst (λ q. HaveRoom q (frames_given more)) (sym then) (subst (λ gifts. HaveRoom queues (frames_given gifts)) whole h)
+
+pub ruleset gift_rules = (room_for_gift, room_after_gift)
 
 -- ---- the end of a draft
 
@@ -67,13 +85,3 @@ room_requeued Unchanged queues n h = h
 room_requeued (Taken place) queues n h =
     room_with place (drop 1 (queue_at queues place)) queues n 0 (omega (arith, length-drop 1 (queue_at queues place))) (room_less queues (0 + n) n (omega arith) h)
 room_requeued (Cleared place) queues n h = room_with place [] queues n 0 (omega arith) (room_less queues (0 + n) n (omega arith) h)
-
--- ---- one gift after another
-
-pub delivered_at : (conns : List (Option (Numbered Conn))) (gift : Gift) (gifts : List Gift) (queues : List Frames) (place : ℕ) → place_of conns gift.conn ≡ Some place →
-    delivered conns (gift ∷ gifts) queues ≡ delivered conns gifts (with_frames place gift.frames queues)
-delivered_at conns gift gifts queues place is = ap (λ at. delivered conns gifts (with_frames_at at gift.frames queues)) is
-
-pub delivered_nowhere : (conns : List (Option (Numbered Conn))) (gift : Gift) (gifts : List Gift) (queues : List Frames) → place_of conns gift.conn ≡ None →
-    delivered conns (gift ∷ gifts) queues ≡ delivered conns gifts queues
-delivered_nowhere conns gift gifts queues is = ap (λ at. delivered conns gifts (with_frames_at at gift.frames queues)) is

@@ -1,9 +1,11 @@
 -- What a draft changes of a switch.
-use Rattle.std.specs.Prelude.{unwrap_or}
+use Rattle.std.specs.Prelude.{ℕ, Option, unwrap_or}
+use Rattle.fs_chan.specs.declared.chan.Chan.{Chan}
 use Rattle.fs_places.specs.Sheets.{written}
+use Rattle.fs_places.specs.Overlays.{taken_back}
 use Rattle.fs_state.specs.declared.delta.Delta.{Delta}
 use Rattle.fs_state.specs.Queues.{requeued, HaveRoom, frames_given}
-use Rattle.fs_state.specs.Switch.{Switch}
+use Rattle.fs_state.specs.Switch.{Switch, chan_at, with_chan}
 
 -- the switch with all of these changes
 abbrev pub after : Switch → Delta → Switch
@@ -28,6 +30,18 @@ pub record Drafted : Type 0 where
 -- the switch as it is to be
 abbrev pub drafted : Drafted → Switch
 drafted d = after d.base d.delta
+
+-- the channel in a slot, as it is to be
+abbrev pub chan_in : Drafted → ℕ → Option Chan
+chan_in d slot = chan_at (drafted d) slot
+
+-- the switch as it is to be, with another channel in a slot
+abbrev pub with_chan_in : Drafted → ℕ → Option Chan → Switch
+with_chan_in d slot chan = with_chan slot chan (drafted d)
+
+-- the channel that can be taken back from a slot: what was written last, where that put a channel there
+abbrev pub chan_taken_back : Drafted → ℕ → Option Chan
+chan_taken_back d slot = taken_back (record { kept = d.base.channels; sheet = d.delta.channels }) slot
 
 -- what is given has room in the queues
 pub record Fits (s : Switch) (d : Delta) : Type 0 where

@@ -20,6 +20,14 @@ use Rattle.fs_state.specs.Switch.{Switch, chan_at, with_chan, orig_of, with_orig
 abbrev pub plain_event : EventName → Event
 plain_event name = record { name = name; bridge = 0; cause = None }
 
+-- the channel in a slot is changed; where there is none nothing changes
+abbrev pub with_changed_chan_from : (Chan → Chan) → ℕ → Option Chan → Switch → Switch
+with_changed_chan_from change slot None s = s
+with_changed_chan_from change slot (Some c) s = with_chan slot (Some (change c)) s
+
+abbrev pub with_changed_chan : (Chan → Chan) → ℕ → Switch → Switch
+with_changed_chan change slot s = with_changed_chan_from change slot (chan_at s slot) s
+
 -- ---- changes of state
 
 -- a channel left a state
@@ -38,10 +46,14 @@ with_state_events old new s =
     if state_number old == state_number new then s
     else with_event (plain_event ChannelState) (with_coming_event new (with_leaving_event old s))
 
+-- a channel that came from a state stands in a slot, and tells of that
+abbrev pub put_moved : ℕ → State → Chan → Switch → Switch
+put_moved slot old c s = with_state_events old c.state (with_chan slot (Some c) s)
+
 -- the channel in a slot is changed, and tells of its change of state; where there is none nothing changes
 abbrev pub after_move_from : (Chan → Chan) → ℕ → Option Chan → Switch → Switch
 after_move_from change slot None s = s
-after_move_from change slot (Some c) s = with_state_events c.state (change c).state (with_chan slot (Some (change c)) s)
+after_move_from change slot (Some c) s = put_moved slot c.state (change c) s
 
 abbrev pub after_move : (Chan → Chan) → ℕ → Switch → Switch
 after_move change slot s = after_move_from change slot (chan_at s slot) s
@@ -87,7 +99,25 @@ abbrev pub its_leg_changed : (ℕ → Orig → Orig) → ℕ → Option ℕ → 
 its_leg_changed change slot None s = s
 its_leg_changed change slot (Some number) s = orig_changed (leg_changed change slot) number s
 
+-- an origination with the living leg in a slot answered, if there is one, and with it dead
+abbrev pub with_leg_answered : ℕ → ℕ → Orig → Orig
+with_leg_answered place slot o = leg_changed (λ position. with_answer position place) slot o
+
+abbrev pub with_leg_ended : ℕ → Cause → ℕ → Orig → Orig
+with_leg_ended place cause slot o = leg_changed (λ position. with_death position place cause) slot o
+
+-- the leg that a channel is is answered, and it dies
+abbrev pub leg_answered : ℕ → Option ℕ → Switch → Switch
+leg_answered slot leg_of s = its_leg_changed (λ position. with_answer position s.entries) slot leg_of s
+
+abbrev pub leg_ended : Cause → ℕ → Option ℕ → Switch → Switch
+leg_ended cause slot leg_of s = its_leg_changed (λ position. with_death position s.entries cause) slot leg_of s
+
 -- ---- answers
+
+-- the channel in a slot is answered by the entry in hand
+abbrev pub answer_set : ℕ → Switch → Switch
+answer_set slot s = with_changed_chan (with_answer_place s.entries) slot s
 
 -- a channel is answered, where it was not, and so is the leg that it is
 abbrev pub after_answer_from : ℕ → Option Chan → Switch → Switch

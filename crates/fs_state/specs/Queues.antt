@@ -47,15 +47,24 @@ requeued (Cleared place) queues = without_frames place queues
 
 -- ---- what an entry gives
 
+-- a list behind its first element, if it has one
+abbrev pub behind_first : Option Gift → List Gift → List Gift
+behind_first None more = more
+behind_first (Some gift) more = gift ∷ more
+
 -- frames for a connection that stands at a place, or for none
 abbrev pub with_frames_at : Option ℕ → Frames → List Frames → List Frames
 with_frames_at None frames queues = queues
 with_frames_at (Some place) frames queues = with_frames place frames queues
 
+-- with a gift behind the frames of its connection, if that is there
+abbrev pub with_gift_delivered : List (Option (Numbered Conn)) → Gift → List Frames → List Frames
+with_gift_delivered conns gift queues = with_frames_at (place_of conns gift.conn) gift.frames queues
+
 -- with what is given to connections; what is given to one that is not there is dropped
 abbrev pub delivered : List (Option (Numbered Conn)) → List Gift → List Frames → List Frames
 delivered conns [] queues = queues
-delivered conns (gift ∷ gifts) queues = delivered conns gifts (with_frames_at (place_of conns gift.conn) gift.frames queues)
+delivered conns (gift ∷ gifts) queues = delivered conns gifts (with_gift_delivered conns gift queues)
 
 -- how many frames are given
 abbrev pub frames_given : List Gift → ℕ

@@ -1,13 +1,12 @@
+//! Answers, hangups and ends of channels.
 ghost use Rattle.std.specs.Prelude.{◌≡◌, IfOk, OnOk};
-ghost use Rattle.fs_chan.specs.Changes as channel;
-ghost use Rattle.fs_orig.specs.Changes as changes;
+ghost use Rattle.fs_chan.specs.Changes.{hung_up};
 ghost use Rattle.fs_state.specs.Drafts.{drafted};
 ghost use Rattle.fs_state.specs.Switch.{with_event};
 ghost use Rattle.fs_state.specs.Moves as spec;
 
 use crate::draft::Draft;
 use crate::event::Event;
-use fs_chan::Chan;
 use fs_orig::Orig;
 use fs_text::{Cause, EventName, Memory, State};
 
@@ -44,16 +43,27 @@ impl<'a> Draft<'a> {
             return Ok(());
         }
         let leg_of = chan.leg_of;
-        let answered = answered(chan, self.place())?;
-        self.put_chan(slot, Some(answered))?;
+        self.set_answered(slot)?;
         self.tell_of(EventName::ChannelAnswer)?;
         self.answer_leg(slot, leg_of)
+    }
+
+    /// Answers the channel in a slot by the entry in hand.
+    fn set_answered(&mut self, slot: u16) -> Result<(), Memory>
+        ensures base { self.new.base ≡ self.old.base }
+        ensures ok { OnOk result (drafted self.new ≡ spec.answer_set slot (drafted self.old)) }
+    {
+        let Some(mut chan) = self.own_chan(slot)? else {
+            return Ok(());
+        };
+        let _is = chan.answer(self.place());
+        self.put_chan(slot, Some(chan))
     }
 
     /// The living leg in a slot is answered, of the origination of this number.
     fn answer_leg(&mut self, slot: u16, leg_of: Option<u64>) -> Result<(), Memory>
         ensures base { self.new.base ≡ self.old.base }
-        ensures ok { OnOk result (drafted self.new ≡ spec.its_leg_changed (λ position. changes.with_answer position (drafted self.old).entries) slot leg_of (drafted self.old)) }
+        ensures ok { OnOk result (drafted self.new ≡ spec.leg_answered slot leg_of (drafted self.old)) }
     {
         let Some(number) = leg_of else {
             return Ok(());
@@ -95,11 +105,22 @@ impl<'a> Draft<'a> {
             return Ok(());
         }
         let (old, leg_of) = (chan.state, chan.leg_of);
-        let hung = hung_up(chan, cause)?;
-        self.put_chan(slot, Some(hung))?;
+        self.set_hung(slot, cause)?;
         self.tell_hangup(cause)?;
         self.tell_state(old, State::CsHangup)?;
         self.end_leg(slot, leg_of, cause)
+    }
+
+    /// Hangs the channel in a slot up with a cause.
+    fn set_hung(&mut self, slot: u16, cause: Cause) -> Result<(), Memory>
+        ensures base { self.new.base ≡ self.old.base }
+        ensures ok { OnOk result (drafted self.new ≡ spec.with_changed_chan (hung_up cause) slot (drafted self.old)) }
+    {
+        let Some(mut chan) = self.own_chan(slot)? else {
+            return Ok(());
+        };
+        chan.hang_up(cause)?;
+        self.put_chan(slot, Some(chan))
     }
 
     /// A channel was hung up with a cause.
@@ -117,7 +138,7 @@ impl<'a> Draft<'a> {
     /// The living leg in a slot dies, of the origination of this number.
     fn end_leg(&mut self, slot: u16, leg_of: Option<u64>, cause: Cause) -> Result<(), Memory>
         ensures base { self.new.base ≡ self.old.base }
-        ensures ok { OnOk result (drafted self.new ≡ spec.its_leg_changed (λ position. changes.with_death position (drafted self.old).entries cause) slot leg_of (drafted self.old)) }
+        ensures ok { OnOk result (drafted self.new ≡ spec.leg_ended cause slot leg_of (drafted self.old)) }
     {
         let Some(number) = leg_of else {
             return Ok(());
@@ -140,27 +161,9 @@ impl<'a> Draft<'a> {
     }
 }
 
-/// A channel once more, answered by the entry at a place.
-fn answered(chan: &Chan, place: u64) -> Result<Chan, Memory>
-    ensures { IfOk result (λ c. c ≡ channel.with_answer_place place chan.now) }
-{
-    let mut chan = chan.copy()?;
-    let _is = chan.answer(place);
-    Ok(chan)
-}
-
-/// A channel once more, hung up with a cause.
-fn hung_up(chan: &Chan, cause: Cause) -> Result<Chan, Memory>
-    ensures { IfOk result (λ c. c ≡ channel.hung_up cause chan.now) }
-{
-    let mut chan = chan.copy()?;
-    chan.hang_up(cause)?;
-    Ok(chan)
-}
-
 /// An origination with the living leg in a slot answered, if there is one.
 fn with_answer(orig: &Orig, slot: u16, place: u64) -> Result<Orig, Memory>
-    ensures { IfOk result (λ o. o ≡ spec.leg_changed (λ position. changes.with_answer position place) slot orig.now) }
+    ensures { IfOk result (λ o. o ≡ spec.with_leg_answered place slot orig.now) }
 {
     let mut orig = orig.copy()?;
     match orig.legs.position_in(slot) {
@@ -174,7 +177,7 @@ fn with_answer(orig: &Orig, slot: u16, place: u64) -> Result<Orig, Memory>
 
 /// An origination with the living leg in a slot dead, if there is one.
 fn with_death(orig: &Orig, slot: u16, place: u64, cause: Cause) -> Result<Orig, Memory>
-    ensures { IfOk result (λ o. o ≡ spec.leg_changed (λ position. changes.with_death position place cause) slot orig.now) }
+    ensures { IfOk result (λ o. o ≡ spec.with_leg_ended place cause slot orig.now) }
 {
     let mut orig = orig.copy()?;
     match orig.legs.position_in(slot) {

@@ -1,3 +1,4 @@
+//! Connections.
 /// How far a connection has come.
 #[derive(Clone, Copy, Debug, PartialEq, Eq)]
 pub enum Phase {

@@ -1,3 +1,4 @@
+//! How many events and hangups there were.
 ghost use Rattle.std.specs.Prelude.{◌≡◌, IfOk};
 ghost use Rattle.fs_state.specs.Counts as spec;
 ghost use Rattle.fs_text.specs.EventName.{event_number};

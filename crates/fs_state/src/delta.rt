@@ -1,3 +1,4 @@
+//! What an entry changes.
 ghost use Rattle.std.specs.Prelude.{◌≡◌};
 ghost use Rattle.fs_state.specs.Drafts.{after};
 

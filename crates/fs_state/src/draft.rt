@@ -1,3 +1,4 @@
+//! A draft: a switch that is kept, and what is to change of it.
 ghost use Rattle.std.specs.Prelude.{◌≡◌, ◌≤◌, Option, Some, length, slice_get, MatchOption, IfOk, OnOk};
 ghost use Rattle.std.specs.Option.{option_copied};
 ghost use Rattle.fs_places.specs.Overlays.{now_of};
@@ -7,7 +8,7 @@ ghost use Rattle.fs_places.specs.Rows as rows;
 ghost use Rattle.fs_state.specs.declared.delta.QueueChange.TheVariants as change;
 ghost use Rattle.fs_state.specs.Drawn as numbers;
 ghost use Rattle.fs_state.specs.Switch as spec;
-ghost use Rattle.fs_state.specs.Drafts.{after, drafted, Fits};
+ghost use Rattle.fs_state.specs.Drafts.{after, drafted, chan_in, with_chan_in, chan_taken_back, Fits};
 
 use crate::conn::Conn;
 use crate::delta::{Delta, QueueChange};
@@ -83,8 +84,8 @@ impl<'a> Model for Draft<'a> {
     } };
 
     ghost invariant = { λ d.
-        (d.channels.kept ≡ d.core.now.channels) × (d.origs.kept ≡ d.core.now.origs) × (d.jobs.kept ≡ d.core.now.jobs) × (d.conns.kept ≡ d.core.now.conns)
-        × (length d.core.now.channels < 2 ^ 16) };
+        (d.channels.kept ≡ d.core.now.channels) × (d.origs.kept ≡ d.core.now.origs) × (d.jobs.kept ≡ d.core.now.jobs)
+        × (d.conns.kept ≡ d.core.now.conns) × (length d.core.now.channels < 2 ^ 16) };
 }
 
 impl<'a> Draft<'a> {
@@ -243,8 +244,9 @@ impl<'a> Draft<'a> {
     /// Takes a channel back that was put into a slot last, so that it can be put there changed.
     pub fn take_chan(&mut self, slot: u16) -> Option<Chan>
         ensures base { self.new.base ≡ self.old.base }
-        ensures taken { MatchOption result (drafted self.new ≡ drafted self.old) (λ chan. spec.chan_at (drafted self.old) slot ≡ Some chan) }
-        ensures put { (chan : Option Chan) → spec.with_chan slot chan (drafted self.new) ≡ spec.with_chan slot chan (drafted self.old) }
+        ensures answer { result ≡ chan_taken_back self.old slot }
+        ensures taken { MatchOption result (drafted self.new ≡ drafted self.old) (λ chan. chan_in self.old slot ≡ Some chan) }
+        ensures put { (chan : Option Chan) → with_chan_in self.new slot chan ≡ with_chan_in self.old slot chan }
     {
         self.channels.take(usize::from(slot))
     }
@@ -276,7 +278,7 @@ impl<'a> Draft<'a> {
     }
 
     /// The least slot whose channel is live and has this identifier.
-    #[tactic(auto, using(fs_places::proofs::PlaceLemmas::first_here, fs_places::proofs::PlaceLemmas::first_behind, fs_places::proofs::PlaceLemmas::first_nowhere, crate::proofs::SlotLemmas::first_of_all))]
+    #[tactic(auto, using(fs_places::proofs::PlaceLemmas::first_rules, crate::proofs::SlotLemmas::first_of_all))]
     pub fn slot_named(&self, uuid: &[u8]) -> Option<u16>
         ensures { result ≡ spec.slot_named uuid.now (drafted self.now) }
     {

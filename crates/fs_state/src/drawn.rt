@@ -1,3 +1,4 @@
+//! The numbers that are drawn.
 ghost use Rattle.std.specs.Prelude.{◌≡◌};
 ghost use Rattle.fs_state.specs.Drawn as spec;
 

@@ -1,3 +1,4 @@
+//! What happens in an entry.
 ghost use Rattle.std.specs.Prelude.{◌≡◌, [], ◌∷◌, ◌++◌, OnOk, OnErr};
 
 use fs_text::{Cause, EventName, Memory};

@@ -1,5 +1,6 @@
+//! What an entry gives to connections.
 ghost use Rattle.std.specs.Prelude.{◌≡◌, ◌-◌, ◌^◌, min, [], ◌∷◌, ◌++◌, OnOk, OnErr};
-ghost use Rattle.fs_state.specs.Queues.{frames_given};
+ghost use Rattle.fs_state.specs.Queues.{behind_first, frames_given};
 
 use fs_text::{Memory, Txt};
 use std::alloc::Global;
@@ -14,20 +15,25 @@ pub struct Gift {
     pub frames: LinkedList<Txt>,
 }
 
-/// What an entry gives, in order. A contract sees it as that list.
+/// What an entry gives, in order. A contract sees it as that list. Only what comes behind the first takes memory.
 #[derive(Drop)]
 pub struct Gifts {
     alloc: Global,
-    gifts: Vec<Gift>,
+    first: Option<Gift>,
+    more: Vec<Gift>,
 }
 
 impl Model for Gifts {
     ghost use Rattle.std.specs.Prelude.{List};
+    ghost use Rattle.std.specs.Prelude.{◌≡◌, [], None};
     ghost use Rattle.fs_state.specs.declared.gift.Gift.{Gift};
+    ghost use Rattle.fs_state.specs.Queues.{behind_first};
 
     ghost Value = { List Gift };
 
-    ghost view = { λ g. g.gifts.items };
+    ghost view = { λ g. behind_first g.first g.more.items };
+
+    ghost invariant = { λ g. g.first ≡ None → g.more.items ≡ [] };
 }
 
 impl Gifts {
@@ -37,7 +43,8 @@ impl Gifts {
     {
         Gifts {
             alloc,
-            gifts: Vec::new(alloc),
+            first: None,
+            more: Vec::new(alloc),
         }
     }
 
@@ -48,25 +55,42 @@ impl Gifts {
     {
         let mut frames = LinkedList::new(self.alloc);
         frames.push_back(frame)?;
-        self.gifts.push(Gift { conn, frames })?;
+        let gift = Gift { conn, frames };
+        if self.first.is_none() {
+            self.first = Some(gift);
+            return Ok(());
+        }
+        self.more.push(gift)?;
         Ok(())
     }
 
-    /// What is given, in order.
-    pub fn into_gifts(self) -> Vec<Gift>
-        ensures { result.items ≡ self }
+    /// What is given first, if there is anything, and what is given behind it.
+    pub fn into_parts(self) -> (Option<Gift>, Vec<Gift>)
+        ensures { behind_first result.0 result.1.items ≡ self }
     {
-        self.gifts
+        let Gifts { first, more, .. } = self;
+        (first, more)
     }
 
     /// How many frames are given, as far as 64 bits go.
     pub fn frames(&self) -> usize
         ensures { result ≡ min (frames_given self.now) (2 ^ 64 - 1) }
     {
-        let mut count: usize = 0;
-        for gift in &self.gifts {
-            count = count.saturating_add(gift.frames.len());
+        let more = frames_of(&self.more);
+        match &self.first {
+            Some(gift) => more.saturating_add(gift.frames.len()),
+            None => more,
         }
-        count
     }
+}
+
+/// How many frames these gifts have, as far as 64 bits go.
+fn frames_of(gifts: &[Gift]) -> usize
+    ensures { result ≡ min (frames_given gifts.now) (2 ^ 64 - 1) }
+{
+    let mut count: usize = 0;
+    for gift in gifts {
+        count = count.saturating_add(gift.frames.len());
+    }
+    count
 }

@@ -1,3 +1,4 @@
+//! Jobs.
 ghost use Rattle.std.specs.Prelude.{◌≡◌, IfOk};
 
 use fs_api::Winner;

@@ -1,7 +1,7 @@
 //! The state of a switch, each single change of it, and drafts of changes.
 //!
-//! A draft borrows the state and says what is to change; it is read as the state would be. What it comes to is moved into the state
-//! without memory.
+//! A draft borrows the state and says what is to change; it is read as the state would be. What it comes to is moved
+//! into the state without memory.
 #![tactic(auto)]
 
 mod answers;

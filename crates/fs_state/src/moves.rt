@@ -1,8 +1,9 @@
+//! What happens to channels.
 ghost use Rattle.std.specs.Prelude.{◌≡◌, Option, Some, None, Ok, IfOk, OnOk};
 ghost use Rattle.fs_chan.specs.declared.chan.Chan.{Chan};
 ghost use Rattle.fs_chan.specs.Changes as chan;
-ghost use Rattle.fs_state.specs.Drafts.{drafted};
-ghost use Rattle.fs_state.specs.Switch.{chan_at, with_chan, with_event};
+ghost use Rattle.fs_state.specs.Drafts.{drafted, chan_in, with_chan_in};
+ghost use Rattle.fs_state.specs.Switch.{with_event};
 ghost use Rattle.fs_state.specs.Moves as spec;
 
 use crate::draft::Draft;
@@ -62,7 +63,7 @@ impl<'a> Draft<'a> {
 
     /// The channel in a slot once more.
     pub fn copy_chan(&self, slot: u16) -> Result<Option<Chan>, Memory>
-        ensures { IfOk result (λ copy. copy ≡ chan_at (drafted self.now) slot) }
+        ensures { IfOk result (λ copy. copy ≡ chan_in self.now slot) }
     {
         match self.chan(slot) {
             Some(chan) => Ok(Some(chan.copy()?)),
@@ -70,12 +71,13 @@ impl<'a> Draft<'a> {
         }
     }
 
-    /// The channel in a slot, to be changed and put there again: the one that was put there last is taken back, any other copied.
+    /// The channel in a slot, to be changed and put there again: the one that was put there last is taken back, any
+    /// other copied.
     pub fn own_chan(&mut self, slot: u16) -> Result<Option<Chan>, Memory>
         ensures base { self.new.base ≡ self.old.base }
-        ensures chan { IfOk result (λ own. own ≡ chan_at (drafted self.old) slot) }
+        ensures chan { IfOk result (λ own. own ≡ chan_in self.old slot) }
         ensures none { result ≡ Ok None → drafted self.new ≡ drafted self.old }
-        ensures put { (held : Option Chan) → with_chan slot held (drafted self.new) ≡ with_chan slot held (drafted self.old) }
+        ensures put { (held : Option Chan) → with_chan_in self.new slot held ≡ with_chan_in self.old slot held }
     {
         match self.take_chan(slot) {
             Some(chan) => Ok(Some(chan)),
@@ -86,7 +88,7 @@ impl<'a> Draft<'a> {
     /// Puts a channel into a slot that came there from a state, and tells of that.
     pub fn put_moved(&mut self, slot: u16, old: State, chan: Chan) -> Result<(), Memory>
         ensures base { self.new.base ≡ self.old.base }
-        ensures ok { OnOk result (drafted self.new ≡ spec.with_state_events old chan.state (with_chan slot (Some chan) (drafted self.old))) }
+        ensures ok { OnOk result (drafted self.new ≡ spec.put_moved slot old chan (drafted self.old)) }
     {
         let new = chan.state;
         self.put_chan(slot, Some(chan))?;

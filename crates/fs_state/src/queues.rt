@@ -1,16 +1,18 @@
+//! The frames that wait for connections.
 ghost use Rattle.std.specs.Prelude.{◌≡◌, true, length, IfOk};
 ghost use Rattle.std.specs.Option.{option_copied};
 ghost use Rattle.fs_state.specs.Queues as spec;
 
 use crate::conn::Conn;
-use crate::gift::Gifts;
+use crate::gift::{Gift, Gifts};
 use fs_places::{Numbered, Places};
 use fs_text::{Memory, Txt};
 use std::alloc::Global;
 use std::collections::LinkedList;
 use std::marker::Model;
 
-/// The frames that wait for connections, in the order of the connections' places. A contract sees them as lists of texts.
+/// The frames that wait for connections, in the order of the connections' places. A contract sees them as lists of
+/// texts.
 #[derive(Drop)]
 pub struct Queues {
     queues: Vec<LinkedList<Txt>>,
@@ -97,15 +99,35 @@ impl Queues {
     }
 
     /// Puts what is given behind the frames of the connections that are there, without memory; the rest is dropped.
-    #[tactic(auto, using(crate::proofs::QueueLemmas::room_for_gift, crate::proofs::QueueLemmas::room_after_gift, crate::proofs::QueueLemmas::room_without_gift))]
+    #[tactic(auto, using(crate::proofs::QueueLemmas::gift_rules))]
     pub(crate) fn deliver(&mut self, conns: &Places<Numbered<Conn>>, given: Gifts)
         requires { spec.HaveRoom self.old (spec.frames_given given) }
         ensures { self.new ≡ spec.delivered conns.now given self.old }
     {
-        for gift in given.into_gifts() {
-            if let Some(place) = conns.place_of(u64::from(gift.conn)) {
-                self.append(place, gift.frames);
-            }
+        let (first, more) = given.into_parts();
+        if let Some(gift) = first {
+            self.deliver_one(conns, gift);
+        }
+        self.deliver_all(conns, more);
+    }
+
+    /// Puts these gifts behind the frames of their connections.
+    fn deliver_all(&mut self, conns: &Places<Numbered<Conn>>, gifts: Vec<Gift>)
+        requires { spec.HaveRoom self.old (spec.frames_given gifts.items) }
+        ensures { self.new ≡ spec.delivered conns.now gifts.items self.old }
+    {
+        for gift in gifts {
+            self.deliver_one(conns, gift);
+        }
+    }
+
+    /// Puts a gift behind the frames of its connection, if that is there.
+    fn deliver_one(&mut self, conns: &Places<Numbered<Conn>>, gift: Gift)
+        requires { spec.HaveRoom self.old (length gift.frames) }
+        ensures { self.new ≡ spec.with_gift_delivered conns.now gift self.old }
+    {
+        if let Some(place) = conns.place_of(u64::from(gift.conn)) {
+            self.append(place, gift.frames);
         }
     }
 }

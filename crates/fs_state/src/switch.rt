@@ -1,3 +1,4 @@
+//! The state of a switch between two entries.
 ghost use Rattle.std.specs.Prelude.{◌≡◌, length, IfOk, unwrap_or};
 ghost use Rattle.std.specs.Option.{option_copied};
 ghost use Rattle.fs_places.specs.Places.{no_places};

@@ -153,3 +153,5 @@ found_later name (p ∷ ps) qs h = by (same_text name p.0) h (found_later name p
     by : (b : Bool) → cond b (Some p.1) (value_of ps name) ≡ None → (value_of ps name ≡ None → value_of (ps ++ qs) name ≡ value_of qs name) → cond b (Some p.1) (value_of (ps ++ qs) name) ≡ value_of qs name
     by true h rest = absurd (cc)
     by false h rest = rest h
+
+pub ruleset found = (found_first, found_later)

@@ -4,6 +4,23 @@ use Rattle.fs_vars.specs.declared.profile.Profile.{Profile}
 use Rattle.fs_vars.specs.declared.scope.Scope.{Scope}
 use Rattle.fs_vars.specs.Pairs.{Pairs}
 
+-- a profile whose fields are all empty
+abbrev pub empty_profile : Profile
+empty_profile = record {
+  destination_number = [];
+  caller_id_name = [];
+  caller_id_number = [];
+  ani = [];
+  rdnis = [];
+  context = [];
+  dialplan = [];
+  source = [];
+  uuid = [];
+  chan_name = [];
+  network_addr = [];
+  username = [];
+}
+
 -- the fields of a profile under their names
 unfoldable pub fields_of : Profile → Pairs
 fields_of p =

@@ -1,11 +1,13 @@
+//! The limits of variables.
 ghost use Rattle.std.specs.Prelude.{◌≡◌};
 ghost use Rattle.fs_vars.specs.Variables.{counts, is_machine_set, most_variables, most_bytes};
 
 /// The limits that a set of variables keeps.
 ///
-/// A name has at most 256 bytes and a value at most 16,384. A channel has at most 512 variables, whose names and values together
-/// have at most 32,768 bytes; the globals are at most 1,024, of 262,144 bytes. The four variables that the machine sets on a channel
-/// (`originate_disposition`, `bridge_hangup_cause`, `hangup_cause`, `signal_bond`) count neither to the number nor to the bytes.
+/// A name has at most 256 bytes and a value at most 16,384. A channel has at most 512 variables, whose names and values
+/// together have at most 32,768 bytes; the globals are at most 1,024, of 262,144 bytes. The four variables that the
+/// machine sets on a channel (`originate_disposition`, `bridge_hangup_cause`, `hangup_cause`, `signal_bond`) count
+/// neither to the number nor to the bytes.
 #[derive(Clone, Copy, Debug, PartialEq, Eq)]
 pub enum Bounds {
     Channel,

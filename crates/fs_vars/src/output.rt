@@ -1,3 +1,4 @@
+//! An expanded text as it grows.
 ghost use Rattle.std.specs.Prelude.{◌++◌, ◌≡◌, ◌≤◌, [], length, IfOk, IfErr, OnOk};
 ghost use Rattle.fs_vars.specs.Pairs.{Text};
 ghost use Rattle.fs_vars.specs.Outputs.{Holds, IsTextRefusal};

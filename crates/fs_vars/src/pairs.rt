@@ -1,3 +1,4 @@
+//! The variables, one after another.
 ghost use Rattle.std.specs.Iterator.{at_most};
 ghost use Rattle.std.specs.Prelude.{length};
 ghost use Rattle.std.specs.Map.Iter.{TakesFirst};

@@ -1,6 +1,6 @@
-//! The pieces of a text as it is expanded.
-
-ghost use Rattle.std.specs.Prelude.{◌≡◌, ◌+◌, ◌<◌, ◌≤◌, length, take, drop, true, false, nat_eq, is_some, IfSome, codes};
+//! The pieces of a text, as they are taken off its front.
+ghost use Rattle.std.specs.Prelude.{◌≡◌, ◌+◌, ◌<◌, ◌≤◌, length, take, drop, nat_eq, codes};
+ghost use Rattle.std.specs.Prelude.{true, false, is_some, IfSome};
 ghost use Rattle.std.specs.Iterator.{at_most};
 ghost use Rattle.std.specs.List.{list_any, position_or_len, starts_with};
 ghost use Rattle.memchr.specs.Find.{is_byte2};

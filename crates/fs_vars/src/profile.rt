@@ -1,4 +1,5 @@
-ghost use Rattle.std.specs.Prelude.{◌≡◌, [], IfOk, option_copied};
+//! What is known of a call.
+ghost use Rattle.std.specs.Prelude.{◌≡◌, IfOk, option_copied};
 ghost use Rattle.fs_vars.specs.Pairs.{value_of};
 
 use fs_text::{Memory, Txt};
@@ -40,11 +41,11 @@ impl Drop for Profile {
 }
 
 impl Profile {
-    ghost use Rattle.fs_vars.specs.Scopes.{fields_of};
+    ghost use Rattle.fs_vars.specs.Scopes.{fields_of, empty_profile};
 
     /// A profile whose fields are all empty.
     pub fn empty(alloc: Global) -> Result<Profile, Memory>
-        ensures { IfOk result (λ p. p ≡ record { destination_number = []; caller_id_name = []; caller_id_number = []; ani = []; rdnis = []; context = []; dialplan = []; source = []; uuid = []; chan_name = []; network_addr = []; username = [] }) }
+        ensures { IfOk result (λ p. p ≡ empty_profile) }
     {
         let empty = Txt::of(alloc, b"")?;
         Ok(Profile {

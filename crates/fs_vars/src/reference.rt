@@ -1,5 +1,4 @@
-//! What a reference in a text means.
-
+//! A reference to a value, between its braces.
 ghost use Rattle.std.specs.Prelude.{◌≡◌};
 ghost use Rattle.std.specs.Option.{option_map};
 ghost use Rattle.std.specs.List.{list_any};

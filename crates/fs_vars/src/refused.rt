@@ -1,3 +1,4 @@
+//! Why an expansion is refused.
 ghost use Rattle.std.specs.Prelude.{◌≡◌};
 ghost use Rattle.fs_vars.specs.declared.refused.Refused.TheVariants as refused;
 

@@ -1,3 +1,4 @@
+//! What variables count.
 ghost use Rattle.std.specs.Prelude.{◌≡◌, ◌+◌, ◌<◌, ◌^◌, ◌≤◌, [], ◌∷◌, length};
 ghost use Rattle.fs_vars.specs.Variables.{is_within, tally_of};
 

@@ -1,6 +1,6 @@
 use Rattle.std.proofs.Common.{◌≡◌, ◌-◌, ◌^◌, min, take}
 use Rattle.fs_state.specs.Queues.{frames_given}
-use Rattle.fs_state.proofs.gift.Gifts.frames.Given as goal
+use Rattle.fs_state.proofs.gift.frames_of.Given as goal
 
 abbrev pub invariant-loop-gift : goal.invariant-loop-gift
-invariant-loop-gift l = l.count ≡ min (frames_given (take l.gift-index l.gift-items)) (2 ^ 64 - 1)
+invariant-loop-gift l = l.count ≡ min (frames_given (take l.gift-index l.gifts)) (2 ^ 64 - 1)

@@ -3,6 +3,7 @@ mod StepLemmas
 mod RoundLemmas
 mod SettleLemmas
 mod SendLemmas
+mod WriteLemmas
 mod KeepLemmas
 mod HereLemmas
 mod TurnLemmas

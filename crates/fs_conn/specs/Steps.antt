@@ -1,5 +1,5 @@
 -- What a step of a play did, and what stopped it.
-use Rattle.std.specs.Prelude.{◌≡◌, ◌≢◌, ℕ, ◌+◌, ◌<◌, ◌≤◌, Bool, true, false, List, [], ◌∷◌, ◌++◌, Option, None, Some, Result, Ok, Err, IfErr}
+use Rattle.std.specs.Prelude.{◌≡◌, ◌≢◌, ℕ, ◌+◌, ◌<◌, ◌≤◌, Bool, true, false, List, [], ◌∷◌, ◌++◌, length, Option, None, Some, Result, Ok, Err, IfErr, ◌⊎◌}
 use Rattle.std.specs.List.{concat}
 use Rattle.fs_ports.specs.Ports.{Output, Writes, Stopped}
 use Rattle.fs_machine.specs.declared.due.DueActor.{DueActor}
@@ -15,7 +15,7 @@ use Rattle.fs_conn.specs.declared.end.End.{End}
 use Rattle.fs_conn.specs.declared.end.End.TheVariants.{Exit, AuthRefused, Eof, ReadFault, WriteFault as ends_by_write, TooLong, JournalFull, Memory, Runaway}
 use Rattle.fs_conn.specs.declared.stop.Stop.{Stop}
 use Rattle.fs_conn.specs.declared.stop.Stop.TheVariants.{Over, OutOfMemory, WriteFault}
-use Rattle.fs_conn.specs.Play.{Play, switch_of, output_of, after_trying_act}
+use Rattle.fs_conn.specs.Play.{Play, switch_of, output_of, after_trying_act, after_input_end}
 
 -- the play that a machine has come to at a moment, which goes on
 abbrev pub play_of : View → ℕ → Play
@@ -105,23 +105,49 @@ pub record Works (old new : Play) : Type 0 where
 
 -- ---- frames
 
--- the frames that were handed out were written
-abbrev pub WritesFrames : Output → Output → Play → Type 0
-WritesFrames out0 out1 p = Writes out0 out1 (output_of p)
+-- frames were handed out, and behind what was unsent before them they were written, but for what is unsent now
+pub record Writing (out0 out1 : Output) (unsent0 unsent1 : List ℕ) (old new : Play) : Type 0 where
+  pub frames : List ℕ
+  pub hands : output_of new ≡ output_of old ++ frames
+  pub sent : List ℕ
+  pub split : unsent0 ++ frames ≡ sent ++ unsent1
+  pub written : Writes out0 out1 sent
 
--- or the last of these writes failed, just behind the Take of its frame at the clock's moment
-pub record FailsAt (out0 out1 : Output) (p : Play) : Type 0 where
-  pub stopped : Stopped out0 out1 (output_of p)
+-- or what was unsent then was to be written, at such a place, and a write of it failed
+pub record Fails (place : List ℕ → Play → Type 0) (out0 out1 : Output) (unsent0 : List ℕ) (old new : Play) : Type 0 where
+  pub mid : Output
+  pub unsent : List ℕ
+  pub writing : Writing out0 mid unsent0 unsent old new
+  pub stopped : Stopped mid out1 unsent
+  pub stands : place unsent new
+
+-- what a step wrote
+abbrev pub Sends : {A : Type 0} → (List ℕ → Play → Type 0) → Output → Output → List ℕ → List ℕ → Play → Play → Result A Stop → Type 0
+Sends place out0 out1 unsent0 unsent1 old new (Ok done) = Writing out0 out1 unsent0 unsent1 old new
+Sends place out0 out1 unsent0 unsent1 old new (Err (Over end)) = Writing out0 out1 unsent0 unsent1 old new
+Sends place out0 out1 unsent0 unsent1 old new (Err OutOfMemory) = Writing out0 out1 unsent0 unsent1 old new
+Sends place out0 out1 unsent0 unsent1 old new (Err WriteFault) = Fails place out0 out1 unsent0 old new
+
+-- the last entry of a play took a frame at the clock's moment, with which at least 65,536 bytes are unsent
+pub record HasFilled (unsent : List ℕ) (p : Play) : Type 0 where
+  pub many : 65536 ≤ length unsent
   pub before : List Entry
   pub taken : p.journal ≡ before ++ entry_of (Take 1) p ∷ []
 
--- what was written by a step that stopped
-abbrev pub StoppedBy : Stop → Output → Output → Play → Type 0
-StoppedBy (Over end) out0 out1 p = WritesFrames out0 out1 p
-StoppedBy OutOfMemory out0 out1 p = WritesFrames out0 out1 p
-StoppedBy WriteFault out0 out1 p = FailsAt out0 out1 p
+-- so it has, or its input has ended and it is to be closed
+abbrev pub MayClose : Play → List ℕ → Play → Type 0
+MayClose old unsent new = HasFilled unsent new ⊎ (new ≡ after_input_end old)
 
--- what a step wrote
-abbrev pub Sends : {A : Type 0} → Output → Output → Play → Result A Stop → Type 0
-Sends out0 out1 p (Ok done) = WritesFrames out0 out1 p
-Sends out0 out1 p (Err stop) = StoppedBy stop out0 out1 p
+-- what putting a frame behind what is unsent did
+abbrev pub Puts : {A : Type 0} → Output → Output → List ℕ → List ℕ → List ℕ → Result A Stop → Type 0
+Puts out0 out1 old new frame (Ok done) = (sent : List ℕ) × (old ++ frame ≡ sent ++ new) × Writes out0 out1 sent
+Puts out0 out1 old new frame (Err (Over end)) = ⊥
+Puts out0 out1 old new frame (Err OutOfMemory) = ⊥
+Puts out0 out1 old new frame (Err WriteFault) = Stopped out0 out1 (old ++ frame) × (65536 ≤ length (old ++ frame))
+
+-- what writing all that is unsent did
+abbrev pub Clears : {A : Type 0} → Output → Output → List ℕ → List ℕ → Result A Stop → Type 0
+Clears out0 out1 old new (Ok done) = Writes out0 out1 old × (new ≡ [])
+Clears out0 out1 old new (Err (Over end)) = ⊥
+Clears out0 out1 old new (Err OutOfMemory) = ⊥
+Clears out0 out1 old new (Err WriteFault) = Stopped out0 out1 old

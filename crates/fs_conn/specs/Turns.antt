@@ -1,21 +1,18 @@
 -- What stands of a played connection from turn to turn, and at its end.
-use Rattle.std.specs.Prelude.{◌≡◌, ℕ, ◌-◌, ◌*◌, ◌+◌, ◌<◌, Bool, true, false, List, [], ◌∷◌, ◌++◌, length, Option, None, Some, Result, Ok, Err, ◌⊎◌, if◌then◌else◌}
+use Rattle.std.specs.Prelude.{◌≡◌, ℕ, ◌-◌, ◌*◌, ◌+◌, ◌<◌, ◌≤◌, Bool, true, false, List, [], ◌∷◌, ◌++◌, length, Option, None, Some, Result, Ok, Err, ◌⊎◌, if◌then◌else◌}
 use Rattle.std.specs.List.{AllByRecursion, concat}
 use Rattle.std.specs.Io.KnownBytes.{IsAtEnd}
-use Rattle.fs_text.specs.declared.memory.Memory.{Memory as NoMemory}
 use Rattle.fs_doc.specs.Reading.{Configuration}
 use Rattle.fs_ports.specs.Counts.{raised}
 use Rattle.fs_ports.specs.Ports.{Input, Output, Reads, Writes, Stopped}
 use Rattle.fs_frame.specs.Block.{IsBlock, too_long}
 use Rattle.fs_frame.specs.Blocks.{rest_of}
 use Rattle.fs_frame.specs.Stream.{Stream, fed_with}
-use Rattle.fs_state.specs.Switch.{empty}
 use Rattle.fs_machine.specs.declared.entry.Entry.{Entry}
-use Rattle.fs_machine.specs.declared.entry.Act.TheVariants.{Take, Close}
+use Rattle.fs_machine.specs.declared.entry.Act.TheVariants.{Close}
 use Rattle.fs_machine.specs.declared.entry.Closing.TheVariants.{Failed}
 use Rattle.fs_machine.specs.declared.refusal.Refusal.{Refusal}
 use Rattle.fs_machine.specs.Step.{refusal_of}
-use Rattle.fs_machine.specs.Runs.{run_from}
 use Rattle.fs_conn.specs.declared.end.End.{End}
 use Rattle.fs_conn.specs.declared.end.End.TheVariants as ends
 use Rattle.fs_conn.specs.declared.stop.Stop.{Stop}
@@ -24,31 +21,84 @@ use Rattle.fs_conn.specs.declared.reading.Filled.{Filled}
 use Rattle.fs_conn.specs.declared.reading.Filled.TheVariants.{More, AtEnd, ReadFailed}
 use Rattle.fs_conn.specs.declared.conversation.Turn.{Turn}
 use Rattle.fs_conn.specs.declared.conversation.Turn.TheVariants.{GoOn, Done}
-use Rattle.fs_conn.specs.Play.{Play, bytes_handed, after_opening, after_commands, after_conversing, farewell, end_behind, played}
-use Rattle.fs_conn.specs.Steps.{spent, Halts, WritesFrames, StoppedBy}
+use Rattle.fs_conn.specs.Play.{Play, switch_of, bytes_handed, output_of, after_opening, after_commands, after_conversing, after_input_end, farewell, end_behind, played}
+use Rattle.fs_conn.specs.Steps.{spent, Halts, HasFilled}
 
--- what reading more of a link did
-abbrev pub Fills : Input → Input → Stream → Stream → Result Filled NoMemory → Type 0
-Fills in0 in1 old new (Ok More) = (piece : List ℕ) × (0 < length piece) × Reads in0 in1 piece × (in1.faults ≡ in0.faults) × (new ≡ fed_with old piece)
+-- what reading more of a link did, at most 16,384 bytes
+abbrev pub Fills : Input → Input → Stream → Stream → Result Filled Stop → Type 0
+Fills in0 in1 old new (Ok More) =
+    (piece : List ℕ) × (0 < length piece) × (length piece ≤ 16384) × Reads in0 in1
+    piece × (in1.faults ≡ in0.faults) × (new ≡ fed_with old piece)
 Fills in0 in1 old new (Ok AtEnd) = IsAtEnd in1.left × (in1 ≡ in0) × (new ≡ old)
 Fills in0 in1 old new (Ok ReadFailed) = (in1 ≡ record in0 { faults = raised in0.faults }) × (new ≡ old)
-Fills in0 in1 old new (Err memory) = (piece : List ℕ) × Reads in0 in1 piece × (in1.faults ≡ in0.faults) × (new ≡ old)
+Fills in0 in1 old new (Err (Over end)) = ⊥
+Fills in0 in1 old new (Err OutOfMemory) =
+    (piece : List ℕ) × (length piece ≤ 16384) × Reads in0 in1 piece × (in1.faults ≡ in0.faults) × (new ≡ old)
+Fills in0 in1 old new (Err WriteFault) = (in1 ≡ in0) × (new ≡ old)
+
+-- before that all that was unsent was written, or a write of it failed
+abbrev pub WritesFirst : {A : Type 0} → Output → Output → List ℕ → List ℕ → Result A Stop → Type 0
+WritesFirst out0 out1 old new (Ok done) = Writes out0 out1 old × (new ≡ [])
+WritesFirst out0 out1 old new (Err (Over end)) = ⊥
+WritesFirst out0 out1 old new (Err OutOfMemory) = Writes out0 out1 old × (new ≡ [])
+WritesFirst out0 out1 old new (Err WriteFault) = Stopped out0 out1 old
 
 -- the bytes that were read, and whether the reading failed behind them
 pub record HasRead (in0 in1 : Input) (input : List ℕ) (read_failed : Bool) : Type 0 where
   pub reads : Reads in0 in1 input
   pub faults : in1.faults ≡ (if read_failed then raised in0.faults else in0.faults)
 
+-- ---- writes
+
+-- the last bytes of the input came with one read, before which what those before them had come to was written
+pub record IsPrompt (config : Configuration) (input sent : List ℕ) : Type 0 where
+  pub earlier : List ℕ
+  pub piece : List ℕ
+  pub split : input ≡ earlier ++ piece
+  pub few : length piece ≤ 16384
+  pub more : List ℕ
+  pub written : sent ≡ output_of (after_conversing config earlier) ++ more
+
+-- what a play handed out was written, but for what is unsent; nothing was read yet, or all was written before the last read
+pub record HasWritten (config : Configuration) (out0 out1 : Output) (input unsent : List ℕ) (p : Play) : Type 0 where
+  pub sent : List ℕ
+  pub split : output_of p ≡ sent ++ unsent
+  pub written : Writes out0 out1 sent
+  pub prompt : (input ≡ []) ⊎ IsPrompt config input sent
+
+-- where a play writes: behind a frame with which there is enough unsent, before it reads on, before the connection is closed, and
+-- where the play comes to its end before that
+pub data WritesAt (config : Configuration) (input : List ℕ) (read_failed : Bool) (unsent : List ℕ) (p : Play) : Type 0 where
+  behind_frame : HasFilled unsent p → WritesAt config input read_failed unsent p
+  before_read : p ≡ after_conversing config input → WritesAt config input read_failed unsent p
+  before_close : p ≡ after_input_end (after_conversing config input) → WritesAt config input read_failed unsent p
+  at_early_end : (end : End) → Halts (Over end) p (played config input read_failed) → WritesAt config input read_failed unsent p
+
+-- all writes before were done, and then one of what was unsent failed
+pub record FailsAt (config : Configuration) (out0 out1 : Output) (input : List ℕ) (read_failed : Bool) (p : Play) : Type 0 where
+  pub mid : Output
+  pub unsent : List ℕ
+  pub written : HasWritten config out0 mid input unsent p
+  pub stopped : Stopped mid out1 unsent
+  pub place : WritesAt config input read_failed unsent p
+
+-- what was written by a play that stopped
+abbrev pub StoppedBy : Configuration → Output → Output → List ℕ → Bool → List ℕ → Stop → Play → Type 0
+StoppedBy config out0 out1 input read_failed unsent (Over end) p = HasWritten config out0 out1 input unsent p
+StoppedBy config out0 out1 input read_failed unsent OutOfMemory p = HasWritten config out0 out1 input unsent p
+StoppedBy config out0 out1 input read_failed unsent WriteFault p = FailsAt config out0 out1 input read_failed p
+
 -- ---- turns
 
 -- the connection goes on: what was read, entered and written so far
-pub record Stands (config : Configuration) (in0 : Input) (out0 : Output) (in1 : Input) (out1 : Output) (stream : Stream) (p : Play) : Type 0 where
+pub record Stands (config : Configuration) (in0 : Input) (out0 : Output) (in1 : Input) (out1 : Output) (unsent : List ℕ) (stream : Stream)
+    (p : Play) : Type 0 where
   pub blocks : List (List ℕ)
   pub are_blocks : AllByRecursion IsBlock blocks
   pub reads : Reads in0 in1 (concat blocks ++ stream.rest)
   pub read_faults : in1.faults ≡ in0.faults
   pub play_is : p ≡ after_commands (after_opening config) blocks
-  pub written : WritesFrames out0 out1 p
+  pub written : HasWritten config out0 out1 (concat blocks ++ stream.rest) unsent p
 
 -- an end that neither a failed write nor want of memory brings
 abbrev pub is_told : End → Bool
@@ -63,41 +113,45 @@ is_told (ends.JournalFull cost limit) = true
 is_told (ends.Runaway count) = true
 
 -- the connection came to this end, and is not closed yet
-pub record Ends (config : Configuration) (in0 : Input) (out0 : Output) (in1 : Input) (out1 : Output) (end : End) (p : Play) : Type 0 where
+pub record Ends (config : Configuration) (in0 : Input) (out0 : Output) (in1 : Input) (out1 : Output) (unsent : List ℕ) (end : End)
+    (p : Play) : Type 0 where
   pub input : List ℕ
   pub read_failed : Bool
   pub has_read : HasRead in0 in1 input read_failed
   pub play_is : p ≡ after_conversing config input
-  pub written : WritesFrames out0 out1 p
+  pub written : HasWritten config out0 out1 input unsent p
   pub end_is : end ≡ end_behind (farewell p) (too_long (rest_of input)) read_failed
   pub told : is_told end ≡ true
   pub at_end : end ≡ ends.Eof → IsAtEnd in1.left
 
 -- the connection was closed after this end, or the play came to it before
-pub record Concludes (config : Configuration) (in0 : Input) (out0 : Output) (in1 : Input) (out1 : Output) (end : End) (p : Play) : Type 0 where
+pub record Concludes (config : Configuration) (in0 : Input) (out0 : Output) (in1 : Input) (out1 : Output) (end : End)
+    (p : Play) : Type 0 where
   pub input : List ℕ
   pub read_failed : Bool
   pub has_read : HasRead in0 in1 input read_failed
   pub play_is : played config input read_failed ≡ record p { end = Some end }
-  pub written : WritesFrames out0 out1 p
+  pub written : Writes out0 out1 (output_of p)
   pub told : is_told end ≡ true
   pub at_end : end ≡ ends.Eof → IsAtEnd in1.left
 
 -- the play stopped
-pub record Stops (config : Configuration) (in0 : Input) (out0 : Output) (in1 : Input) (out1 : Output) (stop : Stop) (p : Play) : Type 0 where
+pub record Stops (config : Configuration) (in0 : Input) (out0 : Output) (in1 : Input) (out1 : Output) (unsent : List ℕ) (stop : Stop)
+    (p : Play) : Type 0 where
   pub input : List ℕ
   pub read_failed : Bool
   pub has_read : HasRead in0 in1 input read_failed
   pub halts : Halts stop p (played config input read_failed)
-  pub stopped : StoppedBy stop out0 out1 p
+  pub stopped : StoppedBy config out0 out1 input read_failed unsent stop p
 
 -- what one turn did: the connection goes on, came to an end or stopped
-abbrev pub Turns : Configuration → Input → Output → Input → Output → Stream → Play → Result Turn Stop → Type 0
-Turns config in0 out0 in1 out1 stream p (Ok GoOn) = Stands config in0 out0 in1 out1 stream p
-Turns config in0 out0 in1 out1 stream p (Ok (Done end)) = Ends config in0 out0 in1 out1 end p
-Turns config in0 out0 in1 out1 stream p (Err stop) = Stops config in0 out0 in1 out1 stop p
+abbrev pub Turns : Configuration → Input → Output → Input → Output → List ℕ → Stream → Play → Result Turn Stop → Type 0
+Turns config in0 out0 in1 out1 unsent stream p (Ok GoOn) = Stands config in0 out0 in1 out1 unsent stream p
+Turns config in0 out0 in1 out1 unsent stream p (Ok (Done end)) = Ends config in0 out0 in1 out1 unsent end p
+Turns config in0 out0 in1 out1 unsent stream p (Err stop) = Stops config in0 out0 in1 out1 unsent stop p
 
--- how much there is to do at most: the cost that the journal has left, and for each unit of it the bytes that may be read before a block is whole
+-- how much there is to do at most: the cost that the journal has left, and for each unit of it the bytes that may be read before a block is
+-- whole
 abbrev pub work_left : Play → Stream → ℕ
 work_left p stream = (p.config.settings.journal_limit - spent p) * 70000 + (69999 - length stream.rest)
 
@@ -114,14 +168,15 @@ OnGoOn (Ok (Done end)) fact = Unit {0}
 OnGoOn (Err stop) fact = Unit {0}
 
 -- what a conversation did: it was closed after its end, or stopped
-abbrev pub Converses : Configuration → Input → Output → Input → Output → Play → Result End Stop → Type 0
-Converses config in0 out0 in1 out1 p (Ok end) = Concludes config in0 out0 in1 out1 end p
-Converses config in0 out0 in1 out1 p (Err stop) = Stops config in0 out0 in1 out1 stop p
+abbrev pub Converses : Configuration → Input → Output → Input → Output → List ℕ → Play → Result End Stop → Type 0
+Converses config in0 out0 in1 out1 unsent p (Ok end) = Concludes config in0 out0 in1 out1 end p
+Converses config in0 out0 in1 out1 unsent p (Err stop) = Stops config in0 out0 in1 out1 unsent stop p
 
 -- ---- the end
 
 -- the play came to its end
-pub record Finishes (config : Configuration) (in0 : Input) (out0 : Output) (in1 : Input) (out1 : Output) (end : End) (journal : List Entry) : Type 0 where
+pub record Finishes (config : Configuration) (in0 : Input) (out0 : Output) (in1 : Input) (out1 : Output) (end : End)
+    (journal : List Entry) : Type 0 where
   pub input : List ℕ
   pub read_failed : Bool
   pub has_read : HasRead in0 in1 input read_failed
@@ -139,46 +194,56 @@ pub record Breaks (config : Configuration) (in0 in1 : Input) (journal : List Ent
   pub split : (played config input read_failed).journal ≡ journal ++ more
 
 -- memory was wanting, and the frames that were handed out were written
-pub record LacksMemory (config : Configuration) (in0 : Input) (out0 : Output) (in1 : Input) (out1 : Output) (journal : List Entry) : Type 0 where
+pub record LacksMemory (config : Configuration) (in0 : Input) (out0 : Output) (in1 : Input) (out1 : Output)
+    (journal : List Entry) : Type 0 where
   pub breaks : Breaks config in0 in1 journal
   pub written : Writes out0 out1 (bytes_handed config journal)
 
--- a frame is taken, and the connection is closed as Failed, at this moment
-abbrev pub taken_at : ℕ → Entry
-taken_at moment = record { moment = moment; act = Take 1 }
-
-abbrev pub failed_at : ℕ → Entry
-failed_at moment = record { moment = moment; act = Close 1 Failed }
-
--- the last of these entries took a frame at this moment, and the write of that failed
-pub record Fails (config : Configuration) (in0 : Input) (out0 : Output) (in1 : Input) (out1 : Output) (journal : List Entry) (moment : ℕ) : Type 0 where
+-- memory was wanting, and then a write of the frames that were handed out failed
+pub record LacksBoth (config : Configuration) (in0 : Input) (out0 : Output) (in1 : Input) (out1 : Output)
+    (journal : List Entry) : Type 0 where
   pub breaks : Breaks config in0 in1 journal
   pub stopped : Stopped out0 out1 (bytes_handed config journal)
-  pub earlier : List Entry
-  pub taken : journal ≡ earlier ++ taken_at moment ∷ []
 
--- memory was wanting before a write failed, or a write failed and then memory was wanting to close the connection
-abbrev pub WantsMemory : Configuration → Input → Output → Input → Output → List Entry → Type 0
-WantsMemory config in0 out0 in1 out1 journal = LacksMemory config in0 out0 in1 out1 journal ⊎ ((moment : ℕ) × Fails config in0 out0 in1 out1 journal moment)
+-- a write failed where the play had come so far
+pub record BreaksAt (config : Configuration) (in0 : Input) (out0 : Output) (in1 : Input) (out1 : Output) (p : Play) : Type 0 where
+  pub breaks : Breaks config in0 in1 p.journal
+  pub stopped : Stopped out0 out1 (bytes_handed config p.journal)
+  pub fails : FailsAt config out0 out1 breaks.input breaks.read_failed p
+
+-- memory was wanting, and all was written or a write of it failed; or a write failed and then memory was wanting to close the connection
+pub data WantsMemory (config : Configuration) (in0 : Input) (out0 : Output) (in1 : Input) (out1 : Output)
+    (journal : List Entry) : Type 0 where
+  all_written : LacksMemory config in0 out0 in1 out1 journal → WantsMemory config in0 out0 in1 out1 journal
+  then_failed : LacksBoth config in0 out0 in1 out1 journal → WantsMemory config in0 out0 in1 out1 journal
+  failed_before : (p : Play) → BreaksAt config in0 out0 in1 out1 p → journal ≡ p.journal → WantsMemory config in0 out0 in1 out1 journal
+
+-- the connection is closed as Failed at this moment
+abbrev pub failed_at : ℕ → Entry
+failed_at moment = record { moment = moment; act = Close 1 Failed }
 
 -- an entry stands behind the others where the definition does not refuse it
 abbrev pub unless_refused : Option Refusal → Entry → List Entry → List Entry
 unless_refused None entry before = before ++ entry ∷ []
 unless_refused (Some refusal) entry before = before
 
--- a write failed, and the connection was closed as Failed at the moment at which its frame was taken, unless the definition refuses that
-pub record FailsToWrite (config : Configuration) (in0 : Input) (out0 : Output) (in1 : Input) (out1 : Output) (journal : List Entry) : Type 0 where
-  pub before : List Entry
-  pub moment : ℕ
-  pub fails : Fails config in0 out0 in1 out1 before moment
-  pub closes : journal ≡ unless_refused (refusal_of (run_from (empty config) before) (failed_at moment)) (failed_at moment) before
+-- the journal behind a play whose connection was closed as Failed at the clock's moment, unless the definition refuses that
+abbrev pub closed_failed : Play → List Entry
+closed_failed p = unless_refused (refusal_of (switch_of p) (failed_at p.clock)) (failed_at p.clock) p.journal
 
--- how a play ends behind a write that failed, by what entering the closing came to
-abbrev pub end_after_fault : {A : Type 0} → Result A Stop → End
-end_after_fault (Ok done) = ends.WriteFault
-end_after_fault (Err (Over end)) = ends.WriteFault
-end_after_fault (Err OutOfMemory) = ends.Memory
-end_after_fault (Err WriteFault) = ends.WriteFault
+-- a write failed, and then the connection was closed so
+pub record FailsToWrite (config : Configuration) (in0 : Input) (out0 : Output) (in1 : Input) (out1 : Output)
+    (journal : List Entry) : Type 0 where
+  pub play : Play
+  pub config_is : play.config ≡ config
+  pub breaks_at : BreaksAt config in0 out0 in1 out1 play
+  pub closes : journal ≡ closed_failed play
+
+-- what closing a connection as Failed came to, by how the play ends
+abbrev pub ClosesFailed : Play → Play → End → Type 0
+ClosesFailed old new ends.WriteFault = (new.config ≡ old.config) × (new.journal ≡ closed_failed old)
+ClosesFailed old new ends.Memory = new ≡ old
+ClosesFailed old new _ = ⊥
 
 -- what a play did, by its end
 abbrev pub Plays : Configuration → Input → Output → Input → Output → List Entry → End → Type 0
@@ -189,5 +254,6 @@ Plays config in0 out0 in1 out1 journal ends.Eof = Finishes config in0 out0 in1 o
 Plays config in0 out0 in1 out1 journal ends.AuthRefused = Finishes config in0 out0 in1 out1 ends.AuthRefused journal
 Plays config in0 out0 in1 out1 journal ends.ReadFault = Finishes config in0 out0 in1 out1 ends.ReadFault journal
 Plays config in0 out0 in1 out1 journal (ends.TooLong len) = Finishes config in0 out0 in1 out1 (ends.TooLong len) journal
-Plays config in0 out0 in1 out1 journal (ends.JournalFull cost limit) = Finishes config in0 out0 in1 out1 (ends.JournalFull cost limit) journal
+Plays config in0 out0 in1 out1 journal (ends.JournalFull cost limit) =
+    Finishes config in0 out0 in1 out1 (ends.JournalFull cost limit) journal
 Plays config in0 out0 in1 out1 journal (ends.Runaway count) = Finishes config in0 out0 in1 out1 (ends.Runaway count) journal

@@ -1,3 +1,5 @@
+//! How a play ends.
+
 /// How a connection came to its end.
 #[derive(Clone, Copy, Debug, PartialEq, Eq)]
 pub enum End {

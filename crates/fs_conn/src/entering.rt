@@ -1,3 +1,5 @@
+//! Acts are entered at the moment of the clock.
+
 ghost use Rattle.std.specs.Prelude.{◌≡◌, true, false, [], OnOk};
 ghost use Rattle.fs_machine.specs.declared.entry.Act.TheVariants.{Arrive, Command};
 ghost use Rattle.fs_machine.specs.Here.{IsHere};

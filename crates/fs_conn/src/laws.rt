@@ -20,7 +20,8 @@ ghost use Rattle.fs_conn.specs.Ends.{HasCause};
 /// The journal of a play is a run of the machine from the empty switch: no entry of it is refused, in particular none
 /// comes where the journal is full.
 pub fn plays_a_run()
-    ensures { (config : Configuration) (input : List ℕ) (read_failed : Bool) → IsRunFrom (empty config) (played config input read_failed).journal }
+    ensures { (config : Configuration) (input : List ℕ) (read_failed : Bool)
+        → IsRunFrom (empty config) (played config input read_failed).journal }
 {}
 
 /// The commands in the journal of a play are the first blocks of its input, each once and in their order.
@@ -32,32 +33,42 @@ pub fn enters_commands_once()
 /// A play comes to an end, and each end has its cause. So a play ends by a full journal only where no further entry
 /// is accepted behind what its journal costs.
 pub fn ends_for_a_cause()
-    ensures ends { (config : Configuration) (input : List ℕ) (read_failed : Bool) → (end : End) × ((played config input read_failed).end ≡ Some end) }
-    ensures cause { (config : Configuration) (input : List ℕ) (read_failed : Bool) (end : End) → (played config input read_failed).end ≡ Some end
+    ensures ends { (config : Configuration) (input : List ℕ) (read_failed : Bool)
+        → (end : End) × ((played config input read_failed).end ≡ Some end) }
+    ensures cause { (config : Configuration) (input : List ℕ) (read_failed : Bool) (end : End)
+        → (played config input read_failed).end ≡ Some end
         → HasCause end (switch_of (played config input read_failed)) (too_long (rest_of input)) read_failed }
 {}
 
-/// The bytes that a play hands out are those of the frames that its journal gives the connection, in their order: all of
-/// them, or the first of them where the journal is full or the play ran away. The limit of a journal is at most 2^30 in
-/// every configuration.
+/// The bytes that a play hands out are those of the frames that its journal gives the connection, in their order: all
+/// of them, or the first of them where the journal is full or the play ran away. The limit of a journal is at most
+/// 2^30 in every configuration.
 pub fn hands_out_its_frames()
-    ensures first { (config : Configuration) (input : List ℕ) (read_failed : Bool) → config.settings.journal_limit ≤ 1073741824 → (more : List ℕ)
-        × (concat (frames_from 1 (empty config) (played config input read_failed).journal) ≡ bytes_handed config (played config input read_failed).journal ++ more) }
-    ensures all { (config : Configuration) (input : List ℕ) (read_failed : Bool) (end : End) → config.settings.journal_limit ≤ 1073741824
+    ensures first { (config : Configuration) (input : List ℕ) (read_failed : Bool)
+        → config.settings.journal_limit ≤ 1073741824 → (more : List ℕ)
+        × (concat (frames_from 1 (empty config) (played config input read_failed).journal)
+        ≡ bytes_handed config (played config input read_failed).journal ++ more) }
+    ensures all { (config : Configuration) (input : List ℕ) (read_failed : Bool) (end : End)
+        → config.settings.journal_limit ≤ 1073741824
         → (played config input read_failed).end ≡ Some end → is_early end ≡ false
-        → bytes_handed config (played config input read_failed).journal ≡ concat (frames_from 1 (empty config) (played config input read_failed).journal) }
+        → bytes_handed config (played config input read_failed).journal
+        ≡ concat (frames_from 1 (empty config) (played config input read_failed).journal) }
 {}
 
-/// A play that comes to its end with its connection, and neither by a full journal nor since it ran away, ends its journal with the
-/// closing of that connection, of which all was sent.
+/// A play that comes to its end with its connection, and neither by a full journal nor since it ran away, ends its
+/// journal with the closing of that connection, of which all was sent.
 pub fn closes_at_its_end()
-    ensures { (config : Configuration) (input : List ℕ) (read_failed : Bool) (end : End) → IsWithin config → (played config input read_failed).end ≡ Some end
-        → is_early end ≡ false → (before : List Entry) × (moment : ℕ)
-        × ((played config input read_failed).journal ≡ before ++ record { moment = moment; act = Close 1 Sent } ∷ []) }
+    ensures { (config : Configuration) (input : List ℕ) (read_failed : Bool) (end : End)
+        → IsWithin config → (played config input read_failed).end ≡ Some end → is_early end ≡ false
+        → (before : List Entry) × (moment : ℕ)
+        × ((played config input read_failed).journal
+        ≡ before ++ record { moment = moment; act = Close 1 Sent } ∷ []) }
 {}
 
-/// No entry that a play tries is refused but for a full journal: judged by the room in the journal alone, so that each is entered until
-/// the journal is full, which ends all, the entries make the same play. Each configuration keeps its limits.
+/// No entry that a play tries is refused but for a full journal: judged by the room in the journal alone, so that each
+/// is entered until the journal is full, which ends all, the entries make the same play. Each configuration keeps its
+/// limits.
 pub fn refuses_only_when_full()
-    ensures { (config : Configuration) (input : List ℕ) (read_failed : Bool) → IsWithin config → played config input read_failed ≡ played_as by_room config input read_failed }
+    ensures { (config : Configuration) (input : List ℕ) (read_failed : Bool)
+        → IsWithin config → played config input read_failed ≡ played_as by_room config input read_failed }
 {}

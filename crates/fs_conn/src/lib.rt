@@ -3,12 +3,14 @@
 
 mod conversation;
 mod end;
+mod ending;
 mod entering;
 mod laws;
 mod reading;
 mod sending;
 mod settling;
 mod stop;
+mod unsent;
 
 pub use conversation::play;
 pub use end::End;

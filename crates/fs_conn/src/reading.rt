@@ -1,9 +1,12 @@
-ghost use Rattle.std.specs.Prelude.{◌≡◌, IsTrue};
-ghost use Rattle.fs_conn.specs.Turns.{Fills};
+//! One read of the link, before which all is written.
 
+ghost use Rattle.std.specs.Prelude.{IsTrue};
+ghost use Rattle.fs_conn.specs.Turns.{Fills, WritesFirst};
+
+use crate::stop::Stop;
+use crate::unsent::Unsent;
 use fs_frame::Blocks;
 use fs_ports::{Link, Read};
-use fs_text::Memory;
 
 /// What a read came to.
 #[derive(Clone, Copy, Debug)]
@@ -13,13 +16,21 @@ pub(crate) enum Filled {
     ReadFailed,
 }
 
-/// Reads once.
-pub(crate) fn fill<L: Link>(blocks: &mut Blocks, link: &mut L) -> Result<Filled, Memory>
+/// How many bytes a read takes at most.
+const MOST_BYTES: usize = 16_384;
+
+/// Writes what is unsent, and then reads once.
+pub(crate) fn fill<L: Link>(
+    blocks: &mut Blocks,
+    unsent: &mut Unsent,
+    link: &mut L,
+) -> Result<Filled, Stop>
     requires waits { IsTrue (L.input link.old).waits }
     ensures fills { Fills (L.input link.old) (L.input link.new) blocks.old blocks.new result }
-    ensures output { L.output link.new ≡ L.output link.old }
+    ensures writes { WritesFirst (L.output link.old) (L.output link.new) unsent.old unsent.new result }
 {
-    let mut buf = [0; 4096];
+    unsent.write(link)?;
+    let mut buf = [0; MOST_BYTES];
     match link.read(&mut buf) {
         Read::Got(n) => {
             blocks.feed(&buf[..n])?;

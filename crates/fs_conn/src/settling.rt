@@ -1,3 +1,5 @@
+//! What is due is worked, and replies that are owed are waited for.
+
 ghost use Rattle.std.specs.Prelude.{◌≡◌, false, None, OnOk};
 ghost use Rattle.fs_machine.specs.Questions.{owes};
 ghost use Rattle.fs_conn.specs.Play.{switch_of, next_actor, after_settling, after_waiting};

@@ -1,3 +1,5 @@
+//! Why a play stops before its connection came to its end.
+
 ghost use Rattle.std.specs.Prelude.{◌≡◌};
 ghost use Rattle.fs_conn.specs.declared.stop.Stop.TheVariants.{OutOfMemory};
 

@@ -1,3 +1,5 @@
+//! A block that is lent.
+
 ghost use Rattle.fs_frame.specs.Front.{IsLineAt};
 
 use crate::span::Span;

@@ -1,3 +1,5 @@
+//! The buffer of a stream, out of which its blocks come.
+
 use crate::block::Block;
 use crate::front::{Front, MOST_BYTES, look};
 use crate::next::Next;
@@ -29,7 +31,10 @@ impl Model for Blocks {
 
     ghost Value = { Stream };
 
-    ghost view = { λ b. record { last = slice_range b.bytes.items b.lent b.start; rest = drop b.start b.bytes.items } };
+    ghost view = { λ b. record {
+      last = slice_range b.bytes.items b.lent b.start;
+      rest = drop b.start b.bytes.items;
+    } };
 
     ghost invariant = { λ b. IsLaidOut b.bytes.items b.lent b.start b.scan };
 }

@@ -1,3 +1,5 @@
+//! What stands in front of some bytes.
+
 ghost use Rattle.std.specs.Prelude.{◌≡◌};
 ghost use Rattle.fs_frame.specs.Front.{IsFound, IsFront, IsScanned, within_reach};
 

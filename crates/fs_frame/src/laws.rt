@@ -4,7 +4,8 @@ ghost use Rattle.std.specs.Prelude.{◌≡◌, ℕ, List, [], ◌∷◌, ◌++�
 ghost use Rattle.fs_frame.specs.Block.{IsHead, line_of, text_of};
 ghost use Rattle.fs_frame.specs.Blocks.{Splits, blocks_of, rest_of};
 ghost use Rattle.fs_frame.specs.declared.next.Next.{Next};
-ghost use Rattle.fs_frame.specs.Calls.{Call, asked, AlwaysTooLong, AreAnswered, ComeFirst, Follows, blocks_in, stream_of};
+ghost use Rattle.fs_frame.specs.Calls.{Call, asked, blocks_in, stream_of};
+ghost use Rattle.fs_frame.specs.Calls.{AlwaysTooLong, AreAnswered, ComeFirst, Follows};
 
 /// A stream falls into blocks and a rest in exactly one way, and a head has exactly one line: the text of its command
 /// line.

@@ -1,3 +1,5 @@
+//! The answer of the buffer.
+
 use crate::block::Block;
 
 /// What the buffer answers when it is asked for the next block.

@@ -1,4 +1,7 @@
-ghost use Rattle.std.specs.Prelude.{◌≡◌, ◌+◌, ◌<◌, ◌≤◌, ◌^◌, ℕ, List, None, false, length, take, drop, MatchOption};
+//! A search for the end of a head, line by line.
+
+ghost use Rattle.std.specs.Prelude.{◌≡◌, ◌+◌, ◌<◌, ◌≤◌, ◌^◌, ℕ, false};
+ghost use Rattle.std.specs.Prelude.{List, length, take, drop, None, MatchOption};
 ghost use Rattle.std.specs.List.{list_any, position_or_len};
 ghost use Rattle.fs_frame.specs.Block.{is_lf, without_cr};
 ghost use Rattle.fs_frame.specs.Front.{GoesOn, IsScanned, IsBehind};
@@ -75,7 +78,8 @@ impl Scan {
 /// The line with which the bytes go on, of which the first `searched` are not LF.
 pub fn next_line(bytes: &[u8], searched: usize) -> Option<Line>
     requires { searched ≤ position_or_len is_lf bytes.now }
-    ensures { MatchOption result (list_any is_lf bytes.now ≡ false) (λ line. GoesOn bytes.now line.text_len line.len) }
+    ensures { MatchOption result (list_any is_lf bytes.now ≡ false)
+        (λ line. GoesOn bytes.now line.text_len line.len) }
 {
     let (content, behind) = bytes.split_at(line_end(bytes, searched));
     if behind.is_empty() {

@@ -1,3 +1,5 @@
+//! A part of some bytes.
+
 /// A part of some bytes.
 #[derive(Clone, Copy, Debug)]
 pub struct Span {

@@ -24,7 +24,7 @@ use Rattle.fs_machine.specs.Frames.{handed_from}
 use Rattle.fs_conn.specs.declared.end.End.{End}
 use Rattle.fs_conn.specs.declared.end.End.TheVariants as ends
 use Rattle.fs_conn.specs.Play.{switch_of, bytes_handed, played}
-use Rattle.fs_conn.specs.Turns.{HasRead, Plays, Finishes, Breaks}
+use Rattle.fs_conn.specs.Turns.{HasRead, Plays, Finishes, Breaks, all_written, then_failed, failed_before}
 use Rattle.fs_conn.specs.Ends.{IsFullAt, HasCause}
 use Rattle.fs_conn.proofs.LawLemmas.{config_kept, ends_played, cause_played, bytes_begin}
 use Rattle.fs_top.specs.Told.{Told, Asked, Check, Hunt, Play, file_asked, told_words, told_file, told_read, told_built, told_asked, told_play, told_text, refused, is_eof, line_of_end, status_of_end, usage_line, cannot_read_line, fault_line, pattern_line}
@@ -125,7 +125,7 @@ answers_ended c file in0 in1 out0 out1 ends.ReadFault journal plays = answers_fi
 answers_ended c file in0 in1 out0 out1 (ends.TooLong len) journal plays = answers_finished c file in0 in1 out0 out1 (ends.TooLong len) journal plays
 answers_ended c file in0 in1 out0 out1 (ends.JournalFull cost limit) journal plays = answers_finished c file in0 in1 out0 out1 (ends.JournalFull cost limit) journal plays
 answers_ended c file in0 in1 out0 out1 (ends.Runaway count) journal plays = answers_finished c file in0 in1 out0 out1 (ends.Runaway count) journal plays
-answers_ended c file in0 in1 out0 out1 ends.Memory journal (inl plays) = let b = plays.breaks in record {
+answers_ended c file in0 in1 out0 out1 ends.Memory journal (all_written plays) = let b = plays.breaks in record {
   input = b.input;
   read_failed = b.read_failed;
   has_read = b.has_read;
@@ -139,19 +139,26 @@ answers_ended c file in0 in1 out0 out1 ends.Memory journal (inl plays) = let b =
     status_is = refl;
   });
 }
-answers_ended c file in0 in1 out0 out1 ends.Memory journal (inr plays) = let b = plays.1.breaks in record {
+answers_ended c file in0 in1 out0 out1 ends.Memory journal (then_failed plays) = let b = plays.breaks in record {
   input = b.input;
   read_failed = b.read_failed;
   has_read = b.has_read;
   quiet = λ none. absurd none;
-  does = fails_for_memory (record { stopped = stopped_output c in0 in1 out0 out1 journal b plays.1.stopped; line_is = refl; status_is = refl });
+  does = fails_for_memory (record { stopped = stopped_output c in0 in1 out0 out1 journal b plays.stopped; line_is = refl; status_is = refl });
 }
-answers_ended c file in0 in1 out0 out1 ends.WriteFault journal plays = let b = plays.fails.breaks in record {
+answers_ended c file in0 in1 out0 out1 ends.Memory journal (failed_before p plays same) = let b = plays.breaks in record {
   input = b.input;
   read_failed = b.read_failed;
   has_read = b.has_read;
   quiet = λ none. absurd none;
-  does = fails_to_write (record { stopped = stopped_output c in0 in1 out0 out1 plays.before b plays.fails.stopped; line_is = refl; status_is = refl });
+  does = fails_for_memory (record { stopped = stopped_output c in0 in1 out0 out1 p.journal b plays.stopped; line_is = refl; status_is = refl });
+}
+answers_ended c file in0 in1 out0 out1 ends.WriteFault journal plays = let b = plays.breaks_at.breaks in record {
+  input = b.input;
+  read_failed = b.read_failed;
+  has_read = b.has_read;
+  quiet = λ none. absurd none;
+  does = fails_to_write (record { stopped = stopped_output c in0 in1 out0 out1 plays.play.journal b plays.breaks_at.stopped; line_is = refl; status_is = refl });
 }
 
 pub answers_played : (c : Configuration) (file : List ℕ) (in0 in1 : Input) (out0 out1 : Output) (outcome : Outcome) → PlaysTo c in0 out0 in1 out1 outcome →
@@ -167,7 +174,7 @@ answers_played c file in0 in1 out0 out1 (Ended end) plays = answers_ended c file
 pub plays_none : (c : Configuration) (in0 : Input) (out0 : Output) → PlaysTo c in0 out0 in0 out0 (Ended ends.Memory)
 plays_none c in0 out0 = (
   [],
-  inl (record {
+  all_written (record {
     breaks = record { input = []; read_failed = false; has_read = reads_none in0; more = (played c [] false).journal; split = refl };
     written = writes_nothing out0;
   }),

@@ -74,7 +74,7 @@ pub record BreaksForMemory (told : Told) (out0 out1 : Output) (line : List ℕ) 
   pub line_is : line ≡ memory_line
   pub status_is : status ≡ 1
 
--- a write failed behind a front of the output, and then memory was wanting
+-- a write failed behind a front of the output, and memory was wanting
 pub record FailsForMemory (told : Told) (out0 out1 : Output) (line : List ℕ) (status : ℕ) : Type 0 where
   pub stopped : Stopped out0 out1 told.output
   pub line_is : line ≡ memory_line

@@ -1,3 +1,5 @@
+//! What the words of the command line ask for.
+
 ghost use Rattle.std.specs.Prelude.{◌≡◌};
 ghost use Rattle.std.specs.Option.{option_map};
 ghost use Rattle.fs_top.specs.Told as told;

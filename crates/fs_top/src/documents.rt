@@ -1,3 +1,5 @@
+//! What `check` and `hunt` print over a configuration.
+
 ghost use Rattle.std.specs.Prelude.{◌≡◌, ◌++◌, map, Ok, IfOk, IfErr, OnOk};
 ghost use Rattle.std.specs.List.{concat};
 ghost use Rattle.fs_plan.specs.Hunting.{hunted};
@@ -63,8 +65,10 @@ fn hunt(
     context: &Txt,
     dest: &Txt,
 ) -> Result<Hunt, Refused>
-    ensures found { IfOk result (λ hunt. hunted plan.now context.now (spec.hunt_profile context.now dest.now) spec.no_variables globals.now ≡ Ok hunt) }
-    ensures too_long { IfErr result (IsFault (hunted plan.now context.now (spec.hunt_profile context.now dest.now) spec.no_variables globals.now)) }
+    ensures found { IfOk result (λ hunt. hunted plan.now context.now (spec.hunt_profile context.now dest.now)
+        spec.no_variables globals.now ≡ Ok hunt) }
+    ensures too_long { IfErr result (IsFault (hunted plan.now context.now (spec.hunt_profile context.now dest.now)
+        spec.no_variables globals.now)) }
 {
     let scope = Scope {
         vars: &Vars::new(alloc, Bounds::Channel)?,

@@ -1,3 +1,5 @@
+//! The lines on the error output.
+
 ghost use Rattle.std.specs.Prelude.{map};
 ghost use Rattle.std.specs.List.{concat};
 ghost use Rattle.fs_ports.specs.Ports.{SendDid};
@@ -15,7 +17,7 @@ const USAGE: &str =
     "usage: fsw check FILE | hunt FILE CONTEXT DEST | play FILE | load COUNT START | serve FILE\n";
 
 // Prints the line of an outcome, if it has one.
-#[tactic(auto, unfolding(crate::specs::Told::usage_line, crate::specs::Told::read_fault_line, crate::specs::Told::write_fault_line, crate::specs::Told::memory_line))]
+#[tactic(auto, unfolding(crate::specs::Told::usage_line, crate::specs::Told::read_fault_line, crate::specs::Told::write_fault_line, crate::specs::Told::memory_line,))]
 pub(crate) fn say<E: Sink>(err: &mut E, outcome: Outcome<'_>) -> Sent
     ensures { SendDid (E.output err.old) (E.output err.new) result (line_of_outcome outcome.entry) }
 {

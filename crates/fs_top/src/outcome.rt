@@ -1,3 +1,5 @@
+//! What a run came to, and its status.
+
 ghost use Rattle.std.specs.Prelude.{◌≡◌};
 ghost use Rattle.fs_top.specs.Runs.{status_of_outcome};
 

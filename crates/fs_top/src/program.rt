@@ -1,10 +1,14 @@
+//! The run: the words, the file, its document, its patterns, and what is asked of them.
+
 ghost use Rattle.std.specs.Prelude.{◌≡◌, ◌↔◌, ◌⊎◌, None, Some, IsTrue};
 ghost use Rattle.fs_ports.specs.Counts as counts;
 ghost use Rattle.fs_doc.specs.Reading.{Configuration};
 ghost use Rattle.fs_top.specs.Documents as documents;
 ghost use Rattle.fs_top.specs.Told as spec;
 ghost use Rattle.fs_top.specs.Reading.{asked_seen};
-ghost use Rattle.fs_top.specs.Runs.{PlaysTo, Answers, OverBytes, OverConfig, not_read, not_built, Runs, Ran, CarriesOutAs, HasConfig, HasFault, HasRefusal, CountRose, FillsJournal, MeetsTooLong, RunsAway, IsGiven, NoneRose, DoesAll};
+ghost use Rattle.fs_top.specs.Runs.{PlaysTo, Answers, OverBytes, OverConfig, not_read, not_built, Runs, Ran, CarriesOutAs};
+ghost use Rattle.fs_top.specs.Runs.{HasConfig, HasFault, HasRefusal, CountRose, FillsJournal, MeetsTooLong, RunsAway};
+ghost use Rattle.fs_top.specs.Runs.{IsGiven, NoneRose, DoesAll};
 
 use crate::asked::Asked;
 use crate::documents::{check_text, hunt_text};
@@ -41,27 +45,36 @@ pub fn run<F: Files, L: Link, E: Sink>(
     // The output, the line and the status are those that are told for these words, for what the file gave, for the
     // pattern that was refused, if any, and for what was taken from the link; or a front of this output, with status 5
     // after a write fault and 1 for want of memory. For `check` and `hunt` nothing is taken.
-    ensures told { Ran (spec.asked_by words.now) (F.next_load files.old) (F.counts files.old) (F.counts files.new) (F.sizes files.old) (F.sizes files.new)
-        (L.input link.old) (L.input link.new) (L.output link.old) (L.output link.new) (E.output err.old) (E.output err.new) result.code }
+    ensures told { Ran (spec.asked_by words.now) (F.next_load files.old)
+        (F.counts files.old) (F.counts files.new) (F.sizes files.old) (F.sizes files.new)
+        (L.input link.old) (L.input link.new) (L.output link.old) (L.output link.new)
+        (E.output err.old) (E.output err.new) result.code }
 
     // Each status has its cause.
     ensures usage { (result.code ≡ 2) ↔ (spec.asked_by words.now ≡ None) }
     ensures document { result.code ≡ 3 → HasFault (spec.asked_by words.now) (F.next_load files.old)
         ⊎ HasRefusal (spec.asked_by words.now) (F.next_load files.old) (F.sizes files.old) (F.sizes files.new) }
-    ensures unreadable { result.code ≡ 4 → CountRose (F.counts files.old) (F.counts files.new) (L.input link.old) (L.input link.new) }
+    ensures unreadable { result.code ≡ 4
+        → CountRose (F.counts files.old) (F.counts files.new) (L.input link.old) (L.input link.new) }
     ensures write_fault { result.code ≡ 5 → (L.output link.new).faults ≡ counts.raised (L.output link.old).faults }
-    ensures full { result.code ≡ 8 → (c : Configuration) × HasConfig (spec.asked_by words.now) (F.next_load files.old) c
+    ensures full { result.code ≡ 8 → (c : Configuration)
+        × HasConfig (spec.asked_by words.now) (F.next_load files.old) c
         × FillsJournal c (L.input link.old) (L.input link.new) }
-    ensures runaway { result.code ≡ 9 → (c : Configuration) × HasConfig (spec.asked_by words.now) (F.next_load files.old) c
+    ensures runaway { result.code ≡ 9 → (c : Configuration)
+        × HasConfig (spec.asked_by words.now) (F.next_load files.old) c
         × RunsAway c (L.input link.old) (L.input link.new) }
-    ensures too_long { result.code ≡ 10 → (c : Configuration) × HasConfig (spec.asked_by words.now) (F.next_load files.old) c
+    ensures too_long { result.code ≡ 10 → (c : Configuration)
+        × HasConfig (spec.asked_by words.now) (F.next_load files.old) c
         × MeetsTooLong c (L.input link.old) (L.input link.new) }
 
-    // Where the file is told to be read as a configuration whose patterns have readings, and no count rose, all that is told was
-    // done, or memory was wanting.
-    ensures complete { (asked : spec.Asked) (c : Configuration) → IsGiven (spec.asked_by words.now) (F.next_load files.old) asked c
-        → NoneRose (F.sizes files.old) (F.sizes files.new) (L.input link.old) (L.input link.new) (L.output link.old) (L.output link.new)
-        → DoesAll asked c (L.input link.old) (L.input link.new) (L.output link.old) (L.output link.new) (E.output err.old) (E.output err.new) result.code }
+    // Where the file is told to be read as a configuration whose patterns have readings, and no count rose, all that is
+    // told was done, or memory was wanting.
+    ensures complete { (asked : spec.Asked) (c : Configuration)
+        → IsGiven (spec.asked_by words.now) (F.next_load files.old) asked c
+        → NoneRose (F.sizes files.old) (F.sizes files.new)
+        (L.input link.old) (L.input link.new) (L.output link.old) (L.output link.new)
+        → DoesAll asked c (L.input link.old) (L.input link.new) (L.output link.old) (L.output link.new)
+        (E.output err.old) (E.output err.new) result.code }
 {
     let outcome = conduct(alloc, words, files, link);
     say(err, outcome);
@@ -78,7 +91,8 @@ fn conduct<'a, F: Files, L: Link>(
     link: &mut L,
 ) -> Outcome<'a>
     requires { IsTrue (L.input link.old).waits }
-    ensures { Runs (spec.asked_by words.now) (F.next_load files.old) (F.counts files.old) (F.counts files.new) (F.sizes files.old) (F.sizes files.new)
+    ensures { Runs (spec.asked_by words.now) (F.next_load files.old)
+        (F.counts files.old) (F.counts files.new) (F.sizes files.old) (F.sizes files.new)
         (L.input link.old) (L.input link.new) (L.output link.old) (L.output link.new) result }
 {
     match Asked::of(words) {
@@ -95,7 +109,8 @@ fn over_file<'a, F: Files, L: Link>(
     link: &mut L,
 ) -> Outcome<'a>
     requires { IsTrue (L.input link.old).waits }
-    ensures { Runs (Some (asked_seen asked.entry)) (F.next_load files.old) (F.counts files.old) (F.counts files.new) (F.sizes files.old) (F.sizes files.new)
+    ensures { Runs (Some (asked_seen asked.entry)) (F.next_load files.old)
+        (F.counts files.old) (F.counts files.new) (F.sizes files.old) (F.sizes files.new)
         (L.input link.old) (L.input link.new) (L.output link.old) (L.output link.new) result }
 {
     let name = asked.file();
@@ -196,7 +211,8 @@ fn over_plan<'a, L: Link>(
 
 // Prints the numbers of contexts and extensions.
 fn check<'a, L: Link>(alloc: Global, contexts: &[ContextDef<Txt>], link: &mut L) -> Outcome<'a>
-    ensures does { CarriesOutAs (spec.told_text (documents.check_text contexts.now)) (L.input link.new) (L.output link.old) (L.output link.new) result }
+    ensures does { CarriesOutAs (spec.told_text (documents.check_text contexts.now))
+        (L.input link.new) (L.output link.old) (L.output link.new) result }
     ensures input { L.input link.new ≡ L.input link.old }
 {
     match check_text(alloc, contexts) {
@@ -214,7 +230,8 @@ fn hunt<'a, L: Link>(
     dest: &Txt,
     link: &mut L,
 ) -> Outcome<'a>
-    ensures does { CarriesOutAs (spec.told_text (documents.hunt_text plan.now globals.now context.now dest.now)) (L.input link.new) (L.output link.old) (L.output link.new) result }
+    ensures does { CarriesOutAs (spec.told_text (documents.hunt_text plan.now globals.now context.now dest.now))
+        (L.input link.new) (L.output link.old) (L.output link.new) result }
     ensures input { L.input link.new ≡ L.input link.old }
 {
     match hunt_text(alloc, plan, globals, context, dest) {

@@ -10,7 +10,8 @@ use Rattle.fs_conn.proofs.conversation.converse.Given as goal
 abbrev pub invariant-loop-blocks : goal.invariant-loop-blocks
 invariant-loop-blocks g l = record {
   waits : IsTrue (g.L.Port.input l.link).waits;
-  stands : Stands l.fn.machine.config (g.L.Port.input l.fn.link) (g.L.Port.output l.fn.link) (g.L.Port.input l.link) (g.L.Port.output l.link) l.blocks (play_of l.machine l.clock);
+  stands : Stands l.fn.machine.config (g.L.Port.input l.fn.link) (g.L.Port.output l.fn.link) (g.L.Port.input l.link)
+      (g.L.Port.output l.link) l.unsent l.blocks (play_of l.machine l.clock);
   here : IsHere 1 (state_of l.machine);
   free : owes (state_of l.machine) 1 ≡ false;
 }

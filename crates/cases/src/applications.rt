@@ -4,21 +4,20 @@ use crate::answer::Answer;
 use crate::words::{bytes_of, cut};
 use fs_app::Application;
 use fs_chan::Target3;
-use fs_text::{Memory, decimal};
+use fs_text::Memory;
 use std::alloc::Global;
 
 /// Answers `app NAME ARGUMENT` with the application and its parts.
 pub(crate) fn tell_app(alloc: Global, rest: &str, answer: &mut Answer) -> Result<(), Memory> {
     let (name, argument) = cut(rest);
-    let application = Application::of(alloc, &bytes_of(alloc, name)?, &bytes_of(alloc, argument)?)?;
-    tell_application(alloc, &application, answer)
+    let name = bytes_of(alloc, name)?;
+    let argument = bytes_of(alloc, argument)?;
+    let application = Application::of(alloc, &name, &argument)?;
+    tell_application(alloc, &application, answer);
+    Ok(())
 }
 
-fn tell_application(
-    alloc: Global,
-    application: &Application,
-    answer: &mut Answer,
-) -> Result<(), Memory> {
+fn tell_application(alloc: Global, application: &Application, answer: &mut Answer) {
     match application {
         Application::Answer => answer.named("Answer", &[]),
         Application::Set { name, value } => answer.named("Set", &[name, value]),
@@ -27,7 +26,7 @@ fn tell_application(
         Application::SetGlobal { name, value } => answer.named("SetGlobal", &[name, value]),
         Application::Eval => answer.named("Eval", &[]),
         Application::Sleep { milliseconds } => {
-            answer.named("Sleep", &[&decimal(alloc, *milliseconds)?])
+            answer.told(format!(in alloc; "Sleep [{milliseconds}]"));
         }
         Application::Hangup { cause } => answer.line(&[b"Hangup ", cause.name().as_bytes()]),
         Application::Park => answer.named("Park", &[]),
@@ -37,13 +36,12 @@ fn tell_application(
 }
 
 // Adds the extension, and the dialplan and the context where they are named.
-fn tell_target(to: &Target3, answer: &mut Answer) -> Result<(), Memory> {
-    answer.named("Transfer", &[&to.exten])?;
+fn tell_target(to: &Target3, answer: &mut Answer) {
+    answer.named("Transfer", &[&to.exten]);
     if let Some(dialplan) = &to.dialplan {
-        answer.named("dialplan", &[dialplan])?;
+        answer.named("dialplan", &[dialplan]);
     }
     if let Some(context) = &to.context {
-        answer.named("context", &[context])?;
+        answer.named("context", &[context]);
     }
-    Ok(())
 }

@@ -11,14 +11,17 @@ pub(crate) fn tell_channel(alloc: Global, which: &str, answer: &mut Answer) -> R
     match which {
         "answered" => tell_headers(alloc, &answered(alloc)?, answer),
         "hung-up" => tell_headers(alloc, &hung_up(alloc)?, answer),
-        _ => answer.line(&[b"no channel"]),
+        _ => {
+            answer.line(&[b"no channel"]);
+            Ok(())
+        }
     }
 }
 
 fn tell_headers(alloc: Global, chan: &Chan, answer: &mut Answer) -> Result<(), Memory> {
     let headers = chan.headers(alloc)?;
     for (name, value) in headers.pairs() {
-        answer.line(&[name.as_bytes(), b": ", value.as_bytes()])?;
+        answer.line(&[name.as_bytes(), b": ", value.as_bytes()]);
     }
     Ok(())
 }

@@ -3,19 +3,19 @@
 use crate::answer::Answer;
 use crate::words::bytes_of;
 use fs_api::{Api, Winner};
-use fs_text::{Memory, decimal};
+use fs_text::Memory;
 use std::alloc::Global;
 
 /// Answers `api TEXT` with the command and its parts.
 pub(crate) fn tell_api(alloc: Global, text: &str, answer: &mut Answer) -> Result<(), Memory> {
-    let api = Api::of(alloc, &bytes_of(alloc, text)?)?;
-    tell_command(alloc, &api, answer)
+    let text = bytes_of(alloc, text)?;
+    tell_command(alloc, &Api::of(alloc, &text)?, answer)
 }
 
 /// Answers `expanded TEXT`, where `expand` gave the text, in the same way.
 pub(crate) fn tell_expanded(alloc: Global, text: &str, answer: &mut Answer) -> Result<(), Memory> {
-    let api = Api::of_expanded(alloc, &bytes_of(alloc, text)?)?;
-    tell_command(alloc, &api, answer)
+    let text = bytes_of(alloc, text)?;
+    tell_command(alloc, &Api::of_expanded(alloc, &text)?, answer)
 }
 
 fn tell_command(alloc: Global, api: &Api, answer: &mut Answer) -> Result<(), Memory> {
@@ -26,12 +26,12 @@ fn tell_command(alloc: Global, api: &Api, answer: &mut Answer) -> Result<(), Mem
         Api::GlobalGetvar { name: Some(name) } => answer.named("GlobalGetvar", &[name]),
         Api::GlobalSetvar { name, value } => answer.named("GlobalSetvar", &[name, value]),
         Api::Msleep { milliseconds } => {
-            answer.named("Msleep", &[&decimal(alloc, *milliseconds)?])
+            answer.told(format!(in alloc; "Msleep [{milliseconds}]"));
         }
         Api::UuidExists { uuid } => answer.named("UuidExists", &[uuid]),
         Api::UuidKill { uuid, cause } => {
-            answer.named("UuidKill", &[uuid])?;
-            answer.line(&[b"cause ", cause.name().as_bytes()])
+            answer.named("UuidKill", &[uuid]);
+            answer.line(&[b"cause ", cause.name().as_bytes()]);
         }
         Api::UuidGetvar { uuid, name } => answer.named("UuidGetvar", &[uuid, name]),
         Api::Originate {
@@ -41,20 +41,20 @@ fn tell_command(alloc: Global, api: &Api, answer: &mut Answer) -> Result<(), Mem
             cid_number,
             timeout,
         } => {
-            answer.named("Originate", &[url, cid_name, cid_number])?;
-            tell_timeout(alloc, *timeout, answer)?;
-            tell_winner(&winner.copy()?, answer)
+            answer.named("Originate", &[url, cid_name, cid_number]);
+            tell_timeout(alloc, *timeout, answer);
+            return tell_winner(winner, answer);
         }
-        Api::Usage(which) => answer.line(&[format!(in alloc; "Usage {which:?}")?.as_bytes()]),
+        Api::Usage(which) => answer.told(format!(in alloc; "Usage {which:?}")),
         Api::Unknown(name) => answer.named("Unknown", &[name]),
     }
+    Ok(())
 }
 
 // Adds the seconds that the legs have, where they are told.
-fn tell_timeout(alloc: Global, timeout: Option<u64>, answer: &mut Answer) -> Result<(), Memory> {
-    match timeout {
-        Some(seconds) => answer.named("timeout", &[&decimal(alloc, seconds)?]),
-        None => Ok(()),
+fn tell_timeout(alloc: Global, timeout: Option<u64>, answer: &mut Answer) {
+    if let Some(seconds) = timeout {
+        answer.told(format!(in alloc; "timeout [{seconds}]"));
     }
 }
 
@@ -67,7 +67,8 @@ fn tell_winner(winner: &Winner, answer: &mut Answer) -> Result<(), Memory> {
         } => answer.named("App", &[application, argument]),
         Winner::Route(route) => {
             let (exten, dialplan, context) = route.copy()?.into_texts();
-            answer.named("Route", &[&exten, &dialplan, &context])
+            answer.named("Route", &[&exten, &dialplan, &context]);
         }
     }
+    Ok(())
 }

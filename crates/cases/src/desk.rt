@@ -14,7 +14,7 @@ use crate::links::{tell_reads, tell_sends, tell_writes};
 use crate::long::longer;
 use crate::names::tell_text;
 use crate::plays::tell_play;
-use crate::runs::{tell_length, tell_run};
+use crate::runs::tell_run;
 use crate::table::Table;
 use crate::variables::Variables;
 use crate::words::cut;
@@ -62,65 +62,73 @@ impl<D: Files + Drop> Desk<D> {
 
     /// The line, and what is answered to it. A line that is empty or begins with `#` is no case.
     pub(crate) fn answered(&mut self, line: &str) -> Result<Answer, Memory> {
-        let mut answer = Answer::new(self.alloc);
-        answer.echo(line)?;
         let long = longer(self.alloc, line)?;
         let (verb, rest) = cut(long.as_deref().unwrap_or(line));
-        let is_taken = verb == "" || verb.starts_with('#') || self.table.takes(verb, rest)?;
-        if !is_taken && !self.tells(verb, rest, &mut answer)? {
-            answer.line(&[b"no case"])?;
-        }
+        let mut answer = Answer::new(self.alloc);
+        answer.echo(line);
+        let told = self.tells(verb, rest, &mut answer);
+        answer.note(told);
         Ok(answer)
     }
 
-    // Answers a case, if it is one. Behind one that finds what is laid out the table is cleared.
-    fn tells(&mut self, verb: &str, rest: &str, answer: &mut Answer) -> Result<bool, Memory> {
-        match verb {
-            "run" => tell_run(self.alloc, &self.table, rest, answer)?,
-            "measure" => tell_length(self.alloc, &self.table, rest, answer)?,
-            "play" => tell_play(self.alloc, &self.table, false, answer)?,
-            "count" => tell_play(self.alloc, &self.table, true, answer)?,
-            "contexts" => self.hunts.build(&self.table, rest, answer)?,
-            "reads" => tell_reads(self.alloc, &self.table, rest, answer)?,
-            "writes" => tell_writes(self.alloc, &self.table, rest, answer)?,
-            "sends" => tell_sends(self.alloc, &self.table, rest, answer)?,
+    // Answers a case, if it is one that finds what is laid out. Behind it the table is cleared.
+    fn tells(&mut self, verb: &str, rest: &str, answer: &mut Answer) -> Result<(), Memory> {
+        let told = match verb {
+            "run" => tell_run(self.alloc, &self.table, rest, false, answer),
+            "measure" => tell_run(self.alloc, &self.table, rest, true, answer),
+            "play" => tell_play(self.alloc, &self.table, false, answer),
+            "count" => tell_play(self.alloc, &self.table, true, answer),
+            "contexts" => self.hunts.build(&self.table, rest, answer),
+            "reads" => tell_reads(self.alloc, &self.table, rest, answer),
+            "writes" => tell_writes(self.alloc, &self.table, rest, answer),
+            "sends" => tell_sends(self.alloc, &self.table, rest, answer),
             _ => return self.tells_parts(verb, rest, answer),
-        }
+        };
         self.table.clear();
-        Ok(true)
+        told
     }
 
     // Answers a case of a part of the switch, if it is one.
-    fn tells_parts(&mut self, verb: &str, rest: &str, answer: &mut Answer) -> Result<bool, Memory> {
+    fn tells_parts(&mut self, verb: &str, rest: &str, answer: &mut Answer) -> Result<(), Memory> {
         let alloc = self.alloc;
         match verb {
-            "api" => tell_api(alloc, rest, answer)?,
-            "expanded" => tell_expanded(alloc, rest, answer)?,
-            "app" => tell_app(alloc, rest, answer)?,
-            "channel" => tell_channel(alloc, rest, answer)?,
-            "endpoint" => tell_endpoint(alloc, rest, answer)?,
-            "one-leg" => tell_one_leg(alloc, rest, answer)?,
-            "dial" => tell_dial(alloc, rest, answer)?,
-            "hunt" => self.hunts.tell_hunt(rest, answer)?,
-            "load" => tell_load(alloc, &mut self.disk, rest, answer)?,
-            "build" => tell_build(&mut self.disk, rest, answer)?,
-            _ => return self.tells_low(verb, rest, answer),
+            "api" => tell_api(alloc, rest, answer),
+            "expanded" => tell_expanded(alloc, rest, answer),
+            "app" => tell_app(alloc, rest, answer),
+            "channel" => tell_channel(alloc, rest, answer),
+            "endpoint" => tell_endpoint(alloc, rest, answer),
+            "one-leg" => tell_one_leg(alloc, rest, answer),
+            "dial" => tell_dial(alloc, rest, answer),
+            "hunt" => self.hunts.tell_hunt(rest, answer),
+            "load" => tell_load(alloc, &mut self.disk, rest, answer),
+            "build" => tell_build(&mut self.disk, rest, answer),
+            _ => self.tells_low(verb, rest, answer),
         }
-        Ok(true)
     }
 
     // Answers a case of the lower parts, if it is one.
-    fn tells_low(&mut self, verb: &str, rest: &str, answer: &mut Answer) -> Result<bool, Memory> {
+    fn tells_low(&mut self, verb: &str, rest: &str, answer: &mut Answer) -> Result<(), Memory> {
         match verb {
-            "vars" => self.variables.tell(rest, answer)?,
-            "document" => self.tell_document(rest, answer)?,
-            "config" => tell_config(self.alloc, self.table.file(), rest, answer)?,
-            "attributes" => self.add_attributes(rest)?,
-            "text" => tell_text(self.alloc, rest, answer)?,
-            "frames" => self.frames.tell(rest, answer)?,
-            _ => return self.legs.tells(verb, rest, answer),
+            "" => Ok(()),
+            "vars" => self.variables.tell(rest, answer),
+            "document" => self.tell_document(rest, answer),
+            "config" => tell_config(self.alloc, self.table.file(), rest, answer),
+            "attributes" => self.add_attributes(rest),
+            "text" => tell_text(self.alloc, rest, answer),
+            "frames" => self.frames.tell(rest, answer),
+            _ => self.tells_rest(verb, rest, answer),
         }
-        Ok(true)
+    }
+
+    // Lays out what a line lays out, if it does, and answers a case of legs, if it is one.
+    fn tells_rest(&mut self, verb: &str, rest: &str, answer: &mut Answer) -> Result<(), Memory> {
+        let is_known = verb.starts_with('#')
+            || self.table.takes(verb, rest)?
+            || self.legs.tells(verb, rest, answer)?;
+        if !is_known {
+            answer.line(&[b"no case"]);
+        }
+        Ok(())
     }
 
     // Lays a document out, and says whether it is read.

@@ -12,7 +12,10 @@ pub(crate) fn tell_dial(alloc: Global, text: &str, answer: &mut Answer) -> Resul
     let bytes = bytes_of(alloc, text)?;
     match parse(alloc, &bytes) {
         Ok(dial) => tell_groups(alloc, &dial, answer),
-        Err(fault) => answer.line(&[format!(in alloc; "{fault}")?.as_bytes()]),
+        Err(fault) => {
+            answer.told(format!(in alloc; "{fault}"));
+            Ok(())
+        }
     }
 }
 
@@ -21,7 +24,7 @@ fn tell_groups(alloc: Global, dial: &DialString<'_>, answer: &mut Answer) -> Res
     let mut is_first = true;
     for group in dial.groups.as_slice() {
         if !is_first {
-            answer.line(&[b"or"])?;
+            answer.line(&[b"or"]);
         }
         is_first = false;
         tell_legs(alloc, group.as_slice(), answer)?;
@@ -33,7 +36,7 @@ fn tell_legs(alloc: Global, legs: &[Leg<'_>], answer: &mut Answer) -> Result<(),
     for leg in legs {
         let at = leg.at;
         let endpoint = Txt::of(alloc, leg.endpoint)?;
-        answer.named(&format!(in alloc; "leg {at}")?, &[&endpoint])?;
+        answer.named(&format!(in alloc; "leg {at}")?, &[&endpoint]);
         tell_pairs(alloc, &leg.pairs, answer)?;
     }
     Ok(())
@@ -51,5 +54,6 @@ fn tell_pair(alloc: Global, pair: &RawPair<'_>, answer: &mut Answer) -> Result<(
     let name = Txt::of(alloc, pair.name)?;
     let value = Txt::of(alloc, pair.value)?;
     let plain = pair.plain(alloc)?;
-    answer.named(&format!(in alloc; "pair {at}")?, &[&name, &value, &plain])
+    answer.named(&format!(in alloc; "pair {at}")?, &[&name, &value, &plain]);
+    Ok(())
 }

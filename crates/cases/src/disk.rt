@@ -13,11 +13,13 @@ pub(crate) fn tell_load<D: Files>(
     name: &str,
     answer: &mut Answer,
 ) -> Result<(), Memory> {
-    match &disk.load(&text_of(alloc, name)?)? {
+    let name = text_of(alloc, name)?;
+    match &disk.load(&name)? {
         Load::Got(bytes) => answer.lines(bytes.as_bytes()),
         Load::Absent => answer.line(&[b"absent"]),
         Load::Failed => answer.line(&[b"failed"]),
     }
+    Ok(())
 }
 
 /// Answers `build TEXT` with whether a text is built as a pattern.
@@ -26,11 +28,11 @@ pub(crate) fn tell_build<D: Files>(
     text: &str,
     answer: &mut Answer,
 ) -> Result<(), Memory> {
-    let told = match &disk.build(text) {
-        Built::Regex(_) => "regex",
-        Built::NoReading => "no reading",
-        Built::TooLarge => "too large",
+    match &disk.build(text) {
+        Built::Regex(_) => answer.line(&[b"regex"]),
+        Built::NoReading => answer.line(&[b"no reading"]),
+        Built::TooLarge => answer.line(&[b"too large"]),
         Built::Memory => return Err(Memory),
-    };
-    answer.line(&[told.as_bytes()])
+    }
+    Ok(())
 }

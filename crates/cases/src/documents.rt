@@ -21,8 +21,8 @@ pub(crate) fn tell_config(
     match read_config(alloc, document) {
         Ok(config) => tell_part(alloc, &config, what, answer),
         Err(fault) => {
-            let told = fault.to_string(alloc)?;
-            answer.line(&[told.as_bytes()])
+            answer.told(fault.to_string(alloc));
+            Ok(())
         }
     }
 }
@@ -34,102 +34,82 @@ fn tell_part(
     answer: &mut Answer,
 ) -> Result<(), Memory> {
     match what {
-        "settings" => tell_settings(alloc, config.settings(), answer),
-        "globals" => tell_vars(alloc, config.globals(), answer),
+        "settings" => return tell_settings(alloc, config.settings(), answer),
+        "globals" => tell_vars(config.globals(), answer),
         "dialplan" => tell_contexts(alloc, config.contexts(), answer),
         _ => answer.line(&[b"OK"]),
     }
+    Ok(())
 }
 
 fn tell_settings(alloc: Global, settings: &Settings, answer: &mut Answer) -> Result<(), Memory> {
     let core = settings.core_uuid.uuid(alloc, 0)?;
-    answer.line(&[b"core-uuid ", core.as_bytes()])?;
-    answer.line(&[b"listen-ip ", settings.listen_ip.as_bytes()])?;
-    answer.line(&[b"password ", settings.password.as_bytes()])?;
-    let told = format!(in alloc;
+    answer.line(&[b"core-uuid ", core.as_bytes()]);
+    answer.line(&[b"listen-ip ", settings.listen_ip.as_bytes()]);
+    answer.line(&[b"password ", settings.password.as_bytes()]);
+    answer.told(format!(in alloc;
         "max-sessions {}, journal-limit {}, listen-port {}, max-connections {}",
         settings.max_sessions,
         settings.journal_limit,
         settings.listen_port,
         settings.max_connections
-    )?;
-    answer.line(&[told.as_bytes()])
-}
-
-fn tell_contexts(
-    alloc: Global,
-    contexts: &[ContextDef<Txt>],
-    answer: &mut Answer,
-) -> Result<(), Memory> {
-    for context in contexts {
-        answer.line(&[b"context ", context.name.as_bytes()])?;
-        tell_extensions(alloc, context.extensions.as_slice(), answer)?;
-    }
+    ));
     Ok(())
 }
 
-fn tell_extensions(
-    alloc: Global,
-    extensions: &[ExtensionDef<Txt>],
-    answer: &mut Answer,
-) -> Result<(), Memory> {
+fn tell_contexts(alloc: Global, contexts: &[ContextDef<Txt>], answer: &mut Answer) {
+    for context in contexts {
+        answer.line(&[b"context ", context.name.as_bytes()]);
+        tell_extensions(alloc, context.extensions.as_slice(), answer);
+    }
+}
+
+fn tell_extensions(alloc: Global, extensions: &[ExtensionDef<Txt>], answer: &mut Answer) {
     for extension in extensions {
         let way: &[u8] = if extension.goes_on { b", goes on" } else { b"" };
-        answer.line(&[b"extension ", extension.name.as_bytes(), way])?;
-        tell_conditions(alloc, extension.conditions.as_slice(), answer)?;
+        answer.line(&[b"extension ", extension.name.as_bytes(), way]);
+        tell_conditions(alloc, extension.conditions.as_slice(), answer);
     }
-    Ok(())
 }
 
-fn tell_conditions(
-    alloc: Global,
-    conditions: &[ConditionDef<Txt>],
-    answer: &mut Answer,
-) -> Result<(), Memory> {
+fn tell_conditions(alloc: Global, conditions: &[ConditionDef<Txt>], answer: &mut Answer) {
     for condition in conditions {
-        tell_test(alloc, &condition.test, condition.stop, answer)?;
-        tell_actions(b"action ", condition.actions.as_slice(), answer)?;
-        tell_actions(b"anti-action ", condition.anti.as_slice(), answer)?;
+        tell_test(alloc, &condition.test, condition.stop, answer);
+        tell_actions(b"action ", condition.actions.as_slice(), answer);
+        tell_actions(b"anti-action ", condition.anti.as_slice(), answer);
     }
-    Ok(())
 }
 
-fn tell_test(
-    alloc: Global,
-    test: &Test<Txt>,
-    stop: Break,
-    answer: &mut Answer,
-) -> Result<(), Memory> {
-    let told = match test {
-        Test::Always => format!(in alloc; "condition Always, {stop:?}")?,
-        Test::Plain { .. } => format!(in alloc; "condition Plain, {stop:?}")?,
-        Test::Many { kind, .. } => format!(in alloc; "condition {kind:?}, {stop:?}")?,
-    };
-    answer.line(&[told.as_bytes()])?;
+fn tell_test(alloc: Global, test: &Test<Txt>, stop: Break, answer: &mut Answer) {
     match test {
-        Test::Always => Ok(()),
-        Test::Plain { field, expression } => tell_pattern(field, expression, answer),
-        Test::Many { children, .. } => tell_children(children.as_slice(), answer),
+        Test::Always => answer.told(format!(in alloc; "condition Always, {stop:?}")),
+        Test::Plain { field, expression } => {
+            answer.told(format!(in alloc; "condition Plain, {stop:?}"));
+            tell_pattern(field, expression, answer);
+        }
+        Test::Many { kind, children } => {
+            answer.told(format!(in alloc; "condition {kind:?}, {stop:?}"));
+            tell_children(children.as_slice(), answer);
+        }
     }
 }
 
-fn tell_children(children: &[Child<Txt>], answer: &mut Answer) -> Result<(), Memory> {
+fn tell_children(children: &[Child<Txt>], answer: &mut Answer) {
     for child in children {
-        tell_pattern(&child.field, &child.expression, answer)?;
+        tell_pattern(&child.field, &child.expression, answer);
     }
-    Ok(())
 }
 
-fn tell_pattern(field: &Txt, expression: &Txt, answer: &mut Answer) -> Result<(), Memory> {
+fn tell_pattern(field: &Txt, expression: &Txt, answer: &mut Answer) {
     answer.line(&[
         b"field ",
         field.as_bytes(),
         b", expression ",
         expression.as_bytes(),
-    ])
+    ]);
 }
 
-fn tell_actions(kind: &[u8], actions: &[PlanAction], answer: &mut Answer) -> Result<(), Memory> {
+fn tell_actions(kind: &[u8], actions: &[PlanAction], answer: &mut Answer) {
     for action in actions {
         let way: &[u8] = if action.inline { b", inline" } else { b"" };
         answer.line(&[
@@ -138,17 +118,15 @@ fn tell_actions(kind: &[u8], actions: &[PlanAction], answer: &mut Answer) -> Res
             b" ",
             action.argument.as_bytes(),
             way,
-        ])?;
+        ]);
     }
-    Ok(())
 }
 
 /// So many attributes of different names: `a0`, `a1` and on.
 pub(crate) fn attributes(alloc: Global, count: &str) -> Result<String, Memory> {
     let mut text = String::new(alloc);
     for n in 0..number_of(count) {
-        let attribute = format!(in alloc; " a{n}=''")?;
-        text.push_str(&attribute)?;
+        write!(text, " a{n}=''")?;
     }
     Ok(text)
 }

@@ -1,8 +1,7 @@
 //! Blocks of commands out of pieces of a stream.
 
 use crate::answer::Answer;
-use crate::variables::repeated;
-use crate::words::{bytes_of, cut, number_of};
+use crate::words::{bytes_of, counted, cut, length_of};
 use fs_frame::{Blocks, Next};
 use fs_text::Memory;
 use std::alloc::Global;
@@ -34,63 +33,51 @@ impl Frames {
             "cut" => tell_cut(self.alloc, rest, answer)?,
             "new" => self.blocks = Blocks::new(self.alloc)?,
             "feed" => self.blocks.feed(&bytes_of(self.alloc, rest)?)?,
-            "feeds" => self.feed_often(rest)?,
-            "next" => tell_next(self.alloc, self.blocks.next_block(), answer)?,
-            "length" => tell_length(self.alloc, self.blocks.next_block(), answer)?,
-            _ => answer.line(&[b"no case"])?,
+            "feeds" => self.blocks.feed(&counted(self.alloc, rest)?)?,
+            "next" => tell_next(self.alloc, self.blocks.next_block(), answer),
+            "length" => tell_length(self.alloc, self.blocks.next_block(), answer),
+            _ => answer.line(&[b"no case"]),
         }
         Ok(())
-    }
-
-    fn feed_often(&mut self, rest: &str) -> Result<(), Memory> {
-        let (count, text) = cut(rest);
-        let piece = repeated(self.alloc, text, number_of(count))?;
-        self.blocks.feed(&piece)
     }
 }
 
 fn tell_cut(alloc: Global, rest: &str, answer: &mut Answer) -> Result<(), Memory> {
     let (size, text) = cut(rest);
     let input = bytes_of(alloc, text)?;
-    let size = usize::try_from(number_of(size)).unwrap_or(1);
     let mut blocks = Blocks::new(alloc)?;
-    let mut told = Vec::new(alloc);
-    for piece in input.chunks(size.max(1)) {
+    answer.begin();
+    for piece in input.chunks(length_of(size).max(1)) {
         blocks.feed(piece)?;
-        add_lines(&mut blocks, piece.len(), &mut told)?;
+        add_lines(&mut blocks, piece.len(), answer);
     }
-    let next = format!(in alloc; "{:?}", blocks.next_block())?;
-    answer.line(&[&told, next.as_bytes()])
-}
-
-// Adds the lines of the blocks that so many questions hand out.
-fn add_lines(blocks: &mut Blocks, most: usize, told: &mut Vec<u8>) -> Result<(), Memory> {
-    for _ in 0..most {
-        if let Next::Block(block) = blocks.next_block() {
-            told.extend_from_slice(block.line())?;
-            told.push(b'|')?;
-        }
-    }
+    answer.add(&[format!(in alloc; "{:?}", blocks.next_block())?.as_bytes()]);
+    answer.end();
     Ok(())
 }
 
-fn tell_next(alloc: Global, next: Next<'_>, answer: &mut Answer) -> Result<(), Memory> {
-    let told = format!(in alloc; "{next:?}")?;
-    answer.line(&[told.as_bytes()])?;
-    match next {
-        Next::Block(block) => answer.line(&[block.bytes()]),
-        Next::NeedMore | Next::TooLong { .. } => Ok(()),
+// Adds the lines of the blocks that so many questions hand out.
+fn add_lines(blocks: &mut Blocks, most: usize, answer: &mut Answer) {
+    for _ in 0..most {
+        if let Next::Block(block) = blocks.next_block() {
+            answer.add(&[block.line()]);
+            answer.add(&[b"|"]);
+        }
     }
 }
 
-fn tell_length(alloc: Global, next: Next<'_>, answer: &mut Answer) -> Result<(), Memory> {
+fn tell_next(alloc: Global, next: Next<'_>, answer: &mut Answer) {
+    answer.told(format!(in alloc; "{next:?}"));
+    if let Next::Block(block) = next {
+        answer.line(&[block.bytes()]);
+    }
+}
+
+fn tell_length(alloc: Global, next: Next<'_>, answer: &mut Answer) {
     let Next::Block(block) = next else {
         return answer.line(&[b"no block"]);
     };
-    let told = format!(in alloc;
-        "a line of {} bytes in a block of {}",
-        block.line().len(),
-        block.bytes().len()
-    )?;
-    answer.line(&[told.as_bytes()])
+    let line = block.line().len();
+    let whole = block.bytes().len();
+    answer.told(format!(in alloc; "a line of {line} bytes in a block of {whole}"));
 }

@@ -51,12 +51,14 @@ impl Hunts {
         answer: &mut Answer,
     ) -> Result<(), Memory> {
         self.plan = None;
-        let Ok(config) = read_config(self.alloc, &document(self.alloc, contexts)?) else {
-            return answer.line(&[b"no document"]);
-        };
-        match Dialplan::build(self.alloc, &config, &mut table.files()?) {
-            Ok(plan) => self.plan = Some(plan),
-            Err(fault) => answer.line(&[format!(in self.alloc; "{fault}")?.as_bytes()])?,
+        let mut files = table.files()?;
+        let document = document(self.alloc, contexts)?;
+        match read_config(self.alloc, &document) {
+            Ok(config) => match Dialplan::build(self.alloc, &config, &mut files) {
+                Ok(plan) => self.plan = Some(plan),
+                Err(fault) => answer.told(format!(in self.alloc; "{fault}")),
+            },
+            Err(_) => answer.line(&[b"no document"]),
         }
         Ok(())
     }
@@ -64,16 +66,17 @@ impl Hunts {
     /// Answers `hunt CONTEXT NUMBER` with the actions that a call for this number gets from a context.
     pub(crate) fn tell_hunt(&self, rest: &str, answer: &mut Answer) -> Result<(), Memory> {
         let Some(plan) = &self.plan else {
-            return answer.line(&[b"no dialplan"]);
+            answer.line(&[b"no dialplan"]);
+            return Ok(());
         };
-        let (context, number) = cut(rest);
-        match hunt(self.alloc, plan, &bytes_of(self.alloc, context)?, number) {
+        match hunt(self.alloc, plan, rest) {
             Ok(hunt) => tell_actions(&hunt, answer),
             Err(Refused::TooLong { len }) => {
-                answer.line(&[format!(in self.alloc; "too long {len}")?.as_bytes()])
+                answer.told(format!(in self.alloc; "too long {len}"));
             }
-            Err(Refused::Memory) => Err(Memory),
+            Err(Refused::Memory) => return Err(Memory),
         }
+        Ok(())
     }
 }
 
@@ -90,26 +93,29 @@ fn document(alloc: Global, contexts: &str) -> Result<Vec<u8>, Memory> {
     Ok(text)
 }
 
-// What a call for this number gets from a context.
-fn hunt(alloc: Global, plan: &Dialplan, context: &[u8], number: &str) -> Result<Hunt, Refused> {
+// What a call gets, whose context and number these are.
+fn hunt(alloc: Global, plan: &Dialplan, rest: &str) -> Result<Hunt, Refused> {
+    let (context, number) = cut(rest);
+    let context = bytes_of(alloc, context)?;
+    let vars = Vars::new(alloc, Bounds::Channel)?;
+    let globals = Vars::new(alloc, Bounds::Globals)?;
     let mut profile = Profile::empty(alloc)?;
     profile.destination_number = text_of(alloc, number)?;
     let scope = Scope {
-        vars: &Vars::new(alloc, Bounds::Channel)?,
+        vars: &vars,
         profile: &profile,
-        globals: &Vars::new(alloc, Bounds::Globals)?,
+        globals: &globals,
     };
-    plan.hunt(alloc, &scope, context, &mut NoGate)
+    plan.hunt(alloc, &scope, &context, &mut NoGate)
 }
 
 // Adds each action with its argument, or says that there is none.
-fn tell_actions(hunt: &Hunt, answer: &mut Answer) -> Result<(), Memory> {
+fn tell_actions(hunt: &Hunt, answer: &mut Answer) {
     if hunt.actions.is_empty() {
-        return answer.line(&[b"no actions"]);
+        answer.line(&[b"no actions"]);
     }
     for action in hunt.actions.iter() {
         let argument = action.argument.as_bytes();
-        answer.line(&[action.application.as_bytes(), b" [", argument, b"]"])?;
+        answer.line(&[action.application.as_bytes(), b" [", argument, b"]"]);
     }
-    Ok(())
 }

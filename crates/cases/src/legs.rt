@@ -34,86 +34,86 @@ impl Legs {
 
     /// Answers what is asked of an origination, if that is asked.
     ///
-    /// `legs GROUPS LEG LEG ..` lays out one with the deadline 60, whose legs have the slots, deadlines, places and causes of words as
-    /// `slot=1,until=10,answered=5,died=6,of=USER_BUSY`. `judge MOMENT` asks for the verdict, `answered POSITION PLACE` and
-    /// `died POSITION PLACE CAUSE` change a leg, `in-slot SLOT` looks for one, and `next PLACE CAUSE` goes on to the next group, whose
-    /// leg died as it was made.
+    /// `legs GROUPS LEG LEG ..` lays out one with the deadline 60, whose legs have the slots, deadlines, places and
+    /// causes of words as `slot=1,until=10,answered=5,died=6,of=USER_BUSY`. `judge MOMENT` asks for the verdict,
+    /// `answered POSITION PLACE` and `died POSITION PLACE CAUSE` change a leg, `in-slot SLOT` looks for one, and `next
+    /// PLACE CAUSE` goes on to the next group, whose leg died as it was made.
     pub(crate) fn tells(
         &mut self,
         verb: &str,
         rest: &str,
         answer: &mut Answer,
     ) -> Result<bool, Memory> {
-        let told = match verb {
-            "legs" => return self.lays_out(rest),
-            "judge" => self.judged(number_of(rest))?,
-            "answered" => self.answered(rest)?,
-            "died" => self.died(rest)?,
-            "in-slot" => self.in_slot(rest)?,
-            "next" => self.next(rest)?,
+        match verb {
+            "legs" => self.lay_out(rest)?,
+            "judge" => self.tell_verdict(number_of(rest), answer),
+            "answered" => self.tell_answered(rest, answer),
+            "died" => self.tell_died(rest, answer),
+            "in-slot" => self.tell_position(slot_of(rest), answer),
+            "next" => self.tell_next(rest, answer)?,
             _ => return Ok(false),
-        };
-        answer.line(&[told.as_bytes()])?;
+        }
         Ok(true)
     }
 
-    fn lays_out(&mut self, rest: &str) -> Result<bool, Memory> {
+    fn lay_out(&mut self, rest: &str) -> Result<(), Memory> {
         let (count, words) = cut(rest);
-        let plans = plans(self.alloc, number_of(count))?;
-        self.orig = orig_of(plans, legs_of(self.alloc, words)?);
-        Ok(true)
+        let legs = legs_of(self.alloc, words)?;
+        self.orig = orig_of(plans(self.alloc, number_of(count))?, legs);
+        Ok(())
     }
 
-    fn judged(&self, now: u64) -> Result<String, Memory> {
+    fn tell_verdict(&self, now: u64, answer: &mut Answer) {
         let verdict = judge(&self.orig, now);
         let due = self.orig.due(now);
-        Ok(format!(in self.alloc; "{verdict:?}, due {due}")?)
+        answer.told(format!(in self.alloc; "{verdict:?}, due {due}"));
     }
 
-    fn answered(&mut self, rest: &str) -> Result<String, Memory> {
+    fn tell_answered(&mut self, rest: &str, answer: &mut Answer) {
         let (position, place) = cut(rest);
         let is_new = self
             .orig
             .leg_answered(position_of(position), number_of(place));
-        Ok(format!(in self.alloc; "{is_new}")?)
+        answer.truth(is_new);
     }
 
-    fn died(&mut self, rest: &str) -> Result<String, Memory> {
+    fn tell_died(&mut self, rest: &str, answer: &mut Answer) {
         let (position, death) = cut(rest);
         let (place, cause) = cut(death);
         let is_new = self
             .orig
             .leg_died(position_of(position), number_of(place), cause_of(cause));
-        Ok(format!(in self.alloc; "{is_new}")?)
+        answer.truth(is_new);
     }
 
-    fn in_slot(&self, rest: &str) -> Result<String, Memory> {
-        let position = self.orig.legs.position_in(slot_of(rest));
-        Ok(format!(in self.alloc; "{position:?}")?)
+    fn tell_position(&self, slot: u16, answer: &mut Answer) {
+        let position = self.orig.legs.position_in(slot);
+        answer.told(format!(in self.alloc; "{position:?}"));
     }
 
-    fn next(&mut self, rest: &str) -> Result<String, Memory> {
+    fn tell_next(&mut self, rest: &str, answer: &mut Answer) -> Result<(), Memory> {
         let (place, cause) = cut(rest);
         let mut legs = OrigLegs::new(self.alloc);
         legs.push(OrigLeg::unmade(self.alloc, number_of(place), cause_of(cause))?)?;
-        let is_next = self.orig.enter_next_group(legs);
-        Ok(format!(in self.alloc; "{is_next}")?)
+        answer.truth(self.orig.enter_next_group(legs));
+        Ok(())
     }
 }
 
 /// Answers `endpoint TEXT` with what the endpoint of a leg comes to.
 pub(crate) fn tell_endpoint(alloc: Global, text: &str, answer: &mut Answer) -> Result<(), Memory> {
-    let endpoint = Endpoint::of(alloc, &bytes_of(alloc, text)?)?;
-    match &endpoint {
+    let text = bytes_of(alloc, text)?;
+    match &Endpoint::of(alloc, &text)? {
         Endpoint::Loopback { exten, context } => answer.named("Loopback", &[exten, context]),
         Endpoint::Dead { cause } => answer.line(&[b"Dead ", cause.name().as_bytes()]),
     }
+    Ok(())
 }
 
 /// Answers `one-leg TEXT` with whether a dial string is one leg without variables.
 pub(crate) fn tell_one_leg(alloc: Global, text: &str, answer: &mut Answer) -> Result<(), Memory> {
-    let is_one = is_one_leg(&bytes_of(alloc, text)?);
-    answer.line(&[format!(in alloc; "{is_one}")?.as_bytes()])
+    answer.truth(is_one_leg(&bytes_of(alloc, text)?));
+    Ok(())
 }
 
 // The origination of a job, of these groups and legs, with the deadline 60.

@@ -4,7 +4,7 @@ use crate::answer::Answer;
 use crate::table::Table;
 use crate::words::{bytes_of, number_of};
 use fs_ports::{Read, Sink, Source, send_all};
-use fs_text::{Memory, Txt};
+use fs_text::Memory;
 use std::alloc::Global;
 
 // How many bytes a link takes.
@@ -21,9 +21,8 @@ pub(crate) fn tell_reads(
     let mut buf = [0; 3];
     for _ in 0..number_of(count) {
         let read = link.read(&mut buf);
-        let got = Txt::of(alloc, front_of(read, &buf))?;
         let told = format!(in alloc; "{read:?}")?;
-        answer.named(&told, &[&got])?;
+        answer.line(&[told.as_bytes(), b" [", front_of(read, &buf), b"]"]);
     }
     Ok(())
 }
@@ -47,14 +46,15 @@ pub(crate) fn tell_writes(
     for text in texts.split_whitespace() {
         let bytes = bytes_of(alloc, text)?;
         if !bytes.is_empty() {
-            let write = link.write(&bytes);
-            answer.line(&[format!(in alloc; "{write:?}")?.as_bytes()])?;
+            answer.told(format!(in alloc; "{:?}", link.write(&bytes)));
         }
     }
-    answer.line(&[b"written ", link.written()])
+    answer.line(&[b"written ", link.written()]);
+    Ok(())
 }
 
-/// Answers `sends TEXT TEXT ..` with whether each text, of which one may be empty, was sent, and with what is written in the end.
+/// Answers `sends TEXT TEXT ..` with whether each text, of which one may be empty, was sent, and with what is written
+/// in the end.
 pub(crate) fn tell_sends(
     alloc: Global,
     table: &Table,
@@ -64,7 +64,8 @@ pub(crate) fn tell_sends(
     let mut link = table.link(ROOM)?;
     for text in texts.split(' ') {
         let sent = send_all(&mut link, &bytes_of(alloc, text)?);
-        answer.line(&[format!(in alloc; "{sent:?}")?.as_bytes()])?;
+        answer.told(format!(in alloc; "{sent:?}"));
     }
-    answer.line(&[b"written ", link.written()])
+    answer.line(&[b"written ", link.written()]);
+    Ok(())
 }

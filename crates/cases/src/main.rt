@@ -1,5 +1,5 @@
-//! Answers the cases of its input, a line each: `api echo hi`, `document <document/>`, `run play f`. It prints each line as it is, and
-//! behind a case its answer, indented.
+//! Answers the cases of its input, a line each: `api echo hi`, `document <document/>`, `run play f`. It prints each
+//! line as it is, and behind a case its answer, indented.
 #![tactic(auto)]
 
 mod answer;
@@ -35,7 +35,8 @@ fn main(rt: HostRuntime) -> io::Result<()> {
         let answer = desk
             .answered(line?.as_str())
             .map_err(|_| ErrorKind::OutOfMemory)?;
-        if send_all(&mut out, answer.as_bytes()) != Sent::All {
+        let bytes = answer.bytes().map_err(|_| ErrorKind::OutOfMemory)?;
+        if send_all(&mut out, bytes) != Sent::All {
             return Err(ErrorKind::WriteZero.into());
         }
     }

@@ -12,36 +12,38 @@ use std::alloc::Global;
 // The most that is written.
 const ROOM: usize = 1_000_000;
 
-/// Answers `play` with the output, and with how it ended, at which moment and with how many commands in the journal, and `count` also
-/// with how many events there were of each name.
+/// Answers `play` with the output, and with how it ended, at which moment and with how many commands in the journal,
+/// and `count` also with how many events there were of each name.
 pub(crate) fn tell_play(
     alloc: Global,
     table: &Table,
     counts: bool,
     answer: &mut Answer,
 ) -> Result<(), Memory> {
+    let mut files = table.files()?;
+    let mut link = table.link(ROOM)?;
     let Ok(config) = read_config(alloc, table.file()) else {
-        return answer.line(&[b"no document"]);
+        answer.line(&[b"no document"]);
+        return Ok(());
     };
-    let Ok(plan) = Dialplan::build(alloc, &config, &mut table.files()?) else {
-        return answer.line(&[b"no dialplan"]);
+    let Ok(plan) = Dialplan::build(alloc, &config, &mut files) else {
+        answer.line(&[b"no dialplan"]);
+        return Ok(());
     };
     let mut machine = Machine::new(alloc, config, plan)?;
-    let mut link = table.link(ROOM)?;
     let end = play(alloc, &mut machine, &mut link);
-    answer.lines(link.written())?;
-    tell_end(alloc, &machine, end, answer)?;
+    answer.lines(link.written());
+    tell_end(alloc, &machine, end, answer);
     if counts {
-        tell_events(alloc, &machine, answer)?;
+        tell_events(alloc, &machine, answer);
     }
     Ok(())
 }
 
-fn tell_end(alloc: Global, machine: &Machine, end: End, answer: &mut Answer) -> Result<(), Memory> {
+fn tell_end(alloc: Global, machine: &Machine, end: End, answer: &mut Answer) {
     let moment = machine.moment();
     let commands = commands_in(machine);
-    let told = format!(in alloc; "{end:?} at {moment}, {commands} commands")?;
-    answer.line(&[told.as_bytes()])
+    answer.told(format!(in alloc; "{end:?} at {moment}, {commands} commands"));
 }
 
 // How many commands stand in a machine's journal.
@@ -54,14 +56,12 @@ fn commands_in(machine: &Machine) -> usize {
 }
 
 // Adds how many events there were of each name that had one.
-fn tell_events(alloc: Global, machine: &Machine, answer: &mut Answer) -> Result<(), Memory> {
+fn tell_events(alloc: Global, machine: &Machine, answer: &mut Answer) {
     let counts = machine.counts();
     for row in EventName::table() {
         let count = counts.events(row.0);
         if count > 0 {
-            let text = format!(in alloc; "{} {count}", row.2)?;
-            answer.line(&[text.as_bytes()])?;
+            answer.told(format!(in alloc; "{} {count}", row.2));
         }
     }
-    Ok(())
 }

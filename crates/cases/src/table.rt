@@ -1,6 +1,6 @@
 //! What the lines in front of a case laid out: a file, what a link gives, and which calls fail.
 
-use crate::words::{bytes_of, cut, number_of, numbers_of};
+use crate::words::{bytes_of, counted, cut, length_of, numbers_of};
 use fs_ports::{MemFiles, MemLink};
 use fs_text::{Memory, Txt};
 use std::alloc::Global;
@@ -12,7 +12,7 @@ pub(crate) struct Table {
     back: Vec<u8>,
     file: Vec<u8>,
     input: Vec<u8>,
-    cuts: Vec<usize>,
+    cuts: Vec<u64>,
     failed_loads: Vec<u64>,
     large_builds: Vec<u64>,
     failed_reads: Vec<u64>,
@@ -54,34 +54,50 @@ impl Table {
 
     /// Takes what a line lays out, if it lays out something.
     ///
-    /// `file TEXT` is the document `f`, to which `more TEXT` and `times COUNT TEXT` add, and `between TEXT` is one that stands
-    /// between a `front TEXT` and a `back TEXT`. `input TEXT`, `inputs COUNT TEXT` and `command TEXT` add to what the link gives,
-    /// the last one with the empty line that ends a command, and `again COUNT PLACE` repeats so often what stands from a place
-    /// on. `cuts`, `failed-loads`, `large-builds`, `failed-reads` and
-    /// `failed-writes` have numbers.
+    /// `file TEXT` is the document `f`, to which `more TEXT` and `times COUNT TEXT` add, and `between TEXT` is one that
+    /// stands between a `front TEXT` and a `back TEXT`. `input TEXT`, `inputs COUNT TEXT` and `command TEXT` add to
+    /// what the link gives, the last one with the empty line that ends a command, and `again COUNT PLACE` repeats so
+    /// often what stands from a place on. `cuts`, `failed-loads`, `large-builds`, `failed-reads` and `failed-writes`
+    /// have numbers.
     pub(crate) fn takes(&mut self, verb: &str, rest: &str) -> Result<bool, Memory> {
-        let alloc = self.alloc;
+        let Some(text) = self.text_of(verb, rest)? else {
+            return self.takes_numbers(verb, rest);
+        };
         match verb {
-            "front" => self.front = bytes_of(alloc, rest)?,
-            "back" => self.back = bytes_of(alloc, rest)?,
-            "between" => self.lay_between(rest)?,
-            "file" => self.file = bytes_of(alloc, rest)?,
-            "more" => self.file.extend_from_slice(&bytes_of(alloc, rest)?)?,
-            "times" => push_often(alloc, &mut self.file, rest)?,
-            "input" => self.input.extend_from_slice(&bytes_of(alloc, rest)?)?,
-            "inputs" => push_often(alloc, &mut self.input, rest)?,
-            "again" => self.push_again(rest)?,
-            "command" => self.push_command(rest)?,
-            "cuts" => self.cuts = places_of(alloc, rest)?,
-            _ => return self.takes_numbers(verb, rest),
+            "front" => self.front = text,
+            "back" => self.back = text,
+            "file" | "between" => self.file = text,
+            "more" | "times" => self.file.extend_from_slice(&text)?,
+            _ => self.input.extend_from_slice(&text)?,
         }
         Ok(true)
     }
 
-    // Takes which calls fail.
+    // The text that a line lays out, if it lays out one.
+    fn text_of(&self, verb: &str, rest: &str) -> Result<Option<Vec<u8>>, Memory> {
+        let text = match verb {
+            "front" | "back" | "file" | "more" | "input" => bytes_of(self.alloc, rest),
+            "times" | "inputs" => counted(self.alloc, rest),
+            "between" => joined(self.alloc, &self.front, rest, &self.back),
+            "command" => joined(self.alloc, b"", rest, b"\n\n"),
+            "again" => self.input_again(rest),
+            _ => return Ok(None),
+        };
+        Ok(Some(text?))
+    }
+
+    // What the link gives from a place on, so many times.
+    fn input_again(&self, rest: &str) -> Result<Vec<u8>, Memory> {
+        let (count, place) = cut(rest);
+        let tail = self.input.get(length_of(place)..).unwrap_or_default();
+        Ok(tail.repeat(self.alloc, length_of(count))?)
+    }
+
+    // Takes places or numbers.
     fn takes_numbers(&mut self, verb: &str, rest: &str) -> Result<bool, Memory> {
         let numbers = numbers_of(self.alloc, rest)?;
         match verb {
+            "cuts" => self.cuts = numbers,
             "failed-loads" => self.failed_loads = numbers,
             "large-builds" => self.large_builds = numbers,
             "failed-reads" => self.failed_reads = numbers,
@@ -89,32 +105,6 @@ impl Table {
             _ => return Ok(false),
         }
         Ok(true)
-    }
-
-    // The file stands between the front and the back.
-    fn lay_between(&mut self, text: &str) -> Result<(), Memory> {
-        let mut file = Vec::from_slice(self.alloc, &self.front)?;
-        file.extend_from_slice(&bytes_of(self.alloc, text)?)?;
-        file.extend_from_slice(&self.back)?;
-        self.file = file;
-        Ok(())
-    }
-
-    fn push_command(&mut self, text: &str) -> Result<(), Memory> {
-        let bytes = bytes_of(self.alloc, text)?;
-        self.input.extend_from_slice(&bytes)?;
-        self.input.extend_from_slice(b"\n\n")?;
-        Ok(())
-    }
-
-    fn push_again(&mut self, rest: &str) -> Result<(), Memory> {
-        let (count, place) = cut(rest);
-        let from = usize::try_from(number_of(place)).unwrap_or(0);
-        let tail = Vec::from_slice(self.alloc, self.input.get(from..).unwrap_or_default())?;
-        for _ in 0..number_of(count) {
-            self.input.extend_from_slice(&tail)?;
-        }
-        Ok(())
     }
 
     /// Forgets all but the file, its front and its back.
@@ -140,10 +130,14 @@ impl Table {
 
     /// A link that gives the input, and takes so many bytes.
     pub(crate) fn link(&self, room: usize) -> Result<MemLink, Memory> {
+        let mut cuts = Vec::new(self.alloc);
+        for cut in self.cuts.iter() {
+            cuts.push(usize::try_from(*cut).unwrap_or(usize::MAX))?;
+        }
         MemLink::new(
             self.alloc,
             &self.input,
-            &self.cuts,
+            &cuts,
             &self.failed_reads,
             &self.failed_writes,
             room,
@@ -151,20 +145,10 @@ impl Table {
     }
 }
 
-// Adds what stands behind a number so often.
-fn push_often(alloc: Global, to: &mut Vec<u8>, rest: &str) -> Result<(), Memory> {
-    let (count, text) = cut(rest);
-    let bytes = bytes_of(alloc, text)?;
-    for _ in 0..number_of(count) {
-        to.extend_from_slice(&bytes)?;
-    }
-    Ok(())
-}
-
-fn places_of(alloc: Global, text: &str) -> Result<Vec<usize>, Memory> {
-    let mut places = Vec::new(alloc);
-    for number in numbers_of(alloc, text)? {
-        places.push(usize::try_from(number).unwrap_or(0))?;
-    }
-    Ok(places)
+// A text between two others.
+fn joined(alloc: Global, front: &[u8], text: &str, back: &[u8]) -> Result<Vec<u8>, Memory> {
+    let mut whole = Vec::from_slice(alloc, front)?;
+    whole.extend_from_slice(&bytes_of(alloc, text)?)?;
+    whole.extend_from_slice(back)?;
+    Ok(whole)
 }

@@ -1,7 +1,7 @@
 //! Variables within their limits, and texts that name them.
 
 use crate::answer::Answer;
-use crate::words::{bytes_of, cut, number_of, text_of};
+use crate::words::{bytes_of, cut, length_of, number_of, repeated, text_of};
 use fs_text::{Memory, Txt};
 use fs_vars::{Bounds, Profile, Refused, Scope, Vars, expand};
 use std::alloc::Global;
@@ -48,56 +48,45 @@ impl Variables {
             "new" => *self = Variables::new(self.alloc)?,
             "channel" => self.vars = filled(self.alloc, Bounds::Channel, rest)?,
             "globals" => self.vars = filled(self.alloc, Bounds::Globals, rest)?,
-            "set" => self.tell_set(rest, answer)?,
-            "long" => self.tell_long(rest, answer)?,
             "unset" => self.vars.unset(&bytes_of(self.alloc, rest)?),
-            "copy" => self.tell_copy(rest, answer)?,
-            "list" => tell_vars(self.alloc, &self.vars, answer)?,
-            _ => return self.tell_text(verb, rest, answer),
+            "profile" => self.set_profile(rest)?,
+            _ => return self.tell_case(verb, rest, answer),
         }
         Ok(())
     }
 
-    fn tell_set(&mut self, rest: &str, answer: &mut Answer) -> Result<(), Memory> {
-        let (name, value) = cut(rest);
-        let name = bytes_of(self.alloc, name)?;
-        let value = bytes_of(self.alloc, value)?;
-        tell_done(self.vars.set(&name, &value)?, answer)
+    // Answers what has an answer.
+    fn tell_case(&mut self, verb: &str, rest: &str, answer: &mut Answer) -> Result<(), Memory> {
+        match verb {
+            "set" => return tell_set(self.alloc, &mut self.vars, rest, answer),
+            "global" => return tell_set(self.alloc, &mut self.globals, rest, answer),
+            "long" => return self.tell_long(rest, answer),
+            "copy" => return self.tell_copy(rest, answer),
+            "list" => tell_vars(&self.vars, answer),
+            "expand" => self.tell_expanded(rest, answer),
+            "length" => self.tell_length(rest, answer),
+            "memory" => answer.told(Refused::Memory.to_string(self.alloc)),
+            _ => answer.line(&[b"no case"]),
+        }
+        Ok(())
     }
 
     fn tell_long(&mut self, rest: &str, answer: &mut Answer) -> Result<(), Memory> {
         let (times, rest) = cut(rest);
         let (name, len) = cut(rest);
-        let name = repeated(self.alloc, name, number_of(times))?;
-        let value = repeated(self.alloc, "v", number_of(len))?;
-        tell_done(self.vars.set(&name, &value)?, answer)
+        let name = repeated(self.alloc, name, length_of(times))?;
+        let value = repeated(self.alloc, "v", length_of(len))?;
+        tell_done(self.vars.set(&name, &value)?, answer);
+        Ok(())
     }
 
     fn tell_copy(&self, name: &str, answer: &mut Answer) -> Result<(), Memory> {
         let name = bytes_of(self.alloc, name)?;
         let mut copy = self.vars.copy()?;
         copy.unset(&name);
-        tell_vars(self.alloc, &copy, answer)?;
-        tell_vars(self.alloc, &self.vars, answer)
-    }
-
-    // Answers what is asked of texts.
-    fn tell_text(&mut self, verb: &str, rest: &str, answer: &mut Answer) -> Result<(), Memory> {
-        match verb {
-            "global" => self.set_global(rest, answer),
-            "profile" => self.set_profile(rest),
-            "expand" => self.tell_expanded(rest, answer),
-            "length" => self.tell_length(rest, answer),
-            "memory" => tell_refused(self.alloc, Refused::Memory, answer),
-            _ => answer.line(&[b"no case"]),
-        }
-    }
-
-    fn set_global(&mut self, rest: &str, answer: &mut Answer) -> Result<(), Memory> {
-        let (name, value) = cut(rest);
-        let name = bytes_of(self.alloc, name)?;
-        let value = bytes_of(self.alloc, value)?;
-        tell_done(self.globals.set(&name, &value)?, answer)
+        tell_vars(&copy, answer);
+        tell_vars(&self.vars, answer);
+        Ok(())
     }
 
     fn set_profile(&mut self, rest: &str) -> Result<(), Memory> {
@@ -117,63 +106,50 @@ impl Variables {
         expand(self.alloc, &scope, &text)
     }
 
-    fn tell_expanded(&self, text: &str, answer: &mut Answer) -> Result<(), Memory> {
+    fn tell_expanded(&self, text: &str, answer: &mut Answer) {
         match self.expanded(text) {
             Ok(whole) => answer.line(&[whole.as_bytes()]),
-            Err(refused) => tell_refused(self.alloc, refused, answer),
+            Err(refused) => answer.told(refused.to_string(self.alloc)),
         }
     }
 
-    fn tell_length(&self, text: &str, answer: &mut Answer) -> Result<(), Memory> {
+    fn tell_length(&self, text: &str, answer: &mut Answer) {
         match self.expanded(text) {
-            Ok(whole) => {
-                let told = format!(in self.alloc; "{} bytes", whole.as_bytes().len())?;
-                answer.line(&[told.as_bytes()])
-            }
-            Err(refused) => tell_refused(self.alloc, refused, answer),
+            Ok(whole) => answer.told(format!(in self.alloc; "{} bytes", whole.as_bytes().len())),
+            Err(refused) => answer.told(refused.to_string(self.alloc)),
         }
     }
 }
 
-fn tell_done(done: bool, answer: &mut Answer) -> Result<(), Memory> {
-    answer.line(&[if done { b"set" } else { b"refused" }])
+fn tell_set(alloc: Global, vars: &mut Vars, rest: &str, answer: &mut Answer) -> Result<(), Memory> {
+    let (name, value) = cut(rest);
+    let name = bytes_of(alloc, name)?;
+    let value = bytes_of(alloc, value)?;
+    tell_done(vars.set(&name, &value)?, answer);
+    Ok(())
 }
 
-fn tell_refused(alloc: Global, refused: Refused, answer: &mut Answer) -> Result<(), Memory> {
-    let told = refused.to_string(alloc)?;
-    answer.line(&[told.as_bytes()])
+fn tell_done(done: bool, answer: &mut Answer) {
+    answer.line(&[if done { b"set" } else { b"refused" }]);
 }
 
 /// Adds the variables in order, as `name=value;`.
-pub(crate) fn tell_vars(alloc: Global, vars: &Vars, answer: &mut Answer) -> Result<(), Memory> {
-    let mut list = Vec::new(alloc);
+pub(crate) fn tell_vars(vars: &Vars, answer: &mut Answer) {
+    answer.begin();
     for (name, value) in vars.pairs() {
-        list.extend_from_slice(name)?;
-        list.push(b'=')?;
-        list.extend_from_slice(value.as_bytes())?;
-        list.push(b';')?;
+        answer.add(&[name, b"=", value.as_bytes(), b";"]);
     }
-    answer.line(&[&list])
+    answer.end();
 }
 
 // So many variables with values of so many bytes.
 fn filled(alloc: Global, bounds: Bounds, rest: &str) -> Result<Vars, Memory> {
     let (count, len) = cut(rest);
-    let value = repeated(alloc, "v", number_of(len))?;
+    let value = repeated(alloc, "v", length_of(len))?;
     let mut vars = Vars::new(alloc, bounds)?;
     for n in 0..number_of(count) {
         let name = format!(in alloc; "{n:04}")?;
         let _done = vars.set(name.as_bytes(), &value)?;
     }
     Ok(vars)
-}
-
-/// A text so many times.
-pub(crate) fn repeated(alloc: Global, text: &str, times: u64) -> Result<Vec<u8>, Memory> {
-    let bytes = bytes_of(alloc, text)?;
-    let mut all = Vec::new(alloc);
-    for _ in 0..times {
-        all.extend_from_slice(&bytes)?;
-    }
-    Ok(all)
 }

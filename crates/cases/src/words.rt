@@ -21,6 +21,18 @@ pub(crate) fn text_of(alloc: Global, text: &str) -> Result<Txt, Memory> {
     Txt::from_vec(bytes_of(alloc, text)?)
 }
 
+/// The bytes of a text so many times.
+pub(crate) fn repeated(alloc: Global, text: &str, times: usize) -> Result<Vec<u8>, Memory> {
+    let bytes = bytes_of(alloc, text)?;
+    Ok(bytes.repeat(alloc, times)?)
+}
+
+/// The bytes of `COUNT TEXT`: the text so many times.
+pub(crate) fn counted(alloc: Global, rest: &str) -> Result<Vec<u8>, Memory> {
+    let (count, text) = cut(rest);
+    repeated(alloc, text, length_of(count))
+}
+
 /// The words between spaces.
 pub(crate) fn texts_of(alloc: Global, text: &str) -> Result<Vec<Txt>, Memory> {
     let mut texts = Vec::new(alloc);
@@ -33,6 +45,11 @@ pub(crate) fn texts_of(alloc: Global, text: &str) -> Result<Vec<Txt>, Memory> {
 /// The number of a word, 0 where it is none.
 pub(crate) fn number_of(word: &str) -> u64 {
     read_u64(word.as_bytes()).unwrap_or(0)
+}
+
+/// That as a length.
+pub(crate) fn length_of(word: &str) -> usize {
+    usize::try_from(number_of(word)).unwrap_or(usize::MAX)
 }
 
 /// The numbers between spaces.

@@ -75,7 +75,7 @@ impl Blocks {
     /// Hands out the block in front, or says whether one may still come.
     pub fn next_block(&mut self) -> Next<'_>
         ensures answer { IsNext self.old result }
-        ensures* after { sem 𝓛 (Rests the_row self.entry (λ new. new ≡ handed_out self.old)) }
+        ensures* after { sem 𝓛 (Rests the_row self.entry (λ new. new ≡ after_next_block self.old)) }
     {
         let front = self.advance();
         self.show(front)

@@ -36,12 +36,12 @@ use Rattle.fs_machine.specs.declared.attempts.Attempt.{Attempt}
 use Rattle.fs_machine.specs.declared.originations.Caller.{Caller}
 use Rattle.fs_machine.specs.Texts.{ok, accepted, invalid, bye, not_found, notice, command_reply, api_response, spoken, too_many_jobs, failed_text}
 use Rattle.fs_machine.specs.Connections.{phase_at, conn_changed, admitted}
-use Rattle.fs_machine.specs.Attempts.{originate_begun, won_at, after_verdict, after_verdict_from}
+use Rattle.fs_machine.specs.Attempts.{originate_begun, after_winning_at, after_verdict, after_verdict_from}
 use Rattle.fs_machine.specs.Jobs.{sleep_begun, after_job_work, job_done_from, job_done}
-use Rattle.fs_machine.specs.Api.{Done, says, owes, killed, slept, originated, done_plainly, done_by}
+use Rattle.fs_machine.specs.Api.{Done, says, no_answer_yet, kill_done, msleep_done, originate_done, done_plainly, done_by}
 use Rattle.fs_machine.specs.Commands as command
-use Rattle.fs_machine.specs.Commands.{Command, command_of, dismissed, offered, responded_with, command_done_in, command_done}
-use Rattle.fs_machine.specs.Step.{closed_by, act_done}
+use Rattle.fs_machine.specs.Commands.{Command, command_of, after_dismissal, after_password, with_response_of, command_done_in, command_done}
+use Rattle.fs_machine.specs.Step.{after_close, act_done}
 use Rattle.fs_machine.proofs.Kept.{Fact, KeptByCalls, DoesJob, KeptByJobs, LeavesBy, IsShortWinner, KeptByCommands, KeptByMoves}
 use Rattle.fs_machine.proofs.ShortLemmas.{NamesShort, api_short, expanded_short}
 use Rattle.fs_machine.proofs.Walk.{all_hung_kept, worked_kept}
@@ -54,7 +54,7 @@ module _ (before : Switch) (P : Fact) (calls : KeptByCalls P) (jobs : KeptByJobs
       DoesJob before a.job a.conn (work.Originate a.orig winner) → P (Some 0) before → P (Some 0) (after_verdict v a winner o before)
   judged_kept (verdict.Won position) a winner o is there does h = by (slice_get o.legs position) refl
     where
-      by : (leg : Option OrigLeg) → slice_get o.legs position ≡ leg → P (Some 0) (won_at a winner leg before)
+      by : (leg : Option OrigLeg) → slice_get o.legs position ≡ leg → P (Some 0) (after_winning_at a winner leg before)
       by None at = h
       by (Some leg) at =
           jobs.wins a winner leg does
@@ -96,26 +96,26 @@ module _ (conn : ℕ) (P : Fact) (calls : KeptByCalls P) (commands : KeptByComma
   done_either true x y first second = first
   done_either false x y first second = second
 
-  killed_kept : (cause : Cause) (slot : Option ℕ) {s : Switch} → P None s → P (Some 2) (killed cause slot s).state
+  killed_kept : (cause : Cause) (slot : Option ℕ) {s : Switch} → P None s → P (Some 2) (kill_done cause slot s).state
   killed_kept cause None h = drew_none h
   killed_kept cause (Some slot) h = drew_none (calls.hung cause slot h)
 
-  slept_kept : (milliseconds : ℕ) {s : Switch} → P None s → P (Some 2) (slept conn milliseconds s).state
+  slept_kept : (milliseconds : ℕ) {s : Switch} → P None s → P (Some 2) (msleep_done conn milliseconds s).state
   slept_kept milliseconds {s} h = by (is_full_of_jobs s) refl
     where
       by : (full : Bool) → is_full_of_jobs s ≡ full →
-          P (Some 2) (if full then says too_many_jobs s else owes (sleep_begun conn milliseconds s)).state
+          P (Some 2) (if full then says too_many_jobs s else no_answer_yet (sleep_begun conn milliseconds s)).state
       by true is = drew_none h
       by false is = commands.more (omega arith) (commands.sleeps (moment_after s.moment (milliseconds * 1000)) is h)
 
   originated_kept : (url : Text) (winner : Winner) (caller : Caller) (timeout : Option ℕ) {s : Switch} → IsShortWinner winner → P None s →
-      P (Some 2) (originated conn url winner caller timeout s).state
+      P (Some 2) (originate_done conn url winner caller timeout s).state
   originated_kept url winner caller timeout {s} short h = by (is_full_of_jobs s) refl
     where
       by : (full : Bool) → is_full_of_jobs s ≡ full →
           P (Some 2)
           (if full then says too_many_jobs
-          s else (if is_one_leg url then owes (originate_begun conn url winner caller timeout s) else says
+          s else (if is_one_leg url then no_answer_yet (originate_begun conn url winner caller timeout s) else says
           (failed_text InvalidNumberFormat) s)).state
       by true is = drew_none h
       by false is = done_either (is_one_leg url) _ _ (commands.originates url winner caller timeout short is h) (drew_none h)
@@ -141,19 +141,20 @@ module _ (conn : ℕ) (P : Fact) (calls : KeptByCalls P) (commands : KeptByComma
       done_either (nat_lt 65536 (length given)) _ _ (drew_none h) (done_plainly_kept (expanded_api_of given) (expanded_short given) h)
   done_kept other short h = done_plainly_kept other short h
 
-  responded_kept : (answer : Option Text) {s : Switch} → P (Some 2) s → P (Some 2) (responded_with conn answer s)
+  responded_kept : (answer : Option Text) {s : Switch} → P (Some 2) s → P (Some 2) (with_response_of conn answer s)
   responded_kept None h = h
   responded_kept (Some answer) h = commands.gave (api_response (spoken answer)) h
 
-  dismissed_kept : (why : Parting) (text : Text) {s : Switch} → LeavesBy why → P (Some 2) s → P (Some 2) (dismissed conn why text s)
+  dismissed_kept : (why : Parting) (text : Text) {s : Switch} → LeavesBy why → P (Some 2) s → P (Some 2) (after_dismissal conn why text s)
   dismissed_kept why text leaves h = commands.gave notice (commands.gave (command_reply text) (commands.parted why leaves h))
 
-  offered_kept : (given : Text) {s : Switch} → phase_at s conn ≡ phase.Fresh → P (Some 2) s → P (Some 2) (offered conn given s)
+  offered_kept : (given : Text) {s : Switch} → phase_at s conn ≡ phase.Fresh → P (Some 2) s → P (Some 2) (after_password conn given s)
   offered_kept given {s} fresh h = by (bytes_eq given s.config.settings.password)
     where
       by : (same : Bool) →
           P (Some 2)
-          (if same then command.replied conn accepted (conn_changed admitted conn s) else dismissed conn parting.AuthRefused invalid s)
+          (if same then command.with_reply conn accepted (conn_changed admitted conn s)
+          else after_dismissal conn parting.AuthRefused invalid s)
       by true = commands.gave (command_reply accepted) (commands.admitted fresh h)
       by false = dismissed_kept parting.AuthRefused invalid tt h
 
@@ -185,7 +186,7 @@ module _ (before : Switch) (P : Fact) (kept : KeptByMoves before P) where
   spent : {s : Switch} → P None s → P (Some 0) s
   spent h = (kept.commands 0).spent h
 
-  closed_kept : (how : Closing) (conn : ℕ) {s : Switch} → P (Some 0) s → P (Some 0) (closed_by how conn s)
+  closed_kept : (how : Closing) (conn : ℕ) {s : Switch} → P (Some 0) s → P (Some 0) (after_close how conn s)
   closed_kept closing.EndOfInput conn h = kept.visits.silent conn h
   closed_kept closing.Sent conn h = kept.visits.left conn h
   closed_kept closing.Failed conn h = kept.visits.left conn h

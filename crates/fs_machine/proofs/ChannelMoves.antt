@@ -18,7 +18,7 @@ use Rattle.fs_state.proofs.LegTables.{seated}
 use Rattle.fs_machine.specs.declared.attempts.Attempt.{Attempt}
 use Rattle.fs_machine.specs.declared.originations.Call.{Call}
 use Rattle.fs_machine.specs.declared.originations.End.{End}
-use Rattle.fs_machine.specs.Originations.{target_of, end_of, end_made, leg_end, far_end, pair_made, won_by, won}
+use Rattle.fs_machine.specs.Originations.{target_of, end_of, end_made, leg_end, far_end, pair_made, won_by, after_winning}
 use Rattle.fs_machine.specs.Sound.{HasLeg}
 use Rattle.fs_machine.proofs.Kept.{Fact, Links, Stays, DoesJob, IsShortWinner, KeptByMoves}
 use Rattle.fs_machine.proofs.ShortLemmas.{sent_short, profile_short}
@@ -90,8 +90,8 @@ won_by_fit (Route to) c short live fit =
     record { partner = λ lives. fit.partner live; short = sent_short (target_of to) c.profile short fit.short }
 
 won_at_fit : (winner : Winner) (slot : ℕ) (s : Switch) → IsShortWinner winner → ((c : Chan) → chan_at s slot ≡ Some c → is_live c ≡ true) →
-    AllFit s.channels → AllFit (won winner slot s).channels
-unfolding won
+    AllFit s.channels → AllFit (after_winning winner slot s).channels
+unfolding after_winning
 won_at_fit winner slot s short live h = by (chan_at s slot) refl
   where
     by : (found : Option Chan) → chan_at s slot ≡ found → AllFit (after_move_from (won_by winner) slot found s).channels
@@ -103,7 +103,7 @@ won_at_fit winner slot s short live h = by (chan_at s slot) refl
 
 wins_fit : (a : Attempt) (winner : Winner) (leg : OrigLeg) (s : Switch) → DoesJob s a.job a.conn (Originate a.orig winner) →
     HasLeg s a.orig leg → LegsStand (roles_of s) → WinnersAreShort s.jobs →
-    AllFit s.channels → AllFit (won winner (unwrap_or leg.slot 0) s).channels
+    AllFit s.channels → AllFit (after_winning winner (unwrap_or leg.slot 0) s).channels
 wins_fit a winner leg s does has stand short h =
     let stands : IsLegOf s.channels (seated a.orig leg.slot) = has_leg s a.orig leg has stand in
     let same : unwrap_or leg.slot 0 ≡ stands.at = ap (λ (slot : Option ℕ). unwrap_or slot 0) stands.is in

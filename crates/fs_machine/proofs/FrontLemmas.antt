@@ -21,7 +21,7 @@ use Rattle.fs_machine.specs.declared.attempts.Attempt.{Attempt}
 use Rattle.fs_machine.specs.declared.originations.Caller.{Caller}
 use Rattle.fs_machine.specs.Texts.{made_text, failed_text}
 use Rattle.fs_machine.specs.Connections.{conn_changed_from, conn_changed, admitted, parted, owed_since, not_owed}
-use Rattle.fs_machine.specs.Originations.{Made, leg_made, won}
+use Rattle.fs_machine.specs.Originations.{Made, leg_made, after_winning}
 use Rattle.fs_machine.specs.Attempts.{orig_begun, tried_by_job, originate_begun}
 use Rattle.fs_machine.specs.Owing.{after_job_begin, after_job_end}
 use Rattle.fs_machine.specs.Sound.{HasLeg}
@@ -84,7 +84,7 @@ module _ (before : Switch) (P : Fact) (same : (b : Stage) (t u : Switch) → P b
     (births : KeptByBirths P)
     (wins : (a : Attempt) (winner : Winner) (leg : OrigLeg) → DoesJob before a.job a.conn (Originate a.orig winner) →
     HasLeg before a.orig leg → P (Some 0) before →
-    P (Some 0) (won winner (unwrap_or leg.slot 0) before)) where
+    P (Some 0) (after_winning winner (unwrap_or leg.slot 0) before)) where
   changed_same : (change : Conn → Conn) (conn n : ℕ) (s : Switch) → P (Some n) s → P (Some n) (conn_changed change conn s)
   changed_same change conn n s h = same (Some n) s _ h (conn_changed_front change conn s)
 
@@ -115,7 +115,7 @@ module _ (before : Switch) (P : Fact) (same : (b : Stage) (t u : Switch) → P b
     jobs = record {
       woken = λ number conn until answer {s = s} does h. ended_same number conn answer s h;
       failed = λ a winner cause {s = s} does h. over_same a (failed_text cause) s h;
-      wins = λ a winner leg does has h. over_same a (made_text leg.uuid) (won winner (unwrap_or leg.slot 0) before)
+      wins = λ a winner leg does has h. over_same a (made_text leg.uuid) (after_winning winner (unwrap_or leg.slot 0) before)
           (wins a winner leg does has h);
     };
     commands = λ conn. record {

@@ -11,7 +11,7 @@ use Rattle.fs_state.specs.Switch.{Switch, chan_at, with_chan, with_next_identifi
 use Rattle.fs_state.specs.Moves.{after_move_from, orig_changed, leg_changed, after_hangup}
 use Rattle.fs_machine.specs.declared.originations.Call.{Call}
 use Rattle.fs_machine.specs.declared.originations.End.{End}
-use Rattle.fs_machine.specs.Originations.{end_of, end_made, leg_end, far_end, pair_made, won_by, won}
+use Rattle.fs_machine.specs.Originations.{end_of, end_made, leg_end, far_end, pair_made, won_by, after_winning}
 use Rattle.fs_machine.proofs.Kept.{Stage, Fact, Links, KeptByMoves}
 use Rattle.fs_machine.proofs.Walk.{state_told_kept, hung_kept}
 use Rattle.fs_machine.proofs.FrontLemmas.{Front, front_of, orig_changed_front, moves_by_front}
@@ -57,8 +57,8 @@ module _ (x : Seen) where
       (λ why place c t is k. put_numbers more place c (hung_up why c) t is refl k)
       (λ change number t k. front_numbers more t (orig_changed change number t) (orig_changed_front change number t) k) cause slot s h
 
-  won_numbers : (winner : Winner) (slot : ℕ) (s : Switch) → Numbers 0 x (seen s) → Numbers 0 x (seen (won winner slot s))
-  unfolding won
+  won_numbers : (winner : Winner) (slot : ℕ) (s : Switch) → Numbers 0 x (seen s) → Numbers 0 x (seen (after_winning winner slot s))
+  unfolding after_winning
   won_numbers winner slot s h = by (chan_at s slot) refl
     where
       same_uuid : (what : Winner) (c : Chan) → (won_by what c).uuid ≡ c.uuid

@@ -26,12 +26,12 @@ use Rattle.fs_machine.specs.declared.originations.Caller.{Caller}
 use Rattle.fs_machine.specs.Texts.{made_text, failed_text}
 use Rattle.fs_machine.specs.Connections.{conn_changed_from, conn_changed, admitted, parted, owed_since, not_owed, phase_of, phase_at}
 use Rattle.fs_machine.specs.Questions.{parting_of, owed_of}
-use Rattle.fs_machine.specs.Originations.{Made, leg_made, won}
+use Rattle.fs_machine.specs.Originations.{Made, leg_made, after_winning}
 use Rattle.fs_machine.specs.Attempts.{orig_begun, tried_by_job, originate_begun}
 use Rattle.fs_machine.specs.Jobs.{job_done}
 use Rattle.fs_machine.specs.Owing.{after_job_begin, after_job_end}
 use Rattle.fs_machine.specs.Commands.{Command, command_of, command_done}
-use Rattle.fs_machine.specs.Work.{worked}
+use Rattle.fs_machine.specs.Work.{after_work}
 use Rattle.fs_machine.specs.Step.{is_closed, act_done}
 use Rattle.fs_machine.proofs.Kept.{Fact, KeptByCalls, KeptByJobs, LeavesBy, KeptByCommands}
 use Rattle.fs_machine.proofs.RestLemmas.{Rest, rest_of, calls_by_rest, leg_made_rest, worked_rest, won_rest}
@@ -246,9 +246,10 @@ module _ (s : Switch) where
       (ended_keeps a.job a.conn answer (without_orig a.orig u))
 
   wins_keep : (a : Attempt) (winner : Winner) (leg : OrigLeg) → Keeps None false s s →
-      Keeps None false s (after_job_end a.job a.conn (made_text leg.uuid) (without_orig a.orig (won winner (unwrap_or leg.slot 0) s)))
+      Keeps None false s (after_job_end a.job a.conn (made_text leg.uuid)
+      (without_orig a.orig (after_winning winner (unwrap_or leg.slot 0) s)))
   wins_keep a winner leg h =
-      let t : Switch = won winner (unwrap_or leg.slot 0) s in
+      let t : Switch = after_winning winner (unwrap_or leg.slot 0) s in
       over_keeps a (made_text leg.uuid) s t (sockets_same s t (won_rest winner (unwrap_or leg.slot 0) s)) h
 
   jobs_keep : KeptByJobs s (KeepsFrom None s)
@@ -300,8 +301,8 @@ module _ (conn : ℕ) (s : Switch) where
 
 -- ---- what acts keep
 
-work_keeps : (slot : ℕ) (s : Switch) → Keeps None false s (worked slot s)
-work_keeps slot s = keeps_same s (worked slot s) (sockets_same s (worked slot s) (worked_rest slot s))
+work_keeps : (slot : ℕ) (s : Switch) → Keeps None false s (after_work slot s)
+work_keeps slot s = keeps_same s (after_work slot s) (sockets_same s (after_work slot s) (worked_rest slot s))
 
 job_done_keeps : (number : ℕ) (s : Switch) → Keeps None false s (job_done number s)
 job_done_keeps number s = job_kept s (KeepsFrom None s) (calls_keep None s) (jobs_keep s) number (keeps_refl s)

@@ -25,8 +25,8 @@ use Rattle.fs_machine.specs.declared.originations.Call.{Call}
 use Rattle.fs_machine.specs.declared.originations.Caller.{Caller}
 use Rattle.fs_machine.specs.Connections.{phase_at, conn_changed, admitted, parted}
 use Rattle.fs_machine.specs.Texts.{made_text}
-use Rattle.fs_machine.specs.Originations.{pair_made, target_of, won}
-use Rattle.fs_machine.specs.Attempts.{originate_begun, failed}
+use Rattle.fs_machine.specs.Originations.{pair_made, target_of, after_winning}
+use Rattle.fs_machine.specs.Attempts.{originate_begun, after_failure}
 use Rattle.fs_machine.specs.Owing.{after_job_begin, after_job_end}
 use Rattle.fs_machine.specs.Step.{arrived}
 use Rattle.fs_machine.specs.Sound.{HasLeg}
@@ -92,7 +92,8 @@ pub record KeptByJobs (before : Switch) (P : Fact) : Type 0 where
       P (Some 0) s → P (Some 0) (failed a cause s)
   pub wins : (a : Attempt) (winner : Winner) (leg : OrigLeg) → DoesJob before a.job a.conn (work.Originate a.orig winner) →
       HasLeg before a.orig leg → P (Some 0) before →
-      P (Some 0) (after_job_end a.job a.conn (made_text leg.uuid) (without_orig a.orig (won winner (unwrap_or leg.slot 0) before)))
+      P (Some 0) (after_job_end a.job a.conn (made_text leg.uuid) (without_orig a.orig
+      (after_winning winner (unwrap_or leg.slot 0) before)))
 
 -- ---- moves of a connection
 

@@ -31,7 +31,7 @@ use Rattle.fs_machine.specs.declared.originations.Call.{Call}
 use Rattle.fs_machine.specs.declared.originations.Caller.{Caller}
 use Rattle.fs_machine.specs.Texts.{made_text, failed_text}
 use Rattle.fs_machine.specs.Connections.{conn_changed, admitted, parted, owed_since, not_owed}
-use Rattle.fs_machine.specs.Originations.{end_of, end_made, leg_end, far_end, pair_made, Made, made_dead, is_congested, made_in, with_second, free_pair, made_of, leg_made, won_by, won}
+use Rattle.fs_machine.specs.Originations.{end_of, end_made, leg_end, far_end, pair_made, Made, made_dead, is_congested, made_in, with_second, free_pair, made_of, leg_made, won_by, after_winning}
 use Rattle.fs_machine.specs.Attempts.{orig_begun, tried_by_job, originate_begun}
 use Rattle.fs_machine.specs.Owing.{after_job_begin, after_job_end}
 use Rattle.fs_machine.specs.Sound.{HasLeg, LegsAreChannels}
@@ -369,8 +369,8 @@ without_legs number s h =
     (without_fewer s.origs number) (λ place position seat has leg. leg) h
 
 won_roles : (winner : Winner) (slot : ℕ) (c : Chan) (s : Switch) → chan_at s slot ≡ Some c →
-    roles_of (won winner slot s) ≡ record (roles_of s) { channels = with_held s.channels slot (Some (won_by winner c)) }
-unfolding won
+    roles_of (after_winning winner slot s) ≡ record (roles_of s) { channels = with_held s.channels slot (Some (won_by winner c)) }
+unfolding after_winning
 won_roles winner slot c s there =
     subst (λ (found : Option Chan). roles_of (after_move_from (won_by winner) slot found s) ≡ record
     (roles_of s) { channels = with_held s.channels slot (Some (won_by winner c)) }) (sym there)
@@ -409,15 +409,15 @@ legs_are_channels s h = record {
 }
 
 won_legs : (winner : Winner) (number : ℕ) (leg : OrigLeg) (s : Switch) → HasLeg s number leg → LegsStand (roles_of s) →
-    LegsStand (roles_of (without_orig number (won winner (unwrap_or leg.slot 0) s)))
+    LegsStand (roles_of (without_orig number (after_winning winner (unwrap_or leg.slot 0) s)))
 won_legs winner number leg s has h =
     let stands : IsLegOf s.channels (seated number leg.slot) = has_leg s number leg has h in
     at stands.at (ap (λ (slot : Option ℕ). unwrap_or slot 0) stands.is) stands.chan stands.there stands.names
   where
     at : (slot : ℕ) → unwrap_or leg.slot 0 ≡ slot → (c : Chan) → chan_at s slot ≡ Some c → c.leg_of ≡ Some number →
-        LegsStand (roles_of (without_orig number (won winner (unwrap_or leg.slot 0) s)))
+        LegsStand (roles_of (without_orig number (after_winning winner (unwrap_or leg.slot 0) s)))
     at slot same c there names =
-        subst (λ (n : ℕ). LegsStand (roles_of (without_orig number (won winner n s)))) (sym same)
+        subst (λ (n : ℕ). LegsStand (roles_of (without_orig number (after_winning winner n s)))) (sym same)
         (subst (λ (r : Roles). LegsStand (record r { origs = without_row r.origs number })) (sym (won_roles winner slot c s there))
         (legs_cut (roles_of s) (without_row s.origs number) slot c (Some (won_by winner c)) there
         (distinct-without_row s.origs number h.distinct)
@@ -483,10 +483,10 @@ ended_legs : (number conn : ℕ) (answer : Text) (s : Switch) → Stand (roles_o
 ended_legs number conn answer s h = same_roles s (after_job_end number conn answer s) (conn_roles not_owed conn (without_job number s)) h
 
 wins_legs : (a : Attempt) (winner : Winner) (leg : OrigLeg) (s : Switch) → HasLeg s a.orig leg → Stand (roles_of s) →
-    Stand (roles_of (after_job_end a.job a.conn (made_text leg.uuid) (without_orig a.orig (won winner (unwrap_or leg.slot 0) s))))
+    Stand (roles_of (after_job_end a.job a.conn (made_text leg.uuid) (without_orig a.orig (after_winning winner (unwrap_or leg.slot 0) s))))
 wins_legs a winner leg s has h =
     let slot : ℕ = unwrap_or leg.slot 0 in
-    ended_legs a.job a.conn (made_text leg.uuid) (without_orig a.orig (won winner slot s))
+    ended_legs a.job a.conn (made_text leg.uuid) (without_orig a.orig (after_winning winner slot s))
     (λ few. won_legs winner a.orig leg s has
     (h (subst (λ (n : ℕ). n < 2 ^ 62) (ap (λ (r : Rest). r.origs_drawn) (won_rest winner slot s)) few)))
 

@@ -26,11 +26,11 @@ use Rattle.fs_machine.specs.declared.refusal.Refusal.TheVariants as refusal
 use Rattle.fs_machine.specs.Texts.{made_text, failed_text}
 use Rattle.fs_machine.specs.Connections.{phase_of, phase_at, conn_changed, admitted, parted}
 use Rattle.fs_machine.specs.Questions.{owed_of, owed_to}
-use Rattle.fs_machine.specs.Originations.{won}
+use Rattle.fs_machine.specs.Originations.{after_winning}
 use Rattle.fs_machine.specs.Attempts.{originate_begun}
 use Rattle.fs_machine.specs.Owing.{after_job_begin, after_job_end}
 use Rattle.fs_machine.specs.Commands.{command_of}
-use Rattle.fs_machine.specs.Step.{reads, busy, refused_act, closed_by, act_done}
+use Rattle.fs_machine.specs.Step.{reads, busy, refused_act, after_close, act_done}
 use Rattle.fs_machine.specs.Owed.{PartsIn}
 use Rattle.fs_machine.proofs.Kept.{Stage, Fact, KeptByCalls, DoesJob, KeptByJobs, KeptByCommands}
 use Rattle.fs_machine.proofs.Walk.{worked_kept}
@@ -78,11 +78,12 @@ goes_spent b sound t same = subst (λ (x : Books). Goes b x) (sym same) (record 
 -- the jobs that end
 wins_go : (b : Books) (s : Switch) (a : Attempt) (winner : Winner) (leg : OrigLeg) → DoesJob s a.job a.conn (work.Originate a.orig winner) →
     Goes b (books_of s) →
-    Goes b (books_of (after_job_end a.job a.conn (made_text leg.uuid) (without_orig a.orig (won winner (unwrap_or leg.slot 0) s))))
+    Goes b (books_of (after_job_end a.job a.conn (made_text leg.uuid) (without_orig a.orig
+    (after_winning winner (unwrap_or leg.slot 0) s))))
 wins_go b s a winner leg does h =
     let slot : ℕ = unwrap_or leg.slot 0 in
-    goes_over b (won winner slot s) a.job a.conn a.orig winner (made_text leg.uuid) (does_same does (won_rest winner slot s))
-    (goes_same b (Some 0) s (won winner slot s) h (won_rest winner slot s))
+    goes_over b (after_winning winner slot s) a.job a.conn a.orig winner (made_text leg.uuid) (does_same does (won_rest winner slot s))
+    (goes_same b (Some 0) s (after_winning winner slot s) h (won_rest winner slot s))
 
 jobs_go : (b : Books) (before : Switch) → KeptByJobs before (GoesFrom b)
 jobs_go b before = record {
@@ -146,7 +147,8 @@ module _ (b : Books) (conn : ℕ) (c : Conn) (there : row_of b.conns conn ≡ So
 
 -- ---- acts
 
-closed_goes : (how : Closing) (conn : ℕ) (s : Switch) → Goes (books_of s) (books_of s) → Goes (books_of s) (books_of (closed_by how conn s))
+closed_goes : (how : Closing) (conn : ℕ) (s : Switch) → Goes (books_of s) (books_of s) →
+    Goes (books_of s) (books_of (after_close how conn s))
 closed_goes closing.EndOfInput conn s h =
     goes_conn (books_of s) (parted parting.EndOfInput) conn s (λ c is. something_there parting.EndOfInput) (λ c. refl) h
 closed_goes closing.Sent conn s h = goes_gone (books_of s) conn s h

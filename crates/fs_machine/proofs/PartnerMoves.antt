@@ -10,7 +10,7 @@ use Rattle.fs_places.proofs.HeldLemmas.{IsFree, held_within}
 use Rattle.fs_state.specs.Switch.{Switch, chan_at, with_chan, with_next_identifier, identifier_of}
 use Rattle.fs_state.specs.Moves.{after_move_from, orig_changed, leg_changed, partner_of, partner_at, after_one_hangup, after_hangup_with, after_hangup}
 use Rattle.fs_machine.specs.declared.originations.Call.{Call}
-use Rattle.fs_machine.specs.Originations.{end_of, end_made, leg_end, far_end, pair_made, won_by, won}
+use Rattle.fs_machine.specs.Originations.{end_of, end_made, leg_end, far_end, pair_made, won_by, after_winning}
 use Rattle.fs_machine.proofs.Kept.{Fact, Links, KeptByMoves}
 use Rattle.fs_machine.proofs.Walk.{new_lives, execute_lives, routing_lives, state_told_kept}
 use Rattle.fs_machine.proofs.FrontLemmas.{Front, front_of, orig_changed_front, moves_by_front}
@@ -55,8 +55,9 @@ pair_partners call orig a b s free_a free_b h =
     free_a.within free_b.within (ap (option_and_then partner_of) free_a.free)
     (ap (option_and_then partner_of) free_b.free) refl refl new_lives new_lives h
 
-won_partners : (winner : Winner) (slot : ℕ) (s : Switch) → Ties partner_of s.channels → Ties partner_of (won winner slot s).channels
-unfolding won
+won_partners : (winner : Winner) (slot : ℕ) (s : Switch) → Ties partner_of s.channels →
+    Ties partner_of (after_winning winner slot s).channels
+unfolding after_winning
 won_partners winner slot s h = by (chan_at s slot) refl
   where
     put : (what : Winner) (c : Chan) → chan_at s slot ≡ Some c → Ties partner_of (with_chan slot (Some (won_by what c)) s).channels

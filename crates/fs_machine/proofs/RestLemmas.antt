@@ -19,9 +19,9 @@ use Rattle.fs_state.specs.Queues.{Frames}
 use Rattle.fs_state.specs.Switch.{Switch, chan_at, with_chan, orig_of}
 use Rattle.fs_state.specs.Moves.{after_move_from, after_move, orig_changed_from, orig_changed, leg_changed, after_hangup}
 use Rattle.fs_machine.specs.declared.originations.Caller.{Caller}
-use Rattle.fs_machine.specs.Originations.{leg_made, won_by, won}
-use Rattle.fs_machine.specs.Attempts.{all_hung}
-use Rattle.fs_machine.specs.Work.{worked}
+use Rattle.fs_machine.specs.Originations.{leg_made, won_by, after_winning}
+use Rattle.fs_machine.specs.Attempts.{after_hangups}
+use Rattle.fs_machine.specs.Work.{after_work}
 use Rattle.fs_machine.proofs.Kept.{Stage, Fact, KeptByCalls, DoesJob}
 use Rattle.fs_machine.proofs.Walk.{state_told_kept, hung_kept, all_hung_kept, worked_kept, leg_made_kept}
 
@@ -114,14 +114,14 @@ SameRest s b t = rest_of t ≡ rest_of s
 same_rest : (s : Switch) → KeptByCalls (SameRest s)
 same_rest s = calls_by_rest (SameRest s) (λ b t u h e. e ∙ h)
 
-pub all_hung_rest : (cause : Cause) (slots : List ℕ) (s : Switch) → rest_of (all_hung cause slots s) ≡ rest_of s
+pub all_hung_rest : (cause : Cause) (slots : List ℕ) (s : Switch) → rest_of (after_hangups cause slots s) ≡ rest_of s
 all_hung_rest cause slots s = all_hung_kept (SameRest s) (same_rest s) cause slots {b = None} {s = s} refl
 
-pub worked_rest : (slot : ℕ) (s : Switch) → rest_of (worked slot s) ≡ rest_of s
+pub worked_rest : (slot : ℕ) (s : Switch) → rest_of (after_work slot s) ≡ rest_of s
 worked_rest slot s = worked_kept (SameRest s) (same_rest s) slot {b = None} {s = s} refl
 
-pub won_rest : (winner : Winner) (slot : ℕ) (s : Switch) → rest_of (won winner slot s) ≡ rest_of s
-unfolding won
+pub won_rest : (winner : Winner) (slot : ℕ) (s : Switch) → rest_of (after_winning winner slot s) ≡ rest_of s
+unfolding after_winning
 won_rest winner slot s = moved_rest (won_by winner) slot s
 
 -- ---- a leg is made

@@ -36,10 +36,10 @@ use Rattle.fs_state.specs.Switch.{Switch, chan_at, with_chan, free_slot, with_ev
 use Rattle.fs_state.specs.Moves.{plain_event, with_leaving_event, with_coming_event, with_state_events, after_move_from, after_move, after_begin, with_running, run_on, after_completion, orig_changed, leg_changed, its_leg_changed, after_answer_from, after_one_answer, partner_at, for_slot, after_answer, hangup_event, after_hangup_from, after_one_hangup, after_hangup_with, after_hangup, after_report, after_destroy}
 use Rattle.fs_machine.specs.declared.originations.Call.{Call}
 use Rattle.fs_machine.specs.declared.originations.Caller.{Caller}
-use Rattle.fs_machine.specs.Applications.{with_variable, without_variable, with_export, sleeping, state_at, parking_in, effect, argument_in, executed_within, ran_next, ran_from, ran}
-use Rattle.fs_machine.specs.Work.{with_variables, routed_to, has_xml, actions_for, too_long_cause, found_for, routed_by, routing_from, first_state, worked_waiting, worked_in, worked_from, worked}
+use Rattle.fs_machine.specs.Applications.{with_variable, without_variable, with_export, after_sleep, state_at, after_park_in, after_effect, argument_in, executed_within, after_running_next, after_running_from, after_running}
+use Rattle.fs_machine.specs.Work.{with_variables, routed_to, has_xml, actions_for, too_long_cause, found_for, routed_by, after_routing_from, first_state, after_wait, after_work_in, after_work_from, after_work}
 use Rattle.fs_machine.specs.Originations.{Made, made_in, with_second, free_pair, is_congested, made_of, leg_made}
-use Rattle.fs_machine.specs.Attempts.{all_hung}
+use Rattle.fs_machine.specs.Attempts.{after_hangups}
 use Rattle.fs_machine.proofs.ShortLemmas.{sent_short, application_short, endpoint_short}
 use Rattle.fs_machine.proofs.Kept.{Stage, Fact, Stays, KeptByCalls, KeptByBirths}
 
@@ -284,19 +284,19 @@ module _ (P : Fact) (kept : KeptByCalls P) where
       kept.told (plain_event ChannelDestroy) refl
       (kept.told (plain_event ChannelState) refl (kept.gone slot c is (live_by c CsReporting false reporting reporting_dead) h))
 
-  pub all_hung_kept : (cause : Cause) (slots : List ℕ) {b : Stage} {s : Switch} → P b s → P b (all_hung cause slots s)
+  pub all_hung_kept : (cause : Cause) (slots : List ℕ) {b : Stage} {s : Switch} → P b s → P b (after_hangups cause slots s)
   all_hung_kept cause [] h = h
   all_hung_kept cause (slot ∷ slots) h = all_hung_kept cause slots (kept.hung cause slot h)
 
   -- ---- applications
 
-  sleeping_kept : (milliseconds slot : ℕ) {b : Stage} {s : Switch} → P b s → P b (sleeping milliseconds slot s)
+  sleeping_kept : (milliseconds slot : ℕ) {b : Stage} {s : Switch} → P b s → P b (after_sleep milliseconds slot s)
   sleeping_kept milliseconds slot {b} {s} h =
       either (milliseconds == 0) (completed_kept slot h)
       (moved_kept (asleep s.moment milliseconds) slot (λ c. record { links = refl; live = refl; short = λ short. short }) h)
 
   parking_kept : (state : Option State) (slot : ℕ) {b : Stage} {s : Switch} → LivesAt s.channels slot → P b s →
-      P b (parking_in state slot s)
+      P b (after_park_in state slot s)
   parking_kept None slot at h = h
   parking_kept (Some CsPark) slot at h = completed_kept slot h
   parking_kept (Some _) slot at h =
@@ -309,7 +309,7 @@ module _ (P : Fact) (kept : KeptByCalls P) where
       (λ c live. record { links = refl; live = routing_lives ∙ sym live; short = sent_short to c.profile short }) h
 
   effect_kept : (what : Application) (slot : ℕ) {b : Stage} {s : Switch} → apps.IsShortApplication what → LivesAt s.channels slot → P b s →
-      P b (effect what slot s)
+      P b (after_effect what slot s)
   effect_kept app.Answer slot short at h = completed_kept slot (answered_kept slot h)
   effect_kept (app.Set name value) slot short at h =
       completed_kept slot (moved_kept (with_variable name value) slot (λ c. record { links = refl; live = refl; short = λ h. h }) h)
@@ -334,18 +334,18 @@ module _ (P : Fact) (kept : KeptByCalls P) where
       (moved_lives (with_running action) slot s (running_stays action) at) (run_on_kept action slot h)
 
   ran_next_kept : (next : Option Action) (slot : ℕ) (c : Chan) {b : Stage} {s : Switch} → LivesAt s.channels slot → P b s →
-      P b (ran_next next slot c s)
+      P b (after_running_next next slot c s)
   ran_next_kept None slot c at h = kept.hung NormalClearing slot h
   ran_next_kept (Some action) slot c {b} {s} at h =
       executed_kept action.application (argument_in c s action.argument) slot
       (moved_lives chan.after_next slot s after_next_stays at)
       (moved_kept chan.after_next slot after_next_stays h)
 
-  ran_kept : (slot : ℕ) {b : Stage} {s : Switch} → LivesAt s.channels slot → P b s → P b (ran slot s)
-  unfolding ran
+  ran_kept : (slot : ℕ) {b : Stage} {s : Switch} → LivesAt s.channels slot → P b s → P b (after_running slot s)
+  unfolding after_running
   ran_kept slot {b} {s} at h = by (chan_at s slot)
     where
-      by : (found : Option Chan) → P b (ran_from slot found s)
+      by : (found : Option Chan) → P b (after_running_from slot found s)
       by None = h
       by (Some c) = ran_next_kept (chan.next_action c) slot c at h
 
@@ -367,12 +367,12 @@ module _ (P : Fact) (kept : KeptByCalls P) where
       routed_kept hunt.vars (actions_for (has_xml c) hunt.actions) slot at (kept.globals hunt.globals h)
 
   routing_kept : (slot : ℕ) (found : Option Chan) {b : Stage} {s : Switch} → LivesAt s.channels slot → P b s →
-      P b (routing_from slot found s)
+      P b (after_routing_from slot found s)
   routing_kept slot None at h = h
   routing_kept slot (Some c) {b} {s} at h =
       either (may_route c) (routed_by_kept (found_for c s) c slot at h) (kept.hung ExchangeRoutingError slot h)
 
-  waiting_kept : (wait : Wait) (slot : ℕ) {b : Stage} {s : Switch} → LivesAt s.channels slot → P b s → P b (worked_waiting wait slot s)
+  waiting_kept : (wait : Wait) (slot : ℕ) {b : Stage} {s : Switch} → LivesAt s.channels slot → P b s → P b (after_wait wait slot s)
   waiting_kept Ready slot at h = ran_kept slot at h
   waiting_kept (Sleep until) slot at h = completed_kept slot h
   waiting_kept Parked slot at h = ran_kept slot at h
@@ -380,7 +380,7 @@ module _ (P : Fact) (kept : KeptByCalls P) where
   waiting_kept _ slot at h = h
 
   working_kept : (state : State) (slot : ℕ) (c : Chan) {b : Stage} {s : Switch} → chan_at s slot ≡ Some c → c.state ≡ state → P b s →
-      P b (worked_in state slot c s)
+      P b (after_work_in state slot c s)
   working_kept CsNew slot c {b} {s} there is h = begun_kept slot (lives_at s.channels slot c CsNew there is new_lives) h
   working_kept CsInit slot c {b} {s} there is h =
       moved_alive (in_state (first_state c.direction)) slot (lives_at s.channels slot c CsInit there is init_lives)
@@ -394,11 +394,11 @@ module _ (P : Fact) (kept : KeptByCalls P) where
   working_kept CsReporting slot c there is h = destroyed_kept slot c there is h
   working_kept _ slot c there is h = h
 
-  pub worked_kept : (slot : ℕ) {b : Stage} {s : Switch} → P b s → P b (worked slot s)
-  unfolding worked
+  pub worked_kept : (slot : ℕ) {b : Stage} {s : Switch} → P b s → P b (after_work slot s)
+  unfolding after_work
   worked_kept slot {b} {s} h = by (chan_at s slot) refl
     where
-      by : (found : Option Chan) → chan_at s slot ≡ found → P b (worked_from slot found s)
+      by : (found : Option Chan) → chan_at s slot ≡ found → P b (after_work_from slot found s)
       by None there = h
       by (Some c) there = working_kept c.state slot c there refl h
 

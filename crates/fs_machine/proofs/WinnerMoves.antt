@@ -16,7 +16,7 @@ use Rattle.fs_state.specs.Switch.{Switch, next_orig_number, next_job_number, wit
 use Rattle.fs_machine.specs.declared.originations.Caller.{Caller}
 use Rattle.fs_machine.specs.Texts.{made_text, failed_text}
 use Rattle.fs_machine.specs.Connections.{conn_changed, admitted, parted, owed_since, not_owed}
-use Rattle.fs_machine.specs.Originations.{leg_made, won}
+use Rattle.fs_machine.specs.Originations.{leg_made, after_winning}
 use Rattle.fs_machine.specs.Attempts.{orig_begun, originate_begun}
 use Rattle.fs_machine.specs.Owing.{after_job_begin, after_job_end}
 use Rattle.fs_machine.proofs.Kept.{Fact, DoesJob, IsShortWinner, KeptByMoves}
@@ -85,8 +85,8 @@ winners_moves before = record {
     woken = λ number conn until answer {s = s} does h. ended_winners number conn answer s h;
     failed = λ a winner cause {s = s} does h. ended_winners a.job a.conn (failed_text cause) (without_orig a.orig s) h;
     wins = λ a winner leg does has h.
-        ended_winners a.job a.conn (made_text leg.uuid) (without_orig a.orig (won winner (unwrap_or leg.slot 0) before))
-        (rest_winners before (won winner (unwrap_or leg.slot 0) before) (won_rest winner (unwrap_or leg.slot 0) before) h);
+        ended_winners a.job a.conn (made_text leg.uuid) (without_orig a.orig (after_winning winner (unwrap_or leg.slot 0) before))
+        (rest_winners before (after_winning winner (unwrap_or leg.slot 0) before) (won_rest winner (unwrap_or leg.slot 0) before) h);
   };
   commands = λ conn. record {
     spent = λ h. h;

@@ -35,8 +35,8 @@ abbrev pub says : Text → Switch → Done
 says answer s = record { state = s; answer = Some answer }
 
 -- no answer yet
-abbrev pub owes : Switch → Done
-owes s = record { state = s; answer = None }
+abbrev pub no_answer_yet : Switch → Done
+no_answer_yet s = record { state = s; answer = None }
 
 -- ---- globals
 
@@ -49,9 +49,9 @@ abbrev pub listed : Pairs → Text
 listed pairs = concat (map line_of_pair pairs)
 
 -- the value of a global, or nothing; without a name all of them
-abbrev pub got_global : Option Text → Pairs → Text
-got_global None pairs = listed pairs
-got_global (Some name) pairs = unwrap_or (value_of pairs name) []
+abbrev pub global_text : Option Text → Pairs → Text
+global_text None pairs = listed pairs
+global_text (Some name) pairs = unwrap_or (value_of pairs name) []
 
 -- a global was set, where no limit is passed
 abbrev pub set_global : Text → Text → Switch → Done
@@ -64,32 +64,33 @@ abbrev pub told_whether : Bool → Text
 told_whether holds = if holds then yes else no
 
 -- a live channel is hung up
-abbrev pub killed : Cause → Option ℕ → Switch → Done
-killed cause None s = says no_channel s
-killed cause (Some slot) s = says ok (after_hangup cause slot s)
+abbrev pub kill_done : Cause → Option ℕ → Switch → Done
+kill_done cause None s = says no_channel s
+kill_done cause (Some slot) s = says ok (after_hangup cause slot s)
 
 -- the one of an identifier
 abbrev pub killed_as : Cause → Text → Switch → Done
-killed_as cause uuid s = killed cause (slot_named uuid s) s
+killed_as cause uuid s = kill_done cause (slot_named uuid s) s
 
 -- the value of a variable
-abbrev pub got_variable : Text → Option Chan → Text
-got_variable name None = no_channel
-got_variable name (Some c) = unwrap_or (value_of c.vars.pairs name) undefined
+abbrev pub variable_text : Text → Option Chan → Text
+variable_text name None = no_channel
+variable_text name (Some c) = unwrap_or (value_of c.vars.pairs name) undefined
 
 abbrev pub chan_named : Text → Switch → Option Chan
 chan_named uuid s = option_and_then (chan_at s) (slot_named uuid s)
 
 -- ---- jobs
 
-abbrev pub slept : ℕ → ℕ → Switch → Done
-slept conn milliseconds s = if is_full_of_jobs s then says too_many_jobs s else owes (sleep_begun conn milliseconds s)
+abbrev pub msleep_done : ℕ → ℕ → Switch → Done
+msleep_done conn milliseconds s = if is_full_of_jobs s then says too_many_jobs s else no_answer_yet (sleep_begun conn milliseconds s)
 
 -- a dial string of several legs, or with variables, is not built yet
-abbrev pub originated : ℕ → Text → Winner → Caller → Option ℕ → Switch → Done
-originated conn url winner caller timeout s =
+abbrev pub originate_done : ℕ → Text → Winner → Caller → Option ℕ → Switch → Done
+originate_done conn url winner caller timeout s =
     if is_full_of_jobs s then says too_many_jobs s
-    else (if is_one_leg url then owes (originate_begun conn url winner caller timeout s) else says (failed_text InvalidNumberFormat) s)
+    else (if is_one_leg url then no_answer_yet (originate_begun conn url winner caller timeout s)
+    else says (failed_text InvalidNumberFormat) s)
 
 -- ---- commands
 
@@ -97,14 +98,14 @@ originated conn url winner caller timeout s =
 abbrev pub done_plainly : ℕ → Api → Switch → Done
 done_plainly conn (api.Echo text) s = says text s
 done_plainly conn (api.Expand text) s = says (api_not_found (codes "expand")) s
-done_plainly conn (api.GlobalGetvar name) s = says (got_global name s.globals.pairs) s
+done_plainly conn (api.GlobalGetvar name) s = says (global_text name s.globals.pairs) s
 done_plainly conn (api.GlobalSetvar name value) s = set_global name value s
-done_plainly conn (api.Msleep milliseconds) s = slept conn milliseconds s
+done_plainly conn (api.Msleep milliseconds) s = msleep_done conn milliseconds s
 done_plainly conn (api.UuidExists uuid) s = says (told_whether (is_some (slot_named uuid s))) s
 done_plainly conn (api.UuidKill uuid cause) s = killed_as cause uuid s
-done_plainly conn (api.UuidGetvar uuid name) s = says (got_variable name (chan_named uuid s)) s
+done_plainly conn (api.UuidGetvar uuid name) s = says (variable_text name (chan_named uuid s)) s
 done_plainly conn (api.Originate url winner cid_name cid_number timeout) s =
-    originated conn url winner (record { name = cid_name; number = cid_number }) timeout s
+    originate_done conn url winner (record { name = cid_name; number = cid_number }) timeout s
 done_plainly conn (api.Usage which) s = says (usage_text (usage_of which)) s
 done_plainly conn (api.Unknown name) s = says (api_not_found name) s
 

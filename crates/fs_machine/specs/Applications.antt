@@ -31,8 +31,8 @@ with_export name value c = record c { vars = exported c.vars name value }
 -- ---- what an application does
 
 -- it sleeps, unless the time is none
-abbrev pub sleeping : ℕ → ℕ → Switch → Switch
-sleeping milliseconds slot s = if milliseconds == 0 then after_completion slot s else after_move (asleep s.moment milliseconds) slot s
+abbrev pub after_sleep : ℕ → ℕ → Switch → Switch
+after_sleep milliseconds slot s = if milliseconds == 0 then after_completion slot s else after_move (asleep s.moment milliseconds) slot s
 
 -- the state of the channel in a slot
 abbrev pub chan_state : Chan → State
@@ -42,31 +42,31 @@ abbrev pub state_at : ℕ → Switch → Option State
 state_at slot s = option_map chan_state (chan_at s slot)
 
 -- it parks, unless it is parked
-abbrev pub parking_in : Option State → ℕ → Switch → Switch
-parking_in None slot s = s
-parking_in (Some CsPark) slot s = after_completion slot s
-parking_in (Some _) slot s = after_move parked slot s
+abbrev pub after_park_in : Option State → ℕ → Switch → Switch
+after_park_in None slot s = s
+after_park_in (Some CsPark) slot s = after_completion slot s
+after_park_in (Some _) slot s = after_move parked slot s
 
-abbrev pub parking : ℕ → Switch → Switch
-parking slot s = parking_in (state_at slot s) slot s
+abbrev pub after_park : ℕ → Switch → Switch
+after_park slot s = after_park_in (state_at slot s) slot s
 
 -- a global is set, where no limit is passed
 abbrev pub with_global : Text → Text → Switch → Switch
 with_global name value s = record s { globals = with_set s.globals name value }
 
 -- what an application does in a slot; those that end at once say so
-abbrev pub effect : Application → ℕ → Switch → Switch
-effect app.Answer slot s = after_completion slot (after_answer slot s)
-effect (app.Set name value) slot s = after_completion slot (after_move (with_variable name value) slot s)
-effect (app.Unset name) slot s = after_completion slot (after_move (without_variable name) slot s)
-effect (app.Export name value) slot s = after_completion slot (after_move (with_export name value) slot s)
-effect (app.SetGlobal name value) slot s = after_completion slot (with_global name value s)
-effect app.Eval slot s = after_completion slot s
-effect (app.Sleep milliseconds) slot s = sleeping milliseconds slot s
-effect (app.Hangup cause) slot s = after_hangup cause slot s
-effect app.Park slot s = parking slot s
-effect (app.Transfer to) slot s = after_move (transferred to) slot s
-effect app.Unknown slot s = after_hangup DestinationOutOfOrder slot s
+abbrev pub after_effect : Application → ℕ → Switch → Switch
+after_effect app.Answer slot s = after_completion slot (after_answer slot s)
+after_effect (app.Set name value) slot s = after_completion slot (after_move (with_variable name value) slot s)
+after_effect (app.Unset name) slot s = after_completion slot (after_move (without_variable name) slot s)
+after_effect (app.Export name value) slot s = after_completion slot (after_move (with_export name value) slot s)
+after_effect (app.SetGlobal name value) slot s = after_completion slot (with_global name value s)
+after_effect app.Eval slot s = after_completion slot s
+after_effect (app.Sleep milliseconds) slot s = after_sleep milliseconds slot s
+after_effect (app.Hangup cause) slot s = after_hangup cause slot s
+after_effect app.Park slot s = after_park slot s
+after_effect (app.Transfer to) slot s = after_move (transferred to) slot s
+after_effect app.Unknown slot s = after_hangup DestinationOutOfOrder slot s
 
 -- ---- running one
 
@@ -79,24 +79,24 @@ abbrev pub argument_in : Chan → Switch → Text → Option Text
 argument_in c s text = unless_too_long (expanded (c.vars.pairs ++ fields_of c.profile ++ s.globals.pairs) text)
 
 -- an application begins and has its effect
-abbrev pub executed : Text → Text → ℕ → Switch → Switch
-executed application argument slot s =
-    effect (application_of application argument) slot (run_on (record { application = application; argument = argument }) slot s)
+abbrev pub after_execution : Text → Text → ℕ → Switch → Switch
+after_execution application argument slot s =
+    after_effect (application_of application argument) slot (run_on (record { application = application; argument = argument }) slot s)
 
 -- an argument that is too long hangs the channel up, and nothing is run
 abbrev pub executed_within : Text → Option Text → ℕ → Switch → Switch
 executed_within application None slot s = after_hangup NormalTemporaryFailure slot s
-executed_within application (Some argument) slot s = executed application argument slot s
+executed_within application (Some argument) slot s = after_execution application argument slot s
 
 -- what a channel is to run next is used up and run; one that has nothing to run is hung up
-abbrev pub ran_next : Option Action → ℕ → Chan → Switch → Switch
-ran_next None slot c s = after_hangup NormalClearing slot s
-ran_next (Some action) slot c s =
+abbrev pub after_running_next : Option Action → ℕ → Chan → Switch → Switch
+after_running_next None slot c s = after_hangup NormalClearing slot s
+after_running_next (Some action) slot c s =
     executed_within action.application (argument_in c s action.argument) slot (after_move after_next slot s)
 
-abbrev pub ran_from : ℕ → Option Chan → Switch → Switch
-ran_from slot None s = s
-ran_from slot (Some c) s = ran_next (next_action c) slot c s
+abbrev pub after_running_from : ℕ → Option Chan → Switch → Switch
+after_running_from slot None s = s
+after_running_from slot (Some c) s = after_running_next (next_action c) slot c s
 
-unfoldable pub ran : ℕ → Switch → Switch
-ran slot s = ran_from slot (chan_at s slot) s
+unfoldable pub after_running : ℕ → Switch → Switch
+after_running slot s = after_running_from slot (chan_at s slot) s

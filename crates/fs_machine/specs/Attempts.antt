@@ -20,7 +20,7 @@ use Rattle.fs_state.specs.Moves.{after_hangup}
 use Rattle.fs_machine.specs.Texts.{failed_text, made_text}
 use Rattle.fs_machine.specs.declared.attempts.Attempt.{Attempt}
 use Rattle.fs_machine.specs.declared.originations.Caller.{Caller}
-use Rattle.fs_machine.specs.Originations.{Made, leg_made, won}
+use Rattle.fs_machine.specs.Originations.{Made, leg_made, after_winning}
 use Rattle.fs_machine.specs.Owing.{after_job_begin, after_job_end}
 
 -- a second has a million microseconds
@@ -47,31 +47,31 @@ originate_begun conn endpoint winner caller timeout s =
     tried_by_job conn endpoint winner (unwrap_or timeout 60) (next_orig_number s) (leg_made endpoint caller (next_orig_number s) s)
 
 -- the channels in these slots are hung up, one after another
-abbrev pub all_hung : Cause → List ℕ → Switch → Switch
-all_hung cause [] s = s
-all_hung cause (slot ∷ slots) s = all_hung cause slots (after_hangup cause slot s)
+abbrev pub after_hangups : Cause → List ℕ → Switch → Switch
+after_hangups cause [] s = s
+after_hangups cause (slot ∷ slots) s = after_hangups cause slots (after_hangup cause slot s)
 
 -- it is gone, and its job has ended with an answer
 abbrev pub after_attempt : Attempt → Text → Switch → Switch
 after_attempt a answer s = after_job_end a.job a.conn answer (without_orig a.orig s)
 
 -- it has failed
-abbrev pub failed : Attempt → Cause → Switch → Switch
-failed a cause s = after_attempt a (failed_text cause) s
+abbrev pub after_failure : Attempt → Cause → Switch → Switch
+after_failure a cause s = after_attempt a (failed_text cause) s
 
 -- it comes to its deadline: its legs in these slots are hung up
 abbrev pub after_deadline : Attempt → List ℕ → Switch → Switch
-after_deadline a slots s = failed a NoAnswer (all_hung NoAnswer slots s)
+after_deadline a slots s = after_failure a NoAnswer (after_hangups NoAnswer slots s)
 
 -- the leg has won that stands at a position
-abbrev pub won_at : Attempt → Winner → Option OrigLeg → Switch → Switch
-won_at a winner None s = s
-won_at a winner (Some leg) s = after_attempt a (made_text leg.uuid) (won winner (unwrap_or leg.slot 0) s)
+abbrev pub after_winning_at : Attempt → Winner → Option OrigLeg → Switch → Switch
+after_winning_at a winner None s = s
+after_winning_at a winner (Some leg) s = after_attempt a (made_text leg.uuid) (after_winning winner (unwrap_or leg.slot 0) s)
 
 -- what comes of an origination by the verdict on it; it tries one leg, so no leg has a deadline of its own and no group follows
 abbrev pub after_verdict : Verdict → Attempt → Winner → Orig → Switch → Switch
-after_verdict (verdict.Won position) a winner o s = won_at a winner (slice_get o.legs position) s
-after_verdict (verdict.Failed cause) a winner o s = failed a cause s
+after_verdict (verdict.Won position) a winner o s = after_winning_at a winner (slice_get o.legs position) s
+after_verdict (verdict.Failed cause) a winner o s = after_failure a cause s
 after_verdict verdict.Expired a winner o s = after_deadline a (living_slots o.legs) s
 after_verdict _ a winner o s = s
 

@@ -30,39 +30,39 @@ command_of line =
 -- ---- what commands do
 
 -- a reply
-abbrev pub replied : ℕ → Text → Switch → Switch
-replied conn text s = with_gift conn (command_reply text) s
+abbrev pub with_reply : ℕ → Text → Switch → Switch
+with_reply conn text s = with_gift conn (command_reply text) s
 
 -- a last reply, and the notice
-abbrev pub dismissed : ℕ → Parting → Text → Switch → Switch
-dismissed conn why text s = with_gift conn notice (replied conn text (conn_changed (parted why) conn s))
+abbrev pub after_dismissal : ℕ → Parting → Text → Switch → Switch
+after_dismissal conn why text s = with_gift conn notice (with_reply conn text (conn_changed (parted why) conn s))
 
 -- a password was offered
-abbrev pub offered : ℕ → Text → Switch → Switch
-offered conn given s =
+abbrev pub after_password : ℕ → Text → Switch → Switch
+after_password conn given s =
     if bytes_eq given s.config.settings.password
-    then replied conn accepted (conn_changed admitted conn s)
-    else dismissed conn parting.AuthRefused invalid s
+    then with_reply conn accepted (conn_changed admitted conn s)
+    else after_dismissal conn parting.AuthRefused invalid s
 
 -- an answer, unless it is owed
-abbrev pub responded_with : ℕ → Option Text → Switch → Switch
-responded_with conn None s = s
-responded_with conn (Some answer) s = with_gift conn (api_response (spoken answer)) s
+abbrev pub with_response_of : ℕ → Option Text → Switch → Switch
+with_response_of conn None s = s
+with_response_of conn (Some answer) s = with_gift conn (api_response (spoken answer)) s
 
 -- an api command was done
-abbrev pub responded : ℕ → Done → Switch
-responded conn d = responded_with conn d.answer d.state
+abbrev pub with_response : ℕ → Done → Switch
+with_response conn d = with_response_of conn d.answer d.state
 
 -- what a command does in a phase of its connection; before a password was accepted `auth` and `exit` alone are known
 abbrev pub command_done_in : Phase → ℕ → Command → Switch → Switch
-command_done_in Fresh conn (Auth given) s = offered conn given s
-command_done_in Fresh conn Exit s = dismissed conn parting.Exit bye s
-command_done_in Fresh conn (Api text) s = replied conn not_found s
-command_done_in Fresh conn Unknown s = replied conn not_found s
-command_done_in Ready conn (Auth given) s = replied conn not_found s
-command_done_in Ready conn Exit s = dismissed conn parting.Exit bye s
-command_done_in Ready conn (Api text) s = responded conn (done_by conn (api_of text) s)
-command_done_in Ready conn Unknown s = replied conn not_found s
+command_done_in Fresh conn (Auth given) s = after_password conn given s
+command_done_in Fresh conn Exit s = after_dismissal conn parting.Exit bye s
+command_done_in Fresh conn (Api text) s = with_reply conn not_found s
+command_done_in Fresh conn Unknown s = with_reply conn not_found s
+command_done_in Ready conn (Auth given) s = with_reply conn not_found s
+command_done_in Ready conn Exit s = after_dismissal conn parting.Exit bye s
+command_done_in Ready conn (Api text) s = with_response conn (done_by conn (api_of text) s)
+command_done_in Ready conn Unknown s = with_reply conn not_found s
 command_done_in Ending conn command s = s
 command_done_in Closed conn command s = s
 

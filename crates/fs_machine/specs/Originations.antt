@@ -150,5 +150,5 @@ abbrev pub won_by : Winner → Chan → Chan
 won_by (App application argument) c = given_action application argument c
 won_by (Route to) c = given_route to c
 
-unfoldable pub won : Winner → ℕ → Switch → Switch
-won winner slot s = after_move (won_by winner) slot s
+unfoldable pub after_winning : Winner → ℕ → Switch → Switch
+after_winning winner slot s = after_move (won_by winner) slot s

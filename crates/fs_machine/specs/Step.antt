@@ -23,7 +23,7 @@ use Rattle.fs_machine.specs.Entries.{cost_of, is_full}
 use Rattle.fs_machine.specs.Connections.{phase_at, conn_changed, parted}
 use Rattle.fs_machine.specs.Questions.{owed_to}
 use Rattle.fs_machine.specs.Due.{slot_due, job_due}
-use Rattle.fs_machine.specs.Work.{worked}
+use Rattle.fs_machine.specs.Work.{after_work}
 use Rattle.fs_machine.specs.Jobs.{job_done}
 use Rattle.fs_machine.specs.Commands.{command_of, command_done}
 
@@ -130,17 +130,17 @@ queued_in conn s = record { state = s; reply = reply.Queued (is_some (owed_to s 
 abbrev pub taken : ℕ → Switch → Acted
 taken conn s = record { state = with_frame_taken conn s; reply = reply.Frame (unwrap_or (slice_get (waiting_for s conn) 0) []) }
 
-abbrev pub closed_by : Closing → ℕ → Switch → Switch
-closed_by EndOfInput conn s = conn_changed (parted parting.EndOfInput) conn s
-closed_by Sent conn s = without_conn conn s
-closed_by Failed conn s = without_conn conn s
+abbrev pub after_close : Closing → ℕ → Switch → Switch
+after_close EndOfInput conn s = conn_changed (parted parting.EndOfInput) conn s
+after_close Sent conn s = without_conn conn s
+after_close Failed conn s = without_conn conn s
 
 abbrev pub act_done : Act → Switch → Acted
 act_done Arrive s = arrived s
 act_done (Command conn block) s = queued_in conn (command_done conn (command_of (line_of block)) s)
 act_done (Take conn) s = taken conn s
-act_done (Close conn how) s = record { state = closed_by how conn s; reply = reply.Closed }
-act_done (Work slot) s = record { state = worked slot s; reply = reply.Worked }
+act_done (Close conn how) s = record { state = after_close how conn s; reply = reply.Closed }
+act_done (Work slot) s = record { state = after_work slot s; reply = reply.Worked }
 act_done (Job number) s = record { state = job_done number s; reply = reply.Worked }
 
 -- the state behind an entry, and its reply; defined also for what is refused

@@ -18,7 +18,7 @@ use Rattle.fs_plan.specs.Outcomes.{Outcome}
 use Rattle.fs_plan.specs.Hunting.{hunted}
 use Rattle.fs_state.specs.Switch.{Switch, chan_at}
 use Rattle.fs_state.specs.Moves.{after_move, after_hangup, after_begin, after_completion, after_report, after_destroy}
-use Rattle.fs_machine.specs.Applications.{ran}
+use Rattle.fs_machine.specs.Applications.{after_running}
 
 -- ---- routing
 
@@ -61,12 +61,12 @@ routed_by None c slot s = after_hangup (too_long_cause (has_xml c)) slot s
 routed_by (Some hunt) c slot s = after_hunt (has_xml c) hunt slot s
 
 -- a channel is routed, unless it was routed too often
-abbrev pub routing_from : ℕ → Option Chan → Switch → Switch
-routing_from slot None s = s
-routing_from slot (Some c) s = if may_route c then routed_by (found_for c s) c slot s else after_hangup ExchangeRoutingError slot s
+abbrev pub after_routing_from : ℕ → Option Chan → Switch → Switch
+after_routing_from slot None s = s
+after_routing_from slot (Some c) s = if may_route c then routed_by (found_for c s) c slot s else after_hangup ExchangeRoutingError slot s
 
-abbrev pub routing : ℕ → Switch → Switch
-routing slot s = routing_from slot (chan_at s slot) s
+abbrev pub after_routing : ℕ → Switch → Switch
+after_routing slot s = after_routing_from slot (chan_at s slot) s
 
 -- ---- state by state
 
@@ -76,27 +76,27 @@ first_state Inbound = CsRouting
 first_state Outbound = CsConsumeMedia
 
 -- what a channel waits for is over, or it runs what is next
-abbrev pub worked_waiting : Wait → ℕ → Switch → Switch
-worked_waiting Ready slot s = ran slot s
-worked_waiting (Sleep until) slot s = after_completion slot s
-worked_waiting Parked slot s = ran slot s
-worked_waiting (Socket conn) slot s = ran slot s
-worked_waiting _ slot s = s
+abbrev pub after_wait : Wait → ℕ → Switch → Switch
+after_wait Ready slot s = after_running slot s
+after_wait (Sleep until) slot s = after_completion slot s
+after_wait Parked slot s = after_running slot s
+after_wait (Socket conn) slot s = after_running slot s
+after_wait _ slot s = s
 
-abbrev pub worked_in : State → ℕ → Chan → Switch → Switch
-worked_in CsNew slot c s = after_begin slot s
-worked_in CsInit slot c s = after_move (in_state (first_state c.direction)) slot s
-worked_in CsRouting slot c s = routing slot s
-worked_in CsExecute slot c s = worked_waiting c.wait slot s
-worked_in CsPark slot c s = worked_waiting c.wait slot s
-worked_in CsHangup slot c s = after_report slot s
-worked_in CsReporting slot c s = after_destroy slot s
-worked_in _ slot c s = s
+abbrev pub after_work_in : State → ℕ → Chan → Switch → Switch
+after_work_in CsNew slot c s = after_begin slot s
+after_work_in CsInit slot c s = after_move (in_state (first_state c.direction)) slot s
+after_work_in CsRouting slot c s = after_routing slot s
+after_work_in CsExecute slot c s = after_wait c.wait slot s
+after_work_in CsPark slot c s = after_wait c.wait slot s
+after_work_in CsHangup slot c s = after_report slot s
+after_work_in CsReporting slot c s = after_destroy slot s
+after_work_in _ slot c s = s
 
-abbrev pub worked_from : ℕ → Option Chan → Switch → Switch
-worked_from slot None s = s
-worked_from slot (Some c) s = worked_in c.state slot c s
+abbrev pub after_work_from : ℕ → Option Chan → Switch → Switch
+after_work_from slot None s = s
+after_work_from slot (Some c) s = after_work_in c.state slot c s
 
 -- what the channel in a slot does by itself, where it has something to do
-unfoldable pub worked : ℕ → Switch → Switch
-worked slot s = worked_from slot (chan_at s slot) s
+unfoldable pub after_work : ℕ → Switch → Switch
+after_work slot s = after_work_from slot (chan_at s slot) s

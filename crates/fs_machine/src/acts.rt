@@ -82,7 +82,7 @@ fn take(draft: &mut Draft<'_>, conn: u32) -> Result<Reply, Memory>
 fn close(draft: &mut Draft<'_>, conn: u32, how: Closing) -> Result<(), Memory>
     requires { draft.old.delta.queue ≡ Unchanged }
     ensures base { draft.new.base ≡ draft.old.base }
-    ensures ok { OnOk result (drafted draft.new ≡ spec.closed_by how conn (drafted draft.old)) }
+    ensures ok { OnOk result (drafted draft.new ≡ spec.after_close how conn (drafted draft.old)) }
 {
     match how {
         Closing::EndOfInput => part(draft, conn, Parting::EndOfInput),

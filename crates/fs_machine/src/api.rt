@@ -146,7 +146,7 @@ fn kill(draft: &mut Draft<'_>, uuid: &Txt, cause: Cause) -> Result<Option<Txt>, 
 #[tactic(auto, unfolding(crate::specs::Texts::no_channel, crate::specs::Texts::undefined))]
 fn get_variable(draft: &Draft<'_>, uuid: &Txt, name: &Txt) -> Result<Option<Txt>, Memory>
     ensures { IfOk result
-        (λ said. said ≡ Some (spec.got_variable name.now (spec.chan_named uuid.now (drafted draft.now)))) }
+        (λ said. said ≡ Some (spec.variable_text name.now (spec.chan_named uuid.now (drafted draft.now)))) }
 {
     let alloc = draft.alloc();
     let Some(chan) = chan_named(draft, uuid) else {
@@ -171,7 +171,8 @@ fn chan_named<'a>(draft: &'a Draft<'_>, uuid: &Txt) -> Option<&'a Chan>
 #[tactic(auto, unfolding(crate::specs::Texts::too_many_jobs))]
 fn sleep(draft: &mut Draft<'_>, conn: u32, milliseconds: u64) -> Result<Option<Txt>, Memory>
     ensures base { draft.new.base ≡ draft.old.base }
-    ensures done { IfOk result (spec.ComesTo (spec.slept conn milliseconds (drafted draft.old)) (drafted draft.new)) }
+    ensures done { IfOk result (spec.ComesTo (spec.msleep_done conn milliseconds (drafted draft.old))
+        (drafted draft.new)) }
 {
     if draft.is_full_of_jobs() {
         return says(draft.alloc(), b"-ERR too many jobs\n");
@@ -192,7 +193,7 @@ fn originate(
 ) -> Result<Option<Txt>, Memory>
     ensures base { draft.new.base ≡ draft.old.base }
     ensures done { IfOk result
-        (spec.ComesTo (spec.originated conn url.now winner.now caller timeout (drafted draft.old))
+        (spec.ComesTo (spec.originate_done conn url.now winner.now caller timeout (drafted draft.old))
         (drafted draft.new)) }
 {
     let alloc = draft.alloc();
@@ -210,7 +211,7 @@ fn originate(
 
 // The value of a global, or nothing; without a name all globals in order, a line each.
 fn get_global(alloc: Global, globals: &Vars, name: Option<&Txt>) -> Result<Option<Txt>, Memory>
-    ensures { IfOk result (λ said. said ≡ Some (spec.got_global (option_copied name.entry) globals.now.pairs)) }
+    ensures { IfOk result (λ said. said ≡ Some (spec.global_text (option_copied name.entry) globals.now.pairs)) }
 {
     let Some(name) = name else {
         return Ok(Some(list(alloc, globals)?));

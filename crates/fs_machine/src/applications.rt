@@ -16,10 +16,10 @@ use fs_text::{Cause, Memory, State, Txt};
 use fs_vars::{Refused, Scope, expand};
 
 /// Runs what a channel is to run next, which is used up; a channel that has nothing to run is hung up.
-#[tactic(auto, unfolding(crate::specs::Applications::ran))]
+#[tactic(auto, unfolding(crate::specs::Applications::after_running))]
 pub(crate) fn run_next(draft: &mut Draft<'_>, slot: u16) -> Result<(), Memory>
     ensures base { draft.new.base ≡ draft.old.base }
-    ensures ok { OnOk result (drafted draft.new ≡ spec.ran slot (drafted draft.old)) }
+    ensures ok { OnOk result (drafted draft.new ≡ spec.after_running slot (drafted draft.old)) }
 {
     let Some(chan) = draft.chan(slot) else {
         return Ok(());
@@ -70,7 +70,7 @@ fn execute_within(
 // Begins an application, and applies its effect.
 fn execute(draft: &mut Draft<'_>, slot: u16, application: Txt, argument: Txt) -> Result<(), Memory>
     ensures base { draft.new.base ≡ draft.old.base }
-    ensures ok { OnOk result (drafted draft.new ≡ spec.executed application argument slot (drafted draft.old)) }
+    ensures ok { OnOk result (drafted draft.new ≡ spec.after_execution application argument slot (drafted draft.old)) }
 {
     let asked = Application::of(draft.alloc(), application.as_bytes(), argument.as_bytes())?;
     draft.run_on(
@@ -87,7 +87,7 @@ fn execute(draft: &mut Draft<'_>, slot: u16, application: Txt, argument: Txt) ->
 fn apply_effect(draft: &mut Draft<'_>, slot: u16, asked: &Application) -> Result<(), Memory>
     requires { IsShortApplication asked.now }
     ensures base { draft.new.base ≡ draft.old.base }
-    ensures ok { OnOk result (drafted draft.new ≡ spec.effect asked.now slot (drafted draft.old)) }
+    ensures ok { OnOk result (drafted draft.new ≡ spec.after_effect asked.now slot (drafted draft.old)) }
 {
     match asked {
         Application::Answer => answer(draft, slot),
@@ -140,7 +140,7 @@ fn change_global(draft: &mut Draft<'_>, slot: u16, name: &Txt, value: &Txt) -> R
 // Lets a channel sleep, unless the time is none.
 fn sleep(draft: &mut Draft<'_>, slot: u16, milliseconds: u64) -> Result<(), Memory>
     ensures base { draft.new.base ≡ draft.old.base }
-    ensures ok { OnOk result (drafted draft.new ≡ spec.sleeping milliseconds slot (drafted draft.old)) }
+    ensures ok { OnOk result (drafted draft.new ≡ spec.after_sleep milliseconds slot (drafted draft.old)) }
 {
     if milliseconds == 0 {
         return draft.complete(slot);
@@ -152,7 +152,7 @@ fn sleep(draft: &mut Draft<'_>, slot: u16, milliseconds: u64) -> Result<(), Memo
 // Parks a channel, unless it is parked.
 fn park(draft: &mut Draft<'_>, slot: u16) -> Result<(), Memory>
     ensures base { draft.new.base ≡ draft.old.base }
-    ensures ok { OnOk result (drafted draft.new ≡ spec.parking slot (drafted draft.old)) }
+    ensures ok { OnOk result (drafted draft.new ≡ spec.after_park slot (drafted draft.old)) }
 {
     match state_at(draft, slot) {
         None => Ok(()),

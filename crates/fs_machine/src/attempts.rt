@@ -3,7 +3,7 @@ ghost use Rattle.std.specs.Prelude.{◌≡◌, Some, slice_get, IfOk, OnOk};
 ghost use Rattle.fs_orig.specs.Legs as legs;
 ghost use Rattle.fs_state.specs.Drafts.{drafted};
 ghost use Rattle.fs_machine.specs.Attempts as spec;
-ghost use Rattle.fs_machine.specs.Originations.{won};
+ghost use Rattle.fs_machine.specs.Originations.{after_winning};
 
 use crate::channels::{ChanChange, change_chan};
 use crate::originations::{Caller, make_leg};
@@ -117,7 +117,8 @@ fn win_attempt(
     leg: &OrigLeg,
 ) -> Result<(), Memory>
     ensures base { draft.new.base ≡ draft.old.base }
-    ensures ok { OnOk result (drafted draft.new ≡ spec.won_at attempt winner.now (Some leg.now) (drafted draft.old)) }
+    ensures ok { OnOk result (drafted draft.new ≡ spec.after_winning_at attempt winner.now (Some leg.now)
+        (drafted draft.old)) }
 {
     let answer = made_text(draft.alloc(), leg.uuid.as_bytes())?;
     win(draft, leg.slot.unwrap_or(0), winner)?;
@@ -125,10 +126,10 @@ fn win_attempt(
 }
 
 // Lets the leg in a slot run its application, or be routed.
-#[tactic(auto, unfolding(crate::specs::Originations::won))]
+#[tactic(auto, unfolding(crate::specs::Originations::after_winning))]
 fn win(draft: &mut Draft<'_>, slot: u16, winner: &Winner) -> Result<(), Memory>
     ensures base { draft.new.base ≡ draft.old.base }
-    ensures ok { OnOk result (drafted draft.new ≡ won winner.now slot (drafted draft.old)) }
+    ensures ok { OnOk result (drafted draft.new ≡ after_winning winner.now slot (drafted draft.old)) }
 {
     change_chan(draft, slot, ChanChange::Win { winner })
 }
@@ -145,7 +146,7 @@ fn expire(draft: &mut Draft<'_>, attempt: Attempt, slots: &[u16]) -> Result<(), 
 // Ends an origination that has failed.
 fn fail(draft: &mut Draft<'_>, attempt: Attempt, cause: Cause) -> Result<(), Memory>
     ensures base { draft.new.base ≡ draft.old.base }
-    ensures ok { OnOk result (drafted draft.new ≡ spec.failed attempt cause (drafted draft.old)) }
+    ensures ok { OnOk result (drafted draft.new ≡ spec.after_failure attempt cause (drafted draft.old)) }
 {
     let answer = failed_text(draft.alloc(), cause)?;
     end_attempt(draft, attempt, answer.as_bytes())
@@ -184,7 +185,7 @@ fn living_slot(leg: &OrigLeg) -> Option<u16>
 // Hangs up the channels in these slots, one after another.
 fn hang_up_all(draft: &mut Draft<'_>, slots: &[u16], cause: Cause) -> Result<(), Memory>
     ensures base { draft.new.base ≡ draft.old.base }
-    ensures ok { OnOk result (drafted draft.new ≡ spec.all_hung cause slots.now (drafted draft.old)) }
+    ensures ok { OnOk result (drafted draft.new ≡ spec.after_hangups cause slots.now (drafted draft.old)) }
 {
     for slot in slots {
         draft.hang_up(*slot, cause)?;

@@ -66,7 +66,7 @@ pub(crate) fn do_command(
 // Replies to a command.
 fn reply(draft: &mut Draft<'_>, conn: u32, text: &[u8]) -> Result<(), Memory>
     ensures base { draft.new.base ≡ draft.old.base }
-    ensures ok { OnOk result (drafted draft.new ≡ spec.replied conn text.now (drafted draft.old)) }
+    ensures ok { OnOk result (drafted draft.new ≡ spec.with_reply conn text.now (drafted draft.old)) }
 {
     let frame = command_reply(draft.alloc(), text)?;
     draft.give(conn, frame)
@@ -75,7 +75,7 @@ fn reply(draft: &mut Draft<'_>, conn: u32, text: &[u8]) -> Result<(), Memory>
 // Begins the end of a connection, with a last reply and the notice.
 fn begin_ending(draft: &mut Draft<'_>, conn: u32, why: Parting, text: &[u8]) -> Result<(), Memory>
     ensures base { draft.new.base ≡ draft.old.base }
-    ensures ok { OnOk result (drafted draft.new ≡ spec.dismissed conn why text.now (drafted draft.old)) }
+    ensures ok { OnOk result (drafted draft.new ≡ spec.after_dismissal conn why text.now (drafted draft.old)) }
 {
     part(draft, conn, why)?;
     reply(draft, conn, text)?;
@@ -87,7 +87,7 @@ fn begin_ending(draft: &mut Draft<'_>, conn: u32, why: Parting, text: &[u8]) -> 
 #[tactic(auto, unfolding(crate::specs::Texts::accepted, crate::specs::Texts::invalid))]
 fn authenticate(draft: &mut Draft<'_>, conn: u32, given: &[u8]) -> Result<(), Memory>
     ensures base { draft.new.base ≡ draft.old.base }
-    ensures ok { OnOk result (drafted draft.new ≡ spec.offered conn given.now (drafted draft.old)) }
+    ensures ok { OnOk result (drafted draft.new ≡ spec.after_password conn given.now (drafted draft.old)) }
 {
     if !is_password(draft, given) {
         return begin_ending(draft, conn, Parting::AuthRefused, b"-ERR invalid");
@@ -107,7 +107,7 @@ fn is_password(draft: &Draft<'_>, given: &[u8]) -> bool
 fn respond(draft: &mut Draft<'_>, conn: u32, text: &[u8]) -> Result<(), Memory>
     ensures base { draft.new.base ≡ draft.old.base }
     ensures ok { OnOk result
-        (drafted draft.new ≡ spec.responded conn (done_by conn (api_of text.now) (drafted draft.old))) }
+        (drafted draft.new ≡ spec.with_response conn (done_by conn (api_of text.now) (drafted draft.old))) }
 {
     let alloc = draft.alloc();
     let api = Api::of(alloc, text)?;

@@ -17,11 +17,11 @@ use fs_text::{Cause, Memory, State};
 use fs_vars::{Refused, Scope, Vars};
 
 /// Does what the channel in a slot has to do by itself.
-#[tactic(auto, unfolding(crate::specs::Work::worked))]
+#[tactic(auto, unfolding(crate::specs::Work::after_work))]
 pub(crate) fn work(draft: &mut Draft<'_>, plan: &Dialplan, slot: u16) -> Result<(), Memory>
     requires plan { plan.now ≡ draft.old.base.config.contexts }
     ensures base { draft.new.base ≡ draft.old.base }
-    ensures ok { OnOk result (drafted draft.new ≡ spec.worked slot (drafted draft.old)) }
+    ensures ok { OnOk result (drafted draft.new ≡ spec.after_work slot (drafted draft.old)) }
 {
     let Some(chan) = draft.chan(slot) else {
         return Ok(());
@@ -56,7 +56,7 @@ fn first_state(direction: Direction) -> State
 fn route(draft: &mut Draft<'_>, plan: &Dialplan, slot: u16) -> Result<(), Memory>
     requires plan { plan.now ≡ draft.old.base.config.contexts }
     ensures base { draft.new.base ≡ draft.old.base }
-    ensures ok { OnOk result (drafted draft.new ≡ spec.routing slot (drafted draft.old)) }
+    ensures ok { OnOk result (drafted draft.new ≡ spec.after_routing slot (drafted draft.old)) }
 {
     let Some(chan) = draft.chan(slot) else {
         return Ok(());

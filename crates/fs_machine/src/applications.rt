@@ -39,7 +39,7 @@ fn argument_in(draft: &Draft<'_>, chan: &Chan, text: &Txt) -> Result<Option<Txt>
     ensures { IfOk result (λ found. found ≡ spec.argument_in chan.now (drafted draft.now) text.now) }
 {
     let scope = Scope {
-        vars: &chan.vars,
+        vars: &*chan.vars,
         profile: &chan.profile,
         globals: draft.globals(),
     };

@@ -94,8 +94,9 @@ fn hunt_for(draft: &Draft<'_>, plan: &Dialplan, chan: &Chan) -> Result<Option<Hu
     requires plan { plan.now ≡ draft.now.base.config.contexts }
     ensures { IfOk result (λ found. found ≡ spec.found_for chan.now (drafted draft.now)) }
 {
+    let vars = &*chan.vars;
     let scope = Scope {
-        vars: &chan.vars,
+        vars,
         profile: &chan.profile,
         globals: draft.globals(),
     };

@@ -12,10 +12,13 @@ pub returns-in-Err-TooLong : goal.returns-in-Err-TooLong
 returns-in-Err-TooLong c =
     let chan = c.args.chan.now in
     let globals = (drafted c.args.draft.now).globals in
-    let found : List Context → Text → Variables → Option Hunt =
-    λ contexts context known. found_in (hunted contexts context chan.profile chan.vars known) in
-    let of_globals : Variables → Type 0 = λ known. None ≡ found c.args.plan.now c.as_bytes-context.result.now known in
-    let of_context : Text → Type 0 = λ context. None ≡ found c.args.plan.now context globals in
-    let of_plan : List Context → Type 0 = λ contexts. None ≡ found contexts chan.profile.context globals in
+    let lent = c.deref-vars.result.now in
+    let found : List Context → Text → Variables → Variables → Option Hunt =
+    λ contexts context vars known. found_in (hunted contexts context chan.profile vars known) in
+    let of_globals : Variables → Type 0 = λ known. None ≡ found c.args.plan.now c.as_bytes-context.result.now lent known in
+    let of_context : Text → Type 0 = λ context. None ≡ found c.args.plan.now context lent globals in
+    let of_vars : Variables → Type 0 = λ vars. None ≡ found c.args.plan.now chan.profile.context vars globals in
+    let of_plan : List Context → Type 0 = λ contexts. None ≡ found contexts chan.profile.context chan.vars globals in
     let told = ap found_in (c.in-Err-TooLong.ensures.too_long c.in-Err-TooLong.field-0-0 c.in-Err-TooLong.field-0-is) in
-    subst of_plan c.requires.plan (subst of_context c.as_bytes-context.ensures (subst of_globals c.globals.ensures (sym told)))
+    let by_context = subst of_context c.as_bytes-context.ensures (subst of_globals c.globals.ensures (sym told)) in
+    subst of_plan c.requires.plan (subst of_vars c.deref-vars.ensures by_context)

@@ -3,7 +3,6 @@
 ghost use Rattle.std.specs.Prelude.{◌≡◌, [], OnOk};
 ghost use Rattle.fs_doc.specs.Reading.{Configuration};
 ghost use Rattle.fs_ports.specs.Ports.{Input, Output};
-ghost use Rattle.fs_machine.specs.Step as step;
 ghost use Rattle.fs_conn.specs.Play.{after_closing, after_input_end};
 ghost use Rattle.fs_conn.specs.Steps.{play_of, Does, HasFilled, MayClose, Sends};
 ghost use Rattle.fs_conn.specs.Turns.{Stops, Plays, ClosesFailed};
@@ -15,7 +14,6 @@ use crate::stop::Stop;
 use crate::unsent::Unsent;
 use fs_machine::{Act, Closing, Machine};
 use fs_ports::Link;
-use fs_state::Phase;
 
 /// Closes a connection that came to its end, once all is written.
 pub(crate) fn finish<L: Link>(
@@ -49,19 +47,12 @@ fn end_input<L: Link>(
         (play_of machine.old clock) (play_of machine.new clock) result }
     ensures input { L.input link.new ≡ L.input link.old }
 {
-    if !reads(machine.phase(CONN)) {
+    if !machine.reads(CONN) {
         return Ok(());
     }
     let how = Closing::EndOfInput;
     enter(machine, clock, Act::Close { conn: CONN, how })?;
     send_frames(machine, clock, unsent, link)
-}
-
-// Whether a connection in this phase reads commands.
-fn reads(phase: Phase) -> bool
-    ensures { result ≡ step.reads phase }
-{
-    matches!(phase, Phase::Fresh | Phase::Ready)
 }
 
 /// Writes what is unsent of a play that stopped, and says how it ends.

@@ -2,7 +2,6 @@ use Rattle.std.proofs.Common.{refl, sym, ap, ◌∙◌}
 use Rattle.std.proofs.lemmas.Result.{err_from_is_err_and}
 use Rattle.fs_machine.specs.declared.entry.Act.TheVariants.{Close}
 use Rattle.fs_machine.specs.declared.entry.Closing.TheVariants.{EndOfInput}
-use Rattle.fs_machine.specs.Step.{reads}
 use Rattle.fs_conn.specs.Steps.{play_of, HasFilled}
 use Rattle.fs_conn.proofs.StepLemmas.{works_enters}
 use Rattle.fs_conn.proofs.SendLemmas.{writing_none, sends_later, sends_entered}
@@ -16,7 +15,7 @@ returns-then-not-reads-clause-sends g c =
 pub returns-in_err-enter-clause-does : goal.returns-in_err-enter-clause-does
 returns-in_err-enter-clause-does g c =
     let p = err_from_is_err_and c.from_residual.result c.from_residual.ensures.1 in
-    let reading = ap reads (sym c.phase.ensures) ∙ sym c.reads.ensures ∙ c.if-not-reads.false in
+    let reading = sym c.reads.ensures ∙ c.if-not-reads.false in
     rw (p.1, p.2)
     (input_ended_stops (play_of c.args.machine.now c.args.clock)
     (play_of c.enter.new.machine c.args.clock) _ refl reading c.in_err-enter.ensures)

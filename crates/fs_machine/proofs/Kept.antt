@@ -89,7 +89,7 @@ pub record KeptByJobs (before : Switch) (P : Fact) : Type 0 where
   pub woken : (number conn until : ℕ) (answer : Text) {s : Switch} → DoesJob s number conn (work.Sleep until) → P (Some 0) s →
       P (Some 0) (after_job_end number conn answer s)
   pub failed : (a : Attempt) (winner : Winner) (cause : Cause) {s : Switch} → DoesJob s a.job a.conn (work.Originate a.orig winner) →
-      P (Some 0) s → P (Some 0) (failed a cause s)
+      P (Some 0) s → P (Some 0) (after_failure a cause s)
   pub wins : (a : Attempt) (winner : Winner) (leg : OrigLeg) → DoesJob before a.job a.conn (work.Originate a.orig winner) →
       HasLeg before a.orig leg → P (Some 0) before →
       P (Some 0) (after_job_end a.job a.conn (made_text leg.uuid) (without_orig a.orig

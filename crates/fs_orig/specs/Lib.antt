@@ -4,3 +4,4 @@ pub mod Verdicts
 pub mod Meaning
 pub mod Changes
 pub mod Endpoints
+pub mod Plans

@@ -1,8 +1,9 @@
 //! One origination: what it is to try, the legs that it has made, each change of these, and the verdict on it at a
-//! moment; and what the endpoint of a leg comes to.
+//! moment; and what a dial string says of one.
 #![tactic(auto)]
 
 mod changes;
+mod dialled;
 mod endpoint;
 mod leg;
 mod orig;

@@ -62,7 +62,7 @@ impl LegPlan {
 }
 
 /// Copies pairs.
-fn copy_pairs(alloc: Global, pairs: &Headers) -> Result<Headers, Memory>
+pub(crate) fn copy_pairs(alloc: Global, pairs: &Headers) -> Result<Headers, Memory>
     ensures { IfOk result (λ copy. copy ≡ pairs.now) }
 {
     let mut copy = Headers::new(alloc);

@@ -5,3 +5,4 @@ pub mod Meaning
 pub mod Changes
 pub mod Endpoints
 pub mod Plans
+pub mod Timeouts

@@ -9,6 +9,7 @@ mod leg;
 mod orig;
 mod plan;
 mod search;
+mod timeout;
 mod verdict;
 
 pub use changes::changes_law;
@@ -16,4 +17,5 @@ pub use endpoint::{Endpoint, is_one_leg};
 pub use leg::{OrigLeg, OrigLegs};
 pub use orig::{Orig, Owner};
 pub use plan::{LegGroup, LegPlan, LegPlans};
+pub use timeout::{braces_timeout, seconds_of};
 pub use verdict::{Verdict, judge, verdict_law};

@@ -3,13 +3,12 @@ use Rattle.std.specs.Prelude.{ℕ, ◌==◌, nat_le, ◌&&◌, Bool, if◌then�
 use Rattle.std.specs.Option.{option_and_then}
 use Rattle.fs_text.specs.Number.{read_u64}
 use Rattle.fs_text.specs.Words.{before_byte, behind_byte}
+use Rattle.fs_orig.specs.declared.winner.Winner.{Winner}
+use Rattle.fs_orig.specs.declared.winner.Winner.TheVariants.{App, Route}
 use Rattle.fs_api.specs.declared.api.Api.{Api}
 use Rattle.fs_api.specs.declared.api.Api.TheVariants.{Originate, Usage}
-use Rattle.fs_api.specs.declared.api.Winner.{Winner}
-use Rattle.fs_api.specs.declared.api.Winner.TheVariants.{App, Route}
 use Rattle.fs_api.specs.declared.usages.Which.TheVariants as which
-use Rattle.fs_api.specs.Routes.{Text}
-use Rattle.fs_api.specs.Words.{quoted_word, behind_quoted, unquoted}
+use Rattle.fs_api.specs.Words.{Text, quoted_word, behind_quoted, unquoted}
 
 -- the first word, without the quotes round it
 abbrev pub plain_word : Text → Text

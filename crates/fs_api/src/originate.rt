@@ -4,10 +4,10 @@ ghost use Rattle.std.specs.Prelude.{◌≡◌, ◌==◌, IfOk};
 ghost use Rattle.fs_api.specs.Originates as spec;
 ghost use Rattle.fs_api.specs.Words as words;
 
-use crate::api::{Api, Winner};
-use crate::route::Route;
+use crate::api::Api;
 use crate::usages::Which;
 use crate::words::{cut_quoted, unquoted};
+use fs_orig::{Route, Winner};
 use fs_text::{Memory, Txt, cut_at, read_u64};
 use std::alloc::Global;
 

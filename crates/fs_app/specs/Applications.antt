@@ -3,7 +3,7 @@ use Rattle.std.specs.Prelude.{ℕ, ◌==◌, nat_le, Bool, false, not, ◌||◌,
 use Rattle.std.specs.Str.{bytes_eq}
 use Rattle.fs_text.specs.Number.{read_u64}
 use Rattle.fs_text.specs.Words.{name_in, value_in, without_spaces, word_of, behind_word}
-use Rattle.fs_api.specs.Routes.{Text}
+use Rattle.fs_api.specs.Words.{Text}
 use Rattle.fs_api.specs.Originates.{is_short}
 use Rattle.fs_api.specs.Readings.{cause_named}
 use Rattle.fs_chan.specs.Changes as changes

@@ -6,3 +6,4 @@ pub mod Changes
 pub mod Endpoints
 pub mod Plans
 pub mod Timeouts
+pub mod Routes

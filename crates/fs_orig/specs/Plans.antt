@@ -1,12 +1,10 @@
 -- What a dial string is to try: the plans of its legs.
-use Rattle.std.specs.Prelude.{ℕ, List, ◌++◌, map}
+use Rattle.std.specs.Prelude.{List, ◌++◌, map}
 use Rattle.fs_dial.specs.Pairs.{Pair, plain}
 use Rattle.fs_dial.specs.Legs.{LegText}
 use Rattle.fs_dial.specs.DialStrings.{Dial}
 use Rattle.fs_orig.specs.declared.plan.LegPlan.{LegPlan}
-
-abbrev pub Text : Type 0
-Text = List ℕ
+use Rattle.fs_orig.specs.Endpoints.{Text}
 
 -- its name, and its value without quotes and backslashes
 abbrev pub plain_pair : Pair → Text × Text

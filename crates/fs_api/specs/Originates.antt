@@ -1,10 +1,9 @@
 -- How the arguments of `originate` are read.
 use Rattle.std.specs.Prelude.{ℕ, ◌==◌, nat_le, ◌&&◌, Bool, if◌then◌else◌, [], ◌∷◌, length, Option, None, Some, unwrap_or, codes}
-use Rattle.std.specs.Option.{option_and_then}
-use Rattle.fs_text.specs.Number.{read_u64}
 use Rattle.fs_text.specs.Words.{before_byte, behind_byte}
 use Rattle.fs_orig.specs.declared.winner.Winner.{Winner}
 use Rattle.fs_orig.specs.declared.winner.Winner.TheVariants.{App, Route}
+use Rattle.fs_orig.specs.Timeouts.{seconds_in}
 use Rattle.fs_api.specs.declared.api.Api.{Api}
 use Rattle.fs_api.specs.declared.api.Api.TheVariants.{Originate, Usage}
 use Rattle.fs_api.specs.declared.usages.Which.TheVariants as which
@@ -58,15 +57,6 @@ winner_of (byte ∷ bytes) dialplan context =
     else (if is_short (byte ∷ bytes) then Some (route_winner (byte ∷ bytes) dialplan context) else None))
     else None
 
--- ---- the timeout
-
--- a number of seconds from 1 to 3,600
-abbrev pub seconds_within : ℕ → Option ℕ
-seconds_within n = if nat_le 1 n && nat_le n 3600 then Some n else None
-
-abbrev pub seconds_of : Text → Option ℕ
-seconds_of text = option_and_then seconds_within (read_u64 text)
-
 -- ---- all of it
 
 abbrev pub originate_with : Text → Option Winner → Text → Api
@@ -74,7 +64,7 @@ originate_with url None rest = Usage which.Originate
 originate_with url (Some winner) rest =
     let number = behind_quoted rest in
     let timeout = behind_quoted number in
-    Originate url winner (plain_word rest) (plain_word number) (seconds_of (plain_word timeout))
+    Originate url winner (plain_word rest) (plain_word number) (seconds_in (plain_word timeout))
 
 -- the first three words behind the url, each with all that stands behind it
 abbrev pub originate_words : Text → Text → Text → Text → Api

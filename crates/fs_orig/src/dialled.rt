@@ -5,7 +5,7 @@ ghost use Rattle.fs_dial.specs.DialStrings.{dial_of};
 ghost use Rattle.fs_dial.specs.Legs.{leg_of};
 ghost use Rattle.fs_orig.specs.Plans as spec;
 
-use crate::plan::{LegGroup, LegPlan, LegPlans, copy_pairs};
+use crate::plan::{LegGroup, LegPlan, LegPlans, add_copies};
 use fs_dial::{DialString, Group, Leg, RawPairs};
 use fs_text::{Headers, Memory, Txt};
 use std::alloc::Global;
@@ -17,7 +17,7 @@ impl LegPlans {
         ensures { IfOk result (λ plans. plans ≡ spec.plans_of (dial_of dial.now)) }
     {
         let mut braces = Headers::new(alloc);
-        add_pairs(alloc, &mut braces, &dial.pairs)?;
+        add_plain(alloc, &mut braces, &dial.pairs)?;
         let mut plans = LegPlans::new(alloc);
         for group in dial.groups.as_slice() {
             plans.push(group_of(alloc, &braces, group)?)?;
@@ -41,8 +41,9 @@ fn group_of(alloc: Global, braces: &Headers, group: &Group<'_>) -> Result<LegGro
 fn plan_of(alloc: Global, braces: &Headers, leg: &Leg<'_>) -> Result<LegPlan, Memory>
     ensures { IfOk result (λ plan. plan ≡ spec.leg_behind braces.now (leg_of leg.now)) }
 {
-    let mut pairs = copy_pairs(alloc, braces)?;
-    add_pairs(alloc, &mut pairs, &leg.pairs)?;
+    let mut pairs = Headers::new(alloc);
+    add_copies(&mut pairs, braces)?;
+    add_plain(alloc, &mut pairs, &leg.pairs)?;
     Ok(LegPlan {
         endpoint: Txt::of(alloc, leg.endpoint)?,
         pairs,
@@ -50,7 +51,7 @@ fn plan_of(alloc: Global, braces: &Headers, leg: &Leg<'_>) -> Result<LegPlan, Me
 }
 
 /// Puts pairs behind others, their values without quotes and backslashes.
-fn add_pairs(alloc: Global, pairs: &mut Headers, added: &RawPairs<'_>) -> Result<(), Memory>
+fn add_plain(alloc: Global, pairs: &mut Headers, added: &RawPairs<'_>) -> Result<(), Memory>
     ensures { IfOk result (λ _. pairs.new ≡ pairs.old ++ spec.plain_pairs added.now) }
 {
     for pair in added.as_slice() {

@@ -8,6 +8,6 @@ use Rattle.fs_orig.proofs.timeout.last_named.Given as goal
 
 abbrev pub invariant-loop-pair : goal.invariant-loop-pair
 invariant-loop-pair l =
-    last_value l.name (plain_pairs (map pair_of l.pairs))
+    last_value l.name (plain_pairs l.pairs)
     ≡ last_or (option_map (λ p. plain (pair_of p)) l.last)
-    (filter_map (value_named l.name) (plain_pairs (map pair_of (drop l.pair-index l.pairs))))
+    (filter_map (value_named l.name) (plain_pairs (map pair_of (drop l.pair-index l.pair-items))))

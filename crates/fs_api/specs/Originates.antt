@@ -1,8 +1,9 @@
 -- How the arguments of `originate` are read.
-use Rattle.std.specs.Prelude.{ℕ, ◌==◌, nat_le, ◌&&◌, Bool, if◌then◌else◌, [], ◌∷◌, length, Option, None, Some, unwrap_or, codes}
+use Rattle.std.specs.Prelude.{ℕ, ◌==◌, ◌&&◌, Bool, if◌then◌else◌, [], ◌∷◌, length, Option, None, Some, unwrap_or, codes}
 use Rattle.fs_text.specs.Words.{before_byte, behind_byte}
 use Rattle.fs_orig.specs.declared.winner.Winner.{Winner}
 use Rattle.fs_orig.specs.declared.winner.Winner.TheVariants.{App, Route}
+use Rattle.fs_orig.specs.Endpoints.{is_short}
 use Rattle.fs_orig.specs.Timeouts.{seconds_in}
 use Rattle.fs_api.specs.declared.api.Api.{Api}
 use Rattle.fs_api.specs.declared.api.Api.TheVariants.{Originate, Usage}
@@ -43,10 +44,6 @@ application text = App (before_byte 40 text) (up_to_close (behind_byte 40 text))
 -- routed to these
 abbrev pub route_winner : Text → Text → Text → Winner
 route_winner exten dialplan context = Route (record { exten = exten; dialplan = dialplan; context = context })
-
--- the text has at most 256 bytes
-abbrev pub is_short : Text → Bool
-is_short text = nat_le (length text) 256
 
 -- what the winner does, where these are within their length
 abbrev pub winner_of : Text → Text → Text → Option Winner

@@ -2,7 +2,8 @@
 
 use crate::answer::Answer;
 use crate::words::bytes_of;
-use fs_api::{Api, Winner};
+use fs_api::Api;
+use fs_orig::Winner;
 use fs_text::Memory;
 use std::alloc::Global;
 

@@ -4,7 +4,7 @@ use crate::answer::Answer;
 use crate::applications::tell_app;
 use crate::channels::tell_channel;
 use crate::commands::{tell_api, tell_expanded};
-use crate::dials::tell_dial;
+use crate::dials::{tell_dial, tell_plans, tell_timeout};
 use crate::disk::{tell_build, tell_load};
 use crate::documents::{attributes, tell_config};
 use crate::frames::Frames;
@@ -99,6 +99,8 @@ impl<D: Files + Drop> Desk<D> {
             "endpoint" => tell_endpoint(alloc, rest, answer),
             "one-leg" => tell_one_leg(alloc, rest, answer),
             "dial" => tell_dial(alloc, rest, answer),
+            "plans" => tell_plans(alloc, rest, answer),
+            "timeout" => tell_timeout(alloc, rest, answer),
             "hunt" => self.hunts.tell_hunt(rest, answer),
             "load" => tell_load(alloc, &mut self.disk, rest, answer),
             "build" => tell_build(&mut self.disk, rest, answer),

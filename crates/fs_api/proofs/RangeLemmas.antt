@@ -6,17 +6,17 @@ use Rattle.std.specs.Option.{option_and_then}
 use Rattle.std.specs.Str.{bytes_eq}
 use Rattle.fs_text.specs.Number.{read_u64}
 use Rattle.fs_text.specs.declared.memory.Memory.{Memory}
+use Rattle.fs_orig.specs.declared.winner.Winner.{Winner}
+use Rattle.fs_orig.specs.Timeouts.{IsTimeout, seconds_within}
 use Rattle.fs_api.specs.declared.api.Api.{Api}
 use Rattle.fs_api.specs.declared.api.Api.TheVariants.{Expand, UuidGetvar}
-use Rattle.fs_api.specs.declared.api.Winner.{Winner}
 use Rattle.fs_api.specs.declared.usages.Which.{Which}
 use Rattle.fs_api.specs.declared.usages.Which.TheVariants as which
 use Rattle.fs_text.specs.Words.{word_of, behind_word}
-use Rattle.fs_api.specs.Words.{behind_quoted, quoted_word}
-use Rattle.fs_api.specs.Routes.{Text}
-use Rattle.fs_api.specs.Originates.{seconds_within, plain_word, originate_with, originate_to, originate_of}
+use Rattle.fs_api.specs.Words.{Text, behind_quoted, quoted_word}
+use Rattle.fs_api.specs.Originates.{plain_word, originate_with, originate_to, originate_of}
 use Rattle.fs_api.specs.Readings.{needs, global_setvar_of, global_getvar_of, msleep_for, uuid_exists_of, uuid_kill_of, uuid_getvar_of, api_named}
-use Rattle.fs_api.specs.Ranges.{IsTimeout, IsInRange}
+use Rattle.fs_api.specs.Ranges.{IsInRange}
 
 -- what holds of both parts of a choice holds of the choice
 either : {A : Type 0} (P : A → Type 0) (test : Bool) (x y : A) → (test ≡ true → P x) → (test ≡ false → P y) → P (if test then x else y)

@@ -1,6 +1,5 @@
 pub mod Usages
 pub mod Words
-pub mod Routes
 pub mod Originates
 pub mod Readings
 pub mod Ranges

@@ -1,15 +1,14 @@
 -- How the arguments of `originate` are read.
-use Rattle.std.specs.Prelude.{ℕ, ◌==◌, nat_le, ◌&&◌, Bool, if◌then◌else◌, [], ◌∷◌, length, Option, None, Some, unwrap_or, codes}
-use Rattle.std.specs.Option.{option_and_then}
-use Rattle.fs_text.specs.Number.{read_u64}
+use Rattle.std.specs.Prelude.{ℕ, ◌==◌, ◌&&◌, Bool, if◌then◌else◌, [], ◌∷◌, length, Option, None, Some, unwrap_or, codes}
 use Rattle.fs_text.specs.Words.{before_byte, behind_byte}
+use Rattle.fs_orig.specs.declared.winner.Winner.{Winner}
+use Rattle.fs_orig.specs.declared.winner.Winner.TheVariants.{App, Route}
+use Rattle.fs_orig.specs.Endpoints.{is_short}
+use Rattle.fs_orig.specs.Timeouts.{seconds_in}
 use Rattle.fs_api.specs.declared.api.Api.{Api}
 use Rattle.fs_api.specs.declared.api.Api.TheVariants.{Originate, Usage}
-use Rattle.fs_api.specs.declared.api.Winner.{Winner}
-use Rattle.fs_api.specs.declared.api.Winner.TheVariants.{App, Route}
 use Rattle.fs_api.specs.declared.usages.Which.TheVariants as which
-use Rattle.fs_api.specs.Routes.{Text}
-use Rattle.fs_api.specs.Words.{quoted_word, behind_quoted, unquoted}
+use Rattle.fs_api.specs.Words.{Text, quoted_word, behind_quoted, unquoted}
 
 -- the first word, without the quotes round it
 abbrev pub plain_word : Text → Text
@@ -46,10 +45,6 @@ application text = App (before_byte 40 text) (up_to_close (behind_byte 40 text))
 abbrev pub route_winner : Text → Text → Text → Winner
 route_winner exten dialplan context = Route (record { exten = exten; dialplan = dialplan; context = context })
 
--- the text has at most 256 bytes
-abbrev pub is_short : Text → Bool
-is_short text = nat_le (length text) 256
-
 -- what the winner does, where these are within their length
 abbrev pub winner_of : Text → Text → Text → Option Winner
 winner_of [] dialplan context = if is_short dialplan && is_short context then Some (route_winner [] dialplan context) else None
@@ -59,15 +54,6 @@ winner_of (byte ∷ bytes) dialplan context =
     else (if is_short (byte ∷ bytes) then Some (route_winner (byte ∷ bytes) dialplan context) else None))
     else None
 
--- ---- the timeout
-
--- a number of seconds from 1 to 3,600
-abbrev pub seconds_within : ℕ → Option ℕ
-seconds_within n = if nat_le 1 n && nat_le n 3600 then Some n else None
-
-abbrev pub seconds_of : Text → Option ℕ
-seconds_of text = option_and_then seconds_within (read_u64 text)
-
 -- ---- all of it
 
 abbrev pub originate_with : Text → Option Winner → Text → Api
@@ -75,7 +61,7 @@ originate_with url None rest = Usage which.Originate
 originate_with url (Some winner) rest =
     let number = behind_quoted rest in
     let timeout = behind_quoted number in
-    Originate url winner (plain_word rest) (plain_word number) (seconds_of (plain_word timeout))
+    Originate url winner (plain_word rest) (plain_word number) (seconds_in (plain_word timeout))
 
 -- the first three words behind the url, each with all that stands behind it
 abbrev pub originate_words : Text → Text → Text → Text → Api

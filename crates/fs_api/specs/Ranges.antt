@@ -1,12 +1,8 @@
 -- The limits that the numbers of an api command keep.
-use Rattle.std.specs.Prelude.{ℕ, ◌≤◌, IfSome}
+use Rattle.std.specs.Prelude.{◌≤◌, IfSome}
+use Rattle.fs_orig.specs.Timeouts.{IsTimeout}
 use Rattle.fs_api.specs.declared.api.Api.{Api}
 use Rattle.fs_api.specs.declared.api.Api.TheVariants.{Msleep, Originate}
-
--- a number of seconds from 1 to 3,600
-pub record IsTimeout (seconds : ℕ) : Type 0 where
-  pub low : 1 ≤ seconds
-  pub high : seconds ≤ 3600
 
 -- a sleep is at most an hour, and the time that legs have is in its range
 abbrev pub IsInRange : Api → Type 0

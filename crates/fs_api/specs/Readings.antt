@@ -10,7 +10,7 @@ use Rattle.fs_api.specs.declared.api.Api.{Api}
 use Rattle.fs_api.specs.declared.api.Api.TheVariants.{Echo, Expand, GlobalGetvar, GlobalSetvar, Msleep, UuidExists, UuidKill, UuidGetvar, Usage, Unknown}
 use Rattle.fs_api.specs.declared.usages.Which.{Which}
 use Rattle.fs_api.specs.declared.usages.Which.TheVariants as which
-use Rattle.fs_api.specs.Routes.{Text}
+use Rattle.fs_api.specs.Words.{Text}
 use Rattle.fs_api.specs.Originates.{originate_of}
 
 -- what these arguments are, or the usage where there are none

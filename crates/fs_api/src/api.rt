@@ -1,10 +1,8 @@
 //! The api commands.
 
-ghost use Rattle.std.specs.Prelude.{◌≡◌, IfOk};
-
-use crate::route::Route;
 use crate::usages::Which;
-use fs_text::{Cause, Memory, Txt};
+use fs_orig::Winner;
+use fs_text::{Cause, Txt};
 
 /// An api command.
 pub enum Api {
@@ -88,43 +86,5 @@ impl Drop for Api {
             Api::Usage(_) => {}
             Api::Unknown(_name) => {}
         }
-    }
-}
-
-/// What a leg does that wins for the api command `originate`.
-pub enum Winner {
-    /// It runs an application.
-    App { application: Txt, argument: Txt },
-    /// It is routed.
-    Route(Route),
-}
-
-impl Drop for Winner {
-    fn drop(self) {
-        match self {
-            Winner::App {
-                application: _application,
-                argument: _argument,
-            } => {}
-            Winner::Route(_route) => {}
-        }
-    }
-}
-
-impl Winner {
-    /// Copies what the winner is to do.
-    pub fn copy(&self) -> Result<Winner, Memory>
-        ensures { IfOk result (λ winner. winner ≡ self.now) }
-    {
-        Ok(match self {
-            Winner::App {
-                application,
-                argument,
-            } => Winner::App {
-                application: application.copy()?,
-                argument: argument.copy()?,
-            },
-            Winner::Route(route) => Winner::Route(route.copy()?),
-        })
     }
 }

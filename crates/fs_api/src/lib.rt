@@ -4,10 +4,8 @@
 mod api;
 mod originate;
 mod reading;
-mod route;
 mod usages;
 mod words;
 
-pub use api::{Api, Winner};
-pub use route::Route;
+pub use api::Api;
 pub use usages::{Which, usage};

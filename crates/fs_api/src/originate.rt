@@ -4,11 +4,11 @@ ghost use Rattle.std.specs.Prelude.{◌≡◌, ◌==◌, IfOk};
 ghost use Rattle.fs_api.specs.Originates as spec;
 ghost use Rattle.fs_api.specs.Words as words;
 
-use crate::api::{Api, Winner};
-use crate::route::Route;
+use crate::api::Api;
 use crate::usages::Which;
 use crate::words::{cut_quoted, unquoted};
-use fs_text::{Memory, Txt, cut_at, read_u64};
+use fs_orig::{Route, Winner, seconds_of};
+use fs_text::{Memory, Txt, cut_at};
 use std::alloc::Global;
 
 /// The most bytes that an extension, a dialplan and a context have.
@@ -69,7 +69,7 @@ fn originated(
         winner,
         cid_name: Txt::of(alloc, cid_name)?,
         cid_number: Txt::of(alloc, cid_number)?,
-        timeout: seconds(timeout),
+        timeout: seconds_of(timeout),
     })
 }
 
@@ -141,14 +141,4 @@ fn up_to_close(text: &[u8]) -> &[u8]
         left = front;
     }
     text
-}
-
-// A number of seconds from 1 to 3,600.
-fn seconds(text: &[u8]) -> Option<u64>
-    ensures { result ≡ spec.seconds_of text.now }
-{
-    match read_u64(text) {
-        Some(seconds) if (1..=3_600).contains(&seconds) => Some(seconds),
-        _ => None,
-    }
 }

@@ -1,11 +1,11 @@
 -- What an application is asked to do, by its name and its argument.
-use Rattle.std.specs.Prelude.{ℕ, ◌==◌, nat_le, Bool, false, not, ◌||◌, ◌&&◌, if◌then◌else◌, [], ◌∷◌, Option, None, Some, codes}
+use Rattle.std.specs.Prelude.{ℕ, ◌==◌, nat_le, Bool, false, not, ◌||◌, ◌&&◌, if◌then◌else◌, [], ◌∷◌, Option, None, Some, unwrap_or, codes}
 use Rattle.std.specs.Str.{bytes_eq}
 use Rattle.fs_text.specs.Number.{read_u64}
 use Rattle.fs_text.specs.Words.{name_in, value_in, without_spaces, word_of, behind_word}
-use Rattle.fs_api.specs.Routes.{Text}
-use Rattle.fs_api.specs.Originates.{is_short}
-use Rattle.fs_api.specs.Readings.{cause_named}
+use Rattle.fs_text.specs.Cause.{cause_of_name}
+use Rattle.fs_text.specs.declared.causes.Cause.TheVariants.{NormalClearing}
+use Rattle.fs_orig.specs.Endpoints.{Text, is_short}
 use Rattle.fs_chan.specs.Changes as changes
 use Rattle.fs_app.specs.declared.application.Application.{Application}
 use Rattle.fs_app.specs.declared.application.Application.TheVariants as app
@@ -20,9 +20,9 @@ within_hour (Some n) = if nat_le n 3600000 then n else 0
 abbrev pub sleep_application : Text → Application
 sleep_application argument = app.Sleep (within_hour (read_u64 argument))
 
--- the cause of the first word
+-- the cause that the first word names; NORMAL_CLEARING where there is no such name
 abbrev pub hangup_application : Text → Application
-hangup_application argument = app.Hangup (cause_named (word_of (without_spaces argument)))
+hangup_application argument = app.Hangup (unwrap_or (cause_of_name (word_of (without_spaces argument))) NormalClearing)
 
 -- ---- routing
 

@@ -2,8 +2,7 @@
 
 ghost use Rattle.std.specs.Prelude.{◌≡◌, IfOk};
 ghost use Rattle.fs_text.specs.Words.{name_in, value_in};
-ghost use Rattle.fs_api.specs.Originates.{is_short};
-ghost use Rattle.fs_api.specs.Readings.{cause_named};
+ghost use Rattle.fs_orig.specs.Endpoints.{is_short};
 ghost use Rattle.fs_app.specs.Applications as spec;
 
 use crate::application::Application;

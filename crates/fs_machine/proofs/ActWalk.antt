@@ -9,13 +9,13 @@ use Rattle.fs_vars.specs.Expansion.{expanded}
 use Rattle.fs_frame.specs.Block.{line_of}
 use Rattle.fs_api.specs.declared.api.Api.{Api}
 use Rattle.fs_api.specs.declared.api.Api.TheVariants as api
-use Rattle.fs_api.specs.declared.api.Winner.{Winner}
 use Rattle.fs_api.specs.Readings.{api_of, expanded_api_of}
 use Rattle.fs_chan.specs.Moments.{moment_after}
 use Rattle.fs_orig.specs.declared.leg.OrigLeg.{OrigLeg}
 use Rattle.fs_orig.specs.declared.orig.Orig.{Orig}
 use Rattle.fs_orig.specs.declared.verdict.Verdict.{Verdict}
 use Rattle.fs_orig.specs.declared.verdict.Verdict.TheVariants as verdict
+use Rattle.fs_orig.specs.declared.winner.Winner.{Winner}
 use Rattle.fs_orig.specs.Endpoints.{is_one_leg}
 use Rattle.fs_orig.specs.Legs.{living_slots}
 use Rattle.fs_orig.specs.Verdicts.{verdict_of}

@@ -3,10 +3,10 @@ use Rattle.std.proofs.Common.{◌≡◌, ℕ, List, Option, None, Some, unwrap_o
 use Rattle.fs_vars.specs.Pairs.{Text}
 use Rattle.fs_vars.specs.Variables.{Variables}
 use Rattle.fs_doc.specs.Reading.{Configuration}
-use Rattle.fs_api.specs.declared.api.Winner.{Winner}
 use Rattle.fs_chan.specs.declared.chan.Chan.{Chan}
 use Rattle.fs_orig.specs.declared.leg.OrigLeg.{OrigLeg}
 use Rattle.fs_orig.specs.declared.orig.Orig.{Orig}
+use Rattle.fs_orig.specs.declared.winner.Winner.{Winner}
 use Rattle.fs_places.specs.declared.numbered.Numbered.{Numbered}
 use Rattle.fs_places.specs.Rows.{with_row}
 use Rattle.fs_state.specs.declared.conn.Conn.{Conn}

@@ -6,13 +6,13 @@ use Rattle.fs_text.specs.declared.states.State.TheVariants.{CsHangup}
 use Rattle.fs_text.specs.declared.causes.Cause.{Cause}
 use Rattle.fs_text.specs.declared.causes.Cause.TheVariants.{SwitchCongestion}
 use Rattle.fs_vars.specs.Pairs.{Text}
-use Rattle.fs_api.specs.declared.api.Winner.{Winner}
 use Rattle.fs_chan.specs.declared.chan.Chan.{Chan}
 use Rattle.fs_chan.specs.Changes.{is_live, hung_up}
 use Rattle.fs_orig.specs.declared.endpoint.Endpoint.{Endpoint}
 use Rattle.fs_orig.specs.declared.endpoint.Endpoint.TheVariants.{Loopback, Dead}
 use Rattle.fs_orig.specs.declared.leg.OrigLeg.{OrigLeg}
 use Rattle.fs_orig.specs.declared.orig.Orig.{Orig}
+use Rattle.fs_orig.specs.declared.winner.Winner.{Winner}
 use Rattle.fs_orig.specs.Legs.{lives}
 use Rattle.fs_orig.specs.Changes.{with_leg_answer, with_leg_death, with_answer, with_death}
 use Rattle.fs_orig.specs.Endpoints.{endpoint_of}

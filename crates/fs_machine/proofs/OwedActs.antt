@@ -4,8 +4,8 @@ use Rattle.std.specs.Option.{option_and_then}
 use Rattle.std.proofs.lemmas.Bool.{false≢true, not-false}
 use Rattle.fs_vars.specs.Pairs.{Text}
 use Rattle.fs_frame.specs.Block.{line_of}
-use Rattle.fs_api.specs.declared.api.Winner.{Winner}
 use Rattle.fs_orig.specs.declared.leg.OrigLeg.{OrigLeg}
+use Rattle.fs_orig.specs.declared.winner.Winner.{Winner}
 use Rattle.fs_places.specs.Places.{least_free}
 use Rattle.fs_places.specs.Rows.{row_of}
 use Rattle.fs_places.proofs.TableLemmas.{something_there}

@@ -1,10 +1,10 @@
 -- Each act keeps the agreement of loopback partners.
 use Rattle.std.proofs.Common.{◌≡◌, ℕ, ◌+◌, Bool, true, false, cond, nat_lt, [], ◌∷◌, Option, None, Some, option_and_then, unwrap_or, refl, sym, ap, subst, ◌∙◌, arith}
 use Rattle.fs_text.specs.declared.causes.Cause.{Cause}
-use Rattle.fs_api.specs.declared.api.Winner.{Winner}
-use Rattle.fs_api.specs.declared.api.Winner.TheVariants.{App, Route}
 use Rattle.fs_chan.specs.declared.chan.Chan.{Chan}
 use Rattle.fs_chan.specs.Changes.{is_live}
+use Rattle.fs_orig.specs.declared.winner.Winner.{Winner}
+use Rattle.fs_orig.specs.declared.winner.Winner.TheVariants.{App, Route}
 use Rattle.fs_orig.specs.Changes.{with_answer}
 use Rattle.fs_places.proofs.HeldLemmas.{IsFree, held_within}
 use Rattle.fs_state.specs.Switch.{Switch, chan_at, with_chan, with_next_identifier, identifier_of}

@@ -12,7 +12,6 @@ use Rattle.fs_vars.specs.Pairs.{Text}
 use Rattle.fs_vars.specs.declared.profile.Profile.{Profile}
 use Rattle.fs_api.specs.declared.api.Api.{Api}
 use Rattle.fs_api.specs.declared.api.Api.TheVariants as api
-use Rattle.fs_api.specs.declared.api.Winner.{Winner}
 use Rattle.fs_api.specs.declared.usages.Which.{Which}
 use Rattle.fs_api.specs.declared.usages.Which.TheVariants as which
 use Rattle.fs_api.specs.Originates as originates
@@ -29,6 +28,7 @@ use Rattle.fs_chan.specs.declared.target.Target3.{Target3}
 use Rattle.fs_chan.specs.Changes.{sent_to, IsShortTarget, HasShortFields}
 use Rattle.fs_orig.specs.declared.endpoint.Endpoint.{Endpoint}
 use Rattle.fs_orig.specs.declared.endpoint.Endpoint.TheVariants.{Loopback, Dead}
+use Rattle.fs_orig.specs.declared.winner.Winner.{Winner}
 use Rattle.fs_orig.specs.Endpoints as endpoints
 use Rattle.fs_orig.specs.Endpoints.{endpoint_of}
 use Rattle.fs_orig.proofs.EndpointLemmas.{part_or_short}
@@ -83,16 +83,16 @@ app_by false x y first second = second refl
 
 routing_short : (exten dialplan context : Text) → apps.IsShortApplication (apps.transfer exten dialplan context)
 routing_short exten dialplan context =
-    let first : Bool = apps.is_exten exten && originates.is_short exten in
-    let second : Bool = first && originates.is_short dialplan in
-    app_by (second && originates.is_short context) (apps.transfer_to exten dialplan context) app.Unknown
+    let first : Bool = apps.is_exten exten && endpoints.is_short exten in
+    let second : Bool = first && endpoints.is_short dialplan in
+    app_by (second && endpoints.is_short context) (apps.transfer_to exten dialplan context) app.Unknown
     (λ all.
-    let both : second ≡ true = left_holds second (originates.is_short context) all in
-    let one : first ≡ true = left_holds first (originates.is_short dialplan) both in
+    let both : second ≡ true = left_holds second (endpoints.is_short context) all in
+    let one : first ≡ true = left_holds first (endpoints.is_short dialplan) both in
     record {
-      exten = leb-true (length exten) 256 (right_holds (apps.is_exten exten) (originates.is_short exten) one);
-      dialplan = word_short dialplan (leb-true (length dialplan) 256 (right_holds first (originates.is_short dialplan) both));
-      context = word_short context (leb-true (length context) 256 (right_holds second (originates.is_short context) all));
+      exten = leb-true (length exten) 256 (right_holds (apps.is_exten exten) (endpoints.is_short exten) one);
+      dialplan = word_short dialplan (leb-true (length dialplan) 256 (right_holds first (endpoints.is_short dialplan) both));
+      context = word_short context (leb-true (length context) 256 (right_holds second (endpoints.is_short context) all));
     })
     (λ none. tt)
 
@@ -139,22 +139,22 @@ winner_by : (test : Bool) (x y : Option Winner) → (test ≡ true → IfSome x 
 winner_by true x y first second = first refl
 winner_by false x y first second = second refl
 
-route_short : (exten dialplan context : Text) → length exten ≤ 256 → (originates.is_short dialplan && originates.is_short context) ≡ true →
+route_short : (exten dialplan context : Text) → length exten ≤ 256 → (endpoints.is_short dialplan && endpoints.is_short context) ≡ true →
     IsShortWinner (originates.route_winner exten dialplan context)
 route_short exten dialplan context short both = record {
   exten = short;
-  dialplan = leb-true (length dialplan) 256 (left_holds (originates.is_short dialplan) (originates.is_short context) both);
-  context = leb-true (length context) 256 (right_holds (originates.is_short dialplan) (originates.is_short context) both);
+  dialplan = leb-true (length dialplan) 256 (left_holds (endpoints.is_short dialplan) (endpoints.is_short context) both);
+  context = leb-true (length context) 256 (right_holds (endpoints.is_short dialplan) (endpoints.is_short context) both);
 }
 
 winner_short : (exten dialplan context : Text) → IfSome (originates.winner_of exten dialplan context) IsShortWinner
 winner_short [] dialplan context =
-    winner_by (originates.is_short dialplan && originates.is_short context) (Some (originates.route_winner [] dialplan context)) None
+    winner_by (endpoints.is_short dialplan && endpoints.is_short context) (Some (originates.route_winner [] dialplan context)) None
     (λ both. route_short [] dialplan context (omega arith) both) (λ none. tt)
 winner_short (byte ∷ bytes) dialplan context =
-    winner_by (originates.is_short dialplan && originates.is_short context) _ None
+    winner_by (endpoints.is_short dialplan && endpoints.is_short context) _ None
     (λ both. winner_by (byte == 38) (Some (originates.application bytes)) _ (λ runs. tt)
-    (λ routes. winner_by (originates.is_short (byte ∷ bytes)) (Some (originates.route_winner (byte ∷ bytes) dialplan context)) None
+    (λ routes. winner_by (endpoints.is_short (byte ∷ bytes)) (Some (originates.route_winner (byte ∷ bytes) dialplan context)) None
     (λ short. route_short (byte ∷ bytes) dialplan context (leb-true (length (byte ∷ bytes)) 256 short) both) (λ none. tt)))
     (λ none. tt)
 

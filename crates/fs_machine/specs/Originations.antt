@@ -8,9 +8,6 @@ use Rattle.fs_vars.specs.Pairs.{Text}
 use Rattle.fs_vars.specs.Variables.{Variables}
 use Rattle.fs_vars.specs.declared.bounds.Bounds.TheVariants.{Channel}
 use Rattle.fs_vars.specs.declared.profile.Profile.{Profile}
-use Rattle.fs_api.specs.declared.api.Winner.{Winner}
-use Rattle.fs_api.specs.declared.api.Winner.TheVariants.{App, Route}
-use Rattle.fs_api.specs.Routes.{RouteTo}
 use Rattle.fs_chan.specs.declared.chan.Chan.{Chan}
 use Rattle.fs_chan.specs.declared.peer.Direction.{Direction}
 use Rattle.fs_chan.specs.declared.peer.Direction.TheVariants.{Inbound, Outbound}
@@ -20,8 +17,11 @@ use Rattle.fs_chan.specs.Changes.{new_channel, transferred}
 use Rattle.fs_orig.specs.declared.leg.OrigLeg.{OrigLeg}
 use Rattle.fs_orig.specs.declared.endpoint.Endpoint.{Endpoint}
 use Rattle.fs_orig.specs.declared.endpoint.Endpoint.TheVariants.{Loopback, Dead}
+use Rattle.fs_orig.specs.declared.winner.Winner.{Winner}
+use Rattle.fs_orig.specs.declared.winner.Winner.TheVariants.{App, Route}
 use Rattle.fs_orig.specs.Changes.{ringing, unmade}
 use Rattle.fs_orig.specs.Endpoints.{endpoint_of}
+use Rattle.fs_orig.specs.Routes.{RouteTo}
 use Rattle.fs_state.specs.Switch.{Switch, with_chan, free_slot, with_next_identifier, identifier_of}
 use Rattle.fs_state.specs.Moves.{after_move}
 use Rattle.fs_machine.specs.declared.originations.Call.{Call}

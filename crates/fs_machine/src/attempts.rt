@@ -9,9 +9,10 @@ use crate::channels::{ChanChange, change_chan};
 use crate::originations::{Caller, make_leg};
 use crate::owing::{begin_job, end_job};
 use crate::texts::{failed_text, made_text};
-use fs_api::Winner;
 use fs_chan::moment_after;
-use fs_orig::{LegGroup, LegPlan, LegPlans, Orig, OrigLeg, OrigLegs, Owner, Verdict, judge};
+use fs_orig::{
+    LegGroup, LegPlan, LegPlans, Orig, OrigLeg, OrigLegs, Owner, Verdict, Winner, judge,
+};
 use fs_state::{Draft, JobWork};
 use fs_text::{Cause, Headers, Memory, Txt};
 use std::alloc::Global;

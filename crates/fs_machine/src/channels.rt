@@ -6,8 +6,8 @@ ghost use Rattle.fs_state.specs.Moves.{after_move};
 ghost use Rattle.fs_machine.specs.Channels as spec;
 
 use crate::originations::win_by;
-use fs_api::Winner;
 use fs_chan::Chan;
+use fs_orig::Winner;
 use fs_state::Draft;
 use fs_text::{Memory, Txt};
 use std::alloc::Global;

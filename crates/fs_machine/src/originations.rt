@@ -6,9 +6,8 @@ ghost use Rattle.fs_state.specs.Drafts.{drafted};
 ghost use Rattle.fs_state.specs.Switch.{identifier_of, with_next_identifier, free_slot};
 ghost use Rattle.fs_machine.specs.Originations as spec;
 
-use fs_api::{Route, Winner};
 use fs_chan::{Action, Actions, ActionsLeft, Chan, Direction, SharedVars, Target3, Wait};
-use fs_orig::{Endpoint, OrigLeg};
+use fs_orig::{Endpoint, OrigLeg, Route, Winner};
 use fs_state::Draft;
 use fs_text::{Cause, Memory, State, Txt};
 use fs_vars::{Bounds, Profile, Vars};

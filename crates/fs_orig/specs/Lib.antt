@@ -4,3 +4,6 @@ pub mod Verdicts
 pub mod Meaning
 pub mod Changes
 pub mod Endpoints
+pub mod Plans
+pub mod Timeouts
+pub mod Routes

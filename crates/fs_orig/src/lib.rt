@@ -1,18 +1,25 @@
 //! One origination: what it is to try, the legs that it has made, each change of these, and the verdict on it at a
-//! moment; and what the endpoint of a leg comes to.
+//! moment; and what a dial string says of one.
 #![tactic(auto)]
 
 mod changes;
+mod dialled;
 mod endpoint;
 mod leg;
 mod orig;
 mod plan;
+mod route;
 mod search;
+mod timeout;
 mod verdict;
+mod winner;
 
 pub use changes::changes_law;
 pub use endpoint::{Endpoint, is_one_leg};
 pub use leg::{OrigLeg, OrigLegs};
 pub use orig::{Orig, Owner};
 pub use plan::{LegGroup, LegPlan, LegPlans};
+pub use route::Route;
+pub use timeout::{braces_timeout, seconds_of};
 pub use verdict::{Verdict, judge, verdict_law};
+pub use winner::Winner;

@@ -54,22 +54,23 @@ impl LegPlan {
     pub fn copy(&self, alloc: Global) -> Result<LegPlan, Memory>
         ensures { IfOk result (λ plan. plan ≡ self.now) }
     {
+        let mut pairs = Headers::new(alloc);
+        add_copies(&mut pairs, &self.pairs)?;
         Ok(LegPlan {
             endpoint: self.endpoint.copy()?,
-            pairs: copy_pairs(alloc, &self.pairs)?,
+            pairs,
         })
     }
 }
 
-/// Copies pairs.
-fn copy_pairs(alloc: Global, pairs: &Headers) -> Result<Headers, Memory>
-    ensures { IfOk result (λ copy. copy ≡ pairs.now) }
+/// Puts copies of pairs behind others.
+pub(crate) fn add_copies(pairs: &mut Headers, copied: &Headers) -> Result<(), Memory>
+    ensures { IfOk result (λ _. pairs.new ≡ pairs.old ++ copied.now) }
 {
-    let mut copy = Headers::new(alloc);
-    for (name, value) in pairs.pairs() {
-        copy.push(name.copy()?, value.copy()?)?;
+    for (name, value) in copied.pairs() {
+        pairs.push(name.copy()?, value.copy()?)?;
     }
-    Ok(copy)
+    Ok(())
 }
 
 impl LegGroup {

@@ -1,7 +1,7 @@
 //! Jobs.
 ghost use Rattle.std.specs.Prelude.{◌≡◌, IfOk};
 
-use fs_api::Winner;
+use fs_orig::Winner;
 use fs_text::Memory;
 
 /// Work that goes on behind a command, and in the end gives its reply.

@@ -1,8 +1,6 @@
 -- Where a winner is routed to.
-use Rattle.std.specs.Prelude.{ℕ, ◌≤◌, List, length}
-
-abbrev pub Text : Type 0
-Text = List ℕ
+use Rattle.std.specs.Prelude.{◌≤◌, length}
+use Rattle.fs_orig.specs.Endpoints.{Text}
 
 -- an extension, in a context of a dialplan
 pub record RouteTo : Type 0 where

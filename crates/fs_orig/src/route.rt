@@ -1,12 +1,12 @@
 //! Where the winner of an origination is routed to.
 
 ghost use Rattle.std.specs.Prelude.{◌≡◌, IfOk};
-ghost use Rattle.fs_api.specs.Routes.{IsShortRoute};
+ghost use Rattle.fs_orig.specs.Routes.{IsShortRoute};
 
 use fs_text::{Memory, Txt};
 use std::marker::Model;
 
-/// Where a leg is routed to that wins for the api command `originate`: an extension, in a context of a dialplan.
+/// Where a leg is routed to that has won: an extension, in a context of a dialplan.
 ///
 /// Each of the three texts has at most 256 bytes.
 pub struct Route {
@@ -26,7 +26,7 @@ impl Drop for Route {
 }
 
 impl Model for Route {
-    ghost use Rattle.fs_api.specs.Routes.{RouteTo, IsShortRoute};
+    ghost use Rattle.fs_orig.specs.Routes.{RouteTo, IsShortRoute};
 
     ghost Value = { RouteTo };
 

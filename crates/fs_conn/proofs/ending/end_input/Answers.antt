@@ -1,4 +1,4 @@
-use Rattle.std.proofs.Common.{refl, sym, ap, ◌∙◌}
+use Rattle.std.proofs.Common.{refl, sym, ◌∙◌}
 use Rattle.std.proofs.lemmas.Result.{err_from_is_err_and}
 use Rattle.fs_machine.specs.declared.entry.Act.TheVariants.{Close}
 use Rattle.fs_machine.specs.declared.entry.Closing.TheVariants.{EndOfInput}

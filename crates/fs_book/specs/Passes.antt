@@ -1,5 +1,5 @@
 -- What a pass knows, and which book it is of.
-use Rattle.std.specs.Prelude.{◌≡◌, ℕ, List, Some}
+use Rattle.std.specs.Prelude.{◌≡◌, ℕ, ◌+◌, ◌^◌, List, [], Some}
 use Rattle.fs_book.specs.declared.turned.Turned.{Ghosts}
 use Rattle.fs_book.specs.declared.book.Book.{Book}
 use Rattle.fs_book.specs.declared.pass.Pass.{Pass}
@@ -19,6 +19,14 @@ module _ {M B O E A R : Type 0} {g : Ghosts M B O E A R} where
 
   abbrev pub parts : Pass M B O E A R g → ℕ
   parts pass = pass.seat.me.0.parts
+
+  -- it has seen nothing, has made nothing, and has all parts
+  abbrev pub IsFirstPass : Pass M B O E A R g → Type 0
+  IsFirstPass pass = (seen pass ≡ []) × (mine pass ≡ []) × (met pass ≡ []) × (parts pass ≡ 2 ^ 62)
+
+  -- it gave so many of its parts away, and is else as it was
+  abbrev pub GivesParts : ℕ → Pass M B O E A R g → Pass M B O E A R g → Type 0
+  GivesParts count old new = (seen new ≡ seen old) × (mine new ≡ mine old) × (met new ≡ met old) × (parts new + count ≡ parts old)
 
   -- the lists and parts are as they were
   abbrev pub KeepsLists : Pass M B O E A R g → Pass M B O E A R g → Type 0

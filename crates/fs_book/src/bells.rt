@@ -32,7 +32,8 @@ impl Patience {
 }
 
 // A caller sets the bell of its ticket to the ticket's mark, reads the turn again, and sleeps while the mark is there.
-// Whoever passes the turn on rings afterwards. So a caller that read the turn too early is woken, or finds its mark gone.
+// Whoever passes the turn on rings afterwards. So a caller that read the turn too early is woken, or finds its mark
+// gone.
 #[derive(Drop)]
 pub struct Bells {
     bells: [AtomicU64; BELLS],

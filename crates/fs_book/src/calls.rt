@@ -21,13 +21,17 @@ impl<M: Turned> Book<M> {
     ) -> Result<Receipt<M::Answer>, M::Refusal>
         requires book { IsPassOf M.start self.now pass.old }
         requires fits { M.fits (M.start (opening_state self.now)) (seen pass.old) entry }
-        requires owns { NamesOwn M.opens M.names (M.start (opening_state self.now)) (seen pass.old) (mine pass.old) (M.logged entry) }
+        requires owns { NamesOwn M.opens M.names (M.start (opening_state self.now)) (seen pass.old) (mine pass.old)
+            (M.logged entry) }
         ensures book { IsPassOf M.start self.now pass.new }
         ensures kept { (met pass.new ≡ met pass.old) × (parts pass.new ≡ parts pass.old) }
         ensures later { IsPrefix (seen pass.old) (seen pass.new) }
-        ensures ok { IfOk result (λ r. (before : List M.Logged) × IsPrefix (seen pass.old) before × (seen pass.new ≡ before ++ M.logged entry ∷ []) × (r.place ≡ length before)
-            × (mine pass.new ≡ mine pass.old ++ r.place ∷ []) × M.answers (M.start (opening_state self.now)) before entry r.answer) }
-        ensures err { IfErr result (λ r. (mine pass.new ≡ mine pass.old) × M.refuses (M.start (opening_state self.now)) (seen pass.new) entry r) }
+        ensures ok { IfOk result (λ r. (before : List M.Logged) × IsPrefix (seen pass.old) before
+            × (seen pass.new ≡ before ++ M.logged entry ∷ []) × (r.place ≡ length before)
+            × (mine pass.new ≡ mine pass.old ++ r.place ∷ [])
+            × M.answers (M.start (opening_state self.now)) before entry r.answer) }
+        ensures err { IfErr result (λ r. (mine pass.new ≡ mine pass.old)
+            × M.refuses (M.start (opening_state self.now)) (seen pass.new) entry r) }
     {
         let seat = &mut pass.seat;
         let mut state = self.enter(rt, seat);

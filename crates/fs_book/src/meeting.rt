@@ -3,7 +3,7 @@ ghost use Rattle.std.specs.Prelude.{◌≡◌, ◌+◌, ◌<◌, [], ◌∷◌, 
 ghost use mathlib.Core.List.{IsPrefix};
 ghost use Rattle.fs_book.specs.declared.view.Stage.TheVariants.{Idle};
 ghost use Rattle.fs_book.specs.Turns.{cut_left, cut_right, longer};
-ghost use Rattle.fs_book.specs.Passes.{seen, mine, met, parts, IsPassOf};
+ghost use Rattle.fs_book.specs.Passes.{seen, mine, met, parts, GivesParts, IsPassOf};
 
 use crate::book::Book;
 use crate::pass::Pass;
@@ -18,7 +18,7 @@ impl<M: Turned> Book<M> {
         requires book { IsPassOf M.start self.now pass.old }
         requires count { (0 < count) × (count < parts pass.old) }
         ensures book { IsPassOf M.start self.now pass.new × IsPassOf M.start self.now result }
-        ensures old { (seen pass.new ≡ seen pass.old) × (mine pass.new ≡ mine pass.old) × (met pass.new ≡ met pass.old) × (parts pass.new + count ≡ parts pass.old) }
+        ensures old { GivesParts count pass.old pass.new }
         ensures new { (seen result ≡ seen pass.old) × (mine result ≡ []) × (met result ≡ []) × (parts result ≡ count) }
     {
         let seat = self.cut::<Brand>(&mut pass.seat, count);
@@ -40,11 +40,13 @@ impl<M: Turned> Book<M> {
         self.desk.shared.split_seat::<Cut<N>>(seat)
     }
 
-    /// Takes another pass into this one, which then knows the longer of what both had seen, and has the lists and the parts of both.
+    /// Takes another pass into this one, which then knows the longer of what both had seen, and has the lists and the
+    /// parts of both.
     pub fn meet(&self, pass: &mut Pass<M>, other: Pass<M>)
         requires book { IsPassOf M.start self.now pass.old × IsPassOf M.start self.now other }
         ensures book { IsPassOf M.start self.now pass.new }
-        ensures seen { IsPrefix (seen pass.old) (seen pass.new) × IsPrefix (seen other) (seen pass.new) × (seen pass.new ≡ longer (seen pass.old) (seen other)) }
+        ensures seen { IsPrefix (seen pass.old) (seen pass.new) × IsPrefix (seen other) (seen pass.new)
+            × (seen pass.new ≡ longer (seen pass.old) (seen other)) }
         ensures lists { (mine pass.new ≡ mine pass.old) × (met pass.new ≡ met pass.old ++ mine other ∷ met other) }
         ensures parts { parts pass.new ≡ parts pass.old + parts other }
     {

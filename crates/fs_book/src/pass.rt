@@ -4,8 +4,8 @@ ghost use Rattle.fs_book.specs.Turns.{tickets_of, Sound};
 use crate::rule::Place;
 use crate::turned::Turned;
 
-/// What one caller knows of a book: the journal as far as it has seen it, which places of it are its own, and which those of each
-/// pass that was met into it.
+/// What one caller knows of a book: the journal as far as it has seen it, which places of it are its own, and which
+/// those of each pass that was met into it.
 ///
 /// A pass has some of the 2^62 parts of its book. It takes no bytes but for their number.
 #[derive(Drop)]

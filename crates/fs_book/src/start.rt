@@ -2,7 +2,7 @@
 ghost use Rattle.std.specs.Prelude.{◌≡◌, ℕ, ◌^◌, [], ◌∷◌, length, Some, IfOk, IfErr};
 ghost use Rattle.fs_book.specs.Counts.{total, times, once_below};
 ghost use Rattle.fs_book.specs.Opened.{Owned};
-ghost use Rattle.fs_book.specs.Passes.{seen, mine, met, parts, opening_state, IsPassOf};
+ghost use Rattle.fs_book.specs.Passes.{seen, mine, met, parts, opening_state, IsFirstPass, IsPassOf};
 
 use crate::bells::Bells;
 use crate::book::Book;
@@ -21,7 +21,7 @@ impl<M: Turned> Book<M> {
     /// A book with this state, and the pass that has all parts. Where there is no memory the state comes back.
     pub fn start(alloc: Global, state: M) -> Result<(Book<M>, Pass<M>), (Memory, M)>
         requires { M.journal state ≡ [] }
-        ensures ok { IfOk result (λ r. IsPassOf M.start r.0 r.1 × (opening_state r.0 ≡ state) × (seen r.1 ≡ []) × (mine r.1 ≡ []) × (met r.1 ≡ []) × (parts r.1 ≡ 2 ^ 62)) }
+        ensures ok { IfOk result (λ r. IsPassOf M.start r.0 r.1 × (opening_state r.0 ≡ state) × IsFirstPass r.1) }
         ensures err { IfErr result (λ r. r.1 ≡ state) }
     {
         let about = Snapshot::of(&state);

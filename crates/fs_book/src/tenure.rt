@@ -74,10 +74,18 @@ impl<M: Turned> Book<M> {
         requires some_part { 0 < seat.old.me.0.parts }
         requires carries { seat.old.me.1 ≡ (0, None) ∷ [] }
         requires same_start { seat.old.me.0.start ≡ Some (M.start state) }
-        requires longer { (e : M.Logged) × (M.journal state ≡ seat.old.me.0.seen ++ e ∷ []) × NamesOwn M.opens M.names (M.start state) seat.old.me.0.seen seat.old.me.0.mine e }
+        requires longer { (e : M.Logged) × (M.journal state ≡ seat.old.me.0.seen ++ e ∷ [])
+            × NamesOwn M.opens M.names (M.start state) seat.old.me.0.seen seat.old.me.0.mine e }
         ensures same { (seat.new.table_id ≡ seat.old.table_id) × (seat.new.id ≡ seat.old.id) }
         ensures sound { Sound M.opens M.names seat.new.me.0 }
-        ensures left { seat.new.me ≡ (record seat.old.me.0 { stage = Idle; seen = M.journal state; mine = seat.old.me.0.mine ++ length seat.old.me.0.seen ∷ [] }, []) }
+        ensures left { seat.new.me ≡ (
+          record seat.old.me.0 {
+            stage = Idle;
+            seen = M.journal state;
+            mine = seat.old.me.0.mine ++ length seat.old.me.0.seen ∷ [];
+          },
+          [],
+        ) }
     {
         self.put_back(seat, state);
         let turn = self.desk.shared.fetch_add::<Add>(seat, TURN, 1);

@@ -4,7 +4,8 @@ ghost use Rattle.fs_book.specs.Opened.{OpensAt};
 
 /// A state that takes entries one at a time, and keeps a journal of those that it took.
 ///
-/// An entry may open a number at its place in the journal, as that of a connection, and may name one. No two places open one number.
+/// An entry may open a number at its place in the journal, as that of a connection, and may name one. No two places
+/// open one number.
 pub trait Turned: Drop {
     /// What the state started from. No turn changes it.
     type Start;
@@ -49,18 +50,22 @@ pub trait Turned: Drop {
         requires { fits (start self.old) (journal self.old) entry }
         ensures start { start self.new ≡ start self.old }
         ensures cases { MatchResult result
-            (λ answer. (journal self.new ≡ journal self.old ++ logged entry ∷ []) × answers (start self.old) (journal self.old) entry answer)
-            (λ refusal. (journal self.new ≡ journal self.old) × refuses (start self.old) (journal self.old) entry refusal) };
+            (λ answer. (journal self.new ≡ journal self.old ++ logged entry ∷ [])
+            × answers (start self.old) (journal self.old) entry answer)
+            (λ refusal. (journal self.new ≡ journal self.old)
+            × refuses (start self.old) (journal self.old) entry refusal) };
 
     /// The place in the journal of the entry that is taken next.
     fn place(&self) -> u64
         ensures { result ≡ length (journal self.now) };
 
     // No two places of a journal open one number.
-    ghost opens_once: { (origin : Self.Start) (log : List Self.Logged) (p q number : ℕ) → OpensAt opens origin log p number → OpensAt opens origin log q number → p ≡ q };
+    ghost opens_once: { (origin : Self.Start) (log : List Self.Logged) (p q number : ℕ)
+        → OpensAt opens origin log p number → OpensAt opens origin log q number → p ≡ q };
 
     // What may be submitted may be submitted later too.
-    ghost fits_longer: { (origin : Self.Start) (xs ys : List Self.Logged) (entry : Self.Entry) → IsPrefix xs ys → fits origin xs entry → fits origin ys entry };
+    ghost fits_longer: { (origin : Self.Start) (xs ys : List Self.Logged) (entry : Self.Entry)
+        → IsPrefix xs ys → fits origin xs entry → fits origin ys entry };
 }
 
 /// A question to a state.

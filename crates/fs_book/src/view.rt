@@ -7,8 +7,8 @@ pub enum Stage {
     Out(u64),
 }
 
-// What the holder of a pass knows. No value of it is made: it exists in proofs alone, where its numbers have no bound, and where
-// places are lists of any length.
+// What the holder of a pass knows. No value of it is made: it exists in proofs alone, where its numbers have no bound,
+// and where places are lists of any length.
 pub struct View<B, E> {
     pub parts: u64,
     pub start: Option<B>,

@@ -5,3 +5,4 @@ pub mod BracketLaws
 pub mod LegLaws
 pub mod Whole
 pub mod PlaceLaws
+pub mod ValueLaws

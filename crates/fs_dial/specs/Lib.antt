@@ -7,3 +7,4 @@ pub mod Legs
 pub mod DialStrings
 pub mod Spelling
 pub mod Places
+pub mod Values

@@ -1,9 +1,12 @@
-//! What a dial string is, told apart from the reading. These functions do nothing: each stands for its contract.
+//! What a dial string is, and what its values say, told apart from the reading. These functions do nothing: each stands
+//! for its contract.
 
 ghost use Rattle.std.specs.Prelude.{◌≡◌, ℕ, List, Ok};
 ghost use Rattle.fs_dial.specs.DialStrings.{Dial, dial_string};
+ghost use Rattle.fs_dial.specs.Pairs.{Pair, plain};
 ghost use Rattle.fs_dial.specs.Spelling.{Spells};
 ghost use Rattle.fs_dial.specs.Places.{DialStands};
+ghost use Rattle.fs_dial.specs.Values.{Says};
 
 /// What is read of a text is spelt by it, what it spells is read, and it spells one dial string at most.
 pub fn one_dial_string()
@@ -15,4 +18,10 @@ pub fn one_dial_string()
 /// Each part of the dial string that a text is stands in it at its place.
 pub fn each_part_stands()
     ensures { (text : List ℕ) (dial : Dial) → Spells text dial → DialStands text dial }
+{}
+
+/// The value of a pair says one text: what is left of it without quotes and backslashes.
+pub fn one_value()
+    ensures said { (pair : Pair) → Says pair.separator pair.value (plain pair) }
+    ensures one { (pair : Pair) (text : List ℕ) → Says pair.separator pair.value text → text ≡ plain pair }
 {}

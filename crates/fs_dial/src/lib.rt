@@ -16,6 +16,6 @@ mod reading;
 
 pub use dial_string::{DialString, parse};
 pub use fault::{DialFault, DialKind};
-pub use laws::{each_part_stands, one_dial_string};
+pub use laws::{each_part_stands, one_dial_string, one_value};
 pub use leg::{Group, Groups, Leg};
 pub use pair::{RawPair, RawPairs};

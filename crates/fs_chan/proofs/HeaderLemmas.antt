@@ -14,4 +14,5 @@ added headers (row ∷ rows) = added (headers ++ with_values (row ∷ [])) rows
 pub added_given : (all rows : Pairs) → added (with_values all) rows ≡ with_values (all ++ rows)
 added_given all [] = ap with_values (sym (append-nil all))
 added_given all (row ∷ rows) =
-    ap (λ headers. added headers rows) (sym (filter-append _ all (row ∷ []))) ∙ added_given (all ++ row ∷ []) rows ∙ ap with_values (append_assoc all (row ∷ []) rows)
+    ap (λ headers. added headers rows) (sym (filter-append _ all (row ∷ []))) ∙ added_given (all ++ row ∷ []) rows
+    ∙ ap with_values (append_assoc all (row ∷ []) rows)

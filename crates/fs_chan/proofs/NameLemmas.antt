@@ -4,8 +4,8 @@ use Rattle.std.specs.List.{slice_split, position_or_len, list_any}
 use Rattle.std.proofs.lemmas.Bool.{or_parts, ltb-true}
 use Rattle.std.proofs.lemmas.List.Splits.{slice_split_first, slice_split-cons_no}
 use Rattle.fs_text.specs.Words.{is_byte, before_byte, behind_byte, halves_of}
+use Rattle.fs_text.specs.Texts.{Text}
 use Rattle.fs_text.proofs.Cuts.{found, none_cut}
-use Rattle.fs_vars.specs.Pairs.{Text}
 use Rattle.fs_chan.specs.Exports.{names_of}
 
 -- without a comma there is one name
@@ -23,7 +23,8 @@ pub first_name : (list name rest : Text) → halves_of 44 list ≡ Some (name, r
 unfolding halves_of
 first_name list name rest e = by (list_any (is_byte 44) list) refl e
   where
-    by : (t : Bool) → list_any (is_byte 44) list ≡ t → cond {A = Option (List ℕ × List ℕ)} t (Some (before_byte 44 list, behind_byte 44 list)) None ≡ Some (name, rest)
+    by : (t : Bool) → list_any (is_byte 44) list ≡ t →
+        cond {A = Option (List ℕ × List ℕ)} t (Some (before_byte 44 list, behind_byte 44 list)) None ≡ Some (name, rest)
         → names_of list ≡ name ∷ names_of rest
     by true some is =
         let both : ◌≡◌ {A = List ℕ × List ℕ} (before_byte 44 list, behind_byte 44 list) (name, rest) = cc in

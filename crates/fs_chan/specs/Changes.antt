@@ -5,7 +5,7 @@ use Rattle.fs_text.specs.declared.states.State.TheVariants.{CsNew, CsRouting, Cs
 use Rattle.fs_text.specs.declared.causes.Cause.{Cause}
 use Rattle.fs_text.specs.State.{state_number}
 use Rattle.fs_text.specs.Cause.{cause_name}
-use Rattle.fs_vars.specs.Pairs.{Text}
+use Rattle.fs_text.specs.Texts.{Text}
 use Rattle.fs_vars.specs.Variables.{Variables}
 use Rattle.fs_vars.specs.declared.profile.Profile.{Profile}
 use Rattle.fs_chan.specs.declared.action.Action.{Action}

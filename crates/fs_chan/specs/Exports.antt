@@ -3,7 +3,8 @@ use Rattle.std.specs.Prelude.{◌==◌, Bool, ◌||◌, ◌&&◌, if◌then◌el
 use Rattle.std.specs.Borrow.{Bor}
 use Rattle.std.specs.List.{list_any, slice_split}
 use Rattle.fs_text.specs.Words.{is_byte}
-use Rattle.fs_vars.specs.Pairs.{Text, same_text, value_of, without}
+use Rattle.fs_text.specs.Texts.{Text}
+use Rattle.fs_vars.specs.Pairs.{same_text, value_of, without}
 use Rattle.fs_vars.specs.Variables.{Variables, can_set, set_to}
 use Rattle.fs_chan.specs.declared.chan.Chan.{Chan}
 

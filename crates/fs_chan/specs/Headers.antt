@@ -2,7 +2,8 @@
 use Rattle.std.specs.Prelude.{◌==◌, not, if◌then◌else◌, [], ◌∷◌, length, filter, Option, None, Some, is_some, codes}
 use Rattle.std.specs.Fmt as fmt
 use Rattle.fs_text.specs.State.{state_name, state_number}
-use Rattle.fs_vars.specs.Pairs.{Text, Pairs}
+use Rattle.fs_text.specs.Texts.{Text}
+use Rattle.fs_vars.specs.Pairs.{Pairs}
 use Rattle.fs_chan.specs.declared.chan.Chan.{Chan}
 use Rattle.fs_chan.specs.declared.peer.Direction.{Direction}
 use Rattle.fs_chan.specs.declared.peer.Direction.TheVariants.{Inbound, Outbound}

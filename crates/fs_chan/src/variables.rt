@@ -18,7 +18,8 @@ impl Chan {
     /// It does not, and changes nothing, where the name is empty or a limit of a channel's variables would be passed.
     pub fn set(&mut self, name: &[u8], value: &[u8]) -> Result<bool, Memory>
         ensures answer { IfOk result (λ done. done ≡ can_set self.old.vars name.now value.now) }
-        ensures set { OnOk result (self.new ≡ spec.with_vars (spec.with_set self.old.vars name.now value.now) self.old) }
+        ensures set { OnOk result
+            (self.new ≡ spec.with_vars (spec.with_set self.old.vars name.now value.now) self.old) }
         ensures err { OnErr result (self.new ≡ self.old) }
     {
         self.vars.set(name, value)
@@ -39,7 +40,8 @@ impl Chan {
     /// value is listed too.
     pub fn export(&mut self, alloc: Global, name: &[u8], value: &[u8]) -> Result<bool, Memory>
         ensures answer { IfOk result (λ done. done ≡ spec.can_export self.old.vars name.now value.now) }
-        ensures exported { OnOk result (self.new ≡ spec.with_vars (spec.exported self.old.vars name.now value.now) self.old) }
+        ensures exported { OnOk result
+            (self.new ≡ spec.with_vars (spec.exported self.old.vars name.now value.now) self.old) }
         ensures err { OnErr result (self.new ≡ self.old) }
     {
         match exported(alloc, &self.vars, name, value)? {

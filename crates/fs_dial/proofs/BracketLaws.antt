@@ -1,5 +1,6 @@
 -- Brackets are read as what they spell.
-use Rattle.std.proofs.Common.{◌≡◌, ℕ, zero, suc, ◌+◌, ◌-◌, ◌<◌, ◌≤◌, Bool, true, false, cond, not, ◌&&◌, ◌==◌, List, [], ◌∷◌, ◌++◌, length, Option, None, Some, Result, Ok, refl, sym, ap, ◌∙◌, subst, append_assoc, append-nil, arith}
+use Rattle.std.proofs.Common.{◌≡◌, ℕ, zero, suc, ◌+◌, ◌-◌, ◌<◌, ◌≤◌, Bool, true, false, cond, not, ◌&&◌, ◌==◌, List, [], ◌∷◌, ◌++◌, length}
+use Rattle.std.proofs.Common.{Option, None, Some, Result, Ok, refl, sym, ap, ◌∙◌, subst, append_assoc, append-nil, arith}
 use Rattle.std.proofs.lemmas.List.{length-append}
 use Rattle.fs_dial.specs.declared.bracket.Bracket.{Bracket}
 use Rattle.fs_dial.specs.declared.bracket.Bracket.TheVariants.{Brace, Square}
@@ -8,7 +9,8 @@ use Rattle.fs_dial.specs.declared.guard.Guard.TheVariants.{Bare}
 use Rattle.fs_dial.specs.Results.{◌>>=◌}
 use Rattle.fs_dial.specs.Guards.{is_guard, from_mark, front_of, place}
 use Rattle.fs_dial.specs.Pairs.{Pair, Pairs, pairs_at}
-use Rattle.fs_dial.specs.Brackets.{opener_of, closer_of, lead_of, Taken, closed_at, content_at, bracket_at, bracket_step, go_on, brackets_within, brackets_at}
+use Rattle.fs_dial.specs.Brackets.{opener_of, closer_of, lead_of, Taken, closed_at, content_at, bracket_at, bracket_step, go_on}
+use Rattle.fs_dial.specs.Brackets.{brackets_within, brackets_at}
 use Rattle.fs_dial.specs.Spelling.{Holds, IsBracket, begins_with, AreBrackets, NoBracket, OneBracket}
 use Rattle.fs_dial.proofs.Cuts.{bind_ok, eqb-true, eqb-refl, front_is}
 use Rattle.fs_dial.proofs.Marks.{passed, found, guard_over, before, found_mark, over}

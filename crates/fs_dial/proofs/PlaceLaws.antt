@@ -1,5 +1,6 @@
 -- Each part of a dial string stands in its text at its place.
-use Rattle.std.proofs.Common.{◌≡◌, ℕ, ◌+◌, Bool, true, false, cond, not, ◌&&◌, ◌==◌, List, [], ◌∷◌, ◌++◌, length, refl, sym, ap, ◌∙◌, append_assoc, arith}
+use Rattle.std.proofs.Common.{◌≡◌, ℕ, ◌+◌, Bool, true, false, cond, not, ◌&&◌, ◌==◌, List, [], ◌∷◌, ◌++◌, length, refl, sym, ap, ◌∙◌}
+use Rattle.std.proofs.Common.{append_assoc, arith}
 use Rattle.std.specs.List.{AllByRecursion}
 use Rattle.std.proofs.lemmas.List.{length-append}
 use Rattle.fs_dial.specs.declared.bracket.Bracket.{Bracket}
@@ -9,7 +10,8 @@ use Rattle.fs_dial.specs.Pairs.{Pair}
 use Rattle.fs_dial.specs.Brackets.{opener_of, closer_of, lead_of}
 use Rattle.fs_dial.specs.Legs.{LegText}
 use Rattle.fs_dial.specs.DialStrings.{Dial}
-use Rattle.fs_dial.specs.Spelling.{IsPair, ArePairs, LastPair, NextPair, Holds, IsBracket, AreBrackets, NoBracket, OneBracket, IsLeg, AreLegs, LastLeg, SameGroup, NextGroup, Spells}
+use Rattle.fs_dial.specs.Spelling.{IsPair, ArePairs, LastPair, NextPair, Holds, IsBracket, AreBrackets, NoBracket, OneBracket, IsLeg}
+use Rattle.fs_dial.specs.Spelling.{AreLegs, LastLeg, SameGroup, NextGroup, Spells}
 use Rattle.fs_dial.specs.Places.{PairStands, LegStands, DialStands}
 
 all_append : {X : Type 0} (P : X → Type 0) (xs ys : List X) → AllByRecursion P xs → AllByRecursion P ys → AllByRecursion P (xs ++ ys)

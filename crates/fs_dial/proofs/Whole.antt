@@ -1,11 +1,13 @@
 -- What is read of a text is spelt by it, and what is spelt is read.
-use Rattle.std.proofs.Common.{◌≡◌, ◌≢◌, ℕ, zero, suc, ◌+◌, ◌<◌, ◌≤◌, Bool, true, false, cond, ◌==◌, List, [], ◌∷◌, ◌++◌, length, Option, Some, Result, Ok, refl, sym, ap, ◌∙◌, subst, append_assoc, arith}
+use Rattle.std.proofs.Common.{◌≡◌, ◌≢◌, ℕ, zero, suc, ◌+◌, ◌<◌, ◌≤◌, Bool, true, false, cond, ◌==◌, List, [], ◌∷◌, ◌++◌, length, Option}
+use Rattle.std.proofs.Common.{Some, Result, Ok, refl, sym, ap, ◌∙◌, subst, append_assoc, arith}
 use Rattle.fs_dial.specs.declared.bracket.Bracket.TheVariants.{Brace}
 use Rattle.fs_dial.specs.declared.fault.DialFault.{DialFault}
 use Rattle.fs_dial.specs.Results.{◌>>=◌}
 use Rattle.fs_dial.specs.Brackets.{Taken, brackets_at}
 use Rattle.fs_dial.specs.Legs.{LegText, leg_at}
-use Rattle.fs_dial.specs.DialStrings.{Dial, Reached, added_on, added, behind_leg, leg_step, Groups, go_on, legs_within, groups_at, dial_within, dial_string}
+use Rattle.fs_dial.specs.DialStrings.{Dial, Reached, added_on, added, behind_leg, leg_step, Groups, go_on, legs_within, groups_at}
+use Rattle.fs_dial.specs.DialStrings.{dial_within, dial_string}
 use Rattle.fs_dial.specs.Spelling.{IsLeg, AreLegs, LastLeg, SameGroup, NextGroup, count, Spells}
 use Rattle.fs_dial.proofs.Cuts.{bind_ok, eqb-true}
 use Rattle.fs_dial.proofs.BracketLaws.{brackets_read, brackets_spelt}

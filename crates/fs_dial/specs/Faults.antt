@@ -23,17 +23,12 @@ fault_at at kind = record { at = at; kind = kind }
 abbrev pub fault : {X : Type 0} → ℕ → DialKind → Result X DialFault
 fault at kind = Err (fault_at at kind)
 
--- what is answered, as it is seen, is what is read
-abbrev pub Gives : {X Y E : Type 0} → (X → Y) → Result X E → Result Y E → Type 0
-Gives view (Ok x) read = read ≡ Ok (view x)
-Gives view (Err e) read = read ≡ Err e
-
 -- want of memory says nothing of what is read; any other stop is the fault that is read
 abbrev pub StopsSo : {Y : Type 0} → DialStop → Result Y DialFault → Type 0
 StopsSo stop.Memory read = Unit {0}
 StopsSo (stop.Fault f) read = read ≡ Err f
 
--- as `Gives`, where memory may be wanting
+-- what is answered, as it is seen, is what is read; or the same fault, where memory was not wanting
 abbrev pub Answers : {X Y : Type 0} → (X → Y) → Result X DialStop → Result Y DialFault → Type 0
 Answers view (Ok x) read = read ≡ Ok (view x)
 Answers view (Err e) read = StopsSo e read

@@ -1,7 +1,8 @@
 //! Pairs of a name and a value, and the content of a bracket.
 
 ghost use Rattle.std.specs.Prelude.{◌≡◌, ◌<◌, ◌≤◌, [], ◌∷◌, ◌++◌, length, map, IfOk, IfSome, OnOk, OnErr};
-ghost use Rattle.fs_dial.specs.Faults.{Gives, Answers};
+ghost use Rattle.fs_text.specs.Answers.{Gives};
+ghost use Rattle.fs_dial.specs.Faults.{Answers};
 ghost use Rattle.fs_dial.specs.Pairs as spec;
 
 use crate::fault::{DialFault, DialKind, DialStop};

@@ -1,6 +1,7 @@
 -- The lengths of parts.
 use Rattle.std.proofs.Common.{ℕ, ◌≤◌, [], ◌∷◌, length}
-use Rattle.fs_orig.specs.Endpoints.{Text, part_or}
+use Rattle.fs_text.specs.Texts.{Text}
+use Rattle.fs_orig.specs.Endpoints.{part_or}
 
 pub part_or_short : (otherwise part : Text) (most : ℕ) → length otherwise ≤ most → length part ≤ most →
     length (part_or otherwise part) ≤ most

@@ -1,5 +1,6 @@
 -- What `min` and `max` pick of numbers.
-use Rattle.std.proofs.Common.{◌≡◌, ℕ, ◌≤◌, ◌⊎◌, inl, inr, min, max, List, [], ◌∷◌, Option, None, Some, slice_get, zero, suc, refl, sym, subst, ◌∙◌, ap, arith}
+use Rattle.std.proofs.Common.{◌≡◌, ℕ, ◌≤◌, ◌⊎◌, inl, inr, min, max, List, [], ◌∷◌, Option, None, Some, slice_get, zero, suc, refl, sym}
+use Rattle.std.proofs.Common.{subst, ◌∙◌, ap, arith}
 use Rattle.std.specs.List.{filter_map, cons_option, fold, reduce}
 use Rattle.std.specs.Option.{option_and_then}
 

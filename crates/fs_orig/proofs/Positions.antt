@@ -1,5 +1,6 @@
 -- The first position at which a test passes, and the last value in a list that has some.
-use Rattle.std.proofs.Common.{◌≡◌, ℕ, ◌+◌, ◌<◌, ◌⊎◌, inl, inr, Bool, true, false, cond, List, [], ◌∷◌, Option, None, Some, slice_get, zero, suc, refl, sym, subst, ◌∙◌, arith}
+use Rattle.std.proofs.Common.{◌≡◌, ℕ, ◌+◌, ◌<◌, ◌⊎◌, inl, inr, Bool, true, false, cond, List, [], ◌∷◌, Option, None, Some, slice_get, zero}
+use Rattle.std.proofs.Common.{suc, refl, sym, subst, ◌∙◌, arith}
 use Rattle.std.specs.List.{position, position_from, last_or, filter_map, cons_option}
 use Rattle.std.specs.Option.{option_and_then}
 use Rattle.std.proofs.lemmas.Iterator.Adapters.{position_from-zero}

@@ -1,5 +1,6 @@
 -- What a verdict means, and how it stands at other moments.
-use Rattle.std.proofs.Common.{◌≡◌, ℕ, ◌<◌, ◌≤◌, ◌⊎◌, inl, inr, min, max, Bool, true, false, cond, List, [], ◌∷◌, Option, None, Some, IsSome, is_some, is_none, not, ◌&&◌, ◌||◌, unwrap_or, slice_get, nat_le, refl, sym, subst, ◌∙◌, ap, arith, leb}
+use Rattle.std.proofs.Common.{◌≡◌, ℕ, ◌<◌, ◌≤◌, ◌⊎◌, inl, inr, min, max, Bool, true, false, cond, List, [], ◌∷◌, Option, None, Some, IsSome}
+use Rattle.std.proofs.Common.{is_some, is_none, not, ◌&&◌, ◌||◌, unwrap_or, slice_get, nat_le, refl, sym, subst, ◌∙◌, ap, arith, leb}
 use Rattle.std.proofs.lemmas.Bool.{leb-true, leb-false, le-leb, lt-leb, eqb-true, eq-eqb}
 use Rattle.std.specs.List.{filter_map, last_or, position}
 use Rattle.std.specs.Option.{option_and_then}
@@ -11,11 +12,14 @@ use Rattle.fs_orig.specs.declared.plan.LegPlan.{LegPlan}
 use Rattle.fs_orig.specs.declared.verdict.Verdict.{Verdict}
 use Rattle.fs_orig.specs.declared.verdict.Verdict.TheVariants.{Wait, Won, LegExpired, NextGroup, Failed, Expired}
 use Rattle.fs_orig.specs.Legs.{is_at, answer_of, first_answer, winner, last_death, cause_at, last_cause, any_lives, lives}
-use Rattle.fs_orig.specs.Verdicts.{limit_of, has_come, expired_leg, least_deadline, next_group, won_or, leg_expired_or, next_or_failed, unanswered, verdict_of, due_moment_by}
-use Rattle.fs_orig.specs.Meaning.{is_timeout, is_wait, answer_at, IsWinner, limit_at, IsFirstToExpire, death_at, death_cause_at, IsLastToDie, IsWithCauses}
+use Rattle.fs_orig.specs.Verdicts.{limit_of, has_come, expired_leg, least_deadline, next_group, won_or, leg_expired_or, next_or_failed}
+use Rattle.fs_orig.specs.Verdicts.{unanswered, verdict_of, due_moment_by}
+use Rattle.fs_orig.specs.Meaning.{is_timeout, is_wait, answer_at, IsWinner, limit_at, IsFirstToExpire, death_at, death_cause_at}
+use Rattle.fs_orig.specs.Meaning.{IsLastToDie, IsWithCauses}
 use Rattle.fs_orig.specs.Changes.{may_enter_next}
 use Rattle.fs_orig.proofs.Positions.{passes, IsFirst, position_is_first, position_is_none, IsLast, last_is}
-use Rattle.fs_orig.proofs.Picks.{IsAtMost, IsAtLeast, IsPicked, min_picks, max_picks, fold_start, fold_each, fold_met, reduce_picks, reduce_there}
+use Rattle.fs_orig.proofs.Picks.{IsAtMost, IsAtLeast, IsPicked, min_picks, max_picks, fold_start, fold_each, fold_met, reduce_picks}
+use Rattle.fs_orig.proofs.Picks.{reduce_there}
 
 -- ---- tests
 

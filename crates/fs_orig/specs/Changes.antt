@@ -1,5 +1,6 @@
 -- What each change makes of an origination.
-use Rattle.std.specs.Prelude.{ℕ, ◌+◌, Bool, false, not, ◌&&◌, if◌then◌else◌, List, [], Option, None, Some, is_none, is_some, slice_get, slice_set}
+use Rattle.std.specs.Prelude.{ℕ, ◌+◌, Bool, false, not, ◌&&◌, if◌then◌else◌, List, [], Option, None, Some, is_none, is_some, slice_get}
+use Rattle.std.specs.Prelude.{slice_set}
 use Rattle.fs_text.specs.declared.causes.Cause.{Cause}
 use Rattle.fs_orig.specs.declared.leg.OrigLeg.{OrigLeg}
 use Rattle.fs_orig.specs.declared.orig.Orig.{Orig}

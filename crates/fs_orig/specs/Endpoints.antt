@@ -1,15 +1,14 @@
 -- What the endpoint of a leg comes to, and which dial strings are one leg.
-use Rattle.std.specs.Prelude.{ℕ, ◌==◌, ◌≤◌, nat_le, Bool, not, ◌||◌, ◌&&◌, if◌then◌else◌, List, [], ◌∷◌, length, unwrap_or, codes}
+use Rattle.std.specs.Prelude.{ℕ, ◌==◌, ◌≤◌, nat_le, Bool, not, ◌||◌, ◌&&◌, if◌then◌else◌, [], ◌∷◌, length, unwrap_or, codes}
 use Rattle.std.specs.List.{list_all}
 use Rattle.std.specs.Str.{bytes_eq}
 use Rattle.fs_text.specs.Cause.{cause_of_name}
 use Rattle.fs_text.specs.Words.{before_byte, behind_byte}
-use Rattle.fs_text.specs.declared.causes.Cause.TheVariants.{NoRouteDestination, DestinationOutOfOrder, InvalidNumberFormat, NormalUnspecified}
+use Rattle.fs_text.specs.Texts.{Text}
+use Rattle.fs_text.specs.declared.causes.Cause.TheVariants.{NoRouteDestination, DestinationOutOfOrder, InvalidNumberFormat}
+use Rattle.fs_text.specs.declared.causes.Cause.TheVariants.{NormalUnspecified}
 use Rattle.fs_orig.specs.declared.endpoint.Endpoint.{Endpoint}
 use Rattle.fs_orig.specs.declared.endpoint.Endpoint.TheVariants.{Loopback, Dead}
-
-abbrev pub Text : Type 0
-Text = List ℕ
 
 -- ---- the parts, separated by slashes
 

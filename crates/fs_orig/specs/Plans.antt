@@ -1,10 +1,10 @@
 -- What a dial string is to try: the plans of its legs.
 use Rattle.std.specs.Prelude.{List, ◌++◌, map}
+use Rattle.fs_text.specs.Texts.{Text}
 use Rattle.fs_dial.specs.Pairs.{Pair, plain}
 use Rattle.fs_dial.specs.Legs.{LegText}
 use Rattle.fs_dial.specs.DialStrings.{Dial}
 use Rattle.fs_orig.specs.declared.plan.LegPlan.{LegPlan}
-use Rattle.fs_orig.specs.Endpoints.{Text}
 
 -- its name, and its value without quotes and backslashes
 abbrev pub plain_pair : Pair → Text × Text

@@ -1,6 +1,6 @@
 -- Where a winner is routed to.
 use Rattle.std.specs.Prelude.{◌≤◌, length}
-use Rattle.fs_orig.specs.Endpoints.{Text}
+use Rattle.fs_text.specs.Texts.{Text}
 
 -- an extension, in a context of a dialplan
 pub record RouteTo : Type 0 where

@@ -4,8 +4,8 @@ use Rattle.std.specs.List.{filter_map, last_or}
 use Rattle.std.specs.Option.{option_and_then}
 use Rattle.std.specs.Str.{bytes_eq}
 use Rattle.fs_text.specs.Number.{read_u64}
+use Rattle.fs_text.specs.Texts.{Text}
 use Rattle.fs_dial.specs.DialStrings.{Dial}
-use Rattle.fs_orig.specs.Endpoints.{Text}
 use Rattle.fs_orig.specs.Plans.{plain_pairs}
 
 -- a number of seconds from 1 to 3,600

@@ -7,7 +7,7 @@ ghost use Rattle.fs_orig.specs.Laws as laws;
 ghost use Rattle.fs_orig.specs.Legs.{lives};
 ghost use Rattle.fs_orig.specs.Verdicts.{next_group};
 
-use crate::leg::{OrigLeg, OrigLegs};
+use crate::leg::OrigLegs;
 use crate::orig::Orig;
 use crate::plan::LegGroup;
 use fs_text::Cause;

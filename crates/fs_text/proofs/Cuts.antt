@@ -1,5 +1,6 @@
 -- Where the first byte of a kind stands, and what stands before and behind it.
-use Rattle.std.proofs.Common.{◌≡◌, ℕ, suc, ◌+◌, ◌-◌, take, drop, ◌<◌, ◌≤◌, Bool, true, false, cond, not, ◌||◌, ltb, List, [], ◌∷◌, ◌++◌, length, Option, None, Some, refl, sym, ap, ◌∙◌, arith}
+use Rattle.std.proofs.Common.{◌≡◌, ℕ, suc, ◌+◌, ◌-◌, take, drop, ◌<◌, ◌≤◌, Bool, true, false, cond, not, ◌||◌, ltb, List, [], ◌∷◌, ◌++◌}
+use Rattle.std.proofs.Common.{length, Option, None, Some, refl, sym, ap, ◌∙◌, arith}
 use Rattle.std.specs.List.{position_or_len, list_any, before_first, after_first}
 use Rattle.std.proofs.Math.ListN.{drop_of_length-le}
 use Rattle.std.proofs.Math.Seq.{drop-append-add}
@@ -33,7 +34,8 @@ pub found : (p : ℕ → Bool) (text : List ℕ) → list_any p text ≡ ltb (po
 found p [] = refl
 found p (b ∷ text) = by (p b) (found p text)
   where
-    by : (t : Bool) → list_any p text ≡ ltb (position_or_len p text) (length text) → (t || list_any p text) ≡ ltb (cond (not t) (1 + position_or_len p text) 0) (length (b ∷ text))
+    by : (t : Bool) → list_any p text ≡ ltb (position_or_len p text) (length text) →
+        (t || list_any p text) ≡ ltb (cond (not t) (1 + position_or_len p text) 0) (length (b ∷ text))
     by true h = sym (lt-ltb 0 (length (b ∷ text)) (omega arith))
     by false h = h ∙ grind (arith, nat_tests)
 
@@ -46,7 +48,8 @@ pub one_found : (p : ℕ → Bool) (text : List ℕ) (place : ℕ) → place ≡
 one_found p text place is h = found p text ∙ lt-ltb _ _ (rw (← is) h)
 
 -- the first that passes stands behind those that do not
-pub first_behind : (p : ℕ → Bool) (front : List ℕ) (b : ℕ) (rest : List ℕ) → list_any p front ≡ false → p b ≡ true → position_or_len p (front ++ b ∷ rest) ≡ length front
+pub first_behind : (p : ℕ → Bool) (front : List ℕ) (b : ℕ) (rest : List ℕ) → list_any p front ≡ false → p b ≡ true →
+    position_or_len p (front ++ b ∷ rest) ≡ length front
 first_behind p [] b rest none passes = rw passes refl
 first_behind p (a ∷ front) b rest none passes =
     let parts = or_parts (p a) (list_any p front) none in
@@ -68,7 +71,8 @@ pub behind_one : (n : ℕ) (text : List ℕ) → take (length (drop n text) - 1)
 behind_one n text = take_rest (drop n text) 1 ∙ drop-drop 1 n text
 
 -- what is behind the first of what begins at its place
-pub behind_is : (p : ℕ → Bool) (text : List ℕ) (place : ℕ) (from : List ℕ) → place ≡ position_or_len p text → from ≡ drop place text → take (length from - 1) (drop 1 from) ≡ after_first p text
+pub behind_is : (p : ℕ → Bool) (text : List ℕ) (place : ℕ) (from : List ℕ) → place ≡ position_or_len p text → from ≡ drop place text →
+    take (length from - 1) (drop 1 from) ≡ after_first p text
 behind_is p text place from is back =
     ap (λ rest. take (length rest - 1) (drop 1 rest)) back ∙ behind_one place text ∙ ap (λ n. drop (n + 1) text) is
 
@@ -89,23 +93,27 @@ pub nothing_after : (p : ℕ → Bool) (text : List ℕ) → list_any p text ≡
 nothing_after p text h = drop_of_length-le text (omega (arith, ltb-false _ _ (sym (found p text) ∙ h)))
 
 -- where some bytes do not pass and one does, they stand before it
-pub before_behind : (p : ℕ → Bool) (front : List ℕ) (b : ℕ) (rest : List ℕ) → list_any p front ≡ false → p b ≡ true → before_first p (front ++ b ∷ rest) ≡ front
+pub before_behind : (p : ℕ → Bool) (front : List ℕ) (b : ℕ) (rest : List ℕ) → list_any p front ≡ false → p b ≡ true →
+    before_first p (front ++ b ∷ rest) ≡ front
 before_behind p front b rest none passes = take_at front (b ∷ rest) _ (sym (first_behind p front b rest none passes))
 
 -- and the rest behind it
-pub after_behind : (p : ℕ → Bool) (front : List ℕ) (b : ℕ) (rest : List ℕ) → list_any p front ≡ false → p b ≡ true → after_first p (front ++ b ∷ rest) ≡ rest
+pub after_behind : (p : ℕ → Bool) (front : List ℕ) (b : ℕ) (rest : List ℕ) → list_any p front ≡ false → p b ≡ true →
+    after_first p (front ++ b ∷ rest) ≡ rest
 after_behind p front b rest none passes =
     ap (λ n. drop (n + 1) (front ++ b ∷ rest)) (first_behind p front b rest none passes) ∙ drop-append-add front (b ∷ rest) 1
 
 -- ---- its halves
 
 -- there are none where the place is the end
-pub no_halves : (byte : ℕ) (text : List ℕ) (place : ℕ) → place ≡ position_or_len (is_byte byte) text → length text ≤ place → None ≡ halves_of byte text
+pub no_halves : (byte : ℕ) (text : List ℕ) (place : ℕ) → place ≡ position_or_len (is_byte byte) text → length text ≤ place →
+    None ≡ halves_of byte text
 unfolding halves_of
 no_halves byte text place is end = rw (none_found (is_byte byte) text place is end) refl
 
 -- and where it is not, they are what stands before and behind it
-pub halves_are : (byte : ℕ) (text : List ℕ) (place : ℕ) (before from : List ℕ) → place ≡ position_or_len (is_byte byte) text → place < length text
+pub halves_are : (byte : ℕ) (text : List ℕ) (place : ℕ) (before from : List ℕ) → place ≡ position_or_len (is_byte byte) text →
+    place < length text
     → before ≡ take place text → from ≡ drop place text → Some (before, take (length from - 1) (drop 1 from)) ≡ halves_of byte text
 unfolding halves_of
 halves_are byte text place before from is below front back =
@@ -117,7 +125,8 @@ same_byte : (byte : ℕ) → is_byte byte byte ≡ true
 same_byte byte = grind (arith, nat_tests)
 
 -- a text is cut behind bytes that are all other
-pub cut_behind : (byte : ℕ) (before behind : List ℕ) → list_any (is_byte byte) before ≡ false → halves_of byte (before ++ byte ∷ behind) ≡ Some (before, behind)
+pub cut_behind : (byte : ℕ) (before behind : List ℕ) → list_any (is_byte byte) before ≡ false →
+    halves_of byte (before ++ byte ∷ behind) ≡ Some (before, behind)
 unfolding halves_of
 cut_behind byte before behind none =
     let is = same_byte byte in
@@ -130,7 +139,8 @@ pub none_cut : (byte : ℕ) (text : List ℕ) → halves_of byte text ≡ None �
 unfolding halves_of
 none_cut byte text whole = by (list_any (is_byte byte) text) whole
   where
-    by : (t : Bool) → cond {A = Option (List ℕ × List ℕ)} t (Some (before_first (is_byte byte) text, after_first (is_byte byte) text)) None ≡ None → t ≡ false
+    by : (t : Bool) → cond {A = Option (List ℕ × List ℕ)} t (Some (before_first (is_byte byte) text, after_first (is_byte byte) text)) None
+        ≡ None → t ≡ false
     by true h = absurd (cc)
     by false h = refl
 
@@ -140,7 +150,8 @@ drop_one_more n b text = ap (λ k. drop k (b ∷ text)) {x = suc n + 1} {y = suc
 abbrev parted : ℕ → List ℕ → ℕ → List ℕ
 parted byte text n = take n text ++ (byte ∷ drop (n + 1) text)
 
-put_together : (byte : ℕ) (text : List ℕ) → list_any (is_byte byte) text ≡ true → text ≡ before_first (is_byte byte) text ++ (byte ∷ after_first (is_byte byte) text)
+put_together : (byte : ℕ) (text : List ℕ) → list_any (is_byte byte) text ≡ true →
+    text ≡ before_first (is_byte byte) text ++ (byte ∷ after_first (is_byte byte) text)
 put_together byte [] some = absurd (cc)
 put_together byte (b ∷ text) some = by (is_byte byte b) refl some (put_together byte text)
   where
@@ -156,11 +167,14 @@ put_together byte (b ∷ text) some = by (is_byte byte b) refl some (put_togethe
         ∙ sym (ap (parted byte (b ∷ text)) (place_on (is_byte byte) b text fails))
 
 -- a text that is cut is put together of what stands before and behind the byte
-pub halved : (byte : ℕ) (text before behind : List ℕ) → halves_of byte text ≡ Some (before, behind) → (list_any (is_byte byte) before ≡ false) × (text ≡ before ++ (byte ∷ behind))
+pub halved : (byte : ℕ) (text before behind : List ℕ) → halves_of byte text ≡ Some (before, behind) →
+    (list_any (is_byte byte) before ≡ false) × (text ≡ before ++ (byte ∷ behind))
 unfolding halves_of
 halved byte text before behind e = by (list_any (is_byte byte) text) refl e
   where
-    by : (t : Bool) → list_any (is_byte byte) text ≡ t → cond {A = Option (List ℕ × List ℕ)} t (Some (before_first (is_byte byte) text, after_first (is_byte byte) text)) None ≡ Some (before, behind)
+    by : (t : Bool) → list_any (is_byte byte) text ≡ t →
+        cond {A = Option (List ℕ × List ℕ)} t (Some (before_first (is_byte byte) text, after_first (is_byte byte) text)) None
+        ≡ Some (before, behind)
         → (list_any (is_byte byte) before ≡ false) × (text ≡ before ++ (byte ∷ behind))
     by true some is =
         let both : ◌≡◌ {A = List ℕ × List ℕ} (before_first (is_byte byte) text, after_first (is_byte byte) text) (before, behind) = cc in

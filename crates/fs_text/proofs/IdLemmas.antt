@@ -1,5 +1,6 @@
 -- The halves of an identifier are read back from its text.
-use Rattle.std.proofs.Common.{◌≡◌, ◌≢◌, ◌<◌, ◌+◌, ◌*◌, ◌/◌, ◌%◌, ◌^◌, ◌↔◌, ℕ, zero, suc, List, [], All, length, Option, Some, None, refl, sym, ap, ◌∙◌, subst, inl, arith, unwrap_or, Result, Ok, Err, IsOk, IfOk, true, false, true≢false}
+use Rattle.std.proofs.Common.{◌≡◌, ◌≢◌, ◌<◌, ◌+◌, ◌*◌, ◌/◌, ◌%◌, ◌^◌, ◌↔◌, ℕ, zero, suc, List, [], All, length, Option, Some, None, refl}
+use Rattle.std.proofs.Common.{sym, ap, ◌∙◌, subst, inl, arith, unwrap_or, Result, Ok, Err, IsOk, IfOk, true, false, true≢false}
 use Rattle.std.specs.Int.{to_be_bytes, from_be_bytes, bytes_high_first, byte_at, w128}
 use Rattle.std.specs.Option.{option_map}
 use Rattle.std.specs.Result.{result_ok}
@@ -81,7 +82,8 @@ uuid_tells core m n m_small n_small same =
     sym (from_be_bytes-to_be_bytes first) ∙ ap (λ o. from_be_bytes w128 (unwrap_or o [])) bytes ∙ from_be_bytes-to_be_bytes second in
     omega arith
 
-none_parses : {E : Type 0} (e : E) (found : Option (List ℕ)) → (IsOk {T = List ℕ} (Err e) ↔ ((u : List ℕ) × (found ≡ Some u))) → None ≡ found
+none_parses : {E : Type 0} (e : E) (found : Option (List ℕ)) → (IsOk {T = List ℕ} (Err e) ↔ ((u : List ℕ) × (found ≡ Some u))) →
+    None ≡ found
 none_parses e None ok = refl
 none_parses e (Some u) ok = absurd (true≢false (sym (ok.1 (u, refl))))
 
@@ -91,7 +93,8 @@ reading_is (Ok u) text ok bytes = bytes
 reading_is (Err e) text ok bytes = none_parses e (parsed text) ok
 
 -- what a reading gives, from its two clauses
-pub high_is : {E : Type 0} (r : Result (List ℕ) E) (id : Option (List ℕ)) (text : List ℕ) → (IsOk r ↔ ((u : List ℕ) × (parsed text ≡ Some u)))
+pub high_is : {E : Type 0} (r : Result (List ℕ) E) (id : Option (List ℕ)) (text : List ℕ) →
+    (IsOk r ↔ ((u : List ℕ) × (parsed text ≡ Some u)))
     → IfOk r (λ u. Some u ≡ parsed text) → id ≡ result_ok r → option_map (λ bytes. from_be_bytes w128 bytes / 2 ^ 64) id ≡ high_of text
 unfolding high_of
 high_is r id text ok bytes reads = ap (option_map (λ bytes. from_be_bytes w128 bytes / 2 ^ 64)) (reads ∙ reading_is r text ok bytes)
@@ -109,11 +112,14 @@ no_core text nowhere core = (λ e. absurd (cc), λ is. absurd (nowhere core is))
 pub no_uuid : (text : List ℕ) → None ≡ high_of text → (core : ℕ) → (None ≡ Some core) ↔ IsCoreText core text
 no_uuid text reads = no_core text (λ core is. let found = core_is_half text None core reads is in cc)
 
-pub other_version : (text : List ℕ) (high : ℕ) → Some high ≡ high_of text → high / 2 ^ 12 % 16 ≢ 8 → (core : ℕ) → (None ≡ Some core) ↔ IsCoreText core text
+pub other_version : (text : List ℕ) (high : ℕ) → Some high ≡ high_of text → high / 2 ^ 12 % 16 ≢ 8 → (core : ℕ) →
+    (None ≡ Some core) ↔ IsCoreText core text
 other_version text high reads other =
-    no_core text (λ core is. let found = core_is_half text (Some high) core reads is in let same : high ≡ core = cc in other (ap (λ h. h / 2 ^ 12 % 16) same ∙ is.0.1))
+    no_core text (λ core is. let found = core_is_half text (Some high) core reads is in let same : high ≡ core = cc in
+    other (ap (λ h. h / 2 ^ 12 % 16) same ∙ is.0.1))
 
-pub other_text : (text written : List ℕ) (high : ℕ) → Some high ≡ high_of text → written ≡ uuid_text high (2 ^ 63) → false ≡ bytes_eq written text
+pub other_text : (text written : List ℕ) (high : ℕ) → Some high ≡ high_of text → written ≡ uuid_text high (2 ^ 63) →
+    false ≡ bytes_eq written text
     → (core : ℕ) → (None ≡ Some core) ↔ IsCoreText core text
 unfolding uuid
 other_text text written high reads is_written differs =
@@ -123,7 +129,8 @@ other_text text written high reads is_written differs =
     let both = is_written ∙ ap (λ h. uuid_text h (2 ^ 63)) same ∙ sym is.1 in
     true≢false (sym ((bytes_eq-Decides written text).1 both) ∙ sym differs))
 
-pub the_core : (text written : List ℕ) (high : ℕ) → Some high ≡ high_of text → IsCore high → written ≡ uuid_text high (2 ^ 63) → true ≡ bytes_eq written text
+pub the_core : (text written : List ℕ) (high : ℕ) → Some high ≡ high_of text → IsCore high → written ≡ uuid_text high (2 ^ 63) →
+    true ≡ bytes_eq written text
     → (core : ℕ) → (Some high ≡ Some core) ↔ IsCoreText core text
 unfolding uuid
 the_core text written high reads is_core is_written same core =

@@ -1,5 +1,6 @@
 -- What a text of digits reads as.
-use Rattle.std.proofs.Common.{◌≡◌, ◌<◌, ◌≤◌, ◌^◌, ℕ, true, false, List, length, rules, refl, sym, ap, ◌∙◌, Some, None, Result, Ok, Err, arith, inl, inr}
+use Rattle.std.proofs.Common.{◌≡◌, ◌<◌, ◌≤◌, ◌^◌, ℕ, true, false, List, length, rules, refl, sym, ap, ◌∙◌, Some, None, Result, Ok, Err}
+use Rattle.std.proofs.Common.{arith, inl, inr}
 use Rattle.std.specs.Char.{is_ascii_digit}
 use Rattle.std.specs.List.{list_all}
 use Rattle.std.specs.Result.{result_ok, MatchResult, IsOk}

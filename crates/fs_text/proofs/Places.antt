@@ -9,8 +9,11 @@ not_true true fails = absurd (fails refl)
 not_true false _ = refl
 
 -- the first place that passes, or the length, is where the test first passes
-pub first_is : (p : ℕ → Bool) (text : List ℕ) (found : Option ℕ) → IsFirstByte p text found → unwrap_or found (length text) ≡ position_or_len p text
+pub first_is : (p : ℕ → Bool) (text : List ℕ) (found : Option ℕ) → IsFirstByte p text found →
+    unwrap_or found (length text) ≡ position_or_len p text
 first_is p text None nowhere =
-    sym (position_or_len_is p text (length text) 0 (omega arith) (λ k below. not_true _ (nowhere k (omega arith) below)) (λ h. absurd (omega arith)))
+    sym (position_or_len_is p text (length text) 0 (omega arith) (λ k below. not_true _ (nowhere k (omega arith) below))
+    (λ h. absurd (omega arith)))
 first_is p text (Some i) first =
-    sym (position_or_len_is p text i 0 (omega (arith, first.0.high)) (λ k below. not_true _ (first.0.before k (omega arith) below)) (λ _. first.1))
+    sym (position_or_len_is p text i 0 (omega (arith, first.0.high)) (λ k below. not_true _ (first.0.before k (omega arith) below))
+    (λ _. first.1))

@@ -1,8 +1,12 @@
 -- The causes of a hangup.
-use Rattle.std.specs.Prelude.{ℕ, List, [], ◌∷◌, Option, find, codes, map}
+use Rattle.std.specs.Prelude.{ℕ, List, [], ◌∷◌, Option, find, unwrap_or, codes, map}
 use Rattle.std.specs.Str.{bytes_eq}
 use Rattle.fs_text.specs.declared.causes.Cause.{Cause}
-use Rattle.fs_text.specs.declared.causes.Cause.TheVariants.{UnallocatedNumber, NoRouteDestination, NormalClearing, UserBusy, NoUserResponse, NoAnswer, SubscriberAbsent, CallRejected, ExchangeRoutingError, DestinationOutOfOrder, InvalidNumberFormat, NormalUnspecified, NormalTemporaryFailure, SwitchCongestion, OriginatorCancel, SystemShutdown, LoseRace, ManagerRequest, AllottedTimeout, PickedOff}
+use Rattle.fs_text.specs.declared.causes.Cause.TheVariants.{UnallocatedNumber, NoRouteDestination, NormalClearing, UserBusy, NoUserResponse}
+use Rattle.fs_text.specs.declared.causes.Cause.TheVariants.{NoAnswer, SubscriberAbsent, CallRejected, ExchangeRoutingError}
+use Rattle.fs_text.specs.declared.causes.Cause.TheVariants.{DestinationOutOfOrder, InvalidNumberFormat, NormalUnspecified}
+use Rattle.fs_text.specs.declared.causes.Cause.TheVariants.{NormalTemporaryFailure, SwitchCongestion, OriginatorCancel, SystemShutdown}
+use Rattle.fs_text.specs.declared.causes.Cause.TheVariants.{LoseRace, ManagerRequest, AllottedTimeout, PickedOff}
 
 -- the number and the name of a cause
 unfoldable pub cause_row : Cause → ℕ × List ℕ
@@ -51,3 +55,7 @@ cause_name c = (cause_row c).1
 -- the cause that has this name
 unfoldable pub cause_of_name : List ℕ → Option Cause
 cause_of_name text = find (λ c. bytes_eq (cause_name c) text) all_causes
+
+-- the cause that has this name, or a normal clearing where none has it
+abbrev pub cause_or_clearing : List ℕ → Cause
+cause_or_clearing text = unwrap_or (cause_of_name text) NormalClearing

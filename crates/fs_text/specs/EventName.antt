@@ -2,7 +2,10 @@
 use Rattle.std.specs.Prelude.{ℕ, List, [], ◌∷◌, Option, find, codes, map}
 use Rattle.std.specs.Str.{bytes_eq}
 use Rattle.fs_text.specs.declared.event_names.EventName.{EventName}
-use Rattle.fs_text.specs.declared.event_names.EventName.TheVariants.{Custom, ChannelCreate, ChannelState, ChannelAnswer, ChannelExecute, ChannelExecuteComplete, ChannelBridge, ChannelUnbridge, ChannelPark, ChannelUnpark, ChannelHangup, ChannelHangupComplete, ChannelDestroy, BackgroundJob, Shutdown}
+use Rattle.fs_text.specs.declared.event_names.EventName.TheVariants.{Custom, ChannelCreate, ChannelState, ChannelAnswer, ChannelExecute}
+use Rattle.fs_text.specs.declared.event_names.EventName.TheVariants.{ChannelExecuteComplete, ChannelBridge, ChannelUnbridge, ChannelPark}
+use Rattle.fs_text.specs.declared.event_names.EventName.TheVariants.{ChannelUnpark, ChannelHangup, ChannelHangupComplete, ChannelDestroy}
+use Rattle.fs_text.specs.declared.event_names.EventName.TheVariants.{BackgroundJob, Shutdown}
 
 -- the number and the name of an event name
 unfoldable pub event_row : EventName → ℕ × List ℕ

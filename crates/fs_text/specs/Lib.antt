@@ -1,3 +1,4 @@
+pub mod Answers
 pub mod Cause
 pub mod CoreId
 pub mod Escape
@@ -5,4 +6,5 @@ pub mod EventName
 pub mod Number
 pub mod State
 pub mod Tables
+pub mod Texts
 pub mod Words

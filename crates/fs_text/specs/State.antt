@@ -2,7 +2,8 @@
 use Rattle.std.specs.Prelude.{ℕ, List, [], ◌∷◌, Option, find, codes, map}
 use Rattle.std.specs.Str.{bytes_eq}
 use Rattle.fs_text.specs.declared.states.State.{State}
-use Rattle.fs_text.specs.declared.states.State.TheVariants.{CsNew, CsInit, CsRouting, CsSoftExecute, CsExecute, CsExchangeMedia, CsPark, CsConsumeMedia, CsHibernate, CsReset, CsHangup, CsReporting, CsDestroy}
+use Rattle.fs_text.specs.declared.states.State.TheVariants.{CsNew, CsInit, CsRouting, CsSoftExecute, CsExecute, CsExchangeMedia, CsPark}
+use Rattle.fs_text.specs.declared.states.State.TheVariants.{CsConsumeMedia, CsHibernate, CsReset, CsHangup, CsReporting, CsDestroy}
 
 -- the number and the name of a state
 unfoldable pub state_row : State → ℕ × List ℕ

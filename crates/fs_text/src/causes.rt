@@ -3,6 +3,7 @@
 ghost use Rattle.std.specs.Prelude.{◌≡◌, map};
 ghost use Rattle.fs_text.specs.Tables.{IsTable};
 ghost use Rattle.fs_text.specs.Cause.{all_causes, causes, cause_row, cause_number, cause_name, cause_of_name};
+ghost use Rattle.fs_text.specs.Cause.{cause_or_clearing};
 
 use crate::tables::{Row, named};
 use Cause::*;
@@ -99,6 +100,13 @@ impl Cause {
         ensures { result ≡ cause_of_name name.now }
     {
         named(&CAUSES, name)
+    }
+
+    /// The cause that has exactly this name, or `NORMAL_CLEARING` where none has it.
+    pub fn of_name_or_clearing(name: &[u8]) -> Cause
+        ensures { result ≡ cause_or_clearing name.now }
+    {
+        Cause::of_name(name).unwrap_or(NormalClearing)
     }
 
     /// Each cause with its number and its name, in the order of the numbers.

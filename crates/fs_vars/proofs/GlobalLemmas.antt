@@ -1,9 +1,12 @@
 -- What a text is expanded to that knows the globals alone.
-use Rattle.std.proofs.Common.{◌≡◌, ℕ, zero, suc, ◌-◌, Bool, true, false, cond, [], ◌∷◌, ◌++◌, Option, None, Some, Result, IfOk, IfErr, subst, unwrap_or, length, take, append_assoc, ◌+◌, refl, sym, ap, ◌∙◌}
+use Rattle.std.proofs.Common.{◌≡◌, ℕ, zero, suc, ◌-◌, Bool, true, false, cond, [], ◌∷◌, ◌++◌, Option, None, Some, Result, IfOk, IfErr}
+use Rattle.std.proofs.Common.{subst, unwrap_or, length, take, append_assoc, ◌+◌, refl, sym, ap, ◌∙◌}
 use Rattle.std.specs.List.{AllByRecursion, list_any}
 use Rattle.std.specs.Prelude.{codes}
-use Rattle.fs_vars.specs.Pairs.{Text, Pairs, same_text, value_of}
-use Rattle.fs_vars.specs.Expansion.{Piece, asked_name, part_or_whole, asked_part, is_call, value_asked, meaning, inside_of, has_escape, has_reference, front, by_pieces, expanded}
+use Rattle.fs_text.specs.Texts.{Text}
+use Rattle.fs_vars.specs.Pairs.{Pairs, same_text, value_of}
+use Rattle.fs_vars.specs.Expansion.{Piece, asked_name, part_or_whole, asked_part, is_call, value_asked, meaning, inside_of, has_escape}
+use Rattle.fs_vars.specs.Expansion.{has_reference, front, by_pieces, expanded}
 use Rattle.fs_vars.specs.Scopes.{fields_of, known_in}
 use Rattle.fs_vars.specs.Outputs.{IsTextRefusal}
 use Rattle.fs_vars.specs.declared.refused.Refused.{Refused}

@@ -1,9 +1,11 @@
 -- What a text is expanded to.
-use Rattle.std.specs.Prelude.{◌≡◌, ◌==◌, ℕ, zero, suc, ◌+◌, ◌-◌, Bool, false, ◌&&◌, ◌||◌, nat_eq, if◌then◌else◌, [], ◌∷◌, ◌++◌, length, take, drop, Option, None, Some, is_some, unwrap_or, codes}
+use Rattle.std.specs.Prelude.{◌≡◌, ◌==◌, ℕ, zero, suc, ◌+◌, ◌-◌, Bool, false, ◌&&◌, ◌||◌, nat_eq, if◌then◌else◌, [], ◌∷◌, ◌++◌, length}
+use Rattle.std.specs.Prelude.{take, drop, Option, None, Some, is_some, unwrap_or, codes}
 use Rattle.std.specs.List.{starts_with, list_any, before_first}
 use Rattle.fs_text.specs.Words.{is_byte, before_byte, behind_byte}
+use Rattle.fs_text.specs.Texts.{Text}
 use Rattle.fs_vars.specs.declared.part.Part.{Part}
-use Rattle.fs_vars.specs.Pairs.{Text, Pairs, value_of}
+use Rattle.fs_vars.specs.Pairs.{Pairs, value_of}
 use Rattle.fs_vars.specs.Parts.{part_in, part_of}
 
 -- ---- one reference, between its braces
@@ -66,7 +68,8 @@ pub record Piece : Type 0 where
 unfoldable pub front : Pairs → Text → Piece
 front known text =
     if has_escape text then record { text = codes "$"; len = 2 }
-    else (if has_reference text then record { text = meaning known (inside_of text); len = length (inside_of text) + 3 } else record { text = take 1 text; len = 1 })
+    else if has_reference text then record { text = meaning known (inside_of text); len = length (inside_of text) + 3 }
+    else record { text = take 1 text; len = 1 }
 
 -- a text piece by piece, where the number says how many more of its bytes belong to the piece before
 abbrev pub by_pieces : (Text → Piece) → ℕ → Text → Text

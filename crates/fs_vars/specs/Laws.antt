@@ -1,8 +1,9 @@
 -- What an expansion comes to, case by case.
 use Rattle.std.specs.Prelude.{◌≡◌, ℕ, [], ◌∷◌, ◌++◌, true, false, Some, unwrap_or, codes}
 use Rattle.std.specs.List.{list_any}
+use Rattle.fs_text.specs.Texts.{Text}
 use Rattle.fs_vars.specs.declared.part.Part.{Part}
-use Rattle.fs_vars.specs.Pairs.{Text, Pairs, value_of}
+use Rattle.fs_vars.specs.Pairs.{Pairs, value_of}
 use Rattle.fs_vars.specs.Parts.{part_in, part_of}
 use Rattle.fs_vars.specs.Expansion.{expanded, meaning, asked_name, has_escape, has_reference, is_brace, is_call, IsPlainName}
 
@@ -34,4 +35,6 @@ PartMeansPart =
 
 -- a name with `(` or `$` stands as it is written
 abbrev pub CallStands : Type 0
-CallStands = (known : Pairs) (inside : Text) → list_any is_call (asked_name inside) ≡ true → meaning known inside ≡ codes "${" ++ inside ++ codes "}"
+CallStands =
+    (known : Pairs) (inside : Text) → list_any is_call (asked_name inside) ≡ true
+    → meaning known inside ≡ codes "${" ++ inside ++ codes "}"

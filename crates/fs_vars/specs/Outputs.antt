@@ -1,9 +1,9 @@
 -- An expanded text as it grows, and why it is refused.
 use Rattle.std.specs.Prelude.{◌≡◌, ℕ, ◌-◌, ◌<◌, ◌≤◌, ◌^◌, min, length}
+use Rattle.fs_text.specs.Texts.{Text}
 use Rattle.fs_vars.specs.declared.output.Output.{Output}
 use Rattle.fs_vars.specs.declared.refused.Refused.{Refused}
 use Rattle.fs_vars.specs.declared.refused.Refused.TheVariants.{Memory, TooLong}
-use Rattle.fs_vars.specs.Pairs.{Text}
 
 -- the length of a text, as far as 64 bits go
 abbrev pub len_of : Text → ℕ

@@ -4,9 +4,7 @@ use Rattle.std.specs.Global.{Vec}
 use Rattle.std.specs.List.{IsDistinct}
 use Rattle.std.specs.Map.{keys_of}
 use Rattle.std.specs.Str.{bytes_eq}
-
-abbrev pub Text : Type 0
-Text = List ℕ
+use Rattle.fs_text.specs.Texts.{Text}
 
 -- names with their values, in order
 abbrev pub Pairs : Type 0

@@ -1,11 +1,12 @@
 -- The part of a value that a reference asks for.
-use Rattle.std.specs.Prelude.{ℕ, zero, suc, ◌-◌, Bool, ◌&&◌, nat_eq, nat_le, if◌then◌else◌, ℤ, pos, negsuc, neg_ℤ, length, take, drop, Option, None, Some, option_map, option_and_then, codes}
+use Rattle.std.specs.Prelude.{ℕ, zero, suc, ◌-◌, Bool, ◌&&◌, nat_eq, nat_le, if◌then◌else◌, ℤ, pos, negsuc, neg_ℤ, length, take, drop}
+use Rattle.std.specs.Prelude.{Option, None, Some, option_map, option_and_then, codes}
 use Rattle.std.specs.Char.{is_ascii_digit}
 use Rattle.std.specs.List.{starts_with, list_all}
 use Rattle.std.specs.Str.Parse.{digits_value}
 use Rattle.fs_text.specs.Words.{halves_of}
+use Rattle.fs_text.specs.Texts.{Text}
 use Rattle.fs_vars.specs.declared.part.Part.{Part}
-use Rattle.fs_vars.specs.Pairs.{Text}
 
 -- 1 to 9 digits
 abbrev pub is_size : Text → Bool

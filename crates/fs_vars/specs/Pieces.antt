@@ -1,7 +1,8 @@
 -- The pieces of a text, as they are taken off its front.
 use Rattle.std.specs.Prelude.{◌≡◌, ◌++◌, ◌<◌, [], length, Option, MatchOption}
 use Rattle.std.specs.Borrow.{Bor}
-use Rattle.fs_vars.specs.Pairs.{Text, Pairs}
+use Rattle.fs_text.specs.Texts.{Text}
+use Rattle.fs_vars.specs.Pairs.{Pairs}
 use Rattle.fs_vars.specs.Expansion.{expanded}
 
 -- a text that is left to be expanded, with the named values that it can use

@@ -1,14 +1,16 @@
 -- The limits of the number and size of variables, and what setting a variable leaves.
 use Rattle.std.specs.Prelude.{◌==◌, ℕ, ◌+◌, Bool, true, ◌&&◌, ◌||◌, not, nat_le, if◌then◌else◌, length, count_by, sum_by, codes}
+use Rattle.fs_text.specs.Texts.{Text}
 use Rattle.fs_vars.specs.declared.bounds.Bounds.{Bounds}
 use Rattle.fs_vars.specs.declared.bounds.Bounds.TheVariants.{Channel, Globals}
 use Rattle.fs_vars.specs.declared.tally.Tally.{Tally}
-use Rattle.fs_vars.specs.Pairs.{Text, Pairs, same_text, with_value, without}
+use Rattle.fs_vars.specs.Pairs.{Pairs, same_text, with_value, without}
 
 -- the variables that the machine itself sets on a channel
 unfoldable pub is_machine_set : Text → Bool
 is_machine_set name =
-    same_text name (codes "originate_disposition") || same_text name (codes "bridge_hangup_cause") || same_text name (codes "hangup_cause") || same_text name (codes "signal_bond")
+    same_text name (codes "originate_disposition") || same_text name (codes "bridge_hangup_cause")
+    || same_text name (codes "hangup_cause") || same_text name (codes "signal_bond")
 
 -- whether a variable counts to the limits
 abbrev pub counts : Bounds → Text → Bool
@@ -49,7 +51,8 @@ is_removal value = length value == 0 || same_text value (codes "_undef_")
 -- no limit is passed by this name and this value, nor by the variables once it is set
 abbrev pub fits : Variables → Text → Text → Bool
 fits vars name value =
-    nat_le (length name) 256 && nat_le (length value) 16384 && is_within vars.bounds (tally_of vars.bounds (with_value vars.pairs name value))
+    nat_le (length name) 256 && nat_le (length value) 16384
+    && is_within vars.bounds (tally_of vars.bounds (with_value vars.pairs name value))
 
 -- the name can be set to the value: it is not empty, and no limit would be passed
 unfoldable pub can_set : Variables → Text → Text → Bool

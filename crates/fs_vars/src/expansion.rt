@@ -31,8 +31,8 @@ pub fn expand(alloc: Global, scope: &Scope, text: &[u8]) -> Result<Txt, Refused>
     output.into_text()
 }
 
-/// What the definition of an expansion says, case by case: the value of [`expand`] at each beginning of a text, and what
-/// a reference means.
+/// What the definition of an expansion says, case by case: the value of [`expand`] at each beginning of a text, and
+/// what a reference means.
 pub fn expansion_law()
     // No text gives no text.
     ensures nothing { (known : Pairs) → expanded known [] ≡ [] }

@@ -1,6 +1,6 @@
 //! An expanded text as it grows.
 ghost use Rattle.std.specs.Prelude.{◌++◌, ◌≡◌, ◌≤◌, [], length, IfOk, IfErr, OnOk};
-ghost use Rattle.fs_vars.specs.Pairs.{Text};
+ghost use Rattle.fs_text.specs.Texts.{Text};
 ghost use Rattle.fs_vars.specs.Outputs.{Holds, IsTextRefusal};
 
 use crate::refused::Refused;

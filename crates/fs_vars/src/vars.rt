@@ -84,8 +84,8 @@ impl Vars {
 
     /// Sets a variable, and says whether it did. An empty value and `_undef_` take the variable out.
     ///
-    /// It does not, and changes nothing, where the name is empty or a limit of the bounds would be passed. A new name goes last, and
-    /// one that is there keeps its place.
+    /// It does not, and changes nothing, where the name is empty or a limit of the bounds would be passed. A new name
+    /// goes last, and one that is there keeps its place.
     #[tactic(auto, unfolding(crate::specs::Variables::can_set, crate::specs::Variables::set_to))]
     pub fn set(&mut self, name: &[u8], value: &[u8]) -> Result<bool, Memory>
         ensures answer { IfOk result (λ done. done ≡ can_set self.old name.now value.now) }

@@ -1,4 +1,4 @@
--- How a call answers what a reading function says.
+-- How a call answers what a reading function says, where memory may be wanting.
 use Rattle.std.specs.Prelude.{◌≡◌, Result, Ok, Err}
 use Rattle.fs_xml.specs.declared.stop.TagStop.{TagStop}
 use Rattle.fs_xml.specs.declared.stop.MarkupStop.{MarkupStop}
@@ -7,17 +7,12 @@ use Rattle.fs_xml.specs.declared.stop.ValueFault.{ValueFault}
 use Rattle.fs_xml.specs.declared.stop.ValueStop.{ValueStop}
 use Rattle.fs_xml.specs.declared.stop.ValueStop.TheVariants as value
 
--- what is answered, as it is seen, is what was read; or the same fault
-abbrev pub Gives : {X Y E : Type 0} → (X → Y) → Result X E → Result Y E → Type 0
-Gives view (Ok x) read = read ≡ Ok (view x)
-Gives view (Err e) read = read ≡ Err e
-
 -- want of memory says nothing of what is read; any other stop is the fault that is read
 abbrev pub MarkupStops : {Y : Type 0} → MarkupStop → Result Y TagStop → Type 0
 MarkupStops markup.Memory read = Unit {0}
 MarkupStops (markup.Tag stop) read = read ≡ Err stop
 
--- as `Gives`, where memory may be wanting
+-- what is answered, as it is seen, is what is read; or the same fault, where memory was not wanting
 abbrev pub MarkupGives : {X Y : Type 0} → (X → Y) → Result X MarkupStop → Result Y TagStop → Type 0
 MarkupGives view (Ok x) read = read ≡ Ok (view x)
 MarkupGives view (Err e) read = MarkupStops e read

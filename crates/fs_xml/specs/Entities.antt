@@ -1,5 +1,6 @@
 -- What a value says, once its entities are decoded.
-use Rattle.std.specs.Prelude.{◌==◌, ℕ, zero, suc, ◌+◌, ◌-◌, ◌*◌, min, Bool, ◌&&◌, ◌||◌, nat_lt, nat_le, if◌then◌else◌, List, [], ◌∷◌, ◌++◌, length, drop, Option, None, Some, Result, Ok, Err, codes, encode_utf8}
+use Rattle.std.specs.Prelude.{◌==◌, ℕ, zero, suc, ◌+◌, ◌-◌, ◌*◌, min, Bool, ◌&&◌, ◌||◌, nat_lt, nat_le, if◌then◌else◌, List, [], ◌∷◌, ◌++◌}
+use Rattle.std.specs.Prelude.{length, drop, Option, None, Some, Result, Ok, Err, codes, encode_utf8}
 use Rattle.std.specs.Option.{option_and_then, option_map}
 use Rattle.std.specs.Str.{bytes_eq}
 use Rattle.std.specs.List.{before_first, position_or_len}

@@ -1,8 +1,8 @@
 //! The attributes of a tag, and where it ends.
 
-ghost use Rattle.std.specs.Prelude.{◌≡◌, ◌<◌, ◌≤◌, ℕ, List, None, length, IfOk};
+ghost use Rattle.std.specs.Prelude.{◌<◌, ◌≤◌, ℕ, List, None, length, IfOk};
 ghost use Rattle.std.specs.Borrow.{Bor};
-ghost use Rattle.fs_xml.specs.Answers.{Gives};
+ghost use Rattle.fs_text.specs.Answers.{Gives};
 ghost use Rattle.fs_xml.specs.Attributes as pieces;
 
 use crate::bytes::{begins_name, is_quote, past_blanks, split_name};

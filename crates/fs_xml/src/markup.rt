@@ -1,8 +1,9 @@
 //! Comments, end tags and start tags.
 
-ghost use Rattle.std.specs.Prelude.{◌≡◌, ◌<◌, ◌≤◌, ℕ, List, length, IfOk};
+ghost use Rattle.std.specs.Prelude.{◌<◌, ◌≤◌, ℕ, List, length, IfOk};
 ghost use Rattle.std.specs.Borrow.{Bor};
-ghost use Rattle.fs_xml.specs.Answers.{Gives, MarkupGives};
+ghost use Rattle.fs_text.specs.Answers.{Gives};
+ghost use Rattle.fs_xml.specs.Answers.{MarkupGives};
 ghost use Rattle.fs_xml.specs.Markup as marks;
 
 use crate::bytes::{begins_name, past_blanks, split_name};

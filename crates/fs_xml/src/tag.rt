@@ -1,6 +1,6 @@
 //! What a start tag has behind its name.
 
-ghost use Rattle.std.specs.Prelude.{◌≡◌, ◌<◌, ◌≤◌, length, map, IfOk};
+ghost use Rattle.std.specs.Prelude.{◌<◌, ◌≤◌, length, map, IfOk};
 ghost use Rattle.fs_xml.specs.Answers.{MarkupGives};
 ghost use Rattle.fs_xml.specs.Attributes.{written_of};
 ghost use Rattle.fs_xml.specs.Tags as tags;

@@ -1,4 +1,5 @@
-use Rattle.fs_orig.proofs.VerdictLemmas.{won_is, is_won, leg_expired_is, failed_is, next_may_be_entered, is_to_come, stays_waiting, then_expires, stays_decided, stays_over}
+use Rattle.fs_orig.proofs.VerdictLemmas.{won_is, is_won, leg_expired_is, failed_is, next_may_be_entered, is_to_come, stays_waiting}
+use Rattle.fs_orig.proofs.VerdictLemmas.{then_expires, stays_decided, stays_over}
 use Rattle.fs_orig.proofs.verdict.verdict_law.Goals as goal
 
 pub returns : goal.returns

@@ -6,7 +6,8 @@ use Rattle.fs_text.proofs.escapes.escape.Goals as goal
 -- the bytes that the answer is made of
 escaped : (c : goal.Joined-escaped) → c.as_bytes.result.now ≡ escape c.args.bytes.now
 escaped c =
-    c.as_bytes.ensures.value ∙ c.deref.ensures.value ∙ c.in_ok-escaped.ensures.value ∙ c.percent_encode.ensures.text ∙ percent_encode-is-escape _
+    c.as_bytes.ensures.value ∙ c.deref.ensures.value ∙ c.in_ok-escaped.ensures.value ∙ c.percent_encode.ensures.text
+    ∙ percent_encode-is-escape _
 
 pub returns-clause-escaped : goal.returns-clause-escaped
 returns-clause-escaped c = rw (escaped c) at c.of.ensures

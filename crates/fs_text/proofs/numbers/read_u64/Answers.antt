@@ -1,7 +1,8 @@
 use Rattle.std.proofs.Common.{◌∙◌}
 use Rattle.fs_text.proofs.NumberLemmas.{digits_are_text, text_is_ok, too_long, not_digits, parsed_is}
 use Rattle.fs_text.proofs.numbers.read_u64.Goals as goal
-use Rattle.fs_text.proofs.numbers.read_u64.Goals.{then-bytes-gt20-via-then-bytes-gt20, then-bytes-gt20-via-else-bytes-gt20+then-not-has_digits_alone}
+use Rattle.fs_text.proofs.numbers.read_u64.Goals.{then-bytes-gt20-via-then-bytes-gt20}
+use Rattle.fs_text.proofs.numbers.read_u64.Goals.{then-bytes-gt20-via-else-bytes-gt20+then-not-has_digits_alone}
 
 pub returns-then-bytes-gt20 : goal.returns-then-bytes-gt20
 returns-then-bytes-gt20 c =

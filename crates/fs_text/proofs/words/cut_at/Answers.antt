@@ -9,7 +9,8 @@ split_at-requires c = omega (arith, c.place_of.ensures, place_within (is_byte c.
 pub returns-in-empty-clause-behind : goal.returns-in-empty-clause-behind
 returns-in-empty-clause-behind c =
     let p = is_byte c.args.byte in
-    sym (nothing_after p c.args.text.now (none_found p c.args.text.now c.place_of.result c.place_of.ensures (omega (arith, c.split_at.ensures.back_len))))
+    sym (nothing_after p c.args.text.now (none_found p c.args.text.now c.place_of.result c.place_of.ensures
+    (omega (arith, c.split_at.ensures.back_len))))
 
 pub returns-in-len1-up-clause-behind : goal.returns-in-len1-up-clause-behind
 returns-in-len1-up-clause-behind c =

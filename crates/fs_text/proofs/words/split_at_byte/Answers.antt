@@ -12,4 +12,5 @@ returns-in-empty-clause-halves c =
 
 pub returns-in-len1-up-clause-halves : goal.returns-in-len1-up-clause-halves
 returns-in-len1-up-clause-halves c =
-    halves_are c.args.byte c.args.text.now c.place_of.result _ _ c.place_of.ensures (omega (arith, c.split_at.ensures.back_len)) c.split_at.ensures.front c.split_at.ensures.back
+    halves_are c.args.byte c.args.text.now c.place_of.result _ _ c.place_of.ensures
+    (omega (arith, c.split_at.ensures.back_len)) c.split_at.ensures.front c.split_at.ensures.back

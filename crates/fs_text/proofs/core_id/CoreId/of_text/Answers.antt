@@ -18,6 +18,7 @@ returns-else-high-eq8 c =
     let reads = sym c.in_ok-high.was ∙ c.high_half.ensures in
     elim c.else-high-eq8.branch [
       | else-high-eq8-via-then-high-eq8+else-eq w ↦
-          other_text c.args.text.now w.as_bytes.result.now c.in_ok-high.high reads (w.as_bytes.ensures.value ∙ w.hyphenated.ensures) w.if-eq.ensures
+          other_text c.args.text.now w.as_bytes.result.now c.in_ok-high.high reads
+          (w.as_bytes.ensures.value ∙ w.hyphenated.ensures) w.if-eq.ensures
       | else-high-eq8-via-else-high-eq8 w ↦ other_version c.args.text.now c.in_ok-high.high reads w.if-high-eq8.false
     ]

@@ -10,4 +10,5 @@ take-requires c = omega (arith, c.plain_len-len.ensures.within, ap (λ (s : Left
 pub returns : goal.returns
 returns c =
     let len = c.plain_len-len.ensures.plain ∙ ap (λ (s : Left). 1 + position_or_len is_special (drop 1 s.text)) c.self.view_is in
-    rw (c.take.ensures.front) (plain_taken c.args.self.now c.take.new.self c.plain_len-len.result len c.take.ensures.rest c.requires.text c.requires.no_escape c.requires.no_reference)
+    rw (c.take.ensures.front) (plain_taken c.args.self.now c.take.new.self c.plain_len-len.result len c.take.ensures.rest c.requires.text
+    c.requires.no_escape c.requires.no_reference)

@@ -4,7 +4,7 @@ use Rattle.std.proofs.lemmas.Bool.{eqb-true, eq-eqb}
 use Rattle.std.proofs.Math.Seq.{drop-cons}
 use Rattle.std.proofs.lemmas.List.{take-append-drop, drop_all}
 use Rattle.std.specs.Prelude.{if◌then◌else◌}
-use Rattle.fs_api.specs.Words.{Text}
+use Rattle.fs_text.specs.Texts.{Text}
 use Rattle.fs_api.specs.Originates.{is_close, before_close, more_before_close}
 
 -- behind a last byte that is one

@@ -13,7 +13,8 @@ use Rattle.fs_api.specs.declared.api.Api.TheVariants.{Expand, UuidGetvar}
 use Rattle.fs_api.specs.declared.usages.Which.{Which}
 use Rattle.fs_api.specs.declared.usages.Which.TheVariants as which
 use Rattle.fs_text.specs.Words.{word_of, behind_word}
-use Rattle.fs_api.specs.Words.{Text, behind_quoted, quoted_word}
+use Rattle.fs_text.specs.Texts.{Text}
+use Rattle.fs_api.specs.Words.{behind_quoted, quoted_word}
 use Rattle.fs_api.specs.Originates.{plain_word, originate_with, originate_to, originate_of}
 use Rattle.fs_api.specs.Readings.{needs, global_setvar_of, global_getvar_of, msleep_for, uuid_exists_of, uuid_kill_of, uuid_getvar_of, api_named}
 use Rattle.fs_api.specs.Ranges.{IsInRange}

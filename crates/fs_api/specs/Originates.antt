@@ -1,6 +1,7 @@
 -- How the arguments of `originate` are read.
 use Rattle.std.specs.Prelude.{ℕ, ◌==◌, ◌&&◌, Bool, if◌then◌else◌, [], ◌∷◌, length, Option, None, Some, unwrap_or, codes}
 use Rattle.fs_text.specs.Words.{before_byte, behind_byte}
+use Rattle.fs_text.specs.Texts.{Text}
 use Rattle.fs_orig.specs.declared.winner.Winner.{Winner}
 use Rattle.fs_orig.specs.declared.winner.Winner.TheVariants.{App, Route}
 use Rattle.fs_orig.specs.Endpoints.{is_short}
@@ -8,7 +9,7 @@ use Rattle.fs_orig.specs.Timeouts.{seconds_in}
 use Rattle.fs_api.specs.declared.api.Api.{Api}
 use Rattle.fs_api.specs.declared.api.Api.TheVariants.{Originate, Usage}
 use Rattle.fs_api.specs.declared.usages.Which.TheVariants as which
-use Rattle.fs_api.specs.Words.{Text, quoted_word, behind_quoted, unquoted}
+use Rattle.fs_api.specs.Words.{quoted_word, behind_quoted, unquoted}
 
 -- the first word, without the quotes round it
 abbrev pub plain_word : Text → Text

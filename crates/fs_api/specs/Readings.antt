@@ -4,13 +4,13 @@ use Rattle.std.specs.Str.{bytes_eq}
 use Rattle.fs_text.specs.Number.{read_u64}
 use Rattle.fs_text.specs.Words.{name_in, value_in, without_spaces, word_of, behind_word}
 use Rattle.fs_text.specs.Cause.{cause_of_name}
+use Rattle.fs_text.specs.Texts.{Text}
 use Rattle.fs_text.specs.declared.causes.Cause.{Cause}
 use Rattle.fs_text.specs.declared.causes.Cause.TheVariants.{NormalClearing}
 use Rattle.fs_api.specs.declared.api.Api.{Api}
 use Rattle.fs_api.specs.declared.api.Api.TheVariants.{Echo, Expand, GlobalGetvar, GlobalSetvar, Msleep, UuidExists, UuidKill, UuidGetvar, Usage, Unknown}
 use Rattle.fs_api.specs.declared.usages.Which.{Which}
 use Rattle.fs_api.specs.declared.usages.Which.TheVariants as which
-use Rattle.fs_api.specs.Words.{Text}
 use Rattle.fs_api.specs.Originates.{originate_of}
 
 -- what these arguments are, or the usage where there are none

@@ -2,9 +2,7 @@
 use Rattle.std.specs.Prelude.{ℕ, ◌+◌, ◌==◌, Bool, false, not, ◌&&◌, if◌then◌else◌, List, [], ◌∷◌, length, take, drop}
 use Rattle.std.specs.List.{position_or_len}
 use Rattle.fs_text.specs.Words.{is_byte, without_spaces}
-
-abbrev pub Text : Type 0
-Text = List ℕ
+use Rattle.fs_text.specs.Texts.{Text}
 
 abbrev pub is_quote : ℕ → Bool
 is_quote byte = byte == 39

@@ -1,6 +1,6 @@
 -- The length of a word that is named.
 use Rattle.std.proofs.Common.{ℕ, ◌≤◌, [], ◌∷◌, length, IfSome}
-use Rattle.fs_orig.specs.Endpoints.{Text}
+use Rattle.fs_text.specs.Texts.{Text}
 use Rattle.fs_app.specs.Applications.{word_named}
 
 pub word_named_short : (word : Text) (most : ℕ) → length word ≤ most → IfSome (word_named word) (λ text. length text ≤ most)

@@ -4,8 +4,9 @@ use Rattle.std.specs.Str.{bytes_eq}
 use Rattle.fs_text.specs.Number.{read_u64}
 use Rattle.fs_text.specs.Words.{name_in, value_in, without_spaces, word_of, behind_word}
 use Rattle.fs_text.specs.Cause.{cause_of_name}
+use Rattle.fs_text.specs.Texts.{Text}
 use Rattle.fs_text.specs.declared.causes.Cause.TheVariants.{NormalClearing}
-use Rattle.fs_orig.specs.Endpoints.{Text, is_short}
+use Rattle.fs_orig.specs.Endpoints.{is_short}
 use Rattle.fs_chan.specs.Changes as changes
 use Rattle.fs_app.specs.declared.application.Application.{Application}
 use Rattle.fs_app.specs.declared.application.Application.TheVariants as app

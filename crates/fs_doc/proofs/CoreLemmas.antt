@@ -5,8 +5,8 @@ use Rattle.std.specs.Option.{option_and_then}
 use Rattle.std.proofs.lemmas.Slice.Eq.{bytes_eq-Decides}
 use Rattle.std.proofs.lemmas.Bool.Decides.{nat_tests}
 use Rattle.fs_text.specs.CoreId.{uuid, high_of, IsCore, IsCoreText}
+use Rattle.fs_text.specs.Texts.{Text}
 use Rattle.fs_text.proofs.IdLemmas.{uuid_owned}
-use Rattle.fs_vars.specs.Pairs.{Text}
 use Rattle.fs_doc.specs.Settings.{is_core, core_in, core_of}
 
 -- options that are the same values are the same
@@ -24,7 +24,8 @@ true-is_core core small version = grind (arith, nat_tests)
 in_is : (text : Text) (high core : ℕ) → core_in text high ≡ Some core → IsCoreText core text
 in_is text high core = by (is_core high) (bytes_eq (uuid high 0) text) (is_core-true high) (bytes_eq-Decides (uuid high 0) text).0
   where
-    by : (t u : Bool) → (t ≡ true → (high < 2 ^ 64) × (high / 2 ^ 12 % 16 ≡ 8)) → (u ≡ true → uuid high 0 ≡ text) → cond (t && u) (Some high) None ≡ Some core → IsCoreText core text
+    by : (t u : Bool) → (t ≡ true → (high < 2 ^ 64) × (high / 2 ^ 12 % 16 ≡ 8)) → (u ≡ true → uuid high 0 ≡ text) →
+        cond (t && u) (Some high) None ≡ Some core → IsCoreText core text
     by true true is same e = let it : high ≡ core = cc in rw (← it) (is refl, sym (same refl))
     by true false is same e = absurd (cc)
     by false u is same e = absurd (cc)

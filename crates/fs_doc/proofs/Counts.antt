@@ -1,5 +1,6 @@
 -- What is read of a document keeps the ranges and limits.
-use Rattle.std.proofs.Common.{◌≡◌, ℕ, zero, suc, ◌+◌, ◌-◌, ◌^◌, ◌<◌, ◌≤◌, min, Bool, true, false, cond, ◌&&◌, ◌||◌, nat_le, nat_lt, List, [], ◌∷◌, ◌++◌, length, sum_by, Option, None, Some, Result, Ok, Err, codes, refl, sym, ap, subst, arith}
+use Rattle.std.proofs.Common.{◌≡◌, ℕ, zero, suc, ◌+◌, ◌-◌, ◌^◌, ◌<◌, ◌≤◌, min, Bool, true, false, cond, ◌&&◌, ◌||◌, nat_le, nat_lt, List}
+use Rattle.std.proofs.Common.{[], ◌∷◌, ◌++◌, length, sum_by, Option, None, Some, Result, Ok, Err, codes, refl, sym, ap, subst, arith}
 use Rattle.std.specs.Option.{option_map, option_and_then}
 use Rattle.std.specs.Str.{bytes_eq}
 use Rattle.std.proofs.lemmas.List.{length-append}
@@ -7,7 +8,8 @@ use Rattle.std.proofs.lemmas.List.Sums.{sum_by-append, sum_by-cons}
 use Rattle.std.proofs.lemmas.Bool.Decides.{nat_tests}
 use Rattle.fs_text.specs.CoreId.{IsCore}
 use Rattle.fs_text.specs.Number.{read_u64}
-use Rattle.fs_vars.specs.Pairs.{Text, Pairs}
+use Rattle.fs_text.specs.Texts.{Text}
+use Rattle.fs_vars.specs.Pairs.{Pairs}
 use Rattle.fs_vars.specs.Variables.{can_set, set_to}
 use Rattle.fs_vars.specs.declared.bounds.Bounds.TheVariants.{Globals}
 use Rattle.fs_xml.specs.Results.{◌>>=◌}
@@ -26,10 +28,14 @@ use Rattle.fs_doc.specs.declared.dialplan.Test.TheVariants as test
 use Rattle.fs_doc.specs.declared.dialplan.ManyKind.{ManyKind}
 use Rattle.fs_doc.specs.declared.dialplan.PlanAction.{PlanAction}
 use Rattle.fs_doc.specs.Dialplans.{Context, Extension, Condition, with_extension, with_case, with_child, with_action}
-use Rattle.fs_doc.specs.Settings.{default_settings, number_within, core_of, with_setting, switch_setting, password_setting, socket_setting, setting}
+use Rattle.fs_doc.specs.Settings.{default_settings, number_within, core_of, with_setting, switch_setting, password_setting, socket_setting}
+use Rattle.fs_doc.specs.Settings.{setting}
 use Rattle.fs_doc.specs.Elements.{has}
 use Rattle.fs_doc.specs.Attributes.{many_of, global_of}
-use Rattle.fs_doc.specs.Contents.{new_content, BeginResult, attribute_value, global_on, global_begun, param_on, param_begun, context_place, context_at, context_begun, extension_begun, condition_of, pattern_counted, pattern_begun, condition_on, condition_begun, case_begun, action_of, action_begun, element_begun, extension_ended, extended, condition_ended, element_ended}
+use Rattle.fs_doc.specs.Contents.{new_content, BeginResult, attribute_value, global_on, global_begun, param_on, param_begun, context_place}
+use Rattle.fs_doc.specs.Contents.{context_at, context_begun, extension_begun, condition_of, pattern_counted, pattern_begun, condition_on}
+use Rattle.fs_doc.specs.Contents.{condition_begun, case_begun, action_of, action_begun, element_begun, extension_ended, extended}
+use Rattle.fs_doc.specs.Contents.{condition_ended, element_ended, new_context, extension_of, plain_of, with_child_of}
 use Rattle.fs_doc.specs.Limits.{AreInRange, test_pattern_count, pattern_count, action_count, in_extension, in_context, in_all, one}
 use Rattle.fs_doc.proofs.CoreLemmas.{core_found}
 
@@ -56,7 +62,8 @@ number_between least most text = on (read_u64 text)
     on (Some n) = tested n (nat_le least n && nat_le n most) refl
 
 -- a setting that is given by a number in a range
-set_in : (least most : ℕ) (set : ℕ → Settings) (o : Option ℕ) → Between least most o → ((n : ℕ) → least ≤ n → n ≤ most → AreInRange (set n)) → Ranged (with_setting set o)
+set_in : (least most : ℕ) (set : ℕ → Settings) (o : Option ℕ) → Between least most o →
+    ((n : ℕ) → least ≤ n → n ≤ most → AreInRange (set n)) → Ranged (with_setting set o)
 set_in least most set None between fine = tt
 set_in least most set (Some n) between fine = fine n between.0 between.1
 
@@ -64,41 +71,97 @@ either : (t : Bool) (a b : Option Settings) → Ranged a → Ranged b → Ranged
 either true a b first second = first
 either false a b first second = second
 
-core_ranged : (s : Settings) (o : Option ℕ) → ((core : ℕ) → o ≡ Some core → IsCore core) → AreInRange s → Ranged (with_setting (λ core. record s { core_uuid = core }) o)
+core_ranged : (s : Settings) (o : Option ℕ) → ((core : ℕ) → o ≡ Some core → IsCore core) → AreInRange s →
+    Ranged (with_setting (λ core. record s { core_uuid = core }) o)
 core_ranged s None is h = tt
-core_ranged s (Some core) is h = record { core = is core refl; sessions = h.sessions; journal = h.journal; port = h.port; password = h.password; connections = h.connections }
+core_ranged s (Some core) is h =
+    record {
+      core = is core refl;
+      sessions = h.sessions;
+      journal = h.journal;
+      port = h.port;
+      password = h.password;
+      connections = h.connections;
+    }
 
 switch_ranged : (name value : Text) (s : Settings) → AreInRange s → Ranged (switch_setting name value s)
 unfolding switch_setting
 switch_ranged name value s h =
     either (bytes_eq name (codes "core-uuid")) _ _ (core_ranged s (core_of value) (core_found value) h)
     (either (bytes_eq name (codes "max-sessions")) _ _
-    (set_in 1 (2 ^ 64 - 1) (λ n. record s { max_sessions = min n 256 }) (number_within 1 (2 ^ 64 - 1) value) (number_between 1 (2 ^ 64 - 1) value)
-    (λ n least most. record { core = h.core; sessions = (omega arith, omega arith); journal = h.journal; port = h.port; password = h.password; connections = h.connections }))
+    (set_in 1 (2 ^ 64 - 1) (λ n. record s { max_sessions = min n 256 }) (number_within 1 (2 ^ 64 - 1) value)
+    (number_between 1 (2 ^ 64 - 1) value)
+    (λ n least most. record {
+      core = h.core;
+      sessions = (omega arith, omega arith);
+      journal = h.journal;
+      port = h.port;
+      password = h.password;
+      connections = h.connections;
+    }))
     (either (bytes_eq name (codes "journal-limit")) _ _
-    (set_in 1048576 1073741824 (λ n. record s { journal_limit = n }) (number_within 1048576 1073741824 value) (number_between 1048576 1073741824 value)
-    (λ n least most. record { core = h.core; sessions = h.sessions; journal = (least, most); port = h.port; password = h.password; connections = h.connections }))
+    (set_in 1048576 1073741824 (λ n. record s { journal_limit = n }) (number_within 1048576 1073741824 value)
+    (number_between 1048576 1073741824 value)
+    (λ n least most. record {
+      core = h.core;
+      sessions = h.sessions;
+      journal = (least, most);
+      port = h.port;
+      password = h.password;
+      connections = h.connections;
+    }))
     h))
 
 password_ranged : (value : Text) (s : Settings) → AreInRange s → Ranged (password_setting value s)
 unfolding password_setting
 password_ranged value s h = on (nat_le 1 (length value) && nat_le (length value) 256) refl
   where
-    on : (t : Bool) → (nat_le 1 (length value) && nat_le (length value) 256) ≡ t → Ranged (cond t (Some (record s { password = value })) None)
-    on true e = record { core = h.core; sessions = h.sessions; journal = h.journal; port = h.port; password = (grind (arith, nat_tests), grind (arith, nat_tests)); connections = h.connections }
+    on : (t : Bool) → (nat_le 1 (length value) && nat_le (length value) 256) ≡ t →
+        Ranged (cond t (Some (record s { password = value })) None)
+    on true e =
+        record {
+          core = h.core;
+          sessions = h.sessions;
+          journal = h.journal;
+          port = h.port;
+          password = (grind (arith, nat_tests), grind (arith, nat_tests));
+          connections = h.connections;
+        }
     on false e = tt
 
 socket_ranged : (name value : Text) (s : Settings) → AreInRange s → Ranged (socket_setting name value s)
 unfolding socket_setting
 socket_ranged name value s h =
-    either (bytes_eq name (codes "listen-ip")) _ _ (record { core = h.core; sessions = h.sessions; journal = h.journal; port = h.port; password = h.password; connections = h.connections })
+    either (bytes_eq name (codes "listen-ip")) _ _
+    (record {
+      core = h.core;
+      sessions = h.sessions;
+      journal = h.journal;
+      port = h.port;
+      password = h.password;
+      connections = h.connections;
+    })
     (either (bytes_eq name (codes "listen-port")) _ _
     (set_in 1 65535 (λ n. record s { listen_port = n }) (number_within 1 65535 value) (number_between 1 65535 value)
-    (λ n least most. record { core = h.core; sessions = h.sessions; journal = h.journal; port = (least, most); password = h.password; connections = h.connections }))
+    (λ n least most. record {
+      core = h.core;
+      sessions = h.sessions;
+      journal = h.journal;
+      port = (least, most);
+      password = h.password;
+      connections = h.connections;
+    }))
     (either (bytes_eq name (codes "password")) _ _ (password_ranged value s h)
     (either (bytes_eq name (codes "max-connections")) _ _
     (set_in 1 16 (λ n. record s { max_connections = n }) (number_within 1 16 value) (number_between 1 16 value)
-    (λ n least most. record { core = h.core; sessions = h.sessions; journal = h.journal; port = h.port; password = h.password; connections = (least, most) }))
+    (λ n least most. record {
+      core = h.core;
+      sessions = h.sessions;
+      journal = h.journal;
+      port = h.port;
+      password = h.password;
+      connections = (least, most);
+    }))
     h)))
 
 setting_ranged : (file : ConfigFile) (name value : Text) (s : Settings) → AreInRange s → Ranged (setting file name value s)
@@ -135,7 +198,15 @@ pub record IsCounted (c : Content) : Type 0 where
 pub nothing_counted : IsCounted new_content
 unfolding new_content default_settings
 nothing_counted = record {
-  settings = record { core = (omega arith, refl); sessions = (omega arith, omega arith); journal = (omega arith, omega arith); port = (omega arith, omega arith); password = (omega arith, omega arith); connections = (omega arith, omega arith) };
+  settings =
+      record {
+        core = (omega arith, refl);
+        sessions = (omega arith, omega arith);
+        journal = (omega arith, omega arith);
+        port = (omega arith, omega arith);
+        password = (omega arith, omega arith);
+        connections = (omega arith, omega arith);
+      };
   bounds = refl;
   contexts = omega arith;
   extensions = omega arith;
@@ -147,9 +218,10 @@ nothing_counted = record {
 }
 
 -- a new context has no extensions
-new_context : (count : Extension → ℕ) (name : Text) (contexts : List Context) → in_all count (contexts ++ record { name = name; extensions = [] } ∷ []) ≡ in_all count contexts
-new_context count name contexts =
-    let parts = sum_by-append (in_context count) contexts (record { name = name; extensions = [] } ∷ []) in omega arith
+context_added : (count : Extension → ℕ) (name : Text) (contexts : List Context) →
+    in_all count (contexts ++ new_context name ∷ []) ≡ in_all count contexts
+context_added count name contexts =
+    let parts = sum_by-append (in_context count) contexts (new_context name ∷ []) in omega arith
 
 one_longer : (count : Extension → ℕ) (e : Extension) (es : List Extension) → sum_by count (es ++ e ∷ []) ≡ sum_by count es + count e
 one_longer count e es = let parts = sum_by-append count es (e ∷ []) in omega arith
@@ -158,7 +230,8 @@ one_condition : (count : Condition → ℕ) (k : Condition) (ks : List Condition
 one_condition count k ks = let parts = sum_by-append count ks (k ∷ []) in omega arith
 
 -- an extension in its context adds what it has, at most
-extension_added : (count : Extension → ℕ) (place : ℕ) (e : Extension) (contexts : List Context) → in_all count (with_extension place e contexts) ≤ in_all count contexts + count e
+extension_added : (count : Extension → ℕ) (place : ℕ) (e : Extension) (contexts : List Context) →
+    in_all count (with_extension place e contexts) ≤ in_all count contexts + count e
 extension_added count place e [] = omega arith
 extension_added count zero e (context ∷ contexts) =
     let first = sum_by-cons (in_context count) (record context { extensions = context.extensions ++ e ∷ [] }) contexts in
@@ -204,7 +277,8 @@ global_keeps : (c : Content) (o : Option (Text × Text)) → IsCounted c → Kee
 unfolding set_to
 global_keeps c None h = h
 global_keeps c (Some pair) h =
-    kept (can_set c.globals pair.0 pair.1) (Ok (level.Empty, record c { globals = set_to c.globals pair.0 pair.1 })) faults.TooLarge (record {
+    kept (can_set c.globals pair.0 pair.1) (Ok (level.Empty, record c { globals = set_to c.globals pair.0 pair.1 })) faults.TooLarge
+    (record {
       settings = h.settings;
       bounds = h.bounds;
       contexts = h.contexts;
@@ -234,7 +308,9 @@ context_keeps : (name : Text) (place : ℕ) (c : Content) → IsCounted c → Ke
 context_keeps name place c h = by (nat_lt place (length c.contexts)) (nat_lt (length c.contexts) 256) refl
   where
     by : (s t : Bool) → nat_lt (length c.contexts) 256 ≡ t
-        → Keeps (cond s (Ok (level.Context, record c { context = place })) (cond t (Ok (level.Context, record c { context = place; contexts = c.contexts ++ record { name = name; extensions = [] } ∷ [] })) (Err faults.TooLarge)))
+        → Keeps (cond s (Ok (level.Context, record c { context = place }))
+        (cond t (Ok (level.Context, record c { context = place; contexts = c.contexts ++ new_context name ∷ [] }))
+        (Err faults.TooLarge)))
     by true t small = record {
       settings = h.settings;
       bounds = h.bounds;
@@ -247,17 +323,17 @@ context_keeps name place c h = by (nat_lt place (length c.contexts)) (nat_lt (le
       actions_most = h.actions_most;
     }
     by false true small =
-        let longer = length-append c.contexts (record { name = name; extensions = [] } ∷ []) in
+        let longer = length-append c.contexts (new_context name ∷ []) in
         let below = lt_tested (length c.contexts) 256 small in
         record {
           settings = h.settings;
           bounds = h.bounds;
           contexts = omega arith;
-          extensions = omega (arith, h.extensions, new_context one name c.contexts);
+          extensions = omega (arith, h.extensions, context_added one name c.contexts);
           extensions_most = h.extensions_most;
-          patterns = omega (arith, h.patterns, new_context (in_extension pattern_count) name c.contexts);
+          patterns = omega (arith, h.patterns, context_added (in_extension pattern_count) name c.contexts);
           patterns_most = h.patterns_most;
-          actions = omega (arith, h.actions, new_context (in_extension action_count) name c.contexts);
+          actions = omega (arith, h.actions, context_added (in_extension action_count) name c.contexts);
           actions_most = h.actions_most;
         }
     by false false small = tt
@@ -267,7 +343,8 @@ unfolding extension_begun
 extension_keeps pairs c h = by (nat_lt c.extensions 4096) refl
   where
     by : (t : Bool) → nat_lt c.extensions 4096 ≡ t
-        → Keeps (cond t (Ok (level.Extension, record c { extensions = c.extensions + 1; extension = Some (record { name = attribute_value pairs (codes "name"); goes_on = bytes_eq (attribute_value pairs (codes "continue")) (codes "true"); conditions = [] }) })) (Err faults.TooLarge))
+        → Keeps (cond t (Ok (level.Extension, record c { extensions = c.extensions + 1; extension = Some (extension_of pairs) }))
+        (Err faults.TooLarge))
     by true small =
         let below = lt_tested c.extensions 4096 small in
         record {
@@ -292,13 +369,16 @@ counted_room : (pairs : Pairs) (c d : Content) → pattern_counted pairs c ≡ O
 unfolding pattern_counted
 counted_room pairs c d e = by (nat_lt 1024 (length (attribute_value pairs (codes "expression")))) (nat_le 4096 c.patterns) refl e
   where
-    by : (s t : Bool) → nat_le 4096 c.patterns ≡ t → cond (s || t) (Err faults.TooLarge) (counted_to (record c { patterns = c.patterns + 1 })) ≡ counted_to d → HasRoom c d
+    by : (s t : Bool) → nat_le 4096 c.patterns ≡ t →
+        cond (s || t) (Err faults.TooLarge) (counted_to (record c { patterns = c.patterns + 1 })) ≡ counted_to d → HasRoom c d
     by true t test k = absurd (cc)
     by false true test k = absurd (cc)
-    by false false test k = record { same = sym (same_counted (record c { patterns = c.patterns + 1 }) d k); below = le_tested 4096 c.patterns test }
+    by false false test k =
+        record { same = sym (same_counted (record c { patterns = c.patterns + 1 }) d k); below = le_tested 4096 c.patterns test }
 
 -- a condition with at most this many patterns, and no actions, is open
-condition_keeps : (c : Content) (k : Option Condition) (more : ℕ) → IsCounted c → opened pattern_count k ≤ opened pattern_count c.condition + more → opened action_count k ≤ opened action_count c.condition
+condition_keeps : (c : Content) (k : Option Condition) (more : ℕ) → IsCounted c →
+    opened pattern_count k ≤ opened pattern_count c.condition + more → opened action_count k ≤ opened action_count c.condition
     → c.patterns + more ≤ 4096 → IsCounted (record c { patterns = c.patterns + more; condition = k })
 condition_keeps c k more h patterns actions small = record {
   settings = h.settings;
@@ -312,7 +392,8 @@ condition_keeps c k more h patterns actions small = record {
   actions_most = h.actions_most;
 }
 
-condition_alone : (c : Content) (k : Option Condition) → IsCounted c → opened pattern_count k ≤ opened pattern_count c.condition → opened action_count k ≤ opened action_count c.condition
+condition_alone : (c : Content) (k : Option Condition) → IsCounted c → opened pattern_count k ≤ opened pattern_count c.condition →
+    opened action_count k ≤ opened action_count c.condition
     → IsCounted (record c { condition = k })
 condition_alone c k h patterns actions = record {
   settings = h.settings;
@@ -326,17 +407,19 @@ condition_alone c k h patterns actions = record {
   actions_most = h.actions_most;
 }
 
-bind_keeps : (read : Result Content DocKind) (next : Content → BeginResult) → ((d : Content) → read ≡ Ok d → Keeps (next d)) → Keeps (read >>= next)
+bind_keeps : (read : Result Content DocKind) (next : Content → BeginResult) → ((d : Content) → read ≡ Ok d → Keeps (next d)) →
+    Keeps (read >>= next)
 bind_keeps (Ok d) next fine = fine d refl
 bind_keeps (Err f) next fine = tt
 
 pattern_keeps : (pairs : Pairs) (c : Content) → IsCounted c → Keeps (pattern_begun pairs c)
 unfolding pattern_begun
 pattern_keeps pairs c h =
-    bind_keeps (pattern_counted pairs c) (λ d. Ok (level.Condition, record d { condition = Some (condition_of pairs (test.Plain (attribute_value pairs (codes "field")) (attribute_value pairs (codes "expression")))) }))
+    bind_keeps (pattern_counted pairs c)
+    (λ d. Ok (level.Condition, record d { condition = Some (condition_of pairs (plain_of pairs)) }))
     (λ d e.
     let room = counted_room pairs c d e in
-    let k = Some (condition_of pairs (test.Plain (attribute_value pairs (codes "field")) (attribute_value pairs (codes "expression")))) in
+    let k = Some (condition_of pairs (plain_of pairs)) in
     let P : Content → Type 0 = λ b. IsCounted (record b { condition = k }) in
     subst P (sym room.same) (condition_keeps c k 1 h (omega arith) (omega arith) (omega (arith, room.below))))
 
@@ -344,24 +427,27 @@ condition_on_keeps : (pairs : Pairs) (c : Content) (o : Option ManyKind) → IsC
 condition_on_keeps pairs c (Some which) h = condition_alone c (Some (condition_of pairs (test.Many which []))) h (omega arith) (omega arith)
 condition_on_keeps pairs c None h = by (has pairs (codes "field") || has pairs (codes "expression"))
   where
-    by : (t : Bool) → Keeps (cond t (pattern_begun pairs c) (Ok (level.Condition, record c { condition = Some (condition_of pairs test.Always) })))
+    by : (t : Bool) → Keeps (cond t (pattern_begun pairs c)
+        (Ok (level.Condition, record c { condition = Some (condition_of pairs test.Always) })))
     by true = pattern_keeps pairs c h
     by false = condition_alone c (Some (condition_of pairs test.Always)) h (omega arith) (omega arith)
 
 case_counted : (field expression : Text) (t : Test Text) → test_pattern_count (with_case field expression t) ≤ test_pattern_count t + 1
 case_counted field expression test.Always = omega arith
 case_counted field expression (test.Plain f e) = omega arith
-case_counted field expression (test.Many which children) = omega (arith, length-append children (record { field = field; expression = expression } ∷ []))
+case_counted field expression (test.Many which children) =
+    omega (arith, length-append children (record { field = field; expression = expression } ∷ []))
 
 child_counted : (field expression : Text) (o : Option Condition)
-    → (opened pattern_count (option_map (with_child field expression) o) ≤ opened pattern_count o + 1) × (opened action_count (option_map (with_child field expression) o) ≤ opened action_count o)
+    → (opened pattern_count (option_map (with_child field expression) o) ≤ opened pattern_count o + 1)
+    × (opened action_count (option_map (with_child field expression) o) ≤ opened action_count o)
 child_counted field expression None = (omega arith, omega arith)
 child_counted field expression (Some k) = (case_counted field expression k.test, omega arith)
 
 case_keeps : (pairs : Pairs) (c : Content) → IsCounted c → Keeps (case_begun pairs c)
 unfolding case_begun
 case_keeps pairs c h =
-    let add : Option Condition → Option Condition = option_map (with_child (attribute_value pairs (codes "field")) (attribute_value pairs (codes "expression"))) in
+    let add : Option Condition → Option Condition = option_map (with_child_of pairs) in
     let child = child_counted (attribute_value pairs (codes "field")) (attribute_value pairs (codes "expression")) c.condition in
     bind_keeps (pattern_counted pairs c) (λ d. Ok (level.Empty, record d { condition = add d.condition }))
     (λ d e.
@@ -370,7 +456,8 @@ case_keeps pairs c h =
     subst P (sym room.same) (condition_keeps c (add c.condition) 1 h child.0 child.1 (omega (arith, room.below))))
 
 action_counted : (anti : Bool) (a : PlanAction) (o : Option Condition)
-    → (opened pattern_count (option_map (with_action anti a) o) ≤ opened pattern_count o) × (opened action_count (option_map (with_action anti a) o) ≤ opened action_count o + 1)
+    → (opened pattern_count (option_map (with_action anti a) o) ≤ opened pattern_count o)
+    × (opened action_count (option_map (with_action anti a) o) ≤ opened action_count o + 1)
 action_counted anti a None = (omega arith, omega arith)
 action_counted true a (Some k) = (omega arith, omega (arith, length-append k.anti (a ∷ [])))
 action_counted false a (Some k) = (omega arith, omega (arith, length-append k.actions (a ∷ [])))
@@ -380,7 +467,13 @@ unfolding action_begun
 action_keeps anti pairs c h = by (nat_lt c.actions 32768) refl
   where
     by : (t : Bool) → nat_lt c.actions 32768 ≡ t
-        → Keeps (cond t (Ok (level.Empty, record c { actions = c.actions + 1; condition = option_map (with_action anti (action_of pairs)) c.condition })) (Err faults.TooLarge))
+        → Keeps (cond t (Ok (
+          level.Empty,
+          record c {
+            actions = c.actions + 1;
+            condition = option_map (with_action anti (action_of pairs)) c.condition;
+          },
+        )) (Err faults.TooLarge))
     by true small =
         let below = lt_tested c.actions 32768 small in
         let counted = action_counted anti (action_of pairs) c.condition in
@@ -405,8 +498,10 @@ begun_counted kind.Section pairs c h = h
 begun_counted kind.Configuration pairs c h = h
 begun_counted (kind.Settings file) pairs c h = h
 begun_counted (kind.Param file) pairs c h =
-    param_keeps c (setting file (attribute_value pairs (codes "name")) (attribute_value pairs (codes "value")) c.settings) (setting_ranged file (attribute_value pairs (codes "name")) (attribute_value pairs (codes "value")) c.settings h.settings) h
-begun_counted kind.Context pairs c h = context_keeps (attribute_value pairs (codes "name")) (context_place (attribute_value pairs (codes "name")) c.contexts) c h
+    param_keeps c (setting file (attribute_value pairs (codes "name")) (attribute_value pairs (codes "value")) c.settings)
+    (setting_ranged file (attribute_value pairs (codes "name")) (attribute_value pairs (codes "value")) c.settings h.settings) h
+begun_counted kind.Context pairs c h =
+    context_keeps (attribute_value pairs (codes "name")) (context_place (attribute_value pairs (codes "name")) c.contexts) c h
 begun_counted kind.Extension pairs c h = extension_keeps pairs c h
 begun_counted kind.Condition pairs c h = condition_on_keeps pairs c (many_of (attribute_value pairs (codes "regex"))) h
 begun_counted kind.Case pairs c h = case_keeps pairs c h
@@ -438,7 +533,8 @@ extension_ends c (Some e) is h =
       actions_most = h.actions_most;
     }
 
-extended_held : (count : Condition → ℕ) (k : Condition) (o : Option Extension) → held (in_extension count) (option_map (extended k) o) ≤ held (in_extension count) o + count k
+extended_held : (count : Condition → ℕ) (k : Condition) (o : Option Extension) →
+    held (in_extension count) (option_map (extended k) o) ≤ held (in_extension count) o + count k
 extended_held count k None = omega arith
 extended_held count k (Some e) = omega (arith, one_condition count k e.conditions)
 

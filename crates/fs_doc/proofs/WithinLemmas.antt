@@ -1,7 +1,8 @@
 -- What is read of a document, round by round, keeps the ranges and limits.
-use Rattle.std.proofs.Common.{◌≡◌, ◌==◌, ℕ, zero, suc, ◌+◌, Bool, true, false, cond, ◌&&◌, nat_lt, List, [], ◌∷◌, length, Result, Ok, Err, IfOk, subst, arith}
+use Rattle.std.proofs.Common.{◌≡◌, ◌==◌, ℕ, zero, suc, ◌+◌, Bool, true, false, cond, ◌&&◌, nat_lt, List, [], ◌∷◌, length, Result, Ok, Err}
+use Rattle.std.proofs.Common.{IfOk, subst, arith}
 use Rattle.std.specs.Str.{bytes_eq}
-use Rattle.fs_vars.specs.Pairs.{Text}
+use Rattle.fs_text.specs.Texts.{Text}
 use Rattle.fs_xml.specs.Bytes.{is_blank, past, place}
 use Rattle.fs_xml.specs.Tags.{BodyText}
 use Rattle.fs_xml.specs.Markup.{Mark, Comment, End, Start}
@@ -15,13 +16,17 @@ use Rattle.fs_doc.specs.Faults.{fault, or_at}
 use Rattle.fs_doc.specs.Elements.{kind_in}
 use Rattle.fs_doc.specs.Attributes.{pairs_read}
 use Rattle.fs_doc.specs.Contents.{new_content, BeginResult, element_begun, element_ended}
-use Rattle.fs_doc.specs.Reading.{Opened, ReadSoFar, level_in, is_outside, is_empty_level, text_at, mark_read, with_element, element_read, start_entered, end_entered_from, end_entered, mark_entered, Next, Over, On, at_mark, round, Contents, with_round, read_within, at_first, document_of, past_declaration, content_of, Configuration, configured, config_of}
+use Rattle.fs_doc.specs.Reading.{Opened, ReadSoFar, level_in, is_outside, is_empty_level, text_at, mark_read, with_element, element_read}
+use Rattle.fs_doc.specs.Reading.{start_entered, end_entered_from, end_entered, mark_entered, Next, Over, On, at_mark, round, Contents}
+use Rattle.fs_doc.specs.Reading.{with_round, read_within, at_first, document_of, past_declaration, content_of, Configuration, configured}
+use Rattle.fs_doc.specs.Reading.{config_of}
 use Rattle.fs_doc.specs.Limits.{IsWithin}
 use Rattle.fs_doc.proofs.Counts.{IsCounted, Keeps, nothing_counted, begun_counted, ended_counted}
 
 -- ---- one reading after another
 
-then : {X Y E : Type 0} (Q : X → Type 0) (P : Y → Type 0) (read : Result X E) (next : X → Result Y E) → IfOk read Q → ((x : X) → Q x → IfOk (next x) P) → IfOk (read >>= next) P
+then : {X Y E : Type 0} (Q : X → Type 0) (P : Y → Type 0) (read : Result X E) (next : X → Result Y E) → IfOk read Q →
+    ((x : X) → Q x → IfOk (next x) P) → IfOk (read >>= next) P
 then Q P (Ok x) next first fine = fine x first
 then Q P (Err e) next first fine = tt
 
@@ -42,13 +47,16 @@ told_keeps : (at : ℕ) (begins : BeginResult) → Keeps begins → IfOk (or_at 
 told_keeps at (Ok x) h = h
 told_keeps at (Err kind) h = tt
 
-element_keeps : (at : ℕ) (name : Text) (body : BodyText) (level : Level) (c : Content) → IsCounted c → IfOk (element_read at name body level c) KeepsInside
+element_keeps : (at : ℕ) (name : Text) (body : BodyText) (level : Level) (c : Content) → IsCounted c →
+    IfOk (element_read at name body level c) KeepsInside
 unfolding element_read
 element_keeps at name body level c h =
     after KeepsInside (or_at at (kind_in level c.done name)) _
-    (λ kind. after KeepsInside (pairs_read (record { kind = kind; tag = at; globals = c.globals.pairs; attrs = body.attrs }) body.malformed) _ (λ pairs. told_keeps at (element_begun kind pairs c) (begun_counted kind pairs c h)))
+    (λ kind. after KeepsInside (pairs_read (record { kind = kind; tag = at; globals = c.globals.pairs; attrs = body.attrs }) body.malformed)
+    _ (λ pairs. told_keeps at (element_begun kind pairs c) (begun_counted kind pairs c h)))
 
-ending_keeps : (ending : Ending) (name : Text) (opened : List Opened) (x : Level × Content) → IsCounted x.1 → KeepsRead (with_element ending name opened x)
+ending_keeps : (ending : Ending) (name : Text) (opened : List Opened) (x : Level × Content) → IsCounted x.1 →
+    KeepsRead (with_element ending name opened x)
 ending_keeps Opens name opened x h = h
 ending_keeps Closes name opened x h = ended_counted x.0 x.1 h
 
@@ -56,7 +64,8 @@ entered_keeps : (at : ℕ) (name : Text) (body : BodyText) (r : ReadSoFar) → I
     IfOk (start_entered at name body r) KeepsRead
 unfolding start_entered
 entered_keeps at name body r h =
-    then KeepsInside KeepsRead (element_read at name body (level_in r.opened) r.content) _ (element_keeps at name body (level_in r.opened) r.content h)
+    then KeepsInside KeepsRead (element_read at name body (level_in r.opened) r.content) _
+    (element_keeps at name body (level_in r.opened) r.content h)
     (λ x inside. ending_keeps body.ending name r.opened x inside)
 
 left_keeps : (at : ℕ) (name : Text) (opened : List Opened) (c : Content) → IsCounted c → IfOk (end_entered_from at name opened c) KeepsRead
@@ -92,26 +101,30 @@ at_mark_keeps end r [] h = by (is_outside r.opened && r.content.done)
     by false = tt
 at_mark_keeps end r (b ∷ rest) h =
     after KeepsNext (mark_read r.content.done (is_outside r.opened) end (place end (b ∷ rest)) rest) _
-    (λ x. then KeepsRead KeepsNext (mark_entered (place end (b ∷ rest)) x.0 r) _ (mark_keeps (place end (b ∷ rest)) x.0 r h) (λ next kept. kept))
+    (λ x. then KeepsRead KeepsNext (mark_entered (place end (b ∷ rest)) x.0 r) _ (mark_keeps (place end (b ∷ rest)) x.0 r h)
+    (λ next kept. kept))
 
 round_keeps : (end : ℕ) (r : ReadSoFar) (bytes : Text) → IsCounted r.content → IfOk (round end r bytes) KeepsNext
 unfolding round
 round_keeps end r bytes h = after KeepsNext (text_at end (level_in r.opened) bytes) _ (λ rest. at_mark_keeps end r rest h)
 
-goes_on : (more : ReadSoFar → Text → Contents) (next : Next) → KeepsNext next → ((r : ReadSoFar) (rest : Text) → IsCounted r.content → IfOk (more r rest) IsCounted) → IfOk (with_round more next) IsCounted
+goes_on : (more : ReadSoFar → Text → Contents) (next : Next) → KeepsNext next →
+    ((r : ReadSoFar) (rest : Text) → IsCounted r.content → IfOk (more r rest) IsCounted) → IfOk (with_round more next) IsCounted
 goes_on more (Over c) h rounds = h
 goes_on more (On r rest) h rounds = rounds r rest h
 
 rounds_keep : (more end : ℕ) (r : ReadSoFar) (bytes : Text) → IsCounted r.content → IfOk (read_within more end r bytes) IsCounted
 rounds_keep zero end r bytes h = tt
 rounds_keep (suc more) end r bytes h =
-    then KeepsNext IsCounted (round end r bytes) _ (round_keeps end r bytes h) (λ next kept. goes_on (λ r rest. read_within more end r rest) next kept (λ r rest counted. rounds_keep more end r rest counted))
+    then KeepsNext IsCounted (round end r bytes) _ (round_keeps end r bytes h)
+    (λ next kept. goes_on (λ r rest. read_within more end r rest) next kept (λ r rest counted. rounds_keep more end r rest counted))
 
 -- ---- the whole document
 
 content_keeps : (bytes : Text) → IfOk (content_of bytes) IsCounted
 unfolding content_of document_of
-content_keeps bytes = after IsCounted (past_declaration bytes) _ (λ rest. rounds_keep (length rest + 1) (length bytes) at_first rest nothing_counted)
+content_keeps bytes =
+    after IsCounted (past_declaration bytes) _ (λ rest. rounds_keep (length rest + 1) (length bytes) at_first rest nothing_counted)
 
 counted_within : (c : Content) → IsCounted c → IsWithin (configured c)
 counted_within c h = record {
@@ -140,6 +153,7 @@ config_within bytes c is = subst (λ read. IfOk read IsWithin) is (by (nat_lt 10
     read_keeps true = nothing_counted
     read_keeps false = content_keeps bytes
 
-    by : (t u : Bool) → IfOk (cond t (fault 1048576 faults.TooLarge) (cond u (Ok new_content) (content_of bytes) >>= λ c. Ok (configured c))) IsWithin
+    by : (t u : Bool) → IfOk (cond t (fault 1048576 faults.TooLarge)
+        (cond u (Ok new_content) (content_of bytes) >>= λ c. Ok (configured c))) IsWithin
     by true u = tt
     by false u = then IsCounted IsWithin (cond u (Ok new_content) (content_of bytes)) _ (read_keeps u) configured_keeps

@@ -1,9 +1,11 @@
 -- What the attributes of an element say, or the first fault among them.
-use Rattle.std.specs.Prelude.{◌==◌, ℕ, Bool, true, false, ◌&&◌, ◌||◌, not, nat_eq, if◌then◌else◌, List, [], ◌∷◌, ◌++◌, length, Option, None, Some, is_some, Result, Ok, Err, codes}
+use Rattle.std.specs.Prelude.{◌==◌, ℕ, Bool, true, false, ◌&&◌, ◌||◌, not, nat_eq, if◌then◌else◌, List, [], ◌∷◌, ◌++◌, length, Option, None}
+use Rattle.std.specs.Prelude.{Some, is_some, Result, Ok, Err, codes}
 use Rattle.std.specs.Str.{bytes_eq, is_utf8}
 use Rattle.std.specs.List.{starts_with}
 use Rattle.fs_text.specs.Words.{halves_of}
-use Rattle.fs_vars.specs.Pairs.{Text, Pairs}
+use Rattle.fs_text.specs.Texts.{Text}
+use Rattle.fs_vars.specs.Pairs.{Pairs}
 use Rattle.fs_xml.specs.Attributes.{Written}
 use Rattle.fs_xml.specs.Results.{◌>>=◌}
 use Rattle.fs_xml.specs.declared.stop.ValueFault.{ValueFault}
@@ -71,8 +73,8 @@ is_date name =
 -- and those by which the time of day does
 unfoldable pub is_clock : Text → Bool
 is_clock name =
-    bytes_eq name (codes "hour") || bytes_eq name (codes "minute") || bytes_eq name (codes "minute-of-day") || bytes_eq name (codes "time-of-day")
-    || bytes_eq name (codes "tz-offset") || bytes_eq name (codes "dst")
+    bytes_eq name (codes "hour") || bytes_eq name (codes "minute") || bytes_eq name (codes "minute-of-day")
+    || bytes_eq name (codes "time-of-day") || bytes_eq name (codes "tz-offset") || bytes_eq name (codes "dst")
 
 -- a condition has an attribute by which the time decides
 abbrev pub is_timed : Kind → Text → Bool

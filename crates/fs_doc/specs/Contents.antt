@@ -1,9 +1,11 @@
 -- What was read of a document, and what an element adds to it.
-use Rattle.std.specs.Prelude.{ℕ, ◌+◌, Bool, true, false, ◌||◌, nat_le, nat_lt, if◌then◌else◌, List, [], ◌∷◌, ◌++◌, length, Option, None, Some, unwrap_or, Result, Ok, Err, codes}
+use Rattle.std.specs.Prelude.{ℕ, ◌+◌, Bool, true, false, ◌||◌, nat_le, nat_lt, if◌then◌else◌, List, [], ◌∷◌, ◌++◌, length, Option, None}
+use Rattle.std.specs.Prelude.{Some, unwrap_or, Result, Ok, Err, codes}
 use Rattle.std.specs.Option.{option_map}
 use Rattle.std.specs.Str.{bytes_eq}
 use Rattle.std.specs.List.{position_or_len}
-use Rattle.fs_vars.specs.Pairs.{Text, Pairs, value_of}
+use Rattle.fs_text.specs.Texts.{Text}
+use Rattle.fs_vars.specs.Pairs.{Pairs, value_of}
 use Rattle.fs_vars.specs.Variables.{can_set, set_to}
 use Rattle.fs_vars.specs.declared.bounds.Bounds.TheVariants.{Globals}
 use Rattle.fs_xml.specs.Results.{◌>>=◌}
@@ -79,11 +81,16 @@ param_begun file pairs c =
 abbrev pub context_place : Text → List Context → ℕ
 context_place name contexts = position_or_len (λ context. bytes_eq context.name name) contexts
 
+-- a context of this name, still without extensions
+abbrev pub new_context : Text → Context
+new_context name = record { name = name; extensions = [] }
+
 -- at the place behind all others a new context begins
 abbrev pub context_at : Text → ℕ → Content → BeginResult
 context_at name place c =
     if nat_lt place (length c.contexts) then Ok (level.Context, record c { context = place })
-    else if nat_lt (length c.contexts) 256 then Ok (level.Context, record c { context = place; contexts = c.contexts ++ record { name = name; extensions = [] } ∷ [] })
+    else if nat_lt (length c.contexts) 256
+    then Ok (level.Context, record c { context = place; contexts = c.contexts ++ new_context name ∷ [] })
     else Err fault.TooLarge
 
 -- a name that is new is a new context
@@ -91,10 +98,19 @@ unfoldable pub context_begun : Pairs → Content → BeginResult
 context_begun pairs c =
     context_at (attribute_value pairs (codes "name")) (context_place (attribute_value pairs (codes "name")) c.contexts) c
 
+-- an extension of this name, which may say that the hunt goes on behind it, still without conditions
+abbrev pub extension_of : Pairs → Extension
+extension_of pairs =
+    record {
+      name = attribute_value pairs (codes "name");
+      goes_on = bytes_eq (attribute_value pairs (codes "continue")) (codes "true");
+      conditions = [];
+    }
+
 unfoldable pub extension_begun : Pairs → Content → BeginResult
 extension_begun pairs c =
     if nat_lt c.extensions 4096
-    then Ok (level.Extension, record c { extensions = c.extensions + 1; extension = Some (record { name = attribute_value pairs (codes "name"); goes_on = bytes_eq (attribute_value pairs (codes "continue")) (codes "true"); conditions = [] }) })
+    then Ok (level.Extension, record c { extensions = c.extensions + 1; extension = Some (extension_of pairs) })
     else Err fault.TooLarge
 
 -- a condition of this test and break, without actions
@@ -108,11 +124,15 @@ pattern_counted pairs c =
     if nat_lt 1024 (length (attribute_value pairs (codes "expression"))) || nat_le 4096 c.patterns then Err fault.TooLarge
     else Ok (record c { patterns = c.patterns + 1 })
 
+-- its field is looked up, and its expression is a pattern for that
+abbrev pub plain_of : Pairs → Test Text
+plain_of pairs = test.Plain (attribute_value pairs (codes "field")) (attribute_value pairs (codes "expression"))
+
 -- a condition with a pattern
 unfoldable pub pattern_begun : Pairs → Content → BeginResult
 pattern_begun pairs c =
     pattern_counted pairs c >>= λ d.
-    Ok (level.Condition, record d { condition = Some (condition_of pairs (test.Plain (attribute_value pairs (codes "field")) (attribute_value pairs (codes "expression")))) })
+    Ok (level.Condition, record d { condition = Some (condition_of pairs (plain_of pairs)) })
 
 -- a condition with `regex` has children, one with a field or an expression has a pattern, and any other is true
 abbrev pub condition_on : Pairs → Content → Option ManyKind → BeginResult
@@ -124,17 +144,26 @@ condition_on pairs c None =
 unfoldable pub condition_begun : Pairs → Content → BeginResult
 condition_begun pairs c = condition_on pairs c (many_of (attribute_value pairs (codes "regex")))
 
+-- the condition with one more child, of this field and this expression
+abbrev pub with_child_of : Pairs → Condition → Condition
+with_child_of pairs c = with_child (attribute_value pairs (codes "field")) (attribute_value pairs (codes "expression")) c
+
 -- a child of the open condition
 unfoldable pub case_begun : Pairs → Content → BeginResult
 case_begun pairs c =
     pattern_counted pairs c >>= λ d.
-    Ok (level.Empty, record d { condition = option_map (with_child (attribute_value pairs (codes "field")) (attribute_value pairs (codes "expression"))) d.condition })
+    Ok (level.Empty, record d { condition = option_map (with_child_of pairs) d.condition })
 
 unfoldable pub is_inline : Pairs → Bool
 is_inline pairs = bytes_eq (attribute_value pairs (codes "inline")) (codes "true")
 
 abbrev pub action_of : Pairs → PlanAction
-action_of pairs = record { application = attribute_value pairs (codes "application"); argument = attribute_value pairs (codes "data"); inline = is_inline pairs }
+action_of pairs =
+    record {
+      application = attribute_value pairs (codes "application");
+      argument = attribute_value pairs (codes "data");
+      inline = is_inline pairs;
+    }
 
 unfoldable pub action_begun : Bool → Pairs → Content → BeginResult
 action_begun anti pairs c =

@@ -1,6 +1,6 @@
 -- The dialplan of a configuration, where patterns are texts.
 use Rattle.std.specs.Prelude.{ℕ, zero, suc, Bool, if◌then◌else◌, List, [], ◌∷◌, ◌++◌}
-use Rattle.fs_vars.specs.Pairs.{Text}
+use Rattle.fs_text.specs.Texts.{Text}
 use Rattle.fs_doc.specs.declared.dialplan.ContextDef.{ContextDef}
 use Rattle.fs_doc.specs.declared.dialplan.ExtensionDef.{ExtensionDef}
 use Rattle.fs_doc.specs.declared.dialplan.ConditionDef.{ConditionDef}

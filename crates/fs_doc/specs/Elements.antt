@@ -1,7 +1,8 @@
 -- Which elements stand where.
 use Rattle.std.specs.Prelude.{Bool, true, false, ◌&&◌, if◌then◌else◌, is_some, Result, Ok, Err, codes}
 use Rattle.std.specs.Str.{bytes_eq}
-use Rattle.fs_vars.specs.Pairs.{Text, Pairs, value_of}
+use Rattle.fs_text.specs.Texts.{Text}
+use Rattle.fs_vars.specs.Pairs.{Pairs, value_of}
 use Rattle.fs_doc.specs.declared.fault.DocKind.{DocKind}
 use Rattle.fs_doc.specs.declared.fault.DocKind.TheVariants as fault
 use Rattle.fs_doc.specs.declared.settings.ConfigFile.{ConfigFile}

@@ -35,17 +35,12 @@ abbrev pub or_at : {X : Type 0} → ℕ → Result X DocKind → Result X DocFau
 or_at at (Ok x) = Ok x
 or_at at (Err kind) = fault at kind
 
--- what is answered, as it is seen, is what is read
-abbrev pub Gives : {X Y E : Type 0} → (X → Y) → Result X E → Result Y E → Type 0
-Gives view (Ok x) read = read ≡ Ok (view x)
-Gives view (Err e) read = read ≡ Err e
-
 -- want of memory says nothing of what is read; any other stop is the fault that is read
 abbrev pub DocStops : {Y : Type 0} → DocStop → Result Y DocFault → Type 0
 DocStops stop.Memory read = Unit {0}
 DocStops (stop.Fault f) read = read ≡ Err f
 
--- as `Gives`, where memory may be wanting
+-- what is answered, as it is seen, is what is read; or the same fault, where memory was not wanting
 abbrev pub DocGives : {X Y : Type 0} → (X → Y) → Result X DocStop → Result Y DocFault → Type 0
 DocGives view (Ok x) read = read ≡ Ok (view x)
 DocGives view (Err e) read = DocStops e read

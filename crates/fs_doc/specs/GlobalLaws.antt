@@ -1,7 +1,8 @@
 -- What a text with its globals says, case by case.
 use Rattle.std.specs.Prelude.{◌≡◌, ℕ, false, nat_eq, [], ◌∷◌, ◌++◌, drop, unwrap_or, codes}
 use Rattle.std.specs.List.{starts_with, list_any}
-use Rattle.fs_vars.specs.Pairs.{Text, Pairs, value_of}
+use Rattle.fs_text.specs.Texts.{Text}
+use Rattle.fs_vars.specs.Pairs.{Pairs, value_of}
 use Rattle.fs_vars.specs.Expansion.{is_brace}
 use Rattle.fs_doc.specs.Values.{replaced}
 

@@ -1,7 +1,7 @@
 -- The ranges and limits that a configuration keeps.
 use Rattle.std.specs.Prelude.{◌≡◌, ◌≤◌, ℕ, ◌+◌, List, length, sum_by}
 use Rattle.fs_text.specs.CoreId.{IsCore}
-use Rattle.fs_vars.specs.Pairs.{Text}
+use Rattle.fs_text.specs.Texts.{Text}
 use Rattle.fs_vars.specs.declared.bounds.Bounds.TheVariants.{Globals}
 use Rattle.fs_doc.specs.declared.settings.Settings.{Settings}
 use Rattle.fs_doc.specs.declared.dialplan.Test.{Test}

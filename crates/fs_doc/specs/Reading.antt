@@ -1,9 +1,10 @@
 -- The configuration that a document is read as, or its first fault.
-use Rattle.std.specs.Prelude.{◌==◌, ℕ, zero, suc, ◌+◌, Bool, true, false, ◌&&◌, nat_eq, nat_lt, if◌then◌else◌, List, [], ◌∷◌, length, drop, Result, Ok, Err, codes}
+use Rattle.std.specs.Prelude.{◌==◌, ℕ, zero, suc, ◌+◌, Bool, true, false, ◌&&◌, nat_eq, nat_lt, if◌then◌else◌, List, [], ◌∷◌, length, drop}
+use Rattle.std.specs.Prelude.{Result, Ok, Err, codes}
 use Rattle.std.specs.Str.{bytes_eq}
 use Rattle.std.specs.List.{starts_with, position_or_len}
 use Rattle.fs_text.specs.Words.{is_byte}
-use Rattle.fs_vars.specs.Pairs.{Text}
+use Rattle.fs_text.specs.Texts.{Text}
 use Rattle.fs_vars.specs.Variables.{Variables}
 use Rattle.fs_xml.specs.Bytes.{is_blank, past, place}
 use Rattle.fs_xml.specs.Tags.{BodyText}
@@ -93,7 +94,8 @@ with_element Closes name opened x = record { opened = opened; content = element_
 unfoldable pub element_read : ℕ → Text → BodyText → Level → Content → Result (Level × Content) DocFault
 element_read at name body level c =
     or_at at (kind_in level c.done name) >>= λ kind.
-    (pairs_read (record { kind = kind; tag = at; globals = c.globals.pairs; attrs = body.attrs }) body.malformed >>= λ pairs. or_at at (element_begun kind pairs c))
+    (pairs_read (record { kind = kind; tag = at; globals = c.globals.pairs; attrs = body.attrs }) body.malformed >>= λ pairs.
+    or_at at (element_begun kind pairs c))
 
 -- in a reading: at the level of its innermost element
 abbrev pub element_in : ℕ → Text → BodyText → ReadSoFar → Result (Level × Content) DocFault
@@ -106,7 +108,8 @@ start_entered at name body r =
 -- an end tag ends the innermost element, whose name it has
 abbrev pub end_entered_from : ℕ → Text → List Opened → Content → Result ReadSoFar DocFault
 end_entered_from at name [] c = fault at kind.BadTag
-end_entered_from at name (o ∷ opened) c = if bytes_eq o.name name then Ok (record { opened = opened; content = element_ended o.level c }) else fault at kind.BadTag
+end_entered_from at name (o ∷ opened) c =
+    if bytes_eq o.name name then Ok (record { opened = opened; content = element_ended o.level c }) else fault at kind.BadTag
 
 unfoldable pub end_entered : ℕ → Text → ReadSoFar → Result ReadSoFar DocFault
 end_entered at name r = end_entered_from at name r.opened r.content
@@ -135,7 +138,8 @@ Nexts = Result Next DocFault
 unfoldable pub at_mark : ℕ → ReadSoFar → Text → Nexts
 at_mark end r [] = if is_outside r.opened && r.content.done then Ok (Over r.content) else fault end kind.Truncated
 at_mark end r (b ∷ rest) =
-    mark_read r.content.done (is_outside r.opened) end (place end (b ∷ rest)) rest >>= λ x. (mark_entered (place end (b ∷ rest)) x.0 r >>= λ next. Ok (On next x.1))
+    mark_read r.content.done (is_outside r.opened) end (place end (b ∷ rest)) rest >>= λ x.
+    (mark_entered (place end (b ∷ rest)) x.0 r >>= λ next. Ok (On next x.1))
 
 -- the text in front, and the markup behind it
 unfoldable pub round : ℕ → ReadSoFar → Text → Nexts

@@ -1,10 +1,11 @@
 -- The settings of a switch, and what a parameter makes of them.
-use Rattle.std.specs.Prelude.{◌==◌, ◌≡◌, ℕ, ◌/◌, ◌-◌, ◌%◌, ◌^◌, min, Bool, ◌&&◌, nat_lt, nat_le, if◌then◌else◌, length, Option, None, Some, codes}
+use Rattle.std.specs.Prelude.{◌==◌, ◌≡◌, ℕ, ◌/◌, ◌-◌, ◌%◌, ◌^◌, min, Bool, ◌&&◌, nat_lt, nat_le, if◌then◌else◌, length, Option, None, Some}
+use Rattle.std.specs.Prelude.{codes}
 use Rattle.std.specs.Option.{option_and_then}
 use Rattle.std.specs.Str.{bytes_eq}
 use Rattle.fs_text.specs.CoreId.{uuid, high_of, default_core}
 use Rattle.fs_text.specs.Number.{read_u64}
-use Rattle.fs_vars.specs.Pairs.{Text}
+use Rattle.fs_text.specs.Texts.{Text}
 use Rattle.fs_doc.specs.declared.settings.Settings.{Settings}
 use Rattle.fs_doc.specs.declared.settings.ConfigFile.{ConfigFile}
 use Rattle.fs_doc.specs.declared.settings.ConfigFile.TheVariants.{Switch, EventSocket, Other}
@@ -53,8 +54,10 @@ with_setting set (Some x) = Some (set x)
 unfoldable pub switch_setting : Text → Text → Settings → Option Settings
 switch_setting name value s =
     if bytes_eq name (codes "core-uuid") then with_setting (λ core. record s { core_uuid = core }) (core_of value)
-    else if bytes_eq name (codes "max-sessions") then with_setting (λ n. record s { max_sessions = min n 256 }) (number_within 1 (2 ^ 64 - 1) value)
-    else if bytes_eq name (codes "journal-limit") then with_setting (λ n. record s { journal_limit = n }) (number_within 1048576 1073741824 value)
+    else if bytes_eq name (codes "max-sessions")
+    then with_setting (λ n. record s { max_sessions = min n 256 }) (number_within 1 (2 ^ 64 - 1) value)
+    else if bytes_eq name (codes "journal-limit")
+    then with_setting (λ n. record s { journal_limit = n }) (number_within 1048576 1073741824 value)
     else Some s
 
 -- a password has 1 to 256 bytes

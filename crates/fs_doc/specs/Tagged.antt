@@ -1,6 +1,7 @@
 -- How the code's tags are seen by the definitions.
 use Rattle.std.specs.Prelude.{map}
-use Rattle.fs_vars.specs.Pairs.{Text, Pairs}
+use Rattle.fs_text.specs.Texts.{Text}
+use Rattle.fs_vars.specs.Pairs.{Pairs}
 use Rattle.fs_xml.specs.Attributes.{written_of}
 use Rattle.fs_doc.specs.declared.attributes.Element.{Element}
 use Rattle.fs_doc.specs.Attributes.{Tagged}

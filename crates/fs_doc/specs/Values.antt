@@ -1,9 +1,11 @@
 -- What a value says, once the globals are put in place of their references.
-use Rattle.std.specs.Prelude.{◌≡◌, ℕ, ◌+◌, Bool, ◌&&◌, nat_eq, if◌then◌else◌, [], ◌++◌, length, take, drop, Option, None, Some, unwrap_or, Ok, codes}
+use Rattle.std.specs.Prelude.{◌≡◌, ℕ, ◌+◌, Bool, ◌&&◌, nat_eq, if◌then◌else◌, [], ◌++◌, length, take, drop, Option, None, Some, unwrap_or}
+use Rattle.std.specs.Prelude.{Ok, codes}
 use Rattle.std.specs.List.{starts_with, list_any, before_first, position_or_len}
 use Rattle.std.specs.Borrow.{Bor}
 use Rattle.fs_text.specs.Words.{is_byte}
-use Rattle.fs_vars.specs.Pairs.{Text, Pairs, value_of}
+use Rattle.fs_text.specs.Texts.{Text}
+use Rattle.fs_vars.specs.Pairs.{Pairs, value_of}
 use Rattle.fs_vars.specs.Expansion.{Piece, by_pieces, is_brace}
 use Rattle.fs_xml.specs.Entities.{Values, value_text}
 use Rattle.fs_xml.specs.Results.{◌>>=◌}

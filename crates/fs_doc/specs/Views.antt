@@ -1,7 +1,7 @@
 -- How the code's states and answers are seen by the definitions.
 use Rattle.std.specs.Prelude.{◌<◌, length, reverse, map, Option, None, Some, IfSome, Result}
 use Rattle.std.specs.Borrow.{Bor}
-use Rattle.fs_vars.specs.Pairs.{Text}
+use Rattle.fs_text.specs.Texts.{Text}
 use Rattle.fs_doc.specs.declared.config.Config.{Config}
 use Rattle.fs_doc.specs.declared.content.Content.{Content}
 use Rattle.fs_doc.specs.declared.fault.DocFault.{DocFault}

@@ -194,7 +194,8 @@ impl Content {
         at: usize,
         given: &Given<'_>,
     ) -> Result<Level, DocStop>
-        ensures { DocGives (λ level. (level, self.new)) result (or_at at (contents.extension_begun given.now self.old)) }
+        ensures { DocGives (λ level. (level, self.new)) result
+            (or_at at (contents.extension_begun given.now self.old)) }
     {
         if self.extensions >= MOST_EXTENSIONS {
             return Err(DocStop::at(at, DocKind::TooLarge));
@@ -215,7 +216,8 @@ impl Content {
         at: usize,
         given: &Given<'_>,
     ) -> Result<Level, DocStop>
-        ensures { DocGives (λ level. (level, self.new)) result (or_at at (contents.condition_begun given.now self.old)) }
+        ensures { DocGives (λ level. (level, self.new)) result
+            (or_at at (contents.condition_begun given.now self.old)) }
     {
         if let Some(kind) = many_of(given.bytes(b"regex")) {
             let children = Listed::new(alloc);

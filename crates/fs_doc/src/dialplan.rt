@@ -1,6 +1,6 @@
 //! A dialplan: its contexts, their extensions, conditions and actions.
 
-ghost use Rattle.std.specs.Prelude.{◌≡◌, ◌<◌, length, OnOk, OnErr};
+ghost use Rattle.std.specs.Prelude.{◌≡◌, ◌<◌, OnOk, OnErr};
 ghost use Rattle.fs_doc.specs.Dialplans.{with_extension};
 
 use crate::listed::Listed;

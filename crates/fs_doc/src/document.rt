@@ -1,10 +1,9 @@
 //! How a document is read, from its first byte to its last.
 
 ghost use Rattle.std.specs.Prelude.{◌≡◌, ◌<◌, ◌≤◌, length, IfOk};
-ghost use Rattle.fs_vars.specs.Pairs.{Text};
 ghost use Rattle.fs_xml.specs.Markup.{mark_seen};
 ghost use Rattle.fs_doc.specs.declared.content.Content.{Content};
-ghost use Rattle.fs_doc.specs.Faults.{DocGives, Gives, ConfigGives};
+ghost use Rattle.fs_doc.specs.Faults.{DocGives, ConfigGives};
 ghost use Rattle.fs_doc.specs.Reading as reading;
 ghost use Rattle.fs_doc.specs.Views as views;
 
@@ -87,7 +86,8 @@ fn round<'a>(
     text: &'a [u8],
 ) -> Result<Option<&'a [u8]>, DocStop>
     requires { length text.now ≤ end }
-    ensures read { DocGives (views.next_seen state.new) result (reading.round end (views.reading_of state.old) text.now) }
+    ensures read { DocGives (views.next_seen state.new) result
+        (reading.round end (views.reading_of state.old) text.now) }
     ensures within { IfOk result (views.RestIsShorter text.now) }
 {
     let rest = past_text(end, state.level(), text)?;

@@ -1,6 +1,6 @@
 //! The settings of a configuration.
 
-ghost use Rattle.std.specs.Prelude.{◌≡◌, ◌-◌, ◌^◌, ◌≤◌, IfOk, IfSome};
+ghost use Rattle.std.specs.Prelude.{◌≡◌, ◌-◌, ◌≤◌, IfOk, IfSome};
 ghost use Rattle.fs_doc.specs.Settings as defs;
 
 use fs_text::{CoreId, Memory, Txt, read_u64};

@@ -1,7 +1,6 @@
 //! What the value of an attribute says.
 
-ghost use Rattle.std.specs.Prelude.{◌≡◌};
-ghost use Rattle.fs_vars.specs.Pairs.{Text};
+ghost use Rattle.fs_text.specs.Texts.{Text};
 ghost use Rattle.fs_xml.specs.Answers.{ValueGives};
 ghost use Rattle.fs_doc.specs.Values.{value_read};
 

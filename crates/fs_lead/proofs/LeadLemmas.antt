@@ -1,5 +1,7 @@
 -- From the tree of a pattern to what a search finds.
-use Rattle.std.proofs.Common.{◌≡◌, ℕ, suc, ◌+◌, ◌<◌, ◌≤◌, true, false, List, [], ◌∷◌, ◌++◌, length, drop, get_or, Option, None, Some, IsSome, IsSomeAnd, is_some, refl, sym, ap, ◌∙◌, subst, arith, true≢false, append-nil, drop_of_length-le, ⊎_elim, option_map, nat_eq, Vec, Global}
+use Rattle.std.proofs.Common.{◌≡◌, ℕ, suc, ◌+◌, ◌<◌, ◌≤◌, true, false, List, [], ◌∷◌, ◌++◌, length, drop, get_or, Option, None, Some}
+use Rattle.std.proofs.Common.{IsSome, IsSomeAnd, is_some, refl, sym, ap, ◌∙◌, subst, arith, true≢false, append-nil, drop_of_length-le}
+use Rattle.std.proofs.Common.{⊎_elim, option_map, nat_eq, Vec, Global}
 use Rattle.std.specs.Prelude.{chars, IfSome, bytes_eq}
 use Rattle.std.specs.List.{starts_with}
 use Rattle.std.proofs.lemmas.Bool.{cases_Bool}
@@ -39,7 +41,8 @@ found_match re value h =
 -- ---- a pattern whose matches start at the start, with a needle
 
 -- a list that has the elements of another at its front begins with it
-front_splits : (xs ys : List ℕ) → length ys ≤ length xs → ((j : ℕ) → j < length ys → get_or xs j 0 ≡ get_or ys j 0) → xs ≡ ys ++ drop (length ys) xs
+front_splits : (xs ys : List ℕ) → length ys ≤ length xs → ((j : ℕ) → j < length ys → get_or xs j 0 ≡ get_or ys j 0) →
+    xs ≡ ys ++ drop (length ys) xs
 front_splits xs [] le same = refl
 front_splits [] (y ∷ ys) le same = absurd (omega arith)
 front_splits (x ∷ xs) (y ∷ ys) le same =
@@ -48,7 +51,8 @@ front_splits (x ∷ xs) (y ∷ ys) le same =
 occurs_begins : (value text : List ℕ) → OccursAt value text 0 → starts_with nat_eq value text ≡ true
 occurs_begins value text h =
     (starts_is Decides-eqb value text _ refl).1 (drop (length text) value)
-    (front_splits value text (omega (arith, h.fits)) (λ j lt. let e : 0 + j ≡ j = omega arith in ap (λ i. get_or value i 0) (sym e) ∙ h.reads j lt))
+    (front_splits value text (omega (arith, h.fits))
+    (λ j lt. let e : 0 + j ≡ j = omega arith in ap (λ i. get_or value i 0) (sym e) ∙ h.reads j lt))
 
 pub starts_lead : (re : Re) (texts : Vec (Vec ℕ Global) Global) → IsAnchored true re → StartsWithNeedle re (needles_of texts) →
     (value : List ℕ) → AreBytes value → IsSome (find re value 0) → begins_with_any texts.items value ≡ true
@@ -57,7 +61,8 @@ starts_lead re texts anchored starts value ok h =
     let start : m.0 ≡ 0 = anchored.at value m.0 m.1 m.2 m.3 in
     let needle = starts value (All-from_get_or (λ b. b < 256) value 0 (λ k _. ok k)) m.0 m.1 m.3 in
     sym (list_any-map (starts_with nat_eq value) (λ n. n.items) texts.items)
-    ∙ list_any_at _ (needles_of texts) needle.0 [] needle.1.numbered (occurs_begins value _ (subst (OccursAt value _) start needle.1.occurs))
+    ∙ list_any_at _ (needles_of texts) needle.0 [] needle.1.numbered
+    (occurs_begins value _ (subst (OccursAt value _) start needle.1.occurs))
 
 -- ---- a pattern that is one text
 
@@ -73,7 +78,8 @@ whole_same text value h =
     let end : close.0 ≡ length value = (IsAnchored-End false refl).at value inside.0 close.0 (omega arith) close.1 in
     let past : length value ≤ parts.0 + length text = omega arith in
     let here : drop parts.0 value ≡ text ++ drop (parts.0 + length text) value = has_bytes_at_parts value parts.0 text inside.1.0 in
-    sym (ap (λ i. drop i value) first) ∙ here ∙ ap (λ rest. text ++ rest) (drop_of_length-le value {i = parts.0 + length text} past) ∙ append-nil text
+    sym (ap (λ i. drop i value) first) ∙ here ∙ ap (λ rest. text ++ rest) (drop_of_length-le value {i = parts.0 + length text} past)
+    ∙ append-nil text
 
 whole_found : (text : List ℕ) → IsSome (find (whole text) text 0)
 unfolding holds holds_between
@@ -99,7 +105,8 @@ whole_tested text value =
     (cases_Bool (bytes_eq value text)))
     (cases_Bool (is_some (find (whole text) value 0)))
 
-pub whole_lead : (re : Re) (bytes : List ℕ) → re ≡ whole bytes → (value : List ℕ) → AreBytes value → bytes_eq value bytes ≡ is_some (find re value 0)
+pub whole_lead : (re : Re) (bytes : List ℕ) → re ≡ whole bytes → (value : List ℕ) → AreBytes value →
+    bytes_eq value bytes ≡ is_some (find re value 0)
 whole_lead re bytes is value ok = rw is (whole_tested bytes value)
 
 -- ---- from the tree to what a text is read as
@@ -116,12 +123,14 @@ abbrev seen : Read → Option Reading
 seen = option_map (λ (re, names). record { re = re.value; depth = re.depth; names = names })
 
 seen_lead : (hir : Hir) (given : Names) (lead : Lead) (read : Read) →
-    IsSomeAnd read (λ (re, found). (re.depth ≤ options.nest_limit) × SameCaptures (meaning hir) re.value × (given ≡ found) × (group_count (meaning hir) ≤ length given)) →
+    IsSomeAnd read (λ (re, found). (re.depth ≤ options.nest_limit) × SameCaptures (meaning hir) re.value × (given ≡ found)
+    × (group_count (meaning hir) ≤ length given)) →
     IsLead (meaning hir) lead → IfSome (seen read) (λ what. IsLead what.re lead)
 seen_lead hir given lead None h p = absurd h
 seen_lead hir given lead (Some x) h p = alike_lead _ _ lead h.1 p
 
 -- the lead of the tree that is parsed is the lead of the text
-pub read_lead : (text : List ℕ) (hir : Hir) (names : Names) (lead : Lead) → Reads options text hir names → IsLead (meaning hir) lead → IsLeadOf text lead
+pub read_lead : (text : List ℕ) (hir : Hir) (names : Names) (lead : Lead) → Reads options text hir names → IsLead (meaning hir) lead →
+    IsLeadOf text lead
 unfolding Reads pattern_reading
 read_lead text hir names lead reads p = record { is = seen_lead hir names lead (read options (chars text)) reads p }

@@ -1,5 +1,6 @@
 -- What begins with a text begins with what that text begins with.
-use Rattle.std.proofs.Common.{◌≡◌, ℕ, true, List, [], ◌∷◌, ◌++◌, length, drop, Vec, Global, refl, ap, ◌∙◌, subst, append_assoc, nat_eq, take, get_or, ◌<◌, ◌+◌}
+use Rattle.std.proofs.Common.{◌≡◌, ℕ, true, List, [], ◌∷◌, ◌++◌, length, drop, Vec, Global, refl, ap, ◌∙◌, subst, append_assoc, nat_eq}
+use Rattle.std.proofs.Common.{take, get_or, ◌<◌, ◌+◌}
 use Rattle.std.specs.List.{All, starts_with}
 use Rattle.std.proofs.lemmas.Bool.Decides.{Decides-eqb}
 use Rattle.std.proofs.lemmas.List.{take-append-drop}
@@ -20,7 +21,8 @@ begins_through value text shared p q =
 pub record AllBegin (shared : List ℕ) (texts : List (Vec ℕ Global)) : Type 0 where
   pub each : All (λ text. starts_with nat_eq text.items shared ≡ true) texts
 
-all_begin_through : (texts : List (Vec ℕ Global)) (before shared : List ℕ) → AllBegin before texts → starts_with nat_eq before shared ≡ true →
+all_begin_through : (texts : List (Vec ℕ Global)) (before shared : List ℕ) → AllBegin before texts →
+    starts_with nat_eq before shared ≡ true →
     AllBegin shared texts
 all_begin_through texts before shared p q = record { each = λ k d lt. begins_through _ before shared (p.each k d lt) q }
 
@@ -31,7 +33,8 @@ one_begins texts shared value all h =
     begins_through value found.1.items shared found.4
     (subst (λ (text : Vec ℕ Global). starts_with nat_eq text.items shared ≡ true) found.3 (all found.0 found.1 found.2))
 
-pub kept_alone : (kept : List (Vec ℕ Global)) (text : Vec ℕ Global) (value : List ℕ) → kept ≡ text ∷ [] → starts_with nat_eq value text.items ≡ true →
+pub kept_alone : (kept : List (Vec ℕ Global)) (text : Vec ℕ Global) (value : List ℕ) → kept ≡ text ∷ [] →
+    starts_with nat_eq value text.items ≡ true →
     begins_with_any kept value ≡ true
 kept_alone kept text value is begins = rw (is, begins) refl
 
@@ -42,8 +45,12 @@ front_begins text front i is =
 
 -- ---- as many of the texts as were looked at
 
-pub more_begin : (texts : List (Vec ℕ Global)) (i : ℕ) (d : Vec ℕ Global) (before shared : List ℕ) → i < length texts → AllBegin before (take i texts) →
-    starts_with nat_eq before shared ≡ true → starts_with nat_eq (get_or texts i d).items shared ≡ true → AllBegin shared (take (i + 1) texts)
+pub more_begin : (texts : List (Vec ℕ Global)) (i : ℕ) (d : Vec ℕ Global) (before shared : List ℕ) → i < length texts →
+    AllBegin before (take i texts) →
+    starts_with nat_eq before shared ≡ true → starts_with nat_eq (get_or texts i d).items shared ≡ true →
+    AllBegin shared (take (i + 1) texts)
 more_begin texts i d before shared lt p q here = record {
-  each = All-more (λ text. starts_with nat_eq text.items shared ≡ true) texts i d lt (all_begin_through (take i texts) before shared p q).each here;
+  each =
+      All-more (λ text. starts_with nat_eq text.items shared ≡ true) texts i d lt
+      (all_begin_through (take i texts) before shared p q).each here;
 }

@@ -9,10 +9,11 @@ use std::alloc::Global;
 /// A lead has no more texts than this, since a value is compared with each.
 const MOST_TEXTS: usize = 16;
 
-/// These texts, or what all of them begin with, where they are too many. A value that begins with one of the texts begins with one of
-/// those as well.
+/// These texts, or what all of them begin with, where they are too many. A value that begins with one of the texts
+/// begins with one of those as well.
 pub(crate) fn few(alloc: Global, texts: Vec<Vec<u8>>) -> Result<Vec<Vec<u8>>, Memory>
-    ensures { IfOk result (λ kept. (value : List ℕ) → begins_with_any texts.items value ≡ true → begins_with_any kept.items value ≡ true) }
+    ensures { IfOk result (λ kept. (value : List ℕ) → begins_with_any texts.items value ≡ true
+        → begins_with_any kept.items value ≡ true) }
 {
     if texts.len() <= MOST_TEXTS {
         return Ok(texts);

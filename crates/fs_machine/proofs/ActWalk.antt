@@ -1,9 +1,9 @@
 -- The walk goes on: jobs, commands and all acts.
 use Rattle.std.proofs.Common.{◌≡◌, ℕ, ◌*◌, arith, nat_lt, Bool, true, false, if◌then◌else◌, length, slice_get, Option, None, Some, refl}
 use Rattle.std.specs.Str.{bytes_eq}
+use Rattle.fs_text.specs.Texts.{Text}
 use Rattle.fs_text.specs.declared.causes.Cause.{Cause}
 use Rattle.fs_text.specs.declared.causes.Cause.TheVariants.{NoAnswer, InvalidNumberFormat}
-use Rattle.fs_vars.specs.Pairs.{Text}
 use Rattle.fs_vars.specs.Variables.{can_set, set_to}
 use Rattle.fs_vars.specs.Expansion.{expanded}
 use Rattle.fs_frame.specs.Block.{line_of}

@@ -1,6 +1,6 @@
 -- What happens to connections, jobs and originations leaves channels as they are, and all that channels see.
 use Rattle.std.proofs.Common.{◌≡◌, ℕ, List, Option, None, Some, unwrap_or, refl}
-use Rattle.fs_vars.specs.Pairs.{Text}
+use Rattle.fs_text.specs.Texts.{Text}
 use Rattle.fs_vars.specs.Variables.{Variables}
 use Rattle.fs_doc.specs.Reading.{Configuration}
 use Rattle.fs_chan.specs.declared.chan.Chan.{Chan}

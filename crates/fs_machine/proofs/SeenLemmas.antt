@@ -1,8 +1,8 @@
 -- What of a switch tells identifiers, and what becomes of it.
 use Rattle.std.proofs.Common.{◌≡◌, ℕ, ◌+◌, ◌-◌, ◌<◌, ◌≤◌, ◌^◌, min, List, length, Option, None, Some, option_map, sym, ap, ◌∙◌, arith}
 use Rattle.fs_text.specs.CoreId.{uuid}
+use Rattle.fs_text.specs.Texts.{Text}
 use Rattle.fs_text.proofs.NamingLemmas.{Naming, naming_kept, naming_more}
-use Rattle.fs_vars.specs.Pairs.{Text}
 use Rattle.fs_doc.specs.Reading.{Configuration}
 use Rattle.fs_chan.specs.declared.chan.Chan.{Chan}
 use Rattle.fs_places.specs.Places.{held_in, with_held}

@@ -6,9 +6,9 @@ use Rattle.std.proofs.lemmas.List.{length-take}
 use Rattle.fs_text.specs.CoreId.{uuid}
 use Rattle.fs_text.specs.Number.{read_u64}
 use Rattle.fs_text.specs.Words.{name_in, value_in, without_spaces, word_of, behind_word}
+use Rattle.fs_text.specs.Texts.{Text}
 use Rattle.fs_text.proofs.IdLemmas.{uuid_length}
 use Rattle.fs_text.specs.declared.causes.Cause.TheVariants.{NoRouteDestination, DestinationOutOfOrder, InvalidNumberFormat}
-use Rattle.fs_vars.specs.Pairs.{Text}
 use Rattle.fs_vars.specs.declared.profile.Profile.{Profile}
 use Rattle.fs_api.specs.declared.api.Api.{Api}
 use Rattle.fs_api.specs.declared.api.Api.TheVariants as api

@@ -1,9 +1,10 @@
 -- What applications do.
 use Rattle.std.specs.Prelude.{ℕ, ◌==◌, ◌++◌, nat_lt, if◌then◌else◌, length, Option, None, Some, option_map}
+use Rattle.fs_text.specs.Texts.{Text}
 use Rattle.fs_text.specs.declared.states.State.{State}
 use Rattle.fs_text.specs.declared.states.State.TheVariants.{CsPark}
 use Rattle.fs_text.specs.declared.causes.Cause.TheVariants.{NormalClearing, NormalTemporaryFailure, DestinationOutOfOrder}
-use Rattle.fs_vars.specs.Pairs.{Text, without}
+use Rattle.fs_vars.specs.Pairs.{without}
 use Rattle.fs_vars.specs.Scopes.{fields_of}
 use Rattle.fs_vars.specs.Expansion.{expanded}
 use Rattle.fs_chan.specs.declared.action.Action.{Action}

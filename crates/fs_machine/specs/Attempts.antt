@@ -1,8 +1,8 @@
 -- Originations that jobs try: how they begin, and what comes of them.
 use Rattle.std.specs.Prelude.{ℕ, ◌*◌, List, [], ◌∷◌, Option, None, Some, unwrap_or, slice_get}
+use Rattle.fs_text.specs.Texts.{Text}
 use Rattle.fs_text.specs.declared.causes.Cause.{Cause}
 use Rattle.fs_text.specs.declared.causes.Cause.TheVariants.{NoAnswer}
-use Rattle.fs_vars.specs.Pairs.{Text}
 use Rattle.fs_chan.specs.Moments.{moment_after}
 use Rattle.fs_orig.specs.declared.leg.OrigLeg.{OrigLeg}
 use Rattle.fs_orig.specs.declared.plan.LegPlan.{LegPlan}

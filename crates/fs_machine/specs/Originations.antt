@@ -1,10 +1,10 @@
 -- How the legs of an origination are made, and what a leg does that has won.
 use Rattle.std.specs.Prelude.{◌≡◌, ℕ, ◌+◌, ◌*◌, ◌++◌, min, nat_lt, Bool, if◌then◌else◌, [], ◌∷◌, length, take, Option, None, Some, option_map, codes}
 use Rattle.std.specs.Option.{option_and_then}
+use Rattle.fs_text.specs.Texts.{Text}
 use Rattle.fs_text.specs.declared.states.State.TheVariants.{CsExecute}
 use Rattle.fs_text.specs.declared.causes.Cause.{Cause}
 use Rattle.fs_text.specs.declared.causes.Cause.TheVariants.{SwitchCongestion}
-use Rattle.fs_vars.specs.Pairs.{Text}
 use Rattle.fs_vars.specs.Variables.{Variables}
 use Rattle.fs_vars.specs.declared.bounds.Bounds.TheVariants.{Channel}
 use Rattle.fs_vars.specs.declared.profile.Profile.{Profile}

@@ -1,6 +1,6 @@
 -- Replies that are owed: a job begins with one, and ends as it is given.
 use Rattle.std.specs.Prelude.{ℕ}
-use Rattle.fs_vars.specs.Pairs.{Text}
+use Rattle.fs_text.specs.Texts.{Text}
 use Rattle.fs_state.specs.declared.job.JobWork.{JobWork}
 use Rattle.fs_state.specs.Switch.{Switch, with_gift, with_new_job, without_job}
 use Rattle.fs_machine.specs.Texts.{api_response, spoken}

@@ -9,7 +9,7 @@ use Rattle.std.proofs.lemmas.List.{append_assoc, append-nil, map-append, length-
 use Rattle.std.proofs.lemmas.List.Elements.{All-append, All-map, All-nil, All-cons, All-same, All-push}
 use Rattle.regex.specs.Bytes.{regex_source}
 use Rattle.regex.specs.declared.bytes.regex.Regex.{Regex}
-use Rattle.fs_vars.specs.Pairs.{Text}
+use Rattle.fs_text.specs.Texts.{Text}
 use Rattle.fs_ports.specs.Patterns.{IsBuiltOf}
 use Rattle.fs_doc.specs.Dialplans.{Context, Extension, Condition}
 use Rattle.fs_doc.specs.declared.dialplan.Child.{Child}

@@ -3,7 +3,8 @@ use Rattle.std.proofs.Common.{◌≡◌, Bool, true, false, [], ◌∷◌, Some,
 use Rattle.std.specs.Prelude.{if◌then◌else◌}
 use Rattle.std.proofs.lemmas.Bool.{cases_Bool}
 use Rattle.std.proofs.lemmas.Slice.Eq.{bytes_eq-Decides}
-use Rattle.fs_vars.specs.Pairs.{Text, Pairs, same_text, value_of}
+use Rattle.fs_text.specs.Texts.{Text}
+use Rattle.fs_vars.specs.Pairs.{Pairs, same_text, value_of}
 use Rattle.fs_vars.specs.Scopes.{fields_of}
 use Rattle.fs_vars.specs.declared.profile.Profile.{Profile}
 use Rattle.fs_doc.specs.Attributes.{has_variable}

@@ -13,9 +13,9 @@ use Rattle.regex.specs.Bytes.{regex_pattern, regex_names, captures_span, capture
 use Rattle.regex.specs.declared.bytes.regex.Regex.{Regex}
 use Rattle.regex.specs.declared.bytes.captures.Captures.{Captures}
 use Rattle.regex.proofs.ForCallers.{is_match_alike, found_alike, span_alike}
+use Rattle.fs_text.specs.Texts.{Text}
 use Rattle.fs_lead.specs.Leads.{IsLead, IsLeadOf}
 use Rattle.fs_lead.specs.declared.lead.Lead.{Lead}
-use Rattle.fs_vars.specs.Pairs.{Text}
 use Rattle.fs_ports.specs.Patterns.{Reading, pattern_reading, IsBuiltOf}
 use Rattle.fs_plan.specs.Matching.{Groups, groups_of, group_text, span_of, has_groups, match_gives, tested}
 use Rattle.fs_plan.specs.declared.tested.Tested.{Tested}

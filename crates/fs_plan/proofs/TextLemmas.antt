@@ -1,7 +1,7 @@
 -- When a text is too long.
 use Rattle.std.proofs.Common.{◌≡◌, ℕ, ◌≤◌, length, sym, ap, ◌∙◌, Ok, Err}
 use Rattle.std.proofs.lemmas.Bool.{le-leb, lt-leb}
-use Rattle.fs_vars.specs.Pairs.{Text}
+use Rattle.fs_text.specs.Texts.{Text}
 use Rattle.fs_vars.specs.Outputs.{IsTextRefusal}
 use Rattle.fs_vars.specs.declared.refused.Refused.{Refused}
 use Rattle.fs_vars.specs.declared.refused.Refused.TheVariants.{Memory, TooLong}

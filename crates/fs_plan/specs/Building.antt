@@ -2,7 +2,7 @@
 use Rattle.std.specs.Prelude.{◌≡◌, ℕ, ◌+◌, min, ◌⊎◌, List, [], ◌∷◌, ◌++◌, map, All, IsSome, MatchResult, Result}
 use Rattle.std.specs.List.{flat_map, enumerate_from}
 use Rattle.std.specs.Str.{IsUtf8}
-use Rattle.fs_vars.specs.Pairs.{Text}
+use Rattle.fs_text.specs.Texts.{Text}
 use Rattle.fs_ports.specs.Counts.{raised}
 use Rattle.fs_ports.specs.Patterns.{pattern_reading, IsUnreadable}
 use Rattle.fs_doc.specs.Dialplans.{Context, Extension, Condition}

@@ -1,6 +1,7 @@
 -- What a hunt through a dialplan gives.
 use Rattle.std.specs.Prelude.{◌==◌, ℕ, ◌+◌, Bool, true, false, not, ◌&&◌, ◌||◌, nat_le, if◌then◌else◌, List, [], ◌∷◌, ◌++◌, length, Option, None, Ok, Err, unwrap_or}
-use Rattle.fs_vars.specs.Pairs.{Text, Pairs, same_text, value_of}
+use Rattle.fs_text.specs.Texts.{Text}
+use Rattle.fs_vars.specs.Pairs.{Pairs, same_text, value_of}
 use Rattle.fs_vars.specs.Variables.{Variables}
 use Rattle.fs_vars.specs.Scopes.{fields_of}
 use Rattle.fs_vars.specs.Expansion.{expanded}

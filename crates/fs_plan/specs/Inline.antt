@@ -1,7 +1,8 @@
 -- What the applications do that run while the dialplan is searched.
 use Rattle.std.specs.Prelude.{if◌then◌else◌, codes}
 use Rattle.fs_text.specs.Words.{name_in, value_in}
-use Rattle.fs_vars.specs.Pairs.{Text, same_text, without}
+use Rattle.fs_text.specs.Texts.{Text}
+use Rattle.fs_vars.specs.Pairs.{same_text, without}
 use Rattle.fs_chan.specs.Exports.{with_set, exported}
 use Rattle.fs_plan.specs.declared.hunt.Hunt.{Hunt}
 

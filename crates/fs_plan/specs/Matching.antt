@@ -6,7 +6,7 @@ use Rattle.regex.specs.Bytes.{captures_haystack, captures_span}
 use Rattle.regex.specs.Patterns.{Match, find, span}
 use Rattle.regex.specs.Writes.{group_of}
 use Rattle.regex.specs.declared.bytes.captures.Captures.{Captures}
-use Rattle.fs_vars.specs.Pairs.{Text}
+use Rattle.fs_text.specs.Texts.{Text}
 use Rattle.fs_ports.specs.Patterns.{Reading, pattern_reading}
 use Rattle.fs_plan.specs.declared.tested.Tested.{Tested}
 

@@ -2,7 +2,7 @@
 
 ghost use Rattle.std.specs.Prelude.{◌≡◌, ℕ, map, ◌∷◌, ◌++◌, ◌≤◌, length, IfOk};
 ghost use Rattle.std.specs.List.{range_with_len};
-ghost use Rattle.fs_vars.specs.Pairs.{Text};
+ghost use Rattle.fs_text.specs.Texts.{Text};
 ghost use Rattle.fs_plan.specs.Matching.{captured};
 ghost use Rattle.fs_plan.specs.Substitution as spec;
 

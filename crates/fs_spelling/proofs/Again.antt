@@ -5,7 +5,7 @@ use Rattle.std.specs.Str.{bytes_eq}
 use Rattle.std.proofs.lemmas.List.{length-append}
 use Rattle.std.proofs.lemmas.Slice.Eq.{bytes_eq-Decides}
 use Rattle.std.proofs.lemmas.Bool.Decides.{nat_tests}
-use Rattle.fs_vars.specs.Pairs.{Text}
+use Rattle.fs_text.specs.Texts.{Text}
 use Rattle.fs_xml.specs.Results.{◌>>=◌}
 use Rattle.fs_xml.specs.Bytes.{place}
 use Rattle.fs_xml.specs.Tags.{BodyText}

@@ -3,7 +3,7 @@ use Rattle.std.proofs.Common.{◌≡◌, ℕ, zero, suc, Bool, true, false, cond
 use Rattle.std.specs.List.{starts_with}
 use Rattle.std.specs.Str.{bytes_eq}
 use Rattle.std.proofs.lemmas.Slice.Eq.{bytes_eq-Decides}
-use Rattle.fs_vars.specs.Pairs.{Text}
+use Rattle.fs_text.specs.Texts.{Text}
 use Rattle.fs_xml.specs.Results.{◌>>=◌}
 use Rattle.fs_xml.specs.Bytes.{place}
 use Rattle.fs_xml.specs.Tags.{BodyText}

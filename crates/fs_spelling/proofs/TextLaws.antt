@@ -5,8 +5,8 @@ use Rattle.std.proofs.lemmas.List.{take-append-drop}
 use Rattle.std.proofs.Math.Seq.{drop-append_seam}
 use Rattle.std.proofs.lemmas.Bool.{or_parts, eqb-true}
 use Rattle.fs_text.specs.Words.{is_byte}
+use Rattle.fs_text.specs.Texts.{Text}
 use Rattle.fs_text.proofs.Cuts.{first_behind, none_before, place_here, place_on}
-use Rattle.fs_vars.specs.Pairs.{Text}
 use Rattle.fs_xml.specs.Bytes.{is_blank, past, place}
 use Rattle.fs_xml.proofs.ByteLemmas.{run_past}
 use Rattle.fs_doc.specs.declared.fault.DocFault.{DocFault}

@@ -2,7 +2,8 @@
 use Rattle.std.specs.Prelude.{◌≡◌, ◌≤◌, ◌⊎◌, true, false, if◌then◌else◌, List, [], ◌∷◌, ◌++◌, map, None, Ok, length}
 use Rattle.std.specs.List.{list_any}
 use Rattle.fs_text.specs.Words.{is_byte}
-use Rattle.fs_vars.specs.Pairs.{Text, Pairs}
+use Rattle.fs_text.specs.Texts.{Text}
+use Rattle.fs_vars.specs.Pairs.{Pairs}
 use Rattle.fs_xml.specs.Attributes.{Written}
 use Rattle.fs_xml.specs.declared.attribute.Ending.TheVariants.{Opens, Closes}
 use Rattle.fs_doc.specs.declared.element.Level.{Level}

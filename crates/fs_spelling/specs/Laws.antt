@@ -1,6 +1,6 @@
 -- What is read is what is spelt, from the text of a value up to a whole document.
 use Rattle.std.specs.Prelude.{◌≡◌, ℕ, Bool, List, ◌++◌, None, Ok, map}
-use Rattle.fs_vars.specs.Pairs.{Text}
+use Rattle.fs_text.specs.Texts.{Text}
 use Rattle.fs_xml.specs.declared.attribute.Ending.{Ending}
 use Rattle.fs_xml.specs.Attributes.{Written, Has, part_at}
 use Rattle.fs_xml.specs.Entities.{value_text}

@@ -17,5 +17,6 @@ pub returns-in_err-rest : goal.returns-in_err-rest
 returns-in_err-rest c =
     let rounds = c.rounds.invariant in
     let stop = c.in_err-rest.field-0.0 in
-    let stops = stops_so rounds.more c.args.end (reading_of c.rounds.state) c.rounds.left.now stop rounds.enough c.in_err-rest.ensures.read in
+    let stops =
+    stops_so rounds.more c.args.end (reading_of c.rounds.state) c.rounds.left.now stop rounds.enough c.in_err-rest.ensures.read in
     answers_so _ stop _ content_seen c.from_residual-in_err-rest.ensures.1 (rw rounds.so_far at stops)

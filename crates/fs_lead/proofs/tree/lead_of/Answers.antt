@@ -10,4 +10,5 @@ returns-in-Some c =
 pub returns-in_ok-few-in-Some-2 : goal.returns-in_ok-few-in-Some-2
 returns-in_ok-few-in-Some-2 c =
     λ value ok h. c.in_ok-few-in-Some-2.ensures value
-    (starts_lead _ c.in-Some-2.texts (c.is_anchored_start.ensures.anchored c.if-not-is_anchored_start.false) (rw c.in-Some-2.is at c.in_ok-texts.ensures.starts) value ok h)
+    (starts_lead _ c.in-Some-2.texts (c.is_anchored_start.ensures.anchored c.if-not-is_anchored_start.false)
+    (rw c.in-Some-2.is at c.in_ok-texts.ensures.starts) value ok h)

@@ -1,5 +1,5 @@
 use Rattle.std.proofs.Common.{◌≡◌, List, Option, None, sym, subst, ap}
-use Rattle.fs_vars.specs.Pairs.{Text}
+use Rattle.fs_text.specs.Texts.{Text}
 use Rattle.fs_vars.specs.Variables.{Variables}
 use Rattle.fs_doc.specs.Dialplans.{Context}
 use Rattle.fs_plan.specs.declared.hunt.Hunt.{Hunt}

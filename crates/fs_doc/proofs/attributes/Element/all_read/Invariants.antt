@@ -6,7 +6,8 @@ use Rattle.fs_doc.proofs.attributes.Element.all_read.Given as goal
 
 abbrev pub invariant-loop-left : goal.invariant-loop-left
 invariant-loop-left l =
-    attributes_read (tagged_of l.self) l.given (map written_of l.left) ≡ attributes_read (tagged_of l.self) [] (map written_of l.self.attrs.now)
+    attributes_read (tagged_of l.self) l.given (map written_of l.left)
+    ≡ attributes_read (tagged_of l.self) [] (map written_of l.self.attrs.now)
 
 abbrev pub decreases-loop-left : goal.decreases-loop-left
 decreases-loop-left l = length l.left

@@ -5,4 +5,5 @@ use Rattle.fs_doc.proofs.given.Given.get.Goals as goal
 
 pub returns : goal.returns
 returns c =
-    c.get.ensures.value ∙ value_is c.args.name.now c.self.inside.entries.entries ∙ ap (λ pairs. value_of pairs c.args.name.now) c.self.view_is
+    c.get.ensures.value ∙ value_is c.args.name.now c.self.inside.entries.entries
+    ∙ ap (λ pairs. value_of pairs c.args.name.now) c.self.view_is

@@ -4,4 +4,5 @@ use Rattle.fs_doc.proofs.given.Given.push.Goals as goal
 
 pub returns : goal.returns
 returns c =
-    rw (← c.self.view_is) (ap (map pair_of) c.in_ok-insert.ensures.entries ∙ new_last c.args.name c.args.text c.self.inside.entries.entries (rw c.self.view_is c.requires))
+    rw (← c.self.view_is) (ap (map pair_of) c.in_ok-insert.ensures.entries
+    ∙ new_last c.args.name c.args.text c.self.inside.entries.entries (rw c.self.view_is c.requires))

@@ -3,7 +3,7 @@
 use crate::answer::Answer;
 use crate::words::{bytes_of, cut};
 use fs_app::Application;
-use fs_chan::Target3;
+use fs_chan::{Assignment, Target3};
 use fs_text::Memory;
 use std::alloc::Global;
 
@@ -20,10 +20,7 @@ pub(crate) fn tell_app(alloc: Global, rest: &str, answer: &mut Answer) -> Result
 fn tell_application(alloc: Global, application: &Application, answer: &mut Answer) {
     match application {
         Application::Answer => answer.named("Answer", &[]),
-        Application::Set { name, value } => answer.named("Set", &[name, value]),
-        Application::Unset { name } => answer.named("Unset", &[name]),
-        Application::Export { name, value } => answer.named("Export", &[name, value]),
-        Application::SetGlobal { name, value } => answer.named("SetGlobal", &[name, value]),
+        Application::Assign { how, argument } => answer.named(assignment_name(*how), &[argument]),
         Application::Eval => answer.named("Eval", &[]),
         Application::Sleep { milliseconds } => {
             answer.told(format!(in alloc; "Sleep [{milliseconds}]"));
@@ -32,6 +29,15 @@ fn tell_application(alloc: Global, application: &Application, answer: &mut Answe
         Application::Park => answer.named("Park", &[]),
         Application::Transfer { to } => tell_target(to, answer),
         Application::Unknown => answer.named("Unknown", &[]),
+    }
+}
+
+fn assignment_name(how: Assignment) -> &'static str {
+    match how {
+        Assignment::Set => "Set",
+        Assignment::Unset => "Unset",
+        Assignment::Export => "Export",
+        Assignment::SetGlobal => "SetGlobal",
     }
 }
 

@@ -2,11 +2,13 @@
 use Rattle.std.specs.Prelude.{ℕ, ◌==◌, nat_le, Bool, false, not, ◌||◌, ◌&&◌, if◌then◌else◌, [], ◌∷◌, Option, None, Some, unwrap_or, codes}
 use Rattle.std.specs.Str.{bytes_eq}
 use Rattle.fs_text.specs.Number.{read_u64}
-use Rattle.fs_text.specs.Words.{name_in, value_in, without_spaces, word_of, behind_word}
+use Rattle.fs_text.specs.Words.{without_spaces, word_of, behind_word}
 use Rattle.fs_text.specs.Cause.{cause_of_name}
 use Rattle.fs_text.specs.Texts.{Text}
 use Rattle.fs_text.specs.declared.causes.Cause.TheVariants.{NormalClearing}
 use Rattle.fs_orig.specs.Endpoints.{is_short}
+use Rattle.fs_chan.specs.declared.assignment.Assignment.{Assignment}
+use Rattle.fs_chan.specs.Assignments.{assignment_named}
 use Rattle.fs_chan.specs.Changes as changes
 use Rattle.fs_app.specs.declared.application.Application.{Application}
 use Rattle.fs_app.specs.declared.application.Application.TheVariants as app
@@ -53,19 +55,21 @@ transfer_application text = transfer (word_of text) (word_of (behind_word text))
 
 -- ---- all of them
 
+-- what an assignment is asked by its argument, or else another application
+abbrev pub assigned_or : Option Assignment → Text → Application → Application
+assigned_or (Some how) argument other = app.Assign how argument
+assigned_or None argument other = other
+
 unfoldable pub application_of : Text → Text → Application
 application_of name argument =
-    if bytes_eq name (codes "answer") then app.Answer
-    else (if bytes_eq name (codes "set") then app.Set (name_in argument) (value_in argument)
-    else (if bytes_eq name (codes "unset") then app.Unset argument
-    else (if bytes_eq name (codes "export") then app.Export (name_in argument) (value_in argument)
-    else (if bytes_eq name (codes "set_global") then app.SetGlobal (name_in argument) (value_in argument)
+    assigned_or (assignment_named name) argument
+    (if bytes_eq name (codes "answer") then app.Answer
     else (if bytes_eq name (codes "log") || bytes_eq name (codes "eval") then app.Eval
     else (if bytes_eq name (codes "sleep") then sleep_application argument
     else (if bytes_eq name (codes "hangup") then hangup_application argument
     else (if bytes_eq name (codes "park") then app.Park
     else (if bytes_eq name (codes "transfer") then transfer_application (without_spaces argument)
-    else app.Unknown)))))))))
+    else app.Unknown))))))
 
 -- the texts of a transfer can stand in a profile
 abbrev pub IsShortApplication : Application → Type 0

@@ -1,20 +1,14 @@
 //! The applications of a channel.
 
-use fs_chan::Target3;
+use fs_chan::{Assignment, Target3};
 use fs_text::{Cause, Txt};
 
 /// What an application of a dialplan is asked to do, as FreeSWITCH's mod_dptools has them.
 pub enum Application {
     /// The channel is answered.
     Answer,
-    /// A variable is set.
-    Set { name: Txt, value: Txt },
-    /// A variable is taken out.
-    Unset { name: Txt },
-    /// A variable is set, and new legs get it too.
-    Export { name: Txt, value: Txt },
-    /// A global is set.
-    SetGlobal { name: Txt, value: Txt },
+    /// A variable is set or taken out, as the argument says.
+    Assign { how: Assignment, argument: Txt },
     /// Nothing is done beyond the expansion of the argument.
     Eval,
     /// The channel waits for so many milliseconds, 0 to 3,600,000.
@@ -33,18 +27,9 @@ impl Drop for Application {
     fn drop(self) {
         match self {
             Application::Answer => {}
-            Application::Set {
-                name: _name,
-                value: _value,
-            } => {}
-            Application::Unset { name: _name } => {}
-            Application::Export {
-                name: _name,
-                value: _value,
-            } => {}
-            Application::SetGlobal {
-                name: _name,
-                value: _value,
+            Application::Assign {
+                how: _,
+                argument: _argument,
             } => {}
             Application::Eval => {}
             Application::Sleep { milliseconds: _ } => {}

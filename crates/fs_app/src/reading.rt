@@ -1,13 +1,12 @@
 //! How the argument of an application is read.
 
 ghost use Rattle.std.specs.Prelude.{◌≡◌, IfOk};
-ghost use Rattle.fs_text.specs.Words.{name_in, value_in};
 ghost use Rattle.fs_orig.specs.Endpoints.{is_short};
 ghost use Rattle.fs_app.specs.Applications as spec;
 
 use crate::application::Application;
-use fs_chan::Target3;
-use fs_text::{Cause, Memory, Txt, cut_at, cut_word, read_u64, without_spaces};
+use fs_chan::{Assignment, Target3};
+use fs_text::{Cause, Memory, Txt, cut_word, read_u64, without_spaces};
 use std::alloc::Global;
 
 /// The most milliseconds that `sleep` takes: an hour.
@@ -26,20 +25,11 @@ impl Application {
         ensures application { IfOk result (λ application. application ≡ spec.application_of name.now argument.now) }
         ensures short { IfOk result spec.IsShortApplication }
     {
-        if name == b"answer".as_slice() {
+        if let Some(how) = Assignment::named(name) {
+            let argument = Txt::of(alloc, argument)?;
+            Ok(Application::Assign { how, argument })
+        } else if name == b"answer".as_slice() {
             Ok(Application::Answer)
-        } else if name == b"set".as_slice() {
-            let (name, value) = name_and_value(alloc, argument)?;
-            Ok(Application::Set { name, value })
-        } else if name == b"unset".as_slice() {
-            let name = Txt::of(alloc, argument)?;
-            Ok(Application::Unset { name })
-        } else if name == b"export".as_slice() {
-            let (name, value) = name_and_value(alloc, argument)?;
-            Ok(Application::Export { name, value })
-        } else if name == b"set_global".as_slice() {
-            let (name, value) = name_and_value(alloc, argument)?;
-            Ok(Application::SetGlobal { name, value })
         } else if name == b"log".as_slice() || name == b"eval".as_slice() {
             Ok(Application::Eval)
         } else if name == b"sleep".as_slice() {
@@ -54,14 +44,6 @@ impl Application {
             Ok(Application::Unknown)
         }
     }
-}
-
-// The name and the value of `name=value`. Without `=` the value is empty.
-fn name_and_value(alloc: Global, argument: &[u8]) -> Result<(Txt, Txt), Memory>
-    ensures { IfOk result (λ pair. pair ≡ (name_in argument.now, value_in argument.now)) }
-{
-    let (name, value) = cut_at(b'=', argument);
-    Ok((Txt::of(alloc, name)?, Txt::of(alloc, value)?))
 }
 
 fn sleep_application(argument: &[u8]) -> Application

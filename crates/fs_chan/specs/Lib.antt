@@ -1,5 +1,6 @@
 pub mod Moments
 pub mod Exports
+pub mod Assignments
 pub mod Changes
 pub mod Work
 pub mod Headers

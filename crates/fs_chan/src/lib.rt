@@ -2,20 +2,22 @@
 #![tactic(auto)]
 
 mod action;
+mod assignment;
 mod chan;
 mod changes;
 mod due;
+mod exports;
 mod headers;
 mod left;
 mod moment;
 mod peer;
 mod shared;
 mod target;
-mod variables;
 mod wait;
 mod work;
 
 pub use action::{Action, Actions, ActionsIter};
+pub use assignment::Assignment;
 pub use chan::Chan;
 pub use due::Due;
 pub use left::ActionsLeft;
@@ -23,6 +25,5 @@ pub use moment::moment_after;
 pub use peer::{Direction, Peer};
 pub use shared::SharedVars;
 pub use target::Target3;
-pub use variables::exported;
 pub use wait::Wait;
 pub use work::due_law;

@@ -2,8 +2,10 @@
 
 ghost use Rattle.std.specs.Prelude.{◌≡◌, IfOk, OnOk, OnErr};
 ghost use Rattle.fs_vars.specs.Variables.{can_set};
-ghost use Rattle.fs_chan.specs.Exports.{with_set, without_name};
+ghost use Rattle.fs_chan.specs.Exports.{with_set};
+ghost use Rattle.fs_chan.specs.Assignments.{assigned};
 
+use crate::assignment::Assignment;
 use fs_text::Memory;
 use fs_vars::Vars;
 use std::alloc::Global;
@@ -71,17 +73,16 @@ impl SharedVars {
         Ok(done)
     }
 
-    /// Takes a variable out, as [`Vars::unset`] does. Its copies stay as they are.
-    pub fn unset(&mut self, name: &[u8]) -> Result<(), Memory>
-        ensures ok { OnOk result (self.new ≡ without_name self.old name.now) }
+    /// Sets a variable or takes one out, as [`Assignment::apply`] does. Its copies stay as they are.
+    pub fn assign(&mut self, how: Assignment, argument: &[u8]) -> Result<(), Memory>
+        ensures ok { OnOk result (self.new ≡ assigned how argument.now self.old) }
         ensures err { OnErr result (self.new ≡ self.old) }
     {
         if let Some(vars) = Arc::get_mut(&mut self.shared) {
-            vars.unset(name);
-            return Ok(());
+            return how.apply(self.alloc, argument, vars);
         }
         let mut vars = self.shared.copy()?;
-        vars.unset(name);
+        how.apply(self.alloc, argument, &mut vars)?;
         self.put(vars)
     }
 }

@@ -5,7 +5,7 @@ use Rattle.std.proofs.lemmas.Bool.{leb-true, not-false}
 use Rattle.std.proofs.lemmas.List.{length-take}
 use Rattle.fs_text.specs.CoreId.{uuid}
 use Rattle.fs_text.specs.Number.{read_u64}
-use Rattle.fs_text.specs.Words.{name_in, value_in, without_spaces, word_of, behind_word}
+use Rattle.fs_text.specs.Words.{without_spaces, word_of, behind_word}
 use Rattle.fs_text.specs.Texts.{Text}
 use Rattle.fs_text.proofs.IdLemmas.{uuid_length}
 use Rattle.fs_text.specs.declared.causes.Cause.TheVariants.{NoRouteDestination, DestinationOutOfOrder, InvalidNumberFormat}
@@ -22,6 +22,8 @@ use Rattle.fs_app.specs.declared.application.Application.{Application}
 use Rattle.fs_app.specs.declared.application.Application.TheVariants as app
 use Rattle.fs_app.specs.Applications as apps
 use Rattle.fs_app.specs.Applications.{application_of}
+use Rattle.fs_chan.specs.declared.assignment.Assignment.{Assignment}
+use Rattle.fs_chan.specs.Assignments.{assignment_named}
 use Rattle.fs_chan.specs.declared.peer.Direction.{Direction}
 use Rattle.fs_chan.specs.declared.peer.Direction.TheVariants.{Inbound, Outbound}
 use Rattle.fs_chan.specs.declared.target.Target3.{Target3}
@@ -97,36 +99,33 @@ routing_short exten dialplan context =
     (λ none. tt)
 
 -- whichever name it has
-app_short : (answers sets unsets exports sets_global evals sleeps hangs_up parks transfers : Bool) (argument : Text) →
+app_short : (answers evals sleeps hangs_up parks transfers : Bool) (argument : Text) →
     apps.IsShortApplication
     (if answers then app.Answer
-    else (if sets then app.Set (name_in argument) (value_in argument)
-    else (if unsets then app.Unset argument
-    else (if exports then app.Export (name_in argument) (value_in argument)
-    else (if sets_global then app.SetGlobal (name_in argument) (value_in argument)
     else (if evals then app.Eval
     else (if sleeps then apps.sleep_application argument
     else (if hangs_up then apps.hangup_application argument
     else (if parks then app.Park
     else (if transfers then apps.transfer_application (without_spaces argument)
-    else app.Unknown))))))))))
-app_short true sets unsets exports sets_global evals sleeps hangs_up parks transfers argument = tt
-app_short false true unsets exports sets_global evals sleeps hangs_up parks transfers argument = tt
-app_short false false true exports sets_global evals sleeps hangs_up parks transfers argument = tt
-app_short false false false true sets_global evals sleeps hangs_up parks transfers argument = tt
-app_short false false false false true evals sleeps hangs_up parks transfers argument = tt
-app_short false false false false false true sleeps hangs_up parks transfers argument = tt
-app_short false false false false false false true hangs_up parks transfers argument = tt
-app_short false false false false false false false true parks transfers argument = tt
-app_short false false false false false false false false true transfers argument = tt
-app_short false false false false false false false false false true argument =
+    else app.Unknown))))))
+app_short true evals sleeps hangs_up parks transfers argument = tt
+app_short false true sleeps hangs_up parks transfers argument = tt
+app_short false false true hangs_up parks transfers argument = tt
+app_short false false false true parks transfers argument = tt
+app_short false false false false true transfers argument = tt
+app_short false false false false false true argument =
     let text = without_spaces argument in
     routing_short (word_of text) (word_of (behind_word text)) (word_of (behind_word (behind_word text)))
-app_short false false false false false false false false false false argument = tt
+app_short false false false false false false argument = tt
+
+assigned_short : (assignment : Option Assignment) (argument : Text) (other : Application) →
+    apps.IsShortApplication other → apps.IsShortApplication (apps.assigned_or assignment argument other)
+assigned_short (Some how) argument other short = tt
+assigned_short None argument other short = short
 
 pub application_short : (name argument : Text) → apps.IsShortApplication (application_of name argument)
 unfolding application_of
-application_short name argument = app_short _ _ _ _ _ _ _ _ _ _ argument
+application_short name argument = assigned_short (assignment_named name) argument _ (app_short _ _ _ _ _ _ argument)
 
 -- ---- the winner that a command names
 

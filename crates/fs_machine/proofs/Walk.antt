@@ -20,7 +20,9 @@ use Rattle.fs_chan.specs.declared.target.Target3.{Target3}
 use Rattle.fs_chan.specs.declared.wait.Wait.{Wait}
 use Rattle.fs_chan.specs.declared.wait.Wait.TheVariants.{Ready, Sleep, Parked, Socket}
 use Rattle.fs_chan.specs.Changes.{IsShortTarget, is_live, in_state, with_answer_place, at_rest, hung_up, transferred, parked, asleep, may_route, routed}
-use Rattle.fs_chan.specs.Exports.{with_set}
+use Rattle.fs_chan.specs.declared.assignment.Assignment.{Assignment}
+use Rattle.fs_chan.specs.declared.assignment.Assignment.TheVariants.{Set, Unset, Export, SetGlobal}
+use Rattle.fs_chan.specs.Assignments.{assigned}
 use Rattle.fs_chan.specs.Work as chan
 use Rattle.fs_orig.specs.declared.endpoint.Endpoint.{Endpoint}
 use Rattle.fs_orig.specs.declared.endpoint.Endpoint.TheVariants.{Loopback, Dead}
@@ -36,7 +38,7 @@ use Rattle.fs_state.specs.Switch.{Switch, chan_at, with_chan, free_slot, with_ev
 use Rattle.fs_state.specs.Moves.{plain_event, with_leaving_event, with_coming_event, with_state_events, after_move_from, after_move, after_begin, with_running, run_on, after_completion, orig_changed, leg_changed, its_leg_changed, after_answer_from, after_one_answer, partner_at, for_slot, after_answer, hangup_event, after_hangup_from, after_one_hangup, after_hangup_with, after_hangup, after_report, after_destroy}
 use Rattle.fs_machine.specs.declared.originations.Call.{Call}
 use Rattle.fs_machine.specs.declared.originations.Caller.{Caller}
-use Rattle.fs_machine.specs.Applications.{with_variable, without_variable, with_export, after_sleep, state_at, after_park_in, after_effect, argument_in, executed_within, after_running_next, after_running_from, after_running}
+use Rattle.fs_machine.specs.Applications.{with_assignment, after_assignment, after_sleep, state_at, after_park_in, after_effect, argument_in, executed_within, after_running_next, after_running_from, after_running}
 use Rattle.fs_machine.specs.Work.{with_variables, routed_to, has_xml, actions_for, too_long_cause, found_for, routed_by, after_routing_from, first_state, after_wait, after_work_in, after_work_from, after_work}
 use Rattle.fs_machine.specs.Originations.{Made, made_in, with_second, free_pair, is_congested, made_of, leg_made}
 use Rattle.fs_machine.specs.Attempts.{after_hangups}
@@ -308,16 +310,22 @@ module _ (P : Fact) (kept : KeptByCalls P) where
       moved_alive (transferred to) slot at
       (λ c live. record { links = refl; live = routing_lives ∙ sym live; short = sent_short to c.profile short }) h
 
+  variable_kept : (how : Assignment) (argument : Text) (slot : ℕ) {b : Stage} {s : Switch} → P b s →
+      P b (after_move (with_assignment how argument) slot s)
+  variable_kept how argument slot h =
+      moved_kept (with_assignment how argument) slot (λ c. record { links = refl; live = refl; short = λ h. h }) h
+
+  assigned_kept : (how : Assignment) (argument : Text) (slot : ℕ) {b : Stage} {s : Switch} → P b s →
+      P b (after_assignment how argument slot s)
+  assigned_kept SetGlobal argument slot {b} {s} h = kept.globals (assigned SetGlobal argument s.globals) h
+  assigned_kept Set argument slot h = variable_kept Set argument slot h
+  assigned_kept Unset argument slot h = variable_kept Unset argument slot h
+  assigned_kept Export argument slot h = variable_kept Export argument slot h
+
   effect_kept : (what : Application) (slot : ℕ) {b : Stage} {s : Switch} → apps.IsShortApplication what → LivesAt s.channels slot → P b s →
       P b (after_effect what slot s)
   effect_kept app.Answer slot short at h = completed_kept slot (answered_kept slot h)
-  effect_kept (app.Set name value) slot short at h =
-      completed_kept slot (moved_kept (with_variable name value) slot (λ c. record { links = refl; live = refl; short = λ h. h }) h)
-  effect_kept (app.Unset name) slot short at h =
-      completed_kept slot (moved_kept (without_variable name) slot (λ c. record { links = refl; live = refl; short = λ h. h }) h)
-  effect_kept (app.Export name value) slot short at h =
-      completed_kept slot (moved_kept (with_export name value) slot (λ c. record { links = refl; live = refl; short = λ h. h }) h)
-  effect_kept (app.SetGlobal name value) slot {b} {s} short at h = completed_kept slot (kept.globals (with_set s.globals name value) h)
+  effect_kept (app.Assign how argument) slot short at h = completed_kept slot (assigned_kept how argument slot h)
   effect_kept app.Eval slot short at h = completed_kept slot h
   effect_kept (app.Sleep milliseconds) slot short at h = sleeping_kept milliseconds slot h
   effect_kept (app.Hangup cause) slot short at h = kept.hung cause slot h

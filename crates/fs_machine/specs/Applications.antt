@@ -4,13 +4,14 @@ use Rattle.fs_text.specs.Texts.{Text}
 use Rattle.fs_text.specs.declared.states.State.{State}
 use Rattle.fs_text.specs.declared.states.State.TheVariants.{CsPark}
 use Rattle.fs_text.specs.declared.causes.Cause.TheVariants.{NormalClearing, NormalTemporaryFailure, DestinationOutOfOrder}
-use Rattle.fs_vars.specs.Pairs.{without}
 use Rattle.fs_vars.specs.Scopes.{fields_of}
 use Rattle.fs_vars.specs.Expansion.{expanded}
 use Rattle.fs_chan.specs.declared.action.Action.{Action}
 use Rattle.fs_chan.specs.declared.chan.Chan.{Chan}
 use Rattle.fs_chan.specs.Changes.{transferred, parked, asleep}
-use Rattle.fs_chan.specs.Exports.{with_set, exported}
+use Rattle.fs_chan.specs.declared.assignment.Assignment.{Assignment}
+use Rattle.fs_chan.specs.declared.assignment.Assignment.TheVariants.{SetGlobal}
+use Rattle.fs_chan.specs.Assignments.{assigned}
 use Rattle.fs_chan.specs.Work.{next_action, after_next}
 use Rattle.fs_app.specs.declared.application.Application.{Application}
 use Rattle.fs_app.specs.declared.application.Application.TheVariants as app
@@ -18,16 +19,9 @@ use Rattle.fs_app.specs.Applications.{application_of}
 use Rattle.fs_state.specs.Switch.{Switch, chan_at}
 use Rattle.fs_state.specs.Moves.{after_move, after_answer, after_hangup, after_completion, run_on}
 
--- ---- changes of one channel
-
-abbrev pub with_variable : Text → Text → Chan → Chan
-with_variable name value c = record c { vars = with_set c.vars name value }
-
-abbrev pub without_variable : Text → Chan → Chan
-without_variable name c = record c { vars = record c.vars { pairs = without c.vars.pairs name } }
-
-abbrev pub with_export : Text → Text → Chan → Chan
-with_export name value c = record c { vars = exported c.vars name value }
+-- a variable was set or taken out
+abbrev pub with_assignment : Assignment → Text → Chan → Chan
+with_assignment how argument c = record c { vars = assigned how argument c.vars }
 
 -- ---- what an application does
 
@@ -51,17 +45,15 @@ after_park_in (Some _) slot s = after_move parked slot s
 abbrev pub after_park : ℕ → Switch → Switch
 after_park slot s = after_park_in (state_at slot s) slot s
 
--- a global is set, where no limit is passed
-abbrev pub with_global : Text → Text → Switch → Switch
-with_global name value s = record s { globals = with_set s.globals name value }
+-- a global, or a variable of the channel, is set or taken out
+abbrev pub after_assignment : Assignment → Text → ℕ → Switch → Switch
+after_assignment SetGlobal argument slot s = record s { globals = assigned SetGlobal argument s.globals }
+after_assignment how argument slot s = after_move (with_assignment how argument) slot s
 
 -- what an application does in a slot; those that end at once say so
 abbrev pub after_effect : Application → ℕ → Switch → Switch
 after_effect app.Answer slot s = after_completion slot (after_answer slot s)
-after_effect (app.Set name value) slot s = after_completion slot (after_move (with_variable name value) slot s)
-after_effect (app.Unset name) slot s = after_completion slot (after_move (without_variable name) slot s)
-after_effect (app.Export name value) slot s = after_completion slot (after_move (with_export name value) slot s)
-after_effect (app.SetGlobal name value) slot s = after_completion slot (with_global name value s)
+after_effect (app.Assign how argument) slot s = after_completion slot (after_assignment how argument slot s)
 after_effect app.Eval slot s = after_completion slot s
 after_effect (app.Sleep milliseconds) slot s = after_sleep milliseconds slot s
 after_effect (app.Hangup cause) slot s = after_hangup cause slot s

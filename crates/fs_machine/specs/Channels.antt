@@ -4,13 +4,11 @@ use Rattle.fs_chan.specs.Changes.{asleep}
 use Rattle.fs_chan.specs.Work.{after_next}
 use Rattle.fs_machine.specs.declared.channels.ChanChange.{ChanChange}
 use Rattle.fs_machine.specs.declared.channels.ChanChange.TheVariants as change
-use Rattle.fs_machine.specs.Applications.{with_variable, without_variable, with_export}
+use Rattle.fs_machine.specs.Applications.{with_assignment}
 use Rattle.fs_machine.specs.Originations.{won_by}
 
 abbrev pub changed_by : ChanChange → Chan → Chan
 changed_by change.Pass c = after_next c
-changed_by (change.Set name value) c = with_variable name.now value.now c
-changed_by (change.Unset name) c = without_variable name.now c
-changed_by (change.Export name value) c = with_export name.now value.now c
+changed_by (change.Assign how argument) c = with_assignment how argument.now c
 changed_by (change.Sleep now milliseconds) c = asleep now milliseconds c
 changed_by (change.Win winner) c = won_by winner.now c

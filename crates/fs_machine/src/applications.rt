@@ -2,15 +2,13 @@
 
 ghost use Rattle.std.specs.Prelude.{◌≡◌, IfOk, OnOk};
 ghost use Rattle.fs_state.specs.Drafts.{drafted};
-ghost use Rattle.fs_state.specs.Moves.{after_move, after_answer, after_completion};
+ghost use Rattle.fs_state.specs.Moves.{after_answer, after_completion};
 ghost use Rattle.fs_app.specs.Applications.{IsShortApplication};
 ghost use Rattle.fs_machine.specs.Applications as spec;
-ghost use Rattle.fs_machine.specs.Channels.{changed_by};
 
 use crate::channels::{ChanChange, change_chan};
-use crate::globals::set_global;
 use fs_app::Application;
-use fs_chan::{Action, Chan};
+use fs_chan::{Action, Assignment, Chan};
 use fs_state::Draft;
 use fs_text::{Cause, Memory, State, Txt};
 use fs_vars::{Refused, Scope, expand};
@@ -91,14 +89,7 @@ fn apply_effect(draft: &mut Draft<'_>, slot: u16, asked: &Application) -> Result
 {
     match asked {
         Application::Answer => answer(draft, slot),
-        Application::Set { name, value } => change(draft, slot, ChanChange::Set { name, value }),
-        Application::Unset { name } => change(draft, slot, ChanChange::Unset { name }),
-        Application::Export { name, value } => change(
-            draft,
-            slot,
-            ChanChange::Export { name, value },
-        ),
-        Application::SetGlobal { name, value } => change_global(draft, slot, name, value),
+        Application::Assign { how, argument } => assign(draft, slot, *how, argument),
         Application::Eval => draft.complete(slot),
         Application::Sleep { milliseconds } => sleep(draft, slot, *milliseconds),
         Application::Hangup { cause } => draft.hang_up(slot, *cause),
@@ -117,23 +108,20 @@ fn answer(draft: &mut Draft<'_>, slot: u16) -> Result<(), Memory>
     draft.complete(slot)
 }
 
-// Changes a channel, which goes on at once.
-fn change(draft: &mut Draft<'_>, slot: u16, what: ChanChange<'_>) -> Result<(), Memory>
+// Sets a global, or sets a variable or takes it out, where no limit is passed; the channel goes on at once.
+fn assign(draft: &mut Draft<'_>, slot: u16, how: Assignment, argument: &Txt) -> Result<(), Memory>
     ensures base { draft.new.base ≡ draft.old.base }
-    ensures ok { OnOk result
-        (drafted draft.new ≡ after_completion slot (after_move (changed_by what.entry) slot (drafted draft.old))) }
+    ensures ok { OnOk result (drafted draft.new
+        ≡ after_completion slot (spec.after_assignment how argument.now slot (drafted draft.old))) }
 {
-    change_chan(draft, slot, what)?;
-    draft.complete(slot)
-}
-
-// Sets a global, where no limit is passed; the channel goes on at once.
-fn change_global(draft: &mut Draft<'_>, slot: u16, name: &Txt, value: &Txt) -> Result<(), Memory>
-    ensures base { draft.new.base ≡ draft.old.base }
-    ensures ok { OnOk result
-        (drafted draft.new ≡ after_completion slot (spec.with_global name.now value.now (drafted draft.old))) }
-{
-    let _set = set_global(draft, name, value)?;
+    match how {
+        Assignment::SetGlobal => {
+            let mut globals = draft.globals().copy()?;
+            how.apply(draft.alloc(), argument.as_bytes(), &mut globals)?;
+            draft.set_globals(globals);
+        }
+        _ => change_chan(draft, slot, ChanChange::Assign { how, argument })?,
+    }
     draft.complete(slot)
 }
 

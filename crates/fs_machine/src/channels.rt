@@ -6,7 +6,7 @@ ghost use Rattle.fs_state.specs.Moves.{after_move};
 ghost use Rattle.fs_machine.specs.Channels as spec;
 
 use crate::originations::win_by;
-use fs_chan::Chan;
+use fs_chan::{Assignment, Chan};
 use fs_orig::Winner;
 use fs_state::Draft;
 use fs_text::{Memory, Txt};
@@ -17,12 +17,8 @@ use std::alloc::Global;
 pub(crate) enum ChanChange<'a> {
     /// What it is to run next is used up.
     Pass,
-    /// A variable is set, where no limit is passed.
-    Set { name: &'a Txt, value: &'a Txt },
-    /// A variable is taken out.
-    Unset { name: &'a Txt },
-    /// A variable is set and exported, where no limit is passed.
-    Export { name: &'a Txt, value: &'a Txt },
+    /// A variable is set or taken out, where no limit is passed.
+    Assign { how: Assignment, argument: &'a Txt },
     /// It sleeps from a moment on.
     Sleep { now: u64, milliseconds: u64 },
     /// It is a leg that has won, and no leg any more: it has one thing to run, or is to be routed.
@@ -52,13 +48,7 @@ fn change_by(alloc: Global, chan: &mut Chan, change: ChanChange<'_>) -> Result<(
 {
     match change {
         ChanChange::Pass => chan.pass_action(),
-        ChanChange::Set { name, value } => {
-            let _set = chan.set(name.as_bytes(), value.as_bytes())?;
-        }
-        ChanChange::Unset { name } => chan.unset(name.as_bytes())?,
-        ChanChange::Export { name, value } => {
-            let _set = chan.export(alloc, name.as_bytes(), value.as_bytes())?;
-        }
+        ChanChange::Assign { how, argument } => chan.vars.assign(how, argument.as_bytes())?,
         ChanChange::Sleep { now, milliseconds } => chan.sleep(now, milliseconds),
         ChanChange::Win { winner } => win_by(alloc, chan, winner)?,
     }

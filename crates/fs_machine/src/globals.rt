@@ -2,8 +2,8 @@
 
 ghost use Rattle.std.specs.Prelude.{◌≡◌, IfOk, OnOk};
 ghost use Rattle.fs_vars.specs.Variables.{can_set};
+ghost use Rattle.fs_chan.specs.Exports.{with_set};
 ghost use Rattle.fs_state.specs.Drafts.{drafted};
-ghost use Rattle.fs_machine.specs.Applications as spec;
 
 use fs_state::Draft;
 use fs_text::{Memory, Txt};
@@ -12,7 +12,8 @@ use fs_text::{Memory, Txt};
 pub(crate) fn set_global(draft: &mut Draft<'_>, name: &Txt, value: &Txt) -> Result<bool, Memory>
     ensures base { draft.new.base ≡ draft.old.base }
     ensures answer { IfOk result (λ done. done ≡ can_set (drafted draft.old).globals name.now value.now) }
-    ensures ok { OnOk result (drafted draft.new ≡ spec.with_global name.now value.now (drafted draft.old)) }
+    ensures ok { OnOk result (drafted draft.new
+        ≡ record (drafted draft.old) { globals = with_set (drafted draft.old).globals name.now value.now }) }
 {
     let mut globals = draft.globals().copy()?;
     let done = globals.set(name.as_bytes(), value.as_bytes())?;

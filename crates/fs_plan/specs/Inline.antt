@@ -1,16 +1,17 @@
 -- What the applications do that run while the dialplan is searched.
-use Rattle.std.specs.Prelude.{if◌then◌else◌, codes}
-use Rattle.fs_text.specs.Words.{name_in, value_in}
+use Rattle.std.specs.Prelude.{Option, None, Some}
 use Rattle.fs_text.specs.Texts.{Text}
-use Rattle.fs_vars.specs.Pairs.{same_text, without}
-use Rattle.fs_chan.specs.Exports.{with_set, exported}
+use Rattle.fs_chan.specs.declared.assignment.Assignment.{Assignment}
+use Rattle.fs_chan.specs.declared.assignment.Assignment.TheVariants.{SetGlobal}
+use Rattle.fs_chan.specs.Assignments.{assignment_named, assigned}
 use Rattle.fs_plan.specs.declared.hunt.Hunt.{Hunt}
 
--- what an application does at once; any other does nothing
-unfoldable pub inline_done : Text → Text → Hunt → Hunt
-inline_done application argument s =
-    if same_text application (codes "set") then record s { vars = with_set s.vars (name_in argument) (value_in argument) }
-    else if same_text application (codes "unset") then record s { vars = record s.vars { pairs = without s.vars.pairs argument } }
-    else if same_text application (codes "export") then record s { vars = exported s.vars (name_in argument) (value_in argument) }
-    else if same_text application (codes "set_global") then record s { globals = with_set s.globals (name_in argument) (value_in argument) }
-    else s
+-- a global or a variable is set or taken out, or neither
+abbrev pub after_assignment : Option Assignment → Text → Hunt → Hunt
+after_assignment None argument s = s
+after_assignment (Some SetGlobal) argument s = record s { globals = assigned SetGlobal argument s.globals }
+after_assignment (Some how) argument s = record s { vars = assigned how argument s.vars }
+
+-- what an application does at once; any that sets nothing does nothing
+abbrev pub inline_done : Text → Text → Hunt → Hunt
+inline_done application argument s = after_assignment (assignment_named application) argument s

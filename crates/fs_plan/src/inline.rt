@@ -1,19 +1,15 @@
 //! The applications that run while the dialplan is searched.
 
 ghost use Rattle.std.specs.Prelude.{◌≡◌, OnOk};
-ghost use Rattle.fs_text.specs.Words.{name_in, value_in};
-ghost use Rattle.fs_chan.specs.Exports as exports;
 ghost use Rattle.fs_plan.specs.Inline as spec;
 
 use crate::hunt::Hunt;
-use fs_chan::exported;
-use fs_text::{Memory, cut_at};
-use fs_vars::Vars;
+use fs_chan::Assignment;
+use fs_text::Memory;
 use std::alloc::Global;
 
 impl Hunt {
-    /// Runs an inline application.
-    #[tactic(auto, unfolding(crate::specs::Inline::inline_done))]
+    /// Runs an inline application. One that sets no variable does nothing.
     pub(crate) fn run_inline(
         &mut self,
         alloc: Global,
@@ -22,37 +18,14 @@ impl Hunt {
     ) -> Result<(), Memory>
         ensures { OnOk result (self.new ≡ spec.inline_done application.now argument.now self.old) }
     {
-        if application == b"set".as_slice() {
-            set(&mut self.vars, argument)
-        } else if application == b"unset".as_slice() {
-            self.vars.unset(argument);
-            Ok(())
-        } else if application == b"export".as_slice() {
-            export(alloc, &mut self.vars, argument)
-        } else if application == b"set_global".as_slice() {
-            set(&mut self.globals, argument)
-        } else {
-            Ok(())
+        match Assignment::named(application) {
+            Some(Assignment::SetGlobal) => Assignment::SetGlobal.apply(
+                alloc,
+                argument,
+                &mut self.globals,
+            ),
+            Some(how) => how.apply(alloc, argument, &mut self.vars),
+            None => Ok(()),
         }
     }
-}
-
-/// Sets the variable that an argument names, where it can be set.
-fn set(vars: &mut Vars, argument: &[u8]) -> Result<(), Memory>
-    ensures { OnOk result (vars.new ≡ exports.with_set vars.old (name_in argument.now) (value_in argument.now)) }
-{
-    let (name, value) = cut_at(b'=', argument);
-    let _done = vars.set(name, value)?;
-    Ok(())
-}
-
-/// Sets and exports the variable that an argument names, where both can be done.
-fn export(alloc: Global, vars: &mut Vars, argument: &[u8]) -> Result<(), Memory>
-    ensures { OnOk result (vars.new ≡ exports.exported vars.old (name_in argument.now) (value_in argument.now)) }
-{
-    let (name, value) = cut_at(b'=', argument);
-    if let Some(done) = exported(alloc, vars, name, value)? {
-        *vars = done;
-    }
-    Ok(())
 }

@@ -1,6 +1,6 @@
 use Rattle.std.proofs.Common.{◌≡◌, length}
 use Rattle.fs_chan.specs.Exports.{is_listed}
-use Rattle.fs_chan.proofs.variables.is_listed.Given as goal
+use Rattle.fs_chan.proofs.exports.is_listed.Given as goal
 
 -- the name stands in the list where it stands in what is left
 abbrev pub invariant-names : goal.invariant-names

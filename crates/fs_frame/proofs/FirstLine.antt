@@ -1,51 +1,83 @@
--- The first line of a block that has a text.
-use Rattle.std.proofs.Common.{◌≡◌, ◌≢◌, ℕ, ◌-◌, ◌<◌, ◌≤◌, false, cond, List, [], ◌∷◌, ◌++◌, length, take, drop, get_or, ◌⊎◌, inl, inr, refl, sym, ap, ◌∙◌, append_assoc, arith}
-use Rattle.std.specs.List.{list_any, position_or_len}
-use Rattle.std.proofs.lemmas.List.{take_at, drop_at, length-drop}
-use Rattle.fs_frame.specs.Block.{is_lf, without_cr, lines_of, has_bytes, first_text}
-use Rattle.fs_frame.proofs.LineLaws.{position_or_len-none, text_of-content, lines_of-line, lines_of-none}
-use Rattle.fs_frame.proofs.ScanLaws.{ends_with_cr, ends_with_other, HasLf, first_lf, lf_at, no_line}
+-- The first line that has a text, where lines without one were passed.
+use Rattle.std.proofs.Common.{◌≡◌, ◌≢◌, ℕ, ◌+◌, ◌-◌, ◌≤◌, false, List, [], ◌∷◌, ◌++◌, length, take, drop, refl, sym, ap, ◌∙◌, append_assoc, arith, length-append}
+use Rattle.std.proofs.lemmas.List.{drop_at, drop-drop, take-append-le, length-drop, length-take-le}
+use Rattle.std.specs.List.{list_any}
+use Rattle.fs_frame.specs.Block.{is_lf, text_of, lines_of, first_text, line_of}
+use Rattle.fs_frame.specs.Front.{GoesOn, IsLineAt}
+use Rattle.fs_frame.proofs.LineLaws.{lines_of-line, lines_of-none, has_bytes-none, has_bytes-some}
 
--- ---- the CR at the end of a line
+-- the bytes from this place on have the line of all of them
+pub record StandsAhead (bytes : List ℕ) (start : ℕ) : Type 0 where
+  pub within : start ≤ length bytes
+  pub line_is : first_text (lines_of (drop start bytes)) ≡ line_of bytes
 
-pub cr_cut : (text : List ℕ) → 1 ≤ length text → get_or text (length text - 1) 0 ≡ 13 → take (length text - 1) text ≡ without_cr text
-cr_cut text some last = sym (ends_with_cr (length text - 1) text (omega (arith, some)) last)
+pub ahead_of_all : (bytes : List ℕ) → StandsAhead bytes 0
+unfolding line_of
+ahead_of_all bytes = record { within = omega arith; line_is = refl }
 
-pub cr_kept : (text : List ℕ) → 1 ≤ length text → get_or text (length text - 1) 0 ≢ 13 → text ≡ without_cr text
-cr_kept text some last = sym (ends_with_other (length text - 1) text (omega (arith, some)) last)
+-- the lines, where the bytes go on with one
+lines_here : (bytes : List ℕ) (text_len len : ℕ) (goes : GoesOn bytes text_len len) →
+    lines_of bytes ≡ (goes.content ++ 10 ∷ []) ∷ lines_of goes.more
+lines_here bytes text_len len goes =
+    ap lines_of (goes.split ∙ sym (append_assoc goes.content (10 ∷ []) goes.more))
+    ∙ lines_of-line (goes.content ++ 10 ∷ []) goes.more (record { content = goes.content; no_lf = goes.no_lf; spelling = refl })
 
--- ---- the first line
+text_here : (bytes : List ℕ) (text_len len : ℕ) (goes : GoesOn bytes text_len len) → text_of (goes.content ++ 10 ∷ []) ≡ take text_len bytes
+text_here bytes text_len len goes =
+    goes.text_is ∙ sym (ap (take text_len) goes.split ∙ take-append-le text_len goes.content (10 ∷ goes.more) goes.text_within)
 
--- the text in front of the first LF is the one looked for, or else that of the lines behind it
-pub first_line : (bytes : List ℕ) → 1 ≤ length (drop (position_or_len is_lf bytes) bytes) →
-    first_text (lines_of bytes) ≡ cond (has_bytes (without_cr (take (position_or_len is_lf bytes) bytes)))
-    (without_cr (take (position_or_len is_lf bytes) bytes))
-    (first_text (lines_of (drop 1 (drop (position_or_len is_lf bytes) bytes))))
-first_line bytes some = by (first_lf bytes)
+more_here : (bytes : List ℕ) (text_len len : ℕ) (goes : GoesOn bytes text_len len) → drop len bytes ≡ goes.more
+more_here bytes text_len len goes =
+    ap (drop len) (goes.split ∙ sym (append_assoc goes.content (10 ∷ []) goes.more))
+    ∙ drop_at (goes.content ++ 10 ∷ []) goes.more len (length-append goes.content (10 ∷ []) ∙ sym goes.len_is)
+
+-- a line with a text is the one
+pub found_here : (bytes : List ℕ) (start text_len len : ℕ) → StandsAhead bytes start → GoesOn (drop start bytes) text_len len →
+    text_len ≢ 0 → IsLineAt bytes (record { start = start; len = text_len })
+found_here bytes start text_len len ahead goes some = record {
+  within = omega (arith, ends, length-drop start bytes);
+  text = rw width (sym text ∙ ahead.line_is);
+}
   where
-    text : List ℕ → List ℕ → List ℕ
-    text content behind = cond (has_bytes (without_cr content)) (without_cr content) (first_text (lines_of behind))
+    line : List ℕ
+    line = goes.content ++ 10 ∷ []
 
-    of : (content more : List ℕ) → list_any is_lf content ≡ false → first_text (lines_of (content ++ 10 ∷ more)) ≡ text content more
-    of content more none =
-        ap (λ bs. first_text (lines_of bs)) (sym (append_assoc content (10 ∷ []) more))
-        ∙ ap first_text (lines_of-line (content ++ 10 ∷ []) more (record { content = content; no_lf = none; spelling = refl }))
-        ∙ ap (λ found. cond (has_bytes found) found (first_text (lines_of more))) (text_of-content content none)
+    ends : text_len ≤ length (drop start bytes)
+    ends = omega (arith, goes.text_within, ap length goes.split, length-append goes.content (10 ∷ goes.more))
 
-    by : HasLf bytes ⊎ (list_any is_lf bytes ≡ false) →
-        first_text (lines_of bytes) ≡ text (take (position_or_len is_lf bytes) bytes) (drop 1 (drop (position_or_len is_lf bytes) bytes))
-    by (inl has) =
-        let place : ℕ = position_or_len is_lf bytes in
-        let front : take place bytes ≡ has.content = ap (take place) has.split
-        ∙ take_at has.content (10 ∷ has.more) place (sym (lf_at bytes has)) in
-        let behind : drop 1 (drop place bytes) ≡ has.more = ap (λ bs. drop 1 (drop place bs)) has.split
-        ∙ ap (drop 1) (drop_at has.content (10 ∷ has.more) place (sym (lf_at bytes has))) in
-        ap (λ bs. first_text (lines_of bs)) has.split ∙ of has.content has.more has.no_lf ∙ sym (rw (front, behind) refl)
-    by (inr none) = absurd (omega (arith, some, position_or_len-none is_lf bytes none, length-drop (position_or_len is_lf bytes) bytes))
+    width : start + text_len - start ≡ text_len
+    width = omega arith
 
--- without an LF there is none
-pub none_first : (bytes : List ℕ) → length (drop (position_or_len is_lf bytes) bytes) < 1 → first_text (lines_of bytes) ≡ []
-none_first bytes none =
-    ap first_text
-    (lines_of-none bytes
-    (no_line bytes (drop (position_or_len is_lf bytes) bytes) (position_or_len is_lf bytes) refl refl (omega (arith, none))))
+    has : text_of line ≢ []
+    has empty = some (omega (arith, ap length (sym goes.text_is ∙ empty), length-take-le text_len goes.content goes.text_within))
+
+    text : first_text (lines_of (drop start bytes)) ≡ take text_len (drop start bytes)
+    text = rw (lines_here (drop start bytes) text_len len goes, has_bytes-some (text_of line) has) (text_here (drop start bytes) text_len len goes)
+
+-- behind a line without a text it stands ahead
+pub ahead_behind : (bytes : List ℕ) (start text_len len : ℕ) → StandsAhead bytes start → GoesOn (drop start bytes) text_len len →
+    text_len ≡ 0 → StandsAhead bytes (start + len)
+ahead_behind bytes start text_len len ahead goes none = record {
+  within = omega (arith, ends, length-drop start bytes);
+  line_is = rw (← drop-drop len start bytes, more_here (drop start bytes) text_len len goes) (sym text ∙ ahead.line_is);
+}
+  where
+    line : List ℕ
+    line = goes.content ++ 10 ∷ []
+
+    ends : len ≤ length (drop start bytes)
+    ends = omega (arith, goes.len_is, ap length goes.split, length-append goes.content (10 ∷ goes.more))
+
+    empty : text_of line ≡ []
+    empty = rw (goes.text_is, none) refl
+
+    text : first_text (lines_of (drop start bytes)) ≡ first_text (lines_of goes.more)
+    text = rw (lines_here (drop start bytes) text_len len goes, has_bytes-none (text_of line) empty) refl
+
+-- no line is left
+pub found_none : (bytes : List ℕ) (start : ℕ) → StandsAhead bytes start → list_any is_lf (drop start bytes) ≡ false →
+    IsLineAt bytes (record { start = 0; len = 0 })
+found_none bytes start ahead no_lf = record {
+  within = omega arith;
+  text = ap first_text (sym (lines_of-none (drop start bytes) no_lf)) ∙ ahead.line_is;
+}

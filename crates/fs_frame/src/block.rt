@@ -2,6 +2,7 @@
 
 ghost use Rattle.fs_frame.specs.Front.{IsLineAt};
 
+use crate::scan::find_line;
 use crate::span::Span;
 
 /// One block, lent from the buffer that found it.
@@ -16,6 +17,13 @@ impl<'a> Block<'a> {
     ghost use Rattle.std.specs.Prelude.{◌≡◌};
     ghost use Rattle.fs_frame.specs.Block.{line_of};
     ghost use Rattle.fs_frame.specs.Next.{bytes_of};
+
+    /// The block that these bytes are. They were handed out before, and kept.
+    pub fn of(bytes: &'a [u8]) -> Block<'a>
+        ensures { bytes_of result ≡ bytes.now }
+    {
+        Block::cut(bytes, find_line(bytes))
+    }
 
     /// The block of these bytes, whose line is this part of them.
     pub(crate) fn cut(bytes: &'a [u8], line: Span) -> Block<'a>

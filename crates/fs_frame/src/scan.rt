@@ -1,10 +1,10 @@
-//! A search for the end of a head, line by line.
+//! A search for the end of a head, or for its command line alone, line by line.
 
 ghost use Rattle.std.specs.Prelude.{◌≡◌, ◌+◌, ◌<◌, ◌≤◌, ◌^◌, ℕ, false};
 ghost use Rattle.std.specs.Prelude.{List, length, take, drop, None, MatchOption};
 ghost use Rattle.std.specs.List.{list_any, position_or_len};
 ghost use Rattle.fs_frame.specs.Block.{is_lf, without_cr};
-ghost use Rattle.fs_frame.specs.Front.{GoesOn, IsScanned, IsBehind};
+ghost use Rattle.fs_frame.specs.Front.{GoesOn, IsScanned, IsBehind, IsLineAt};
 
 use crate::front::Front;
 use crate::span::Span;
@@ -73,6 +73,23 @@ impl Scan {
             },
         }
     }
+}
+
+/// The text of the first line that has one.
+pub fn find_line(bytes: &[u8]) -> Span
+    ensures { IsLineAt bytes.now result }
+{
+    let mut start = 0;
+    while let Some(line) = next_line(&bytes[start..], 0) {
+        if line.text_len > 0 {
+            return Span {
+                start,
+                len: line.text_len,
+            };
+        }
+        start += line.len;
+    }
+    Span { start: 0, len: 0 }
 }
 
 /// The line with which the bytes go on, of which the first `searched` are not LF.

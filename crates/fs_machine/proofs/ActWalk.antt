@@ -1,5 +1,5 @@
 -- The walk goes on: jobs, commands and all acts.
-use Rattle.std.proofs.Common.{◌≡◌, ℕ, ◌*◌, arith, nat_lt, Bool, true, false, if◌then◌else◌, length, slice_get, Option, None, Some, refl}
+use Rattle.std.proofs.Common.{◌≡◌, ℕ, ◌*◌, arith, nat_lt, Bool, true, false, if◌then◌else◌, [], length, slice_get, Option, None, Some, refl}
 use Rattle.std.specs.Str.{bytes_eq}
 use Rattle.fs_text.specs.Texts.{Text}
 use Rattle.fs_text.specs.declared.causes.Cause.{Cause}
@@ -7,6 +7,9 @@ use Rattle.fs_text.specs.declared.causes.Cause.TheVariants.{NoAnswer, InvalidNum
 use Rattle.fs_vars.specs.Variables.{can_set, set_to}
 use Rattle.fs_vars.specs.Expansion.{expanded}
 use Rattle.fs_frame.specs.Block.{line_of}
+use Rattle.fs_cmd.specs.Commands as command
+use Rattle.fs_cmd.specs.Commands.{Command, command_of}
+use Rattle.fs_cmd.specs.Frames.{reply, api_reply, notice, accepted, invalid, bye, not_found}
 use Rattle.fs_api.specs.declared.api.Api.{Api}
 use Rattle.fs_api.specs.declared.api.Api.TheVariants as api
 use Rattle.fs_api.specs.Readings.{api_of, expanded_api_of}
@@ -34,13 +37,12 @@ use Rattle.fs_machine.specs.declared.entry.Closing.{Closing}
 use Rattle.fs_machine.specs.declared.entry.Closing.TheVariants as closing
 use Rattle.fs_machine.specs.declared.attempts.Attempt.{Attempt}
 use Rattle.fs_machine.specs.declared.originations.Caller.{Caller}
-use Rattle.fs_machine.specs.Texts.{ok, accepted, invalid, bye, not_found, notice, command_reply, api_response, spoken, too_many_jobs, failed_text}
+use Rattle.fs_machine.specs.Texts.{ok, too_many_jobs, failed_text}
 use Rattle.fs_machine.specs.Connections.{phase_at, conn_changed, admitted}
 use Rattle.fs_machine.specs.Attempts.{originate_begun, after_winning_at, after_verdict, after_verdict_from}
 use Rattle.fs_machine.specs.Jobs.{sleep_begun, after_job_work, job_done_from, job_done}
 use Rattle.fs_machine.specs.Api.{Done, says, no_answer_yet, kill_done, msleep_done, originate_done, done_plainly, done_by}
-use Rattle.fs_machine.specs.Commands as command
-use Rattle.fs_machine.specs.Commands.{Command, command_of, after_dismissal, after_password, with_response_of, command_done_in, command_done}
+use Rattle.fs_machine.specs.Commands.{with_reply, after_dismissal, after_password, with_response_of, command_done_in, command_done}
 use Rattle.fs_machine.specs.Step.{after_close, act_done}
 use Rattle.fs_machine.proofs.Kept.{Fact, KeptByCalls, DoesJob, KeptByJobs, LeavesBy, IsShortWinner, KeptByCommands, KeptByMoves}
 use Rattle.fs_machine.proofs.ShortLemmas.{NamesShort, api_short, expanded_short}
@@ -143,19 +145,19 @@ module _ (conn : ℕ) (P : Fact) (calls : KeptByCalls P) (commands : KeptByComma
 
   responded_kept : (answer : Option Text) {s : Switch} → P (Some 2) s → P (Some 2) (with_response_of conn answer s)
   responded_kept None h = h
-  responded_kept (Some answer) h = commands.gave (api_response (spoken answer)) h
+  responded_kept (Some answer) h = commands.gave (api_reply answer) h
 
   dismissed_kept : (why : Parting) (text : Text) {s : Switch} → LeavesBy why → P (Some 2) s → P (Some 2) (after_dismissal conn why text s)
-  dismissed_kept why text leaves h = commands.gave notice (commands.gave (command_reply text) (commands.parted why leaves h))
+  dismissed_kept why text leaves h = commands.gave notice (commands.gave (reply text []) (commands.parted why leaves h))
 
   offered_kept : (given : Text) {s : Switch} → phase_at s conn ≡ phase.Fresh → P (Some 2) s → P (Some 2) (after_password conn given s)
   offered_kept given {s} fresh h = by (bytes_eq given s.config.settings.password)
     where
       by : (same : Bool) →
           P (Some 2)
-          (if same then command.with_reply conn accepted (conn_changed admitted conn s)
+          (if same then with_reply conn accepted (conn_changed admitted conn s)
           else after_dismissal conn parting.AuthRefused invalid s)
-      by true = commands.gave (command_reply accepted) (commands.admitted fresh h)
+      by true = commands.gave (reply accepted []) (commands.admitted fresh h)
       by false = dismissed_kept parting.AuthRefused invalid tt h
 
   pub commanded_kept : (c : Command) {s : Switch} → P None s → P (Some 2) (command_done conn c s)
@@ -165,13 +167,13 @@ module _ (conn : ℕ) (P : Fact) (calls : KeptByCalls P) (commands : KeptByComma
       by : (at : Phase) → phase_at s conn ≡ at → (given : Command) → P (Some 2) (command_done_in at conn given s)
       by phase.Fresh is (command.Auth given) = offered_kept given is (drew_none h)
       by phase.Fresh is command.Exit = dismissed_kept parting.Exit bye tt (drew_none h)
-      by phase.Fresh is (command.Api text) = commands.gave (command_reply not_found) (drew_none h)
-      by phase.Fresh is command.Unknown = commands.gave (command_reply not_found) (drew_none h)
-      by phase.Ready is (command.Auth given) = commands.gave (command_reply not_found) (drew_none h)
+      by phase.Fresh is (command.Api text) = commands.gave (reply not_found []) (drew_none h)
+      by phase.Fresh is command.Unknown = commands.gave (reply not_found []) (drew_none h)
+      by phase.Ready is (command.Auth given) = commands.gave (reply not_found []) (drew_none h)
       by phase.Ready is command.Exit = dismissed_kept parting.Exit bye tt (drew_none h)
       by phase.Ready is (command.Api text) =
           responded_kept (done_by conn (api_of text) s).answer (done_kept (api_of text) (api_short text) h)
-      by phase.Ready is command.Unknown = commands.gave (command_reply not_found) (drew_none h)
+      by phase.Ready is command.Unknown = commands.gave (reply not_found []) (drew_none h)
       by phase.Ending is given = drew_none h
       by phase.Closed is given = drew_none h
 

@@ -6,6 +6,7 @@ use Rattle.fs_doc.specs.Reading.{Configuration}
 use Rattle.fs_places.specs.Places.{least_free}
 use Rattle.fs_places.specs.Rows.{place_of, row_of, with_new_row}
 use Rattle.fs_places.proofs.RowLemmas.{row_none, row_of-without_row_other, row_of-with_new_row_same, row_of-with_new_row_other}
+use Rattle.fs_cmd.specs.Frames.{auth_request}
 use Rattle.fs_state.specs.declared.conn.Phase.{Phase}
 use Rattle.fs_state.specs.declared.conn.Phase.TheVariants.{Fresh, Ready, Ending, Closed}
 use Rattle.fs_state.specs.Drawn as numbers
@@ -15,7 +16,6 @@ use Rattle.fs_machine.specs.declared.entry.Act.{Act}
 use Rattle.fs_machine.specs.declared.entry.Act.TheVariants.{Arrive, Command, Take, Close, Work, Job}
 use Rattle.fs_machine.specs.declared.entry.Closing.TheVariants.{EndOfInput, Sent, Failed}
 use Rattle.fs_machine.specs.declared.refusal.Refusal.TheVariants as refusal
-use Rattle.fs_machine.specs.Texts.{auth_request}
 use Rattle.fs_machine.specs.Entries.{cost_of}
 use Rattle.fs_machine.specs.Connections.{phase_of, phase_at}
 use Rattle.fs_machine.specs.Questions.{owed_to}

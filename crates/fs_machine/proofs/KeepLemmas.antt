@@ -4,6 +4,7 @@ use Rattle.std.proofs.lemmas.Bool.{cases_eq}
 use Rattle.std.proofs.lemmas.Option.{same_Some, none-some}
 use Rattle.fs_text.specs.Texts.{Text}
 use Rattle.fs_frame.specs.Block.{line_of}
+use Rattle.fs_cmd.specs.Commands.{Command, command_of}
 use Rattle.fs_orig.specs.declared.leg.OrigLeg.{OrigLeg}
 use Rattle.fs_orig.specs.declared.winner.Winner.{Winner}
 use Rattle.fs_places.specs.declared.numbered.Numbered.{Numbered}
@@ -30,7 +31,7 @@ use Rattle.fs_machine.specs.Originations.{Made, leg_made, after_winning}
 use Rattle.fs_machine.specs.Attempts.{orig_begun, tried_by_job, originate_begun}
 use Rattle.fs_machine.specs.Jobs.{job_done}
 use Rattle.fs_machine.specs.Owing.{after_job_begin, after_job_end}
-use Rattle.fs_machine.specs.Commands.{Command, command_of, command_done}
+use Rattle.fs_machine.specs.Commands.{command_done}
 use Rattle.fs_machine.specs.Work.{after_work}
 use Rattle.fs_machine.specs.Step.{is_closed, act_done}
 use Rattle.fs_machine.proofs.Kept.{Fact, KeptByCalls, KeptByJobs, LeavesBy, KeptByCommands}

@@ -4,6 +4,7 @@ use Rattle.std.specs.Option.{option_and_then}
 use Rattle.std.proofs.lemmas.Bool.{false≢true, not-false}
 use Rattle.fs_text.specs.Texts.{Text}
 use Rattle.fs_frame.specs.Block.{line_of}
+use Rattle.fs_cmd.specs.Commands.{command_of}
 use Rattle.fs_orig.specs.declared.leg.OrigLeg.{OrigLeg}
 use Rattle.fs_orig.specs.declared.winner.Winner.{Winner}
 use Rattle.fs_places.specs.Places.{least_free}
@@ -29,7 +30,6 @@ use Rattle.fs_machine.specs.Questions.{owed_of, owed_to}
 use Rattle.fs_machine.specs.Originations.{after_winning}
 use Rattle.fs_machine.specs.Attempts.{originate_begun}
 use Rattle.fs_machine.specs.Owing.{after_job_begin, after_job_end}
-use Rattle.fs_machine.specs.Commands.{command_of}
 use Rattle.fs_machine.specs.Step.{reads, busy, refused_act, after_close, act_done}
 use Rattle.fs_machine.specs.Owed.{PartsIn}
 use Rattle.fs_machine.proofs.Kept.{Stage, Fact, KeptByCalls, DoesJob, KeptByJobs, KeptByCommands}

@@ -1,37 +1,21 @@
--- How a command line is read, and what the commands do.
-use Rattle.std.specs.Prelude.{ℕ, Option, None, Some, codes, if◌then◌else◌}
+-- What the commands of the event socket do.
+use Rattle.std.specs.Prelude.{ℕ, [], Option, None, Some, if◌then◌else◌}
 use Rattle.std.specs.Str.{bytes_eq}
-use Rattle.fs_text.specs.Words.{word_of, behind_byte}
 use Rattle.fs_text.specs.Texts.{Text}
+use Rattle.fs_cmd.specs.Commands.{Command, Auth, Exit, Api, Unknown}
+use Rattle.fs_cmd.specs.Frames.{reply, api_reply, notice, accepted, invalid, bye, not_found}
 use Rattle.fs_api.specs.Readings.{api_of}
 use Rattle.fs_state.specs.declared.conn.Phase.{Phase}
 use Rattle.fs_state.specs.declared.conn.Phase.TheVariants.{Fresh, Ready, Ending, Closed}
 use Rattle.fs_state.specs.declared.conn.Parting.{Parting}
 use Rattle.fs_state.specs.declared.conn.Parting.TheVariants as parting
 use Rattle.fs_state.specs.Switch.{Switch, with_gift}
-use Rattle.fs_machine.specs.Texts.{command_reply, api_response, notice, accepted, invalid, bye, not_found, spoken}
 use Rattle.fs_machine.specs.Connections.{phase_at, conn_changed, admitted, parted}
 use Rattle.fs_machine.specs.Api.{Done, done_by}
 
--- a command of the event socket
-pub data Command : Type 0 where
-  Auth : Text → Command
-  Exit : Command
-  Api : Text → Command
-  Unknown : Command
-
--- the command that a line is
-unfoldable pub command_of : Text → Command
-command_of line =
-    if bytes_eq (word_of line) (codes "auth") then Auth (behind_byte 32 line)
-    else (if bytes_eq (word_of line) (codes "exit") then Exit
-    else (if bytes_eq (word_of line) (codes "api") then Api (behind_byte 32 line) else Unknown))
-
--- ---- what commands do
-
 -- a reply
 abbrev pub with_reply : ℕ → Text → Switch → Switch
-with_reply conn text s = with_gift conn (command_reply text) s
+with_reply conn text s = with_gift conn (reply text []) s
 
 -- a last reply, and the notice
 abbrev pub after_dismissal : ℕ → Parting → Text → Switch → Switch
@@ -47,7 +31,7 @@ after_password conn given s =
 -- an answer, unless it is owed
 abbrev pub with_response_of : ℕ → Option Text → Switch → Switch
 with_response_of conn None s = s
-with_response_of conn (Some answer) s = with_gift conn (api_response (spoken answer)) s
+with_response_of conn (Some answer) s = with_gift conn (api_reply answer) s
 
 -- an api command was done
 abbrev pub with_response : ℕ → Done → Switch

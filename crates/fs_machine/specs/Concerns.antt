@@ -1,11 +1,11 @@
 -- How an entry of a run concerns one connection: it is its own, one of others, or the one by which it comes.
 use Rattle.std.specs.Prelude.{◌≡◌, ◌≢◌, ℕ, true, false, [], ◌∷◌, ◌++◌, Option, None, Some, ◌⊎◌}
+use Rattle.fs_cmd.specs.Frames.{auth_request}
 use Rattle.fs_state.specs.declared.conn.Phase.TheVariants.{Fresh, Closed}
 use Rattle.fs_state.specs.Switch.{Switch, waiting_for}
 use Rattle.fs_machine.specs.declared.entry.Entry.{Entry}
 use Rattle.fs_machine.specs.declared.entry.Act.{Act}
 use Rattle.fs_machine.specs.declared.entry.Act.TheVariants.{Arrive, Command, Take, Close, Work, Job}
-use Rattle.fs_machine.specs.Texts.{auth_request}
 use Rattle.fs_machine.specs.Connections.{phase_at}
 use Rattle.fs_machine.specs.Questions.{owed_to}
 use Rattle.fs_machine.specs.Step.{is_closed, step}

@@ -13,7 +13,6 @@ pub mod Attempts
 pub mod Jobs
 pub mod Api
 pub mod Commands
-pub mod Readings
 pub mod Step
 pub mod Frames
 pub mod Owed

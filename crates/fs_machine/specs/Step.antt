@@ -1,6 +1,8 @@
 -- Which entries are refused, and what the others do.
 use Rattle.std.specs.Prelude.{◌≡◌, ◌≢◌, ℕ, ◌-◌, ◌^◌, min, ◌==◌, ◌||◌, not, Bool, true, false, [], length, Option, None, Some, is_some, unwrap_or, slice_get, if◌then◌else◌}
 use Rattle.fs_frame.specs.Block.{line_of}
+use Rattle.fs_cmd.specs.Commands.{command_of}
+use Rattle.fs_cmd.specs.Frames.{auth_request}
 use Rattle.fs_chan.specs.declared.due.Due.{Due}
 use Rattle.fs_chan.specs.declared.due.Due.TheVariants.{Now, At}
 use Rattle.fs_state.specs.declared.conn.Conn.{Conn}
@@ -18,14 +20,13 @@ use Rattle.fs_machine.specs.declared.reply.Reply.{Reply}
 use Rattle.fs_machine.specs.declared.reply.Reply.TheVariants as reply
 use Rattle.fs_machine.specs.declared.refusal.Refusal.{Refusal}
 use Rattle.fs_machine.specs.declared.refusal.Refusal.TheVariants as refusal
-use Rattle.fs_machine.specs.Texts.{auth_request}
 use Rattle.fs_machine.specs.Entries.{cost_of, is_full}
 use Rattle.fs_machine.specs.Connections.{phase_at, conn_changed, parted}
 use Rattle.fs_machine.specs.Questions.{owed_to}
 use Rattle.fs_machine.specs.Due.{slot_due, job_due}
 use Rattle.fs_machine.specs.Work.{after_work}
 use Rattle.fs_machine.specs.Jobs.{job_done}
-use Rattle.fs_machine.specs.Commands.{command_of, command_done}
+use Rattle.fs_machine.specs.Commands.{command_done}
 
 -- ---- refusals
 

@@ -5,15 +5,15 @@ ghost use Rattle.fs_state.specs.declared.delta.QueueChange.TheVariants.{Unchange
 ghost use Rattle.fs_state.specs.Drafts.{drafted};
 ghost use Rattle.fs_machine.specs.Step as spec;
 
-use crate::blocks::line_of;
-use crate::commands::{command_of, do_command};
+use crate::commands::do_command;
 use crate::connections::part;
 use crate::entry::{Act, Closing};
 use crate::jobs::do_job;
 use crate::questions::owed_to;
 use crate::reply::Reply;
-use crate::texts::auth_request;
 use crate::work::work;
+use fs_cmd::{Command, auth_request};
+use fs_frame::Block;
 use fs_plan::Dialplan;
 use fs_state::{Conn, Draft, Parting, Phase};
 use fs_text::{Memory, Txt};
@@ -28,7 +28,7 @@ pub(crate) fn do_act(draft: &mut Draft<'_>, plan: &Dialplan, act: &Act) -> Resul
     match act {
         Act::Arrive => arrive(draft),
         Act::Command { conn, block } => {
-            do_command(draft, *conn, command_of(line_of(block.as_bytes())))?;
+            do_command(draft, *conn, Command::of(&Block::of(block.as_bytes())))?;
             let owed = owed_to(draft, *conn).is_some();
             Ok(Reply::Queued { owed })
         }

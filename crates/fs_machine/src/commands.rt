@@ -1,51 +1,23 @@
-//! How a command line is read, and what the commands do.
+//! What the commands of the event socket do.
 
 ghost use Rattle.std.specs.Prelude.{◌≡◌, OnOk};
 ghost use Rattle.std.specs.Str.{bytes_eq};
+ghost use Rattle.fs_cmd.specs.Commands.{read_of};
+ghost use Rattle.fs_cmd.specs.Frames.{not_found};
 ghost use Rattle.fs_api.specs.Readings.{api_of};
 ghost use Rattle.fs_state.specs.Drafts.{drafted};
 ghost use Rattle.fs_machine.specs.Api.{done_by};
 ghost use Rattle.fs_machine.specs.Commands as spec;
-ghost use Rattle.fs_machine.specs.Readings.{read_of};
 
 use crate::api::run_api;
 use crate::connections::{admit, part, phase_at};
-use crate::texts::{command_reply, notice, speak};
 use fs_api::Api;
+use fs_cmd::{Command, api_reply, notice, reply};
 use fs_state::{Draft, Parting, Phase};
-use fs_text::{Memory, cut_at};
-
-/// A command of the event socket, lent from its line.
-#[derive(Clone, Copy)]
-pub(crate) enum Command<'a> {
-    /// A password is offered.
-    Auth { password: &'a [u8] },
-    /// The connection is to end.
-    Exit,
-    /// An api command is to run.
-    Api { text: &'a [u8] },
-    Unknown,
-}
-
-/// The command that a line is.
-#[tactic(auto, unfolding(crate::specs::Commands::command_of))]
-pub(crate) fn command_of(line: &[u8]) -> Command<'_>
-    ensures { read_of result ≡ spec.command_of line.now }
-{
-    let (word, behind) = cut_at(b' ', line);
-    if word == b"auth".as_slice() {
-        Command::Auth { password: behind }
-    } else if word == b"exit".as_slice() {
-        Command::Exit
-    } else if word == b"api".as_slice() {
-        Command::Api { text: behind }
-    } else {
-        Command::Unknown
-    }
-}
+use fs_text::Memory;
 
 /// Does a command of a connection.
-#[tactic(auto, unfolding(crate::specs::Commands::command_done, crate::specs::Texts::bye, crate::specs::Texts::not_found))]
+#[tactic(auto, unfolding(crate::specs::Commands::command_done, fs_cmd::specs::Frames::bye))]
 pub(crate) fn do_command(
     draft: &mut Draft<'_>,
     conn: u32,
@@ -59,16 +31,25 @@ pub(crate) fn do_command(
         (_, Command::Exit) => begin_ending(draft, conn, Parting::Exit, b"+OK bye"),
         (Phase::Fresh, Command::Auth { password }) => authenticate(draft, conn, password),
         (Phase::Ready, Command::Api { text }) => respond(draft, conn, text),
-        _ => reply(draft, conn, b"-ERR command not found"),
+        _ => refuse(draft, conn),
     }
 }
 
+// Replies that there is no such command.
+#[tactic(auto, unfolding(fs_cmd::specs::Frames::not_found))]
+fn refuse(draft: &mut Draft<'_>, conn: u32) -> Result<(), Memory>
+    ensures base { draft.new.base ≡ draft.old.base }
+    ensures ok { OnOk result (drafted draft.new ≡ spec.with_reply conn not_found (drafted draft.old)) }
+{
+    give_reply(draft, conn, b"-ERR command not found")
+}
+
 // Replies to a command.
-fn reply(draft: &mut Draft<'_>, conn: u32, text: &[u8]) -> Result<(), Memory>
+fn give_reply(draft: &mut Draft<'_>, conn: u32, text: &[u8]) -> Result<(), Memory>
     ensures base { draft.new.base ≡ draft.old.base }
     ensures ok { OnOk result (drafted draft.new ≡ spec.with_reply conn text.now (drafted draft.old)) }
 {
-    let frame = command_reply(draft.alloc(), text)?;
+    let frame = reply(draft.alloc(), text, &[])?;
     draft.give(conn, frame)
 }
 
@@ -78,13 +59,13 @@ fn begin_ending(draft: &mut Draft<'_>, conn: u32, why: Parting, text: &[u8]) -> 
     ensures ok { OnOk result (drafted draft.new ≡ spec.after_dismissal conn why text.now (drafted draft.old)) }
 {
     part(draft, conn, why)?;
-    reply(draft, conn, text)?;
+    give_reply(draft, conn, text)?;
     let frame = notice(draft.alloc())?;
     draft.give(conn, frame)
 }
 
 // Judges the password that is offered.
-#[tactic(auto, unfolding(crate::specs::Texts::accepted, crate::specs::Texts::invalid))]
+#[tactic(auto, unfolding(fs_cmd::specs::Frames::accepted, fs_cmd::specs::Frames::invalid))]
 fn authenticate(draft: &mut Draft<'_>, conn: u32, given: &[u8]) -> Result<(), Memory>
     ensures base { draft.new.base ≡ draft.old.base }
     ensures ok { OnOk result (drafted draft.new ≡ spec.after_password conn given.now (drafted draft.old)) }
@@ -93,7 +74,7 @@ fn authenticate(draft: &mut Draft<'_>, conn: u32, given: &[u8]) -> Result<(), Me
         return begin_ending(draft, conn, Parting::AuthRefused, b"-ERR invalid");
     }
     admit(draft, conn)?;
-    reply(draft, conn, b"+OK accepted")
+    give_reply(draft, conn, b"+OK accepted")
 }
 
 // Whether this is the password.
@@ -114,6 +95,6 @@ fn respond(draft: &mut Draft<'_>, conn: u32, text: &[u8]) -> Result<(), Memory>
     let Some(answer) = run_api(draft, conn, &api)? else {
         return Ok(());
     };
-    let frame = speak(alloc, answer.as_bytes())?;
+    let frame = api_reply(alloc, answer.as_bytes())?;
     draft.give(conn, frame)
 }

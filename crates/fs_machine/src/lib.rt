@@ -5,7 +5,6 @@ mod acts;
 mod api;
 mod applications;
 mod attempts;
-mod blocks;
 mod channels;
 mod commands;
 mod connections;

@@ -4,7 +4,7 @@ ghost use Rattle.fs_state.specs.Drafts.{drafted};
 ghost use Rattle.fs_machine.specs.Owing as spec;
 
 use crate::connections::{owe, settle};
-use crate::texts::speak;
+use fs_cmd::api_reply;
 use fs_state::{Draft, Job, JobWork};
 use fs_text::Memory;
 
@@ -30,6 +30,6 @@ pub(crate) fn end_job(
 {
     draft.drop_job(number)?;
     settle(draft, conn)?;
-    let frame = speak(draft.alloc(), answer)?;
+    let frame = api_reply(draft.alloc(), answer)?;
     draft.give(conn, frame)
 }

@@ -1,0 +1,49 @@
+-- The frames that a connection is sent.
+use Rattle.std.specs.Prelude.{ℕ, List, map, ◌++◌, ◌==◌, length, codes, if◌then◌else◌}
+use Rattle.std.specs.List.{concat}
+use Rattle.std.specs.Fmt.{decimal}
+
+-- the first frame of a connection
+unfoldable pub auth_request : List ℕ
+auth_request = codes "Content-Type: auth/request\n\n"
+
+-- the line of a header
+abbrev pub header_line : List ℕ × List ℕ → List ℕ
+header_line header = header.0 ++ codes ": " ++ header.1 ++ codes "\n"
+
+-- the reply to a command, with further headers
+unfoldable pub reply : List ℕ → List (List ℕ × List ℕ) → List ℕ
+reply text more =
+    codes "Content-Type: command/reply\n" ++ header_line (codes "Reply-Text", text) ++ concat (map header_line more) ++ codes "\n"
+
+-- a frame of this type with a body
+unfoldable pub with_body : List ℕ → List ℕ → List ℕ
+with_body content_type body =
+    codes "Content-Type: " ++ content_type ++ codes "\nContent-Length: " ++ decimal (length body) ++ codes "\n\n" ++ body
+
+-- an answer as it is sent: an empty one is told in words
+unfoldable pub spoken : List ℕ → List ℕ
+spoken answer = if length answer == 0 then codes "-ERR no reply\n" else answer
+
+-- the frame with the answer of an api command
+unfoldable pub api_reply : List ℕ → List ℕ
+api_reply answer = with_body (codes "api/response") (spoken answer)
+
+-- the last frame of a connection that the switch ends
+unfoldable pub notice : List ℕ
+notice =
+    with_body (codes "text/disconnect-notice") (codes "Disconnected, goodbye.\nSee you at ClueCon! http://www.cluecon.com/\n")
+
+-- ---- the texts of replies
+
+unfoldable pub accepted : List ℕ
+accepted = codes "+OK accepted"
+
+unfoldable pub invalid : List ℕ
+invalid = codes "-ERR invalid"
+
+unfoldable pub bye : List ℕ
+bye = codes "+OK bye"
+
+unfoldable pub not_found : List ℕ
+not_found = codes "-ERR command not found"

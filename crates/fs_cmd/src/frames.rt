@@ -1,0 +1,81 @@
+//! The frames that a connection is sent.
+
+ghost use Rattle.std.specs.Prelude.{◌≡◌, ◌++◌, IfOk, OnOk};
+ghost use Rattle.fs_cmd.specs.Frames as spec;
+
+use fs_text::{Memory, Txt};
+use itoa::Buffer;
+use std::alloc::Global;
+
+// The bytes that are set aside for the headers of a frame, so that it is formed in one buffer.
+const HEADER_ROOM: usize = 80;
+
+/// The first frame of a connection.
+#[tactic(auto, unfolding(crate::specs::Frames::auth_request))]
+pub fn auth_request(alloc: Global) -> Result<Txt, Memory>
+    ensures { IfOk result (λ t. t ≡ spec.auth_request) }
+{
+    Txt::of(alloc, b"Content-Type: auth/request\n\n")
+}
+
+/// The reply to a command, with further headers.
+#[tactic(auto, unfolding(crate::specs::Frames::reply))]
+pub fn reply(alloc: Global, text: &[u8], more: &[(Txt, Txt)]) -> Result<Txt, Memory>
+    ensures { IfOk result (λ t. t ≡ spec.reply text.now more.now) }
+{
+    let mut frame = Vec::with_capacity(alloc, text.len().saturating_add(HEADER_ROOM))?;
+    frame.extend_from_slice(b"Content-Type: command/reply\n")?;
+    push_header(&mut frame, b"Reply-Text", text)?;
+    for (name, value) in more {
+        push_header(&mut frame, name.as_bytes(), value.as_bytes())?;
+    }
+    frame.push(b'\n')?;
+    Txt::from_vec(frame)
+}
+
+// Adds the line of a header.
+fn push_header(frame: &mut Vec<u8>, name: &[u8], value: &[u8]) -> Result<(), Memory>
+    ensures { OnOk result (frame.new.items ≡ frame.old.items ++ spec.header_line (name.now, value.now)) }
+{
+    frame.extend_from_slice(name)?;
+    frame.extend_from_slice(b": ")?;
+    frame.extend_from_slice(value)?;
+    frame.push(b'\n')?;
+    Ok(())
+}
+
+/// The frame with the answer of an api command. An empty answer is told in words.
+#[tactic(auto, unfolding(crate::specs::Frames::api_reply, crate::specs::Frames::spoken))]
+pub fn api_reply(alloc: Global, answer: &[u8]) -> Result<Txt, Memory>
+    ensures { IfOk result (λ t. t ≡ spec.api_reply answer.now) }
+{
+    match answer {
+        [] => with_body(alloc, b"api/response", b"-ERR no reply\n"),
+        answer => with_body(alloc, b"api/response", answer),
+    }
+}
+
+/// The last frame of a connection that the switch ends.
+#[tactic(auto, unfolding(crate::specs::Frames::notice))]
+pub fn notice(alloc: Global) -> Result<Txt, Memory>
+    ensures { IfOk result (λ t. t ≡ spec.notice) }
+{
+    let farewell = b"Disconnected, goodbye.\nSee you at ClueCon! http://www.cluecon.com/\n";
+    with_body(alloc, b"text/disconnect-notice", farewell)
+}
+
+// A frame of this type with a body.
+#[tactic(auto, unfolding(crate::specs::Frames::with_body))]
+fn with_body(alloc: Global, content_type: &[u8], body: &[u8]) -> Result<Txt, Memory>
+    ensures { IfOk result (λ t. t ≡ spec.with_body content_type.now body.now) }
+{
+    let mut digits = Buffer::new();
+    let mut frame = Vec::with_capacity(alloc, body.len().saturating_add(HEADER_ROOM))?;
+    frame.extend_from_slice(b"Content-Type: ")?;
+    frame.extend_from_slice(content_type)?;
+    frame.extend_from_slice(b"\nContent-Length: ")?;
+    frame.extend_from_slice(digits.format(body.len()).as_bytes())?;
+    frame.extend_from_slice(b"\n\n")?;
+    frame.extend_from_slice(body)?;
+    Txt::from_vec(frame)
+}

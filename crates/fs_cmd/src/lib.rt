@@ -1,0 +1,8 @@
+//! The commands of the event socket, as their lines are read, and the frames that a connection is sent.
+#![tactic(auto)]
+
+mod command;
+mod frames;
+
+pub use command::Command;
+pub use frames::{api_reply, auth_request, notice, reply};

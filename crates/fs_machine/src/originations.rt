@@ -7,7 +7,7 @@ ghost use Rattle.fs_state.specs.Switch.{identifier_of, with_next_identifier, fre
 ghost use Rattle.fs_machine.specs.Originations as spec;
 
 use fs_chan::{Action, Actions, ActionsLeft, Chan, Direction, SharedVars, Target3, Wait};
-use fs_orig::{Endpoint, OrigLeg, Route, Winner};
+use fs_orig::{Caller, Endpoint, OrigLeg, Route, Winner};
 use fs_state::Draft;
 use fs_text::{Cause, Memory, State, Txt};
 use fs_vars::{Bounds, Profile, Vars};
@@ -15,13 +15,6 @@ use std::alloc::Global;
 
 /// The most bytes of a caller id.
 const LONGEST_CALLER_ID: usize = 256;
-
-/// Who calls.
-#[derive(Drop)]
-pub(crate) struct Caller {
-    pub(crate) name: Txt,
-    pub(crate) number: Txt,
-}
 
 // A call over the loopback.
 pub(crate) struct Call {

@@ -235,7 +235,10 @@ fn dial_legs(
 fn is_bare(group: &LegGroup) -> bool
     ensures { result ≡ spec.is_bare group.now }
 {
-    group.as_slice().iter().all(|plan| plan.pairs.pairs().is_empty())
+    group
+        .as_slice()
+        .iter()
+        .all(|plan| plan.pairs.pairs().is_empty())
 }
 
 // ---- globals

@@ -1,6 +1,6 @@
 -- What an api command answers, and what it does to the switch.
-use Rattle.std.specs.Prelude.{◌≡◌, ℕ, nat_lt, [], ◌++◌, length, map, Bool, Option, None, Some, is_some, unwrap_or, codes, if◌then◌else◌}
-use Rattle.std.specs.List.{concat}
+use Rattle.std.specs.Prelude.{◌≡◌, ℕ, ◌==◌, nat_lt, List, [], ◌++◌, length, map, Bool, Option, None, Some, is_some, unwrap_or, Result, Ok, Err, codes, if◌then◌else◌}
+use Rattle.std.specs.List.{concat, list_all}
 use Rattle.std.specs.Option.{option_and_then}
 use Rattle.fs_text.specs.Texts.{Text}
 use Rattle.fs_text.specs.declared.causes.Cause.{Cause}
@@ -13,12 +13,15 @@ use Rattle.fs_api.specs.declared.api.Api.TheVariants as api
 use Rattle.fs_api.specs.Readings.{expanded_api_of}
 use Rattle.fs_api.specs.Usages.{usage_of}
 use Rattle.fs_chan.specs.declared.chan.Chan.{Chan}
+use Rattle.fs_dial.specs.declared.fault.DialFault.{DialFault}
+use Rattle.fs_dial.specs.DialStrings.{Dial, dial_string}
+use Rattle.fs_orig.specs.declared.caller.Caller.{Caller}
+use Rattle.fs_orig.specs.declared.plan.LegPlan.{LegPlan}
 use Rattle.fs_orig.specs.declared.winner.Winner.{Winner}
-use Rattle.fs_orig.specs.Endpoints.{is_one_leg}
+use Rattle.fs_orig.specs.Plans.{plans_of}
 use Rattle.fs_state.specs.Switch.{Switch, chan_at, slot_named, is_full_of_jobs}
 use Rattle.fs_state.specs.Moves.{after_hangup}
 use Rattle.fs_machine.specs.Texts.{ok, yes, no, limit_passed, too_long_text, usage_text, api_not_found, no_channel, undefined, too_many_jobs, failed_text}
-use Rattle.fs_machine.specs.declared.originations.Caller.{Caller}
 use Rattle.fs_machine.specs.Attempts.{originate_begun}
 use Rattle.fs_machine.specs.Jobs.{sleep_begun}
 
@@ -86,12 +89,20 @@ chan_named uuid s = option_and_then (chan_at s) (slot_named uuid s)
 abbrev pub msleep_done : ℕ → ℕ → Switch → Done
 msleep_done conn milliseconds s = if is_full_of_jobs s then says too_many_jobs s else no_answer_yet (sleep_begun conn milliseconds s)
 
--- a dial string of several legs, or with variables, is not built yet
+-- no leg has variables
+abbrev pub is_bare : List LegPlan → Bool
+is_bare plans = list_all (λ plan. length plan.pairs == 0) plans
+
+-- the legs of a dial string are tried, unless it has a fault; variables of legs are not built yet
+abbrev pub dialled : ℕ → Result Dial DialFault → Winner → Caller → Option ℕ → Switch → Done
+dialled conn (Err fault) winner caller timeout s = says (failed_text InvalidNumberFormat) s
+dialled conn (Ok dial) winner caller timeout s =
+    if list_all is_bare (plans_of dial) then no_answer_yet (originate_begun conn (plans_of dial) winner caller timeout s)
+    else says (failed_text InvalidNumberFormat) s
+
 abbrev pub originate_done : ℕ → Text → Winner → Caller → Option ℕ → Switch → Done
 originate_done conn url winner caller timeout s =
-    if is_full_of_jobs s then says too_many_jobs s
-    else (if is_one_leg url then no_answer_yet (originate_begun conn url winner caller timeout s)
-    else says (failed_text InvalidNumberFormat) s)
+    if is_full_of_jobs s then says too_many_jobs s else dialled conn (dial_string url) winner caller timeout s
 
 -- ---- commands
 

@@ -33,7 +33,7 @@ orig_due now (Some o) = Some (due_at now (verdicts.due_moment_of now o))
 
 abbrev pub work_due : Switch → JobWork → Option Due
 work_due s (Sleep until) = Some (due_at s.moment until)
-work_due s (Originate orig winner) = orig_due s.moment (orig_of s orig)
+work_due s (Originate orig winner caller) = orig_due s.moment (orig_of s orig)
 
 abbrev pub job_due : ℕ → Switch → Option Due
 job_due number s = option_and_then (λ job. work_due s job.work) (job_of s number)

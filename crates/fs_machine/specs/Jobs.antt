@@ -16,7 +16,8 @@ sleep_begun conn milliseconds s = after_job_begin conn (Sleep (moment_after s.mo
 -- what comes of the work of a job, where it has something to do
 abbrev pub after_job_work : JobWork → ℕ → ℕ → Switch → Switch
 after_job_work (Sleep until) number conn s = after_job_end number conn ok s
-after_job_work (Originate orig winner) number conn s = after_verdict_on (record { job = number; conn = conn; orig = orig }) winner s
+after_job_work (Originate orig winner caller) number conn s =
+    after_verdict_on (record { job = number; conn = conn; orig = orig }) winner caller s
 
 abbrev pub job_done_from : ℕ → Option Job → Switch → Switch
 job_done_from number None s = s

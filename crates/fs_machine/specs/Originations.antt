@@ -1,5 +1,5 @@
 -- How the legs of an origination are made, and what a leg does that has won.
-use Rattle.std.specs.Prelude.{◌≡◌, ℕ, ◌+◌, ◌*◌, ◌++◌, min, nat_lt, Bool, if◌then◌else◌, [], ◌∷◌, length, take, Option, None, Some, option_map, codes}
+use Rattle.std.specs.Prelude.{◌≡◌, ℕ, ◌+◌, ◌*◌, ◌++◌, min, nat_lt, Bool, if◌then◌else◌, List, [], ◌∷◌, length, take, Option, None, Some, option_map, codes}
 use Rattle.std.specs.Option.{option_and_then}
 use Rattle.fs_text.specs.Texts.{Text}
 use Rattle.fs_text.specs.declared.states.State.TheVariants.{CsExecute}
@@ -14,7 +14,9 @@ use Rattle.fs_chan.specs.declared.peer.Direction.TheVariants.{Inbound, Outbound}
 use Rattle.fs_chan.specs.declared.target.Target3.{Target3}
 use Rattle.fs_chan.specs.declared.wait.Wait.TheVariants.{Ready}
 use Rattle.fs_chan.specs.Changes.{new_channel, transferred}
+use Rattle.fs_orig.specs.declared.caller.Caller.{Caller}
 use Rattle.fs_orig.specs.declared.leg.OrigLeg.{OrigLeg}
+use Rattle.fs_orig.specs.declared.plan.LegPlan.{LegPlan}
 use Rattle.fs_orig.specs.declared.endpoint.Endpoint.{Endpoint}
 use Rattle.fs_orig.specs.declared.endpoint.Endpoint.TheVariants.{Loopback, Dead}
 use Rattle.fs_orig.specs.declared.winner.Winner.{Winner}
@@ -25,7 +27,6 @@ use Rattle.fs_orig.specs.Routes.{RouteTo}
 use Rattle.fs_state.specs.Switch.{Switch, with_chan, free_slot, with_next_identifier, identifier_of}
 use Rattle.fs_state.specs.Moves.{after_move}
 use Rattle.fs_machine.specs.declared.originations.Call.{Call}
-use Rattle.fs_machine.specs.declared.originations.Caller.{Caller}
 use Rattle.fs_machine.specs.declared.originations.End.{End}
 
 -- ---- a pair of channels
@@ -128,9 +129,30 @@ abbrev pub made_of : Endpoint → Caller → ℕ → Switch → Made
 made_of (Dead cause) caller orig s = made_dead cause s
 made_of (Loopback exten context) caller orig s = loopback_made (record { exten = exten; context = context; caller = caller }) orig s
 
--- the leg of an origination that an endpoint comes to
-unfoldable pub leg_made : Text → Caller → ℕ → Switch → Made
-leg_made endpoint caller orig s = made_of (endpoint_of endpoint) caller orig s
+-- the leg of an origination that a plan comes to
+unfoldable pub leg_made : LegPlan → Caller → ℕ → Switch → Made
+leg_made plan caller orig s = made_of (endpoint_of plan.endpoint) caller orig s
+
+-- ---- a group of legs
+
+-- legs, and the switch with their channels
+pub record MadeGroup : Type 0 where
+  pub state : Switch
+  pub legs : List OrigLeg
+
+-- a group comes to this: the switch after it, and its legs
+abbrev pub GroupComesTo : MadeGroup → Switch → List OrigLeg → Type 0
+GroupComesTo made state legs = made ≡ record { state = state; legs = legs }
+
+-- with a leg before them
+abbrev pub with_first : OrigLeg → MadeGroup → MadeGroup
+with_first leg group = record { state = group.state; legs = leg ∷ group.legs }
+
+-- the legs of a group, made one after another
+abbrev pub group_made : List LegPlan → Caller → ℕ → Switch → MadeGroup
+group_made [] caller orig s = record { state = s; legs = [] }
+group_made (plan ∷ plans) caller orig s =
+    let made = leg_made plan caller orig s in with_first made.leg (group_made plans caller orig made.state)
 
 -- ---- a leg that has won
 

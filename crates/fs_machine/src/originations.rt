@@ -7,7 +7,7 @@ ghost use Rattle.fs_state.specs.Switch.{identifier_of, with_next_identifier, fre
 ghost use Rattle.fs_machine.specs.Originations as spec;
 
 use fs_chan::{Action, Actions, ActionsLeft, Chan, Direction, SharedVars, Target3, Wait};
-use fs_orig::{Endpoint, OrigLeg, Route, Winner};
+use fs_orig::{Caller, Endpoint, LegPlan, OrigLeg, OrigLegs, Route, Winner};
 use fs_state::Draft;
 use fs_text::{Cause, Memory, State, Txt};
 use fs_vars::{Bounds, Profile, Vars};
@@ -15,13 +15,6 @@ use std::alloc::Global;
 
 /// The most bytes of a caller id.
 const LONGEST_CALLER_ID: usize = 256;
-
-/// Who calls.
-#[derive(Drop)]
-pub(crate) struct Caller {
-    pub(crate) name: Txt,
-    pub(crate) number: Txt,
-}
 
 // A call over the loopback.
 pub(crate) struct Call {
@@ -49,28 +42,49 @@ pub(crate) struct End {
     pub(crate) leg_of: Option<u64>,
 }
 
+// ---- a group of legs
+
+/// Makes the legs of an origination of this number that the plans of a group come to, one after another.
+#[tactic(auto, using(crate::proofs::GroupLemmas::group_there, crate::proofs::GroupLemmas::group_done))]
+pub(crate) fn make_group(
+    draft: &mut Draft<'_>,
+    plans: &[LegPlan],
+    caller: &Caller,
+    orig: u64,
+) -> Result<OrigLegs, Memory>
+    ensures base { draft.new.base ≡ draft.old.base }
+    ensures made { IfOk result
+        (spec.GroupComesTo (spec.group_made plans.now caller.now orig (drafted draft.old)) (drafted draft.new)) }
+{
+    let mut legs = OrigLegs::new(draft.alloc());
+    for plan in plans {
+        legs.push(make_leg(draft, plan, caller, orig)?)?;
+    }
+    Ok(legs)
+}
+
 // ---- a leg
 
-/// Makes the leg of an origination of this number that an endpoint comes to.
+// Makes the leg of an origination of this number that a plan comes to.
 #[tactic(auto, unfolding(crate::specs::Originations::leg_made))]
-pub(crate) fn make_leg(
+fn make_leg(
     draft: &mut Draft<'_>,
-    endpoint: &Txt,
-    caller: Caller,
+    plan: &LegPlan,
+    caller: &Caller,
     orig: u64,
 ) -> Result<OrigLeg, Memory>
     ensures base { draft.new.base ≡ draft.old.base }
     ensures made { IfOk result
-        (spec.ComesTo (spec.leg_made endpoint.now caller orig (drafted draft.old)) (drafted draft.new)) }
+        (spec.ComesTo (spec.leg_made plan.now caller.now orig (drafted draft.old)) (drafted draft.new)) }
 {
     let alloc = draft.alloc();
-    match Endpoint::of(alloc, endpoint.as_bytes())? {
+    match Endpoint::of(alloc, plan.endpoint.as_bytes())? {
         Endpoint::Dead { cause } => OrigLeg::unmade(alloc, draft.place(), cause),
         Endpoint::Loopback { exten, context } => {
             let call = Call {
                 exten,
                 context,
-                caller,
+                caller: caller.copy()?,
             };
             make_loopback(draft, &call, orig)
         }

@@ -4,9 +4,11 @@ use Rattle.fs_text.specs.declared.causes.Cause.{Cause}
 use Rattle.fs_vars.specs.Pairs.{Text}
 use Rattle.fs_doc.specs.Reading.{Configuration}
 use Rattle.fs_chan.specs.declared.chan.Chan.{Chan}
+use Rattle.fs_orig.specs.declared.caller.Caller.{Caller}
 use Rattle.fs_orig.specs.declared.orig.Orig.{Orig}
+use Rattle.fs_orig.specs.declared.plan.LegPlan.{LegPlan}
 use Rattle.fs_orig.specs.declared.winner.Winner.{Winner}
-use Rattle.fs_orig.specs.Changes.{with_answer}
+use Rattle.fs_orig.specs.Changes.{with_answer, at_next_group}
 use Rattle.fs_places.specs.declared.numbered.Numbered.{Numbered}
 use Rattle.fs_places.specs.Rows.{row_of}
 use Rattle.fs_places.proofs.TableLemmas.{numbers_in, numbers_kept}
@@ -18,12 +20,11 @@ use Rattle.fs_state.specs.Counts.{Tallies}
 use Rattle.fs_state.specs.Queues.{Frames}
 use Rattle.fs_state.specs.Switch.{Switch, chan_at, with_chan, orig_of}
 use Rattle.fs_state.specs.Moves.{after_move_from, after_move, orig_changed_from, orig_changed, leg_changed, after_hangup}
-use Rattle.fs_machine.specs.declared.originations.Caller.{Caller}
-use Rattle.fs_machine.specs.Originations.{leg_made, won_by, after_winning}
-use Rattle.fs_machine.specs.Attempts.{after_hangups}
+use Rattle.fs_machine.specs.Originations.{MadeGroup, group_made, won_by, after_winning}
+use Rattle.fs_machine.specs.Attempts.{after_hangups, with_group}
 use Rattle.fs_machine.specs.Work.{after_work}
 use Rattle.fs_machine.proofs.Kept.{Stage, Fact, KeptByCalls, DoesJob}
-use Rattle.fs_machine.proofs.Walk.{state_told_kept, hung_kept, all_hung_kept, worked_kept, leg_made_kept}
+use Rattle.fs_machine.proofs.Walk.{state_told_kept, hung_kept, all_hung_kept, worked_kept, group_made_kept}
 
 -- what is left of a switch without channels, globals, news and identifiers; of originations that is their numbers
 pub record Rest : Type 0 where
@@ -89,7 +90,8 @@ hung_rest cause slot s =
 -- ---- facts on the rest
 
 -- a fact that holds wherever the rest is the same is kept by what happens to channels
-module _ (P : Fact) (same : (b : Stage) (t u : Switch) → P b t → rest_of u ≡ rest_of t → P b u) where
+module _ (P : Fact) (same : (b : Stage) (t u : Switch) → P b t → rest_of u ≡ rest_of t → P b u)
+    (more : (t : Switch) → P (Some 0) t → P (Some 1) t) where
   answers_same : (place slot number : ℕ) {b : Stage} {s : Switch} → P b s →
       P b (orig_changed (leg_changed (λ position. with_answer position place) slot) number s)
   answers_same place slot number {b} {s} h =
@@ -105,33 +107,41 @@ module _ (P : Fact) (same : (b : Stage) (t u : Switch) → P b t → rest_of u �
     changed = λ slot old new there stays h. same _ _ _ h refl;
     answers = answers_same;
     hung = hung_same;
-    gone = λ slot old there dead h. same _ _ _ h refl;
+    more = λ {s = s} h. more s h;
+    gone = λ slot old there dead h. more _ (same _ _ _ h refl);
   }
 
 abbrev SameRest : Switch → Fact
 SameRest s b t = rest_of t ≡ rest_of s
 
 same_rest : (s : Switch) → KeptByCalls (SameRest s)
-same_rest s = calls_by_rest (SameRest s) (λ b t u h e. e ∙ h)
+same_rest s = calls_by_rest (SameRest s) (λ b t u h e. e ∙ h) (λ t h. h)
 
 pub all_hung_rest : (cause : Cause) (slots : List ℕ) (s : Switch) → rest_of (after_hangups cause slots s) ≡ rest_of s
 all_hung_rest cause slots s = all_hung_kept (SameRest s) (same_rest s) cause slots {b = None} {s = s} refl
 
 pub worked_rest : (slot : ℕ) (s : Switch) → rest_of (after_work slot s) ≡ rest_of s
-worked_rest slot s = worked_kept (SameRest s) (same_rest s) slot {b = None} {s = s} refl
+worked_rest slot s = worked_kept (SameRest s) (same_rest s) slot {s = s} refl
 
 pub won_rest : (winner : Winner) (slot : ℕ) (s : Switch) → rest_of (after_winning winner slot s) ≡ rest_of s
 unfolding after_winning
 won_rest winner slot s = moved_rest (won_by winner) slot s
 
--- ---- a leg is made
+-- ---- the legs of a group are made
 
-pub leg_made_rest : (endpoint : Text) (caller : Caller) (orig : ℕ) (s : Switch) →
-    rest_of (leg_made endpoint caller orig s).state ≡ rest_of s
-leg_made_rest endpoint caller orig s =
-    leg_made_kept (SameRest s)
-    (record { spent = λ h. h; more = λ below h. h; pair = λ call orig a b short first second h. h }) endpoint caller orig {n = 0}
+pub group_made_rest : (plans : List LegPlan) (caller : Caller) (orig : ℕ) (s : Switch) →
+    rest_of (group_made plans caller orig s).state ≡ rest_of s
+group_made_rest plans caller orig s =
+    group_made_kept (SameRest s)
+    (record { spent = λ h. h; pair = λ call orig a b short first second h. h }) plans caller orig {n = 0}
     {s = s} refl
+
+-- and an origination comes to them
+pub regrouped_rest : (number : ℕ) (plans : List LegPlan) (caller : Caller) (s : Switch) →
+    rest_of (with_group number (group_made plans caller number s)) ≡ rest_of s
+regrouped_rest number plans caller s =
+    let made : MadeGroup = group_made plans caller number s in
+    orig_changed_rest (at_next_group made.legs) number made.state ∙ group_made_rest plans caller number s
 
 -- ---- a job is the one that it was
 

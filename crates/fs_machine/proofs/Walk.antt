@@ -22,9 +22,11 @@ use Rattle.fs_chan.specs.declared.wait.Wait.TheVariants.{Ready, Sleep, Parked, S
 use Rattle.fs_chan.specs.Changes.{IsShortTarget, is_live, in_state, with_answer_place, at_rest, hung_up, transferred, parked, asleep, may_route, routed}
 use Rattle.fs_chan.specs.Exports.{with_set}
 use Rattle.fs_chan.specs.Work as chan
+use Rattle.fs_orig.specs.declared.caller.Caller.{Caller}
 use Rattle.fs_orig.specs.declared.endpoint.Endpoint.{Endpoint}
 use Rattle.fs_orig.specs.declared.endpoint.Endpoint.TheVariants.{Loopback, Dead}
 use Rattle.fs_orig.specs.declared.orig.Orig.{Orig}
+use Rattle.fs_orig.specs.declared.plan.LegPlan.{LegPlan}
 use Rattle.fs_orig.specs.Changes.{with_answer, with_death}
 use Rattle.fs_orig.specs.Endpoints as endpoints
 use Rattle.fs_orig.specs.Endpoints.{endpoint_of}
@@ -35,10 +37,9 @@ use Rattle.fs_state.specs.declared.event.Event.{Event}
 use Rattle.fs_state.specs.Switch.{Switch, chan_at, with_chan, free_slot, with_event}
 use Rattle.fs_state.specs.Moves.{plain_event, with_leaving_event, with_coming_event, with_state_events, after_move_from, after_move, after_begin, with_running, run_on, after_completion, orig_changed, leg_changed, its_leg_changed, after_answer_from, after_one_answer, partner_at, for_slot, after_answer, hangup_event, after_hangup_from, after_one_hangup, after_hangup_with, after_hangup, after_report, after_destroy}
 use Rattle.fs_machine.specs.declared.originations.Call.{Call}
-use Rattle.fs_machine.specs.declared.originations.Caller.{Caller}
 use Rattle.fs_machine.specs.Applications.{with_variable, without_variable, with_export, after_sleep, state_at, after_park_in, after_effect, argument_in, executed_within, after_running_next, after_running_from, after_running}
 use Rattle.fs_machine.specs.Work.{with_variables, routed_to, has_xml, actions_for, too_long_cause, found_for, routed_by, after_routing_from, first_state, after_wait, after_work_in, after_work_from, after_work}
-use Rattle.fs_machine.specs.Originations.{Made, made_in, with_second, free_pair, is_congested, made_of, leg_made}
+use Rattle.fs_machine.specs.Originations.{Made, made_in, with_second, free_pair, is_congested, made_of, leg_made, group_made}
 use Rattle.fs_machine.specs.Attempts.{after_hangups}
 use Rattle.fs_machine.proofs.ShortLemmas.{sent_short, application_short, endpoint_short}
 use Rattle.fs_machine.proofs.Kept.{Stage, Fact, Stays, KeptByCalls, KeptByBirths}
@@ -278,8 +279,8 @@ module _ (P : Fact) (kept : KeptByCalls P) where
           let same : d ≡ c = cc in
           live_by d CsHangup false (ap (λ (x : Chan). x.state) same ∙ hangup) hangup_dead
 
-  destroyed_kept : (slot : ℕ) (c : Chan) {b : Stage} {s : Switch} → chan_at s slot ≡ Some c → c.state ≡ CsReporting → P b s →
-      P b (after_destroy slot s)
+  destroyed_kept : (slot : ℕ) (c : Chan) {s : Switch} → chan_at s slot ≡ Some c → c.state ≡ CsReporting → P (Some 0) s →
+      P (Some 1) (after_destroy slot s)
   destroyed_kept slot c is reporting h =
       kept.told (plain_event ChannelDestroy) refl
       (kept.told (plain_event ChannelState) refl (kept.gone slot c is (live_by c CsReporting false reporting reporting_dead) h))
@@ -379,27 +380,30 @@ module _ (P : Fact) (kept : KeptByCalls P) where
   waiting_kept (Socket conn) slot at h = ran_kept slot at h
   waiting_kept _ slot at h = h
 
-  working_kept : (state : State) (slot : ℕ) (c : Chan) {b : Stage} {s : Switch} → chan_at s slot ≡ Some c → c.state ≡ state → P b s →
-      P b (after_work_in state slot c s)
-  working_kept CsNew slot c {b} {s} there is h = begun_kept slot (lives_at s.channels slot c CsNew there is new_lives) h
-  working_kept CsInit slot c {b} {s} there is h =
-      moved_alive (in_state (first_state c.direction)) slot (lives_at s.channels slot c CsInit there is init_lives)
-      (λ d live. record { links = refl; live = first_lives c.direction ∙ sym live; short = λ short. short }) h
-  working_kept CsRouting slot c {b} {s} there is h =
-      routing_kept slot (chan_at s slot) (lives_at s.channels slot c CsRouting there is routing_lives) h
-  working_kept CsExecute slot c {b} {s} there is h =
-      waiting_kept c.wait slot (lives_at s.channels slot c CsExecute there is execute_lives) h
-  working_kept CsPark slot c {b} {s} there is h = waiting_kept c.wait slot (lives_at s.channels slot c CsPark there is park_lives) h
-  working_kept CsHangup slot c there is h = reported_kept slot c there is h
+  -- only a channel that has come to its end leaves its slot
+  working_kept : (state : State) (slot : ℕ) (c : Chan) {s : Switch} → chan_at s slot ≡ Some c → c.state ≡ state → P (Some 0) s →
+      P (Some 1) (after_work_in state slot c s)
+  working_kept CsNew slot c {s} there is h = kept.more (begun_kept slot (lives_at s.channels slot c CsNew there is new_lives) h)
+  working_kept CsInit slot c {s} there is h =
+      kept.more
+      (moved_alive (in_state (first_state c.direction)) slot (lives_at s.channels slot c CsInit there is init_lives)
+      (λ d live. record { links = refl; live = first_lives c.direction ∙ sym live; short = λ short. short }) h)
+  working_kept CsRouting slot c {s} there is h =
+      kept.more (routing_kept slot (chan_at s slot) (lives_at s.channels slot c CsRouting there is routing_lives) h)
+  working_kept CsExecute slot c {s} there is h =
+      kept.more (waiting_kept c.wait slot (lives_at s.channels slot c CsExecute there is execute_lives) h)
+  working_kept CsPark slot c {s} there is h =
+      kept.more (waiting_kept c.wait slot (lives_at s.channels slot c CsPark there is park_lives) h)
+  working_kept CsHangup slot c there is h = kept.more (reported_kept slot c there is h)
   working_kept CsReporting slot c there is h = destroyed_kept slot c there is h
-  working_kept _ slot c there is h = h
+  working_kept _ slot c there is h = kept.more h
 
-  pub worked_kept : (slot : ℕ) {b : Stage} {s : Switch} → P b s → P b (after_work slot s)
+  pub worked_kept : (slot : ℕ) {s : Switch} → P (Some 0) s → P (Some 1) (after_work slot s)
   unfolding after_work
-  worked_kept slot {b} {s} h = by (chan_at s slot) refl
+  worked_kept slot {s} h = by (chan_at s slot) refl
     where
-      by : (found : Option Chan) → chan_at s slot ≡ found → P b (after_work_from slot found s)
-      by None there = h
+      by : (found : Option Chan) → chan_at s slot ≡ found → P (Some 1) (after_work_from slot found s)
+      by None there = kept.more h
       by (Some c) there = working_kept c.state slot c there refl h
 
 -- ---- births
@@ -409,32 +413,34 @@ module _ (P : Fact) (births : KeptByBirths P) where
   either_made true x y first second = first
   either_made false x y first second = second
 
-  -- where there is no pair, no more is drawn
-  unmade : {n : ℕ} {s : Switch} → P (Some n) s → P (Some (n + 2)) s
-  unmade h = births.more (omega arith) h
-
   pair_kept : (call : Call) (orig : ℕ) {n : ℕ} {s : Switch} → endpoints.IsShortAddress call.exten call.context → P (Some n) s →
-      P (Some (n + 2)) (made_in call orig (free_pair s) s).state
+      P (Some n) (made_in call orig (free_pair s) s).state
   pair_kept call orig {n} {s} short h = first (free_slot 1 s) refl
     where
       second : (a : ℕ) → free_slot 1 s ≡ Some a → (found : Option ℕ) → free_slot (a + 1) s ≡ found →
-          P (Some (n + 2)) (made_in call orig (option_map (λ b. (a, b)) found) s).state
-      second a is_a None is = unmade h
+          P (Some n) (made_in call orig (option_map (λ b. (a, b)) found) s).state
+      second a is_a None is = h
       second a is_a (Some b) is =
           births.pair call orig a b short (free_place Chan s.channels 1 a is_a) (free_place Chan s.channels (a + 1) b is) h
 
       first : (found : Option ℕ) → free_slot 1 s ≡ found →
-          P (Some (n + 2)) (made_in call orig (option_and_then (with_second s) found) s).state
-      first None is = unmade h
+          P (Some n) (made_in call orig (option_and_then (with_second s) found) s).state
+      first None is = h
       first (Some a) is = second a is (free_slot (a + 1) s) refl
 
   made_kept : (endpoint : Endpoint) (caller : Caller) (orig : ℕ) {n : ℕ} {s : Switch} → endpoints.IsShortEndpoint endpoint → P (Some n) s →
-      P (Some (n + 2)) (made_of endpoint caller orig s).state
-  made_kept (Dead cause) caller orig short h = unmade h
+      P (Some n) (made_of endpoint caller orig s).state
+  made_kept (Dead cause) caller orig short h = h
   made_kept (Loopback exten context) caller orig {s} short h =
-      either_made (is_congested s) _ _ (unmade h) (pair_kept (record { exten = exten; context = context; caller = caller }) orig short h)
+      either_made (is_congested s) _ _ h (pair_kept (record { exten = exten; context = context; caller = caller }) orig short h)
 
-  pub leg_made_kept : (endpoint : Text) (caller : Caller) (orig : ℕ) {n : ℕ} {s : Switch} → P (Some n) s →
-      P (Some (n + 2)) (leg_made endpoint caller orig s).state
+  pub leg_made_kept : (plan : LegPlan) (caller : Caller) (orig : ℕ) {n : ℕ} {s : Switch} → P (Some n) s →
+      P (Some n) (leg_made plan caller orig s).state
   unfolding leg_made
-  leg_made_kept endpoint caller orig h = made_kept (endpoint_of endpoint) caller orig (endpoint_short endpoint) h
+  leg_made_kept plan caller orig h = made_kept (endpoint_of plan.endpoint) caller orig (endpoint_short plan.endpoint) h
+
+  pub group_made_kept : (plans : List LegPlan) (caller : Caller) (orig : ℕ) {n : ℕ} {s : Switch} → P (Some n) s →
+      P (Some n) (group_made plans caller orig s).state
+  group_made_kept [] caller orig h = h
+  group_made_kept (plan ∷ plans) caller orig {n} {s} h =
+      group_made_kept plans caller orig {n = n} {s = (leg_made plan caller orig s).state} (leg_made_kept plan caller orig h)

@@ -139,8 +139,8 @@ module _ (conn : ℕ) (P : Fact) (calls : KeptByCalls P) (commands : KeptByComma
       by true is = commands.spent h
       by false is = commands.sleeps (moment_after s.moment (milliseconds * 1000)) is h
 
-  dialled_kept : (dial : Result Dial DialFault) (winner : Winner) (caller : Caller) (timeout : Option ℕ) {s : Switch} → IsShortWinner winner →
-      is_full_of_jobs s ≡ false → P None s → P (Some 0) (dialled conn dial winner caller timeout s).state
+  dialled_kept : (dial : Result Dial DialFault) (winner : Winner) (caller : Caller) (timeout : Option ℕ) {s : Switch} →
+      IsShortWinner winner → is_full_of_jobs s ≡ false → P None s → P (Some 0) (dialled conn dial winner caller timeout s).state
   dialled_kept (Err fault) winner caller timeout short room h = commands.spent h
   dialled_kept (Ok dial) winner caller timeout short room h =
       done_either (list_all is_bare (plans_of dial)) _ _ (commands.originates (plans_of dial) winner caller timeout short room h)

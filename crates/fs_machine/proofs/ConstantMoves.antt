@@ -40,7 +40,8 @@ by_front s t same = ap in_front same
 
 same_moves : (s : Switch) → KeptByMoves s (Same s)
 same_moves s =
-    moves_by_front s (Same s) (λ b t u h same. by_front t u same ∙ h) (calls_by_rest (Same s) (λ b t u h same. by_rest t u same ∙ h) (λ t h. h))
+    moves_by_front s (Same s) (λ b t u h same. by_front t u same ∙ h)
+    (calls_by_rest (Same s) (λ b t u h same. by_rest t u same ∙ h) (λ t h. h))
     (record { spent = λ h. h; pair = λ call orig a b short first second h. h })
     (λ a winner caller leg slots does won h.
     by_rest (raced slots s) (after_winning winner (unwrap_or leg.slot 0) (raced slots s))

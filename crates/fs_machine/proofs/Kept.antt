@@ -33,8 +33,8 @@ use Rattle.fs_machine.specs.Owing.{after_job_begin, after_job_end}
 use Rattle.fs_machine.specs.Step.{arrived}
 use Rattle.fs_machine.specs.Sound.{HasLeg}
 
--- How far an entry has come: nothing has begun in it that draws a number, or such a thing may have, and so many slots at most were freed that
--- are not filled again. An identifier is drawn only for a slot that is filled.
+-- How far an entry has come: nothing has begun in it that draws a number, or such a thing may have, and so many slots at most were freed
+-- that are not filled again. An identifier is drawn only for a slot that is filled.
 abbrev pub Stage : Type 0
 Stage = Option ℕ
 
@@ -128,8 +128,8 @@ pub record KeptByCommands (conn : ℕ) (P : Fact) : Type 0 where
   pub admitted : {n : ℕ} {s : Switch} → phase_at s conn ≡ Fresh → P (Some n) s → P (Some n) (conn_changed admitted conn s)
   pub parted : (why : Parting) {n : ℕ} {s : Switch} → LeavesBy why → P (Some n) s → P (Some n) (conn_changed (parted why) conn s)
   pub sleeps : (until : ℕ) {s : Switch} → is_full_of_jobs s ≡ false → P None s → P (Some 0) (after_job_begin conn (work.Sleep until) s)
-  pub originates : (groups : List (List LegPlan)) (winner : Winner) (caller : Caller) (timeout : Option ℕ) {s : Switch} → IsShortWinner winner →
-      is_full_of_jobs s ≡ false → P None s →
+  pub originates : (groups : List (List LegPlan)) (winner : Winner) (caller : Caller) (timeout : Option ℕ) {s : Switch} →
+      IsShortWinner winner → is_full_of_jobs s ≡ false → P None s →
       P (Some 0) (originate_begun conn groups winner caller timeout s)
 
 -- how connections come and go, and take their frames

@@ -79,7 +79,8 @@ pub record LegsStand (r : Roles) : Type 0 where
   pub apart : (place p q : ℕ) (seat : Seat) → seat_at r.origs place p ≡ Some seat → seat_at r.origs place q ≡ Some seat → p ≡ q
 
 -- a leg stands where its channel is there still
-abbrev leg_still : (channels new : Channels) (seat : Seat) (leg : IsLegOf channels seat) → held_in new leg.at ≡ Some leg.chan → IsLegOf new seat
+abbrev leg_still : (channels new : Channels) (seat : Seat) (leg : IsLegOf channels seat) → held_in new leg.at ≡ Some leg.chan →
+    IsLegOf new seat
 leg_still channels new seat leg there =
     record { at = leg.at; is = leg.is; chan = leg.chan; there = there; live = leg.live; names = leg.names }
 
@@ -523,13 +524,15 @@ cut_may_live number slot place cause c channels is h = by (cases_eq slot place)
       dies = h.dies;
     }
 
-raced_may_live : (number slot : ℕ) (slots : List ℕ) (s : Switch) → MayLive number slot s.channels → MayLive number slot (raced slots s).channels
+raced_may_live : (number slot : ℕ) (slots : List ℕ) (s : Switch) → MayLive number slot s.channels →
+    MayLive number slot (raced slots s).channels
 raced_may_live number slot [] s h = h
 raced_may_live number slot (loser ∷ slots) s h =
     raced_may_live number slot slots (after_hangup LoseRace loser s)
     (hung_kept (λ (t : Switch). MayLive number slot t.channels) (λ event t plain k. k)
     (λ why place c t is k. cut_may_live number slot place why c t.channels is k)
-    (λ change orig t k. subst (λ (f : Front). MayLive number slot f.channels) (sym (orig_changed_front change orig t)) k) LoseRace loser s h)
+    (λ change orig t k. subst (λ (f : Front). MayLive number slot f.channels) (sym (orig_changed_front change orig t)) k)
+    LoseRace loser s h)
 
 -- ---- what leaves the roles as they are
 
@@ -722,7 +725,8 @@ regroups_legs number plans caller s h few =
 ended_legs : (number conn : ℕ) (answer : Text) (s : Switch) → Stand (roles_of s) → Stand (roles_of (after_job_end number conn answer s))
 ended_legs number conn answer s h = same_roles s (after_job_end number conn answer s) (conn_roles not_owed conn (without_job number s)) h
 
-wins_legs : (a : Attempt) (winner : Winner) (leg : OrigLeg) (s : Switch) → IsLegOf s.channels (seated a.orig leg.slot) → Stand (roles_of s) →
+wins_legs : (a : Attempt) (winner : Winner) (leg : OrigLeg) (s : Switch) → IsLegOf s.channels (seated a.orig leg.slot) →
+    Stand (roles_of s) →
     Stand (roles_of (after_job_end a.job a.conn (made_text leg.uuid) (without_orig a.orig (after_winning winner (unwrap_or leg.slot 0) s))))
 wins_legs a winner leg s stands h =
     let slot : ℕ = unwrap_or leg.slot 0 in

@@ -83,7 +83,8 @@ wins_go : (b : Books) (s : Switch) (a : Attempt) (winner : Winner) (caller : Cal
     (after_winning winner (unwrap_or leg.slot 0) s))))
 wins_go b s a winner caller leg does h =
     let slot : ℕ = unwrap_or leg.slot 0 in
-    goes_over b (after_winning winner slot s) a.job a.conn a.orig winner caller (made_text leg.uuid) (does_same does (won_rest winner slot s))
+    goes_over b (after_winning winner slot s) a.job a.conn a.orig winner caller (made_text leg.uuid)
+    (does_same does (won_rest winner slot s))
     (goes_same b (Some 0) s (after_winning winner slot s) h (won_rest winner slot s))
 
 jobs_go : (b : Books) (before : Switch) → KeptByJobs before (GoesFrom b)

@@ -193,8 +193,8 @@ orig_place jobs origs drawn h none =
     omega (arith, all, same, fewer, most, job_places, orig_places, lengths)
 
 -- at that place it is there, and the job that tries it
-begun_at : (b : Books) (t : Switch) (conn orig : ℕ) (winner : Winner) (caller : Caller) (o : Orig) (c : Conn) (q p : ℕ) → conn_of t conn ≡ Some c →
-    c.owed ≡ None → least_free t.jobs 0 ≡ Some q →
+begun_at : (b : Books) (t : Switch) (conn orig : ℕ) (winner : Winner) (caller : Caller) (o : Orig) (c : Conn) (q p : ℕ) →
+    conn_of t conn ≡ Some c → c.owed ≡ None → least_free t.jobs 0 ≡ Some q →
     least_free t.origs 0 ≡ Some p → t.drawn.jobs < 2 ^ 30 → orig ≡ t.drawn.origs + 1 → next_orig_number t ≡ t.drawn.origs + 1 →
     Sound (books_of t) → b ≡ books_of t →
     Goes b (books_of (after_job_begin conn (Originate orig winner caller) (with_new_orig o t)))

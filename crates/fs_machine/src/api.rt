@@ -1,6 +1,7 @@
 //! What an api command answers, and what it does to the switch.
 
 ghost use Rattle.std.specs.Prelude.{◌≡◌, ◌≤◌, ◌++◌, length, Some, is_some, Ok, IfOk, IfErr, OnOk};
+ghost use Rattle.std.specs.List.{list_all};
 ghost use Rattle.std.specs.Option.{option_copied};
 ghost use Rattle.fs_vars.specs.Outputs.{IsTextRefusal};
 ghost use Rattle.fs_vars.specs.Expansion.{expanded};
@@ -224,11 +225,18 @@ fn dial_legs(
 {
     let alloc = draft.alloc();
     let groups = LegPlans::of(alloc, dial)?;
-    if !groups.as_slice().iter().all(|group| is_bare(group)) {
+    if !are_bare(&groups) {
         return Ok(Some(failed_text(alloc, Cause::InvalidNumberFormat)?));
     }
     begin_originate(draft, conn, groups, winner, caller, timeout)?;
     Ok(None)
+}
+
+// Whether no leg of these groups has variables.
+fn are_bare(groups: &LegPlans) -> bool
+    ensures { result ≡ list_all spec.is_bare groups.now }
+{
+    groups.as_slice().iter().all(|group| is_bare(group))
 }
 
 // Whether no leg of a group has variables.

@@ -1,12 +1,9 @@
-//! What the scripts under bench/ measure. `bench book COUNT DEPTH` and `bench mutex COUNT DEPTH` make so many entries
-//! under a lock by each of 2^DEPTH threads, and `bench plan COUNT` hunts so often in a dialplan of 1,000 extensions.
-//! It prints how many entries there were, or how many hunts found their number.
+//! What `bench/book` measures: `bench book COUNT DEPTH` and `bench mutex COUNT DEPTH` make so many entries under a lock
+//! by each of 2^DEPTH threads. It prints how many entries there were.
 #![tactic(auto)]
 
 mod by_book;
 mod by_mutex;
-mod by_plan;
-mod numbers;
 mod tally;
 
 use std::env::{self, Env};
@@ -24,11 +21,10 @@ fn total<R: Env + AllocGlobal + Threads + Wait + Sync>(rt: &R) -> Option<u64> {
     let mut words = env::args(rt).ok()?.skip(1);
     let way = words.next()?;
     let count = number(words.next())?;
-    let depth = number(words.next()).unwrap_or(0);
+    let depth = u32::try_from(number(words.next()).unwrap_or(0)).ok()?;
     match way.as_str() {
-        "book" => by_book::counted(rt, rt.alloc(), u32::try_from(depth).ok()?, count),
-        "mutex" => Some(by_mutex::counted(rt, u32::try_from(depth).ok()?, count)),
-        "plan" => by_plan::found(rt.alloc(), count),
+        "book" => by_book::counted(rt, rt.alloc(), depth, count),
+        "mutex" => Some(by_mutex::counted(rt, depth, count)),
         _ => None,
     }
 }

@@ -1,5 +1,6 @@
 -- The last `)` of a text, from its end.
-use Rattle.std.proofs.Common.{◌≡◌, ℕ, suc, ◌-◌, ◌≤◌, ◌==◌, Bool, true, false, [], ◌∷◌, ◌++◌, length, take, get_or, None, Some, refl, sym, ap, ◌∙◌, arith}
+use Rattle.std.proofs.Common.{◌≡◌, ℕ, suc, ◌-◌, ◌≤◌, ◌==◌, Bool, true, false, [], ◌∷◌, ◌++◌, length, take, get_or, None, Some, refl, sym}
+use Rattle.std.proofs.Common.{ap, ◌∙◌, arith}
 use Rattle.std.proofs.lemmas.Bool.{eqb-true, eq-eqb}
 use Rattle.std.proofs.Math.Seq.{drop-cons}
 use Rattle.std.proofs.lemmas.List.{take-append-drop, drop_all}
@@ -22,11 +23,14 @@ seam : (text : Text) (d : ℕ) → 1 ≤ length text → text ≡ take (length t
 seam text d some =
     let n : ℕ = length text - 1 in
     sym (take-append-drop n text)
-    ∙ ap (λ rest. take n text ++ rest) (drop-cons text n d (omega (arith, some)) ∙ ap (λ rest. get_or text n d ∷ rest) (drop_all (suc n) text (omega (arith, some))))
+    ∙ ap (λ rest. take n text ++ rest) (drop-cons text n d (omega (arith, some))
+    ∙ ap (λ rest. get_or text n d ∷ rest) (drop_all (suc n) text (omega (arith, some))))
 
-pub closes_before : (text : Text) (d : ℕ) → 1 ≤ length text → get_or text (length text - 1) d ≡ 41 → before_close text ≡ Some (take (length text - 1) text)
+pub closes_before : (text : Text) (d : ℕ) → 1 ≤ length text → get_or text (length text - 1) d ≡ 41 →
+    before_close text ≡ Some (take (length text - 1) text)
 closes_before text d some is =
-    ap before_close (seam text d some) ∙ closes (take (length text - 1) text) (get_or text (length text - 1) d) (eq-eqb (get_or text (length text - 1) d) 41 is)
+    ap before_close (seam text d some) ∙ closes (take (length text - 1) text) (get_or text (length text - 1) d)
+    (eq-eqb (get_or text (length text - 1) d) 41 is)
 
 -- a byte that is none
 no_close : (byte : ℕ) → (byte ≡ 41 → ⊥) → is_close byte ≡ false
@@ -36,6 +40,8 @@ no_close byte isnt = on (byte == 41) refl
     on true e = absurd (isnt (eqb-true byte 41 e))
     on false e = refl
 
-pub goes_on_before : (text : Text) (d : ℕ) → 1 ≤ length text → (get_or text (length text - 1) d ≡ 41 → ⊥) → before_close text ≡ before_close (take (length text - 1) text)
+pub goes_on_before : (text : Text) (d : ℕ) → 1 ≤ length text → (get_or text (length text - 1) d ≡ 41 → ⊥) →
+    before_close text ≡ before_close (take (length text - 1) text)
 goes_on_before text d some isnt =
-    ap before_close (seam text d some) ∙ goes_on (take (length text - 1) text) (get_or text (length text - 1) d) (no_close (get_or text (length text - 1) d) isnt)
+    ap before_close (seam text d some) ∙ goes_on (take (length text - 1) text) (get_or text (length text - 1) d)
+    (no_close (get_or text (length text - 1) d) isnt)

@@ -1,5 +1,6 @@
 -- What is read as an api command keeps its limits.
-use Rattle.std.proofs.Common.{◌≡◌, ℕ, ◌≤◌, ◌&&◌, nat_le, Bool, true, false, [], ◌∷◌, Option, None, Some, Result, Ok, Err, IfOk, IfSome, codes, refl, sym, subst, arith}
+use Rattle.std.proofs.Common.{◌≡◌, ℕ, ◌≤◌, ◌&&◌, nat_le, Bool, true, false, [], ◌∷◌, Option, None, Some, Result, Ok, Err, IfOk, IfSome}
+use Rattle.std.proofs.Common.{codes, refl, sym, subst, arith}
 use Rattle.std.proofs.lemmas.Bool.Decides.{nat_tests}
 use Rattle.std.specs.Prelude.{if◌then◌else◌}
 use Rattle.std.specs.Option.{option_and_then}
@@ -16,7 +17,8 @@ use Rattle.fs_text.specs.Words.{word_of, behind_word}
 use Rattle.fs_text.specs.Texts.{Text}
 use Rattle.fs_api.specs.Words.{behind_quoted, quoted_word}
 use Rattle.fs_api.specs.Originates.{plain_word, originate_with, originate_to, originate_of}
-use Rattle.fs_api.specs.Readings.{needs, global_setvar_of, global_getvar_of, msleep_for, uuid_exists_of, uuid_kill_of, uuid_getvar_of, api_named}
+use Rattle.fs_api.specs.Readings.{needs, global_setvar_of, global_getvar_of, msleep_for, uuid_exists_of, uuid_kill_of, uuid_getvar_of}
+use Rattle.fs_api.specs.Readings.{api_named}
 use Rattle.fs_api.specs.Ranges.{IsInRange}
 
 -- what holds of both parts of a choice holds of the choice
@@ -47,7 +49,8 @@ originate_in_range (byte ∷ bytes) = originate_to_in_range (quoted_word (byte �
 
 -- ---- the other commands
 
-needs_in_range : (usage : Which) (read : Text → Api) (arguments : Text) → ((text : Text) → IsInRange (read text)) → IsInRange (needs usage read arguments)
+needs_in_range : (usage : Which) (read : Text → Api) (arguments : Text) → ((text : Text) → IsInRange (read text)) →
+    IsInRange (needs usage read arguments)
 needs_in_range usage read [] each = tt
 needs_in_range usage read (byte ∷ bytes) each = each (byte ∷ bytes)
 
@@ -63,7 +66,8 @@ sleeping_in_range None = tt
 sleeping_in_range (Some n) = either IsInRange (nat_le n 3600000) _ _ (hour_of n) (λ _. tt)
 
 reading_in_range : (arguments : Text) → IsInRange (uuid_getvar_of arguments)
-reading_in_range arguments = needs_in_range which.UuidGetvar (λ name. UuidGetvar (word_of arguments) (word_of name)) (behind_word arguments) (λ _. tt)
+reading_in_range arguments =
+    needs_in_range which.UuidGetvar (λ name. UuidGetvar (word_of arguments) (word_of name)) (behind_word arguments) (λ _. tt)
 
 named_in_range : (name arguments : Text) → IsInRange (api_named name arguments)
 unfolding api_named
@@ -77,10 +81,13 @@ named_in_range name arguments =
     (λ _. either IsInRange (bytes_eq name (codes "originate")) _ _ (λ _. originate_in_range arguments)
     (λ _. either IsInRange (bytes_eq name (codes "uuid_exists")) _ _ (λ _. needs_in_range which.UuidExists uuid_exists_of arguments
     (λ _. tt))
-    (λ _. either IsInRange (bytes_eq name (codes "uuid_getvar")) _ _ (λ _. needs_in_range which.UuidGetvar uuid_getvar_of arguments reading_in_range)
-    (λ _. either IsInRange (bytes_eq name (codes "uuid_kill")) _ _ (λ _. needs_in_range which.UuidKill uuid_kill_of arguments (λ _. tt)) (λ _. tt)))))))))
+    (λ _. either IsInRange (bytes_eq name (codes "uuid_getvar")) _ _
+    (λ _. needs_in_range which.UuidGetvar uuid_getvar_of arguments reading_in_range)
+    (λ _. either IsInRange (bytes_eq name (codes "uuid_kill")) _ _ (λ _. needs_in_range which.UuidKill uuid_kill_of arguments (λ _. tt))
+    (λ _. tt)))))))))
 
 -- what is read of a name and its arguments, once it is read
-pub IfOk-in_range : (name arguments : Text) (result : Result Api Memory) → IfOk result (λ api. api ≡ api_named name arguments) → IfOk result IsInRange
+pub IfOk-in_range : (name arguments : Text) (result : Result Api Memory) → IfOk result (λ api. api ≡ api_named name arguments) →
+    IfOk result IsInRange
 IfOk-in_range name arguments (Ok api) is = subst IsInRange (sym is) (named_in_range name arguments)
 IfOk-in_range name arguments (Err e) is = tt

@@ -1,5 +1,5 @@
 -- How the arguments of `originate` are read.
-use Rattle.std.specs.Prelude.{ℕ, ◌==◌, ◌&&◌, Bool, if◌then◌else◌, [], ◌∷◌, length, Option, None, Some, unwrap_or, codes}
+use Rattle.std.specs.Prelude.{ℕ, ◌==◌, ◌&&◌, Bool, if◌then◌else◌, [], ◌∷◌, Option, None, Some, unwrap_or, codes}
 use Rattle.fs_text.specs.Words.{before_byte, behind_byte}
 use Rattle.fs_text.specs.Texts.{Text}
 use Rattle.fs_orig.specs.declared.winner.Winner.{Winner}

@@ -1,14 +1,13 @@
 -- How the text of an api command is read.
-use Rattle.std.specs.Prelude.{ℕ, nat_le, if◌then◌else◌, [], ◌∷◌, Option, None, Some, codes, unwrap_or}
+use Rattle.std.specs.Prelude.{ℕ, nat_le, if◌then◌else◌, [], ◌∷◌, Option, None, Some, codes}
 use Rattle.std.specs.Str.{bytes_eq}
 use Rattle.fs_text.specs.Number.{read_u64}
 use Rattle.fs_text.specs.Words.{name_in, value_in, without_spaces, word_of, behind_word}
-use Rattle.fs_text.specs.Cause.{cause_of_name}
+use Rattle.fs_text.specs.Cause.{cause_or_clearing}
 use Rattle.fs_text.specs.Texts.{Text}
-use Rattle.fs_text.specs.declared.causes.Cause.{Cause}
-use Rattle.fs_text.specs.declared.causes.Cause.TheVariants.{NormalClearing}
 use Rattle.fs_api.specs.declared.api.Api.{Api}
-use Rattle.fs_api.specs.declared.api.Api.TheVariants.{Echo, Expand, GlobalGetvar, GlobalSetvar, Msleep, UuidExists, UuidKill, UuidGetvar, Usage, Unknown}
+use Rattle.fs_api.specs.declared.api.Api.TheVariants.{Echo, Expand, GlobalGetvar, GlobalSetvar, Msleep, UuidExists, UuidKill, UuidGetvar}
+use Rattle.fs_api.specs.declared.api.Api.TheVariants.{Usage, Unknown}
 use Rattle.fs_api.specs.declared.usages.Which.{Which}
 use Rattle.fs_api.specs.declared.usages.Which.TheVariants as which
 use Rattle.fs_api.specs.Originates.{originate_of}
@@ -37,12 +36,8 @@ msleep_of arguments = msleep_for (read_u64 (word_of arguments))
 abbrev pub uuid_exists_of : Text → Api
 uuid_exists_of arguments = UuidExists (word_of arguments)
 
--- the cause of a name; NORMAL_CLEARING where there is no such name
-abbrev pub cause_named : Text → Cause
-cause_named name = unwrap_or (cause_of_name name) NormalClearing
-
 abbrev pub uuid_kill_of : Text → Api
-uuid_kill_of arguments = UuidKill (word_of arguments) (cause_named (word_of (behind_word arguments)))
+uuid_kill_of arguments = UuidKill (word_of arguments) (cause_or_clearing (word_of (behind_word arguments)))
 
 abbrev pub uuid_getvar_of : Text → Api
 uuid_getvar_of arguments = needs which.UuidGetvar (λ name. UuidGetvar (word_of arguments) (word_of name)) (behind_word arguments)

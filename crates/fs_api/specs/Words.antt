@@ -1,5 +1,5 @@
 -- Words in which single quotes protect spaces.
-use Rattle.std.specs.Prelude.{ℕ, ◌+◌, ◌==◌, Bool, false, not, ◌&&◌, if◌then◌else◌, List, [], ◌∷◌, length, take, drop}
+use Rattle.std.specs.Prelude.{ℕ, ◌+◌, ◌==◌, Bool, false, not, ◌&&◌, if◌then◌else◌, [], ◌∷◌, length, take, drop}
 use Rattle.std.specs.List.{position_or_len}
 use Rattle.fs_text.specs.Words.{is_byte, without_spaces}
 use Rattle.fs_text.specs.Texts.{Text}

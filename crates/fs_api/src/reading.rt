@@ -149,6 +149,6 @@ fn uuid_kill_of(alloc: Global, arguments: &[u8]) -> Result<Api, Memory>
     let (word, behind) = cut_word(arguments);
     let (name, _) = cut_word(behind);
     let uuid = Txt::of(alloc, word)?;
-    let cause = Cause::of_name(name).unwrap_or(Cause::NormalClearing);
+    let cause = Cause::of_name_or_clearing(name);
     Ok(Api::UuidKill { uuid, cause })
 }

@@ -5,7 +5,8 @@ use Rattle.std.specs.Str.{IsUtf8}
 use Rattle.std.specs.List.{flat_map, enumerate_from}
 use Rattle.std.proofs.Math.Seq.{drop-cons}
 use Rattle.std.proofs.lemmas.Grind.{flat_map-append}
-use Rattle.std.proofs.lemmas.List.{append_assoc, append-nil, map-append, length-append, length-take-le, take-append-drop, take_more, map_more}
+use Rattle.std.proofs.lemmas.List.{append_assoc, append-nil, map-append, length-append, length-take-le, take-append-drop, take_more}
+use Rattle.std.proofs.lemmas.List.{map_more}
 use Rattle.std.proofs.lemmas.List.Elements.{All-append, All-map, All-nil, All-cons, All-same, All-push}
 use Rattle.regex.specs.Bytes.{regex_source}
 use Rattle.regex.specs.declared.bytes.regex.Regex.{Regex}
@@ -17,7 +18,10 @@ use Rattle.fs_plan.specs.declared.fault.Unbuilt.{Unbuilt}
 use Rattle.fs_plan.specs.declared.fault.Unbuilt.TheVariants as unbuilt
 use Rattle.fs_plan.specs.declared.fault.PlanFault.{PlanFault}
 use Rattle.fs_plan.specs.declared.fault.PlanFault.TheVariants as fault
-use Rattle.fs_plan.specs.Building.{First, HasReading, AreRead, HaveReadings, NumberedPattern, IsNumbered, numbered_patterns, IsTextUnbuilt, IsUnbuilt, IsRefusalOf, IsPlanRefusal, IsNoPattern, IsAnyPattern, expressions_of, patterns_of, patterns_within, patterns_from, patterns_in, number_of, extensions_in, fault_of, sizes_after, sizes_unbuilt}
+use Rattle.fs_plan.specs.Building.{First, HasReading, AreRead, HaveReadings, NumberedPattern, IsNumbered, numbered_patterns, IsTextUnbuilt}
+use Rattle.fs_plan.specs.Building.{IsUnbuilt, IsRefusalOf, IsPlanRefusal, IsNoPattern, IsAnyPattern, expressions_of, patterns_of}
+use Rattle.fs_plan.specs.Building.{patterns_within, patterns_from, patterns_in, number_of, extensions_in, fault_of, sizes_after}
+use Rattle.fs_plan.specs.Building.{sizes_unbuilt}
 
 -- what was built of a text was built of its own source
 pub own_built : (text : Text) (regex : Regex) → IsBuiltOf text regex → IsBuiltOf (regex_source regex) regex
@@ -74,12 +78,14 @@ parts-append : {A B : Type 0} (f : ℕ × A → List B) (n : ℕ) (xs ys : List 
 parts-append f n [] ys = let e : n ≡ n + 0 = omega arith in ap (λ k. flat_map f (enumerate_from k ys)) e
 parts-append f n (x ∷ xs) ys =
     let e : n + 1 + length xs ≡ n + suc (length xs) = omega arith in
-    ap (λ bs. f (n, x) ++ bs) (parts-append f (n + 1) xs ys ∙ ap (λ k. flat_map f (enumerate_from (n + 1) xs) ++ flat_map f (enumerate_from k ys)) e)
+    ap (λ bs. f (n, x) ++ bs) (parts-append f (n + 1) xs ys
+    ∙ ap (λ k. flat_map f (enumerate_from (n + 1) xs) ++ flat_map f (enumerate_from k ys)) e)
     ∙ sym (append_assoc (f (n, x)) _ _)
 
 -- what comes of the element at a place stands behind what comes of those before it
 parts_at : {A B : Type 0} (f : ℕ × A → List B) (n : ℕ) (xs : List A) (i at : ℕ) (x : A) → at ≡ n + i → i < length xs → x ≡ get_or xs i x →
-    flat_map f (enumerate_from n xs) ≡ flat_map f (enumerate_from n (take i xs)) ++ (f (at, x) ++ flat_map f (enumerate_from (at + 1) (drop (suc i) xs)))
+    flat_map f (enumerate_from n xs) ≡ flat_map f (enumerate_from n (take i xs))
+    ++ (f (at, x) ++ flat_map f (enumerate_from (at + 1) (drop (suc i) xs)))
 parts_at f n xs i at x place within is =
     let rest : drop i xs ≡ x ∷ drop (suc i) xs = drop-cons xs i x within ∙ ap (λ y. y ∷ drop (suc i) xs) (sym is) in
     let whole : xs ≡ take i xs ++ x ∷ drop (suc i) xs = sym (take-append-drop i xs) ∙ ap (λ ys. take i xs ++ ys) rest in
@@ -120,17 +126,20 @@ pub children_more : (children : List (Child Text)) (i : ℕ) (child : Child Text
     HasReading child.expression → AreRead (expressions_of (take i children)) → AreRead (expressions_of (take (i + 1) children))
 children_more children i child within is here before =
     let parts : expressions_of (take (i + 1) children) ≡ expressions_of (take i children) ++ child.expression ∷ [] =
-    map_more (λ c. c.expression) children i child within ∙ ap (λ c. expressions_of (take i children) ++ c.expression ∷ []) (sym is) in record {
+    map_more (λ c. c.expression) children i child within ∙ ap (λ c. expressions_of (take i children) ++ c.expression ∷ []) (sym is) in
+    record {
       each = All-same HasReading _ _ parts (All-push HasReading (expressions_of (take i children)) child.expression before.each here);
     }
 
 -- a child that was not built
-pub child_unbuilt : (children : List (Child Text)) (i : ℕ) (child : Child Text) (why : Unbuilt) → i < length children → child ≡ get_or children i child →
+pub child_unbuilt : (children : List (Child Text)) (i : ℕ) (child : Child Text) (why : Unbuilt) → i < length children →
+    child ≡ get_or children i child →
     AreRead (expressions_of (take i children)) → IsTextUnbuilt child.expression why → IsUnbuilt (expressions_of children) why
 child_unbuilt children i child why within is before h = unbuilt_at why h where
   split_at : expressions_of children ≡ expressions_of (take i children) ++ child.expression ∷ expressions_of (drop (suc i) children)
   split_at = ap expressions_of (sym (take-append-drop i children)) ∙ map-append (λ c. c.expression) (take i children) (drop i children)
-      ∙ ap (λ cs. expressions_of (take i children) ++ expressions_of cs) (drop-cons children i child within ∙ ap (λ c. c ∷ drop (suc i) children) (sym is))
+      ∙ ap (λ cs. expressions_of (take i children) ++ expressions_of cs)
+      (drop-cons children i child within ∙ ap (λ c. c ∷ drop (suc i) children) (sym is))
 
   first_at : (P : Text → Type 0) → P child.expression → First HasReading P (expressions_of children)
   first_at P h = record {
@@ -170,20 +179,25 @@ unbuilt_numbered extension condition texts unbuilt.NoReading h = first_numbered 
 unbuilt_numbered extension condition texts unbuilt.TooLarge h = first_numbered IsAnyPattern extension condition texts h
 unbuilt_numbered extension condition texts unbuilt.Memory h = tt
 
-pub conditions_more : (number : ℕ) (conditions : List Condition) (i : ℕ) (condition : Condition) → i < length conditions → condition ≡ get_or conditions i condition →
+pub conditions_more : (number : ℕ) (conditions : List Condition) (i : ℕ) (condition : Condition) → i < length conditions →
+    condition ≡ get_or conditions i condition →
     AreRead (patterns_of condition.test) → HaveReadings (patterns_within number (take i conditions)) →
     HaveReadings (patterns_within number (take (i + 1) conditions))
 conditions_more number conditions i condition within is here before =
-    readings_more _ _ _ (parts_more _ 0 conditions i i condition (omega arith) within is) before (readings_numbered number (number_of i) (patterns_of condition.test) here)
+    readings_more _ _ _ (parts_more _ 0 conditions i i condition (omega arith) within is) before
+    (readings_numbered number (number_of i) (patterns_of condition.test) here)
 
 -- a condition that was not built
 pub condition_refused : (number : ℕ) (conditions : List Condition) (i : ℕ) (condition : Condition) (why : Unbuilt) → i < length conditions →
-    condition ≡ get_or conditions i condition → HaveReadings (patterns_within number (take i conditions)) → IsUnbuilt (patterns_of condition.test) why →
+    condition ≡ get_or conditions i condition → HaveReadings (patterns_within number (take i conditions)) →
+    IsUnbuilt (patterns_of condition.test) why →
     IsRefusalOf (patterns_within number conditions) (fault_of why number (number_of i))
 condition_refused number conditions i condition why within is before h =
-    refused_in _ _ _ _ _ (parts_at _ 0 conditions i i condition (omega arith) within is) before (unbuilt_numbered number (number_of i) (patterns_of condition.test) why h)
+    refused_in _ _ _ _ _ (parts_at _ 0 conditions i i condition (omega arith) within is) before
+    (unbuilt_numbered number (number_of i) (patterns_of condition.test) why h)
 
-pub sizes_same : (why : Unbuilt) (extension condition sizes : ℕ) → sizes_after (fault_of why extension condition) sizes ≡ sizes_unbuilt why sizes
+pub sizes_same : (why : Unbuilt) (extension condition sizes : ℕ) →
+    sizes_after (fault_of why extension condition) sizes ≡ sizes_unbuilt why sizes
 sizes_same unbuilt.NoReading extension condition sizes = refl
 sizes_same unbuilt.TooLarge extension condition sizes = refl
 sizes_same unbuilt.Memory extension condition sizes = refl
@@ -194,8 +208,10 @@ sizes_same unbuilt.Memory extension condition sizes = refl
 capped : (n place : ℕ) → number_of (min (n + place) 18446744073709551615) ≡ number_of (n + place)
 capped n place = omega arith
 
-pub extensions_more : (before : ℕ) (extensions : List Extension) (i : ℕ) (extension : Extension) (number : ℕ) (conditions : List Condition) →
-    i < length extensions → extension ≡ get_or extensions i extension → number ≡ number_of (min (before + i) 18446744073709551615) → conditions ≡ extension.conditions →
+pub extensions_more : (before : ℕ) (extensions : List Extension) (i : ℕ) (extension : Extension) (number : ℕ)
+    (conditions : List Condition) →
+    i < length extensions → extension ≡ get_or extensions i extension → number ≡ number_of (min (before + i) 18446744073709551615) →
+    conditions ≡ extension.conditions →
     HaveReadings (patterns_within number conditions) → HaveReadings (patterns_from before (take i extensions)) →
     HaveReadings (patterns_from before (take (i + 1) extensions))
 extensions_more before extensions i extension number conditions within is numbered own here earlier =
@@ -203,9 +219,11 @@ extensions_more before extensions i extension number conditions within is number
     readings_more _ _ _ (parts_more _ before extensions i (before + i) extension refl within is) earlier (rw (same, ← own) here)
 
 -- an extension whose conditions were not built
-pub extension_refused : (before : ℕ) (extensions : List Extension) (i : ℕ) (extension : Extension) (refused : PlanFault) → i < length extensions →
+pub extension_refused : (before : ℕ) (extensions : List Extension) (i : ℕ) (extension : Extension) (refused : PlanFault) →
+    i < length extensions →
     extension ≡ get_or extensions i extension → HaveReadings (patterns_from before (take i extensions)) →
-    IsRefusalOf (patterns_within (number_of (min (before + i) 18446744073709551615)) extension.conditions) refused → IsRefusalOf (patterns_from before extensions) refused
+    IsRefusalOf (patterns_within (number_of (min (before + i) 18446744073709551615)) extension.conditions) refused →
+    IsRefusalOf (patterns_from before extensions) refused
 extension_refused before extensions i extension refused within is earlier h =
     let own : IsRefusalOf (patterns_within (number_of (before + i)) extension.conditions) refused = rw (← capped before i) h in
     refused_in _ _ _ _ refused (parts_at _ before extensions i (before + i) extension refl within is) earlier own
@@ -217,7 +235,8 @@ abbrev pub before : List Context → ℕ → ℕ
 before contexts i = min (length (extensions_in (take i contexts))) 18446744073709551615
 
 -- extensions have the same numbers behind so many, or as many as 32 bits tell
-same_numbers : (n m : ℕ) (extensions : List Extension) → min n 4294967294 ≡ min m 4294967294 → patterns_from n extensions ≡ patterns_from m extensions
+same_numbers : (n m : ℕ) (extensions : List Extension) → min n 4294967294 ≡ min m 4294967294 →
+    patterns_from n extensions ≡ patterns_from m extensions
 same_numbers n m [] is = refl
 same_numbers n m (extension ∷ extensions) is =
     let number : number_of n ≡ number_of m = omega arith in
@@ -228,7 +247,8 @@ same_numbers n m (extension ∷ extensions) is =
 parts_of : (contexts : List Context) (i : ℕ) (context : Context) → i < length contexts → context ≡ get_or contexts i context →
     extensions_in contexts ≡ extensions_in (take i contexts) ++ (context.extensions ++ extensions_in (drop (suc i) contexts))
 parts_of contexts i context within is =
-    let rest : drop i contexts ≡ context ∷ drop (suc i) contexts = drop-cons contexts i context within ∙ ap (λ c. c ∷ drop (suc i) contexts) (sym is) in
+    let rest : drop i contexts ≡ context ∷ drop (suc i) contexts =
+    drop-cons contexts i context within ∙ ap (λ c. c ∷ drop (suc i) contexts) (sym is) in
     ap extensions_in (sym (take-append-drop i contexts))
     ∙ flat_map-append (λ c. c.extensions) (take i contexts) (drop i contexts)
     ∙ ap (λ cs. extensions_in (take i contexts) ++ extensions_in cs) rest
@@ -237,17 +257,20 @@ parts_of contexts i context within is =
 parts_to : (contexts : List Context) (i : ℕ) (context : Context) → i < length contexts → context ≡ get_or contexts i context →
     extensions_in (take (i + 1) contexts) ≡ extensions_in (take i contexts) ++ context.extensions
 parts_to contexts i context within is =
-    let more : take (i + 1) contexts ≡ take i contexts ++ context ∷ [] = take_more contexts i context within ∙ ap (λ c. take i contexts ++ c ∷ []) (sym is) in
+    let more : take (i + 1) contexts ≡ take i contexts ++ context ∷ [] =
+    take_more contexts i context within ∙ ap (λ c. take i contexts ++ c ∷ []) (sym is) in
     ap extensions_in more ∙ flat_map-append (λ c. c.extensions) (take i contexts) (context ∷ [])
     ∙ ap (λ es. extensions_in (take i contexts) ++ es) (append-nil context.extensions)
 
 -- the patterns of extensions, and of those behind them
-patterns_from-append : (n : ℕ) (xs ys : List Extension) → patterns_from n (xs ++ ys) ≡ patterns_from n xs ++ patterns_from (n + length xs) ys
+patterns_from-append : (n : ℕ) (xs ys : List Extension) →
+    patterns_from n (xs ++ ys) ≡ patterns_from n xs ++ patterns_from (n + length xs) ys
 patterns_from-append n xs ys = parts-append _ n xs ys
 
 pub contexts_more : (contexts : List Context) (i : ℕ) (context : Context) (n : ℕ) (extensions : List Extension) → i < length contexts →
     context ≡ get_or contexts i context → n ≡ before contexts i → extensions ≡ context.extensions →
-    HaveReadings (patterns_from n extensions) → HaveReadings (patterns_in (take i contexts)) → HaveReadings (patterns_in (take (i + 1) contexts))
+    HaveReadings (patterns_from n extensions) → HaveReadings (patterns_in (take i contexts)) →
+    HaveReadings (patterns_in (take (i + 1) contexts))
 contexts_more contexts i context n extensions within is so_many own here earlier =
     let front = extensions_in (take i contexts) in
     let parts : patterns_in (take (i + 1) contexts) ≡ patterns_in (take i contexts) ++ patterns_from (0 + length front) context.extensions =
@@ -255,12 +278,15 @@ contexts_more contexts i context n extensions within is so_many own here earlier
     readings_more _ _ _ parts earlier (rw (same_numbers (0 + length front) n context.extensions (omega arith), ← own) here)
 
 -- a context whose extensions were not built
-pub context_refused : (contexts : List Context) (i : ℕ) (context : Context) (refused : PlanFault) → i < length contexts → context ≡ get_or contexts i context →
-    HaveReadings (patterns_in (take i contexts)) → IsRefusalOf (patterns_from (before contexts i) context.extensions) refused → IsPlanRefusal contexts refused
+pub context_refused : (contexts : List Context) (i : ℕ) (context : Context) (refused : PlanFault) → i < length contexts →
+    context ≡ get_or contexts i context →
+    HaveReadings (patterns_in (take i contexts)) → IsRefusalOf (patterns_from (before contexts i) context.extensions) refused →
+    IsPlanRefusal contexts refused
 context_refused contexts i context refused within is earlier h =
     let front = extensions_in (take i contexts) in
     let back = extensions_in (drop (suc i) contexts) in
-    let parts : patterns_in contexts ≡ patterns_in (take i contexts) ++ (patterns_from (0 + length front) context.extensions ++ patterns_from (0 + length front + length context.extensions) back) =
+    let parts : patterns_in contexts ≡ patterns_in (take i contexts)
+    ++ (patterns_from (0 + length front) context.extensions ++ patterns_from (0 + length front + length context.extensions) back) =
     ap (patterns_from 0) (parts_of contexts i context within is) ∙ patterns_from-append 0 front (context.extensions ++ back)
     ∙ ap (λ ps. patterns_from 0 front ++ ps) (patterns_from-append (0 + length front) context.extensions back) in
     let own : IsRefusalOf (patterns_from (0 + length front) context.extensions) refused =

@@ -31,6 +31,7 @@ fields_plain : (profile : Profile) → are_plain (fields_of profile) ≡ true
 unfolding fields_of
 fields_plain profile = refl
 
-pub own_value : (profile : Profile) (field value : Text) (s : Hunt) → Some value ≡ value_of (fields_of profile) field → field_value profile field s ≡ Ok value
+pub own_value : (profile : Profile) (field value : Text) (s : Hunt) → Some value ≡ value_of (fields_of profile) field →
+    field_value profile field s ≡ Ok value
 unfolding field_value
 own_value profile field value s is = rw (plain_name (fields_of profile) field value (fields_plain profile) (sym is), ← is) refl

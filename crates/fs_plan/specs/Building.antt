@@ -63,11 +63,13 @@ numbered_patterns extension condition texts = map (λ text. record { text = text
 
 -- the patterns of the conditions of the extension of a number
 abbrev pub patterns_within : ℕ → List Condition → List NumberedPattern
-patterns_within number conditions = flat_map (λ (place, condition). numbered_patterns number (number_of place) (patterns_of condition.test)) (enumerate_from 0 conditions)
+patterns_within number conditions =
+    flat_map (λ (place, condition). numbered_patterns number (number_of place) (patterns_of condition.test)) (enumerate_from 0 conditions)
 
 -- the patterns of extensions, where so many stand before them
 abbrev pub patterns_from : ℕ → List Extension → List NumberedPattern
-patterns_from before extensions = flat_map (λ (place, extension). patterns_within (number_of place) extension.conditions) (enumerate_from before extensions)
+patterns_from before extensions =
+    flat_map (λ (place, extension). patterns_within (number_of place) extension.conditions) (enumerate_from before extensions)
 
 -- the extensions of all contexts, in order
 abbrev pub extensions_in : List Context → List Extension
@@ -106,10 +108,14 @@ pub record IsNumbered (P : Text → Type 0) (extension condition : ℕ) (pattern
   pub condition_is : pattern.condition ≡ condition
   pub is : P pattern.text
 
+-- the first of them without a reading has these numbers, and of its text P holds
+abbrev pub IsFirstRefused : (Text → Type 0) → ℕ → ℕ → List NumberedPattern → Type 0
+IsFirstRefused P extension condition patterns = First (λ p. HasReading p.text) (IsNumbered P extension condition) patterns
+
 -- why numbered patterns were not built: the first that was refused is named
 abbrev pub IsRefusalOf : List NumberedPattern → PlanFault → Type 0
-IsRefusalOf patterns (fault.PatternRefused extension condition) = First (λ p. HasReading p.text) (IsNumbered IsNoPattern extension condition) patterns
-IsRefusalOf patterns (fault.PatternTooLarge extension condition) = First (λ p. HasReading p.text) (IsNumbered IsAnyPattern extension condition) patterns
+IsRefusalOf patterns (fault.PatternRefused extension condition) = IsFirstRefused IsNoPattern extension condition patterns
+IsRefusalOf patterns (fault.PatternTooLarge extension condition) = IsFirstRefused IsAnyPattern extension condition patterns
 IsRefusalOf patterns fault.Memory = Unit {0}
 
 -- why a dialplan was not

@@ -1,5 +1,6 @@
 -- What a hunt through a dialplan gives.
-use Rattle.std.specs.Prelude.{◌==◌, ℕ, ◌+◌, Bool, true, false, not, ◌&&◌, ◌||◌, nat_le, if◌then◌else◌, List, [], ◌∷◌, ◌++◌, length, Option, None, Ok, Err, unwrap_or}
+use Rattle.std.specs.Prelude.{◌==◌, ℕ, ◌+◌, Bool, true, false, not, ◌&&◌, ◌||◌, nat_le, if◌then◌else◌, List, [], ◌∷◌, ◌++◌, length, Option}
+use Rattle.std.specs.Prelude.{None, Ok, Err, unwrap_or}
 use Rattle.fs_text.specs.Texts.{Text}
 use Rattle.fs_vars.specs.Pairs.{Pairs, same_text, value_of}
 use Rattle.fs_vars.specs.Variables.{Variables}
@@ -92,7 +93,8 @@ with_hunt_action action argument s =
 -- an action stands behind those so far; an inline one is expanded and acts at once
 unfoldable pub action_done : Profile → Option Groups → PlanAction → Hunt → Outcome Hunt
 action_done profile groups action s =
-    if action.inline then expanded_in profile (substituted groups action.argument) s >>= (λ argument. Ok (inline_done action.application argument s))
+    if action.inline
+    then expanded_in profile (substituted groups action.argument) s >>= (λ argument. Ok (inline_done action.application argument s))
     else Ok (with_hunt_action action (substituted groups action.argument) s)
 
 abbrev pub actions_done : Profile → Option Groups → List PlanAction → Hunt → Outcome Hunt

@@ -1,5 +1,6 @@
 -- What a pattern finds in the value of a field.
-use Rattle.std.specs.Prelude.{ℕ, zero, suc, Bool, true, false, nat_lt, if◌then◌else◌, List, [], map, length, Option, None, Some, slice_range}
+use Rattle.std.specs.Prelude.{ℕ, zero, suc, Bool, true, false, nat_lt, if◌then◌else◌, List, [], map, length, Option, None, Some}
+use Rattle.std.specs.Prelude.{slice_range}
 use Rattle.std.specs.List.{range_with_len}
 use Rattle.std.specs.Option.{option_map_or}
 use Rattle.regex.specs.Bytes.{captures_haystack, captures_span}

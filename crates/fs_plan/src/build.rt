@@ -1,6 +1,6 @@
 //! How the patterns of a dialplan are built.
 
-ghost use Rattle.std.specs.Prelude.{◌≡◌, ◌+◌, length, IfOk, OnOk, IfErr};
+ghost use Rattle.std.specs.Prelude.{◌≡◌, IfOk, OnOk, IfErr};
 ghost use Rattle.fs_plan.specs.Building as spec;
 
 use crate::fault::{PlanFault, Unbuilt};

@@ -1,6 +1,6 @@
 //! How a hunt evaluates conditions.
 
-ghost use Rattle.std.specs.Prelude.{◌≡◌, false, Ok, IfOk, IfErr, OnOk, Option, None, length};
+ghost use Rattle.std.specs.Prelude.{◌≡◌, false, Ok, IfOk, IfErr, OnOk, Option, None};
 ghost use Rattle.fs_plan.specs.Outcomes.{IsFault};
 ghost use Rattle.fs_plan.specs.Hunting as spec;
 
@@ -134,7 +134,8 @@ impl Hunt {
         condition: &ConditionDef<Pattern>,
         tested: &Tested,
     ) -> Result<(), Refused>
-        ensures ok { OnOk result (spec.chosen_actions_done profile.now condition.now tested.now self.old ≡ Ok self.new) }
+        ensures ok { OnOk result
+            (spec.chosen_actions_done profile.now condition.now tested.now self.old ≡ Ok self.new) }
         ensures err { IfErr result (IsFault (spec.chosen_actions_done profile.now condition.now tested.now self.old)) }
     {
         if tested.holds {

@@ -11,7 +11,7 @@ use std::alloc::Global;
 
 impl Hunt {
     /// A text with its references expanded, by what the hunt has come to.
-    #[tactic(auto, using(crate::proofs::TextLemmas::limit_rules), unfolding(crate::specs::Hunting::expanded_in, fs_vars::specs::Scopes::known_in))]
+    #[tactic(auto, using(crate::proofs::TextLemmas::limit_rules), unfolding(fs_vars::specs::Scopes::known_in))]
     pub(crate) fn expanded(
         &self,
         alloc: Global,

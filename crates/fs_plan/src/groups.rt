@@ -1,8 +1,7 @@
 //! The groups of a match, and the texts that they are put into.
 
-ghost use Rattle.std.specs.Prelude.{◌≡◌, ℕ, map, ◌∷◌, ◌++◌, ◌≤◌, length, IfOk};
+ghost use Rattle.std.specs.Prelude.{◌≡◌, ℕ, map, ◌∷◌, ◌≤◌, length, IfOk};
 ghost use Rattle.std.specs.List.{range_with_len};
-ghost use Rattle.fs_text.specs.Texts.{Text};
 ghost use Rattle.fs_plan.specs.Matching.{captured};
 ghost use Rattle.fs_plan.specs.Substitution as spec;
 

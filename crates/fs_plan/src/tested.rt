@@ -1,7 +1,6 @@
 //! What tests of a condition find.
 
 ghost use Rattle.std.specs.Prelude.{◌≡◌, ◌<◌};
-ghost use Rattle.fs_doc.specs.declared.dialplan.ManyKind.{ManyKind};
 
 use crate::groups::Groups;
 

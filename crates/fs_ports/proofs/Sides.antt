@@ -1,11 +1,13 @@
 -- How reads and writes follow one another.
-use Rattle.std.proofs.Common.{◌≡◌, ◌-◌, ℕ, ◌+◌, List, [], ◌++◌, length, take, drop, sym, refl, ap, ◌∙◌, append_assoc, append-nil, arith, Option, None, Some}
+use Rattle.std.proofs.Common.{◌≡◌, ◌-◌, ℕ, ◌+◌, List, [], ◌++◌, length, take, drop, sym, refl, ap, ◌∙◌, append_assoc, append-nil, arith}
+use Rattle.std.proofs.Common.{Option, None, Some}
 use Rattle.std.proofs.lemmas.List.{take-append-drop, take-take, drop-take, take_rest}
 use Rattle.std.specs.Io.KnownBytes.{append_known, prepend_known}
 use Rattle.fs_ports.specs.Counts.{raised}
 use Rattle.fs_ports.specs.Ports.{Input, Output, Reads, Writes, Stopped}
 
-pub append_known-append : (known : Option (List ℕ)) (xs ys : List ℕ) → append_known (append_known known xs) ys ≡ append_known known (xs ++ ys)
+pub append_known-append : (known : Option (List ℕ)) (xs ys : List ℕ) →
+    append_known (append_known known xs) ys ≡ append_known known (xs ++ ys)
 append_known-append None xs ys = refl
 append_known-append (Some known) xs ys = ap Some (append_assoc known xs ys)
 
@@ -13,7 +15,8 @@ pub append_known-nil : (known : Option (List ℕ)) → append_known known [] ≡
 append_known-nil None = refl
 append_known-nil (Some known) = ap Some (append-nil known)
 
-pub prepend_known-append : (known : Option (List ℕ)) (xs ys : List ℕ) → prepend_known xs (prepend_known ys known) ≡ prepend_known (xs ++ ys) known
+pub prepend_known-append : (known : Option (List ℕ)) (xs ys : List ℕ) →
+    prepend_known xs (prepend_known ys known) ≡ prepend_known (xs ++ ys) known
 prepend_known-append None xs ys = refl
 prepend_known-append (Some known) xs ys = ap Some (sym (append_assoc xs ys known))
 
@@ -67,11 +70,13 @@ reads_nothing now = record { taken = sym (append_known-nil now.taken); left = pr
 -- a front, and a front of the rest
 pub take-add : (m n : ℕ) (xs : List ℕ) → take (m + n) xs ≡ take m xs ++ take n (drop m xs)
 take-add m n xs =
-    sym (take-append-drop m (take (m + n) xs)) ∙ ap (λ ys. ys ++ drop m (take (m + n) xs)) (take-take m (m + n) xs (omega arith)) ∙ ap (λ ys. take m xs ++ ys) (drop-take m n xs)
+    sym (take-append-drop m (take (m + n) xs)) ∙ ap (λ ys. ys ++ drop m (take (m + n) xs)) (take-take m (m + n) xs (omega arith))
+    ∙ ap (λ ys. take m xs ++ ys) (drop-take m n xs)
 
 -- a write of a front of what is left adds to the front that was written
 pub writes_more : (old mid new : Output) (bytes : List ℕ) (done n : ℕ) →
-    Writes old mid (take done bytes) → Writes mid new (take n (take (length bytes - done) (drop done bytes))) → Writes old new (take (done + n) bytes)
+    Writes old mid (take done bytes) → Writes mid new (take n (take (length bytes - done) (drop done bytes))) →
+    Writes old new (take (done + n) bytes)
 writes_more old mid new bytes done n first then =
     rw (take-add done n bytes) (writes_both old mid new _ _ first (rw (take_rest bytes done) at then))
 

@@ -14,6 +14,8 @@ pub reads_piece : (bytes buf : List ℕ) (at n len faults : ℕ) → n ≤ len �
 reads_piece bytes buf at n len faults fits copied =
     let piece : take n buf ≡ take n (drop at bytes) = copied ∙ take-take n len (drop at bytes) fits in record {
       taken = ap Some (take-add at n bytes ∙ ap (λ xs. take at bytes ++ xs) (sym piece));
-      left = ap Some (sym (take-append-drop n (drop at bytes)) ∙ ap (λ xs. xs ++ drop n (drop at bytes)) (sym piece) ∙ ap (λ xs. take n buf ++ xs) (drop-drop n at bytes));
+      left =
+          ap Some (sym (take-append-drop n (drop at bytes)) ∙ ap (λ xs. xs ++ drop n (drop at bytes)) (sym piece)
+          ∙ ap (λ xs. take n buf ++ xs) (drop-drop n at bytes));
       waits = refl;
     }

@@ -6,7 +6,9 @@ use Rattle.fs_plan.proofs.build.children.Goals as goal
 pub loop-child-preserved : goal.loop-child-preserved
 loop-child-preserved g c = record {
   built = grind (arith, common_steps);
-  read = children_more c.args.list.now c.loop-child.child-index c.child-item.result (omega arith) c.child-item.is c.in_ok-expression.ensures.read c.loop-child.invariant.read;
+  read =
+      children_more c.args.list.now c.loop-child.child-index c.child-item.result
+      (omega arith) c.child-item.is c.in_ok-expression.ensures.read c.loop-child.invariant.read;
   sizes = search rules;
   counts = search rules;
   loads = search rules;

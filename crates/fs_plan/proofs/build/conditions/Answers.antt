@@ -6,7 +6,9 @@ use Rattle.fs_plan.proofs.build.conditions.Goals as goal
 pub loop-place-preserved : goal.loop-place-preserved
 loop-place-preserved g c = record {
   built = grind (arith, common_steps);
-  read = conditions_more c.args.extension c.args.list.now c.loop-place.place c.index-list-place.result (omega arith) c.index-list-place.is c.in-Ok.ensures.read c.loop-place.invariant.read;
+  read =
+      conditions_more c.args.extension c.args.list.now c.loop-place.place c.index-list-place.result
+      (omega arith) c.index-list-place.is c.in-Ok.ensures.read c.loop-place.invariant.read;
   sizes = search rules;
   counts = search rules;
   loads = search rules;

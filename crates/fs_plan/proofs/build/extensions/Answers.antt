@@ -6,7 +6,9 @@ use Rattle.fs_plan.proofs.build.extensions.Goals as goal
 pub loop-place-preserved : goal.loop-place-preserved
 loop-place-preserved g c = record {
   built = grind (arith, common_steps);
-  read = extensions_more c.args.before c.args.list.now c.loop-place.place c.index-list-place.result c.number_of-number.result c.as_slice.result.now (omega arith)
+  read =
+      extensions_more c.args.before c.args.list.now c.loop-place.place c.index-list-place.result c.number_of-number.result
+      c.as_slice.result.now (omega arith)
       c.index-list-place.is (omega arith) (search rules) c.in_ok-conditions.ensures.read c.loop-place.invariant.read;
   sizes = search rules;
   counts = search rules;

@@ -7,4 +7,5 @@ use Rattle.fs_plan.proofs.groups.Groups.of.Given as goal
 
 -- the texts of the groups so far
 abbrev pub invariant-loop-n : goal.invariant-loop-n
-invariant-loop-n l = l.texts.items ≡ map (λ n. group_text (captures_haystack l.captures) (captures_span l.captures n)) (range_with_len 0 l.n)
+invariant-loop-n l =
+    l.texts.items ≡ map (λ n. group_text (captures_haystack l.captures) (captures_span l.captures n)) (range_with_len 0 l.n)

@@ -10,8 +10,10 @@ returns-then-captures_len-lt2 c =
 pub returns-in-Some : goal.returns-in-Some
 returns-in-Some c =
     let found = c.in-Some.ensures.found in
-    rw (← c.self.view_is) (some_tested _ _ c.self.inside.regex c.in-Some.captures _ c.self.invariant.0 (λ k. search (rules, c.type_inv.value k))
-    (omega (arith, c.captures_len.ensures.names)) found.0 (rw c.in_ok-matcher.ensures.pattern at found.1) found.2 c.in_ok-groups-in-Some.ensures)
+    rw (← c.self.view_is) (some_tested _ _ c.self.inside.regex c.in-Some.captures _ c.self.invariant.0
+    (λ k. search (rules, c.type_inv.value k))
+    (omega (arith, c.captures_len.ensures.names)) found.0
+    (rw c.in_ok-matcher.ensures.pattern at found.1) found.2 c.in_ok-groups-in-Some.ensures)
 
 pub returns : goal.returns
 returns c =

@@ -1,11 +1,10 @@
 -- What an application is asked to do, by its name and its argument.
-use Rattle.std.specs.Prelude.{ℕ, ◌==◌, nat_le, Bool, false, not, ◌||◌, ◌&&◌, if◌then◌else◌, [], ◌∷◌, Option, None, Some, unwrap_or, codes}
+use Rattle.std.specs.Prelude.{ℕ, ◌==◌, nat_le, Bool, false, not, ◌||◌, ◌&&◌, if◌then◌else◌, [], ◌∷◌, Option, None, Some, codes}
 use Rattle.std.specs.Str.{bytes_eq}
 use Rattle.fs_text.specs.Number.{read_u64}
 use Rattle.fs_text.specs.Words.{without_spaces, word_of, behind_word}
-use Rattle.fs_text.specs.Cause.{cause_of_name}
+use Rattle.fs_text.specs.Cause.{cause_or_clearing}
 use Rattle.fs_text.specs.Texts.{Text}
-use Rattle.fs_text.specs.declared.causes.Cause.TheVariants.{NormalClearing}
 use Rattle.fs_orig.specs.Endpoints.{is_short}
 use Rattle.fs_chan.specs.declared.assignment.Assignment.{Assignment}
 use Rattle.fs_chan.specs.Assignments.{assignment_named}
@@ -25,7 +24,7 @@ sleep_application argument = app.Sleep (within_hour (read_u64 argument))
 
 -- the cause that the first word names; NORMAL_CLEARING where there is no such name
 abbrev pub hangup_application : Text → Application
-hangup_application argument = app.Hangup (unwrap_or (cause_of_name (word_of (without_spaces argument))) NormalClearing)
+hangup_application argument = app.Hangup (cause_or_clearing (word_of (without_spaces argument)))
 
 -- ---- routing
 

@@ -60,7 +60,7 @@ fn hangup_application(argument: &[u8]) -> Application
     ensures { result ≡ spec.hangup_application argument.now }
 {
     let (name, _) = cut_word(without_spaces(argument));
-    let cause = Cause::of_name(name).unwrap_or(Cause::NormalClearing);
+    let cause = Cause::of_name_or_clearing(name);
     Application::Hangup { cause }
 }
 

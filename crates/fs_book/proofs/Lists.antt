@@ -1,5 +1,6 @@
 -- Beginnings of one list, and sums over lists.
-use Rattle.std.proofs.Common.{◌≡◌, ◌≢◌, ℕ, zero, suc, ◌+◌, ◌<◌, ◌≤◌, cond, eqb, List, [], ◌∷◌, ◌++◌, length, take, set, Some, slice_get, refl, ap, sym, ◌∙◌, arith, append_assoc, length-append}
+use Rattle.std.proofs.Common.{◌≡◌, ◌≢◌, ℕ, zero, suc, ◌+◌, ◌<◌, ◌≤◌, cond, eqb, List, [], ◌∷◌, ◌++◌, length, take, set, Some, slice_get}
+use Rattle.std.proofs.Common.{refl, ap, sym, ◌∙◌, arith, append_assoc, length-append}
 use Rattle.std.proofs.lemmas.Bool.Decides.{nat_tests}
 use mathlib.Core.List.{IsPrefix}
 use mathlib.Core.Option.{some, some-injective, some-ne-none}
@@ -43,7 +44,8 @@ prefix_get (y ∷ xs) (z ∷ ys) zero x p h = cc (p.1, h)
 prefix_get (y ∷ xs) (z ∷ ys) (suc k) x p h = prefix_get xs ys k x (p.0, cc (p.1)) h
 
 -- what stands in the whole, within a beginning, stands in the beginning
-pub prefix_got : {A : Type 0} (xs ys : List A) (k : ℕ) (x : A) → IsPrefix xs ys → k < length xs → slice_get ys k ≡ Some x → slice_get xs k ≡ Some x
+pub prefix_got : {A : Type 0} (xs ys : List A) (k : ℕ) (x : A) → IsPrefix xs ys → k < length xs → slice_get ys k ≡ Some x →
+    slice_get xs k ≡ Some x
 prefix_got [] ys k x p lt h = absurd (omega arith)
 prefix_got (y ∷ xs) [] k x p lt h = absurd (cc (p.1))
 prefix_got (y ∷ xs) (z ∷ ys) zero x p lt h = cc (p.1, h)
@@ -122,7 +124,8 @@ module _ {V : Type 0} (f : V → ℕ) where
   find (u ∷ vs) h = found u vs (f u) refl (find vs) h
 
   -- one term that is the whole sum leaves nothing for another
-  pub total_only : (vs : List V) (i j : ℕ) (v w : V) → get_elem? vs i ≡ some v → total f vs ≤ f v → i ≢ j → get_elem? vs j ≡ some w → f w ≡ 0
+  pub total_only : (vs : List V) (i j : ℕ) (v w : V) → get_elem? vs i ≡ some v → total f vs ≤ f v → i ≢ j → get_elem? vs j ≡ some w →
+      f w ≡ 0
   total_only vs i j v w at le n at' = let r = two_le_total vs i j v w n at at' in omega arith
 
 -- each sum is at most the other where each term is
@@ -135,7 +138,8 @@ total_none [] = refl
 total_none (w ∷ ws) = let r = total_none ws in omega arith
 
 -- a sum all of whose terms but one are 0
-pub total_alone : {V : Type 0} (f : V → ℕ) (vs : List V) (i : ℕ) (v : V) → get_elem? vs i ≡ some v → ((j : ℕ) (w : V) → i ≢ j → get_elem? vs j ≡ some w → f w ≡ 0) → total f vs ≡ f v
+pub total_alone : {V : Type 0} (f : V → ℕ) (vs : List V) (i : ℕ) (v : V) → get_elem? vs i ≡ some v →
+    ((j : ℕ) (w : V) → i ≢ j → get_elem? vs j ≡ some w → f w ≡ 0) → total f vs ≡ f v
 total_alone f [] i v at h = absurd (some-ne-none v (sym at))
 total_alone f (u ∷ vs) zero v at h =
     let z = total_le f (λ _. 0) vs (λ j w at'. let e = h (suc j) w (λ n. omega arith) at' in omega arith) in

@@ -1,5 +1,6 @@
 -- Openings and names where more is seen, and where an entry is appended.
-use Rattle.std.proofs.Common.{◌≡◌, ℕ, zero, suc, ◌<◌, List, [], ◌∷◌, ◌++◌, length, take, Option, Some, slice_get, refl, ap, sym, ◌∙◌, subst, arith, length-append}
+use Rattle.std.proofs.Common.{◌≡◌, ℕ, zero, suc, ◌<◌, List, [], ◌∷◌, ◌++◌, length, take, Option, Some, slice_get, refl, ap, sym, ◌∙◌, subst}
+use Rattle.std.proofs.Common.{arith, length-append}
 use Rattle.std.proofs.lemmas.Bool.Decides.{nat_tests}
 use mathlib.Core.List.{IsPrefix}
 use mathlib.Core.Logic.{dite}
@@ -7,7 +8,8 @@ use mathlib.Core.Option.{some-injective}
 use native.Mathlib.Decide.{dec_lt, ℕ_discrete}
 use Rattle.fs_book.specs.Counts.{total, times}
 use Rattle.fs_book.specs.Opened.{OpensAt, NamesAt, OwnsNumber, NamesOwn, Rises, Closed}
-use Rattle.fs_book.proofs.Lists.{prefix_get, prefix_got, prefix_take, get_below, get_last, last_get, last_take, one_le_total, times_here, times_before, times_more}
+use Rattle.fs_book.proofs.Lists.{prefix_get, prefix_got, prefix_take, get_below, get_last, last_get, last_take, one_le_total, times_here}
+use Rattle.fs_book.proofs.Lists.{times_before, times_more}
 
 -- what stands in a list is counted there
 pub times_at : (places : List ℕ) (i p : ℕ) → slice_get places i ≡ Some p → 0 < times p places
@@ -38,31 +40,39 @@ module _ {E : Type 0} (names : E → Option ℕ) where
 
 module _ {B E : Type 0} (opens : B → List E → E → Option ℕ) where
   -- what was opened stays opened where more is seen
-  pub opens_up : (origin : B) (xs ys : List E) (p number : ℕ) → IsPrefix xs ys → OpensAt opens origin xs p number → OpensAt opens origin ys p number
+  pub opens_up : (origin : B) (xs ys : List E) (p number : ℕ) → IsPrefix xs ys → OpensAt opens origin xs p number →
+      OpensAt opens origin ys p number
   opens_up origin xs ys p number pre h =
       let before : take p ys ≡ take p xs = prefix_take xs ys p pre (let r = get_below xs p h.0 h.1 in omega arith) in
       (h.0, prefix_get xs ys p h.0 pre h.1, ap (λ (log : List E). opens origin log h.0) before ∙ h.2)
 
   -- what is owned stays owned where more is seen
-  pub owns_up : (origin : B) (number : ℕ) (xs ys : List E) (places : List ℕ) → IsPrefix xs ys → OwnsNumber opens origin number xs places → OwnsNumber opens origin number ys places
+  pub owns_up : (origin : B) (number : ℕ) (xs ys : List E) (places : List ℕ) → IsPrefix xs ys → OwnsNumber opens origin number xs places →
+      OwnsNumber opens origin number ys places
   owns_up origin number xs ys places pre h = (h.0, h.1, opens_up origin xs ys h.0 number pre h.2)
 
   -- so it does where a place is added
-  pub owns_more : (origin : B) (number : ℕ) (log : List E) (places : List ℕ) (p : ℕ) → OwnsNumber opens origin number log places → OwnsNumber opens origin number log (places ++ p ∷ [])
+  pub owns_more : (origin : B) (number : ℕ) (log : List E) (places : List ℕ) (p : ℕ) → OwnsNumber opens origin number log places →
+      OwnsNumber opens origin number log (places ++ p ∷ [])
   owns_more origin number log places p h = (h.0, times_more h.0 p places h.1, h.2)
 
   -- the number that the last entry opened is one's own
   pub own_new : (origin : B) (number : ℕ) (log : List E) (entry : E) (places : List ℕ) → opens origin log entry ≡ Some number
       → OwnsNumber opens origin number (log ++ entry ∷ []) (places ++ length log ∷ [])
-  own_new origin number log entry places is =
-      (length log, times_here (length log) places, (entry, last_get log entry, ap (λ (before : List E). opens origin before entry) (last_take log entry) ∙ is))
+  own_new origin number log entry places is = (
+    length log,
+    times_here (length log) places,
+    (entry, last_get log entry, ap (λ (before : List E). opens origin before entry) (last_take log entry) ∙ is),
+  )
 
 module _ {B E : Type 0} (opens : B → List E → E → Option ℕ) (names : E → Option ℕ) where
   -- an entry that is one's own stays so where more is seen
-  pub own_up : (origin : B) (xs ys : List E) (places : List ℕ) (entry : E) → IsPrefix xs ys → NamesOwn opens names origin xs places entry → NamesOwn opens names origin ys places entry
+  pub own_up : (origin : B) (xs ys : List E) (places : List ℕ) (entry : E) → IsPrefix xs ys → NamesOwn opens names origin xs places entry →
+      NamesOwn opens names origin ys places entry
   own_up origin xs ys places entry pre own number is = owns_up opens origin number xs ys places pre (own number is)
 
-  pub closed_up : (start : Option B) (lists : List (List ℕ)) (xs ys : List E) → IsPrefix xs ys → ((p : ℕ) → 0 < total (times p) lists → p < length xs)
+  pub closed_up : (start : Option B) (lists : List (List ℕ)) (xs ys : List E) → IsPrefix xs ys →
+      ((p : ℕ) → 0 < total (times p) lists → p < length xs)
       → Closed opens names start lists xs → Closed opens names start lists ys
   closed_up start lists xs ys pre below closed origin is k l at p number in_l named =
       let inside = below p (let r = one_le_total (times p) lists k l at in omega arith) in
@@ -83,9 +93,11 @@ module _ {B E : Type 0} (opens : B → List E → E → Option ℕ) (names : E �
       subst (OwnsNumber opens origin number (log ++ entry ∷ [])) l_is
       (dite (ℕ_discrete p (length log))
       (λ here.
-      let last : entry ≡ named.0 = get_last log entry named.0 (subst (λ (n : ℕ). slice_get (log ++ entry ∷ []) n ≡ Some named.0) here named.1) in
+      let last : entry ≡ named.0 =
+      get_last log entry named.0 (subst (λ (n : ℕ). slice_get (log ++ entry ∷ []) n ≡ Some named.0) here named.1) in
       owns_more opens origin number (log ++ entry ∷ []) mine (length log)
       (owns_up opens origin number log (log ++ entry ∷ []) mine whole (own origin is number (ap names last ∙ named.2))))
       (λ elsewhere.
       owns_more opens origin number (log ++ entry ∷ []) mine (length log)
-      (closed_up start (mine ∷ met) log (log ++ entry ∷ []) whole below closed origin is zero mine refl p number (times_before p (length log) mine elsewhere counted) named)))
+      (closed_up start (mine ∷ met) log (log ++ entry ∷ []) whole below closed origin is zero mine refl p number
+      (times_before p (length log) mine elsewhere counted) named)))

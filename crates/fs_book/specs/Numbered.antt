@@ -18,10 +18,12 @@ opened : (b : Bool) (place number : ℕ) → ◌≡◌ {A = Option ℕ} (if b th
 opened true place number is = cc is
 opened false place number is = absurd (cc is)
 
-pub by_place_once : {B E : Type 0} (test : E → Bool) (origin : B) (log : List E) (p q number : ℕ) → OpensAt (λ _ before entry. by_place test before entry) origin log p number
+pub by_place_once : {B E : Type 0} (test : E → Bool) (origin : B) (log : List E) (p q number : ℕ)
+    → OpensAt (λ _ before entry. by_place test before entry) origin log p number
     → OpensAt (λ _ before entry. by_place test before entry) origin log q number → p ≡ q
 by_place_once test origin log p q number h h' =
-    sym (taken log p h.0 h.1) ∙ opened (test h.0) (length (take p log)) number h.2 ∙ sym (opened (test h'.0) (length (take q log)) number h'.2) ∙ taken log q h'.0 h'.1
+    sym (taken log p h.0 h.1) ∙ opened (test h.0) (length (take p log)) number h.2
+    ∙ sym (opened (test h'.0) (length (take q log)) number h'.2) ∙ taken log q h'.0 h'.1
 
 -- ---- an entry that opens a number opens one more than so many entries before it did
 
@@ -37,7 +39,8 @@ count_among test (entry ∷ entries) = counted_where (test entry) (count_among t
 abbrev pub by_count : {E : Type 0} → (E → Bool) → List E → E → Option ℕ
 by_count test log entry = if test entry then Some (suc (count_among test log)) else None
 
-next_opened : (b : Bool) (count number : ℕ) → ◌≡◌ {A = Option ℕ} (if b then Some (suc count) else None) (Some number) → (b ≡ true) × (suc count ≡ number)
+next_opened : (b : Bool) (count number : ℕ) → ◌≡◌ {A = Option ℕ} (if b then Some (suc count) else None) (Some number)
+    → (b ≡ true) × (suc count ≡ number)
 next_opened true count number is = (refl, cc is)
 next_opened false count number is = absurd (cc is)
 
@@ -61,9 +64,11 @@ same_place test (x ∷ xs) zero (suc q) entry other at holds at' holds' same =
 same_place test (x ∷ xs) (suc p) zero entry other at holds at' holds' same =
     let e : x ≡ other = cc at' in absurd (some_before (test x) (count_among test (take p xs)) (ap test e ∙ holds') (sym same))
 same_place test (x ∷ xs) (suc p) (suc q) entry other at holds at' holds' same =
-    ap suc (same_place test xs p q entry other at holds at' holds' (cancel (test x) (count_among test (take p xs)) (count_among test (take q xs)) same))
+    ap suc (same_place test xs p q entry other at holds at' holds'
+    (cancel (test x) (count_among test (take p xs)) (count_among test (take q xs)) same))
 
-pub by_count_once : {B E : Type 0} (test : E → Bool) (origin : B) (log : List E) (p q number : ℕ) → OpensAt (λ _ before entry. by_count test before entry) origin log p number
+pub by_count_once : {B E : Type 0} (test : E → Bool) (origin : B) (log : List E) (p q number : ℕ)
+    → OpensAt (λ _ before entry. by_count test before entry) origin log p number
     → OpensAt (λ _ before entry. by_count test before entry) origin log q number → p ≡ q
 by_count_once test origin log p q number h h' =
     let a = next_opened (test h.0) (count_among test (take p log)) number h.2 in

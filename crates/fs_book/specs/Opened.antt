@@ -24,22 +24,28 @@ NamesOwn opens names origin log places entry = (number : ℕ) → names entry �
 abbrev pub Rises : List ℕ → Type 0
 Rises places = (i j p q : ℕ) → i < j → slice_get places i ≡ Some p → slice_get places j ≡ Some q → p < q
 
-module _ {B E : Type 0} (opens : B → List E → E → Option ℕ) (names : E → Option ℕ) (start : Option B) (lists : List (List ℕ)) (seen : List E) where
+module _ {B E : Type 0} (opens : B → List E → E → Option ℕ) (names : E → Option ℕ) (start : Option B) (lists : List (List ℕ))
+    (seen : List E) where
   -- what names a number stands in a list that opens it
   abbrev pub Closed : Type 0
-  Closed = (origin : B) → start ≡ Some origin → (k : ℕ) (l : List ℕ) → get_elem? lists k ≡ some l → (p number : ℕ) → 0 < times p l → NamesAt names seen p number → OwnsNumber opens origin number seen l
+  Closed =
+      (origin : B) → start ≡ Some origin → (k : ℕ) (l : List ℕ) → get_elem? lists k ≡ some l → (p number : ℕ) → 0 < times p l
+      → NamesAt names seen p number → OwnsNumber opens origin number seen l
 
   -- the same, as a fact and no data
   abbrev pub NoStray : Type 0
-  NoStray = (origin : B) → start ≡ Some origin → (k : ℕ) (l : List ℕ) → get_elem? lists k ≡ some l → (p number : ℕ) → 0 < times p l → NamesAt names seen p number
-      → (OwnsNumber opens origin number seen l → ⊥) → ⊥
+  NoStray =
+      (origin : B) → start ≡ Some origin → (k : ℕ) (l : List ℕ) → get_elem? lists k ≡ some l → (p number : ℕ) → 0 < times p l
+      → NamesAt names seen p number → (OwnsNumber opens origin number seen l → ⊥) → ⊥
 
   -- a list that opens a number has each place that names it
   abbrev pub Owned : Type 0
-  Owned = (origin : B) → start ≡ Some origin → (k : ℕ) (l : List ℕ) → get_elem? lists k ≡ some l → (q number : ℕ) → 0 < times q l → OpensAt opens origin seen q number
-      → (p : ℕ) → NamesAt names seen p number → 0 < times p l
+  Owned =
+      (origin : B) → start ≡ Some origin → (k : ℕ) (l : List ℕ) → get_elem? lists k ≡ some l → (q number : ℕ) → 0 < times q l
+      → OpensAt opens origin seen q number → (p : ℕ) → NamesAt names seen p number → 0 < times p l
 
-  -- what the type of a pass says of its lists: they rise, their places are those of what was seen, and what names a number stands where it was opened
+  -- what the type of a pass says of its lists: they rise, their places are those of what was seen, and what names a number stands where
+  -- it was opened
   pub record IsSound : Type 0 where
     pub places : (k : ℕ) (l : List ℕ) → get_elem? lists k ≡ some l → (p : ℕ) → 0 < times p l → p < length seen
     pub rising : (k : ℕ) (l : List ℕ) → get_elem? lists k ≡ some l → Rises l

@@ -11,6 +11,8 @@ abbrev pub IsWaiting : {S B E : Type 0} → View B E → ℕ → Me (Option S) (
 IsWaiting v ticket m = (k : ℕ) × (ticket ≡ k % (2 ^ 64)) × (m ≡ (record v { stage = Waiting k }, []))
 
 -- it has the state, whose journal begins with all that it had seen
-abbrev pub IsIn : {S B E : Type 0} → (S → B) → (S → List E) → (B → List E → E → Option ℕ) → (E → Option ℕ) → View B E → S → Me (Option S) (View B E) → Type 0
+abbrev pub IsIn : {S B E : Type 0} → (S → B) → (S → List E) → (B → List E → E → Option ℕ) → (E → Option ℕ)
+    → View B E → S → Me (Option S) (View B E) → Type 0
 IsIn start journal opens names v x m =
-    (k : ℕ) × (v.start ≡ Some (start x)) × IsPrefix v.seen (journal x) × Sound opens names m.0 × (m ≡ (record v { stage = Out k; seen = journal x }, (0, None) ∷ []))
+    (k : ℕ) × (v.start ≡ Some (start x)) × IsPrefix v.seen (journal x) × Sound opens names m.0
+    × (m ≡ (record v { stage = Out k; seen = journal x }, (0, None) ∷ []))

@@ -1,5 +1,6 @@
 -- The rule of the lock: tickets and turn, the state at home or out, what each pass knows. And what each step on it tells.
-use Rattle.std.specs.Prelude.{◌≡◌, ◌≢◌, ◌⊎◌, ℕ, ◌+◌, ◌-◌, ◌%◌, ◌^◌, ◌<◌, ◌≤◌, nat_lt, if◌then◌else◌, List, [], ◌∷◌, ◌++◌, length, Option, Some, None}
+use Rattle.std.specs.Prelude.{◌≡◌, ◌≢◌, ◌⊎◌, ℕ, ◌+◌, ◌-◌, ◌%◌, ◌^◌, ◌<◌, ◌≤◌, nat_lt, if◌then◌else◌, List, [], ◌∷◌, ◌++◌, length, Option}
+use Rattle.std.specs.Prelude.{Some, None}
 use mathlib.Core.Option.{some, none}
 use mathlib.Core.List.{IsPrefix}
 use lib.ListN.{get_elem?}
@@ -63,7 +64,8 @@ module _ {B E : Type 0} where
 
   -- a pass that another was met into
   abbrev pub both : View B E → View B E → View B E
-  both v w = record v { parts = v.parts + w.parts; seen = longer v.seen w.seen; told = shorter v.seen w.seen; met = v.met ++ w.mine ∷ w.met }
+  both v w =
+      record v { parts = v.parts + w.parts; seen = longer v.seen w.seen; told = shorter v.seen w.seen; met = v.met ++ w.mine ∷ w.met }
 
 -- the fact that the type of a pass has of its view
 abbrev pub Sound : {B E : Type 0} → (B → List E → E → Option ℕ) → (E → Option ℕ) → View B E → Type 0
@@ -76,7 +78,8 @@ module _ {S E : Type 0} (log : List E) (served drawn : ℕ) (homes : List (mathl
   AtStage seen (Waiting k) = (served ≤ k) × (k < drawn)
   AtStage seen (Out k) = (k ≡ served) × (k < drawn) × (seen ≡ log) × (homes ≡ none ∷ [])
 
-module _ {S B E : Type 0} (opens : B → List E → E → Option ℕ) (names : E → Option ℕ) (origin : B) (log : List E) (served drawn : ℕ) (homes : List (mathlib.Core.Option.Option (Option S))) where
+module _ {S B E : Type 0} (opens : B → List E → E → Option ℕ) (names : E → Option ℕ) (origin : B) (log : List E) (served drawn : ℕ)
+    (homes : List (mathlib.Core.Option.Option (Option S))) where
   -- what the rule says of one pass
   pub record Fits (v : View B E) : Type 0 where
     pub some_part : 0 < v.parts
@@ -98,7 +101,8 @@ module _ {S B E : Type 0} (start : S → B) (journal : S → List E) (opens : B 
     pub queue : served + total drawn_by s.views ≡ drawn
     pub parts : total parts_of s.views ≡ all_parts
     pub each : (j : ℕ) (v : View B E) → get_elem? s.views j ≡ some v → (v ≡ spent_view) ⊎ Fits opens names origin log served drawn s.homes v
-    pub apart : (i j k : ℕ) (v w : View B E) → get_elem? s.views i ≡ some v → get_elem? s.views j ≡ some w → HasTicket v.stage k → HasTicket w.stage k → i ≡ j
+    pub apart : (i j k : ℕ) (v w : View B E) → get_elem? s.views i ≡ some v → get_elem? s.views j ≡ some w → HasTicket v.stage k
+        → HasTicket w.stage k → i ≡ j
     pub once : (p : ℕ) → total (held p) s.views ≡ once_below p (length log)
     pub home : ((m : S) × (s.homes ≡ some (Some m) ∷ []) × (start m ≡ origin) × (journal m ≡ log))
         ⊎ ((j : ℕ) × (v : View B E) × (get_elem? s.views j ≡ some v) × (v.stage ≡ Out served) × (s.homes ≡ none ∷ []))
@@ -109,7 +113,9 @@ module _ {S B E : Type 0} (start : S → B) (journal : S → List E) (opens : B 
 
   -- the turn was this ticket's, and the state was taken
   abbrev pub Took : ℕ → Me (Option S) (View B E) → Me (Option S) (View B E) → Type 0
-  Took k m m' = (x : S) × (m.0.start ≡ Some (start x)) × IsPrefix m.0.seen (journal x) × Sound opens names m'.0 × (m' ≡ (record m.0 { stage = Out k; seen = journal x }, (0, Some x) ∷ m.1))
+  Took k m m' =
+      (x : S) × (m.0.start ≡ Some (start x)) × IsPrefix m.0.seen (journal x) × Sound opens names m'.0
+      × (m' ≡ (record m.0 { stage = Out k; seen = journal x }, (0, Some x) ∷ m.1))
 
   -- the turn was read by one who waits
   abbrev pub ReadsTurn : Step (Option S) → Me (Option S) (View B E) → ℕ → Me (Option S) (View B E) → Type 0
@@ -122,7 +128,8 @@ module _ {S B E : Type 0} (start : S → B) (journal : S → List E) (opens : B 
   -- the state was given back with one entry more, and the turn passed on
   abbrev pub LeavesLonger : Step (Option S) → Me (Option S) (View B E) → ℕ → Me (Option S) (View B E) → Type 0
   LeavesLonger step m n m' = Sound opens names m'.0
-      × ((x : S) → m.1 ≡ (0, Some x) ∷ [] → m' ≡ (record m.0 { stage = Idle; seen = journal x; mine = m.0.mine ++ length m.0.seen ∷ [] }, []))
+      × ((x : S) → m.1 ≡ (0, Some x) ∷ []
+      → m' ≡ (record m.0 { stage = Idle; seen = journal x; mine = m.0.mine ++ length m.0.seen ∷ [] }, []))
 
   -- what a meeting could not tell by itself
   abbrev pub LearnsRule : Step (Option S) → Me (Option S) (View B E) → ℕ → Me (Option S) (View B E) → Type 0

@@ -1,5 +1,6 @@
 -- In a play no entry is refused but for a full journal.
-use Rattle.std.proofs.Common.{◌≡◌, ◌≢◌, ℕ, zero, suc, ◌^◌, ◌≤◌, ◌==◌, Bool, true, false, cond, not, ◌&&◌, List, [], ◌∷◌, length, Option, None, Some, is_some, ◌⊎◌, inl, inr, refl, sym, ap, ◌∙◌, subst, arith}
+use Rattle.std.proofs.Common.{◌≡◌, ◌≢◌, ℕ, zero, suc, ◌^◌, ◌≤◌, ◌==◌, Bool, true, false, cond, not, ◌&&◌, List, [], ◌∷◌, length, Option}
+use Rattle.std.proofs.Common.{None, Some, is_some, ◌⊎◌, inl, inr, refl, sym, ap, ◌∙◌, subst, arith}
 use Rattle.std.proofs.lemmas.Bool.{both_ways, ne_eqb}
 use Rattle.std.proofs.lemmas.List.{nil_from_length, length-drop}
 use Rattle.fs_doc.specs.Reading.{Configuration}
@@ -20,7 +21,13 @@ use Rattle.fs_machine.specs.Step.{is_closed, refused_where, busy}
 use Rattle.fs_machine.proofs.OrderLemmas.{not_refused}
 use Rattle.fs_machine.proofs.FramesLaws.{closed_waits_not}
 use Rattle.fs_machine.proofs.HereLemmas.{arrival_accepted}
-use Rattle.fs_conn.specs.Play.{Play, switch_of, new_play, is_over, with_end, by_refusal, by_room, repeated, next_actor, with_runaway_end, waits, reads_on, takes_commands, farewell, end_behind, after_trying_act_as, after_due_work_as, after_due_step_as, after_settling_as, after_waiting_until_as, after_waiting_once_as, after_waiting_as, after_taking_all_as, after_following_as, after_act_as, after_command_as, after_commands_as, after_opening_as, after_input_end_as, after_closing_as, after_conversing_as, played_as, after_trying_act, after_due_step, after_settling, after_waiting, after_waiting_once, after_taking_all, after_following, after_act, after_command, after_commands, after_opening, after_input_end, after_closing, after_conversing, played}
+use Rattle.fs_conn.specs.Play.{Play, switch_of, new_play, is_over, with_end, by_refusal, by_room, repeated, next_actor, with_runaway_end}
+use Rattle.fs_conn.specs.Play.{waits, reads_on, takes_commands, farewell, end_behind, after_trying_act_as, after_due_work_as}
+use Rattle.fs_conn.specs.Play.{after_due_step_as, after_settling_as, after_waiting_until_as, after_waiting_once_as, after_waiting_as}
+use Rattle.fs_conn.specs.Play.{after_taking_all_as, after_following_as, after_act_as, after_command_as, after_commands_as, after_opening_as}
+use Rattle.fs_conn.specs.Play.{after_input_end_as, after_closing_as, after_conversing_as, played_as, after_trying_act, after_due_step}
+use Rattle.fs_conn.specs.Play.{after_settling, after_waiting, after_waiting_once, after_taking_all, after_following, after_act}
+use Rattle.fs_conn.specs.Play.{after_command, after_commands, after_opening, after_input_end, after_closing, after_conversing, played}
 use Rattle.fs_conn.specs.Steps.{act_of, entry_of}
 use Rattle.fs_conn.proofs.PlayLemmas.{goes_entered}
 use Rattle.fs_conn.proofs.KeepLemmas.{kept_settled, kept_waited, kept_opened, kept_commanded, kept_worked_once, kept_waited_once}
@@ -37,14 +44,16 @@ fit_agrees act p fit = by (is_over p) refl
     by false goes_on = fit_entered act p goes_on (fit goes_on) ∙ sym (ap (λ b. cond b p (by_room (entry_of act p) p)) goes_on)
 
 -- rounds of steps that come to the same
-repeated_agrees : (Holds : Play → Type 0) (f g : Play → Play) → ((p : Play) → Holds p → f p ≡ g p) → ((p : Play) → Holds p → Holds (f p)) → (n : ℕ) (p : Play) → Holds p → repeated n f p ≡ repeated n g p
+repeated_agrees : (Holds : Play → Type 0) (f g : Play → Play) → ((p : Play) → Holds p → f p ≡ g p) → ((p : Play) → Holds p → Holds (f p)) →
+    (n : ℕ) (p : Play) → Holds p → repeated n f p ≡ repeated n g p
 unfolding repeated
 repeated_agrees Holds f g same keeps zero p h = refl
 repeated_agrees Holds f g same keeps (suc n) p h = repeated_agrees Holds f g same keeps n (f p) (keeps p h) ∙ ap (repeated n g) (same p h)
 
 -- ---- what is due
 
-worked_agrees : (config : Configuration) → config.settings.journal_limit ≤ 1073741824 → (p : Play) → IsRun config p → after_due_step p ≡ after_due_step_as by_room p
+worked_agrees : (config : Configuration) → config.settings.journal_limit ≤ 1073741824 → (p : Play) → IsRun config p →
+    after_due_step p ≡ after_due_step_as by_room p
 worked_agrees config small p run = by (next_actor p) refl
   where
     by : (who : DueActor) → next_actor p ≡ who → after_due_work_as by_refusal who p ≡ after_due_work_as by_room who p
@@ -53,14 +62,17 @@ worked_agrees config small p run = by (next_actor p) refl
     by (due.Later moment) is = refl
     by due.Never is = refl
 
-settled_agrees : (config : Configuration) → config.settings.journal_limit ≤ 1073741824 → (p : Play) → IsRun config p → after_settling p ≡ after_settling_as by_room p
+settled_agrees : (config : Configuration) → config.settings.journal_limit ≤ 1073741824 → (p : Play) → IsRun config p →
+    after_settling p ≡ after_settling_as by_room p
 unfolding after_settling_as
 settled_agrees config small p run =
-    ap with_runaway_end (repeated_agrees (IsRun config) after_due_step (after_due_step_as by_room) (worked_agrees config small) (kept_worked_once Any (IsRun config) (keeps_run config)) 100000 p run)
+    ap with_runaway_end (repeated_agrees (IsRun config) after_due_step (after_due_step_as by_room) (worked_agrees config small)
+    (kept_worked_once Any (IsRun config) (keeps_run config)) 100000 p run)
 
 -- ---- replies that are owed
 
-waited_once_agrees : (config : Configuration) → config.settings.journal_limit ≤ 1073741824 → (p : Play) → IsRun config p → after_waiting_once p ≡ after_waiting_once_as by_room p
+waited_once_agrees : (config : Configuration) → config.settings.journal_limit ≤ 1073741824 → (p : Play) → IsRun config p →
+    after_waiting_once p ≡ after_waiting_once_as by_room p
 waited_once_agrees config small p run = ap (λ q. cond (waits p) q p) (by (next_actor p))
   where
     by : (who : DueActor) → after_waiting_until_as by_refusal who p ≡ after_waiting_until_as by_room who p
@@ -69,18 +81,22 @@ waited_once_agrees config small p run = ap (λ q. cond (waits p) q p) (by (next_
     by (due.Job number) = refl
     by due.Never = refl
 
-all_waited_agrees : (config : Configuration) → config.settings.journal_limit ≤ 1073741824 → (n : ℕ) (p : Play) → IsRun config p → repeated n after_waiting_once p ≡ repeated n (after_waiting_once_as by_room) p
+all_waited_agrees : (config : Configuration) → config.settings.journal_limit ≤ 1073741824 → (n : ℕ) (p : Play) → IsRun config p →
+    repeated n after_waiting_once p ≡ repeated n (after_waiting_once_as by_room) p
 all_waited_agrees config small n p run =
-    repeated_agrees (IsRun config) after_waiting_once (after_waiting_once_as by_room) (waited_once_agrees config small) (kept_waited_once Any (IsRun config) (keeps_run config)) n p run
+    repeated_agrees (IsRun config) after_waiting_once (after_waiting_once_as by_room) (waited_once_agrees config small)
+    (kept_waited_once Any (IsRun config) (keeps_run config)) n p run
 
-waited_agrees : (config : Configuration) → config.settings.journal_limit ≤ 1073741824 → (p : Play) → IsRun config p → after_waiting p ≡ after_waiting_as by_room p
+waited_agrees : (config : Configuration) → config.settings.journal_limit ≤ 1073741824 → (p : Play) → IsRun config p →
+    after_waiting p ≡ after_waiting_as by_room p
 unfolding after_waiting_as
 waited_agrees config small p run = all_waited_agrees config small (2 ^ 64) p run
 
 -- ---- frames
 
 -- nothing speaks against a Take where a frame waits
-fit_take : (config : Configuration) (p : Play) → config.settings.journal_limit ≤ 1073741824 → IsRun config p → waits_in p ≢ [] → (is_closed (phase_at (switch_of p) 1) ≡ false) × IsFit (Take 1) p
+fit_take : (config : Configuration) (p : Play) → config.settings.journal_limit ≤ 1073741824 → IsRun config p → waits_in p ≢ [] →
+    (is_closed (phase_at (switch_of p) 1) ≡ false) × IsFit (Take 1) p
 fit_take config p small run some = by (is_closed (phase_at (switch_of p) 1)) refl
   where
     none_long : length (waits_in p) ≡ 0 → waits_in p ≡ []
@@ -104,7 +120,8 @@ Offers n p = (is_over p ≡ true) ⊎ (n ≤ length (waits_in p))
 some_wait : (n : ℕ) (p : Play) → suc n ≤ length (waits_in p) → waits_in p ≢ []
 some_wait n p enough none = let long = ap length none in omega (arith, enough, long)
 
-offers_less : (config : Configuration) (n : ℕ) (p : Play) → config.settings.journal_limit ≤ 1073741824 → IsRun config p → Offers (suc n) p → Offers n (after_trying_act (Take 1) p)
+offers_less : (config : Configuration) (n : ℕ) (p : Play) → config.settings.journal_limit ≤ 1073741824 → IsRun config p → Offers (suc n) p →
+    Offers n (after_trying_act (Take 1) p)
 offers_less config n p small run offers = by (is_over p) refl offers (is_full (switch_of p)) refl
   where
     fewer : suc n ≤ length (waits_in p) → Offers n (longer_by (Take 1) p)
@@ -112,17 +129,21 @@ offers_less config n p small run offers = by (is_over p) refl offers (is_full (s
         let rest = ap length (taken_rest config p small run (fit_take config p small run (some_wait n p enough)).0) in
         let less = length-drop 1 (waits_in p) in inr (omega (arith, enough, rest, less))
 
-    fit : is_over p ≡ false → suc n ≤ length (waits_in p) → after_trying_act (Take 1) p ≡ cond (is_full (switch_of p)) (filled p) (longer_by (Take 1) p)
+    fit : is_over p ≡ false → suc n ≤ length (waits_in p) →
+        after_trying_act (Take 1) p ≡ cond (is_full (switch_of p)) (filled p) (longer_by (Take 1) p)
     fit goes_on enough = fit_entered (Take 1) p goes_on (fit_take config p small run (some_wait n p enough)).1
 
     by : (over : Bool) → is_over p ≡ over → Offers (suc n) p → (full : Bool) → is_full (switch_of p) ≡ full →
         Offers n (after_trying_act (Take 1) p)
     by true over offers full is = inl (ap is_over ((goes_entered (Take 1)).over p over) ∙ over)
     by false goes_on (inl over) full is = absurd (both_ways (is_over p) goes_on over)
-    by false goes_on (inr enough) true is = subst (Offers n) (sym (fit goes_on enough ∙ ap (λ b. cond b (filled p) (longer_by (Take 1) p)) is)) (inl refl)
-    by false goes_on (inr enough) false is = subst (Offers n) (sym (fit goes_on enough ∙ ap (λ b. cond b (filled p) (longer_by (Take 1) p)) is)) (fewer enough)
+    by false goes_on (inr enough) true is =
+        subst (Offers n) (sym (fit goes_on enough ∙ ap (λ b. cond b (filled p) (longer_by (Take 1) p)) is)) (inl refl)
+    by false goes_on (inr enough) false is =
+        subst (Offers n) (sym (fit goes_on enough ∙ ap (λ b. cond b (filled p) (longer_by (Take 1) p)) is)) (fewer enough)
 
-take_agrees : (config : Configuration) (n : ℕ) (p : Play) → config.settings.journal_limit ≤ 1073741824 → IsRun config p → Offers (suc n) p → after_trying_act (Take 1) p ≡ after_trying_act_as by_room (Take 1) p
+take_agrees : (config : Configuration) (n : ℕ) (p : Play) → config.settings.journal_limit ≤ 1073741824 → IsRun config p → Offers (suc n) p →
+    after_trying_act (Take 1) p ≡ after_trying_act_as by_room (Take 1) p
 take_agrees config n p small run offers = fit_agrees (Take 1) p (λ goes_on. by goes_on offers)
   where
     by : is_over p ≡ false → Offers (suc n) p → IsFit (Take 1) p
@@ -138,20 +159,24 @@ takes_agree config (suc n) p small run offers =
     (offers_less config n p small run offers)
     ∙ ap (repeated n (after_trying_act_as by_room (Take 1))) (take_agrees config n p small run offers)
 
-all_taken_agrees : (config : Configuration) → config.settings.journal_limit ≤ 1073741824 → (p : Play) → IsRun config p → after_taking_all p ≡ after_taking_all_as by_room p
+all_taken_agrees : (config : Configuration) → config.settings.journal_limit ≤ 1073741824 → (p : Play) → IsRun config p →
+    after_taking_all p ≡ after_taking_all_as by_room p
 unfolding after_taking_all_as
 all_taken_agrees config small p run = takes_agree config (length (waits_in p)) p small run (inr (omega arith))
 
 -- ---- all that comes of an act
 
-followed_agrees : (config : Configuration) → config.settings.journal_limit ≤ 1073741824 → (p : Play) → IsRun config p → after_following p ≡ after_following_as by_room p
+followed_agrees : (config : Configuration) → config.settings.journal_limit ≤ 1073741824 → (p : Play) → IsRun config p →
+    after_following p ≡ after_following_as by_room p
 followed_agrees config small p run =
     let settles = kept_settled Any (IsRun config) (keeps_run config) p run in
     let waits_out = kept_waited Any (IsRun config) (keeps_run config) (after_settling p) settles in
     all_taken_agrees config small (after_waiting (after_settling p)) waits_out
-    ∙ ap (after_taking_all_as by_room) (waited_agrees config small (after_settling p) settles ∙ ap (after_waiting_as by_room) (settled_agrees config small p run))
+    ∙ ap (after_taking_all_as by_room) (waited_agrees config small (after_settling p) settles
+    ∙ ap (after_waiting_as by_room) (settled_agrees config small p run))
 
-acted_agrees : (config : Configuration) → config.settings.journal_limit ≤ 1073741824 → (act : Act) (p : Play) → IsRun config p → (is_over p ≡ false → IsFit act p) → after_act act p ≡ after_act_as by_room act p
+acted_agrees : (config : Configuration) → config.settings.journal_limit ≤ 1073741824 → (act : Act) (p : Play) → IsRun config p →
+    (is_over p ≡ false → IsFit act p) → after_act act p ≡ after_act_as by_room act p
 acted_agrees config small act p run fit =
     followed_agrees config small (after_trying_act act p) ((keeps_run config).enters act tt p run) ∙ ap (after_following_as by_room)
     (fit_agrees act p fit)
@@ -162,20 +187,24 @@ acted_agrees config small act p run fit =
 fit_command : (p : Play) (block : List ℕ) → takes_commands p ≡ true → IsFit (Command 1 block) p
 fit_command p block takes = by (reads_on p) refl (owed_to (switch_of p) 1) refl takes
   where
-    by : (reading : Bool) → reads_on p ≡ reading → (owed : Option ℕ) → owed_to (switch_of p) 1 ≡ owed → (reading && not (is_some owed)) ≡ true → IsFit (Command 1 block) p
+    by : (reading : Bool) → reads_on p ≡ reading → (owed : Option ℕ) → owed_to (switch_of p) 1 ≡ owed →
+        (reading && not (is_some owed)) ≡ true → IsFit (Command 1 block) p
     by true reading None free both =
         ap (λ reads_still. refused_where (not reads_still) refusal.Gone (busy (owed_to (switch_of p) 1))) reading ∙ ap busy free
     by true reading (Some since) free both = absurd (cc both)
     by false reading owed free both = absurd (cc both)
 
-commanded_agrees : (config : Configuration) → config.settings.journal_limit ≤ 1073741824 → (p : Play) (block : List ℕ) → IsRun config p → after_command p block ≡ after_command_as by_room p block
+commanded_agrees : (config : Configuration) → config.settings.journal_limit ≤ 1073741824 → (p : Play) (block : List ℕ) → IsRun config p →
+    after_command p block ≡ after_command_as by_room p block
 commanded_agrees config small p block run = by (takes_commands p) refl
   where
-    by : (takes : Bool) → takes_commands p ≡ takes → cond takes (after_act (Command 1 block) p) p ≡ cond takes (after_act_as by_room (Command 1 block) p) p
+    by : (takes : Bool) → takes_commands p ≡ takes →
+        cond takes (after_act (Command 1 block) p) p ≡ cond takes (after_act_as by_room (Command 1 block) p) p
     by true takes = acted_agrees config small (Command 1 block) p run (λ goes_on. fit_command p block takes)
     by false takes = refl
 
-all_commanded_agrees : (config : Configuration) → config.settings.journal_limit ≤ 1073741824 → (p : Play) (blocks : List (List ℕ)) → IsRun config p → after_commands p blocks ≡ after_commands_as by_room p blocks
+all_commanded_agrees : (config : Configuration) → config.settings.journal_limit ≤ 1073741824 → (p : Play) (blocks : List (List ℕ)) →
+    IsRun config p → after_commands p blocks ≡ after_commands_as by_room p blocks
 all_commanded_agrees config small p [] run = refl
 all_commanded_agrees config small p (block ∷ blocks) run =
     all_commanded_agrees config small (after_command p block) blocks (kept_commanded Any (IsRun config) (keeps_run config) block tt p run)
@@ -189,27 +218,35 @@ opened_agrees config within =
 conversed_agrees : (config : Configuration) (input : List ℕ) → IsWithin config →
     after_conversing config input ≡ after_conversing_as by_room config input
 conversed_agrees config input within =
-    all_commanded_agrees config within.settings.journal.1 (after_opening config) (blocks_of input) (kept_opened Any (IsRun config) (keeps_run config) tt config (run_begun config))
+    all_commanded_agrees config within.settings.journal.1 (after_opening config) (blocks_of input)
+    (kept_opened Any (IsRun config) (keeps_run config) tt config (run_begun config))
     ∙ ap (λ q. after_commands_as by_room q (blocks_of input)) (opened_agrees config within)
 
-input_ended_agrees : (config : Configuration) → config.settings.journal_limit ≤ 1073741824 → (p : Play) → IsRun config p → after_input_end p ≡ after_input_end_as by_room p
+input_ended_agrees : (config : Configuration) → config.settings.journal_limit ≤ 1073741824 → (p : Play) → IsRun config p →
+    after_input_end p ≡ after_input_end_as by_room p
 input_ended_agrees config small p run = by (reads_on p) refl
   where
-    by : (reading : Bool) → reads_on p ≡ reading → cond reading (after_taking_all (after_trying_act (Close 1 EndOfInput) p)) p ≡ cond reading (after_taking_all_as by_room (after_trying_act_as by_room (Close 1 EndOfInput) p)) p
+    by : (reading : Bool) → reads_on p ≡ reading →
+        cond reading (after_taking_all (after_trying_act (Close 1 EndOfInput) p)) p
+        ≡ cond reading (after_taking_all_as by_room (after_trying_act_as by_room (Close 1 EndOfInput) p)) p
     by true reading =
         all_taken_agrees config small (after_trying_act (Close 1 EndOfInput) p) ((keeps_run config).enters (Close 1 EndOfInput) tt p run)
         ∙ ap (after_taking_all_as by_room) (fit_agrees (Close 1 EndOfInput) p (λ goes_on. fit_end p reading))
     by false reading = refl
 
-closed_agrees : (config : Configuration) (input : List ℕ) → IsWithin config → after_closing (after_conversing config input) ≡ after_closing_as by_room (after_conversing config input)
+closed_agrees : (config : Configuration) (input : List ℕ) → IsWithin config →
+    after_closing (after_conversing config input) ≡ after_closing_as by_room (after_conversing config input)
 closed_agrees config input within =
     fit_agrees (Close 1 Sent) (after_input_end (after_conversing config input)) (fit_last config input within)
-    ∙ ap (after_trying_act_as by_room (Close 1 Sent)) (input_ended_agrees config within.settings.journal.1 (after_conversing config input) (run_conversed config input))
+    ∙ ap (after_trying_act_as by_room (Close 1 Sent))
+    (input_ended_agrees config within.settings.journal.1 (after_conversing config input) (run_conversed config input))
 
 -- the whole play is one whose entries are judged by the room in the journal alone
-pub played_agrees : (config : Configuration) (input : List ℕ) (read_failed : Bool) → IsWithin config → played config input read_failed ≡ played_as by_room config input read_failed
+pub played_agrees : (config : Configuration) (input : List ℕ) (read_failed : Bool) → IsWithin config →
+    played config input read_failed ≡ played_as by_room config input read_failed
 unfolding played_as
 played_agrees config input read_failed within =
     ap (with_end (end_behind (farewell (after_conversing config input)) (too_long (rest_of input)) read_failed))
     (closed_agrees config input within)
-    ∙ ap (λ p. with_end (end_behind (farewell p) (too_long (rest_of input)) read_failed) (after_closing_as by_room p)) (conversed_agrees config input within)
+    ∙ ap (λ p. with_end (end_behind (farewell p) (too_long (rest_of input)) read_failed) (after_closing_as by_room p))
+    (conversed_agrees config input within)

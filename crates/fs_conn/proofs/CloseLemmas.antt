@@ -1,5 +1,6 @@
 -- A play waits until no reply is owed, so its connection can be closed.
-use Rattle.std.proofs.Common.{◌≡◌, ℕ, zero, suc, ◌+◌, ◌-◌, ◌*◌, ◌^◌, ◌≤◌, Bool, true, false, cond, not, ◌&&◌, List, [], ◌∷◌, ◌++◌, length, Option, None, Some, ◌⊎◌, inl, inr, refl, sym, ap, ◌∙◌, subst, arith}
+use Rattle.std.proofs.Common.{◌≡◌, ℕ, zero, suc, ◌+◌, ◌-◌, ◌*◌, ◌^◌, ◌≤◌, Bool, true, false, cond, not, ◌&&◌, List, [], ◌∷◌, ◌++◌, length}
+use Rattle.std.proofs.Common.{Option, None, Some, ◌⊎◌, inl, inr, refl, sym, ap, ◌∙◌, subst, arith}
 use Rattle.std.proofs.lemmas.Bool.{both_ways, ltb-false}
 use Rattle.fs_doc.specs.Reading.{Configuration}
 use Rattle.fs_doc.specs.Limits.{IsWithin}
@@ -32,14 +33,20 @@ use Rattle.fs_machine.proofs.CloseLaws.{ending_at, end_parts, take_leaves_phase,
 use Rattle.fs_machine.proofs.DueLaws.{AreKnown, run_is_known, slot_accepted, job_accepted, IsDue, comes_due}
 use Rattle.fs_conn.specs.declared.end.End.{End}
 use Rattle.fs_conn.specs.declared.end.End.TheVariants.{JournalFull, Runaway}
-use Rattle.fs_conn.specs.Play.{Play, switch_of, new_play, is_over, with_end, after_judging, after_trying_act, repeated, after_due_work, next_actor, after_due_step, with_runaway_end_by, after_settling, after_waiting_until, after_waiting_once, after_waiting, after_taking_all, after_act, reads_on, takes_commands, after_command, after_commands, after_opening, after_input_end, after_conversing, after_closing, farewell, end_behind, played, after_taking_all_as, played_as, after_settling_as, after_waiting_as}
+use Rattle.fs_conn.specs.Play.{Play, switch_of, new_play, is_over, with_end, after_judging, after_trying_act, repeated, after_due_work}
+use Rattle.fs_conn.specs.Play.{next_actor, after_due_step, with_runaway_end_by, after_settling, after_waiting_until, after_waiting_once}
+use Rattle.fs_conn.specs.Play.{after_waiting, after_taking_all, after_act, reads_on, takes_commands, after_command, after_commands}
+use Rattle.fs_conn.specs.Play.{after_opening, after_input_end, after_conversing, after_closing, farewell, end_behind, played}
+use Rattle.fs_conn.specs.Play.{after_taking_all_as, played_as, after_settling_as, after_waiting_as}
 use Rattle.fs_conn.specs.Steps.{spent, act_of, is_early, entry_of}
 use Rattle.fs_conn.proofs.PlayLemmas.{goes_entered, goes_all_taken}
 use Rattle.fs_conn.proofs.RoundLemmas.{repeated_none}
-use Rattle.fs_conn.proofs.KeepLemmas.{Keeps, kept_repeated, kept_behind, kept_settled, kept_followed, kept_opened, kept_commanded, kept_all_commanded}
+use Rattle.fs_conn.proofs.KeepLemmas.{Keeps, kept_repeated, kept_behind, kept_settled, kept_followed, kept_opened, kept_commanded}
+use Rattle.fs_conn.proofs.KeepLemmas.{kept_all_commanded}
 use Rattle.fs_conn.proofs.HereLemmas.{Here, keeps_here, Free, free_taken}
 use Rattle.fs_conn.proofs.LawLemmas.{Any, IsRun, keeps_run, EndsEarly, Early, early_closed}
-use Rattle.fs_conn.proofs.DrainLemmas.{run_of, switch_is, Drained, drained_conversed, drained_ended, run_begun, run_conversed, nothing_waits, early_is}
+use Rattle.fs_conn.proofs.DrainLemmas.{run_of, switch_is, Drained, drained_conversed, drained_ended, run_begun, run_conversed}
+use Rattle.fs_conn.proofs.DrainLemmas.{nothing_waits, early_is}
 
 -- ---- acts that nothing but a full journal speaks against
 
@@ -61,16 +68,22 @@ filled p = record p { end = Some (JournalFull (switch_of p).cost (switch_of p).c
 abbrev pub longer_by : Act → Play → Play
 longer_by act p = record p { journal = p.journal ++ entry_of act p ∷ [] }
 
-pub fit_judged : (act : Act) (p : Play) → IsFit act p → after_judging (refusal_of (switch_of p) (entry_of act p)) (entry_of act p) p ≡ cond (is_full (switch_of p)) (filled p) (longer_by act p)
-fit_judged act p fit = ap (λ cause. after_judging cause (entry_of act p) p) (refusal_is (switch_of p) (entry_of act p) fit) ∙ by (is_full (switch_of p))
+pub fit_judged : (act : Act) (p : Play) → IsFit act p →
+    after_judging (refusal_of (switch_of p) (entry_of act p)) (entry_of act p) p ≡ cond (is_full (switch_of p)) (filled p) (longer_by act p)
+fit_judged act p fit =
+    ap (λ cause. after_judging cause (entry_of act p) p) (refusal_is (switch_of p) (entry_of act p) fit) ∙ by (is_full (switch_of p))
   where
-    by : (full : Bool) → after_judging (refused_where full (refusal.JournalFull (switch_of p).cost (switch_of p).config.settings.journal_limit) None) (entry_of act p) p ≡ cond full (filled p) (longer_by act p)
+    by : (full : Bool) → after_judging (refused_where full
+        (refusal.JournalFull (switch_of p).cost (switch_of p).config.settings.journal_limit) None) (entry_of act p) p
+        ≡ cond full (filled p) (longer_by act p)
     by true = refl
     by false = refl
 
 -- such an act ends the play where its journal is full, and is entered otherwise
-pub fit_entered : (act : Act) (p : Play) → is_over p ≡ false → IsFit act p → after_trying_act act p ≡ cond (is_full (switch_of p)) (filled p) (longer_by act p)
-fit_entered act p goes_on fit = ap (λ over. cond over p (after_judging (refusal_of (switch_of p) (entry_of act p)) (entry_of act p) p)) goes_on ∙ fit_judged act p fit
+pub fit_entered : (act : Act) (p : Play) → is_over p ≡ false → IsFit act p →
+    after_trying_act act p ≡ cond (is_full (switch_of p)) (filled p) (longer_by act p)
+fit_entered act p goes_on fit =
+    ap (λ over. cond over p (after_judging (refusal_of (switch_of p) (entry_of act p)) (entry_of act p) p)) goes_on ∙ fit_judged act p fit
 
 switch_longer : (act : Act) (p : Play) → switch_of (longer_by act p) ≡ (step (switch_of p) (entry_of act p)).state
 switch_longer act p = run_more (empty p.config) p.journal (entry_of act p)
@@ -86,7 +99,8 @@ cost_bound [] s bound = bound
 cost_bound (entry ∷ entries) s bound = cost_bound entries (step s entry).state (cost_once s entry)
 
 -- an entry that is accepted costs 64 at least
-cost_more : (s : Switch) (entry : Entry) → is_full s ≡ false → s.config.settings.journal_limit ≤ 1073741824 → s.cost + 64 ≤ (step s entry).state.cost
+cost_more : (s : Switch) (entry : Entry) → is_full s ≡ false → s.config.settings.journal_limit ≤ 1073741824 →
+    s.cost + 64 ≤ (step s entry).state.cost
 unfolding step
 cost_more s entry below small =
     let same : (acted_by entry.act (at_moment entry.moment s)).state.cost ≡ s.cost = acted_cost entry.act (at_moment entry.moment s) in
@@ -94,7 +108,8 @@ cost_more s entry below small =
     let room : s.cost + 65600 ≤ s.config.settings.journal_limit = ltb-false s.config.settings.journal_limit (s.cost + 65600) below in
     omega (arith, same, some, room, small)
 
-limit_of : (config : Configuration) (p : Play) → config.settings.journal_limit ≤ 1073741824 → IsRun config p → (switch_of p).config.settings.journal_limit ≤ 1073741824
+limit_of : (config : Configuration) (p : Play) → config.settings.journal_limit ≤ 1073741824 → IsRun config p →
+    (switch_of p).config.settings.journal_limit ≤ 1073741824
 limit_of config p small run =
     subst (λ (c : Configuration). c.settings.journal_limit ≤ 1073741824) (sym (config_run (empty p.config) p.journal ∙ run.config_is)) small
 
@@ -107,11 +122,14 @@ record Spent (config : Configuration) (least : ℕ) (p : Play) : Type 0 where
   run : IsRun config p
   paid : Pays least p
 
-spent_longer : (config : Configuration) (act : Act) (p : Play) → config.settings.journal_limit ≤ 1073741824 → IsRun config p → is_full (switch_of p) ≡ false → spent p + 64 ≤ spent (longer_by act p)
+spent_longer : (config : Configuration) (act : Act) (p : Play) → config.settings.journal_limit ≤ 1073741824 → IsRun config p →
+    is_full (switch_of p) ≡ false → spent p + 64 ≤ spent (longer_by act p)
 spent_longer config act p small run below =
-    subst (λ (s : Switch). spent p + 64 ≤ s.cost) (sym (switch_longer act p)) (cost_more (switch_of p) (entry_of act p) below (limit_of config p small run))
+    subst (λ (s : Switch). spent p + 64 ≤ s.cost) (sym (switch_longer act p))
+    (cost_more (switch_of p) (entry_of act p) below (limit_of config p small run))
 
-paid_judged : (config : Configuration) (least : ℕ) (act : Act) (cause : Option Refusal) (p : Play) → config.settings.journal_limit ≤ 1073741824 → IsRun config p →
+paid_judged : (config : Configuration) (least : ℕ) (act : Act) (cause : Option Refusal) (p : Play) →
+    config.settings.journal_limit ≤ 1073741824 → IsRun config p →
     refusal_of (switch_of p) (entry_of act p) ≡ cause → Pays least p → Pays least (after_judging cause (entry_of act p) p)
 paid_judged config least act None p small run is (inl over) = inl over
 paid_judged config least act None p small run is (inr paid) =
@@ -152,7 +170,8 @@ owed_of_run : (config : Configuration) (p : Play) → config.settings.journal_li
 owed_of_run config p small run = subst AreOwed (switch_is config p run) (owed_laws.run_is_owed config p.journal small (run_of config p run))
 
 -- nothing speaks against what has something to do
-pub fit_due : (config : Configuration) (act : Act) (p : Play) → config.settings.journal_limit ≤ 1073741824 → IsRun config p → act_of (next_actor p) ≡ Some act → IsFit act p
+pub fit_due : (config : Configuration) (act : Act) (p : Play) → config.settings.journal_limit ≤ 1073741824 → IsRun config p →
+    act_of (next_actor p) ≡ Some act → IsFit act p
 fit_due config act p small run is = by (next_actor p) refl is
   where
     by : (who : DueActor) → next_actor p ≡ who → act_of who ≡ Some act → IsFit act p
@@ -163,7 +182,8 @@ fit_due config act p small run is = by (next_actor p) refl is
     by (due.Later moment) at e = absurd (cc e)
     by due.Never at e = absurd (cc e)
 
-paid_entered : (config : Configuration) (act : Act) (p : Play) → config.settings.journal_limit ≤ 1073741824 → IsRun config p → IsFit act p → Pays (spent p + 64) (after_trying_act act p)
+paid_entered : (config : Configuration) (act : Act) (p : Play) → config.settings.journal_limit ≤ 1073741824 → IsRun config p → IsFit act p →
+    Pays (spent p + 64) (after_trying_act act p)
 paid_entered config act p small run fit = by (is_over p) refl (is_full (switch_of p)) refl
   where
     by : (over : Bool) → is_over p ≡ over → (full : Bool) → is_full (switch_of p) ≡ full → Pays (spent p + 64) (after_trying_act act p)
@@ -171,7 +191,8 @@ paid_entered config act p small run fit = by (is_over p) refl (is_full (switch_o
     by false goes_on true full =
         subst (Pays (spent p + 64)) (sym (fit_entered act p goes_on fit ∙ ap (λ b. cond b (filled p) (longer_by act p)) full)) (inl refl)
     by false goes_on false below =
-        subst (Pays (spent p + 64)) (sym (fit_entered act p goes_on fit ∙ ap (λ b. cond b (filled p) (longer_by act p)) below)) (inr (spent_longer config act p small run below))
+        subst (Pays (spent p + 64)) (sym (fit_entered act p goes_on fit ∙ ap (λ b. cond b (filled p) (longer_by act p)) below))
+        (inr (spent_longer config act p small run below))
 
 -- somebody who has something to do has an act
 act_due : (who : DueActor) → IsDue who → (act : Act) × (act_of who ≡ Some act)
@@ -187,14 +208,16 @@ worked_due (due.Later moment) act p is = absurd (cc is)
 worked_due due.Never act p is = absurd (cc is)
 
 -- where something is due, all that is due costs something
-spent_settled : (config : Configuration) (p : Play) → config.settings.journal_limit ≤ 1073741824 → IsRun config p → IsDue (next_actor p) → Spent config (spent p + 64) (after_settling p)
+spent_settled : (config : Configuration) (p : Play) → config.settings.journal_limit ≤ 1073741824 → IsRun config p → IsDue (next_actor p) →
+    Spent config (spent p + 64) (after_settling p)
 spent_settled config p small run is =
     let does = act_due (next_actor p) is in
     let first : Spent config (spent p + 64) (after_trying_act does.0 p) = record {
       run = (keeps_run config).enters does.0 tt p run;
       paid = paid_entered config does.0 p small run (fit_due config does.0 p small run does.1);
     } in
-    kept_behind Any (Spent config (spent p + 64)) (keeps_spent config (spent p + 64) small) p (subst (Spent config (spent p + 64)) (sym (worked_due (next_actor p) does.0 p does.1)) first)
+    kept_behind Any (Spent config (spent p + 64)) (keeps_spent config (spent p + 64) small) p
+    (subst (Spent config (spent p + 64)) (sym (worked_due (next_actor p) does.0 p does.1)) first)
 
 -- the play is over, or nothing is due
 abbrev Idle : Play → Type 0
@@ -230,7 +253,8 @@ record Goes (config : Configuration) (moments : ℕ) (p : Play) : Type 0 where
   idle : act_of (next_actor p) ≡ None
   paid : 64 * moments ≤ spent p
 
-going : (config : Configuration) (moments : ℕ) (p : Play) → Spent config (64 * moments) p → Idle p → (is_over p ≡ true) ⊎ Goes config moments p
+going : (config : Configuration) (moments : ℕ) (p : Play) → Spent config (64 * moments) p → Idle p →
+    (is_over p ≡ true) ⊎ Goes config moments p
 going config moments p h idle = by (is_over p) refl h.paid idle
   where
     by : (over : Bool) → is_over p ≡ over → Pays (64 * moments) p → Idle p → (is_over p ≡ true) ⊎ Goes config moments p
@@ -249,10 +273,13 @@ rested p (inr free) = by (is_over p)
     by false = ap (λ b. cond b (after_waiting_until (next_actor p) p) p) free
 
 -- at the next moment something is due, which costs something
-spent_waited : (config : Configuration) (moments moment : ℕ) (p : Play) → config.settings.journal_limit ≤ 1073741824 → Goes config moments p → next_actor p ≡ due.Later moment →
+spent_waited : (config : Configuration) (moments moment : ℕ) (p : Play) → config.settings.journal_limit ≤ 1073741824 →
+    Goes config moments p → next_actor p ≡ due.Later moment →
     Spent config (64 * (moments + 1)) (after_settling (record p { clock = moment }))
 spent_waited config moments moment p small goes later =
-    let next = spent_settled config (record p { clock = moment }) small ((keeps_run config).goes_on moment p goes.run) (comes_due (switch_of p) p.clock moment later) in
+    let next =
+    spent_settled config (record p { clock = moment }) small ((keeps_run config).goes_on moment p goes.run)
+    (comes_due (switch_of p) p.clock moment later) in
     record { run = next.run; paid = by next.paid }
   where
     by : Pays (spent p + 64) (after_settling (record p { clock = moment })) →
@@ -260,26 +287,30 @@ spent_waited config moments moment p small goes later =
     by (inl over) = inl over
     by (inr paid) = inr (omega (arith, paid, goes.paid))
 
-once : (config : Configuration) (moments : ℕ) (p : Play) → config.settings.journal_limit ≤ 1073741824 → Goes config moments p → Rests (after_waiting_once p) ⊎ Goes config (moments + 1) (after_waiting_once p)
+once : (config : Configuration) (moments : ℕ) (p : Play) → config.settings.journal_limit ≤ 1073741824 → Goes config moments p →
+    Rests (after_waiting_once p) ⊎ Goes config (moments + 1) (after_waiting_once p)
 once config moments p small goes = by (owes (switch_of p) 1) refl
   where
     later : (q : Play) → (is_over q ≡ true) ⊎ Goes config (moments + 1) q → Rests q ⊎ Goes config (moments + 1) q
     later q (inl over) = inl (inl over)
     later q (inr goes) = inr goes
 
-    at : owes (switch_of p) 1 ≡ true → (who : DueActor) → next_actor p ≡ who → Rests (after_waiting_until who p) ⊎ Goes config (moments + 1) (after_waiting_until who p)
+    at : owes (switch_of p) 1 ≡ true → (who : DueActor) → next_actor p ≡ who →
+        Rests (after_waiting_until who p) ⊎ Goes config (moments + 1) (after_waiting_until who p)
     at owed (due.Slot slot) is = let none : act_of (due.Slot slot) ≡ None = ap act_of (sym is) ∙ goes.idle in absurd (cc none)
     at owed (due.Job number) is = let none : act_of (due.Job number) ≡ None = ap act_of (sym is) ∙ goes.idle in absurd (cc none)
     at owed (due.Later moment) is =
         later (after_settling (record p { clock = moment }))
-        (going config (moments + 1) (after_settling (record p { clock = moment })) (spent_waited config moments moment p small goes is) (idle_settled (record p { clock = moment })))
+        (going config (moments + 1) (after_settling (record p { clock = moment })) (spent_waited config moments moment p small goes is)
+        (idle_settled (record p { clock = moment })))
     at owed due.Never is = absurd (owed_laws.goes_on (switch_of p) 1 p.clock (owed_of_run config p small goes.run) owed is)
 
     by : (owed : Bool) → owes (switch_of p) 1 ≡ owed → Rests (after_waiting_once p) ⊎ Goes config (moments + 1) (after_waiting_once p)
     by false free = inl (subst Rests (sym (rested p (inr free))) (inr free))
     by true owed =
         subst (λ q. Rests q ⊎ Goes config (moments + 1) q)
-        (sym (ap (λ b. cond (not b && owes (switch_of p) 1) (after_waiting_until (next_actor p) p) p) goes.goes_on ∙ ap (λ b. cond b (after_waiting_until (next_actor p) p) p) owed))
+        (sym (ap (λ b. cond (not b && owes (switch_of p) 1) (after_waiting_until (next_actor p) p) p) goes.goes_on
+        ∙ ap (λ b. cond b (after_waiting_until (next_actor p) p) p) owed))
         (at owed (next_actor p) refl)
 
 rounds : (config : Configuration) (n moments : ℕ) (p : Play) → config.settings.journal_limit ≤ 1073741824 → Goes config moments p →
@@ -289,19 +320,23 @@ rounds config zero moments p small goes = inr (subst (λ m. Goes config m p) (no
   where
     none : (m : ℕ) → m ≡ m + 0
     none m = omega arith
-rounds config (suc n) moments p small goes = by (once config moments p small goes) (λ further. rounds config n (moments + 1) (after_waiting_once p) small further)
+rounds config (suc n) moments p small goes =
+    by (once config moments p small goes) (λ further. rounds config n (moments + 1) (after_waiting_once p) small further)
   where
     more : (m k : ℕ) → (m + 1) + k ≡ m + suc k
     more m k = omega arith
 
     by : Rests (after_waiting_once p) ⊎ Goes config (moments + 1) (after_waiting_once p) →
-        (Goes config (moments + 1) (after_waiting_once p) → Rests (repeated n after_waiting_once (after_waiting_once p)) ⊎ Goes config ((moments + 1) + n) (repeated n after_waiting_once (after_waiting_once p))) →
+        (Goes config (moments + 1) (after_waiting_once p) →
+        Rests (repeated n after_waiting_once (after_waiting_once p))
+        ⊎ Goes config ((moments + 1) + n) (repeated n after_waiting_once (after_waiting_once p))) →
         Rests (repeated n after_waiting_once (after_waiting_once p)) ⊎ Goes config (moments + suc n)
         (repeated n after_waiting_once (after_waiting_once p))
     by (inl rests) later =
         inl (subst Rests (sym (repeated_none n after_waiting_once (after_waiting_once p) (rested (after_waiting_once p) rests))) rests)
     by (inr further) later =
-        subst (λ m. Rests (repeated n after_waiting_once (after_waiting_once p)) ⊎ Goes config m (repeated n after_waiting_once (after_waiting_once p))) (more moments n) (later further)
+        subst (λ m. Rests (repeated n after_waiting_once (after_waiting_once p))
+        ⊎ Goes config m (repeated n after_waiting_once (after_waiting_once p))) (more moments n) (later further)
 
 -- no play can pay for so many
 too_many : (config : Configuration) (p : Play) → Goes config (0 + 2 ^ 64) p → ⊥
@@ -312,10 +347,14 @@ rests_rounds config p (inl rests) = rests
 rests_rounds config p (inr goes) = absurd (too_many config p goes)
 
 -- so a play that waits comes to rest
-pub rests_waited : (config : Configuration) (p : Play) → config.settings.journal_limit ≤ 1073741824 → IsRun config p → Rests (after_waiting (after_settling p))
+pub rests_waited : (config : Configuration) (p : Play) → config.settings.journal_limit ≤ 1073741824 → IsRun config p →
+    Rests (after_waiting (after_settling p))
 unfolding after_waiting_as
 rests_waited config p small run =
-    by (going config 0 (after_settling p) (record { run = kept_settled Any (IsRun config) (keeps_run config) p run; paid = inr (omega arith) }) (idle_settled p))
+    by (going config 0 (after_settling p) (record {
+      run = kept_settled Any (IsRun config) (keeps_run config) p run;
+      paid = inr (omega arith);
+    }) (idle_settled p))
   where
     by : (is_over (after_settling p) ≡ true) ⊎ Goes config 0 (after_settling p) →
         Rests (repeated (2 ^ 64) after_waiting_once (after_settling p))
@@ -328,27 +367,34 @@ rests_taken : (p : Play) → Rests p → Rests (after_taking_all p)
 rests_taken p (inl over) = inl (ap is_over (goes_all_taken.over p over) ∙ over)
 rests_taken p (inr free) = inr (free_taken p free)
 
-pub rests_acted : (config : Configuration) (act : Act) (p : Play) → config.settings.journal_limit ≤ 1073741824 → IsRun config p → Rests (after_act act p)
-rests_acted config act p small run = rests_taken (after_waiting (after_settling (after_trying_act act p))) (rests_waited config (after_trying_act act p) small ((keeps_run config).enters act tt p run))
+pub rests_acted : (config : Configuration) (act : Act) (p : Play) → config.settings.journal_limit ≤ 1073741824 → IsRun config p →
+    Rests (after_act act p)
+rests_acted config act p small run =
+    rests_taken (after_waiting (after_settling (after_trying_act act p)))
+    (rests_waited config (after_trying_act act p) small ((keeps_run config).enters act tt p run))
 
 -- ---- the conversation
 
-rests_commanded : (config : Configuration) (block : List ℕ) (p : Play) → config.settings.journal_limit ≤ 1073741824 → IsRun config p → Rests p → Rests (after_command p block)
+rests_commanded : (config : Configuration) (block : List ℕ) (p : Play) → config.settings.journal_limit ≤ 1073741824 → IsRun config p →
+    Rests p → Rests (after_command p block)
 rests_commanded config block p small run rests =
     elim (takes_commands p) as (λ b. Rests (cond b (after_act (Command 1 block) p) p)) [
       | true ↦ rests_acted config (Command 1 block) p small run
       | false ↦ rests
     ]
 
-rests_all_commanded : (config : Configuration) (blocks : List (List ℕ)) (p : Play) → config.settings.journal_limit ≤ 1073741824 → IsRun config p → Rests p → Rests (after_commands p blocks)
+rests_all_commanded : (config : Configuration) (blocks : List (List ℕ)) (p : Play) → config.settings.journal_limit ≤ 1073741824 →
+    IsRun config p → Rests p → Rests (after_commands p blocks)
 rests_all_commanded config [] p small run rests = rests
 rests_all_commanded config (block ∷ blocks) p small run rests =
-    rests_all_commanded config blocks (after_command p block) small (kept_commanded Any (IsRun config) (keeps_run config) block tt p run) (rests_commanded config block p small run rests)
+    rests_all_commanded config blocks (after_command p block) small (kept_commanded Any (IsRun config) (keeps_run config) block tt p run)
+    (rests_commanded config block p small run rests)
 
 rests_conversed : (config : Configuration) (input : List ℕ) → config.settings.journal_limit ≤ 1073741824 →
     Rests (after_conversing config input)
 rests_conversed config input small =
-    rests_all_commanded config (blocks_of input) (after_opening config) small (kept_opened Any (IsRun config) (keeps_run config) tt config (run_begun config))
+    rests_all_commanded config (blocks_of input) (after_opening config) small
+    (kept_opened Any (IsRun config) (keeps_run config) tt config (run_begun config))
     (rests_acted config Arrive (new_play config) small (run_begun config))
 
 -- it may come, and then it is there
@@ -358,11 +404,13 @@ fit_arrival config within =
     ap (λ cause. after_judging cause (entry_of Arrive (new_play config)) (new_play config)) (arrival_accepted config 0 within)
 
 here_first : (config : Configuration) → IsWithin config → Here (after_trying_act Arrive (new_play config))
-here_first config within goes_on = subst (λ (p : Play). IsHere 1 (switch_of p)) (sym (fit_arrival config within)) (arrival_here config 0 within)
+here_first config within goes_on =
+    subst (λ (p : Play). IsHere 1 (switch_of p)) (sym (fit_arrival config within)) (arrival_here config 0 within)
 
 here_conversed : (config : Configuration) (input : List ℕ) → IsWithin config → Here (after_conversing config input)
 here_conversed config input within =
-    kept_all_commanded ClosesNone Here keeps_here (λ block. tt) (blocks_of input) (after_opening config) (kept_followed ClosesNone Here keeps_here (after_trying_act Arrive (new_play config)) (here_first config within))
+    kept_all_commanded ClosesNone Here keeps_here (λ block. tt) (blocks_of input) (after_opening config)
+    (kept_followed ClosesNone Here keeps_here (after_trying_act Arrive (new_play config)) (here_first config within))
 
 -- ---- the end of the input
 
@@ -398,9 +446,11 @@ parted_taken p h = parted_repeated (length (waiting_for (switch_of p) 1)) p h
 pub fit_end : (p : Play) → reads_on p ≡ true → IsFit (Close 1 EndOfInput) p
 fit_end p reading = ap (λ b. refused_where (not b) refusal.Gone None) reading
 
-parted_end : (p : Play) → is_over p ≡ false → reads_on p ≡ true → Free p → (is_over (after_trying_act (Close 1 EndOfInput) p) ≡ true) ⊎ Parted (after_trying_act (Close 1 EndOfInput) p)
+parted_end : (p : Play) → is_over p ≡ false → reads_on p ≡ true → Free p →
+    (is_over (after_trying_act (Close 1 EndOfInput) p) ≡ true) ⊎ Parted (after_trying_act (Close 1 EndOfInput) p)
 parted_end p goes_on reading free =
-    subst (λ (q : Play). (is_over q ≡ true) ⊎ Parted q) (sym (fit_entered (Close 1 EndOfInput) p goes_on (fit_end p reading))) (by (is_full (switch_of p)))
+    subst (λ (q : Play). (is_over q ≡ true) ⊎ Parted q) (sym (fit_entered (Close 1 EndOfInput) p goes_on (fit_end p reading)))
+    (by (is_full (switch_of p)))
   where
     parts : Parted (longer_by (Close 1 EndOfInput) p)
     parts = let both = end_parts (switch_of p) p.clock 1 reading free in record {
@@ -408,7 +458,8 @@ parted_end p goes_on reading free =
       free = ap (λ (s : Switch). owes s 1) (switch_longer (Close 1 EndOfInput) p) ∙ both.1;
     }
 
-    by : (full : Bool) → (is_over (cond full (filled p) (longer_by (Close 1 EndOfInput) p)) ≡ true) ⊎ Parted (cond full (filled p) (longer_by (Close 1 EndOfInput) p))
+    by : (full : Bool) → (is_over (cond full (filled p) (longer_by (Close 1 EndOfInput) p)) ≡ true)
+        ⊎ Parted (cond full (filled p) (longer_by (Close 1 EndOfInput) p))
     by true = inl refl
     by false = inr parts
 
@@ -420,19 +471,23 @@ parts_taken : (p : Play) → PartsOrOver p → PartsOrOver (after_taking_all p)
 parts_taken p (inl over) = inl (ap is_over (goes_all_taken.over p over) ∙ over)
 parts_taken p (inr h) = inr (parted_taken p h)
 
-parts_ended : (config : Configuration) (p : Play) → config.settings.journal_limit ≤ 1073741824 → IsRun config p → Here p → Rests p → PartsOrOver (after_input_end p)
+parts_ended : (config : Configuration) (p : Play) → config.settings.journal_limit ≤ 1073741824 → IsRun config p → Here p → Rests p →
+    PartsOrOver (after_input_end p)
 parts_ended config p small run here rests = by (is_over p) refl rests (reads_on p) refl
   where
     over_both : (reading : Bool) → is_over p ≡ true →
         PartsOrOver (cond reading (after_taking_all (after_trying_act (Close 1 EndOfInput) p)) p)
-    over_both true over = parts_taken (after_trying_act (Close 1 EndOfInput) p) (inl (ap is_over ((goes_entered (Close 1 EndOfInput)).over p over) ∙ over))
+    over_both true over =
+        parts_taken (after_trying_act (Close 1 EndOfInput) p) (inl (ap is_over ((goes_entered (Close 1 EndOfInput)).over p over) ∙ over))
     over_both false over = inl over
 
-    by : (over : Bool) → is_over p ≡ over → Rests p → (reading : Bool) → reads_on p ≡ reading → PartsOrOver (cond reading (after_taking_all (after_trying_act (Close 1 EndOfInput) p)) p)
+    by : (over : Bool) → is_over p ≡ over → Rests p → (reading : Bool) → reads_on p ≡ reading →
+        PartsOrOver (cond reading (after_taking_all (after_trying_act (Close 1 EndOfInput) p)) p)
     by true over rests reading is = over_both reading over
     by false goes_on (inl over) reading is = over_both reading over
     by false goes_on (inr free) true is = parts_taken (after_trying_act (Close 1 EndOfInput) p) (parted_end p goes_on is free)
-    by false goes_on (inr free) false is = inr (record { ending = ending_at (switch_of p) 1 (owed_of_run config p small run) (here goes_on).there is; free = free })
+    by false goes_on (inr free) false is =
+        inr (record { ending = ending_at (switch_of p) 1 (owed_of_run config p small run) (here goes_on).there is; free = free })
 
 -- ---- the closing
 
@@ -441,44 +496,57 @@ fit_sent : (p : Play) → Parted p → waiting_for (switch_of p) 1 ≡ [] → Is
 fit_sent p h nothing = sent_accepted (at_moment p.clock (switch_of p)) 1 h.ending nothing h.free
 
 -- nothing speaks against the closing of a play that is not over
-fit_closing : (config : Configuration) (p : Play) → config.settings.journal_limit ≤ 1073741824 → IsRun config p → Here p → Rests p → Drained p → is_over (after_input_end p) ≡ false → IsFit (Close 1 Sent) (after_input_end p)
+fit_closing : (config : Configuration) (p : Play) → config.settings.journal_limit ≤ 1073741824 → IsRun config p → Here p → Rests p →
+    Drained p → is_over (after_input_end p) ≡ false → IsFit (Close 1 Sent) (after_input_end p)
 fit_closing config p small run here rests drained goes_on = by (parts_ended config p small run here rests)
   where
     by : PartsOrOver (after_input_end p) → IsFit (Close 1 Sent) (after_input_end p)
     by (inl over) = absurd (both_ways (is_over (after_input_end p)) goes_on over)
     by (inr h) = fit_sent (after_input_end p) h (nothing_waits (after_input_end p) (drained_ended config p small run drained) goes_on)
 
-pub fit_last : (config : Configuration) (input : List ℕ) → IsWithin config → is_over (after_input_end (after_conversing config input)) ≡ false → IsFit (Close 1 Sent) (after_input_end (after_conversing config input))
+pub fit_last : (config : Configuration) (input : List ℕ) → IsWithin config →
+    is_over (after_input_end (after_conversing config input)) ≡ false →
+    IsFit (Close 1 Sent) (after_input_end (after_conversing config input))
 fit_last config input within goes_on =
     let small = within.settings.journal.1 in
-    fit_closing config (after_conversing config input) small (run_conversed config input) (here_conversed config input within) (rests_conversed config input small) (drained_conversed config input small) goes_on
+    fit_closing config (after_conversing config input) small (run_conversed config input) (here_conversed config input within)
+    (rests_conversed config input small) (drained_conversed config input small) goes_on
 
 -- the journal ends with the Close as Sent of the connection
 abbrev pub EndsSent : Play → Type 0
 EndsSent p = (before : List Entry) × (moment : ℕ) × (p.journal ≡ before ++ record { moment = moment; act = Close 1 Sent } ∷ [])
 
-sent_entered : (p : Play) → (is_over p ≡ false → IsFit (Close 1 Sent) p) → is_over (after_trying_act (Close 1 Sent) p) ≡ false → EndsSent (after_trying_act (Close 1 Sent) p)
+sent_entered : (p : Play) → (is_over p ≡ false → IsFit (Close 1 Sent) p) → is_over (after_trying_act (Close 1 Sent) p) ≡ false →
+    EndsSent (after_trying_act (Close 1 Sent) p)
 sent_entered p fit goes_on = by (is_over p) refl (is_full (switch_of p)) refl
   where
     by : (over : Bool) → is_over p ≡ over → (full : Bool) → is_full (switch_of p) ≡ full → EndsSent (after_trying_act (Close 1 Sent) p)
-    by true over full is = absurd (both_ways (is_over (after_trying_act (Close 1 Sent) p)) goes_on (ap is_over ((goes_entered (Close 1 Sent)).over p over) ∙ over))
+    by true over full is =
+        absurd (both_ways (is_over (after_trying_act (Close 1 Sent) p)) goes_on
+        (ap is_over ((goes_entered (Close 1 Sent)).over p over) ∙ over))
     by false still true is =
         absurd (both_ways (is_over (after_trying_act (Close 1 Sent) p)) goes_on
         (ap is_over (fit_entered (Close 1 Sent) p still (fit still) ∙ ap (λ b. cond b (filled p) (longer_by (Close 1 Sent) p)) is)))
     by false still false is =
-        subst EndsSent (sym (fit_entered (Close 1 Sent) p still (fit still) ∙ ap (λ b. cond b (filled p) (longer_by (Close 1 Sent) p)) is)) (p.journal, p.clock, refl)
+        subst EndsSent (sym (fit_entered (Close 1 Sent) p still (fit still) ∙ ap (λ b. cond b (filled p) (longer_by (Close 1 Sent) p)) is))
+        (p.journal, p.clock, refl)
 
-sent_concluded : (how end : End) (p : Play) → (is_over p ≡ false → EndsSent p) → Early p → (with_end how p).end ≡ Some end → is_early end ≡ false → EndsSent (with_end how p)
+sent_concluded : (how end : End) (p : Play) → (is_over p ≡ false → EndsSent p) → Early p → (with_end how p).end ≡ Some end →
+    is_early end ≡ false → EndsSent (with_end how p)
 sent_concluded how end p sent early is not_early = by (is_over p) refl is
   where
-    by : (over : Bool) → is_over p ≡ over → (cond over p (record p { end = Some how })).end ≡ Some end → EndsSent (cond over p (record p { end = Some how }))
-    by true over e = let sooner = early_is end (switch_of p) (subst (λ (last : Option End). EndsEarly last (switch_of p)) e early) in absurd (both_ways (is_early end) not_early sooner)
+    by : (over : Bool) → is_over p ≡ over → (cond over p (record p { end = Some how })).end ≡ Some end →
+        EndsSent (cond over p (record p { end = Some how }))
+    by true over e = let sooner = early_is end (switch_of p) (subst (λ (last : Option End). EndsEarly last (switch_of p)) e early) in
+        absurd (both_ways (is_early end) not_early sooner)
     by false goes_on e = sent goes_on
 
 -- a play that ends with its connection closes it
-pub sent_played : (config : Configuration) (input : List ℕ) (read_failed : Bool) (end : End) → IsWithin config → (played config input read_failed).end ≡ Some end → is_early end ≡ false →
+pub sent_played : (config : Configuration) (input : List ℕ) (read_failed : Bool) (end : End) → IsWithin config →
+    (played config input read_failed).end ≡ Some end → is_early end ≡ false →
     EndsSent (played config input read_failed)
 unfolding played_as
 sent_played config input read_failed end within is not_early =
-    sent_concluded (end_behind (farewell (after_conversing config input)) (too_long (rest_of input)) read_failed) end (after_closing (after_conversing config input))
+    sent_concluded (end_behind (farewell (after_conversing config input)) (too_long (rest_of input)) read_failed) end
+    (after_closing (after_conversing config input))
     (sent_entered (after_input_end (after_conversing config input)) (fit_last config input within)) (early_closed config input) is not_early

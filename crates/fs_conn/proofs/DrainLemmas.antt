@@ -1,5 +1,6 @@
 -- What a play gives its connection is handed out, all of it unless the play is over before the connection.
-use Rattle.std.proofs.Common.{◌≡◌, ℕ, zero, suc, ◌-◌, ◌≤◌, ◌==◌, Bool, true, false, cond, List, [], ◌∷◌, ◌++◌, length, drop, Option, None, Some, ◌⊎◌, inl, inr, refl, sym, ap, ◌∙◌, subst, append-nil, arith}
+use Rattle.std.proofs.Common.{◌≡◌, ℕ, zero, suc, ◌-◌, ◌≤◌, ◌==◌, Bool, true, false, cond, List, [], ◌∷◌, ◌++◌, length, drop, Option, None}
+use Rattle.std.proofs.Common.{Some, ◌⊎◌, inl, inr, refl, sym, ap, ◌∙◌, subst, append-nil, arith}
 use Rattle.std.specs.List.{concat}
 use Rattle.std.proofs.lemmas.Bool.{both_ways, eqb-true}
 use Rattle.std.proofs.lemmas.List.{nil_from_length, length-drop}
@@ -21,10 +22,14 @@ use Rattle.fs_machine.specs.Step.{step, is_closed, refused_where, refusal_of}
 use Rattle.fs_machine.specs.Runs.{run_from, IsRunFrom}
 use Rattle.fs_machine.specs.Frames.{frames_from, handed_from}
 use Rattle.fs_machine.proofs.RunLemmas.{run_more}
-use Rattle.fs_machine.proofs.FramesLaws.{handed_first, handed_sent, closed_waits_not, take_leaves_rest, IsUnfailed, AreUnfailed, unfailed_more, handed_unfailed}
+use Rattle.fs_machine.proofs.FramesLaws.{handed_first, handed_sent, closed_waits_not, take_leaves_rest, IsUnfailed, AreUnfailed}
+use Rattle.fs_machine.proofs.FramesLaws.{unfailed_more, handed_unfailed}
 use Rattle.fs_conn.specs.declared.end.End.{End}
 use Rattle.fs_conn.specs.declared.end.End.TheVariants.{Exit, Eof, AuthRefused, ReadFault, WriteFault, TooLong, JournalFull, Memory, Runaway}
-use Rattle.fs_conn.specs.Play.{Play, switch_of, bytes_handed, new_play, is_over, with_end, after_judging, after_trying_act, repeated, after_settling, after_waiting, after_taking_all, after_act, reads_on, takes_commands, after_command, after_commands, after_opening, after_input_end, after_conversing, after_closing, farewell, end_behind, played, after_taking_all_as, played_as}
+use Rattle.fs_conn.specs.Play.{Play, switch_of, bytes_handed, new_play, is_over, with_end, after_judging, after_trying_act, repeated}
+use Rattle.fs_conn.specs.Play.{after_settling, after_waiting, after_taking_all, after_act, reads_on, takes_commands, after_command}
+use Rattle.fs_conn.specs.Play.{after_commands, after_opening, after_input_end, after_conversing, after_closing, farewell, end_behind}
+use Rattle.fs_conn.specs.Play.{played, after_taking_all_as, played_as}
 use Rattle.fs_conn.specs.Steps.{is_early, entry_of}
 use Rattle.fs_conn.proofs.PlayLemmas.{goes_entered, goes_taken}
 use Rattle.fs_conn.proofs.KeepLemmas.{Keeps, kept_settled, kept_waited, kept_opened, kept_commanded, kept_all_commanded, kept_input_ended}
@@ -54,24 +59,30 @@ Takes p q = (is_over q ≡ true) ⊎ (length (waits_in q) ≤ length (waits_in p
 -- how a Take is judged
 abbrev take_judged : Bool → Bool → Bool → Play → Play
 take_judged full gone none p =
-    after_judging (refused_where full (refusal.JournalFull (switch_of p).cost (switch_of p).config.settings.journal_limit) (refused_where gone refusal.Gone (refused_where none refusal.Empty None))) (entry_of (Take 1) p) p
+    after_judging (refused_where full (refusal.JournalFull (switch_of p).cost (switch_of p).config.settings.journal_limit)
+    (refused_where gone refusal.Gone (refused_where none refusal.Empty None))) (entry_of (Take 1) p) p
 
-take_is : (p : Play) → is_over p ≡ false → after_trying_act (Take 1) p ≡ take_judged (is_full (switch_of p)) (is_closed (phase_at (switch_of p) 1)) (length (waits_in p) == 0) p
+take_is : (p : Play) → is_over p ≡ false →
+    after_trying_act (Take 1) p ≡ take_judged (is_full (switch_of p)) (is_closed (phase_at (switch_of p) 1)) (length (waits_in p) == 0) p
 unfolding refusal_of
 take_is p goes_on =
     ap (λ over. cond over p (after_judging (refusal_of (switch_of p) (entry_of (Take 1) p)) (entry_of (Take 1) p) p)) goes_on
 
 -- one that is entered leaves the others
-pub taken_rest : (config : Configuration) (p : Play) → config.settings.journal_limit ≤ 1073741824 → IsRun config p → is_closed (phase_at (switch_of p) 1) ≡ false →
+pub taken_rest : (config : Configuration) (p : Play) → config.settings.journal_limit ≤ 1073741824 → IsRun config p →
+    is_closed (phase_at (switch_of p) 1) ≡ false →
     waits_in (record p { journal = p.journal ++ entry_of (Take 1) p ∷ [] }) ≡ drop 1 (waits_in p)
 taken_rest config p limit run is_open =
     let entry = entry_of (Take 1) p in
     let here = switch_is config p run in
-    let left = (take_leaves_rest config p.journal p.clock 1 limit (run_of config p run) (ap (λ (s : Switch). is_closed (phase_at s 1)) here ∙ is_open)).0 in
+    let left =
+    (take_leaves_rest config p.journal p.clock 1 limit (run_of config p run)
+    (ap (λ (s : Switch). is_closed (phase_at s 1)) here ∙ is_open)).0 in
     ap (λ (s : Switch). waiting_for s 1) (run_more (empty p.config) p.journal entry)
     ∙ subst (λ (s : Switch). waiting_for (step s entry).state 1 ≡ drop 1 (waiting_for s 1)) here left
 
-taken_one : (config : Configuration) (p : Play) → config.settings.journal_limit ≤ 1073741824 → IsRun config p → is_closed (phase_at (switch_of p) 1) ≡ false →
+taken_one : (config : Configuration) (p : Play) → config.settings.journal_limit ≤ 1073741824 → IsRun config p →
+    is_closed (phase_at (switch_of p) 1) ≡ false →
     length (waits_in (record p { journal = p.journal ++ entry_of (Take 1) p ∷ [] })) ≤ length (waits_in p) - 1
 taken_one config p limit run is_open =
     let fewer = length-drop 1 (waits_in p) in
@@ -83,26 +94,32 @@ takes_judged config p true gone none limit run is_gone is_none = inl refl
 takes_judged config p false true none limit run is_gone is_none =
     let here = switch_is config p run in
     let nothing : waits_in p ≡ [] =
-    ap (λ (s : Switch). waiting_for s 1) (sym here) ∙ closed_waits_not config p.journal 1 limit (run_of config p run) (ap (λ (s : Switch). is_closed (phase_at s 1)) here ∙ is_gone) in
+    ap (λ (s : Switch). waiting_for s 1) (sym here)
+    ∙ closed_waits_not config p.journal 1 limit (run_of config p run) (ap (λ (s : Switch). is_closed (phase_at s 1)) here ∙ is_gone) in
     let zero_long = ap length nothing in inr (omega (arith, zero_long))
-takes_judged config p false false true limit run is_gone is_none = let zero_long = eqb-true (length (waits_in p)) 0 is_none in inr (omega (arith, zero_long))
+takes_judged config p false false true limit run is_gone is_none =
+    let zero_long = eqb-true (length (waits_in p)) 0 is_none in inr (omega (arith, zero_long))
 takes_judged config p false false false limit run is_gone is_none = inr (taken_one config p limit run is_gone)
 
-pub takes_one : (config : Configuration) (p : Play) → config.settings.journal_limit ≤ 1073741824 → IsRun config p → Takes p (after_trying_act (Take 1) p)
+pub takes_one : (config : Configuration) (p : Play) → config.settings.journal_limit ≤ 1073741824 → IsRun config p →
+    Takes p (after_trying_act (Take 1) p)
 takes_one config p limit run = by (is_over p) refl
   where
     by : (over : Bool) → is_over p ≡ over → Takes p (after_trying_act (Take 1) p)
     by true over = inl (ap is_over ((goes_entered (Take 1)).over p over) ∙ over)
     by false goes_on =
         subst (Takes p) (sym (take_is p goes_on))
-        (takes_judged config p (is_full (switch_of p)) (is_closed (phase_at (switch_of p) 1)) (length (waits_in p) == 0) limit run refl refl)
+        (takes_judged config p (is_full (switch_of p)) (is_closed (phase_at (switch_of p) 1))
+        (length (waits_in p) == 0) limit run refl refl)
 
 -- so many are taken
-drained_by : (n : ℕ) (p q : Play) → Takes p q → length (waits_in p) ≤ suc n → (length (waits_in q) ≤ n → Drained (repeated n (after_trying_act (Take 1)) q)) → Drained (repeated n (after_trying_act (Take 1)) q)
+drained_by : (n : ℕ) (p q : Play) → Takes p q → length (waits_in p) ≤ suc n →
+    (length (waits_in q) ≤ n → Drained (repeated n (after_trying_act (Take 1)) q)) → Drained (repeated n (after_trying_act (Take 1)) q)
 drained_by n p q (inl over) few others = inl (ap is_over ((goes_taken n).over q over) ∙ over)
 drained_by n p q (inr fewer) few others = others (omega (arith, fewer, few))
 
-drained_all : (config : Configuration) (n : ℕ) (p : Play) → config.settings.journal_limit ≤ 1073741824 → IsRun config p → length (waits_in p) ≤ n → Drained (repeated n (after_trying_act (Take 1)) p)
+drained_all : (config : Configuration) (n : ℕ) (p : Play) → config.settings.journal_limit ≤ 1073741824 → IsRun config p →
+    length (waits_in p) ≤ n → Drained (repeated n (after_trying_act (Take 1)) p)
 unfolding repeated
 drained_all config zero p limit run few = inr (nil_from_length (waits_in p) (omega (arith, few)))
 drained_all config (suc n) p limit run few =
@@ -116,41 +133,50 @@ drained_taken config p limit run = drained_all config (length (waits_in p)) p li
 
 -- ---- the conversation
 
-drained_acted : (config : Configuration) (act : Act) (p : Play) → config.settings.journal_limit ≤ 1073741824 → IsRun config p → Drained (after_act act p)
+drained_acted : (config : Configuration) (act : Act) (p : Play) → config.settings.journal_limit ≤ 1073741824 → IsRun config p →
+    Drained (after_act act p)
 drained_acted config act p limit run =
     let first = (keeps_run config).enters act tt p run in
     let then = kept_settled Any (IsRun config) (keeps_run config) (after_trying_act act p) first in
-    drained_taken config (after_waiting (after_settling (after_trying_act act p))) limit (kept_waited Any (IsRun config) (keeps_run config) (after_settling (after_trying_act act p)) then)
+    drained_taken config (after_waiting (after_settling (after_trying_act act p))) limit
+    (kept_waited Any (IsRun config) (keeps_run config) (after_settling (after_trying_act act p)) then)
 
-drained_commanded : (config : Configuration) (block : List ℕ) (p : Play) → config.settings.journal_limit ≤ 1073741824 → IsRun config p → Drained p → Drained (after_command p block)
+drained_commanded : (config : Configuration) (block : List ℕ) (p : Play) → config.settings.journal_limit ≤ 1073741824 → IsRun config p →
+    Drained p → Drained (after_command p block)
 drained_commanded config block p limit run drained =
     elim (takes_commands p) as (λ b. Drained (cond b (after_act (Command 1 block) p) p)) [
       | true ↦ drained_acted config (Command 1 block) p limit run
       | false ↦ drained
     ]
 
-drained_all_commanded : (config : Configuration) (blocks : List (List ℕ)) (p : Play) → config.settings.journal_limit ≤ 1073741824 → IsRun config p → Drained p → Drained (after_commands p blocks)
+drained_all_commanded : (config : Configuration) (blocks : List (List ℕ)) (p : Play) → config.settings.journal_limit ≤ 1073741824 →
+    IsRun config p → Drained p → Drained (after_commands p blocks)
 drained_all_commanded config [] p limit run drained = drained
 drained_all_commanded config (block ∷ blocks) p limit run drained =
-    drained_all_commanded config blocks (after_command p block) limit (kept_commanded Any (IsRun config) (keeps_run config) block tt p run) (drained_commanded config block p limit run drained)
+    drained_all_commanded config blocks (after_command p block) limit (kept_commanded Any (IsRun config) (keeps_run config) block tt p run)
+    (drained_commanded config block p limit run drained)
 
 pub run_begun : (config : Configuration) → IsRun config (new_play config)
 run_begun config = record { config_is = refl; run = tt }
 
 pub run_conversed : (config : Configuration) (input : List ℕ) → IsRun config (after_conversing config input)
 run_conversed config input =
-    kept_all_commanded Any (IsRun config) (keeps_run config) (λ block. tt) (blocks_of input) (after_opening config) (kept_opened Any (IsRun config) (keeps_run config) tt config (run_begun config))
+    kept_all_commanded Any (IsRun config) (keeps_run config) (λ block. tt) (blocks_of input) (after_opening config)
+    (kept_opened Any (IsRun config) (keeps_run config) tt config (run_begun config))
 
-pub drained_conversed : (config : Configuration) (input : List ℕ) → config.settings.journal_limit ≤ 1073741824 → Drained (after_conversing config input)
+pub drained_conversed : (config : Configuration) (input : List ℕ) → config.settings.journal_limit ≤ 1073741824 →
+    Drained (after_conversing config input)
 drained_conversed config input limit =
-    drained_all_commanded config (blocks_of input) (after_opening config) limit (kept_opened Any (IsRun config) (keeps_run config) tt config (run_begun config))
+    drained_all_commanded config (blocks_of input) (after_opening config) limit
+    (kept_opened Any (IsRun config) (keeps_run config) tt config (run_begun config))
     (drained_acted config Arrive (new_play config) limit (run_begun config))
 
 pub run_ended : (config : Configuration) (input : List ℕ) → IsRun config (after_input_end (after_conversing config input))
 run_ended config input =
     kept_input_ended Any (IsRun config) (keeps_run config) tt (after_conversing config input) (run_conversed config input)
 
-pub drained_ended : (config : Configuration) (p : Play) → config.settings.journal_limit ≤ 1073741824 → IsRun config p → Drained p → Drained (after_input_end p)
+pub drained_ended : (config : Configuration) (p : Play) → config.settings.journal_limit ≤ 1073741824 → IsRun config p → Drained p →
+    Drained (after_input_end p)
 drained_ended config p limit run drained =
     elim (reads_on p) as (λ b. Drained (cond b (after_taking_all (after_trying_act (Close 1 EndOfInput) p)) p)) [
       | true ↦ drained_taken config (after_trying_act (Close 1 EndOfInput) p) limit
@@ -175,7 +201,8 @@ keeps_unfailed = record {
   jobs = λ number. tt;
   takes = tt;
   enters =
-      λ act such p h. elim (is_over p) as (λ b. Unfailed (cond b p (after_judging (refusal_of (switch_of p) (entry_of act p)) (entry_of act p) p))) [
+      λ act such p h. elim (is_over p) as (λ b. Unfailed
+      (cond b p (after_judging (refusal_of (switch_of p) (entry_of act p)) (entry_of act p) p))) [
         | true ↦ h
         | false ↦ unfailed_judged (refusal_of (switch_of p) (entry_of act p)) (entry_of act p) p such h
       ];
@@ -186,7 +213,8 @@ keeps_unfailed = record {
 unfailed_ended : (config : Configuration) (input : List ℕ) → Unfailed (after_input_end (after_conversing config input))
 unfailed_ended config input =
     kept_input_ended IsUnfailed Unfailed keeps_unfailed tt (after_conversing config input)
-    (kept_all_commanded IsUnfailed Unfailed keeps_unfailed (λ block. tt) (blocks_of input) (after_opening config) (kept_opened IsUnfailed Unfailed keeps_unfailed tt config tt))
+    (kept_all_commanded IsUnfailed Unfailed keeps_unfailed (λ block. tt) (blocks_of input) (after_opening config)
+    (kept_opened IsUnfailed Unfailed keeps_unfailed tt config tt))
 
 -- ---- frames
 
@@ -202,16 +230,20 @@ abbrev IsWhole : Configuration → Play → Type 0
 IsWhole config p = given_to config p.journal ≡ handed_to config p.journal
 
 -- before the connection is closed, where nothing waits
-whole_before : (config : Configuration) (p : Play) → config.settings.journal_limit ≤ 1073741824 → IsRun config p → Unfailed p → waits_in p ≡ [] → IsWhole config p
+whole_before : (config : Configuration) (p : Play) → config.settings.journal_limit ≤ 1073741824 → IsRun config p → Unfailed p →
+    waits_in p ≡ [] → IsWhole config p
 whole_before config p limit run unfailed nothing =
     handed_unfailed config p.journal 1 limit (run_of config p run) unfailed
     ∙ ap (λ frames. handed_to config p.journal ++ frames) (ap (λ (s : Switch). waiting_for s 1) (switch_is config p run) ∙ nothing)
     ∙ append-nil (handed_to config p.journal)
 
 -- once it is closed, or that was refused
-whole_judged : (config : Configuration) (cause : Option Refusal) (p : Play) → config.settings.journal_limit ≤ 1073741824 → IsRun config p → IsRun config (after_judging cause (entry_of (Close 1 Sent) p) p) → Unfailed p →
-    waits_in p ≡ [] → is_over (after_judging cause (entry_of (Close 1 Sent) p) p) ≡ false → IsWhole config (after_judging cause (entry_of (Close 1 Sent) p) p)
-whole_judged config None p limit run later unfailed nothing goes_on = handed_sent config p.journal p.clock 1 limit (run_of config (record p { journal = p.journal ++ entry_of (Close 1 Sent) p ∷ [] }) later)
+whole_judged : (config : Configuration) (cause : Option Refusal) (p : Play) → config.settings.journal_limit ≤ 1073741824 → IsRun config p →
+    IsRun config (after_judging cause (entry_of (Close 1 Sent) p) p) → Unfailed p →
+    waits_in p ≡ [] → is_over (after_judging cause (entry_of (Close 1 Sent) p) p) ≡ false →
+    IsWhole config (after_judging cause (entry_of (Close 1 Sent) p) p)
+whole_judged config None p limit run later unfailed nothing goes_on =
+    handed_sent config p.journal p.clock 1 limit (run_of config (record p { journal = p.journal ++ entry_of (Close 1 Sent) p ∷ [] }) later)
 whole_judged config (Some (refusal.JournalFull cost most)) p limit run later unfailed nothing goes_on = absurd (cc)
 whole_judged config (Some _) p limit run later unfailed nothing goes_on = whole_before config p limit run unfailed nothing
 
@@ -227,21 +259,27 @@ pub nothing_waits : (p : Play) → Drained p → is_over p ≡ false → waits_i
 nothing_waits p (inl over) goes_on = absurd (cc)
 nothing_waits p (inr nothing) goes_on = nothing
 
-whole_closed : (config : Configuration) (input : List ℕ) → config.settings.journal_limit ≤ 1073741824 → is_over (after_closing (after_conversing config input)) ≡ false → IsWhole config (after_closing (after_conversing config input))
+whole_closed : (config : Configuration) (input : List ℕ) → config.settings.journal_limit ≤ 1073741824 →
+    is_over (after_closing (after_conversing config input)) ≡ false → IsWhole config (after_closing (after_conversing config input))
 whole_closed config input limit goes_on =
     let q = after_input_end (after_conversing config input) in
     let still : is_over q ≡ false = not_over q goes_on in
     let cause = refusal_of (switch_of q) (entry_of (Close 1 Sent) q) in
-    let nothing = nothing_waits q (drained_ended config (after_conversing config input) limit (run_conversed config input) (drained_conversed config input limit)) still in
-    let is : after_closing (after_conversing config input) ≡ after_judging cause (entry_of (Close 1 Sent) q) q = ap (λ b. cond b q (after_judging cause (entry_of (Close 1 Sent) q) q)) still in
+    let nothing =
+    nothing_waits q (drained_ended config (after_conversing config input) limit (run_conversed config input)
+    (drained_conversed config input limit)) still in
+    let is : after_closing (after_conversing config input) ≡ after_judging cause (entry_of (Close 1 Sent) q) q =
+    ap (λ b. cond b q (after_judging cause (entry_of (Close 1 Sent) q) q)) still in
     subst (λ (p : Play). IsWhole config p) (sym is)
-    (whole_judged config cause q limit (run_ended config input) (subst (λ (p : Play). IsRun config p) is (run_closed config input)) (unfailed_ended config input) nothing (ap is_over (sym is) ∙ goes_on))
+    (whole_judged config cause q limit (run_ended config input) (subst (λ (p : Play). IsRun config p) is (run_closed config input))
+    (unfailed_ended config input) nothing (ap is_over (sym is) ∙ goes_on))
 
 -- ---- the whole play
 
 -- what is handed out is the first of what is given
 pub first_played : (config : Configuration) (input : List ℕ) (read_failed : Bool) → config.settings.journal_limit ≤ 1073741824 →
-    (more : List ℕ) × (concat (frames_from 1 (empty config) (played config input read_failed).journal) ≡ bytes_handed config (played config input read_failed).journal ++ more)
+    (more : List ℕ) × (concat (frames_from 1 (empty config) (played config input read_failed).journal)
+    ≡ bytes_handed config (played config input read_failed).journal ++ more)
 first_played config input read_failed limit =
     let journal = (played config input read_failed).journal in
     let first = handed_first config journal 1 limit (run_played config input read_failed) in
@@ -259,22 +297,27 @@ early_is (JournalFull cost limit) s early = refl
 early_is Memory s early = absurd early
 early_is (Runaway count) s early = refl
 
-whole_concluded : (config : Configuration) (how end : End) (p : Play) → (is_over p ≡ false → IsWhole config p) → Early p → (with_end how p).end ≡ Some end → is_early end ≡ false → IsWhole config (with_end how p)
+whole_concluded : (config : Configuration) (how end : End) (p : Play) → (is_over p ≡ false → IsWhole config p) → Early p →
+    (with_end how p).end ≡ Some end → is_early end ≡ false → IsWhole config (with_end how p)
 whole_concluded config how end p whole early is not_early = by (is_over p) refl is
   where
-    by : (over : Bool) → is_over p ≡ over → (cond over p (record p { end = Some how })).end ≡ Some end → IsWhole config (cond over p (record p { end = Some how }))
-    by true over e = let sooner = early_is end (switch_of p) (subst (λ (last : Option End). EndsEarly last (switch_of p)) e early) in absurd (both_ways (is_early end) not_early sooner)
+    by : (over : Bool) → is_over p ≡ over → (cond over p (record p { end = Some how })).end ≡ Some end →
+        IsWhole config (cond over p (record p { end = Some how }))
+    by true over e = let sooner = early_is end (switch_of p) (subst (λ (last : Option End). EndsEarly last (switch_of p)) e early) in
+        absurd (both_ways (is_early end) not_early sooner)
     by false goes_on e = whole goes_on
 
 whole_played : (config : Configuration) (input : List ℕ) (read_failed : Bool) (end : End) → config.settings.journal_limit ≤ 1073741824 →
     (played config input read_failed).end ≡ Some end → is_early end ≡ false → IsWhole config (played config input read_failed)
 unfolding played_as
 whole_played config input read_failed end limit is not_early =
-    whole_concluded config (end_behind (farewell (after_conversing config input)) (too_long (rest_of input)) read_failed) end (after_closing (after_conversing config input))
+    whole_concluded config (end_behind (farewell (after_conversing config input)) (too_long (rest_of input)) read_failed) end
+    (after_closing (after_conversing config input))
     (whole_closed config input limit) (early_closed config input) is not_early
 
 -- all is handed out, unless the play ends before the connection
 pub all_played : (config : Configuration) (input : List ℕ) (read_failed : Bool) (end : End) → config.settings.journal_limit ≤ 1073741824 →
     (played config input read_failed).end ≡ Some end → is_early end ≡ false →
-    bytes_handed config (played config input read_failed).journal ≡ concat (frames_from 1 (empty config) (played config input read_failed).journal)
+    bytes_handed config (played config input read_failed).journal
+    ≡ concat (frames_from 1 (empty config) (played config input read_failed).journal)
 all_played config input read_failed end limit is not_early = ap concat (sym (whole_played config input read_failed end limit is not_early))

@@ -1,5 +1,6 @@
 -- From a conversation to the play.
-use Rattle.std.proofs.Common.{◌≡◌, ℕ, Bool, true, false, cond, List, [], Option, None, Some, Result, Ok, Err, refl, sym, ap, ◌∙◌, subst, append-nil}
+use Rattle.std.proofs.Common.{◌≡◌, ℕ, Bool, true, false, cond, List, [], Option, None, Some, Result, Ok, Err, refl, sym, ap, ◌∙◌, subst}
+use Rattle.std.proofs.Common.{append-nil}
 use Rattle.fs_doc.specs.Reading.{Configuration}
 use Rattle.fs_ports.specs.Ports.{Input, Output, Writes, Stopped}
 use Rattle.fs_ports.proofs.Sides.{reads_nothing, writes_nothing, stopped_later}
@@ -16,9 +17,11 @@ use Rattle.fs_conn.specs.declared.end.End.{End}
 use Rattle.fs_conn.specs.declared.end.End.TheVariants as ends
 use Rattle.fs_conn.specs.declared.stop.Stop.{Stop}
 use Rattle.fs_conn.specs.declared.stop.Stop.TheVariants.{Over, OutOfMemory, WriteFault}
-use Rattle.fs_conn.specs.Play.{Play, new_play, bytes_handed, switch_of, output_of, is_over, after_judging, after_trying_act, after_opening, after_conversing, played}
+use Rattle.fs_conn.specs.Play.{Play, new_play, bytes_handed, switch_of, output_of, is_over, after_judging, after_trying_act, after_opening}
+use Rattle.fs_conn.specs.Play.{after_conversing, played}
 use Rattle.fs_conn.specs.Steps.{is_early, IsPlayFront, Halts, entry_of, Enters, Clears}
-use Rattle.fs_conn.specs.Turns.{is_told, at_early_end, Concludes, Stops, Finishes, Breaks, BreaksAt, WantsMemory, all_written, then_failed, failed_before, unless_refused, ClosesFailed, Plays}
+use Rattle.fs_conn.specs.Turns.{is_told, at_early_end, Concludes, Stops, Finishes, Breaks, BreaksAt, WantsMemory, all_written, then_failed}
+use Rattle.fs_conn.specs.Turns.{failed_before, unless_refused, ClosesFailed, Plays}
 use Rattle.fs_conn.proofs.PlayLemmas.{goes_entered, goes_acted, goes_all_commanded}
 use Rattle.fs_conn.proofs.StepLemmas.{does_enters}
 use Rattle.fs_conn.proofs.WriteLemmas.{written_all, written_whole, stopped_whole}

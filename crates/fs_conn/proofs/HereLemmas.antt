@@ -1,5 +1,6 @@
 -- Between commands the connection is there, its input has not ended, and it is owed nothing.
-use Rattle.std.proofs.Common.{◌≡◌, ℕ, Bool, true, false, cond, List, [], ◌∷◌, ◌++◌, length, Option, None, Some, Result, Ok, Err, refl, sym, ap, ◌∙◌, subst}
+use Rattle.std.proofs.Common.{◌≡◌, ℕ, Bool, true, false, cond, List, [], ◌∷◌, ◌++◌, length, Option, None, Some, Result, Ok, Err, refl, sym}
+use Rattle.std.proofs.Common.{ap, ◌∙◌, subst}
 use Rattle.std.specs.Prelude.{OnOk}
 use Rattle.fs_doc.specs.Limits.{IsWithin}
 use Rattle.fs_state.specs.Switch.{Switch, empty, waiting_for}
@@ -18,7 +19,8 @@ use Rattle.fs_machine.proofs.FrameLemmas.{take_owes}
 use Rattle.fs_machine.proofs.HereLemmas.{ClosesNone, here_step, arrival_accepted, arrival_here}
 use Rattle.fs_conn.specs.declared.end.End.TheVariants.{Runaway}
 use Rattle.fs_conn.specs.declared.stop.Stop.{Stop}
-use Rattle.fs_conn.specs.Play.{Play, switch_of, is_over, after_judging, after_trying_act, repeated, after_taking_all, after_following, after_taking_all_as}
+use Rattle.fs_conn.specs.Play.{Play, switch_of, is_over, after_judging, after_trying_act, repeated, after_taking_all, after_following}
+use Rattle.fs_conn.specs.Play.{after_taking_all_as}
 use Rattle.fs_conn.specs.Steps.{play_of, entry_of, Does, Accepts, Rejects}
 use Rattle.fs_conn.proofs.StepLemmas.{longer}
 use Rattle.fs_conn.proofs.KeepLemmas.{Keeps, kept_repeated, kept_followed, kept_acted}
@@ -28,8 +30,10 @@ use Rattle.fs_conn.proofs.KeepLemmas.{Keeps, kept_repeated, kept_followed, kept_
 abbrev pub Here : Play → Type 0
 Here p = is_over p ≡ false → IsHere 1 (switch_of p)
 
-here_judged : (cause : Option Refusal) (entry : Entry) (p : Play) → ClosesNone entry.act → IsHere 1 (switch_of p) → Here (after_judging cause entry p)
-here_judged None entry p such here goes_on = subst (IsHere 1) (sym (run_more (empty p.config) p.journal entry)) (here_step 1 (switch_of p) entry such here)
+here_judged : (cause : Option Refusal) (entry : Entry) (p : Play) → ClosesNone entry.act → IsHere 1 (switch_of p) →
+    Here (after_judging cause entry p)
+here_judged None entry p such here goes_on =
+    subst (IsHere 1) (sym (run_more (empty p.config) p.journal entry)) (here_step 1 (switch_of p) entry such here)
 here_judged (Some (refusal.JournalFull cost limit)) entry p such here goes_on = absurd (cc)
 here_judged (Some _) entry p such here goes_on = here
 
@@ -60,7 +64,8 @@ pub here_followed : (mid new : Play) → IsHere 1 (switch_of mid) → new ≡ af
 here_followed mid new here is goes_on = subst Here (sym is) (kept_followed ClosesNone Here keeps_here mid (λ still. here)) goes_on
 
 -- a command with all that comes of it too
-pub here_commanded : (old mid new : Play) (block : List ℕ) → IsHere 1 (switch_of old) → mid ≡ after_trying_act (Command 1 block) old → new ≡ after_following mid → is_over new ≡ false → IsHere 1 (switch_of new)
+pub here_commanded : (old mid new : Play) (block : List ℕ) → IsHere 1 (switch_of old) → mid ≡ after_trying_act (Command 1 block) old →
+    new ≡ after_following mid → is_over new ≡ false → IsHere 1 (switch_of new)
 here_commanded old mid new block here mid_is new_is goes_on =
     subst Here (sym (new_is ∙ ap after_following mid_is)) (kept_acted ClosesNone Here keeps_here (Command 1 block) tt old (λ still. here))
     goes_on
@@ -68,19 +73,23 @@ here_commanded old mid new block here mid_is new_is goes_on =
 -- ---- it comes
 
 -- nothing speaks against its coming
-pub never_turned_away : (machine : View) (clock : ℕ) (new : Play) → machine.journal ≡ [] → IsWithin machine.config → Rejects Arrive (play_of machine clock) new → ⊥
+pub never_turned_away : (machine : View) (clock : ℕ) (new : Play) → machine.journal ≡ [] → IsWithin machine.config →
+    Rejects Arrive (play_of machine clock) new → ⊥
 never_turned_away machine clock new begun within refused =
     let p = play_of machine clock in
     let none : refusal_of (state_of machine) (entry_of Arrive p) ≡ None =
-    ap (λ (entries : List Entry). refusal_of (run_from (empty machine.config) entries) (entry_of Arrive p)) begun ∙ arrival_accepted machine.config clock within in
+    ap (λ (entries : List Entry). refusal_of (run_from (empty machine.config) entries) (entry_of Arrive p)) begun
+    ∙ arrival_accepted machine.config clock within in
     longer p (entry_of Arrive p) (sym refused.same ∙ refused.does ∙ ap (λ cause. after_judging cause (entry_of Arrive p) p) none)
 
 -- and then it is there
-pub here_arrived : (machine new : View) (clock : ℕ) (reply : Reply) → machine.journal ≡ [] → IsWithin machine.config → Accepts Arrive (play_of machine clock) (play_of new clock) reply → IsHere 1 (state_of new)
+pub here_arrived : (machine new : View) (clock : ℕ) (reply : Reply) → machine.journal ≡ [] → IsWithin machine.config →
+    Accepts Arrive (play_of machine clock) (play_of new clock) reply → IsHere 1 (state_of new)
 here_arrived machine new clock reply begun within accepts =
     let entry = entry_of Arrive (play_of machine clock) in
     subst (λ (p : Play). IsHere 1 (switch_of p)) (sym accepts.does)
-    (subst (λ (entries : List Entry). IsHere 1 (run_from (empty machine.config) (entries ++ entry ∷ []))) (sym begun) (arrival_here machine.config clock within))
+    (subst (λ (entries : List Entry). IsHere 1 (run_from (empty machine.config) (entries ++ entry ∷ []))) (sym begun)
+    (arrival_here machine.config clock within))
 
 -- ---- it is owed nothing
 
@@ -108,6 +117,7 @@ unfolding after_taking_all_as
 free_taken p free = free_repeated (length (waiting_for (switch_of p) 1)) p free
 
 -- taking frames leaves it so
-pub free_sent : {A : Type 0} → (mid new : Play) (result : Result A Stop) → Does after_taking_all mid new result → owes (switch_of mid) 1 ≡ false → OnOk result (owes (switch_of new) 1 ≡ false)
+pub free_sent : {A : Type 0} → (mid new : Play) (result : Result A Stop) → Does after_taking_all mid new result →
+    owes (switch_of mid) 1 ≡ false → OnOk result (owes (switch_of new) 1 ≡ false)
 free_sent mid new (Ok done) does free = ap (λ (p : Play). owes (switch_of p) 1) does ∙ free_taken mid free
 free_sent mid new (Err stop) does free = tt

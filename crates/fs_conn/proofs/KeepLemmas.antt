@@ -8,7 +8,11 @@ use Rattle.fs_machine.specs.declared.entry.Act.{Act}
 use Rattle.fs_machine.specs.declared.entry.Act.TheVariants.{Arrive, Command, Take, Close, Work, Job}
 use Rattle.fs_machine.specs.declared.entry.Closing.TheVariants.{EndOfInput, Sent}
 use Rattle.fs_conn.specs.declared.end.End.TheVariants.{Runaway}
-use Rattle.fs_conn.specs.Play.{Play, switch_of, new_play, with_end, after_trying_act, repeated, after_due_work, next_actor, after_due_step, with_runaway_end_by, with_runaway_end, after_settling, waits, after_waiting_until, after_waiting_once, after_waiting, after_taking_all, after_following, after_act, reads_on, takes_commands, after_command, after_commands, after_opening, after_input_end, after_closing, after_taking_all_as, after_settling_as, after_waiting_as}
+use Rattle.fs_conn.specs.Play.{Play, switch_of, new_play, with_end, after_trying_act, repeated, after_due_work, next_actor, after_due_step}
+use Rattle.fs_conn.specs.Play.{with_runaway_end_by, with_runaway_end, after_settling, waits, after_waiting_until, after_waiting_once}
+use Rattle.fs_conn.specs.Play.{after_waiting, after_taking_all, after_following, after_act, reads_on, takes_commands, after_command}
+use Rattle.fs_conn.specs.Play.{after_commands, after_opening, after_input_end, after_closing, after_taking_all_as, after_settling_as}
+use Rattle.fs_conn.specs.Play.{after_waiting_as}
 use Rattle.fs_conn.proofs.RoundLemmas.{repeated_more}
 
 -- what holds of a play holds still once an act of this kind was tried, once it has run away, and whatever the clock says; of this kind
@@ -21,20 +25,23 @@ pub record Keeps (IsSuch : Act → Type 0) (Holds : Play → Type 0) : Type 0 wh
   pub runs_away : (p : Play) → Holds p → Holds (with_end (Runaway 100000) p)
   pub goes_on : (moment : ℕ) (p : Play) → Holds p → Holds (record p { clock = moment })
 
-pub kept_repeated : (Holds : Play → Type 0) (n : ℕ) (f : Play → Play) → ((p : Play) → Holds p → Holds (f p)) → (p : Play) → Holds p → Holds (repeated n f p)
+pub kept_repeated : (Holds : Play → Type 0) (n : ℕ) (f : Play → Play) → ((p : Play) → Holds p → Holds (f p)) → (p : Play) → Holds p →
+    Holds (repeated n f p)
 unfolding repeated
 kept_repeated Holds zero f keeps p holds = holds
 kept_repeated Holds (suc n) f keeps p holds = kept_repeated Holds n f keeps (f p) (keeps p holds)
 
 -- ---- what is due
 
-kept_worked : (IsSuch : Act → Type 0) (Holds : Play → Type 0) → Keeps IsSuch Holds → (actor : DueActor) (p : Play) → Holds p → Holds (after_due_work actor p)
+kept_worked : (IsSuch : Act → Type 0) (Holds : Play → Type 0) → Keeps IsSuch Holds → (actor : DueActor) (p : Play) → Holds p →
+    Holds (after_due_work actor p)
 kept_worked IsSuch Holds keeps (due.Slot slot) p holds = keeps.enters (Work slot) (keeps.works slot) p holds
 kept_worked IsSuch Holds keeps (due.Job job) p holds = keeps.enters (Job job) (keeps.jobs job) p holds
 kept_worked IsSuch Holds keeps (due.Later moment) p holds = holds
 kept_worked IsSuch Holds keeps due.Never p holds = holds
 
-kept_stopped : (IsSuch : Act → Type 0) (Holds : Play → Type 0) → Keeps IsSuch Holds → (actor : DueActor) (p : Play) → Holds p → Holds (with_runaway_end_by actor p)
+kept_stopped : (IsSuch : Act → Type 0) (Holds : Play → Type 0) → Keeps IsSuch Holds → (actor : DueActor) (p : Play) → Holds p →
+    Holds (with_runaway_end_by actor p)
 kept_stopped IsSuch Holds keeps (due.Slot slot) p holds = keeps.runs_away p holds
 kept_stopped IsSuch Holds keeps (due.Job job) p holds = keeps.runs_away p holds
 kept_stopped IsSuch Holds keeps (due.Later moment) p holds = holds
@@ -44,16 +51,19 @@ pub kept_worked_once : (IsSuch : Act → Type 0) (Holds : Play → Type 0) → K
     Holds (after_due_step p)
 kept_worked_once IsSuch Holds keeps p holds = kept_worked IsSuch Holds keeps (next_actor p) p holds
 
-kept_all_worked : (IsSuch : Act → Type 0) (Holds : Play → Type 0) → Keeps IsSuch Holds → (n : ℕ) (p : Play) → Holds p → Holds (repeated n after_due_step p)
+kept_all_worked : (IsSuch : Act → Type 0) (Holds : Play → Type 0) → Keeps IsSuch Holds → (n : ℕ) (p : Play) → Holds p →
+    Holds (repeated n after_due_step p)
 kept_all_worked IsSuch Holds keeps n p holds = kept_repeated Holds n after_due_step (kept_worked_once IsSuch Holds keeps) p holds
 
 pub kept_settled : (IsSuch : Act → Type 0) (Holds : Play → Type 0) → Keeps IsSuch Holds → (p : Play) → Holds p → Holds (after_settling p)
 unfolding after_settling_as
 kept_settled IsSuch Holds keeps p holds =
-    let q = repeated 100000 after_due_step p in kept_stopped IsSuch Holds keeps (next_actor q) q (kept_all_worked IsSuch Holds keeps 100000 p holds)
+    let q = repeated 100000 after_due_step p in
+    kept_stopped IsSuch Holds keeps (next_actor q) q (kept_all_worked IsSuch Holds keeps 100000 p holds)
 
 -- whatever was true once the first of it was worked is so behind all of it
-pub kept_behind : (IsSuch : Act → Type 0) (Holds : Play → Type 0) → Keeps IsSuch Holds → (p : Play) → Holds (after_due_step p) → Holds (after_settling p)
+pub kept_behind : (IsSuch : Act → Type 0) (Holds : Play → Type 0) → Keeps IsSuch Holds → (p : Play) → Holds (after_due_step p) →
+    Holds (after_settling p)
 unfolding after_settling_as
 kept_behind IsSuch Holds keeps p holds =
     let q = repeated 99999 after_due_step (after_due_step p) in
@@ -62,8 +72,10 @@ kept_behind IsSuch Holds keeps p holds =
 
 -- ---- replies that are owed
 
-kept_until : (IsSuch : Act → Type 0) (Holds : Play → Type 0) → Keeps IsSuch Holds → (actor : DueActor) (p : Play) → Holds p → Holds (after_waiting_until actor p)
-kept_until IsSuch Holds keeps (due.Later moment) p holds = kept_settled IsSuch Holds keeps (record p { clock = moment }) (keeps.goes_on moment p holds)
+kept_until : (IsSuch : Act → Type 0) (Holds : Play → Type 0) → Keeps IsSuch Holds → (actor : DueActor) (p : Play) → Holds p →
+    Holds (after_waiting_until actor p)
+kept_until IsSuch Holds keeps (due.Later moment) p holds =
+    kept_settled IsSuch Holds keeps (record p { clock = moment }) (keeps.goes_on moment p holds)
 kept_until IsSuch Holds keeps (due.Slot slot) p holds = holds
 kept_until IsSuch Holds keeps (due.Job job) p holds = holds
 kept_until IsSuch Holds keeps due.Never p holds = holds
@@ -76,7 +88,8 @@ kept_waited_once IsSuch Holds keeps p holds =
       | false ↦ holds
     ]
 
-kept_all_waited : (IsSuch : Act → Type 0) (Holds : Play → Type 0) → Keeps IsSuch Holds → (n : ℕ) (p : Play) → Holds p → Holds (repeated n after_waiting_once p)
+kept_all_waited : (IsSuch : Act → Type 0) (Holds : Play → Type 0) → Keeps IsSuch Holds → (n : ℕ) (p : Play) → Holds p →
+    Holds (repeated n after_waiting_once p)
 kept_all_waited IsSuch Holds keeps n p holds = kept_repeated Holds n after_waiting_once (kept_waited_once IsSuch Holds keeps) p holds
 
 pub kept_waited : (IsSuch : Act → Type 0) (Holds : Play → Type 0) → Keeps IsSuch Holds → (p : Play) → Holds p → Holds (after_waiting p)
@@ -85,7 +98,8 @@ kept_waited IsSuch Holds keeps p holds = kept_all_waited IsSuch Holds keeps (2 ^
 
 -- ---- frames, and all that comes of an act
 
-pub kept_taken : (IsSuch : Act → Type 0) (Holds : Play → Type 0) → Keeps IsSuch Holds → (n : ℕ) (p : Play) → Holds p → Holds (repeated n (after_trying_act (Take 1)) p)
+pub kept_taken : (IsSuch : Act → Type 0) (Holds : Play → Type 0) → Keeps IsSuch Holds → (n : ℕ) (p : Play) → Holds p →
+    Holds (repeated n (after_trying_act (Take 1)) p)
 kept_taken IsSuch Holds keeps n p holds = kept_repeated Holds n (after_trying_act (Take 1)) (keeps.enters (Take 1) keeps.takes) p holds
 
 pub kept_all_taken : (IsSuch : Act → Type 0) (Holds : Play → Type 0) → Keeps IsSuch Holds → (p : Play) → Holds p →
@@ -95,34 +109,42 @@ kept_all_taken IsSuch Holds keeps p holds = kept_taken IsSuch Holds keeps (lengt
 
 pub kept_followed : (IsSuch : Act → Type 0) (Holds : Play → Type 0) → Keeps IsSuch Holds → (p : Play) → Holds p → Holds (after_following p)
 kept_followed IsSuch Holds keeps p holds =
-    kept_all_taken IsSuch Holds keeps (after_waiting (after_settling p)) (kept_waited IsSuch Holds keeps (after_settling p) (kept_settled IsSuch Holds keeps p holds))
+    kept_all_taken IsSuch Holds keeps (after_waiting (after_settling p))
+    (kept_waited IsSuch Holds keeps (after_settling p) (kept_settled IsSuch Holds keeps p holds))
 
-pub kept_acted : (IsSuch : Act → Type 0) (Holds : Play → Type 0) → Keeps IsSuch Holds → (act : Act) → IsSuch act → (p : Play) → Holds p → Holds (after_act act p)
+pub kept_acted : (IsSuch : Act → Type 0) (Holds : Play → Type 0) → Keeps IsSuch Holds → (act : Act) → IsSuch act → (p : Play) → Holds p →
+    Holds (after_act act p)
 kept_acted IsSuch Holds keeps act such p holds = kept_followed IsSuch Holds keeps (after_trying_act act p) (keeps.enters act such p holds)
 
 -- ---- the conversation
 
-pub kept_opened : (IsSuch : Act → Type 0) (Holds : Play → Type 0) → Keeps IsSuch Holds → IsSuch Arrive → (config : Configuration) → Holds (new_play config) → Holds (after_opening config)
+pub kept_opened : (IsSuch : Act → Type 0) (Holds : Play → Type 0) → Keeps IsSuch Holds → IsSuch Arrive → (config : Configuration) →
+    Holds (new_play config) → Holds (after_opening config)
 kept_opened IsSuch Holds keeps such config holds = kept_acted IsSuch Holds keeps Arrive such (new_play config) holds
 
-pub kept_commanded : (IsSuch : Act → Type 0) (Holds : Play → Type 0) → Keeps IsSuch Holds → (block : List ℕ) → IsSuch (Command 1 block) → (p : Play) → Holds p → Holds (after_command p block)
+pub kept_commanded : (IsSuch : Act → Type 0) (Holds : Play → Type 0) → Keeps IsSuch Holds → (block : List ℕ) → IsSuch (Command 1 block) →
+    (p : Play) → Holds p → Holds (after_command p block)
 kept_commanded IsSuch Holds keeps block such p holds =
     elim (takes_commands p) as (λ b. Holds (cond b (after_act (Command 1 block) p) p)) [
       | true ↦ kept_acted IsSuch Holds keeps (Command 1 block) such p holds
       | false ↦ holds
     ]
 
-pub kept_all_commanded : (IsSuch : Act → Type 0) (Holds : Play → Type 0) → Keeps IsSuch Holds → ((block : List ℕ) → IsSuch (Command 1 block)) → (blocks : List (List ℕ)) (p : Play) → Holds p → Holds (after_commands p blocks)
+pub kept_all_commanded : (IsSuch : Act → Type 0) (Holds : Play → Type 0) → Keeps IsSuch Holds →
+    ((block : List ℕ) → IsSuch (Command 1 block)) → (blocks : List (List ℕ)) (p : Play) → Holds p → Holds (after_commands p blocks)
 kept_all_commanded IsSuch Holds keeps such [] p holds = holds
 kept_all_commanded IsSuch Holds keeps such (block ∷ blocks) p holds =
     kept_all_commanded IsSuch Holds keeps such blocks (after_command p block) (kept_commanded IsSuch Holds keeps block (such block) p holds)
 
-pub kept_input_ended : (IsSuch : Act → Type 0) (Holds : Play → Type 0) → Keeps IsSuch Holds → IsSuch (Close 1 EndOfInput) → (p : Play) → Holds p → Holds (after_input_end p)
+pub kept_input_ended : (IsSuch : Act → Type 0) (Holds : Play → Type 0) → Keeps IsSuch Holds → IsSuch (Close 1 EndOfInput) → (p : Play) →
+    Holds p → Holds (after_input_end p)
 kept_input_ended IsSuch Holds keeps such p holds =
     elim (reads_on p) as (λ b. Holds (cond b (after_taking_all (after_trying_act (Close 1 EndOfInput) p)) p)) [
       | true ↦ kept_all_taken IsSuch Holds keeps (after_trying_act (Close 1 EndOfInput) p) (keeps.enters (Close 1 EndOfInput) such p holds)
       | false ↦ holds
     ]
 
-pub kept_closed : (IsSuch : Act → Type 0) (Holds : Play → Type 0) → Keeps IsSuch Holds → IsSuch (Close 1 EndOfInput) → IsSuch (Close 1 Sent) → (p : Play) → Holds p → Holds (after_closing p)
-kept_closed IsSuch Holds keeps ends sends p holds = keeps.enters (Close 1 Sent) sends (after_input_end p) (kept_input_ended IsSuch Holds keeps ends p holds)
+pub kept_closed : (IsSuch : Act → Type 0) (Holds : Play → Type 0) → Keeps IsSuch Holds → IsSuch (Close 1 EndOfInput) →
+    IsSuch (Close 1 Sent) → (p : Play) → Holds p → Holds (after_closing p)
+kept_closed IsSuch Holds keeps ends sends p holds =
+    keeps.enters (Close 1 Sent) sends (after_input_end p) (kept_input_ended IsSuch Holds keeps ends p holds)

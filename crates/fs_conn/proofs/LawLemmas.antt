@@ -1,5 +1,6 @@
 -- What holds of every play: its journal is a run, its commands are blocks of its input, and each end has its cause.
-use Rattle.std.proofs.Common.{◌≡◌, ℕ, Bool, true, false, cond, not, ◌&&◌, List, [], ◌∷◌, ◌++◌, Option, None, Some, is_some, ◌⊎◌, inl, inr, refl, sym, ap, ◌∙◌, subst, append_assoc, append-nil}
+use Rattle.std.proofs.Common.{◌≡◌, ℕ, Bool, true, false, cond, not, ◌&&◌, List, [], ◌∷◌, ◌++◌, Option, None, Some, is_some, ◌⊎◌, inl, inr}
+use Rattle.std.proofs.Common.{refl, sym, ap, ◌∙◌, subst, append_assoc, append-nil}
 use Rattle.std.specs.List.{concat}
 use Rattle.std.proofs.lemmas.List.Folds.{concat-append}
 use Rattle.fs_doc.specs.Reading.{Configuration}
@@ -24,7 +25,9 @@ use Rattle.fs_machine.proofs.FrameLemmas.{command_refused}
 use Rattle.fs_machine.proofs.RefusalLemmas.{full_refused}
 use Rattle.fs_conn.specs.declared.end.End.{End}
 use Rattle.fs_conn.specs.declared.end.End.TheVariants.{Exit, AuthRefused, Eof, ReadFault, WriteFault, TooLong, JournalFull, Memory, Runaway}
-use Rattle.fs_conn.specs.Play.{Play, switch_of, bytes_handed, is_over, with_end, after_judging, after_trying_act, after_following, after_act, reads_on, takes_commands, after_command, after_commands, after_opening, after_conversing, after_closing, end_by, farewell, end_behind, played, played_as}
+use Rattle.fs_conn.specs.Play.{Play, switch_of, bytes_handed, is_over, with_end, after_judging, after_trying_act, after_following}
+use Rattle.fs_conn.specs.Play.{after_act, reads_on, takes_commands, after_command, after_commands, after_opening, after_conversing}
+use Rattle.fs_conn.specs.Play.{after_closing, end_by, farewell, end_behind, played, played_as}
 use Rattle.fs_conn.specs.Steps.{entry_of}
 use Rattle.fs_conn.specs.Ends.{IsFullAt, HasCause}
 use Rattle.fs_conn.proofs.PlayLemmas.{goes_followed, goes_all_commanded}
@@ -41,7 +44,8 @@ pub record IsRun (config : Configuration) (p : Play) : Type 0 where
   pub config_is : p.config ≡ config
   pub run : IsRunFrom (empty p.config) p.journal
 
-run_judged : (config : Configuration) (cause : Option Refusal) (entry : Entry) (p : Play) → refusal_of (switch_of p) entry ≡ cause → IsRun config p → IsRun config (after_judging cause entry p)
+run_judged : (config : Configuration) (cause : Option Refusal) (entry : Entry) (p : Play) → refusal_of (switch_of p) entry ≡ cause →
+    IsRun config p → IsRun config (after_judging cause entry p)
 run_judged config None entry p is h = record { config_is = h.config_is; run = is_run_more (empty p.config) p.journal entry h.run is }
 run_judged config (Some (refusal.JournalFull cost limit)) entry p is h = record { config_is = h.config_is; run = h.run }
 run_judged config (Some _) entry p is h = h
@@ -52,7 +56,8 @@ keeps_run config = record {
   jobs = λ number. tt;
   takes = tt;
   enters =
-      λ act such p h. elim (is_over p) as (λ b. IsRun config (cond b p (after_judging (refusal_of (switch_of p) (entry_of act p)) (entry_of act p) p))) [
+      λ act such p h. elim (is_over p) as (λ b. IsRun config
+      (cond b p (after_judging (refusal_of (switch_of p) (entry_of act p)) (entry_of act p) p))) [
         | true ↦ h
         | false ↦ run_judged config (refusal_of (switch_of p) (entry_of act p)) (entry_of act p) p refl h
       ];
@@ -66,7 +71,8 @@ keeps_run config = record {
 
 run_concluded : (config : Configuration) (end : End) (p : Play) → IsRun config p → IsRun config (with_end end p)
 run_concluded config end p h =
-    elim (is_over p) as (λ b. IsRun config (cond b p (record p { end = Some end }))) [ true ↦ h | false ↦ record { config_is = h.config_is; run = h.run } ]
+    elim (is_over p) as (λ b. IsRun config (cond b p (record p { end = Some end })))
+    [ true ↦ h | false ↦ record { config_is = h.config_is; run = h.run } ]
 
 pub run_closed : (config : Configuration) (input : List ℕ) → IsRun config (after_closing (after_conversing config input))
 run_closed config input =
@@ -77,19 +83,23 @@ run_closed config input =
 run_whole : (config : Configuration) (input : List ℕ) (read_failed : Bool) → IsRun config (played config input read_failed)
 unfolding played_as
 run_whole config input read_failed =
-    run_concluded config (end_behind (farewell (after_conversing config input)) (too_long (rest_of input)) read_failed) (after_closing (after_conversing config input)) (run_closed config input)
+    run_concluded config (end_behind (farewell (after_conversing config input)) (too_long (rest_of input)) read_failed)
+    (after_closing (after_conversing config input)) (run_closed config input)
 
 pub config_played : (config : Configuration) (input : List ℕ) (read_failed : Bool) → (played config input read_failed).config ≡ config
 config_played config input read_failed = (run_whole config input read_failed).config_is
 
 -- so is what the switch was configured by
-pub config_kept : (config : Configuration) (input : List ℕ) (read_failed : Bool) → (switch_of (played config input read_failed)).config ≡ config
+pub config_kept : (config : Configuration) (input : List ℕ) (read_failed : Bool) →
+    (switch_of (played config input read_failed)).config ≡ config
 config_kept config input read_failed =
     let p = played config input read_failed in config_run (empty p.config) p.journal ∙ config_played config input read_failed
 
-pub run_played : (config : Configuration) (input : List ℕ) (read_failed : Bool) → IsRunFrom (empty config) (played config input read_failed).journal
+pub run_played : (config : Configuration) (input : List ℕ) (read_failed : Bool) →
+    IsRunFrom (empty config) (played config input read_failed).journal
 run_played config input read_failed =
-    let h = run_whole config input read_failed in subst (λ (c : Configuration). IsRunFrom (empty c) (played config input read_failed).journal) h.config_is h.run
+    let h = run_whole config input read_failed in
+    subst (λ (c : Configuration). IsRunFrom (empty c) (played config input read_failed).journal) h.config_is h.run
 
 -- ---- ends before that of the connection
 
@@ -113,7 +123,8 @@ early_none : (end : Option End) (s : Switch) → is_some end ≡ false → EndsE
 early_none None s none = tt
 early_none (Some end) s none = absurd (cc)
 
-early_judged : (cause : Option Refusal) (entry : Entry) (p : Play) → refusal_of (switch_of p) entry ≡ cause → is_over p ≡ false → Early p → Early (after_judging cause entry p)
+early_judged : (cause : Option Refusal) (entry : Entry) (p : Play) → refusal_of (switch_of p) entry ≡ cause → is_over p ≡ false → Early p →
+    Early (after_judging cause entry p)
 early_judged None entry p is goes_on h = early_none p.end _ goes_on
 early_judged (Some (refusal.JournalFull cost limit)) entry p is goes_on h =
     let full = full_refused (switch_of p) entry cost limit is in record { full = full.0; cost_is = full.1; limit_is = full.2 }
@@ -143,7 +154,8 @@ keeps_early = record {
 pub early_closed : (config : Configuration) (input : List ℕ) → Early (after_closing (after_conversing config input))
 early_closed config input =
     kept_closed Any Early keeps_early tt tt (after_conversing config input)
-    (kept_all_commanded Any Early keeps_early (λ block. tt) (blocks_of input) (after_opening config) (kept_opened Any Early keeps_early tt config tt))
+    (kept_all_commanded Any Early keeps_early (λ block. tt) (blocks_of input) (after_opening config)
+    (kept_opened Any Early keeps_early tt config tt))
 
 -- ---- the cause of each end
 
@@ -160,7 +172,8 @@ early_cause Memory s is_too_long read_failed early = absurd early
 early_cause (Runaway count) s is_too_long read_failed early = early
 
 -- and so has that of the connection
-cause_behind : (parting : Option Parting) (s : Switch) (is_too_long read_failed : Bool) → HasCause (end_behind (end_by parting) is_too_long read_failed) s is_too_long read_failed
+cause_behind : (parting : Option Parting) (s : Switch) (is_too_long read_failed : Bool) →
+    HasCause (end_behind (end_by parting) is_too_long read_failed) s is_too_long read_failed
 cause_behind (Some way.Exit) s is_too_long read_failed = tt
 cause_behind (Some way.AuthRefused) s is_too_long read_failed = tt
 cause_behind (Some way.EndOfInput) s true read_failed = (refl, refl)
@@ -171,20 +184,26 @@ cause_behind None s false true = (refl, refl)
 cause_behind None s false false = (refl, refl)
 
 -- a play that was over stays so, and any other ends in this way
-cause_ended : (how end : End) (p : Play) (is_too_long read_failed : Bool) → Early p → ((s : Switch) → HasCause how s is_too_long read_failed) → (with_end how p).end ≡ Some end →
+cause_ended : (how end : End) (p : Play) (is_too_long read_failed : Bool) → Early p →
+    ((s : Switch) → HasCause how s is_too_long read_failed) → (with_end how p).end ≡ Some end →
     HasCause end (switch_of (with_end how p)) is_too_long read_failed
 cause_ended how end p is_too_long read_failed early cause is = by (is_over p) is
   where
-    by : (over : Bool) → (cond over p (record p { end = Some how })).end ≡ Some end → HasCause end (switch_of (cond over p (record p { end = Some how }))) is_too_long read_failed
+    by : (over : Bool) → (cond over p (record p { end = Some how })).end ≡ Some end →
+        HasCause end (switch_of (cond over p (record p { end = Some how }))) is_too_long read_failed
     by true e = early_cause end (switch_of p) is_too_long read_failed (subst (λ (last : Option End). EndsEarly last (switch_of p)) e early)
-    by false e = let same : how ≡ end = cc in subst (λ (last : End). HasCause last (switch_of p) is_too_long read_failed) same (cause (switch_of p))
+    by false e =
+        let same : how ≡ end = cc in subst (λ (last : End). HasCause last (switch_of p) is_too_long read_failed) same (cause (switch_of p))
 
-pub cause_played : (config : Configuration) (input : List ℕ) (read_failed : Bool) (end : End) → (played config input read_failed).end ≡ Some end →
+pub cause_played : (config : Configuration) (input : List ℕ) (read_failed : Bool) (end : End) →
+    (played config input read_failed).end ≡ Some end →
     HasCause end (switch_of (played config input read_failed)) (too_long (rest_of input)) read_failed
 unfolding played_as
 cause_played config input read_failed end is =
-    cause_ended (end_behind (farewell (after_conversing config input)) (too_long (rest_of input)) read_failed) end (after_closing (after_conversing config input)) (too_long (rest_of input)) read_failed
-    (early_closed config input) (λ s. cause_behind (parting_at (switch_of (after_conversing config input)) 1) s (too_long (rest_of input)) read_failed) is
+    cause_ended (end_behind (farewell (after_conversing config input)) (too_long (rest_of input)) read_failed) end
+    (after_closing (after_conversing config input)) (too_long (rest_of input)) read_failed
+    (early_closed config input) (λ s. cause_behind (parting_at (switch_of (after_conversing config input)) 1) s
+    (too_long (rest_of input)) read_failed) is
 
 -- and every play ends
 ended_some : (how : End) (p : Play) → (end : End) × ((with_end how p).end ≡ Some end)
@@ -194,9 +213,12 @@ ended_some how p = by p.end refl
     by None is = (how, ap (λ over. (cond over p (record p { end = Some how })).end) (ap is_some is))
     by (Some end) is = (end, ap (λ over. (cond over p (record p { end = Some how })).end) (ap is_some is) ∙ is)
 
-pub ends_played : (config : Configuration) (input : List ℕ) (read_failed : Bool) → (end : End) × ((played config input read_failed).end ≡ Some end)
+pub ends_played : (config : Configuration) (input : List ℕ) (read_failed : Bool) →
+    (end : End) × ((played config input read_failed).end ≡ Some end)
 unfolding played_as
-ends_played config input read_failed = ended_some (end_behind (farewell (after_conversing config input)) (too_long (rest_of input)) read_failed) (after_closing (after_conversing config input))
+ends_played config input read_failed =
+    ended_some (end_behind (farewell (after_conversing config input)) (too_long (rest_of input)) read_failed)
+    (after_closing (after_conversing config input))
 
 -- ---- commands
 
@@ -211,13 +233,17 @@ commands p = commands_of 1 p.journal
 abbrev Says : List (List ℕ) → Play → Type 0
 Says blocks p = commands p ≡ blocks
 
-commands_more : (entries : List Entry) (entry : Entry) → commands_of 1 (entries ++ entry ∷ []) ≡ commands_of 1 entries ++ command_in 1 entry.act
+commands_more : (entries : List Entry) (entry : Entry) →
+    commands_of 1 (entries ++ entry ∷ []) ≡ commands_of 1 entries ++ command_in 1 entry.act
 commands_more [] entry = append-nil (command_in 1 entry.act)
 commands_more (first ∷ entries) entry =
-    ap (λ blocks. command_in 1 first.act ++ blocks) (commands_more entries entry) ∙ sym (append_assoc (command_in 1 first.act) (commands_of 1 entries) (command_in 1 entry.act))
+    ap (λ blocks. command_in 1 first.act ++ blocks) (commands_more entries entry)
+    ∙ sym (append_assoc (command_in 1 first.act) (commands_of 1 entries) (command_in 1 entry.act))
 
-says_judged : (blocks : List (List ℕ)) (cause : Option Refusal) (entry : Entry) (p : Play) → IsSilent entry.act → Says blocks p → Says blocks (after_judging cause entry p)
-says_judged blocks None entry p silent h = commands_more p.journal entry ∙ ap (λ more. commands p ++ more) silent ∙ append-nil (commands p) ∙ h
+says_judged : (blocks : List (List ℕ)) (cause : Option Refusal) (entry : Entry) (p : Play) → IsSilent entry.act → Says blocks p →
+    Says blocks (after_judging cause entry p)
+says_judged blocks None entry p silent h =
+    commands_more p.journal entry ∙ ap (λ more. commands p ++ more) silent ∙ append-nil (commands p) ∙ h
 says_judged blocks (Some (refusal.JournalFull cost limit)) entry p silent h = h
 says_judged blocks (Some _) entry p silent h = h
 
@@ -227,7 +253,8 @@ keeps_says blocks = record {
   jobs = λ number. refl;
   takes = refl;
   enters =
-      λ act such p h. elim (is_over p) as (λ b. Says blocks (cond b p (after_judging (refusal_of (switch_of p) (entry_of act p)) (entry_of act p) p))) [
+      λ act such p h. elim (is_over p) as (λ b. Says blocks
+      (cond b p (after_judging (refusal_of (switch_of p) (entry_of act p)) (entry_of act p) p))) [
         | true ↦ h
         | false ↦ says_judged blocks (refusal_of (switch_of p) (entry_of act p)) (entry_of act p) p such h
       ];
@@ -237,7 +264,8 @@ keeps_says blocks = record {
 
 -- a block became a command, or no command comes any more
 abbrev Spoke : List ℕ → Play → Play → Type 0
-Spoke block p q = (commands q ≡ commands p ++ block ∷ []) ⊎ ((commands q ≡ commands p) × ((blocks : List (List ℕ)) → after_commands q blocks ≡ q))
+Spoke block p q =
+    (commands q ≡ commands p ++ block ∷ []) ⊎ ((commands q ≡ commands p) × ((blocks : List (List ℕ)) → after_commands q blocks ≡ q))
 
 -- a block became a command, or the play is over
 abbrev Gives : List ℕ → Play → Play → Type 0
@@ -245,13 +273,16 @@ Gives block p q = (commands q ≡ commands p ++ block ∷ []) ⊎ ((commands q �
 
 -- what follows adds no command, and leaves a play that is over as it is
 spoke_followed : (block : List ℕ) (p q : Play) → Gives block p q → Spoke block p (after_following q)
-spoke_followed block p q (inl said) = inl (kept_followed IsSilent (Says (commands p ++ block ∷ [])) (keeps_says (commands p ++ block ∷ [])) q said)
+spoke_followed block p q (inl said) =
+    inl (kept_followed IsSilent (Says (commands p ++ block ∷ [])) (keeps_says (commands p ++ block ∷ [])) q said)
 spoke_followed block p q (inr (same, over)) =
-    let still = goes_followed.over q over in inr (ap commands still ∙ same, λ blocks. (goes_all_commanded blocks).over (after_following q) (ap is_over still ∙ over))
+    let still = goes_followed.over q over in
+    inr (ap commands still ∙ same, λ blocks. (goes_all_commanded blocks).over (after_following q) (ap is_over still ∙ over))
 
 -- a command that is refused is so since the journal is full
 gives_judged : (block : List ℕ) (p : Play) (full : Bool) →
-    Gives block p (after_judging (refused_where full (refusal.JournalFull (switch_of p).cost (switch_of p).config.settings.journal_limit) None) (entry_of (Command 1 block) p) p)
+    Gives block p (after_judging (refused_where full
+    (refusal.JournalFull (switch_of p).cost (switch_of p).config.settings.journal_limit) None) (entry_of (Command 1 block) p) p)
 gives_judged block p true = inr (refl, refl)
 gives_judged block p false = inl (commands_more p.journal (entry_of (Command 1 block) p))
 
@@ -265,11 +296,13 @@ both_hold false b e = absurd (cc)
 gives_entered : (block : List ℕ) (p : Play) → takes_commands p ≡ true → Gives block p (after_trying_act (Command 1 block) p)
 gives_entered block p takes = by (is_over p) refl
   where
-    by : (over : Bool) → is_over p ≡ over → Gives block p (cond over p (after_judging (refusal_of (switch_of p) (entry_of (Command 1 block) p)) (entry_of (Command 1 block) p) p))
+    by : (over : Bool) → is_over p ≡ over → Gives block p
+        (cond over p (after_judging (refusal_of (switch_of p) (entry_of (Command 1 block) p)) (entry_of (Command 1 block) p) p))
     by true over = inr (refl, over)
     by false over =
         let parts = both_hold (reads_on p) (owes (switch_of p) 1) takes in
-        subst (λ (cause : Option Refusal). Gives block p (after_judging cause (entry_of (Command 1 block) p) p)) (sym (command_refused (switch_of p) p.clock 1 block parts.0 parts.1))
+        subst (λ (cause : Option Refusal). Gives block p (after_judging cause (entry_of (Command 1 block) p) p))
+        (sym (command_refused (switch_of p) p.clock 1 block parts.0 parts.1))
         (gives_judged block p (is_full (switch_of p)))
 
 spoke : (block : List ℕ) (p : Play) → Spoke block p (after_command p block)
@@ -283,10 +316,12 @@ spoke block p = by (takes_commands p) refl
 abbrev AreFirst : Play → List (List ℕ) → Play → Type 0
 AreFirst p blocks q = (more : List (List ℕ)) × (commands p ++ blocks ≡ commands q ++ more)
 
-commands_by : (block : List ℕ) (blocks : List (List ℕ)) (p q : Play) → Spoke block p q → AreFirst q blocks (after_commands q blocks) → AreFirst p (block ∷ blocks) (after_commands q blocks)
+commands_by : (block : List ℕ) (blocks : List (List ℕ)) (p q : Play) → Spoke block p q → AreFirst q blocks (after_commands q blocks) →
+    AreFirst p (block ∷ blocks) (after_commands q blocks)
 commands_by block blocks p q (inl said) rest =
     (rest.0, sym (append_assoc (commands p) (block ∷ []) blocks) ∙ ap (λ first. first ++ blocks) (sym said) ∙ rest.1)
-commands_by block blocks p q (inr (same, still)) rest = (block ∷ blocks, ap (λ first. first ++ block ∷ blocks) (sym same ∙ ap commands (sym (still blocks))))
+commands_by block blocks p q (inr (same, still)) rest =
+    (block ∷ blocks, ap (λ first. first ++ block ∷ blocks) (sym same ∙ ap commands (sym (still blocks))))
 
 commands_all : (p : Play) (blocks : List (List ℕ)) → AreFirst p blocks (after_commands p blocks)
 commands_all p [] = ([], refl)
@@ -296,7 +331,8 @@ commands_all p (block ∷ blocks) =
 says_ended : (blocks : List (List ℕ)) (end : End) (p : Play) → Says blocks p → Says blocks (with_end end p)
 says_ended blocks end p h = elim (is_over p) as (λ b. Says blocks (cond b p (record p { end = Some end }))) [ true ↦ h | false ↦ h ]
 
-pub commands_played : (config : Configuration) (input : List ℕ) (read_failed : Bool) → (more : List (List ℕ)) × (blocks_of input ≡ commands_of 1 (played config input read_failed).journal ++ more)
+pub commands_played : (config : Configuration) (input : List ℕ) (read_failed : Bool) →
+    (more : List (List ℕ)) × (blocks_of input ≡ commands_of 1 (played config input read_failed).journal ++ more)
 unfolding played_as
 commands_played config input read_failed =
     let first = kept_opened IsSilent (Says []) (keeps_says []) refl config refl in
@@ -308,11 +344,13 @@ commands_played config input read_failed =
 
 -- ---- what is handed out
 
-handed_append : (conn : ℕ) (s : Switch) (entries more : List Entry) → handed_from conn s (entries ++ more) ≡ handed_from conn s entries ++ handed_from conn (run_from s entries) more
+handed_append : (conn : ℕ) (s : Switch) (entries more : List Entry) →
+    handed_from conn s (entries ++ more) ≡ handed_from conn s entries ++ handed_from conn (run_from s entries) more
 handed_append conn s [] more = refl
 handed_append conn s (entry ∷ entries) more =
     ap (λ frames. handed_in conn entry.act s ++ frames) (handed_append conn (step s entry).state entries more)
-    ∙ sym (append_assoc (handed_in conn entry.act s) (handed_from conn (step s entry).state entries) (handed_from conn (run_from (step s entry).state entries) more))
+    ∙ sym (append_assoc (handed_in conn entry.act s) (handed_from conn (step s entry).state entries)
+    (handed_from conn (run_from (step s entry).state entries) more))
 
 -- what a longer journal hands out begins with what a front of it does
 pub bytes_begin : (config : Configuration) (whole journal more : List Entry) → whole ≡ journal ++ more →

@@ -1,5 +1,6 @@
 -- Each step of the definition of a play leaves one that is over as it is, and only adds entries.
-use Rattle.std.proofs.Common.{◌≡◌, ◌^◌, ℕ, zero, suc, Bool, true, false, not, ◌&&◌, cond, List, [], ◌∷◌, ◌++◌, length, Option, None, Some, refl, sym, ap, ◌∙◌, append_assoc, append-nil}
+use Rattle.std.proofs.Common.{◌≡◌, ◌^◌, ℕ, zero, suc, Bool, true, false, not, ◌&&◌, cond, List, [], ◌∷◌, ◌++◌, length, Option, None, Some}
+use Rattle.std.proofs.Common.{refl, sym, ap, ◌∙◌, append_assoc, append-nil}
 use Rattle.fs_state.specs.Switch.{waiting_for}
 use Rattle.fs_machine.specs.declared.due.DueActor.{DueActor}
 use Rattle.fs_machine.specs.declared.due.DueActor.TheVariants as due
@@ -13,7 +14,11 @@ use Rattle.fs_machine.specs.Questions.{owes}
 use Rattle.fs_machine.specs.Step.{refusal_of}
 use Rattle.fs_conn.specs.declared.end.End.{End}
 use Rattle.fs_conn.specs.declared.end.End.TheVariants.{Runaway}
-use Rattle.fs_conn.specs.Play.{Play, switch_of, is_over, with_end, after_judging, after_trying, after_trying_act, repeated, after_due_work, next_actor, after_due_step, with_runaway_end_by, with_runaway_end, after_settling, waits, after_waiting_until, after_waiting_once, after_waiting, after_taking_all, after_following, after_act, reads_on, takes_commands, after_command, after_commands, after_input_end, after_closing, after_taking_all_as, after_settling_as, after_waiting_as}
+use Rattle.fs_conn.specs.Play.{Play, switch_of, is_over, with_end, after_judging, after_trying, after_trying_act, repeated, after_due_work}
+use Rattle.fs_conn.specs.Play.{next_actor, after_due_step, with_runaway_end_by, with_runaway_end, after_settling, waits}
+use Rattle.fs_conn.specs.Play.{after_waiting_until, after_waiting_once, after_waiting, after_taking_all, after_following, after_act}
+use Rattle.fs_conn.specs.Play.{reads_on, takes_commands, after_command, after_commands, after_input_end, after_closing, after_taking_all_as}
+use Rattle.fs_conn.specs.Play.{after_settling_as, after_waiting_as}
 use Rattle.fs_conn.specs.Steps.{IsPlayFront, entry_of}
 
 -- ---- fronts
@@ -127,7 +132,8 @@ goes_settled = goes_then (repeated 100000 after_due_step) with_runaway_end (goes
 -- ---- replies that are owed
 
 begins_waited : (actor : DueActor) (p : Play) → IsPlayFront p (after_waiting_until actor p)
-begins_waited (due.Later moment) p = begins_at p (after_settling (record p { clock = moment })) moment (goes_settled.begins (record p { clock = moment }))
+begins_waited (due.Later moment) p =
+    begins_at p (after_settling (record p { clock = moment })) moment (goes_settled.begins (record p { clock = moment }))
 begins_waited _ p = begins_self p
 
 pub goes_waited_once : Goes after_waiting_once
@@ -173,11 +179,13 @@ goes_commanded block = goes_where takes_commands (after_act (Command 1 block)) (
 
 pub goes_all_commanded : (blocks : List (List ℕ)) → Goes (λ p. after_commands p blocks)
 goes_all_commanded [] = record { over = λ p over. refl; begins = begins_self }
-goes_all_commanded (block ∷ blocks) = goes_then (λ p. after_command p block) (λ p. after_commands p blocks) (goes_commanded block) (goes_all_commanded blocks)
+goes_all_commanded (block ∷ blocks) =
+    goes_then (λ p. after_command p block) (λ p. after_commands p blocks) (goes_commanded block) (goes_all_commanded blocks)
 
 pub goes_input_ended : Goes after_input_end
 goes_input_ended =
-    goes_where reads_on (λ p. after_taking_all (after_trying_act (Close 1 EndOfInput) p)) (goes_then (after_trying_act (Close 1 EndOfInput)) after_taking_all (goes_entered (Close 1 EndOfInput)) goes_all_taken)
+    goes_where reads_on (λ p. after_taking_all (after_trying_act (Close 1 EndOfInput) p))
+    (goes_then (after_trying_act (Close 1 EndOfInput)) after_taking_all (goes_entered (Close 1 EndOfInput)) goes_all_taken)
 
 pub goes_closed : Goes after_closing
 goes_closed = goes_then after_input_end (after_trying_act (Close 1 Sent)) goes_input_ended (goes_entered (Close 1 Sent))

@@ -1,5 +1,6 @@
 -- How frames are taken and written.
-use Rattle.std.proofs.Common.{◌≡◌, ◌≢◌, ℕ, ◌-◌, ◌<◌, ◌≤◌, List, [], ◌∷◌, ◌++◌, length, Option, None, Some, Result, Ok, Err, unwrap_or, slice_get, inr, refl, sym, ap, ◌∙◌, subst, append_assoc, append-nil, arith}
+use Rattle.std.proofs.Common.{◌≡◌, ◌≢◌, ℕ, ◌-◌, ◌<◌, ◌≤◌, List, [], ◌∷◌, ◌++◌, length, Option, None, Some, Result, Ok, Err, unwrap_or}
+use Rattle.std.proofs.Common.{slice_get, inr, refl, sym, ap, ◌∙◌, subst, append_assoc, append-nil, arith}
 use Rattle.fs_ports.specs.Ports.{Output, Writes, Stopped}
 use Rattle.fs_ports.proofs.Sides.{writes_both, writes_nothing}
 use Rattle.fs_state.specs.Switch.{waiting_for}
@@ -12,7 +13,8 @@ use Rattle.fs_machine.specs.declared.reply.Reply.TheVariants as reply
 use Rattle.fs_machine.proofs.FrameLemmas.{take_answers}
 use Rattle.fs_conn.specs.declared.stop.Stop.{Stop}
 use Rattle.fs_conn.specs.declared.stop.Stop.TheVariants.{Over, OutOfMemory, WriteFault}
-use Rattle.fs_conn.specs.Play.{Play, switch_of, output_of, after_trying_act, repeated, after_taking_all, after_input_end, after_closing, after_taking_all_as}
+use Rattle.fs_conn.specs.Play.{Play, switch_of, output_of, after_trying_act, repeated, after_taking_all, after_input_end, after_closing}
+use Rattle.fs_conn.specs.Play.{after_taking_all_as}
 use Rattle.fs_conn.specs.Steps.{IsPlayFront, Halts, Accepts, Enters, Writing, Fails, Sends, HasFilled, MayClose, Puts, Clears}
 use Rattle.fs_conn.proofs.PlayLemmas.{goes_entered}
 use Rattle.fs_conn.proofs.RoundLemmas.{round_stops_at}
@@ -107,7 +109,8 @@ sends_entered place out unsent act old new OutOfMemory enters = writing_none out
 sends_entered place out unsent act old new WriteFault enters = absurd enters
 
 -- an act that was refused
-pub none_entered : (act : Act) (old new : Play) (reply : Option Reply) → ((answer : Reply) → reply ≡ Some answer → ⊥) → Enters act old new (Ok reply) →
+pub none_entered : (act : Act) (old new : Play) (reply : Option Reply) → ((answer : Reply) → reply ≡ Some answer → ⊥) →
+    Enters act old new (Ok reply) →
     output_of new ≡ output_of old
 none_entered act old new None none enters = ap output_of enters.same
 none_entered act old new (Some answer) none enters = absurd (none answer refl)

@@ -1,5 +1,6 @@
 -- How what is due is worked, and how a reply that is owed is waited for.
-use Rattle.std.proofs.Common.{◌≡◌, ℕ, suc, ◌+◌, ◌-◌, ◌^◌, ◌<◌, ◌≤◌, true, false, not, ◌&&◌, cond, [], Option, None, Some, is_some, Result, Ok, Err, refl, sym, ap, ◌∙◌, subst, arith}
+use Rattle.std.proofs.Common.{◌≡◌, ℕ, suc, ◌+◌, ◌-◌, ◌^◌, ◌<◌, ◌≤◌, true, false, not, ◌&&◌, cond, [], Option, None, Some, is_some, Result}
+use Rattle.std.proofs.Common.{Ok, Err, refl, sym, ap, ◌∙◌, subst, arith}
 use Rattle.fs_machine.specs.declared.due.DueActor.{DueActor}
 use Rattle.fs_machine.specs.declared.due.DueActor.TheVariants as due
 use Rattle.fs_machine.specs.declared.entry.Act.{Act}
@@ -12,7 +13,9 @@ use Rattle.fs_machine.proofs.OwedLaws as owed_laws
 use Rattle.fs_conn.specs.declared.end.End.TheVariants.{Runaway}
 use Rattle.fs_conn.specs.declared.stop.Stop.{Stop}
 use Rattle.fs_conn.specs.declared.stop.Stop.TheVariants.{Over}
-use Rattle.fs_conn.specs.Play.{Play, switch_of, is_over, with_end, after_trying_act, repeated, after_due_work, next_actor, after_due_step, with_runaway_end_by, with_runaway_end, after_settling, after_waiting_until, after_waiting_once, after_waiting, after_settling_as, after_waiting_as}
+use Rattle.fs_conn.specs.Play.{Play, switch_of, is_over, with_end, after_trying_act, repeated, after_due_work, next_actor, after_due_step}
+use Rattle.fs_conn.specs.Play.{with_runaway_end_by, with_runaway_end, after_settling, after_waiting_until, after_waiting_once}
+use Rattle.fs_conn.specs.Play.{after_waiting, after_settling_as, after_waiting_as}
 use Rattle.fs_conn.specs.Steps.{Halts, Enters, Works, act_of}
 use Rattle.fs_conn.proofs.PlayLemmas.{goes_stopped, goes_worked_once, goes_all_waited}
 use Rattle.fs_conn.proofs.StepLemmas.{halts_on, does_enters, works_enters}
@@ -51,11 +54,14 @@ hands_none (due.Job job) act p is = let same : Job job ≡ act = cc in ap (λ a.
 hands_none (due.Later moment) act p is = absurd (cc)
 hands_none due.Never act p is = absurd (cc)
 
-pub works_round : (act : Act) (now next : Play) (result : Result (Option Reply) Stop) → act_of (next_actor now) ≡ Some act → Enters act now next result → Works now next
+pub works_round : (act : Act) (now next : Play) (result : Result (Option Reply) Stop) → act_of (next_actor now) ≡ Some act →
+    Enters act now next result → Works now next
 works_round act now next result is enters = works_enters act now next result (hands_none (next_actor now) act now is) enters
 
-pub round_worked : (act : Act) (now next : Play) (reply : Option Reply) → is_over now ≡ false → act_of (next_actor now) ≡ Some act → Enters act now next (Ok reply) → next ≡ after_due_step now
-round_worked act now next reply goes_on is enters = does_enters act now next (Ok reply) goes_on enters ∙ sym (worked_act (next_actor now) act now is)
+pub round_worked : (act : Act) (now next : Play) (reply : Option Reply) → is_over now ≡ false → act_of (next_actor now) ≡ Some act →
+    Enters act now next (Ok reply) → next ≡ after_due_step now
+round_worked act now next reply goes_on is enters =
+    does_enters act now next (Ok reply) goes_on enters ∙ sym (worked_act (next_actor now) act now is)
 
 -- an option that is nothing else
 pub is_none : {A : Type 0} → (o : Option A) → ((a : A) → o ≡ Some a → ⊥) → o ≡ None
@@ -67,23 +73,33 @@ is_not_some None is = refl
 is_not_some (Some act) is = absurd (cc)
 
 -- nothing is due any more
-pub settled_rest : (left : ℕ) (start now : Play) → act_of (next_actor now) ≡ None → repeated left after_due_step now ≡ repeated 100000 after_due_step start → now ≡ after_settling start
+pub settled_rest : (left : ℕ) (start now : Play) → act_of (next_actor now) ≡ None →
+    repeated left after_due_step now ≡ repeated 100000 after_due_step start → now ≡ after_settling start
 unfolding after_settling_as
 settled_rest left start now none reaches =
-    sym (ap with_runaway_end (sym reaches) ∙ ap with_runaway_end (repeated_none left after_due_step now (worked_none (next_actor now) now none)) ∙ stopped_none (next_actor now) now none)
+    sym (ap with_runaway_end (sym reaches) ∙ ap with_runaway_end
+    (repeated_none left after_due_step now (worked_none (next_actor now) now none)) ∙ stopped_none (next_actor now) now none)
 
 -- something is due still
-pub settled_runs : (start now : Play) → is_over now ≡ false → is_some (act_of (next_actor now)) ≡ true → now ≡ repeated 100000 after_due_step start → Halts (Over (Runaway 100000)) now (after_settling start)
+pub settled_runs : (start now : Play) → is_over now ≡ false → is_some (act_of (next_actor now)) ≡ true →
+    now ≡ repeated 100000 after_due_step start → Halts (Over (Runaway 100000)) now (after_settling start)
 unfolding after_settling_as
-settled_runs start now goes_on is reaches =
-    (refl, ap with_runaway_end (sym reaches) ∙ stopped_act (next_actor now) now is ∙ ap (λ b. cond b now (record now { end = Some (Runaway 100000) })) goes_on)
+settled_runs start now goes_on is reaches = (
+  refl,
+  ap with_runaway_end (sym reaches) ∙ stopped_act (next_actor now) now is
+      ∙ ap (λ b. cond b now (record now { end = Some (Runaway 100000) })) goes_on,
+)
 
 -- an entry was not made
-pub settled_stops : (done : ℕ) (act : Act) (start now next : Play) (stop : Stop) → is_over now ≡ false → act_of (next_actor now) ≡ Some act → done < 100000 →
-    repeated (100000 - done) after_due_step now ≡ repeated 100000 after_due_step start → Enters act now next (Err stop) → Halts stop next (after_settling start)
+pub settled_stops : (done : ℕ) (act : Act) (start now next : Play) (stop : Stop) → is_over now ≡ false →
+    act_of (next_actor now) ≡ Some act → done < 100000 →
+    repeated (100000 - done) after_due_step now ≡ repeated 100000 after_due_step start → Enters act now next (Err stop) →
+    Halts stop next (after_settling start)
 unfolding after_settling_as
 settled_stops done act start now next stop goes_on is some reaches enters =
-    let halts = subst (λ (p : Play). Halts stop next p) (sym (worked_act (next_actor now) act now is)) (does_enters act now next (Err stop) goes_on enters) in
+    let halts =
+    subst (λ (p : Play). Halts stop next p) (sym (worked_act (next_actor now) act now is))
+    (does_enters act now next (Err stop) goes_on enters) in
     halts_on with_runaway_end goes_stopped stop next (repeated 100000 after_due_step start)
     (round_stops_at 100000 done after_due_step goes_worked_once now next (repeated 100000 after_due_step start) stop some reaches halts)
 
@@ -101,16 +117,20 @@ awaits_first start = record { rounds = 2 ^ 64; enough = omega arith; reaches = r
 
 waited_by : (p : Play) → is_over p ≡ false → owes (switch_of p) 1 ≡ true → after_waiting_once p ≡ after_waiting_until (next_actor p) p
 waited_by p goes_on owed =
-    ap (λ b. cond (not b && owes (switch_of p) 1) (after_waiting_until (next_actor p) p) p) goes_on ∙ ap (λ b. cond b (after_waiting_until (next_actor p) p) p) owed
+    ap (λ b. cond (not b && owes (switch_of p) 1) (after_waiting_until (next_actor p) p) p) goes_on
+    ∙ ap (λ b. cond b (after_waiting_until (next_actor p) p) p) owed
 
 -- nothing is owed
 pub waited_rest : (start now : Play) → Awaits start now → is_over now ≡ false → owes (switch_of now) 1 ≡ false → now ≡ after_waiting start
 waited_rest start now awaits goes_on owed =
-    let same = ap (λ b. cond (not b && owes (switch_of now) 1) (after_waiting_until (next_actor now) now) now) goes_on ∙ ap (λ b. cond b (after_waiting_until (next_actor now) now) now) owed in
+    let same =
+    ap (λ b. cond (not b && owes (switch_of now) 1) (after_waiting_until (next_actor now) now) now) goes_on
+    ∙ ap (λ b. cond b (after_waiting_until (next_actor now) now) now) owed in
     sym (repeated_none awaits.rounds after_waiting_once now same) ∙ awaits.reaches
 
 -- somebody has something to do while a reply is owed, and where nobody has it now it is later
-pub never_stuck : (now : Play) → AreOwed (switch_of now) → owes (switch_of now) 1 ≡ true → act_of (next_actor now) ≡ None → ((moment : ℕ) → next_actor now ≡ due.Later moment → ⊥) → ⊥
+pub never_stuck : (now : Play) → AreOwed (switch_of now) → owes (switch_of now) 1 ≡ true → act_of (next_actor now) ≡ None →
+    ((moment : ℕ) → next_actor now ≡ due.Later moment → ⊥) → ⊥
 never_stuck now sound owed idle never = by (next_actor now) refl
   where
     by : (actor : DueActor) → next_actor now ≡ actor → ⊥
@@ -120,13 +140,15 @@ never_stuck now sound owed idle never = by (next_actor now) refl
     by due.Never is = owed_laws.goes_on (switch_of now) 1 now.clock sound owed is
 
 -- the clock went on
-waited_later : (now : Play) (moment : ℕ) → is_over now ≡ false → owes (switch_of now) 1 ≡ true → next_actor now ≡ due.Later moment → after_waiting_once now ≡ after_settling (record now { clock = moment })
+waited_later : (now : Play) (moment : ℕ) → is_over now ≡ false → owes (switch_of now) 1 ≡ true → next_actor now ≡ due.Later moment →
+    after_waiting_once now ≡ after_settling (record now { clock = moment })
 waited_later now moment goes_on owed later = waited_by now goes_on owed ∙ ap (λ actor. after_waiting_until actor now) later
 
 one_less : (rounds : ℕ) → 0 < rounds → rounds ≡ suc (rounds - 1)
 one_less rounds some = omega (arith, some)
 
-pub awaits_on : (start now next : Play) (moment : ℕ) → Awaits start now → is_over now ≡ false → owes (switch_of now) 1 ≡ true → next_actor now ≡ due.Later moment →
+pub awaits_on : (start now next : Play) (moment : ℕ) → Awaits start now → is_over now ≡ false → owes (switch_of now) 1 ≡ true →
+    next_actor now ≡ due.Later moment →
     now.clock < moment → now.clock < 2 ^ 64 → next.clock ≡ moment → next ≡ after_settling (record now { clock = moment }) → Awaits start
     next
 awaits_on start now next moment awaits goes_on owed later comes within clock next_is =
@@ -134,12 +156,14 @@ awaits_on start now next moment awaits goes_on owed later comes within clock nex
       rounds = awaits.rounds - 1;
       enough = omega (arith, awaits.enough, comes, clock, some);
       reaches =
-          ap (repeated (awaits.rounds - 1) after_waiting_once) (next_is ∙ sym (waited_later now moment goes_on owed later)) ∙ sym (repeated_more (awaits.rounds - 1) after_waiting_once now)
+          ap (repeated (awaits.rounds - 1) after_waiting_once) (next_is ∙ sym (waited_later now moment goes_on owed later))
+          ∙ sym (repeated_more (awaits.rounds - 1) after_waiting_once now)
           ∙ sym (ap (λ n. repeated n after_waiting_once now) (one_less awaits.rounds some)) ∙ awaits.reaches;
     }
 
 -- what came to be due then was not all worked
-pub waited_stops : (start now next : Play) (moment : ℕ) (stop : Stop) → Awaits start now → is_over now ≡ false → owes (switch_of now) 1 ≡ true → next_actor now ≡ due.Later moment →
+pub waited_stops : (start now next : Play) (moment : ℕ) (stop : Stop) → Awaits start now → is_over now ≡ false →
+    owes (switch_of now) 1 ≡ true → next_actor now ≡ due.Later moment →
     now.clock < moment → now.clock < 2 ^ 64 → Halts stop next (after_settling (record now { clock = moment })) → Halts stop next
     (after_waiting start)
 waited_stops start now next moment stop awaits goes_on owed later comes within halts =

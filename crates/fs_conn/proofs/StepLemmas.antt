@@ -1,5 +1,6 @@
 -- How steps of a play follow one another, and what entering an act does.
-use Rattle.std.proofs.Common.{◌≡◌, ℕ, ◌+◌, ◌-◌, ◌^◌, ◌≤◌, min, Bool, true, false, cond, List, [], ◌∷◌, ◌++◌, length, Option, None, Some, Result, Ok, Err, refl, sym, ap, ◌∙◌, subst, append-nil, length-append, arith}
+use Rattle.std.proofs.Common.{◌≡◌, ℕ, ◌+◌, ◌-◌, ◌^◌, ◌≤◌, min, Bool, true, false, cond, List, [], ◌∷◌, ◌++◌, length, Option, None, Some}
+use Rattle.std.proofs.Common.{Result, Ok, Err, refl, sym, ap, ◌∙◌, subst, append-nil, length-append, arith}
 use Rattle.std.specs.List.{concat}
 use Rattle.std.proofs.lemmas.List.Folds.{concat-append}
 use Rattle.fs_state.specs.Switch.{empty}
@@ -32,9 +33,12 @@ halts_on g goes WriteFault p mid halts = begins_trans p mid (g mid) halts (goes.
 -- ---- entering
 
 -- an act that is not refused is entered
-pub accepts : (old new : View) (clock : ℕ) (act : Act) (reply : Reply) → new.config ≡ old.config → new.journal ≡ old.journal ++ entry_of act (play_of old clock) ∷ [] →
-    refusal_of (state_of old) (entry_of act (play_of old clock)) ≡ None → reply ≡ (step (state_of old) (entry_of act (play_of old clock))).reply →
-    (state_of new).cost ≡ min ((state_of old).cost + cost_of act) (2 ^ 64 - 1) → (state_of old).cost + 65600 ≤ min old.config.settings.journal_limit (2 ^ 64 - 1) →
+pub accepts : (old new : View) (clock : ℕ) (act : Act) (reply : Reply) → new.config ≡ old.config →
+    new.journal ≡ old.journal ++ entry_of act (play_of old clock) ∷ [] →
+    refusal_of (state_of old) (entry_of act (play_of old clock)) ≡ None →
+    reply ≡ (step (state_of old) (entry_of act (play_of old clock))).reply →
+    (state_of new).cost ≡ min ((state_of old).cost + cost_of act) (2 ^ 64 - 1) →
+    (state_of old).cost + 65600 ≤ min old.config.settings.journal_limit (2 ^ 64 - 1) →
     Accepts act (play_of old clock) (play_of new clock) reply
 accepts old new clock act reply config journal defined reply_is cost free =
     let entry = entry_of act (play_of old clock) in
@@ -44,7 +48,8 @@ accepts old new clock act reply config journal defined reply_is cost free =
       reply_is = reply_is;
       hands =
           rw (config, journal)
-          (ap concat (handed_more 1 (empty old.config) old.journal entry) ∙ concat-append (handed_from 1 (empty old.config) old.journal) (handed_in 1 act (state_of old)));
+          (ap concat (handed_more 1 (empty old.config) old.journal entry)
+          ∙ concat-append (handed_from 1 (empty old.config) old.journal) (handed_in 1 act (state_of old)));
       costs = record { more = omega (arith, cost, some, free); free = omega (arith, free) };
     }
 
@@ -56,13 +61,16 @@ rejects old new clock same = rw (same.config, same.journal) refl
 does_accepts : (act : Act) (old new : Play) (reply : Reply) → Accepts act old new reply → is_over old ≡ false →
     new ≡ after_trying_act act old
 does_accepts act old new reply accepts goes_on =
-    accepts.does ∙ sym (ap (λ over. cond over old (after_judging (refusal_of (switch_of old) (entry_of act old)) (entry_of act old) old)) goes_on ∙ ap (λ cause. after_judging cause (entry_of act old) old) accepts.defined)
+    accepts.does ∙ sym (ap (λ over. cond over old (after_judging (refusal_of (switch_of old) (entry_of act old)) (entry_of act old) old))
+    goes_on ∙ ap (λ cause. after_judging cause (entry_of act old) old) accepts.defined)
 
-pub does_enters : (act : Act) (old new : Play) (result : Result (Option Reply) Stop) → is_over old ≡ false → Enters act old new result → Does (after_trying_act act) old new result
+pub does_enters : (act : Act) (old new : Play) (result : Result (Option Reply) Stop) → is_over old ≡ false → Enters act old new result →
+    Does (after_trying_act act) old new result
 does_enters act old new (Ok None) goes_on enters = enters.does
 does_enters act old new (Ok (Some reply)) goes_on enters = does_accepts act old new reply enters goes_on
 does_enters act old new (Err (Over end)) goes_on enters = enters.1
-does_enters act old new (Err OutOfMemory) goes_on enters = subst (λ (p : Play). IsPlayFront p (after_trying_act act old)) (sym enters) ((goes_entered act).begins old)
+does_enters act old new (Err OutOfMemory) goes_on enters =
+    subst (λ (p : Play). IsPlayFront p (after_trying_act act old)) (sym enters) ((goes_entered act).begins old)
 does_enters act old new (Err WriteFault) goes_on enters = absurd enters
 
 pub works_same : (old new : Play) → new ≡ old → Works old new
@@ -76,7 +84,8 @@ pub works_at : (old new : Play) (moment : ℕ) → Works (record old { clock = m
 works_at old new moment works = record { output = works.output; spent = works.spent }
 
 -- an act that hands out no frame works
-pub works_enters : (act : Act) (old new : Play) (result : Result (Option Reply) Stop) → handed_in 1 act (switch_of old) ≡ [] → Enters act old new result → Works old new
+pub works_enters : (act : Act) (old new : Play) (result : Result (Option Reply) Stop) → handed_in 1 act (switch_of old) ≡ [] →
+    Enters act old new result → Works old new
 works_enters act old new (Ok None) none enters = works_same old new enters.same
 works_enters act old new (Ok (Some reply)) none enters = record {
   output = enters.hands ∙ ap (λ frames. output_of old ++ concat frames) none ∙ append-nil (output_of old);
@@ -97,12 +106,16 @@ never_over : (end : End) → None ≡ Some end → ⊥
 never_over end same = cc
 
 -- a connection that reads commands and is owed no reply gives one
-pub never_rejects : (machine : View) (clock : ℕ) (new : Play) (block : List ℕ) → reads_on (play_of machine clock) ≡ true → owes (state_of machine) 1 ≡ false → Rejects (Command 1 block) (play_of machine clock) new → ⊥
+pub never_rejects : (machine : View) (clock : ℕ) (new : Play) (block : List ℕ) → reads_on (play_of machine clock) ≡ true →
+    owes (state_of machine) 1 ≡ false → Rejects (Command 1 block) (play_of machine clock) new → ⊥
 never_rejects machine clock new block is_reading owes_none refused =
     by (is_full (state_of machine))
     (sym refused.same ∙ refused.does
-    ∙ ap (λ cause. after_judging cause (entry_of (Command 1 block) (play_of machine clock)) (play_of machine clock)) (command_refused (state_of machine) clock 1 block is_reading owes_none))
+    ∙ ap (λ cause. after_judging cause (entry_of (Command 1 block) (play_of machine clock)) (play_of machine clock))
+    (command_refused (state_of machine) clock 1 block is_reading owes_none))
   where
-    by : (full : Bool) → play_of machine clock ≡ after_judging (refused_where full (refusal.JournalFull (state_of machine).cost (state_of machine).config.settings.journal_limit) None) (entry_of (Command 1 block) (play_of machine clock)) (play_of machine clock) → ⊥
+    by : (full : Bool) → play_of machine clock
+        ≡ after_judging (refused_where full (refusal.JournalFull (state_of machine).cost (state_of machine).config.settings.journal_limit)
+        None) (entry_of (Command 1 block) (play_of machine clock)) (play_of machine clock) → ⊥
     by true same = absurd (never_over _ (ap (λ (q : Play). q.end) same))
     by false same = longer (play_of machine clock) (entry_of (Command 1 block) (play_of machine clock)) same

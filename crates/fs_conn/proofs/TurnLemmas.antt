@@ -1,5 +1,6 @@
 -- What a turn of a conversation comes to.
-use Rattle.std.proofs.Common.{◌≡◌, ◌≢◌, ℕ, ◌<◌, ◌≤◌, Bool, true, false, cond, List, [], ◌∷◌, ◌++◌, length, Option, None, Some, Ok, Err, inl, sym, refl, ap, ◌∙◌, subst, append_assoc, append-nil, length-append, arith, ◌&&◌, not, if◌then◌else◌}
+use Rattle.std.proofs.Common.{◌≡◌, ◌≢◌, ℕ, ◌<◌, ◌≤◌, Bool, true, false, cond, List, [], ◌∷◌, ◌++◌, length, Option, None, Some, Ok, Err, inl}
+use Rattle.std.proofs.Common.{sym, refl, ap, ◌∙◌, subst, append_assoc, append-nil, length-append, arith, ◌&&◌, not, if◌then◌else◌}
 use Rattle.std.specs.List.{AllByRecursion, concat}
 use Rattle.std.specs.Option.{option_and_then}
 use Rattle.std.specs.Io.KnownBytes.{IsAtEnd}
@@ -12,7 +13,8 @@ use Rattle.fs_frame.specs.Block.{IsBlock, too_long}
 use Rattle.fs_frame.specs.Blocks.{HasNoBlock, blocks_of, rest_of}
 use Rattle.fs_frame.specs.Stream.{Stream, new_stream, fed_with}
 use Rattle.fs_frame.specs.Next.{HandsOut}
-use Rattle.fs_frame.proofs.BlockLaws.{AllByRecursion-append, blocks_of-append, rest_of-append, blocks_of-no_block, rest_of-no_block, short_rest}
+use Rattle.fs_frame.proofs.BlockLaws.{AllByRecursion-append, blocks_of-append, rest_of-append, blocks_of-no_block, rest_of-no_block}
+use Rattle.fs_frame.proofs.BlockLaws.{short_rest}
 use Rattle.fs_state.specs.declared.conn.Conn.{Conn}
 use Rattle.fs_state.specs.declared.conn.Phase.{Phase}
 use Rattle.fs_state.specs.declared.conn.Phase.TheVariants.{Fresh, Ready, Ending, Closed}
@@ -32,10 +34,14 @@ use Rattle.fs_conn.specs.declared.stop.Stop.{Stop}
 use Rattle.fs_conn.specs.declared.stop.Stop.TheVariants.{Over, OutOfMemory, WriteFault}
 use Rattle.fs_conn.specs.declared.reading.Filled.{Filled}
 use Rattle.fs_conn.specs.declared.reading.Filled.TheVariants.{More}
-use Rattle.fs_conn.specs.Play.{Play, switch_of, output_of, new_play, is_over, with_end, after_trying_act, after_taking_all, after_following, after_act, reads_on, takes_commands, after_command, after_commands, after_opening, after_input_end, after_conversing, after_closing, end_by, farewell, end_behind, played, played_as}
+use Rattle.fs_conn.specs.Play.{Play, switch_of, output_of, new_play, is_over, with_end, after_trying_act, after_taking_all, after_following}
+use Rattle.fs_conn.specs.Play.{after_act, reads_on, takes_commands, after_command, after_commands, after_opening, after_input_end}
+use Rattle.fs_conn.specs.Play.{after_conversing, after_closing, end_by, farewell, end_behind, played, played_as}
 use Rattle.fs_conn.specs.Steps.{spent, IsPlayFront, Halts, Costs, Enters, Writing, Sends, HasFilled, MayClose}
-use Rattle.fs_conn.specs.Turns.{Fills, WritesFirst, HasRead, HasWritten, behind_frame, before_read, StoppedBy, Stands, is_told, Ends, Concludes, Stops, work_left}
-use Rattle.fs_conn.proofs.PlayLemmas.{begins_self, begins_trans, Goes, goes_entered, goes_ended, goes_all_taken, goes_followed, goes_all_commanded, goes_closed}
+use Rattle.fs_conn.specs.Turns.{Fills, WritesFirst, HasRead, HasWritten, behind_frame, before_read, StoppedBy, Stands, is_told, Ends}
+use Rattle.fs_conn.specs.Turns.{Concludes, Stops, work_left}
+use Rattle.fs_conn.proofs.PlayLemmas.{begins_self, begins_trans, Goes, goes_entered, goes_ended, goes_all_taken, goes_followed}
+use Rattle.fs_conn.proofs.PlayLemmas.{goes_all_commanded, goes_closed}
 use Rattle.fs_conn.proofs.StepLemmas.{halts_on, does_enters}
 use Rattle.fs_conn.proofs.SettleLemmas.{is_none}
 use Rattle.fs_conn.proofs.SendLemmas.{writing_none, writing_all}

@@ -1,5 +1,6 @@
 -- What a step of a play did, and what stopped it.
-use Rattle.std.specs.Prelude.{◌≡◌, ◌≢◌, ℕ, ◌+◌, ◌<◌, ◌≤◌, Bool, true, false, List, [], ◌∷◌, ◌++◌, length, Option, None, Some, Result, Ok, Err, IfErr, ◌⊎◌}
+use Rattle.std.specs.Prelude.{◌≡◌, ◌≢◌, ℕ, ◌+◌, ◌<◌, ◌≤◌, Bool, true, false, List, [], ◌∷◌, ◌++◌, length, Option, None, Some, Result, Ok}
+use Rattle.std.specs.Prelude.{Err, IfErr, ◌⊎◌}
 use Rattle.std.specs.List.{concat}
 use Rattle.fs_ports.specs.Ports.{Output, Writes, Stopped}
 use Rattle.fs_machine.specs.declared.due.DueActor.{DueActor}
@@ -12,7 +13,8 @@ use Rattle.fs_machine.specs.Step.{step, refusal_of}
 use Rattle.fs_machine.specs.Runs.{View}
 use Rattle.fs_machine.specs.Frames.{handed_in}
 use Rattle.fs_conn.specs.declared.end.End.{End}
-use Rattle.fs_conn.specs.declared.end.End.TheVariants.{Exit, AuthRefused, Eof, ReadFault, WriteFault as ends_by_write, TooLong, JournalFull, Memory, Runaway}
+use Rattle.fs_conn.specs.declared.end.End.TheVariants.{Exit, AuthRefused, Eof, ReadFault, WriteFault as ends_by_write, TooLong, JournalFull}
+use Rattle.fs_conn.specs.declared.end.End.TheVariants.{Memory, Runaway}
 use Rattle.fs_conn.specs.declared.stop.Stop.{Stop}
 use Rattle.fs_conn.specs.declared.stop.Stop.TheVariants.{Over, OutOfMemory, WriteFault}
 use Rattle.fs_conn.specs.Play.{Play, switch_of, output_of, after_trying_act, after_input_end}

@@ -1,5 +1,6 @@
 -- What stands of a played connection from turn to turn, and at its end.
-use Rattle.std.specs.Prelude.{◌≡◌, ℕ, ◌-◌, ◌*◌, ◌+◌, ◌<◌, ◌≤◌, Bool, true, false, List, [], ◌∷◌, ◌++◌, length, Option, None, Some, Result, Ok, Err, ◌⊎◌, if◌then◌else◌}
+use Rattle.std.specs.Prelude.{◌≡◌, ℕ, ◌-◌, ◌*◌, ◌+◌, ◌<◌, ◌≤◌, Bool, true, false, List, [], ◌∷◌, ◌++◌, length, Option, None, Some, Result}
+use Rattle.std.specs.Prelude.{Ok, Err, ◌⊎◌, if◌then◌else◌}
 use Rattle.std.specs.List.{AllByRecursion, concat}
 use Rattle.std.specs.Io.KnownBytes.{IsAtEnd}
 use Rattle.fs_doc.specs.Reading.{Configuration}
@@ -21,7 +22,8 @@ use Rattle.fs_conn.specs.declared.reading.Filled.{Filled}
 use Rattle.fs_conn.specs.declared.reading.Filled.TheVariants.{More, AtEnd, ReadFailed}
 use Rattle.fs_conn.specs.declared.conversation.Turn.{Turn}
 use Rattle.fs_conn.specs.declared.conversation.Turn.TheVariants.{GoOn, Done}
-use Rattle.fs_conn.specs.Play.{Play, switch_of, bytes_handed, output_of, after_opening, after_commands, after_conversing, after_input_end, farewell, end_behind, played}
+use Rattle.fs_conn.specs.Play.{Play, switch_of, bytes_handed, output_of, after_opening, after_commands, after_conversing, after_input_end}
+use Rattle.fs_conn.specs.Play.{farewell, end_behind, played}
 use Rattle.fs_conn.specs.Steps.{spent, Halts, HasFilled}
 
 -- what reading more of a link did, at most 16,384 bytes

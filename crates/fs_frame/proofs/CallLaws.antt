@@ -8,10 +8,12 @@ use Rattle.fs_frame.specs.Block.{IsBlock, too_long}
 use Rattle.fs_frame.specs.Blocks.{HasNoBlock, blocks_of, rest_of}
 use Rattle.fs_frame.specs.Stream.{Stream, new_stream, fed_with, after_next_block}
 use Rattle.fs_frame.specs.Next.{IsNext, HandsOut, HandsOutNothing, bytes_of}
-use Rattle.fs_frame.specs.Calls.{Call, fed, asked, AreAnsweredFrom, AreAnswered, stream_of, blocks_in, ComeFirst, IsUsedUp, Follows, AlwaysTooLong}
+use Rattle.fs_frame.specs.Calls.{Call, fed, asked, AreAnsweredFrom, AreAnswered, stream_of, blocks_in, ComeFirst, IsUsedUp, Follows}
+use Rattle.fs_frame.specs.Calls.{AlwaysTooLong}
 use Rattle.fs_frame.specs.declared.next.Next.{Next}
 use Rattle.fs_frame.specs.declared.next.Next.TheVariants.{Block, NeedMore, TooLong}
-use Rattle.fs_frame.proofs.BlockLaws.{AllByRecursion-append, blocks_of-append, rest_of-append, blocks_of-no_block, rest_of-no_block, HasNoBlock-too_long, too_long-append}
+use Rattle.fs_frame.proofs.BlockLaws.{AllByRecursion-append, blocks_of-append, rest_of-append, blocks_of-no_block, rest_of-no_block}
+use Rattle.fs_frame.proofs.BlockLaws.{HasNoBlock-too_long, too_long-append}
 
 -- these blocks of the stream were handed out, and the buffer holds what follows them
 record Stands (blocks : List (List ℕ)) (stream : List ℕ) (s : Stream) : Type 0 where

@@ -1,11 +1,14 @@
 -- The block in front of some bytes.
-use Rattle.std.proofs.Common.{◌≡◌, ℕ, ◌≤◌, Bool, true, false, List, [], ◌∷◌, ◌++◌, length, take, drop, nat_le, Option, None, Some, refl, sym, ◌∙◌, ap, append_assoc, arith}
+use Rattle.std.proofs.Common.{◌≡◌, ℕ, ◌≤◌, Bool, true, false, List, [], ◌∷◌, ◌++◌, length, take, drop, nat_le, Option, None, Some, refl}
+use Rattle.std.proofs.Common.{sym, ◌∙◌, ap, append_assoc, arith}
 use Rattle.std.proofs.lemmas.Bool.{le-leb, leb-true}
 use Rattle.std.proofs.lemmas.List.{append-nil, take_at, take-take, take-append-drop}
 use Rattle.std.proofs.lemmas.List.Folds.{concat-append}
 use Rattle.std.specs.List.{AllByRecursion, concat}
-use Rattle.fs_frame.specs.Block.{IsEmptyLine, IsTextLine, IsHead, IsBlock, text_of, lines_of, first_text, line_of, head_of, within_limit, front_of}
-use Rattle.fs_frame.proofs.LineLaws.{lines_of-line, lines_of-lines, AreLines, AreLines-lines_of, AllByRecursion-lines, head_of-parts, first_text-empties, Headed, head_of-headed}
+use Rattle.fs_frame.specs.Block.{IsEmptyLine, IsTextLine, IsHead, IsBlock, text_of, lines_of, first_text, line_of, head_of, within_limit}
+use Rattle.fs_frame.specs.Block.{front_of}
+use Rattle.fs_frame.proofs.LineLaws.{lines_of-line, lines_of-lines, AreLines, AreLines-lines_of, AllByRecursion-lines, head_of-parts}
+use Rattle.fs_frame.proofs.LineLaws.{first_text-empties, Headed, head_of-headed}
 
 -- the parts of a head
 abbrev spelling_of : List (List ℕ) → List ℕ → List (List ℕ) → List ℕ → List ℕ

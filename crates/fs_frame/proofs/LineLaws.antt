@@ -1,11 +1,13 @@
 -- Lines in bytes, and heads in lines.
-use Rattle.std.proofs.Common.{◌≡◌, ◌≢◌, ℕ, Bool, true, false, List, [], ◌∷◌, ◌++◌, length, Option, None, Some, ◌⊎◌, inl, inr, refl, sym, ◌∙◌, ap, one-add, append_assoc, eqb}
+use Rattle.std.proofs.Common.{◌≡◌, ◌≢◌, ℕ, Bool, true, false, List, [], ◌∷◌, ◌++◌, length, Option, None, Some, ◌⊎◌, inl, inr, refl, sym}
+use Rattle.std.proofs.Common.{◌∙◌, ap, one-add, append_assoc, eqb}
 use Rattle.std.proofs.lemmas.Bool.{or_parts}
 use Rattle.std.proofs.lemmas.Bool.Decides.{eqb_tells}
 use Rattle.std.proofs.lemmas.List.{take_at}
 use Rattle.std.specs.List.{AllByRecursion, concat, list_any, position_or_len}
 use Rattle.std.specs.Option.{option_map}
-use Rattle.fs_frame.specs.Block.{is_lf, IsLine, IsEmptyLine, IsTextLine, without_cr, text_of, with_front, lines_of, has_bytes, has_text, first_text, up_to_empty, head_of}
+use Rattle.fs_frame.specs.Block.{is_lf, IsLine, IsEmptyLine, IsTextLine, without_cr, text_of, with_front, lines_of, has_bytes, has_text}
+use Rattle.fs_frame.specs.Block.{first_text, up_to_empty, head_of}
 
 -- the first byte that passes stands behind those that do not
 pub position_or_len-append : (p : ℕ → Bool) (front : List ℕ) (byte : ℕ) (more : List ℕ) → list_any p front ≡ false → p byte ≡ true →

@@ -1,7 +1,9 @@
 -- What one step of a search may conclude.
-use Rattle.std.proofs.Common.{◌≡◌, ◌≢◌, ℕ, zero, suc, ◌+◌, ◌-◌, ◌≤◌, Bool, true, false, not, cond, ◌||◌, List, [], ◌∷◌, ◌++◌, length, take, drop, get_or, Option, None, Some, ◌⊎◌, inl, inr, refl, sym, ◌∙◌, ap, append_assoc, arith, length-append, eqb}
+use Rattle.std.proofs.Common.{◌≡◌, ◌≢◌, ℕ, zero, suc, ◌+◌, ◌-◌, ◌≤◌, Bool, true, false, not, cond, ◌||◌, List, [], ◌∷◌, ◌++◌, length, take}
+use Rattle.std.proofs.Common.{drop, get_or, Option, None, Some, ◌⊎◌, inl, inr, refl, sym, ◌∙◌, ap, append_assoc, arith, length-append, eqb}
 use Rattle.std.proofs.lemmas.Bool.Decides.{eqb_tells}
-use Rattle.std.proofs.lemmas.List.{append-nil, take_at, drop_at, take_all, take_rest, length-take-le, take-append-drop, take-append-le, drop-append-le, length-drop}
+use Rattle.std.proofs.lemmas.List.{append-nil, take_at, drop_at, take_all, take_rest, length-take-le, take-append-drop, take-append-le}
+use Rattle.std.proofs.lemmas.List.{drop-append-le, length-drop}
 use Rattle.std.proofs.lemmas.List.Folds.{concat-append, list_any-append}
 use Rattle.std.proofs.lemmas.List.Sums.{prefix_len-le-length}
 use Rattle.std.specs.List.{concat, list_any, position_or_len}
@@ -10,7 +12,8 @@ use Rattle.fs_frame.specs.Block.{is_lf, IsLine, without_cr, text_of, lines_of, h
 use Rattle.fs_frame.specs.Front.{span_bytes, IsPassed, IsScanned, GoesOn, IsLineAt, StandsHead}
 use Rattle.fs_frame.specs.declared.span.Span.{Span}
 use Rattle.fs_frame.specs.declared.scan.Scan.{Scan}
-use Rattle.fs_frame.proofs.LineLaws.{position_or_len-append, position_or_len-none, text_of-content, lines_of-line, lines_of-none, lines_of-append, has_bytes-none, has_bytes-some}
+use Rattle.fs_frame.proofs.LineLaws.{position_or_len-append, position_or_len-none, text_of-content, lines_of-line, lines_of-none}
+use Rattle.fs_frame.proofs.LineLaws.{lines_of-append, has_bytes-none, has_bytes-some}
 
 pub position_or_len-le-length : (p : ℕ → Bool) (bytes : List ℕ) → position_or_len p bytes ≤ length bytes
 position_or_len-le-length p bytes = prefix_len-le-length (λ (byte : ℕ). not (p byte)) bytes

@@ -1,5 +1,6 @@
 -- What a buffer stands for, once it went past its front.
-use Rattle.std.proofs.Common.{◌≡◌, ℕ, ◌+◌, ◌-◌, Bool, true, false, cond, List, [], length, take, drop, nat_lt, None, refl, sym, arith, slice_range}
+use Rattle.std.proofs.Common.{◌≡◌, ℕ, ◌+◌, ◌-◌, Bool, true, false, cond, List, [], length, take, drop, nat_lt, None, refl, sym, arith}
+use Rattle.std.proofs.Common.{slice_range}
 use Rattle.std.proofs.lemmas.List.{length-take-le, drop-drop, take_rest, take-append-drop}
 use Rattle.fs_frame.specs.Block.{too_long, front_of}
 use Rattle.fs_frame.specs.Stream.{Stream, after_next_block}

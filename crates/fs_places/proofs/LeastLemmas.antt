@@ -1,5 +1,6 @@
 -- The least of the numbers that things have: looked at one after another, whose it is, and what is below it.
-use Rattle.std.proofs.Common.{◌≡◌, ℕ, zero, suc, ◌+◌, ◌<◌, ◌≤◌, min, leb, Bool, true, false, List, ◌∷◌, length, drop, get_or, Option, None, Some, unwrap_or, ◌⊎◌, inl, inr, refl, ap, ◌∙◌, arith, []}
+use Rattle.std.proofs.Common.{◌≡◌, ℕ, zero, suc, ◌+◌, ◌<◌, ◌≤◌, min, leb, Bool, true, false, List, ◌∷◌, length, drop, get_or, Option, None}
+use Rattle.std.proofs.Common.{Some, unwrap_or, ◌⊎◌, inl, inr, refl, ap, ◌∙◌, arith, []}
 use Rattle.std.proofs.lemmas.List.{at_drop_more, at_drop_all}
 use Rattle.std.proofs.lemmas.Bool.{leb-true, leb-false}
 use Rattle.std.proofs.lemmas.Option.{none-some, same_Some}

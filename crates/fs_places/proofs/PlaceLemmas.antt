@@ -1,7 +1,9 @@
 -- What is written over a table, and what stands at its places.
-use Rattle.std.proofs.Common.{◌≡◌, ℕ, zero, suc, ◌+◌, ◌<◌, ◌≤◌, ◌==◌, leb, Bool, true, false, List, [], ◌∷◌, ◌++◌, length, drop, Option, None, Some, refl, sym, ap, subst, ◌∙◌, arith}
+use Rattle.std.proofs.Common.{◌≡◌, ℕ, zero, suc, ◌+◌, ◌<◌, ◌≤◌, ◌==◌, leb, Bool, true, false, List, [], ◌∷◌, ◌++◌, length, drop, Option}
+use Rattle.std.proofs.Common.{None, Some, refl, sym, ap, subst, ◌∙◌, arith}
 use Rattle.std.specs.Prelude.{◌-◌, slice_get, if◌then◌else◌}
-use Rattle.std.proofs.lemmas.List.{length-append, get_or-set_same, get_or-set_other, set-set, length-set, get_or_past, at_drop_more, at_drop_all}
+use Rattle.std.proofs.lemmas.List.{length-append, get_or-set_same, get_or-set_other, set-set, length-set, get_or_past, at_drop_more}
+use Rattle.std.proofs.lemmas.List.{at_drop_all}
 use Rattle.std.proofs.lemmas.Bool.{eqb-true, leb-true, leb-false}
 use Rattle.std.proofs.lemmas.Bool.Decides.{nat_tests}
 use Rattle.fs_places.specs.declared.sheet.Write.{Write}

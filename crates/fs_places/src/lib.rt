@@ -9,8 +9,10 @@ mod overlay;
 mod places;
 mod rows;
 mod sheet;
+mod table;
 
-pub use numbered::Numbered;
+pub use numbered::{Numbered, Rows};
 pub use overlay::Overlay;
 pub use places::Places;
 pub use sheet::{Sheet, Write};
+pub use table::Table;

@@ -3,7 +3,9 @@ ghost use Rattle.std.specs.Prelude.{◌≡◌};
 ghost use Rattle.std.specs.Option.{option_copied};
 ghost use Rattle.fs_places.specs.Rows as spec;
 
+use crate::overlay::Overlay;
 use crate::places::Places;
+use crate::table::Table;
 
 /// A thing with the number by which it is known.
 #[derive(Drop)]
@@ -12,11 +14,12 @@ pub struct Numbered<T> {
     pub held: T,
 }
 
-impl<T: Drop> Places<Numbered<T>> {
+/// A table of things that are known by their numbers.
+pub trait Rows<T>: Table<Numbered<T>> {
     /// The least place at which a thing of a number stands.
     #[tactic(auto, using(crate::proofs::PlaceLemmas::first_rules))]
-    pub fn place_of(&self, number: u64) -> Option<usize>
-        ensures { result ≡ spec.place_of self.now number }
+    fn place_of(&self, number: u64) -> Option<usize>
+        ensures { result ≡ spec.place_of (Self.held self.now) number }
     {
         for place in 0..self.len() {
             if let Some(row) = self.get(place) {
@@ -29,11 +32,15 @@ impl<T: Drop> Places<Numbered<T>> {
     }
 
     /// The thing of a number.
-    pub fn row(&self, number: u64) -> Option<&T>
-        ensures { option_copied result ≡ spec.row_of self.now number }
+    fn row(&self, number: u64) -> Option<&T>
+        ensures { option_copied result ≡ spec.row_of (Self.held self.now) number }
     {
         let place = self.place_of(number)?;
         let row = self.get(place)?;
         Some(&row.held)
     }
 }
+
+impl<T: Drop> Rows<T> for Places<Numbered<T>> {}
+
+impl<'a, T: Drop> Rows<T> for Overlay<'a, Numbered<T>> {}

@@ -1,16 +1,16 @@
 //! A table with a sheet of writes over it.
 ghost use Rattle.std.specs.Prelude.{◌≡◌, ◌<◌, ◌≤◌, [], Option, Some, length, MatchOption, IfSome, OnOk, OnErr};
-ghost use Rattle.std.specs.Option.{option_copied};
 ghost use Rattle.fs_places.specs.Places as places;
 ghost use Rattle.fs_places.specs.Overlays as spec;
 
 use crate::places::Places;
 use crate::sheet::Sheet;
+use crate::table::Table;
 use fs_text::Memory;
 use std::alloc::Global;
 use std::marker::Model;
 
-/// A table with a sheet over it. A contract sees both.
+/// A table with a sheet over it, which is read with what is written. A contract sees both.
 #[derive(Drop)]
 pub struct Overlay<'a, T> {
     kept: &'a Places<T>,
@@ -25,6 +25,23 @@ impl<'a, T> Model for Overlay<'a, T> {
     ghost view = { λ o. record { kept = o.kept.now; sheet = o.sheet } };
 }
 
+impl<'a, T: Drop> Table<T> for Overlay<'a, T> {
+    ghost held = { spec.now_of };
+
+    #[tactic(auto, using(crate::proofs::PlaceLemmas::written_length))]
+    fn len(&self) -> usize {
+        self.kept.len()
+    }
+
+    #[tactic(auto, using(crate::proofs::PlaceLemmas::written_newest, crate::proofs::PlaceLemmas::written_past))]
+    fn get(&self, place: usize) -> Option<&T> {
+        if place >= self.kept.len() {
+            return None;
+        }
+        self.sheet.over(place, self.kept.get(place))
+    }
+}
+
 impl<'a, T: Drop> Overlay<'a, T> {
     /// A table with nothing written over it.
     pub fn new(alloc: Global, kept: &'a Places<T>) -> Overlay<'a, T>
@@ -34,25 +51,6 @@ impl<'a, T: Drop> Overlay<'a, T> {
             kept,
             sheet: Sheet::new(alloc),
         }
-    }
-
-    /// How many places there are.
-    #[tactic(auto, using(crate::proofs::PlaceLemmas::written_length))]
-    pub fn len(&self) -> usize
-        ensures { result ≡ length (spec.now_of self.now) }
-    {
-        self.kept.len()
-    }
-
-    /// What stands at a place, with what is written; past the last one stands nothing.
-    #[tactic(auto, using(crate::proofs::PlaceLemmas::written_newest, crate::proofs::PlaceLemmas::written_past))]
-    pub fn get(&self, place: usize) -> Option<&T>
-        ensures { option_copied result ≡ spec.held_at self.now place }
-    {
-        if place >= self.kept.len() {
-            return None;
-        }
-        self.sheet.over(place, self.kept.get(place))
     }
 
     /// Writes something at a place, or empties it; past the last one nothing changes.

@@ -1,8 +1,8 @@
 //! A table of fixed places.
 ghost use Rattle.std.specs.Prelude.{◌≡◌, ◌≤◌, length, IfOk};
-ghost use Rattle.std.specs.Option.{option_copied};
 ghost use Rattle.fs_places.specs.Places as spec;
 
+use crate::table::Table;
 use fs_text::Memory;
 use std::alloc::Global;
 use std::marker::Model;
@@ -29,6 +29,21 @@ impl<T> Model for Places<T> {
     ghost coded = { coded_list (coded_option T.code) };
 }
 
+impl<T> Table<T> for Places<T> {
+    ghost held = { λ places. places };
+
+    fn len(&self) -> usize {
+        self.list.len()
+    }
+
+    fn get(&self, place: usize) -> Option<&T> {
+        match self.list.get(place) {
+            Some(held) => held.as_ref(),
+            None => None,
+        }
+    }
+}
+
 impl<T: Drop> Places<T> {
     /// A table of so many empty places.
     #[tactic(auto, unfolding(crate::specs::Places::no_places))]
@@ -42,29 +57,12 @@ impl<T: Drop> Places<T> {
         Ok(Places { list, filled: 0 })
     }
 
-    /// How many places there are.
-    pub fn len(&self) -> usize
-        ensures { result ≡ length self.now }
-    {
-        self.list.len()
-    }
-
     /// How many places were ever filled, at most: from this one on nothing stands.
     pub fn filled(&self) -> usize
         ensures within { result ≤ length self.now }
         ensures empty { spec.IsEmptyFrom result self.now }
     {
         self.filled
-    }
-
-    /// What stands at a place; past the last one stands nothing.
-    pub fn get(&self, place: usize) -> Option<&T>
-        ensures { option_copied result ≡ spec.held_in self.now place }
-    {
-        match self.list.get(place) {
-            Some(held) => held.as_ref(),
-            None => None,
-        }
     }
 
     /// Puts something at a place, or empties it; past the last one nothing changes.

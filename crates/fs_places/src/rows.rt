@@ -1,39 +1,13 @@
 //! Things that are known by their numbers, over a table.
-ghost use Rattle.std.specs.Prelude.{◌≡◌, Some, is_some, length, OnOk, OnErr, IfOk};
-ghost use Rattle.std.specs.Option.{option_copied};
-ghost use Rattle.fs_places.specs.Places as places;
+ghost use Rattle.std.specs.Prelude.{◌≡◌, Some, OnOk, OnErr};
 ghost use Rattle.fs_places.specs.Rows as spec;
 ghost use Rattle.fs_places.specs.Overlays.{now_of};
 
-use crate::numbered::Numbered;
+use crate::numbered::{Numbered, Rows};
 use crate::overlay::Overlay;
 use fs_text::Memory;
 
 impl<'a, T: Drop> Overlay<'a, Numbered<T>> {
-    /// The least place at which a thing of a number stands.
-    #[tactic(auto, using(crate::proofs::PlaceLemmas::first_rules))]
-    pub fn place_of(&self, number: u64) -> Option<usize>
-        ensures { result ≡ spec.place_of (now_of self.now) number }
-    {
-        for place in 0..self.len() {
-            if let Some(row) = self.get(place) {
-                if row.number == number {
-                    return Some(place);
-                }
-            }
-        }
-        None
-    }
-
-    /// The thing of a number.
-    pub fn row(&self, number: u64) -> Option<&T>
-        ensures { option_copied result ≡ spec.row_of (now_of self.now) number }
-    {
-        let place = self.place_of(number)?;
-        let row = self.get(place)?;
-        Some(&row.held)
-    }
-
     /// Puts a thing in the place of the one with its number; where there is none nothing changes.
     pub fn set_row(&mut self, number: u64, held: T) -> Result<(), Memory>
         ensures kept { self.new.kept ≡ self.old.kept }

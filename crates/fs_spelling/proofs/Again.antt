@@ -1,5 +1,6 @@
 -- What is spelt is read.
-use Rattle.std.proofs.Common.{◌≡◌, ℕ, zero, suc, ◌+◌, ◌≤◌, Bool, true, false, cond, ◌==◌, nat_eq, List, [], ◌∷◌, ◌++◌, length, map, None, Result, Ok, Err, codes, refl, sym, ap, ◌∙◌, subst, append_assoc, append-nil, arith}
+use Rattle.std.proofs.Common.{◌≡◌, ℕ, zero, suc, ◌+◌, ◌≤◌, Bool, true, false, cond, ◌==◌, nat_eq, List, [], ◌∷◌, ◌++◌, length, map, None}
+use Rattle.std.proofs.Common.{Result, Ok, Err, codes, refl, sym, ap, ◌∙◌, subst, append_assoc, append-nil, arith}
 use Rattle.std.specs.List.{starts_with}
 use Rattle.std.specs.Str.{bytes_eq}
 use Rattle.std.proofs.lemmas.List.{length-append}
@@ -19,7 +20,8 @@ use Rattle.fs_doc.specs.declared.element.Level.TheVariants as level
 use Rattle.fs_doc.specs.declared.content.Content.{Content}
 use Rattle.fs_doc.specs.Faults.{fault}
 use Rattle.fs_doc.specs.Contents.{element_ended}
-use Rattle.fs_doc.specs.Reading.{Opened, ReadSoFar, level_in, is_outside, mark_or, mark_read, with_element, start_entered, end_entered, is_empty_level, mark_entered, Next, Over, On, at_mark, round, with_round, read_within}
+use Rattle.fs_doc.specs.Reading.{Opened, ReadSoFar, level_in, is_outside, mark_or, mark_read, with_element, start_entered, end_entered}
+use Rattle.fs_doc.specs.Reading.{is_empty_level, mark_entered, Next, Over, On, at_mark, round, with_round, read_within}
 use Rattle.fs_spelling.specs.Tags.{Pair, IsTag, IsEndTag, IsComment, AreBlank}
 use Rattle.fs_spelling.specs.Readings.{pair_of, ReadsTag}
 use Rattle.fs_spelling.specs.Documents.{IsFiller, Begins, Inside, Bare, Remark, Leaf, Holder}
@@ -34,16 +36,19 @@ state opened c = record { opened = opened; content = c }
 -- ---- one round
 
 round_goes : (end : ℕ) (r : ReadSoFar) (before bytes rest : Text) (mark : Mark) (next : ReadSoFar) → IsFiller (level_in r.opened) before
-    → ((at : ℕ) → mark_read r.content.done (is_outside r.opened) end at (bytes ++ rest) ≡ Ok (mark, rest)) → ((at : ℕ) → mark_entered at mark r ≡ Ok next)
+    → ((at : ℕ) → mark_read r.content.done (is_outside r.opened) end at (bytes ++ rest) ≡ Ok (mark, rest))
+    → ((at : ℕ) → mark_entered at mark r ≡ Ok next)
     → round end r (before ++ ((60 ∷ bytes) ++ rest)) ≡ Ok (On next rest)
 unfolding round at_mark
 round_goes end r before bytes rest mark next filler reads enters =
     let at = place end (60 ∷ (bytes ++ rest)) in
-    ap (λ (t : Result Text DocFault). t >>= λ behind. at_mark end r behind) (text_read end (level_in r.opened) before (60 ∷ (bytes ++ rest)) filler refl)
+    ap (λ (t : Result Text DocFault). t >>= λ behind. at_mark end r behind)
+    (text_read end (level_in r.opened) before (60 ∷ (bytes ++ rest)) filler refl)
     ∙ ap (λ (m : Result (Mark × Text) DocFault). m >>= λ x. (mark_entered at x.0 r >>= λ n. Ok (On n x.1))) (reads at)
     ∙ ap (λ (e : Result ReadSoFar DocFault). e >>= λ n. Ok (On n rest)) (enters at)
 
-one_round : (end : ℕ) (x : Content) (r : ReadSoFar) (bytes : Text) (next : ReadSoFar) (rest : Text) (more : ℕ) → round end r bytes ≡ Ok (On next rest)
+one_round : (end : ℕ) (x : Content) (r : ReadSoFar) (bytes : Text) (next : ReadSoFar) (rest : Text) (more : ℕ) →
+    round end r bytes ≡ Ok (On next rest)
     → read_within more end next rest ≡ Ok x → read_within (suc more) end r bytes ≡ Ok x
 one_round end x r bytes next rest more goes reads =
     ap (λ (n : Result Next DocFault). n >>= λ y. with_round (λ s behind. read_within more end s behind) y) goes ∙ reads
@@ -53,48 +58,60 @@ one_round end x r bytes next rest more goes reads =
 no_slash : (b : ℕ) (bytes : Text) → (b == 47) ≡ false → starts_with nat_eq (b ∷ bytes) (codes "/") ≡ false
 no_slash b bytes other = grind (arith, nat_tests)
 
-mark_is_read : (done outside : Bool) (end at : ℕ) (bytes rest : Text) (mark : Mark) → starts_with nat_eq (bytes ++ rest) (codes "/") ≡ false → mark_at end (bytes ++ rest) ≡ Ok (mark, rest)
+mark_is_read : (done outside : Bool) (end at : ℕ) (bytes rest : Text) (mark : Mark) →
+    starts_with nat_eq (bytes ++ rest) (codes "/") ≡ false → mark_at end (bytes ++ rest) ≡ Ok (mark, rest)
     → mark_read done outside end at (bytes ++ rest) ≡ Ok (mark, rest)
 unfolding mark_read
 mark_is_read done true end at bytes rest mark other is =
     ap (λ s. cond s (fault at kinds.BadTag) (mark_or done end at (mark_at end (bytes ++ rest)))) other ∙ ap (mark_or done end at) is
 mark_is_read done false end at bytes rest mark other is = ap (mark_or done end at) is
 
-comment_is_read : (done outside : Bool) (end at : ℕ) (bytes rest : Text) → IsComment bytes → mark_read done outside end at (bytes ++ rest) ≡ Ok (Comment, rest)
+comment_is_read : (done outside : Bool) (end at : ℕ) (bytes rest : Text) → IsComment bytes →
+    mark_read done outside end at (bytes ++ rest) ≡ Ok (Comment, rest)
 comment_is_read done outside end at bytes rest is =
     let P : Text → Type 0 = λ b. starts_with nat_eq (b ++ rest) (codes "/") ≡ false in
     mark_is_read done outside end at bytes rest Comment (subst P (sym is.whole) refl) (spelt_comment end bytes rest is)
 
-end_is_read : (done : Bool) (end at : ℕ) (bytes name rest : Text) → IsEndTag bytes name → mark_read done false end at (bytes ++ rest) ≡ Ok (End name, rest)
+end_is_read : (done : Bool) (end at : ℕ) (bytes name rest : Text) → IsEndTag bytes name →
+    mark_read done false end at (bytes ++ rest) ≡ Ok (End name, rest)
 unfolding mark_read
 end_is_read done end at bytes name rest is = ap (mark_or done end at) (spelt_end end bytes name rest is)
 
-tag_other : (tag name rest : Text) (pairs : List Pair) (ending : Ending) → IsTag tag name pairs ending → starts_with nat_eq (tag ++ rest) (codes "/") ≡ false
+tag_other : (tag name rest : Text) (pairs : List Pair) (ending : Ending) → IsTag tag name pairs ending →
+    starts_with nat_eq (tag ++ rest) (codes "/") ≡ false
 tag_other tag name rest pairs ending is =
     let n = is.is_name in
     let P : Text → Type 0 = λ b. starts_with nat_eq (b ++ rest) (codes "/") ≡ false in
     let whole : tag ≡ n.first ∷ (n.others ++ is.body) = is.whole ∙ ap (λ m. m ++ is.body) n.whole in
-    subst P (sym whole) (no_slash n.first ((n.others ++ is.body) ++ rest) (no_mark n.first (name_byte n.first (first_byte n.first n.begins)).no_mark).no_slash)
+    subst P (sym whole) (no_slash n.first ((n.others ++ is.body) ++ rest)
+    (no_mark n.first (name_byte n.first (first_byte n.first n.begins)).no_mark).no_slash)
 
-tag_is_read : (done outside : Bool) (end at : ℕ) (tag name : Text) (pairs : List Pair) (ending : Ending) (rest : Text) (is : IsTag tag name pairs ending) (reads : ReadsTag end (tag ++ rest) name pairs ending rest)
-    → mark_read done outside end at (tag ++ rest) ≡ Ok (Start name (record { attrs = reads.attrs; malformed = None; ending = ending }), rest)
+tag_is_read : (done outside : Bool) (end at : ℕ) (tag name : Text) (pairs : List Pair) (ending : Ending) (rest : Text)
+    (is : IsTag tag name pairs ending) (reads : ReadsTag end (tag ++ rest) name pairs ending rest)
+    → mark_read done outside end at (tag ++ rest)
+    ≡ Ok (Start name (record { attrs = reads.attrs; malformed = None; ending = ending }), rest)
 tag_is_read done outside end at tag name pairs ending rest is reads =
-    mark_is_read done outside end at tag rest (Start name (record { attrs = reads.attrs; malformed = None; ending = ending })) (tag_other tag name rest pairs ending is) reads.read
+    mark_is_read done outside end at tag rest (Start name (record { attrs = reads.attrs; malformed = None; ending = ending }))
+    (tag_other tag name rest pairs ending is) reads.read
 
 -- ---- markup that is entered
 
-comment_enters : (at : ℕ) (opened : List Opened) (c : Content) (outer : Level) → level_in opened ≡ outer → is_empty_level outer ≡ false → mark_entered at Comment (state opened c) ≡ Ok (state opened c)
+comment_enters : (at : ℕ) (opened : List Opened) (c : Content) (outer : Level) → level_in opened ≡ outer → is_empty_level outer ≡ false →
+    mark_entered at Comment (state opened c) ≡ Ok (state opened c)
 unfolding mark_entered
 comment_enters at opened c outer here may = ap (λ e. cond e (fault at kinds.BadTag) (Ok (state opened c))) (ap is_empty_level here ∙ may)
 
-tag_enters : (at : ℕ) (opened : List Opened) (c d : Content) (outer inner : Level) (name : Text) (pairs : List Pair) (body : BodyText) → level_in opened ≡ outer → body.malformed ≡ None
-    → map pair_of body.attrs ≡ pairs → Begins outer c name pairs inner d → mark_entered at (Start name body) (state opened c) ≡ Ok (with_element body.ending name opened (inner, d))
+tag_enters : (at : ℕ) (opened : List Opened) (c d : Content) (outer inner : Level) (name : Text) (pairs : List Pair) (body : BodyText) →
+    level_in opened ≡ outer → body.malformed ≡ None
+    → map pair_of body.attrs ≡ pairs → Begins outer c name pairs inner d
+    → mark_entered at (Start name body) (state opened c) ≡ Ok (with_element body.ending name opened (inner, d))
 unfolding mark_entered start_entered
 tag_enters at opened c d outer inner name pairs body here whole same is =
     let P : Level → Type 0 = λ l. Begins l c name (map pair_of body.attrs) inner d in
     let Q : List Pair → Type 0 = λ ps. Begins outer c name ps inner d in
     let begins = subst P (sym here) (subst Q (sym same) is) in
-    ap (λ (r : Result (Level × Content) DocFault). r >>= λ x. Ok (with_element body.ending name opened x)) (begins_read at (level_in opened) c d name body inner whole begins)
+    ap (λ (r : Result (Level × Content) DocFault). r >>= λ x. Ok (with_element body.ending name opened x))
+    (begins_read at (level_in opened) c d name body inner whole begins)
 
 end_enters : (at : ℕ) (opened : List Opened) (inner : Level) (name : Text) (c : Content)
     → mark_entered at (End name) (state (record { level = inner; name = name } ∷ opened) c) ≡ Ok (state opened (element_ended inner c))
@@ -111,7 +128,8 @@ pub record ReadsSo (end : ℕ) (opened : List Opened) (c : Content) (bytes : Tex
   pub within : fuel ≤ most
   pub reads : read_within fuel end (state opened c) bytes ≡ Ok x
 
-moved : (end : ℕ) (opened : List Opened) (c : Content) (bytes other : Text) (x : Content) (most more : ℕ) → ReadsSo end opened c bytes x most → other ≡ bytes → most ≤ more → ReadsSo end opened c other x more
+moved : (end : ℕ) (opened : List Opened) (c : Content) (bytes other : Text) (x : Content) (most more : ℕ) →
+    ReadsSo end opened c bytes x most → other ≡ bytes → most ≤ more → ReadsSo end opened c other x more
 moved end opened c bytes other x most more so same fewer = record {
   fuel = so.fuel;
   within = omega (arith, so.within, fewer);
@@ -119,16 +137,19 @@ moved end opened c bytes other x most more so same fewer = record {
 }
 
 item_seam : (text before mark rest : Text) → (text ++ (before ++ (60 ∷ mark))) ++ rest ≡ text ++ (before ++ ((60 ∷ mark) ++ rest))
-item_seam text before mark rest = append_assoc text (before ++ (60 ∷ mark)) rest ∙ ap (λ b. text ++ b) (append_assoc before (60 ∷ mark) rest)
+item_seam text before mark rest =
+    append_assoc text (before ++ (60 ∷ mark)) rest ∙ ap (λ b. text ++ b) (append_assoc before (60 ∷ mark) rest)
 
 item_long : (text before mark : Text) → suc (length text) ≤ length (text ++ (before ++ (60 ∷ mark)))
 item_long text before mark = let a = length-append text (before ++ (60 ∷ mark)) in let b = length-append before (60 ∷ mark) in omega arith
 
 holder_seam : (text before tag held behind close rest : Text)
-    → (text ++ (before ++ ((60 ∷ tag) ++ (held ++ (behind ++ (60 ∷ close)))))) ++ rest ≡ text ++ (before ++ ((60 ∷ tag) ++ (held ++ (behind ++ ((60 ∷ close) ++ rest)))))
+    → (text ++ (before ++ ((60 ∷ tag) ++ (held ++ (behind ++ (60 ∷ close)))))) ++ rest ≡ text
+    ++ (before ++ ((60 ∷ tag) ++ (held ++ (behind ++ ((60 ∷ close) ++ rest)))))
 holder_seam text before tag held behind close rest = simp append_assoc
 
-holder_long : (text before tag held behind close : Text) → suc (suc (length text + length held)) ≤ length (text ++ (before ++ ((60 ∷ tag) ++ (held ++ (behind ++ (60 ∷ close))))))
+holder_long : (text before tag held behind close : Text) →
+    suc (suc (length text + length held)) ≤ length (text ++ (before ++ ((60 ∷ tag) ++ (held ++ (behind ++ (60 ∷ close))))))
 holder_long text before tag held behind close =
     let a = length-append text (before ++ ((60 ∷ tag) ++ (held ++ (behind ++ (60 ∷ close))))) in
     let b = length-append before ((60 ∷ tag) ++ (held ++ (behind ++ (60 ∷ close)))) in
@@ -137,44 +158,58 @@ holder_long text before tag held behind close =
     let e = length-append behind (60 ∷ close) in
     omega arith
 
-filler_here : (opened : List Opened) (outer : Level) (text : Text) → level_in opened ≡ outer → IsFiller outer text → IsFiller (level_in opened) text
+filler_here : (opened : List Opened) (outer : Level) (text : Text) → level_in opened ≡ outer → IsFiller outer text →
+    IsFiller (level_in opened) text
 filler_here opened outer text here filler = let P : Level → Type 0 = λ l. IsFiller l text in subst P (sym here) filler
 
-pub goes : (end : ℕ) (x : Content) (outer : Level) (c : Content) (text : Text) (d : Content) → Inside outer c text d → (opened : List Opened) → level_in opened ≡ outer
-    → (rest : Text) (more : ℕ) → read_within more end (state opened d) rest ≡ Ok x → ReadsSo end opened c (text ++ rest) x (more + length text)
+pub goes : (end : ℕ) (x : Content) (outer : Level) (c : Content) (text : Text) (d : Content) → Inside outer c text d →
+    (opened : List Opened) → level_in opened ≡ outer
+    → (rest : Text) (more : ℕ) → read_within more end (state opened d) rest ≡ Ok x
+    → ReadsSo end opened c (text ++ rest) x (more + length text)
 goes end x outer c text d (Bare _ _) opened here rest more reads = record { fuel = more; within = omega arith; reads = reads }
 goes end x outer c text d (Remark _ _ _ front before mark ins may filler is) opened here rest more reads =
     let r = state opened d in
-    let goes_round = round_goes end r before mark rest Comment r (filler_here opened outer before here filler) (λ at. comment_is_read d.done (is_outside opened) end at mark rest is) (λ at. comment_enters at opened d outer here may) in
+    let goes_round =
+    round_goes end r before mark rest Comment r (filler_here opened outer before here filler)
+    (λ at. comment_is_read d.done (is_outside opened) end at mark rest is) (λ at. comment_enters at opened d outer here may) in
     let first = one_round end x r (before ++ ((60 ∷ mark) ++ rest)) r rest more goes_round reads in
     let on = goes end x outer c front d ins opened here (before ++ ((60 ∷ mark) ++ rest)) (suc more) first in
-    moved end opened c (front ++ (before ++ ((60 ∷ mark) ++ rest))) ((front ++ (before ++ (60 ∷ mark))) ++ rest) x (suc more + length front) (more + length (front ++ (before ++ (60 ∷ mark)))) on
+    moved end opened c (front ++ (before ++ ((60 ∷ mark) ++ rest))) ((front ++ (before ++ (60 ∷ mark))) ++ rest) x (suc more + length front)
+    (more + length (front ++ (before ++ (60 ∷ mark)))) on
     (item_seam front before mark rest) (omega (arith, item_long front before mark))
 goes end x outer c text d (Leaf _ inner _ middle e front before tag name pairs ins filler is begins) opened here rest more reads =
     let tagged = spelt_tag end tag name pairs Closes rest is in
     let body : BodyText = record { attrs = tagged.attrs; malformed = None; ending = Closes } in
     let r = state opened middle in
     let next = state opened (element_ended inner e) in
-    let goes_round = round_goes end r before tag rest (Start name body) next (filler_here opened outer before here filler) (λ at. tag_is_read middle.done (is_outside opened) end at tag name pairs Closes rest is tagged)
+    let goes_round =
+    round_goes end r before tag rest (Start name body) next (filler_here opened outer before here filler)
+    (λ at. tag_is_read middle.done (is_outside opened) end at tag name pairs Closes rest is tagged)
     (λ at. tag_enters at opened middle e outer inner name pairs body here refl tagged.same begins) in
     let first = one_round end x r (before ++ ((60 ∷ tag) ++ rest)) next rest more goes_round reads in
     let on = goes end x outer c front middle ins opened here (before ++ ((60 ∷ tag) ++ rest)) (suc more) first in
-    moved end opened c (front ++ (before ++ ((60 ∷ tag) ++ rest))) ((front ++ (before ++ (60 ∷ tag))) ++ rest) x (suc more + length front) (more + length (front ++ (before ++ (60 ∷ tag)))) on
+    moved end opened c (front ++ (before ++ ((60 ∷ tag) ++ rest))) ((front ++ (before ++ (60 ∷ tag))) ++ rest) x (suc more + length front)
+    (more + length (front ++ (before ++ (60 ∷ tag)))) on
     (item_seam front before tag rest) (omega (arith, item_long front before tag))
-goes end x outer c text d (Holder _ inner _ middle e f front before tag held behind close name pairs ins filler is begins held_is filler_behind closes) opened here rest more reads =
+goes end x outer c text d (Holder _ inner _ middle e f front before tag held behind close name pairs ins filler is begins held_is
+    filler_behind closes) opened here rest more reads =
     let deeper : List Opened = record { level = inner; name = name } ∷ opened in
     let last = one_round end x (state deeper f) (behind ++ ((60 ∷ close) ++ rest)) (state opened (element_ended inner f)) rest more
-    (round_goes end (state deeper f) behind close rest (End name) (state opened (element_ended inner f)) filler_behind (λ at. end_is_read f.done end at close name rest closes) (λ at. end_enters at opened inner name f)) reads in
+    (round_goes end (state deeper f) behind close rest (End name) (state opened (element_ended inner f)) filler_behind
+    (λ at. end_is_read f.done end at close name rest closes) (λ at. end_enters at opened inner name f)) reads in
     let tail = held ++ (behind ++ ((60 ∷ close) ++ rest)) in
     let inside = goes end x inner e held f held_is deeper refl (behind ++ ((60 ∷ close) ++ rest)) (suc more) last in
     let tagged = spelt_tag end tag name pairs Opens tail is in
     let body : BodyText = record { attrs = tagged.attrs; malformed = None; ending = Opens } in
     let r = state opened middle in
-    let goes_round = round_goes end r before tag tail (Start name body) (state deeper e) (filler_here opened outer before here filler) (λ at. tag_is_read middle.done (is_outside opened) end at tag name pairs Opens tail is tagged)
+    let goes_round =
+    round_goes end r before tag tail (Start name body) (state deeper e) (filler_here opened outer before here filler)
+    (λ at. tag_is_read middle.done (is_outside opened) end at tag name pairs Opens tail is tagged)
     (λ at. tag_enters at opened middle e outer inner name pairs body here refl tagged.same begins) in
     let first = one_round end x r (before ++ ((60 ∷ tag) ++ tail)) (state deeper e) tail inside.fuel goes_round inside.reads in
     let on = goes end x outer c front middle ins opened here (before ++ ((60 ∷ tag) ++ tail)) (suc inside.fuel) first in
-    moved end opened c (front ++ (before ++ ((60 ∷ tag) ++ tail))) ((front ++ (before ++ ((60 ∷ tag) ++ (held ++ (behind ++ (60 ∷ close)))))) ++ rest) x (suc inside.fuel + length front)
+    moved end opened c (front ++ (before ++ ((60 ∷ tag) ++ tail)))
+    ((front ++ (before ++ ((60 ∷ tag) ++ (held ++ (behind ++ (60 ∷ close)))))) ++ rest) x (suc inside.fuel + length front)
     (more + length (front ++ (before ++ ((60 ∷ tag) ++ (held ++ (behind ++ (60 ∷ close))))))) on
     (holder_seam front before tag held behind close rest) (omega (arith, inside.within, holder_long front before tag held behind close))
 
@@ -185,21 +220,25 @@ unfolding round at_mark
 last_round end c behind blank done =
     let whole : behind ≡ behind ++ [] = sym (append-nil behind) in
     ap (λ b. read_within 1 end (state [] c) b) whole
-    ∙ ap (λ (t : Result Text DocFault). (t >>= λ rest. at_mark end (state [] c) rest) >>= λ y. with_round (λ s rest. read_within 0 end s rest) y) (text_read end level.Top behind [] blank tt)
+    ∙ ap (λ (t : Result Text DocFault). (t >>= λ rest. at_mark end (state [] c) rest) >>= λ y. with_round
+    (λ s rest. read_within 0 end s rest) y) (text_read end level.Top behind [] blank tt)
     ∙ ap (λ t. cond t (Ok (Over c)) (fault end kinds.Truncated) >>= λ y. with_round (λ s rest. read_within 0 end s rest) y) done
 
 -- more rounds change nothing
-pub more_fuel : (end : ℕ) (x : Content) (m n : ℕ) (r : ReadSoFar) (bytes : Text) → m ≤ n → read_within m end r bytes ≡ Ok x → read_within n end r bytes ≡ Ok x
+pub more_fuel : (end : ℕ) (x : Content) (m n : ℕ) (r : ReadSoFar) (bytes : Text) → m ≤ n → read_within m end r bytes ≡ Ok x →
+    read_within n end r bytes ≡ Ok x
 more_fuel end x zero n r bytes fewer e = absurd (cc)
 more_fuel end x (suc m) zero r bytes fewer e = absurd (omega arith)
 more_fuel end x (suc m) (suc n) r bytes fewer e = by (λ s rest h. more_fuel end x m n s rest (omega arith) h) (round end r bytes) e
   where
-    on : ((s : ReadSoFar) (rest : Text) → read_within m end s rest ≡ Ok x → read_within n end s rest ≡ Ok x) → (y : Next) → with_round (λ s rest. read_within m end s rest) y ≡ Ok x
+    on : ((s : ReadSoFar) (rest : Text) → read_within m end s rest ≡ Ok x → read_within n end s rest ≡ Ok x) → (y : Next) →
+        with_round (λ s rest. read_within m end s rest) y ≡ Ok x
         → with_round (λ s rest. read_within n end s rest) y ≡ Ok x
     on again (Over c) h = h
     on again (On s rest) h = again s rest h
 
     by : ((s : ReadSoFar) (rest : Text) → read_within m end s rest ≡ Ok x → read_within n end s rest ≡ Ok x) → (y : Result Next DocFault)
-        → (y >>= λ z. with_round (λ s rest. read_within m end s rest) z) ≡ Ok x → (y >>= λ z. with_round (λ s rest. read_within n end s rest) z) ≡ Ok x
+        → (y >>= λ z. with_round (λ s rest. read_within m end s rest) z) ≡ Ok x
+        → (y >>= λ z. with_round (λ s rest. read_within n end s rest) z) ≡ Ok x
     by again (Ok y) h = on again y h
     by again (Err f) h = absurd (cc)

@@ -1,5 +1,6 @@
 -- An attribute is read as what it spells.
-use Rattle.std.proofs.Common.{◌≡◌, ◌≢◌, ℕ, ◌-◌, Bool, true, false, cond, ◌==◌, List, [], ◌∷◌, ◌++◌, length, Option, None, Some, Ok, Err, refl, sym, ap, ◌∙◌, subst, append_assoc, arith}
+use Rattle.std.proofs.Common.{◌≡◌, ◌≢◌, ℕ, ◌-◌, Bool, true, false, cond, ◌==◌, List, [], ◌∷◌, ◌++◌, length, Option, None, Some, Ok, Err}
+use Rattle.std.proofs.Common.{refl, sym, ap, ◌∙◌, subst, append_assoc, arith}
 use Rattle.std.specs.List.{list_any, take_while}
 use Rattle.std.proofs.lemmas.List.Sums.{take_while-cons}
 use Rattle.std.proofs.lemmas.List.{length-append}
@@ -10,12 +11,14 @@ use Rattle.fs_text.proofs.Cuts.{cut_behind, halved}
 use Rattle.fs_xml.specs.declared.stop.TagStop.TheVariants.{Bad}
 use Rattle.fs_xml.specs.declared.attribute.Ending.TheVariants.{Opens, Closes}
 use Rattle.fs_xml.specs.Bytes.{is_blank, is_quote, is_mark, is_name_byte, begins_name, past, name_of, place}
-use Rattle.fs_xml.specs.Attributes.{Written, TagPart, Has, Ends, Broken, TagParts, tag_end, broken_at, valued_on, valued_at, quoted_at, equals_at, named_at, slash_at, part_on, part_at}
+use Rattle.fs_xml.specs.Attributes.{Written, TagPart, Has, Ends, Broken, TagParts, tag_end, broken_at, valued_on, valued_at, quoted_at}
+use Rattle.fs_xml.specs.Attributes.{equals_at, named_at, slash_at, part_on, part_at}
 use Rattle.fs_xml.proofs.ByteLemmas.{run_past}
 use Rattle.fs_spelling.specs.Tags.{Pair, AreBlank, IsName, IsAttribute}
 use Rattle.fs_spelling.specs.Readings.{pair_of, ReadsAttribute, TakesAttribute}
 use Rattle.fs_spelling.proofs.Binds.{bind_ok}
-use Rattle.fs_spelling.proofs.Runs.{Stops, past_run, the_run, run_passes, name_byte, first_byte, no_mark, quote_stops, gap_stops, name_passes, name_stops}
+use Rattle.fs_spelling.proofs.Runs.{Stops, past_run, the_run, run_passes, name_byte, first_byte, no_mark, quote_stops, gap_stops}
+use Rattle.fs_spelling.proofs.Runs.{name_passes, name_stops}
 
 -- ---- what is spelt is read
 
@@ -24,7 +27,8 @@ abbrev Attribute : (name gap behind : List ℕ) (quote : ℕ) (value rest : List
 Attribute name gap behind quote value rest = name ++ (gap ++ (61 ∷ (behind ++ (quote ∷ (value ++ (quote ∷ rest))))))
 
 seam : (before name gap behind : List ℕ) (quote : ℕ) (value rest : List ℕ)
-    → (before ++ (name ++ (gap ++ (61 ∷ (behind ++ (quote ∷ (value ++ (quote ∷ [])))))))) ++ rest ≡ before ++ Attribute name gap behind quote value rest
+    → (before ++ (name ++ (gap ++ (61 ∷ (behind ++ (quote ∷ (value ++ (quote ∷ [])))))))) ++ rest ≡ before
+    ++ Attribute name gap behind quote value rest
 seam before name gap behind quote value rest = simp append_assoc
 
 equals_stops : (is_name_byte 61 ≡ false) × (is_blank 61 ≡ false)
@@ -47,25 +51,31 @@ name_read end name bytes is =
     subst P (sym is.whole) (part_named end is.first (is.others ++ bytes) is.begins)
 
 -- blanks in front of a part are passed
-part_behind : (end : ℕ) (before bytes : List ℕ) → before ≢ [] → AreBlank before → Stops is_blank bytes → part_at end (before ++ bytes) ≡ part_on end false bytes
+part_behind : (end : ℕ) (before bytes : List ℕ) → before ≢ [] → AreBlank before → Stops is_blank bytes →
+    part_at end (before ++ bytes) ≡ part_on end false bytes
 unfolding part_at
 part_behind end before bytes apart blank stops =
     ap (λ rest. part_on end (length rest == length (before ++ bytes)) rest) (past_run is_blank before bytes blank stops)
     ∙ ap (λ glued. part_on end glued bytes) (not_glued before bytes apart)
 
-quoted_read : (end at : ℕ) (name : List ℕ) (quote : ℕ) (value rest : List ℕ) → is_quote quote ≡ true → halves_of quote (value ++ (quote ∷ rest)) ≡ Some (value, rest)
-    → quoted_at end at name (quote ∷ (value ++ (quote ∷ rest))) ≡ Ok (Has (record { at = at; name = name; value = value; end = place end rest - 1 }), rest)
+quoted_read : (end at : ℕ) (name : List ℕ) (quote : ℕ) (value rest : List ℕ) → is_quote quote ≡ true →
+    halves_of quote (value ++ (quote ∷ rest)) ≡ Some (value, rest)
+    → quoted_at end at name (quote ∷ (value ++ (quote ∷ rest)))
+    ≡ Ok (Has (record { at = at; name = name; value = value; end = place end rest - 1 }), rest)
 unfolding quoted_at valued_at
 quoted_read end at name quote value rest quotes parts = rw quotes (ap (valued_on end at name) parts)
 
-equals_read : (end at : ℕ) (name behind : List ℕ) (quote : ℕ) (value rest : List ℕ) → AreBlank behind → is_quote quote ≡ true → halves_of quote (value ++ (quote ∷ rest)) ≡ Some (value, rest)
-    → equals_at end at name (61 ∷ (behind ++ (quote ∷ (value ++ (quote ∷ rest))))) ≡ Ok (Has (record { at = at; name = name; value = value; end = place end rest - 1 }), rest)
+equals_read : (end at : ℕ) (name behind : List ℕ) (quote : ℕ) (value rest : List ℕ) → AreBlank behind → is_quote quote ≡ true →
+    halves_of quote (value ++ (quote ∷ rest)) ≡ Some (value, rest)
+    → equals_at end at name (61 ∷ (behind ++ (quote ∷ (value ++ (quote ∷ rest)))))
+    ≡ Ok (Has (record { at = at; name = name; value = value; end = place end rest - 1 }), rest)
 unfolding equals_at
 equals_read end at name behind quote value rest blank quotes parts =
     ap (quoted_at end at name) (past_run is_blank behind (quote ∷ (value ++ (quote ∷ rest))) blank (quote_stops quote quotes).0)
     ∙ quoted_read end at name quote value rest quotes parts
 
-named_read : (end : ℕ) (name gap more : List ℕ) → IsName name → AreBlank gap → named_at end (name ++ (gap ++ (61 ∷ more))) ≡ equals_at end (place end (name ++ (gap ++ (61 ∷ more)))) name (61 ∷ more)
+named_read : (end : ℕ) (name gap more : List ℕ) → IsName name → AreBlank gap →
+    named_at end (name ++ (gap ++ (61 ∷ more))) ≡ equals_at end (place end (name ++ (gap ++ (61 ∷ more)))) name (61 ∷ more)
 unfolding named_at
 named_read end name gap more is blank =
     let whole = name ++ (gap ++ (61 ∷ more)) in
@@ -81,14 +91,16 @@ spelt_attribute end bytes rest pair is =
     let more = is.gap_behind ++ (is.quote ∷ (pair.value ++ (is.quote ∷ rest))) in
     let behind = pair.name ++ (is.gap ++ (61 ∷ more)) in
     let at = place end behind in
-    let whole : bytes ++ rest ≡ is.before ++ behind = ap (λ b. b ++ rest) is.whole ∙ seam is.before pair.name is.gap is.gap_behind is.quote pair.value rest in
+    let whole : bytes ++ rest ≡ is.before ++ behind =
+    ap (λ b. b ++ rest) is.whole ∙ seam is.before pair.name is.gap is.gap_behind is.quote pair.value rest in
     record {
       written = record { at = at; name = pair.name; value = pair.value; end = place end rest - 1 };
       read = ap (part_at end) whole
           ∙ part_behind end is.before behind is.apart is.before_blank (name_stops pair.name (is.gap ++ (61 ∷ more)) is.is_name)
           ∙ name_read end pair.name (is.gap ++ (61 ∷ more)) is.is_name
           ∙ named_read end pair.name is.gap more is.is_name is.gap_blank
-          ∙ equals_read end at pair.name is.gap_behind is.quote pair.value rest is.behind_blank is.quotes (cut_behind is.quote pair.value rest is.unbroken);
+          ∙ equals_read end at pair.name is.gap_behind is.quote pair.value rest is.behind_blank is.quotes
+          (cut_behind is.quote pair.value rest is.unbroken);
       same = refl;
     }
 
@@ -119,7 +131,8 @@ pub record Quoted (end at : ℕ) (name text rest : List ℕ) (a : Written) : Typ
   pub unbroken : list_any (is_byte quote) a.value ≡ false
   pub named : a.name ≡ name
 
-valued_taken : (end at : ℕ) (name : List ℕ) (quote : ℕ) (bytes rest : List ℕ) (a : Written) (found : Option (List ℕ × List ℕ)) → halves_of quote bytes ≡ found → is_quote quote ≡ true
+valued_taken : (end at : ℕ) (name : List ℕ) (quote : ℕ) (bytes rest : List ℕ) (a : Written) (found : Option (List ℕ × List ℕ)) →
+    halves_of quote bytes ≡ found → is_quote quote ≡ true
     → valued_on end at name found ≡ was_read (Has a, rest) → Quoted end at name (quote ∷ bytes) rest a
 valued_taken end at name quote bytes rest a None is quotes e = absurd (cc)
 valued_taken end at name quote bytes rest a (Some x) is quotes e =
@@ -138,12 +151,14 @@ valued_taken end at name quote bytes rest a (Some x) is quotes e =
       named = sym (ap (λ (y : Written). y.name) it);
     }
 
-quoted_taken : (end at : ℕ) (name text rest : List ℕ) (a : Written) → quoted_at end at name text ≡ was_read (Has a, rest) → Quoted end at name text rest a
+quoted_taken : (end at : ℕ) (name text rest : List ℕ) (a : Written) → quoted_at end at name text ≡ was_read (Has a, rest) →
+    Quoted end at name text rest a
 unfolding quoted_at valued_at
 quoted_taken end at name [] rest a e = absurd (cc)
 quoted_taken end at name (q ∷ bytes) rest a e = by (is_quote q) refl e
   where
-    by : (t : Bool) → is_quote q ≡ t → cond t (valued_on end at name (halves_of q bytes)) (broken_at at (q ∷ bytes)) ≡ was_read (Has a, rest) → Quoted end at name (q ∷ bytes) rest a
+    by : (t : Bool) → is_quote q ≡ t → cond t (valued_on end at name (halves_of q bytes)) (broken_at at (q ∷ bytes))
+        ≡ was_read (Has a, rest) → Quoted end at name (q ∷ bytes) rest a
     by true quotes h = valued_taken end at name q bytes rest a (halves_of q bytes) refl quotes h
     by false other h = absurd (no_malformed at (q ∷ bytes) rest a h)
 
@@ -155,12 +170,14 @@ pub record Equals (end at : ℕ) (name text rest : List ℕ) (a : Written) : Typ
   pub whole : text ≡ 61 ∷ (gap ++ behind)
   pub quoted : Quoted end at name behind rest a
 
-equals_taken : (end at : ℕ) (name text rest : List ℕ) (a : Written) → equals_at end at name text ≡ was_read (Has a, rest) → Equals end at name text rest a
+equals_taken : (end at : ℕ) (name text rest : List ℕ) (a : Written) → equals_at end at name text ≡ was_read (Has a, rest) →
+    Equals end at name text rest a
 unfolding equals_at
 equals_taken end at name [] rest a e = absurd (cc)
 equals_taken end at name (b ∷ bytes) rest a e = by (b == 61) refl e
   where
-    by : (t : Bool) → (b == 61) ≡ t → cond t (quoted_at end at name (past is_blank bytes)) (broken_at at (b ∷ bytes)) ≡ was_read (Has a, rest) → Equals end at name (b ∷ bytes) rest a
+    by : (t : Bool) → (b == 61) ≡ t → cond t (quoted_at end at name (past is_blank bytes)) (broken_at at (b ∷ bytes))
+        ≡ was_read (Has a, rest) → Equals end at name (b ∷ bytes) rest a
     by true equals h = record {
       gap = take_while is_blank bytes;
       blank = run_passes is_blank bytes;
@@ -188,13 +205,15 @@ no_slash (b ∷ bytes) rest a e = by (b == 62) e
     by true h = let piece : Ends Closes ≡ Has a = no_other (Ends Closes) bytes rest a h in cc
     by false h = cc
 
-part_taken : (end : ℕ) (glued : Bool) (text rest : List ℕ) (a : Written) → part_on end glued text ≡ was_read (Has a, rest) → Named end glued text rest a
+part_taken : (end : ℕ) (glued : Bool) (text rest : List ℕ) (a : Written) → part_on end glued text ≡ was_read (Has a, rest) →
+    Named end glued text rest a
 unfolding part_on
 part_taken end glued [] rest a e = absurd (cc)
 part_taken end glued (b ∷ bytes) rest a e = by (b == 62) (b == 47) (begins_name b) glued refl refl e
   where
     by : (s t u g : Bool) → begins_name b ≡ u → glued ≡ g
-        → cond s (was_read (Ends Opens, bytes)) (cond t (slash_at bytes) (cond u (cond g (broken_at (place end (b ∷ bytes)) (b ∷ bytes)) (named_at end (b ∷ bytes))) (Err Bad))) ≡ was_read (Has a, rest)
+        → cond s (was_read (Ends Opens, bytes)) (cond t (slash_at bytes)
+        (cond u (cond g (broken_at (place end (b ∷ bytes)) (b ∷ bytes)) (named_at end (b ∷ bytes))) (Err Bad))) ≡ was_read (Has a, rest)
         → Named end glued (b ∷ bytes) rest a
     by true t u g begins is h = let piece : Ends Opens ≡ Has a = no_other (Ends Opens) bytes rest a h in absurd (cc)
     by false true u g begins is h = absurd (no_slash bytes rest a h)
@@ -221,7 +240,8 @@ name_is text first others whole begins =
       goes_on = run_passes is_name_byte others;
     }
 
-pub read_attribute : (end : ℕ) (text rest : List ℕ) (a : Written) → part_at end text ≡ Ok (Has a, rest) → TakesAttribute text rest (pair_of a)
+pub read_attribute : (end : ℕ) (text rest : List ℕ) (a : Written) → part_at end text ≡ Ok (Has a, rest) →
+    TakesAttribute text rest (pair_of a)
 unfolding part_at named_at
 read_attribute end text rest a e =
     let before = take_while is_blank text in
@@ -237,7 +257,8 @@ read_attribute end text rest a e =
     let behind_is : behind ≡ tail =
     sym (run_past is_blank behind) ∙ ap (λ r. gap ++ r) (equals.whole ∙ ap (λ r. 61 ∷ (equals.gap ++ r)) quoted.whole) in
     let whole : text ≡ before ++ Attribute a.name gap equals.gap quoted.quote a.value rest =
-    sym (run_past is_blank text) ∙ ap (λ r. before ++ r) (sym (run_past is_name_byte body) ∙ ap (λ r. name ++ r) behind_is ∙ ap (λ n. n ++ tail) (sym quoted.named)) in
+    sym (run_past is_blank text) ∙ ap (λ r. before ++ r)
+    (sym (run_past is_name_byte body) ∙ ap (λ r. name ++ r) behind_is ∙ ap (λ n. n ++ tail) (sym quoted.named)) in
     record {
       bytes = before ++ (a.name ++ (gap ++ (61 ∷ (equals.gap ++ (quoted.quote ∷ (a.value ++ (quoted.quote ∷ [])))))));
       whole = whole ∙ sym (seam before a.name gap equals.gap quoted.quote a.value rest);

@@ -1,5 +1,6 @@
 -- What stands in a tag behind its name is read as what it spells.
-use Rattle.std.proofs.Common.{◌≡◌, ◌≢◌, ℕ, zero, suc, ◌+◌, ◌-◌, ◌<◌, Bool, true, false, cond, ◌==◌, List, [], ◌∷◌, ◌++◌, length, map, Option, None, Some, Result, Ok, Err, refl, sym, ap, ◌∙◌, subst, append_assoc, append-nil, arith}
+use Rattle.std.proofs.Common.{◌≡◌, ◌≢◌, ℕ, zero, suc, ◌+◌, ◌-◌, ◌<◌, Bool, true, false, cond, ◌==◌, List, [], ◌∷◌, ◌++◌, length, map}
+use Rattle.std.proofs.Common.{Option, None, Some, Result, Ok, Err, refl, sym, ap, ◌∙◌, subst, append_assoc, append-nil, arith}
 use Rattle.std.specs.List.{list_all, take_while}
 use Rattle.std.proofs.lemmas.List.{length-append}
 use Rattle.std.proofs.lemmas.Bool.{eqb-true}
@@ -10,7 +11,8 @@ use Rattle.fs_xml.specs.declared.attribute.Ending.{Ending}
 use Rattle.fs_xml.specs.declared.attribute.Ending.TheVariants.{Opens, Closes}
 use Rattle.fs_xml.specs.Results.{◌>>=◌}
 use Rattle.fs_xml.specs.Bytes.{is_blank, is_quote, is_mark, is_name_byte, begins_name, past, place}
-use Rattle.fs_xml.specs.Attributes.{Written, TagPart, Has, Ends, Broken, TagParts, tag_end, broken_at, valued_on, valued_at, quoted_at, equals_at, named_at, slash_at, part_on, part_at}
+use Rattle.fs_xml.specs.Attributes.{Written, TagPart, Has, Ends, Broken, TagParts, tag_end, broken_at, valued_on, valued_at, quoted_at}
+use Rattle.fs_xml.specs.Attributes.{equals_at, named_at, slash_at, part_on, part_at}
 use Rattle.fs_xml.specs.Tags.{BodyText, Step, step_of, Bodies, go_on, body_step, body_within, body_at}
 use Rattle.fs_xml.proofs.ByteLemmas.{run_past}
 use Rattle.fs_spelling.specs.Tags.{Pair, AreBlank, IsAttribute, AreAttributes, NoMore, OneMore, ending_text, IsBody}
@@ -34,7 +36,8 @@ unfolding part_on slash_at
 end_on end glued Opens rest = refl
 end_on end glued Closes rest = refl
 
-end_read : (end : ℕ) (gap : List ℕ) (ending : Ending) (rest : List ℕ) → AreBlank gap → part_at end (gap ++ (ending_text ending ++ rest)) ≡ Ok (Ends ending, rest)
+end_read : (end : ℕ) (gap : List ℕ) (ending : Ending) (rest : List ℕ) → AreBlank gap →
+    part_at end (gap ++ (ending_text ending ++ rest)) ≡ Ok (Ends ending, rest)
 unfolding part_at
 end_read end gap ending rest blank =
     let whole = gap ++ (ending_text ending ++ rest) in
@@ -45,7 +48,8 @@ end_read end gap ending rest blank =
 attribute_long : (bytes : List ℕ) (pair : Pair) → IsAttribute bytes pair → 0 < length bytes
 attribute_long bytes pair is = by is.before is.apart is.whole
   where
-    by : (before : List ℕ) → before ≢ [] → bytes ≡ before ++ (pair.name ++ (is.gap ++ (61 ∷ (is.gap_behind ++ (is.quote ∷ (pair.value ++ (is.quote ∷ []))))))) → 0 < length bytes
+    by : (before : List ℕ) → before ≢ [] → bytes ≡ before
+        ++ (pair.name ++ (is.gap ++ (61 ∷ (is.gap_behind ++ (is.quote ∷ (pair.value ++ (is.quote ∷ []))))))) → 0 < length bytes
     by [] apart whole = absurd (apart refl)
     by (b ∷ before) apart whole = let size = ap length whole in omega (arith, size)
 
@@ -55,7 +59,8 @@ pub record Goes (more end : ℕ) (so_far : List Written) (text : List ℕ) (pair
   pub same : map pair_of attrs ≡ pairs
   pub goes : body_within more end so_far text ≡ Ok (record { attrs = so_far ++ attrs; malformed = None; ending = ending }, rest)
 
-ended_body : (more end : ℕ) (so_far : List Written) (text : List ℕ) (ending : Ending) (rest : List ℕ) → part_at end text ≡ Ok (Ends ending, rest) → Goes (suc more) end so_far text [] ending rest
+ended_body : (more end : ℕ) (so_far : List Written) (text : List ℕ) (ending : Ending) (rest : List ℕ) →
+    part_at end text ≡ Ok (Ends ending, rest) → Goes (suc more) end so_far text [] ending rest
 unfolding body_step
 ended_body more end so_far text ending rest e = record {
   attrs = [];
@@ -64,18 +69,22 @@ ended_body more end so_far text ending rest e = record {
       ∙ ap (λ attrs. Ok (record { attrs = attrs; malformed = None; ending = ending }, rest)) (sym (append-nil so_far));
 }
 
-more_body : (more end : ℕ) (so_far : List Written) (text : List ℕ) (pair : Pair) (pairs : List Pair) (ending : Ending) (middle rest : List ℕ) (a : ReadsAttribute end text middle pair)
+more_body : (more end : ℕ) (so_far : List Written) (text : List ℕ) (pair : Pair) (pairs : List Pair) (ending : Ending)
+    (middle rest : List ℕ) (a : ReadsAttribute end text middle pair)
     → Goes more end (so_far ++ a.written ∷ []) middle pairs ending rest → Goes (suc more) end so_far text (pair ∷ pairs) ending rest
 unfolding body_step
 more_body more end so_far text pair pairs ending middle rest a on = record {
   attrs = a.written ∷ on.attrs;
   same = ap (λ p. p ∷ map pair_of on.attrs) a.same ∙ ap (λ ps. pair ∷ ps) on.same;
   goes = ap (λ (p : TagParts). (p >>= λ x. Ok (step_of so_far x.0, x.1)) >>= λ x. go_on (λ next r. body_within more end next r) x) a.read
-      ∙ on.goes ∙ ap (λ attrs. Ok (record { attrs = attrs; malformed = None; ending = ending }, rest)) (append_assoc so_far (a.written ∷ []) on.attrs);
+      ∙ on.goes ∙ ap (λ attrs. Ok (record { attrs = attrs; malformed = None; ending = ending }, rest))
+      (append_assoc so_far (a.written ∷ []) on.attrs);
 }
 
-spelt_body : (end : ℕ) (gap : List ℕ) (ending : Ending) (rest : List ℕ) → AreBlank gap → (bytes : List ℕ) (pairs : List Pair) → AreAttributes bytes pairs → (more : ℕ) (so_far : List Written)
-    → length (bytes ++ (gap ++ (ending_text ending ++ rest))) < more → Goes more end so_far (bytes ++ (gap ++ (ending_text ending ++ rest))) pairs ending rest
+spelt_body : (end : ℕ) (gap : List ℕ) (ending : Ending) (rest : List ℕ) → AreBlank gap → (bytes : List ℕ) (pairs : List Pair) →
+    AreAttributes bytes pairs → (more : ℕ) (so_far : List Written)
+    → length (bytes ++ (gap ++ (ending_text ending ++ rest))) < more
+    → Goes more end so_far (bytes ++ (gap ++ (ending_text ending ++ rest))) pairs ending rest
 spelt_body end gap ending rest blank bytes pairs are zero so_far enough = absurd (omega arith)
 spelt_body end gap ending rest blank bytes pairs NoMore (suc more) so_far enough =
     ended_body more end so_far (gap ++ (ending_text ending ++ rest)) ending rest (end_read end gap ending rest blank)
@@ -83,13 +92,15 @@ spelt_body end gap ending rest blank bytes pairs (OneMore front others pair more
     let tail = gap ++ (ending_text ending ++ rest) in
     let whole : (front ++ others) ++ tail ≡ front ++ (others ++ tail) = append_assoc front others tail in
     let a = spelt_attribute end front (others ++ tail) pair is in
-    let fewer : length (others ++ tail) < more = omega (arith, attribute_long front pair is, ap length whole, length-append front (others ++ tail), enough) in
+    let fewer : length (others ++ tail) < more =
+    omega (arith, attribute_long front pair is, ap length whole, length-append front (others ++ tail), enough) in
     let on = spelt_body end gap ending rest blank others more_pairs are more (so_far ++ a.written ∷ []) fewer in
     let P : List ℕ → Type 0 = λ text. Goes (suc more) end so_far text (pair ∷ more_pairs) ending rest in
     subst P (sym whole) (more_body more end so_far (front ++ (others ++ tail)) pair more_pairs ending (others ++ tail) rest a on)
 
 -- what follows a name is no byte of it
-pub body_stops : (bytes : List ℕ) (pairs : List Pair) (ending : Ending) (rest : List ℕ) → IsBody bytes pairs ending → Stops is_name_byte (bytes ++ rest)
+pub body_stops : (bytes : List ℕ) (pairs : List Pair) (ending : Ending) (rest : List ℕ) → IsBody bytes pairs ending →
+    Stops is_name_byte (bytes ++ rest)
 body_stops bytes pairs ending rest is =
     let P : List ℕ → Type 0 = λ b. Stops is_name_byte b in
     let whole : bytes ++ rest ≡ is.attributes ++ (is.gap ++ (ending_text ending ++ rest)) =
@@ -107,14 +118,17 @@ body_stops bytes pairs ending rest is =
         let split : front ++ more ≡ a.before ++ (tail ++ more) = ap (λ b. b ++ more) a.whole ∙ append_assoc a.before tail more in
         subst Q (sym split) (blank_first a.before (tail ++ more) a.apart a.before_blank)
 
-    by : (attributes : List ℕ) (ps : List Pair) → AreAttributes attributes ps → Stops is_name_byte (attributes ++ (is.gap ++ (ending_text ending ++ rest)))
+    by : (attributes : List ℕ) (ps : List Pair) → AreAttributes attributes ps →
+        Stops is_name_byte (attributes ++ (is.gap ++ (ending_text ending ++ rest)))
     by attributes ps NoMore = gap_stops is.gap (ending_text ending ++ rest) is.gap_blank (end_stops ending rest).1
     by attributes ps (OneMore front others pair more a are) =
         let Q : List ℕ → Type 0 = λ b. Stops is_name_byte b in
-        subst Q (sym (append_assoc front others (is.gap ++ (ending_text ending ++ rest)))) (attribute_first front (others ++ (is.gap ++ (ending_text ending ++ rest))) pair a)
+        subst Q (sym (append_assoc front others (is.gap ++ (ending_text ending ++ rest))))
+        (attribute_first front (others ++ (is.gap ++ (ending_text ending ++ rest))) pair a)
 
 pub spelt_body_at : (end : ℕ) (bytes rest : List ℕ) (pairs : List Pair) (ending : Ending) → IsBody bytes pairs ending
-    → (attrs : List Written) × (map pair_of attrs ≡ pairs) × (body_at end (bytes ++ rest) ≡ Ok (record { attrs = attrs; malformed = None; ending = ending }, rest))
+    → (attrs : List Written) × (map pair_of attrs ≡ pairs)
+    × (body_at end (bytes ++ rest) ≡ Ok (record { attrs = attrs; malformed = None; ending = ending }, rest))
 unfolding body_at
 spelt_body_at end bytes rest pairs ending is =
     let text = is.attributes ++ (is.gap ++ (ending_text ending ++ rest)) in
@@ -136,7 +150,8 @@ unfolding slash_at
 slash_taken [] rest ending e = absurd (cc)
 slash_taken (b ∷ bytes) rest ending e = by (b == 62) refl e
   where
-    by : (t : Bool) → (b == 62) ≡ t → cond t (was_read (Ends Closes, bytes)) (Err Bad) ≡ was_read (Ends ending, rest) → 47 ∷ (b ∷ bytes) ≡ ending_text ending ++ rest
+    by : (t : Bool) → (b == 62) ≡ t → cond t (was_read (Ends Closes, bytes)) (Err Bad) ≡ was_read (Ends ending, rest) →
+        47 ∷ (b ∷ bytes) ≡ ending_text ending ++ rest
     by true is h =
         let both = same_read (Ends Closes, bytes) (Ends ending, rest) h in
         let piece : Ends Closes ≡ Ends ending = ap (λ (x : TagPart × List ℕ). x.0) both in
@@ -152,7 +167,8 @@ no_end at bytes rest ending e =
     let piece : Broken at ≡ Ends ending = ap (λ (x : TagPart × List ℕ). x.0) (same_read (Broken at, went.0) (Ends ending, rest) went.2) in
     cc
 
-no_value : (end at : ℕ) (name rest : List ℕ) (ending : Ending) (found : Option (List ℕ × List ℕ)) → valued_on end at name found ≡ was_read (Ends ending, rest) → ⊥
+no_value : (end at : ℕ) (name rest : List ℕ) (ending : Ending) (found : Option (List ℕ × List ℕ)) →
+    valued_on end at name found ≡ was_read (Ends ending, rest) → ⊥
 no_value end at name rest ending None e = cc
 no_value end at name rest ending (Some x) e =
     let w : Written = record { at = at; name = name; value = x.0; end = place end x.1 - 1 } in
@@ -177,13 +193,16 @@ no_equals end at name (b ∷ bytes) rest ending e = by (b == 61) e
     by true h = no_quoted end at name (past is_blank bytes) rest ending h
     by false h = no_end at (b ∷ bytes) rest ending h
 
-end_taken_on : (end : ℕ) (glued : Bool) (text rest : List ℕ) (ending : Ending) → part_on end glued text ≡ was_read (Ends ending, rest) → text ≡ ending_text ending ++ rest
+end_taken_on : (end : ℕ) (glued : Bool) (text rest : List ℕ) (ending : Ending) → part_on end glued text ≡ was_read (Ends ending, rest) →
+    text ≡ ending_text ending ++ rest
 unfolding part_on named_at
 end_taken_on end glued [] rest ending e = absurd (cc)
 end_taken_on end glued (b ∷ bytes) rest ending e = by (b == 62) (b == 47) (begins_name b) glued refl refl e
   where
     by : (s t u g : Bool) → (b == 62) ≡ s → (b == 47) ≡ t
-        → cond s (was_read (Ends Opens, bytes)) (cond t (slash_at bytes) (cond u (cond g (broken_at (place end (b ∷ bytes)) (b ∷ bytes)) (named_at end (b ∷ bytes))) (Err Bad))) ≡ was_read (Ends ending, rest)
+        → cond s (was_read (Ends Opens, bytes)) (cond t (slash_at bytes)
+        (cond u (cond g (broken_at (place end (b ∷ bytes)) (b ∷ bytes)) (named_at end (b ∷ bytes))) (Err Bad)))
+        ≡ was_read (Ends ending, rest)
         → b ∷ bytes ≡ ending_text ending ++ rest
     by true t u g is it h =
         let both = same_read (Ends Opens, bytes) (Ends ending, rest) h in
@@ -193,14 +212,18 @@ end_taken_on end glued (b ∷ bytes) rest ending e = by (b == 62) (b == 47) (beg
         ap (λ c. c ∷ bytes) (eqb-true b 62 is) ∙ ap (λ r. ending_text Opens ++ r) after ∙ ap (λ f. ending_text f ++ rest) same
     by false true u g is it h = ap (λ c. c ∷ bytes) (eqb-true b 47 it) ∙ slash_taken bytes rest ending h
     by false false true true is it h = absurd (no_end (place end (b ∷ bytes)) (b ∷ bytes) rest ending h)
-    by false false true false is it h = absurd (no_equals end (place end (b ∷ bytes)) (take_while is_name_byte (b ∷ bytes)) (past is_blank (past is_name_byte (b ∷ bytes))) rest ending h)
+    by false false true false is it h =
+        absurd (no_equals end (place end (b ∷ bytes)) (take_while is_name_byte (b ∷ bytes))
+        (past is_blank (past is_name_byte (b ∷ bytes))) rest ending h)
     by false false false g is it h = absurd (cc)
 
 end_taken : (end : ℕ) (text rest : List ℕ) (ending : Ending) → part_at end text ≡ Ok (Ends ending, rest) → TakesEnd text ending rest
 unfolding part_at
 end_taken end text rest ending e = record {
   gap = take_while is_blank text;
-  whole = sym (run_past is_blank text) ∙ ap (λ r. take_while is_blank text ++ r) (end_taken_on end (length (past is_blank text) == length text) (past is_blank text) rest ending e);
+  whole =
+      sym (run_past is_blank text) ∙ ap (λ r. take_while is_blank text ++ r)
+      (end_taken_on end (length (past is_blank text) == length text) (past is_blank text) rest ending e);
   blank = run_passes is_blank text;
 }
 
@@ -211,7 +234,9 @@ same_done : (x y : BodyText × List ℕ) → done x ≡ done y → x ≡ y
 same_done x y e = cc
 
 ReadsOn : ℕ → ℕ → Type 0
-ReadsOn more end = (so_far : List Written) (text : List ℕ) (body : BodyText) (rest : List ℕ) → body_within more end so_far text ≡ Ok (body, rest) → body.malformed ≡ None → TakesBody so_far text body rest
+ReadsOn more end =
+    (so_far : List Written) (text : List ℕ) (body : BodyText) (rest : List ℕ) → body_within more end so_far text ≡ Ok (body, rest) →
+    body.malformed ≡ None → TakesBody so_far text body rest
 
 abbrev stepped_to : Step × List ℕ → Result (Step × List ℕ) TagStop
 stepped_to x = Ok x
@@ -219,7 +244,8 @@ stepped_to x = Ok x
 same_step : (x y : Step × List ℕ) → stepped_to x ≡ stepped_to y → x ≡ y
 same_step x y e = cc
 
-from_end : (end : ℕ) (so_far : List Written) (text : List ℕ) (ending : Ending) (middle rest : List ℕ) (body : BodyText) → part_at end text ≡ Ok (Ends ending, middle)
+from_end : (end : ℕ) (so_far : List Written) (text : List ℕ) (ending : Ending) (middle rest : List ℕ) (body : BodyText) →
+    part_at end text ≡ Ok (Ends ending, middle)
     → done (record { attrs = so_far; malformed = None; ending = ending }, middle) ≡ done (body, rest) → TakesBody so_far text body rest
 from_end end so_far text ending middle rest body part e =
     let first : BodyText = record { attrs = so_far; malformed = None; ending = ending } in
@@ -236,7 +262,8 @@ from_end end so_far text ending middle rest body part e =
       is = record { attributes = []; gap = taken.gap; whole = refl; are = NoMore; gap_blank = taken.blank };
     })
 
-from_attribute : (end : ℕ) (so_far : List Written) (text : List ℕ) (a : Written) (middle rest : List ℕ) (body : BodyText) → part_at end text ≡ Ok (Has a, middle)
+from_attribute : (end : ℕ) (so_far : List Written) (text : List ℕ) (a : Written) (middle rest : List ℕ) (body : BodyText) →
+    part_at end text ≡ Ok (Has a, middle)
     → TakesBody (so_far ++ a ∷ []) middle body rest → TakesBody so_far text body rest
 from_attribute end so_far text a middle rest body part on =
     let front = read_attribute end text middle a part in
@@ -255,10 +282,13 @@ from_attribute end so_far text a middle rest body part on =
       };
     }
 
-from_piece : (more end : ℕ) (so_far : List Written) (text : List ℕ) (piece : TagPart) (middle rest : List ℕ) (body : BodyText) → ReadsOn more end → part_at end text ≡ Ok (piece, middle)
-    → go_on (λ next r. body_within more end next r) (step_of so_far piece, middle) ≡ Ok (body, rest) → body.malformed ≡ None → TakesBody so_far text body rest
+from_piece : (more end : ℕ) (so_far : List Written) (text : List ℕ) (piece : TagPart) (middle rest : List ℕ) (body : BodyText) →
+    ReadsOn more end → part_at end text ≡ Ok (piece, middle)
+    → go_on (λ next r. body_within more end next r) (step_of so_far piece, middle) ≡ Ok (body, rest) → body.malformed ≡ None
+    → TakesBody so_far text body rest
 unfolding ReadsOn
-from_piece more end so_far text (Has a) middle rest body again part e whole = from_attribute end so_far text a middle rest body part (again (so_far ++ a ∷ []) middle body rest e whole)
+from_piece more end so_far text (Has a) middle rest body again part e whole =
+    from_attribute end so_far text a middle rest body part (again (so_far ++ a ∷ []) middle body rest e whole)
 from_piece more end so_far text (Ends ending) middle rest body again part e whole = from_end end so_far text ending middle rest body part e
 from_piece more end so_far text (Broken at) middle rest body again part e whole =
     let first : BodyText = record { attrs = so_far; malformed = Some at; ending = Opens } in
@@ -271,14 +301,18 @@ taken_body : (more end : ℕ) → ReadsOn more end
 unfolding ReadsOn body_step
 taken_body zero end so_far text body rest e whole = absurd (cc)
 taken_body (suc more) end so_far text body rest e whole =
-    let stepped = bind_ok (part_at end text >>= λ x. Ok (step_of so_far x.0, x.1)) (λ x. go_on (λ next r. body_within more end next r) x) (body, rest) e in
+    let stepped =
+    bind_ok (part_at end text >>= λ x. Ok (step_of so_far x.0, x.1)) (λ x. go_on (λ next r. body_within more end next r) x)
+    (body, rest) e in
     let parted = bind_ok (part_at end text) (λ x. Ok (step_of so_far x.0, x.1)) stepped.0 stepped.1 in
     let piece = parted.0.0 in
     let middle = parted.0.1 in
     let P : Step × List ℕ → Type 0 = λ s. go_on (λ next r. body_within more end next r) s ≡ Ok (body, rest) in
     let same = same_step (step_of so_far piece, middle) stepped.0 parted.2 in
-    from_piece more end so_far text piece middle rest body (λ s t b r h w. taken_body more end s t b r h w) parted.1 (subst P (sym same) stepped.2) whole
+    from_piece more end so_far text piece middle rest body (λ s t b r h w. taken_body more end s t b r h w) parted.1
+    (subst P (sym same) stepped.2) whole
 
-pub taken_body_at : (end : ℕ) (text : List ℕ) (body : BodyText) (rest : List ℕ) → body_at end text ≡ Ok (body, rest) → body.malformed ≡ None → TakesBody [] text body rest
+pub taken_body_at : (end : ℕ) (text : List ℕ) (body : BodyText) (rest : List ℕ) → body_at end text ≡ Ok (body, rest) →
+    body.malformed ≡ None → TakesBody [] text body rest
 unfolding body_at ReadsOn
 taken_body_at end text body rest e whole = taken_body (length text + 1) end [] text body rest e whole

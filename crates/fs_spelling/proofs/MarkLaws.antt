@@ -1,5 +1,6 @@
 -- Comments and tags are read as what they spell.
-use Rattle.std.proofs.Common.{◌≡◌, ℕ, Bool, true, false, cond, ◌&&◌, ◌==◌, nat_eq, List, [], ◌∷◌, ◌++◌, map, drop, Result, Ok, Err, codes, refl, sym, ap, ◌∙◌, subst, append_assoc}
+use Rattle.std.proofs.Common.{◌≡◌, ℕ, Bool, true, false, cond, ◌&&◌, ◌==◌, nat_eq, List, [], ◌∷◌, ◌++◌, map, drop, Result, Ok, Err, codes}
+use Rattle.std.proofs.Common.{refl, sym, ap, ◌∙◌, subst, append_assoc}
 use Rattle.std.specs.List.{take_while, starts_with}
 use Rattle.std.proofs.lemmas.Bool.{eqb-true}
 use Rattle.fs_xml.specs.declared.stop.TagStop.{TagStop}
@@ -9,7 +10,8 @@ use Rattle.fs_xml.specs.Results.{◌>>=◌}
 use Rattle.fs_xml.specs.Bytes.{is_blank, is_quote, is_mark, is_name_byte, begins_name, past, name_of}
 use Rattle.fs_xml.specs.Attributes.{Written}
 use Rattle.fs_xml.specs.Tags.{BodyText, body_at}
-use Rattle.fs_xml.specs.Markup.{Mark, Comment, End, Start, Marks, comment_end, second_dash_at, comment_at, closed_at, end_at, start_at, mark_at}
+use Rattle.fs_xml.specs.Markup.{Mark, Comment, End, Start, Marks, comment_end, second_dash_at, comment_at, closed_at, end_at, start_at}
+use Rattle.fs_xml.specs.Markup.{mark_at}
 use Rattle.fs_xml.proofs.ByteLemmas.{run_past}
 use Rattle.fs_spelling.specs.Tags.{Pair, AreBlank, IsName, IsBody, IsTag, IsEndTag, IsComment}
 use Rattle.fs_spelling.specs.Readings.{pair_of, ReadsTag, Takes, TakesMark}
@@ -41,7 +43,8 @@ two_bytes : (a b : ℕ) → tail_stands (a ∷ (b ∷ [])) ≡ true → ⊥
 two_bytes a b e = and_never_on _ _ e
 
 -- what is read behind a byte where no tail stands
-goes_on : (t : Bool) (b : ℕ) (bytes rest : List ℕ) → (t ≡ true → ⊥) → cond t (Ok (drop 3 (b ∷ bytes))) (comment_end bytes) ≡ Ok rest → comment_end bytes ≡ Ok rest
+goes_on : (t : Bool) (b : ℕ) (bytes rest : List ℕ) → (t ≡ true → ⊥) → cond t (Ok (drop 3 (b ∷ bytes))) (comment_end bytes) ≡ Ok rest →
+    comment_end bytes ≡ Ok rest
 goes_on true b bytes rest never e = absurd (never refl)
 goes_on false b bytes rest never e = e
 
@@ -85,13 +88,15 @@ comment_on : (body rest more : List ℕ) → comment_end body ≡ Ok rest → co
 comment_on [] rest more e = absurd (cc)
 comment_on (b ∷ body) rest more e = by (tail_stands (b ∷ body)) refl e (comment_on body rest more)
   where
-    chosen_rest : (t : Bool) → cond t (rested (drop 3 (b ∷ body))) (comment_end body) ≡ Ok rest → (comment_end body ≡ Ok rest → comment_end (body ++ more) ≡ Ok (rest ++ more))
+    chosen_rest : (t : Bool) → cond t (rested (drop 3 (b ∷ body))) (comment_end body) ≡ Ok rest →
+        (comment_end body ≡ Ok rest → comment_end (body ++ more) ≡ Ok (rest ++ more))
         → cond t (rested (drop 3 (b ∷ body) ++ more)) (comment_end (body ++ more)) ≡ Ok (rest ++ more)
     chosen_rest true h again = ap (λ r. rested (r ++ more)) (same_rest (drop 3 (b ∷ body)) rest h)
     chosen_rest false h again = again h
 
     by : (t : Bool) → tail_stands (b ∷ body) ≡ t → cond t (rested (drop 3 (b ∷ body))) (comment_end body) ≡ Ok rest
-        → (comment_end body ≡ Ok rest → comment_end (body ++ more) ≡ Ok (rest ++ more)) → comment_end (b ∷ (body ++ more)) ≡ Ok (rest ++ more)
+        → (comment_end body ≡ Ok rest → comment_end (body ++ more) ≡ Ok (rest ++ more))
+        → comment_end (b ∷ (body ++ more)) ≡ Ok (rest ++ more)
     by t stands h again =
         let long = ends_late (b ∷ body) rest e in
         let tail : tail_stands (b ∷ (body ++ more)) ≡ t = same_tail (b ∷ body) more long ∙ stands in
@@ -121,8 +126,10 @@ three_taken bytes rest long stands after =
 one_more : (a : ℕ) (text rest : List ℕ) → tail_stands (a ∷ text) ≡ false → TakesBodyOf text rest → TakesBodyOf (a ∷ text) rest
 one_more a text rest none taken =
     let long = ends_late taken.body [] taken.ends in
-    let longer : IsLong (a ∷ taken.body) = record { a = a; b = long.a; c = long.b; more = long.c ∷ long.more; whole = ap (λ b. a ∷ b) long.whole } in
-    let tail : tail_stands (a ∷ taken.body) ≡ false = sym (same_tail (a ∷ taken.body) rest longer) ∙ ap (λ b. tail_stands (a ∷ b)) (sym taken.whole) ∙ none in
+    let longer : IsLong (a ∷ taken.body) =
+    record { a = a; b = long.a; c = long.b; more = long.c ∷ long.more; whole = ap (λ b. a ∷ b) long.whole } in
+    let tail : tail_stands (a ∷ taken.body) ≡ false =
+    sym (same_tail (a ∷ taken.body) rest longer) ∙ ap (λ b. tail_stands (a ∷ b)) (sym taken.whole) ∙ none in
     record {
       body = a ∷ taken.body;
       whole = ap (λ b. a ∷ b) taken.whole;
@@ -133,7 +140,8 @@ comment_taken : (text rest : List ℕ) → comment_end text ≡ Ok rest → Take
 comment_taken [] rest e = absurd (cc)
 comment_taken (a ∷ text) rest e = by (tail_stands (a ∷ text)) refl e (comment_taken text rest)
   where
-    by : (t : Bool) → tail_stands (a ∷ text) ≡ t → cond t (rested (drop 3 (a ∷ text))) (comment_end text) ≡ Ok rest → (comment_end text ≡ Ok rest → TakesBodyOf text rest)
+    by : (t : Bool) → tail_stands (a ∷ text) ≡ t → cond t (rested (drop 3 (a ∷ text))) (comment_end text) ≡ Ok rest →
+        (comment_end text ≡ Ok rest → TakesBodyOf text rest)
         → TakesBodyOf (a ∷ text) rest
     by true stands h again = three_taken (a ∷ text) rest (ends_late (a ∷ text) rest e) stands (same_rest (drop 3 (a ∷ text)) rest h)
     by false stands h again = one_more a text rest stands (again h)
@@ -141,17 +149,21 @@ comment_taken (a ∷ text) rest e = by (tail_stands (a ∷ text)) refl e (commen
 pub spelt_comment : (end : ℕ) (bytes rest : List ℕ) → IsComment bytes → mark_at end (bytes ++ rest) ≡ Ok (Comment, rest)
 unfolding mark_at comment_at second_dash_at
 spelt_comment end bytes rest is =
-    ap (λ b. mark_at end (b ++ rest)) is.whole ∙ ap (λ (r : Rests). r >>= λ behind. Ok (Comment, behind)) (comment_on is.body [] rest is.ends)
+    ap (λ b. mark_at end (b ++ rest)) is.whole
+    ∙ ap (λ (r : Rests). r >>= λ behind. Ok (Comment, behind)) (comment_on is.body [] rest is.ends)
 
 -- ---- end tags
 
-end_begun : (b : ℕ) (bytes : List ℕ) → begins_name b ≡ true → end_at (b ∷ bytes) ≡ closed_at (name_of (b ∷ bytes)) (past is_blank (past is_name_byte (b ∷ bytes)))
+end_begun : (b : ℕ) (bytes : List ℕ) → begins_name b ≡ true →
+    end_at (b ∷ bytes) ≡ closed_at (name_of (b ∷ bytes)) (past is_blank (past is_name_byte (b ∷ bytes)))
 unfolding end_at
 end_begun b bytes begins = rw begins refl
 
-begun_read : (name bytes : List ℕ) → IsName name → end_at (name ++ bytes) ≡ closed_at (name_of (name ++ bytes)) (past is_blank (past is_name_byte (name ++ bytes)))
+begun_read : (name bytes : List ℕ) → IsName name →
+    end_at (name ++ bytes) ≡ closed_at (name_of (name ++ bytes)) (past is_blank (past is_name_byte (name ++ bytes)))
 begun_read name bytes is =
-    let P : List ℕ → Type 0 = λ n. end_at (n ++ bytes) ≡ closed_at (name_of (n ++ bytes)) (past is_blank (past is_name_byte (n ++ bytes))) in
+    let P : List ℕ → Type 0 =
+    λ n. end_at (n ++ bytes) ≡ closed_at (name_of (n ++ bytes)) (past is_blank (past is_name_byte (n ++ bytes))) in
     subst P (sym is.whole) (end_begun is.first (is.others ++ bytes) is.begins)
 
 greater_stops : (is_name_byte 62 ≡ false) × (is_blank 62 ≡ false)
@@ -175,7 +187,8 @@ end_seam name gap rest = simp append_assoc
 pub spelt_end : (end : ℕ) (bytes name rest : List ℕ) → IsEndTag bytes name → mark_at end (bytes ++ rest) ≡ Ok (End name, rest)
 unfolding mark_at
 spelt_end end bytes name rest is =
-    ap (λ b. mark_at end (b ++ rest)) is.whole ∙ ap end_at (end_seam name is.gap rest) ∙ closed_read name is.gap rest is.is_name is.gap_blank
+    ap (λ b. mark_at end (b ++ rest)) is.whole ∙ ap end_at (end_seam name is.gap rest)
+    ∙ closed_read name is.gap rest is.is_name is.gap_blank
 
 -- ---- start tags
 
@@ -193,7 +206,8 @@ start_read end name bytes is =
 abbrev Bodied : Type 0
 Bodied = Result (BodyText × List ℕ) TagStop
 
-pub spelt_tag : (end : ℕ) (bytes name : List ℕ) (pairs : List Pair) (ending : Ending) (rest : List ℕ) → IsTag bytes name pairs ending → ReadsTag end (bytes ++ rest) name pairs ending rest
+pub spelt_tag : (end : ℕ) (bytes name : List ℕ) (pairs : List Pair) (ending : Ending) (rest : List ℕ) → IsTag bytes name pairs ending →
+    ReadsTag end (bytes ++ rest) name pairs ending rest
 unfolding start_at
 spelt_tag end bytes name pairs ending rest is =
     let tail = is.body ++ rest in
@@ -206,7 +220,8 @@ spelt_tag end bytes name pairs ending rest is =
       same = body.1;
       read = ap (mark_at end) whole
           ∙ start_read end name tail is.is_name
-          ∙ ap (λ n. body_at end (past is_name_byte (name ++ tail)) >>= λ x. Ok (Start n x.0, x.1)) (the_run is_name_byte name tail passes stops)
+          ∙ ap (λ n. body_at end (past is_name_byte (name ++ tail)) >>= λ x. Ok (Start n x.0, x.1))
+          (the_run is_name_byte name tail passes stops)
           ∙ ap (λ r. body_at end r >>= λ x. Ok (Start name x.0, x.1)) (past_run is_name_byte name tail passes stops)
           ∙ ap (λ (r : Bodied). r >>= λ x. Ok (Start name x.0, x.1)) body.2;
     }
@@ -229,24 +244,29 @@ dashes_taken (b ∷ []) rest e = by (b == 45) e
     by false h = absurd (cc)
 dashes_taken (b ∷ (c ∷ bytes)) rest e = by (b == 45) (c == 45) refl refl e
   where
-    by : (s t : Bool) → (b == 45) ≡ s → (c == 45) ≡ t → cond s (cond t (comment_end bytes) (Err Bad)) (Err Bad) ≡ rested rest → Takes IsComment (33 ∷ (b ∷ (c ∷ bytes))) rest
+    by : (s t : Bool) → (b == 45) ≡ s → (c == 45) ≡ t → cond s (cond t (comment_end bytes) (Err Bad)) (Err Bad) ≡ rested rest →
+        Takes IsComment (33 ∷ (b ∷ (c ∷ bytes))) rest
     by true true is it h =
         let taken = comment_taken bytes rest h in
         record {
           bytes = 33 ∷ (45 ∷ (45 ∷ taken.body));
-          whole = ap (λ x. 33 ∷ (x ∷ (c ∷ bytes))) (eqb-true b 45 is) ∙ ap (λ x. 33 ∷ (45 ∷ (x ∷ bytes))) (eqb-true c 45 it) ∙ ap (λ r. 33 ∷ (45 ∷ (45 ∷ r))) taken.whole;
+          whole =
+              ap (λ x. 33 ∷ (x ∷ (c ∷ bytes))) (eqb-true b 45 is) ∙ ap (λ x. 33 ∷ (45 ∷ (x ∷ bytes))) (eqb-true c 45 it)
+              ∙ ap (λ r. 33 ∷ (45 ∷ (45 ∷ r))) taken.whole;
           is = record { body = taken.body; whole = refl; ends = taken.ends };
         }
     by true false is it h = absurd (cc)
     by false t is it h = absurd (cc)
 
 -- the name of an end tag, and what stands behind it
-closed_taken : (name text : List ℕ) (mark : Mark) (rest : List ℕ) → closed_at name text ≡ marked (mark, rest) → (End name ≡ mark) × (text ≡ 62 ∷ rest)
+closed_taken : (name text : List ℕ) (mark : Mark) (rest : List ℕ) → closed_at name text ≡ marked (mark, rest) →
+    (End name ≡ mark) × (text ≡ 62 ∷ rest)
 unfolding closed_at
 closed_taken name [] mark rest e = absurd (cc)
 closed_taken name (b ∷ bytes) mark rest e = by (b == 62) refl e
   where
-    by : (t : Bool) → (b == 62) ≡ t → cond t (marked (End name, bytes)) (Err Bad) ≡ marked (mark, rest) → (End name ≡ mark) × (b ∷ bytes ≡ 62 ∷ rest)
+    by : (t : Bool) → (b == 62) ≡ t → cond t (marked (End name, bytes)) (Err Bad) ≡ marked (mark, rest) →
+        (End name ≡ mark) × (b ∷ bytes ≡ 62 ∷ rest)
     by true is h =
         let both = same_mark (End name, bytes) (mark, rest) h in
         let after : bytes ≡ rest = ap (λ (x : Mark × List ℕ). x.1) both in
@@ -258,7 +278,8 @@ unfolding end_at
 end_tag_taken [] mark rest e = absurd (cc)
 end_tag_taken (b ∷ bytes) mark rest e = by (begins_name b) refl e
   where
-    by : (t : Bool) → begins_name b ≡ t → cond t (closed_at (name_of (b ∷ bytes)) (past is_blank (past is_name_byte (b ∷ bytes)))) (Err Bad) ≡ marked (mark, rest) → TakesMark mark (47 ∷ (b ∷ bytes)) rest
+    by : (t : Bool) → begins_name b ≡ t → cond t (closed_at (name_of (b ∷ bytes)) (past is_blank (past is_name_byte (b ∷ bytes)))) (Err Bad)
+        ≡ marked (mark, rest) → TakesMark mark (47 ∷ (b ∷ bytes)) rest
     by true begins h =
         let text = b ∷ bytes in
         let name = name_of text in
@@ -275,7 +296,8 @@ end_tag_taken (b ∷ bytes) mark rest e = by (begins_name b) refl e
         })
     by false begins h = absurd (cc)
 
-start_taken : (end b : ℕ) (bytes : List ℕ) (mark : Mark) (rest : List ℕ) → begins_name b ≡ true → start_at end (b ∷ bytes) ≡ marked (mark, rest) → TakesMark mark (b ∷ bytes) rest
+start_taken : (end b : ℕ) (bytes : List ℕ) (mark : Mark) (rest : List ℕ) → begins_name b ≡ true →
+    start_at end (b ∷ bytes) ≡ marked (mark, rest) → TakesMark mark (b ∷ bytes) rest
 unfolding start_at
 start_taken end b bytes mark rest begins e =
     let text = b ∷ bytes in
@@ -292,7 +314,9 @@ start_taken end b bytes mark rest begins e =
     let Q : List Written → Type 0 = λ ws. IsBody taken.bytes (map pair_of ws) body.ending in
     record {
       bytes = name ++ taken.bytes;
-      whole = sym (run_past is_name_byte text) ∙ ap (λ r. name ++ r) (taken.whole ∙ ap (λ r. taken.bytes ++ r) after) ∙ sym (append_assoc name taken.bytes rest);
+      whole =
+          sym (run_past is_name_byte text) ∙ ap (λ r. name ++ r) (taken.whole ∙ ap (λ r. taken.bytes ++ r) after)
+          ∙ sym (append_assoc name taken.bytes rest);
       is = record { body = taken.bytes; whole = refl; is_name = name_is text b bytes refl begins; is_body = subst Q (sym attrs) taken.is };
     })
 
@@ -302,7 +326,8 @@ taken_mark end [] mark rest e = absurd (cc)
 taken_mark end (b ∷ bytes) mark rest e = by (b == 33) (b == 47) (begins_name b) refl refl refl e
   where
     by : (s t u : Bool) → (b == 33) ≡ s → (b == 47) ≡ t → begins_name b ≡ u
-        → cond s (comment_at bytes >>= λ behind. marked (Comment, behind)) (cond t (end_at bytes) (cond u (start_at end (b ∷ bytes)) (Err Bad))) ≡ marked (mark, rest) → TakesMark mark (b ∷ bytes) rest
+        → cond s (comment_at bytes >>= λ behind. marked (Comment, behind))
+        (cond t (end_at bytes) (cond u (start_at end (b ∷ bytes)) (Err Bad))) ≡ marked (mark, rest) → TakesMark mark (b ∷ bytes) rest
     by true t u is it begins h =
         let went = bind_ok (comment_at bytes) (λ behind. marked (Comment, behind)) (mark, rest) h in
         let both = same_mark (Comment, went.0) (mark, rest) went.2 in

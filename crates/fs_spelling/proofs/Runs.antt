@@ -82,7 +82,8 @@ first_byte b begins = (and_true (is_name_byte b) (not (b == 33 || b == 63)) begi
 
 pub no_declared : (b : ℕ) → begins_name b ≡ true → (b == 33) ≡ false
 unfolding begins_name
-no_declared b begins = (or_parts (b == 33) (b == 63) (not_true (b == 33 || b == 63) (and_true (is_name_byte b) (not (b == 33 || b == 63)) begins).1)).0
+no_declared b begins =
+    (or_parts (b == 33) (b == 63) (not_true (b == 33 || b == 63) (and_true (is_name_byte b) (not (b == 33 || b == 63)) begins).1)).0
 
 -- which marks a byte is not
 pub record IsNoMark (b : ℕ) : Type 0 where

@@ -1,5 +1,6 @@
 -- The text in front of markup is read as what may stand there.
-use Rattle.std.proofs.Common.{◌≡◌, ℕ, suc, Bool, true, false, cond, ◌==◌, [], ◌∷◌, ◌++◌, length, drop, Result, Ok, refl, sym, ap, ◌∙◌, subst}
+use Rattle.std.proofs.Common.{◌≡◌, ℕ, suc, Bool, true, false, cond, ◌==◌, [], ◌∷◌, ◌++◌, length, drop, Result, Ok, refl, sym, ap, ◌∙◌}
+use Rattle.std.proofs.Common.{subst}
 use Rattle.std.specs.List.{position_or_len, list_any, before_first, take_while}
 use Rattle.std.proofs.lemmas.List.{take-append-drop}
 use Rattle.std.proofs.Math.Seq.{drop-append_seam}
@@ -28,7 +29,8 @@ unfolding is_blank
 mark_stops [] begins = tt
 mark_stops (b ∷ bytes) begins = rw begins refl
 
-blank_read : (end : ℕ) (outer : Level) (text rest : Text) → AreBlank text → BeginsMark rest → blank_text end outer (past is_blank (text ++ rest)) ≡ Ok rest
+blank_read : (end : ℕ) (outer : Level) (text rest : Text) → AreBlank text → BeginsMark rest →
+    blank_text end outer (past is_blank (text ++ rest)) ≡ Ok rest
 blank_read end outer text rest blank begins =
     ap (blank_text end outer) (past_run is_blank text rest blank (mark_stops rest begins)) ∙ here rest begins
   where
@@ -48,7 +50,8 @@ any_read text (b ∷ rest) none begins =
     let place_is = first_behind (is_byte 60) text b rest none (ap (λ c. c == 60) begins) in
     ap (λ n. drop n (text ++ (b ∷ rest))) place_is ∙ drop-append_seam text (b ∷ rest)
 
-pub text_read : (end : ℕ) (outer : Level) (text rest : Text) → IsFiller outer text → BeginsMark rest → text_at end outer (text ++ rest) ≡ Ok rest
+pub text_read : (end : ℕ) (outer : Level) (text rest : Text) → IsFiller outer text → BeginsMark rest →
+    text_at end outer (text ++ rest) ≡ Ok rest
 unfolding text_at
 text_read end level.Foreign text rest filler begins = ap Ok (any_read text rest filler begins)
 text_read end level.Top text rest filler begins = blank_read end level.Top text rest filler begins
@@ -86,7 +89,8 @@ mark_taken : (end : ℕ) (outer : Level) (bytes rest : Text) → blank_text end 
 mark_taken end outer [] rest e = (same_text [] rest e, tt)
 mark_taken end outer (b ∷ bytes) rest e = by (b == 60) refl e
   where
-    by : (t : Bool) → (b == 60) ≡ t → cond t (texted (b ∷ bytes)) (fault (place end (b ∷ bytes)) (text_kind outer)) ≡ texted rest → (b ∷ bytes ≡ rest) × (b ≡ 60)
+    by : (t : Bool) → (b == 60) ≡ t → cond t (texted (b ∷ bytes)) (fault (place end (b ∷ bytes)) (text_kind outer)) ≡ texted rest →
+        (b ∷ bytes ≡ rest) × (b ≡ 60)
     by true is h = (same_text (b ∷ bytes) rest h, eqb-true b 60 is)
     by false is h = absurd (cc)
 
@@ -106,7 +110,8 @@ rest_begins (b ∷ bytes) = by (is_byte 60 b) refl (rest_begins bytes)
   where
     by : (t : Bool) → is_byte 60 b ≡ t → BeginsMark (any_text bytes) → BeginsMark (any_text (b ∷ bytes))
     by true passes more =
-        let P : ℕ → Type 0 = λ n. BeginsMark (drop n (b ∷ bytes)) in subst P (sym (place_here (is_byte 60) b bytes passes)) (eqb-true b 60 passes)
+        let P : ℕ → Type 0 =
+        λ n. BeginsMark (drop n (b ∷ bytes)) in subst P (sym (place_here (is_byte 60) b bytes passes)) (eqb-true b 60 passes)
     by false fails more =
         let P : ℕ → Type 0 = λ n. BeginsMark (drop n (b ∷ bytes)) in subst P (sym (place_on (is_byte 60) b bytes fails)) more
 
@@ -120,14 +125,25 @@ text_taken end level.Foreign bytes rest e =
       filler = none_before (is_byte 60) bytes;
       begins = subst BeginsMark after (rest_begins bytes);
     }
-text_taken end level.Top bytes rest e = let t = blank_taken end level.Top bytes rest e in record { text = t.text; whole = t.whole; filler = t.blank; begins = t.begins }
-text_taken end level.Document bytes rest e = let t = blank_taken end level.Document bytes rest e in record { text = t.text; whole = t.whole; filler = t.blank; begins = t.begins }
-text_taken end level.Dialplan bytes rest e = let t = blank_taken end level.Dialplan bytes rest e in record { text = t.text; whole = t.whole; filler = t.blank; begins = t.begins }
-text_taken end level.Configurations bytes rest e = let t = blank_taken end level.Configurations bytes rest e in record { text = t.text; whole = t.whole; filler = t.blank; begins = t.begins }
-text_taken end (level.Configuration f) bytes rest e = let t = blank_taken end (level.Configuration f) bytes rest e in record { text = t.text; whole = t.whole; filler = t.blank; begins = t.begins }
-text_taken end (level.Settings f) bytes rest e = let t = blank_taken end (level.Settings f) bytes rest e in record { text = t.text; whole = t.whole; filler = t.blank; begins = t.begins }
-text_taken end level.Context bytes rest e = let t = blank_taken end level.Context bytes rest e in record { text = t.text; whole = t.whole; filler = t.blank; begins = t.begins }
-text_taken end level.Extension bytes rest e = let t = blank_taken end level.Extension bytes rest e in record { text = t.text; whole = t.whole; filler = t.blank; begins = t.begins }
-text_taken end level.Condition bytes rest e = let t = blank_taken end level.Condition bytes rest e in record { text = t.text; whole = t.whole; filler = t.blank; begins = t.begins }
-text_taken end level.Cases bytes rest e = let t = blank_taken end level.Cases bytes rest e in record { text = t.text; whole = t.whole; filler = t.blank; begins = t.begins }
-text_taken end level.Empty bytes rest e = let t = blank_taken end level.Empty bytes rest e in record { text = t.text; whole = t.whole; filler = t.blank; begins = t.begins }
+text_taken end level.Top bytes rest e =
+    let t = blank_taken end level.Top bytes rest e in record { text = t.text; whole = t.whole; filler = t.blank; begins = t.begins }
+text_taken end level.Document bytes rest e =
+    let t = blank_taken end level.Document bytes rest e in record { text = t.text; whole = t.whole; filler = t.blank; begins = t.begins }
+text_taken end level.Dialplan bytes rest e =
+    let t = blank_taken end level.Dialplan bytes rest e in record { text = t.text; whole = t.whole; filler = t.blank; begins = t.begins }
+text_taken end level.Configurations bytes rest e = let t = blank_taken end level.Configurations bytes rest e in
+    record { text = t.text; whole = t.whole; filler = t.blank; begins = t.begins }
+text_taken end (level.Configuration f) bytes rest e = let t = blank_taken end (level.Configuration f) bytes rest e in
+    record { text = t.text; whole = t.whole; filler = t.blank; begins = t.begins }
+text_taken end (level.Settings f) bytes rest e = let t = blank_taken end (level.Settings f) bytes rest e in
+    record { text = t.text; whole = t.whole; filler = t.blank; begins = t.begins }
+text_taken end level.Context bytes rest e =
+    let t = blank_taken end level.Context bytes rest e in record { text = t.text; whole = t.whole; filler = t.blank; begins = t.begins }
+text_taken end level.Extension bytes rest e =
+    let t = blank_taken end level.Extension bytes rest e in record { text = t.text; whole = t.whole; filler = t.blank; begins = t.begins }
+text_taken end level.Condition bytes rest e =
+    let t = blank_taken end level.Condition bytes rest e in record { text = t.text; whole = t.whole; filler = t.blank; begins = t.begins }
+text_taken end level.Cases bytes rest e =
+    let t = blank_taken end level.Cases bytes rest e in record { text = t.text; whole = t.whole; filler = t.blank; begins = t.begins }
+text_taken end level.Empty bytes rest e =
+    let t = blank_taken end level.Empty bytes rest e in record { text = t.text; whole = t.whole; filler = t.blank; begins = t.begins }

@@ -1,5 +1,7 @@
 -- What a value says is what is read of it, and what is read of it is what it says.
-use Rattle.std.proofs.Common.{◌≡◌, ℕ, zero, suc, ◌+◌, take, drop, ◌<◌, Bool, true, false, cond, ◌||◌, ◌⊎◌, inl, inr, ◌==◌, List, [], ◌∷◌, ◌++◌, length, Option, None, Some, Ok, Err, refl, sym, ap, ◌∙◌, subst, append_assoc, append-nil, encode_utf8, arith, length-append}
+use Rattle.std.proofs.Common.{◌≡◌, ℕ, zero, suc, ◌+◌, take, drop, ◌<◌, Bool, true, false, cond, ◌||◌, ◌⊎◌, inl, inr, ◌==◌, List, [], ◌∷◌}
+use Rattle.std.proofs.Common.{◌++◌, length, Option, None, Some, Ok, Err, refl, sym, ap, ◌∙◌, subst, append_assoc, append-nil, encode_utf8}
+use Rattle.std.proofs.Common.{arith, length-append}
 use Rattle.std.specs.List.{position_or_len, list_any}
 use Rattle.std.proofs.lemmas.Bool.{eqb-true}
 use Rattle.fs_text.specs.Words.{is_byte, halves_of}
@@ -7,7 +9,8 @@ use Rattle.fs_text.proofs.Cuts.{cut_behind, halved}
 use Rattle.fs_xml.specs.declared.stop.ValueFault.TheVariants.{Raw}
 use Rattle.fs_xml.specs.Results.{◌>>=◌}
 use Rattle.fs_xml.specs.Bytes.{place}
-use Rattle.fs_xml.specs.Entities.{entity, is_special, Decoded, character_added, entity_on, entity_at, special_at, value_step, Values, value_on, value_within, value_text}
+use Rattle.fs_xml.specs.Entities.{entity, is_special, Decoded, character_added, entity_on, entity_at, special_at, value_step, Values}
+use Rattle.fs_xml.specs.Entities.{value_on, value_within, value_text}
 use Rattle.fs_spelling.specs.Values.{SpellsValue, Nothing, Plain, Mark, Entity}
 
 -- ---- one step
@@ -56,7 +59,8 @@ pub spelt_value : (raw : Bool) (value text : List ℕ) → SpellsValue raw value
     → value_within more raw end so_far value ≡ Ok (so_far ++ text)
 unfolding special_at
 spelt_value raw value text spelt zero end so_far enough = absurd (omega arith)
-spelt_value raw value text (Nothing _) (suc more) end so_far enough = followed more raw end so_far [] (Ok (so_far ++ [], None)) (last_step raw end so_far)
+spelt_value raw value text (Nothing _) (suc more) end so_far enough =
+    followed more raw end so_far [] (Ok (so_far ++ [], None)) (last_step raw end so_far)
 spelt_value raw value text (Plain _ b rest more_text plain spelt) (suc more) end so_far enough =
     followed more raw end so_far (b ∷ rest) (value_step raw end (so_far ++ b ∷ []) rest) (plain_step raw end so_far b rest plain)
     ∙ spelt_value raw rest more_text spelt (suc more) end (so_far ++ b ∷ []) (omega arith)
@@ -66,7 +70,8 @@ spelt_value raw value text (Mark rest more_text spelt) (suc more) end so_far eno
     ∙ spelt_value true rest more_text spelt more end (so_far ++ 60 ∷ []) (omega arith)
     ∙ ap Ok (append_assoc so_far (60 ∷ []) more_text)
 spelt_value raw value text (Entity _ name rest more_text c plain is spelt) (suc more) end so_far enough =
-    followed more raw end so_far (38 ∷ (name ++ (59 ∷ rest))) (Ok (so_far ++ encode_utf8 c, Some rest)) (entity_step raw end so_far name rest c plain is)
+    followed more raw end so_far (38 ∷ (name ++ (59 ∷ rest))) (Ok (so_far ++ encode_utf8 c, Some rest))
+    (entity_step raw end so_far name rest c plain is)
     ∙ spelt_value raw rest more_text spelt more end (so_far ++ encode_utf8 c) (omega (arith, length-append name (59 ∷ rest)))
     ∙ ap Ok (append_assoc so_far (encode_utf8 c) more_text)
 
@@ -89,7 +94,8 @@ record Said (raw : Bool) (so_far value whole : List ℕ) : Type 0 where
 Reads : ℕ → Bool → ℕ → List ℕ → Type 0
 Reads more raw end value = (so_far whole : List ℕ) → value_within more raw end so_far value ≡ Ok whole → Said raw so_far value whole
 
-said_plain : (raw : Bool) (so_far : List ℕ) (b : ℕ) (value whole : List ℕ) → is_special b ≡ false → Said raw (so_far ++ b ∷ []) value whole → Said raw so_far (b ∷ value) whole
+said_plain : (raw : Bool) (so_far : List ℕ) (b : ℕ) (value whole : List ℕ) → is_special b ≡ false →
+    Said raw (so_far ++ b ∷ []) value whole → Said raw so_far (b ∷ value) whole
 said_plain raw so_far b value whole plain said = record {
   text = b ∷ said.text;
   whole_is = said.whole_is ∙ append_assoc so_far (b ∷ []) said.text;
@@ -115,15 +121,20 @@ abbrev Onward : ℕ → Bool → ℕ → Decoded → Values
 Onward more raw end step = step >>= λ x. value_on (λ next rest. value_within more raw end next rest) x
 
 -- an `&` that is read is an entity
-from_character : (more : ℕ) (raw : Bool) (end : ℕ) (so_far name value whole : List ℕ) (found : Option ℕ) → entity name ≡ found → list_any (is_byte 59) name ≡ false
-    → ((rest : List ℕ) → Reads more raw end rest) → Onward more raw end (character_added so_far (place end (38 ∷ (name ++ (59 ∷ value)))) found value) ≡ Ok whole → Said raw so_far (38 ∷ (name ++ (59 ∷ value))) whole
+from_character : (more : ℕ) (raw : Bool) (end : ℕ) (so_far name value whole : List ℕ) (found : Option ℕ) → entity name ≡ found →
+    list_any (is_byte 59) name ≡ false
+    → ((rest : List ℕ) → Reads more raw end rest)
+    → Onward more raw end (character_added so_far (place end (38 ∷ (name ++ (59 ∷ value)))) found value) ≡ Ok whole
+    → Said raw so_far (38 ∷ (name ++ (59 ∷ value))) whole
 unfolding Reads
 from_character more raw end so_far name value whole None is plain again e = absurd (cc)
 from_character more raw end so_far name value whole (Some c) is plain again e =
     said_entity raw so_far name value whole c plain is (again value (so_far ++ encode_utf8 c) whole e)
 
-from_halves : (more : ℕ) (raw : Bool) (end : ℕ) (so_far value whole : List ℕ) (found : Option (List ℕ × List ℕ)) → halves_of 59 value ≡ found
-    → ((rest : List ℕ) → Reads more raw end rest) → Onward more raw end (entity_on so_far (place end (38 ∷ value)) found) ≡ Ok whole → Said raw so_far (38 ∷ value) whole
+from_halves : (more : ℕ) (raw : Bool) (end : ℕ) (so_far value whole : List ℕ) (found : Option (List ℕ × List ℕ)) →
+    halves_of 59 value ≡ found
+    → ((rest : List ℕ) → Reads more raw end rest) → Onward more raw end (entity_on so_far (place end (38 ∷ value)) found) ≡ Ok whole
+    → Said raw so_far (38 ∷ value) whole
 from_halves more raw end so_far value whole None is again e = absurd (cc)
 from_halves more raw end so_far value whole (Some x) is again e =
     let parts = halved 59 value x.0 x.1 is in
@@ -131,12 +142,14 @@ from_halves more raw end so_far value whole (Some x) is again e =
     let Q : List ℕ → Type 0 = λ v. Said raw so_far (38 ∷ v) whole in
     subst Q (sym parts.1) (from_character more raw end so_far x.0 x.1 whole (entity x.0) refl parts.0 again (subst P parts.1 e))
 
-from_special : (more : ℕ) (raw : Bool) (end : ℕ) (so_far : List ℕ) (b : ℕ) (value whole : List ℕ) → is_special b ≡ true → ((rest : List ℕ) → Reads more raw end rest)
+from_special : (more : ℕ) (raw : Bool) (end : ℕ) (so_far : List ℕ) (b : ℕ) (value whole : List ℕ) → is_special b ≡ true →
+    ((rest : List ℕ) → Reads more raw end rest)
     → Onward more raw end (special_at raw end so_far (b ∷ value)) ≡ Ok whole → Said raw so_far (b ∷ value) whole
 unfolding special_at entity_at Reads
 from_special more raw end so_far b value whole special again e = by (specials b special)
   where
-    by_mark : (r : Bool) → ((rest : List ℕ) → Reads more r end rest) → Onward more r end (cond r (Ok (so_far ++ 60 ∷ [], Some value)) (Err Raw)) ≡ Ok whole → Said r so_far (60 ∷ value) whole
+    by_mark : (r : Bool) → ((rest : List ℕ) → Reads more r end rest) →
+        Onward more r end (cond r (Ok (so_far ++ 60 ∷ [], Some value)) (Err Raw)) ≡ Ok whole → Said r so_far (60 ∷ value) whole
     by_mark true again e = said_mark so_far value whole (again value (so_far ++ 60 ∷ []) whole e)
     by_mark false again e = absurd (cc)
 
@@ -151,21 +164,27 @@ from_special more raw end so_far b value whole special again e = by (specials b 
         subst Q (sym is) (by_mark raw again (subst P is e))
 
 -- bytes up to the first special one, and that
-said_on : (more : ℕ) (raw : Bool) (end : ℕ) → ((rest : List ℕ) → Reads more raw end rest) → (value : List ℕ) → Reads (suc more) raw end value
+said_on : (more : ℕ) (raw : Bool) (end : ℕ) → ((rest : List ℕ) → Reads more raw end rest) → (value : List ℕ) →
+    Reads (suc more) raw end value
 unfolding Reads
 said_on more raw end again [] so_far whole e =
-    let is : Ok (so_far ++ []) ≡ Ok whole = sym (followed more raw end so_far [] (Ok (so_far ++ [], None)) (last_step raw end so_far)) ∙ e in
+    let is : Ok (so_far ++ []) ≡ Ok whole =
+    sym (followed more raw end so_far [] (Ok (so_far ++ [], None)) (last_step raw end so_far)) ∙ e in
     let same : so_far ++ [] ≡ whole = cc in
     record { text = []; whole_is = sym same; spelt = Nothing raw }
-said_on more raw end again (b ∷ value) so_far whole e = by (is_special b) refl (λ more_so_far h. said_on more raw end again value more_so_far whole h)
+said_on more raw end again (b ∷ value) so_far whole e =
+    by (is_special b) refl (λ more_so_far h. said_on more raw end again value more_so_far whole h)
   where
-    by : (t : Bool) → is_special b ≡ t → ((next : List ℕ) → value_within (suc more) raw end next value ≡ Ok whole → Said raw next value whole) → Said raw so_far (b ∷ value) whole
+    by : (t : Bool) → is_special b ≡ t → ((next : List ℕ) → value_within (suc more) raw end next value ≡ Ok whole →
+        Said raw next value whole) → Said raw so_far (b ∷ value) whole
     by false plain on =
         said_plain raw so_far b value whole plain
-        (on (so_far ++ b ∷ []) (sym (followed more raw end so_far (b ∷ value) (value_step raw end (so_far ++ b ∷ []) value) (plain_step raw end so_far b value plain)) ∙ e))
+        (on (so_far ++ b ∷ []) (sym (followed more raw end so_far (b ∷ value) (value_step raw end (so_far ++ b ∷ []) value)
+        (plain_step raw end so_far b value plain)) ∙ e))
     by true special on =
         from_special more raw end so_far b value whole special again
-        (sym (followed more raw end so_far (b ∷ value) (special_at raw end so_far (b ∷ value)) (special_step raw end so_far b value special)) ∙ e)
+        (sym (followed more raw end so_far (b ∷ value) (special_at raw end so_far (b ∷ value))
+        (special_step raw end so_far b value special)) ∙ e)
 
 said_value : (more : ℕ) (raw : Bool) (end : ℕ) (value : List ℕ) → Reads more raw end value
 unfolding Reads

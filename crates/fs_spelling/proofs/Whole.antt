@@ -1,5 +1,6 @@
 -- The bytes of a document are read as what they spell, and what is read of them is spelt.
-use Rattle.std.proofs.Common.{◌≡◌, ℕ, ◌+◌, ◌≤◌, Bool, true, false, cond, ◌==◌, [], ◌∷◌, ◌++◌, length, Result, Ok, refl, sym, ap, ◌∙◌, ◌⊎◌, inl, inr, subst, append-nil, nat_lt, arith}
+use Rattle.std.proofs.Common.{◌≡◌, ℕ, ◌+◌, ◌≤◌, Bool, true, false, cond, ◌==◌, [], ◌∷◌, ◌++◌, length, Result, Ok, refl, sym, ap, ◌∙◌, ◌⊎◌}
+use Rattle.std.proofs.Common.{inl, inr, subst, append-nil, nat_lt, arith}
 use Rattle.std.specs.List.{take_while}
 use Rattle.std.proofs.lemmas.List.{length-append}
 use Rattle.std.proofs.lemmas.Bool.Decides.{nat_tests}
@@ -60,7 +61,8 @@ past_blank : (bytes : Text) → (length (past is_blank bytes) == 0) ≡ true →
 past_blank bytes none =
     let P : Text → Type 0 = λ b. AreBlank b in
     let short : past is_blank bytes ≡ [] = is_nothing (past is_blank bytes) none in
-    let whole : take_while is_blank bytes ≡ bytes = sym (append-nil (take_while is_blank bytes)) ∙ ap (λ r. take_while is_blank bytes ++ r) (sym short) ∙ run_past is_blank bytes in
+    let whole : take_while is_blank bytes ≡ bytes =
+    sym (append-nil (take_while is_blank bytes)) ∙ ap (λ r. take_while is_blank bytes ++ r) (sym short) ∙ run_past is_blank bytes in
     subst P whole (run_passes is_blank bytes)
   where
     longer : (x : ℕ) (b : Text) → (length (x ∷ b) == 0) ≡ true → ⊥
@@ -94,15 +96,18 @@ small_tested bytes small = grind (arith, nat_tests)
 pub spelt_is_read : (bytes : Text) (c : Configuration) → Spells bytes c → config_of bytes ≡ Ok c
 unfolding config_of
 spelt_is_read bytes c is =
-    ap (λ t. cond t (fault 1048576 kinds.TooLarge) (Configured (cond (length (past is_blank bytes) == 0) (contents new_content) (content_of bytes)))) (small_tested bytes is.small)
+    ap (λ t. cond t (fault 1048576 kinds.TooLarge)
+    (Configured (cond (length (past is_blank bytes) == 0) (contents new_content) (content_of bytes)))) (small_tested bytes is.small)
     ∙ by is.content is.document ∙ ap Ok (sym is.says)
   where
     by : (content : Content) → (AreBlank bytes × (content ≡ new_content)) ⊎ ((AreBlank bytes → ⊥) × IsDocument bytes content)
         → Configured (cond (length (past is_blank bytes) == 0) (contents new_content) (content_of bytes)) ≡ Ok (configured content)
     by content (inl blank) =
-        ap (λ t. Configured (cond t (contents new_content) (content_of bytes))) (blank_tested bytes blank.0) ∙ ap (λ d. Configured (contents d)) (sym blank.1)
+        ap (λ t. Configured (cond t (contents new_content) (content_of bytes))) (blank_tested bytes blank.0)
+        ∙ ap (λ d. Configured (contents d)) (sym blank.1)
     by content (inr document) =
-        ap (λ t. Configured (cond t (contents new_content) (content_of bytes))) (not_blank_tested bytes document.0) ∙ ap Configured (document_read bytes content document.1)
+        ap (λ t. Configured (cond t (contents new_content) (content_of bytes))) (not_blank_tested bytes document.0)
+        ∙ ap Configured (document_read bytes content document.1)
 
 abbrev told : Configuration → Result Configuration DocFault
 told c = Ok c
@@ -123,13 +128,28 @@ read_is_spelt bytes c e = by (nat_lt 1048576 (length bytes)) refl e
     no_blank : AreBlank bytes → (length (past is_blank bytes) == 0) ≡ false → ⊥
     no_blank blank other = let both : true ≡ false = sym (blank_tested bytes blank) ∙ other in cc
 
-    spelt : length bytes ≤ 1048576 → (t : Bool) → (length (past is_blank bytes) == 0) ≡ t → (content : Content) → cond t (contents new_content) (content_of bytes) ≡ Ok content → configured content ≡ c → Spells bytes c
-    spelt small true blank content k says = record { content = content; small = small; document = inl (past_blank bytes blank, sym (same_contents new_content content k)); says = sym says }
+    spelt : length bytes ≤ 1048576 → (t : Bool) → (length (past is_blank bytes) == 0) ≡ t → (content : Content) →
+        cond t (contents new_content) (content_of bytes) ≡ Ok content → configured content ≡ c → Spells bytes c
+    spelt small true blank content k says =
+        record {
+          content = content;
+          small = small;
+          document = inl (past_blank bytes blank, sym (same_contents new_content content k));
+          says = sym says;
+        }
     spelt small false other content k says =
-        record { content = content; small = small; document = inr (λ blank. no_blank blank other, document_found bytes content k); says = sym says }
+        record {
+          content = content;
+          small = small;
+          document = inr (λ blank. no_blank blank other, document_found bytes content k);
+          says = sym says;
+        }
 
-    by : (t : Bool) → nat_lt 1048576 (length bytes) ≡ t → cond t (fault 1048576 kinds.TooLarge) (Configured (cond (length (past is_blank bytes) == 0) (contents new_content) (content_of bytes))) ≡ told c → Spells bytes c
+    by : (t : Bool) → nat_lt 1048576 (length bytes) ≡ t →
+        cond t (fault 1048576 kinds.TooLarge) (Configured
+        (cond (length (past is_blank bytes) == 0) (contents new_content) (content_of bytes))) ≡ told c → Spells bytes c
     by true large k = absurd (cc)
     by false small k =
-        let went = bind_ok (cond (length (past is_blank bytes) == 0) (contents new_content) (content_of bytes)) (λ d. told (configured d)) c k in
+        let went =
+        bind_ok (cond (length (past is_blank bytes) == 0) (contents new_content) (content_of bytes)) (λ d. told (configured d)) c k in
         spelt (large_tested bytes small) (length (past is_blank bytes) == 0) refl went.0 went.1 (same_told (configured went.0) c went.2)

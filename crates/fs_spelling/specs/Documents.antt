@@ -35,7 +35,8 @@ text_with_globals e decoded = if is_foreign e.kind then decoded else replaced e.
 -- the attributes say these texts behind those before: no name stands twice, and nothing is wrong with a text
 pub data Say : (e : Tagged) (before : Pairs) (pairs : List Pair) (texts : Pairs) → Type 0 where
   SayNoMore : (e : Tagged) (before : Pairs) → Say e before [] before
-  SayOneMore : (e : Tagged) (before : Pairs) (pair : Pair) (pairs : List Pair) (decoded : Text) (texts : Pairs) → has before pair.name ≡ false → is_timed e.kind pair.name ≡ false
+  SayOneMore : (e : Tagged) (before : Pairs) (pair : Pair) (pairs : List Pair) (decoded : Text) (texts : Pairs)
+      → has before pair.name ≡ false → is_timed e.kind pair.name ≡ false
       → SpellsValue (is_foreign e.kind) pair.value decoded → value_fault e pair.name (text_with_globals e decoded) ≡ None
       → Say e (before ++ (pair.name, text_with_globals e decoded) ∷ []) pairs texts → Say e before (pair ∷ pairs) texts
 
@@ -60,11 +61,13 @@ IsFiller _ text = AreBlank text
 -- an empty element, or an element with its inside and its end tag
 pub data Inside : (outer : Level) (c : Content) (text : Text) (d : Content) → Type 0 where
   Bare : (outer : Level) (c : Content) → Inside outer c [] c
-  Remark : (outer : Level) (c d : Content) (text before mark : Text) → Inside outer c text d → is_empty_level outer ≡ false → IsFiller outer before → IsComment mark
-      → Inside outer c (text ++ (before ++ (60 ∷ mark))) d
-  Leaf : (outer inner : Level) (c d e : Content) (text before tag name : Text) (pairs : List Pair) → Inside outer c text d → IsFiller outer before → IsTag tag name pairs Closes
+  Remark : (outer : Level) (c d : Content) (text before mark : Text) → Inside outer c text d → is_empty_level outer ≡ false
+      → IsFiller outer before → IsComment mark → Inside outer c (text ++ (before ++ (60 ∷ mark))) d
+  Leaf : (outer inner : Level) (c d e : Content) (text before tag name : Text) (pairs : List Pair) → Inside outer c text d
+      → IsFiller outer before → IsTag tag name pairs Closes
       → Begins outer d name pairs inner e → Inside outer c (text ++ (before ++ (60 ∷ tag))) (element_ended inner e)
-  Holder : (outer inner : Level) (c d e f : Content) (text before tag held behind close name : Text) (pairs : List Pair) → Inside outer c text d → IsFiller outer before
+  Holder : (outer inner : Level) (c d e f : Content) (text before tag held behind close name : Text) (pairs : List Pair)
+      → Inside outer c text d → IsFiller outer before
       → IsTag tag name pairs Opens → Begins outer d name pairs inner e → Inside inner e held f → IsFiller inner behind → IsEndTag close name
       → Inside outer c (text ++ (before ++ ((60 ∷ tag) ++ (held ++ (behind ++ (60 ∷ close)))))) (element_ended inner f)
 

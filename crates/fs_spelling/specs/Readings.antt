@@ -46,4 +46,5 @@ pub record Takes (Is : List ℕ → Type 0) (text rest : List ℕ) : Type 0 wher
 abbrev pub TakesMark : Mark → List ℕ → List ℕ → Type 0
 TakesMark Comment text rest = Takes IsComment text rest
 TakesMark (End name) text rest = Takes (λ bytes. IsEndTag bytes name) text rest
-TakesMark (Start name body) text rest = body.malformed ≡ None → Takes (λ bytes. IsTag bytes name (map pair_of body.attrs) body.ending) text rest
+TakesMark (Start name body) text rest =
+    body.malformed ≡ None → Takes (λ bytes. IsTag bytes name (map pair_of body.attrs) body.ending) text rest

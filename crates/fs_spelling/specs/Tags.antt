@@ -41,7 +41,8 @@ pub record IsAttribute (bytes : List ℕ) (pair : Pair) : Type 0 where
 -- attributes, one after another
 pub data AreAttributes : List ℕ → List Pair → Type 0 where
   NoMore : AreAttributes [] []
-  OneMore : (front rest : List ℕ) (pair : Pair) (pairs : List Pair) → IsAttribute front pair → AreAttributes rest pairs → AreAttributes (front ++ rest) (pair ∷ pairs)
+  OneMore : (front rest : List ℕ) (pair : Pair) (pairs : List Pair) → IsAttribute front pair → AreAttributes rest pairs
+      → AreAttributes (front ++ rest) (pair ∷ pairs)
 
 abbrev pub ending_text : Ending → List ℕ
 ending_text Opens = codes ">"

@@ -20,7 +20,7 @@ use crate::switch::Core;
 use fs_chan::Chan;
 use fs_doc::Config;
 use fs_orig::Orig;
-use fs_places::{Numbered, Overlay};
+use fs_places::{Numbered, Overlay, Rows, Table};
 use fs_text::{Memory, Txt};
 use fs_vars::Vars;
 use std::alloc::Global;

@@ -5,7 +5,7 @@ ghost use Rattle.fs_state.specs.Queues as spec;
 
 use crate::conn::Conn;
 use crate::gift::{Gift, Gifts};
-use fs_places::{Numbered, Places};
+use fs_places::{Numbered, Places, Rows};
 use fs_text::{Memory, Txt};
 use std::alloc::Global;
 use std::collections::LinkedList;

@@ -15,7 +15,7 @@ use crate::queues::Queues;
 use fs_chan::Chan;
 use fs_doc::Config;
 use fs_orig::Orig;
-use fs_places::{Numbered, Places};
+use fs_places::{Numbered, Places, Rows, Table};
 use fs_text::Memory;
 use fs_vars::Vars;
 use std::alloc::Global;

@@ -1,5 +1,6 @@
 -- What a run does where its words and its file are in order and no count rises.
-use Rattle.std.proofs.Common.{◌≡◌, ◌≢◌, ℕ, Bool, true, false, List, ◌∷◌, ◌++◌, length, All, Option, None, Some, Result, Ok, Err, ◌⊎◌, refl, sym, ap, ◌∙◌, subst, inl, inr, arith}
+use Rattle.std.proofs.Common.{◌≡◌, ◌≢◌, ℕ, Bool, true, false, List, ◌∷◌, ◌++◌, length, All, Option, None, Some, Result, Ok, Err, ◌⊎◌, refl}
+use Rattle.std.proofs.Common.{sym, ap, ◌∙◌, subst, inl, inr, arith}
 use Rattle.std.proofs.lemmas.List.{length-append}
 use Rattle.std.proofs.Math.Seq.{get_or-append_seam}
 use Rattle.std.proofs.lemmas.List.Elements.{All-get_or}
@@ -15,12 +16,14 @@ use Rattle.fs_plan.specs.declared.fault.PlanFault.{PlanFault}
 use Rattle.fs_plan.specs.declared.fault.PlanFault.TheVariants.{PatternRefused, PatternTooLarge, Memory}
 use Rattle.fs_conn.specs.Turns.{HasRead}
 use Rattle.fs_top.specs.Told.{Told, Asked, file_asked, told_words, told_read, told_asked}
-use Rattle.fs_top.specs.Runs.{CarriesOut, completes, fails_to_write, lacks_memory, fails_for_memory, Completes, BreaksForMemory, RefusesPattern, IsBuilt, Ran, HasReadings, IsGiven, NoneRose, DoesAll}
+use Rattle.fs_top.specs.Runs.{CarriesOut, completes, fails_to_write, lacks_memory, fails_for_memory, Completes, BreaksForMemory}
+use Rattle.fs_top.specs.Runs.{RefusesPattern, IsBuilt, Ran, HasReadings, IsGiven, NoneRose, DoesAll}
 
 -- what holds of each element holds of the one behind a front
 at_seam : {X : Type 0} (P : X → Type 0) (front : List X) (x : X) (back : List X) → All P (front ++ x ∷ back) → P x
 at_seam P front x back all =
-    subst P (get_or-append_seam front x back x) (All-get_or P (front ++ x ∷ back) (length front) x (omega (arith, length-append front (x ∷ back))) all)
+    subst P (get_or-append_seam front x back x)
+    (All-get_or P (front ++ x ∷ back) (length front) x (omega (arith, length-append front (x ∷ back))) all)
 
 -- no pattern is none
 all_read : (c : Configuration) (extension condition : ℕ) → HasReadings c → IsPlanRefusal c.contexts (PatternRefused extension condition) → ⊥
@@ -29,8 +32,10 @@ all_read c extension condition readings refusal =
     at_seam NoneIs refusal.front refusal.first refusal.back (subst (All NoneIs) refusal.split readings) refusal.found.is
 
 -- so none is refused, where the count of large patterns did not rise
-refuses_none : (c : Configuration) (fault : PlanFault) (sizes0 sizes1 : ℕ) → HasReadings c → sizes1 ≢ raised sizes0 → RefusesPattern c.contexts fault sizes0 sizes1 → ⊥
-refuses_none c (PatternRefused extension condition) sizes0 sizes1 readings rose refused = all_read c extension condition readings refused.refusal
+refuses_none : (c : Configuration) (fault : PlanFault) (sizes0 sizes1 : ℕ) → HasReadings c → sizes1 ≢ raised sizes0 →
+    RefusesPattern c.contexts fault sizes0 sizes1 → ⊥
+refuses_none c (PatternRefused extension condition) sizes0 sizes1 readings rose refused =
+    all_read c extension condition readings refused.refusal
 refuses_none c (PatternTooLarge extension condition) sizes0 sizes1 readings rose refused = rose refused.sizes
 refuses_none c Memory sizes0 sizes1 readings rose refused = refused.no_want refl
 
@@ -42,19 +47,23 @@ read_once bytes c d one other = ap given (sym other ∙ one)
     given (Ok e) = e
     given (Err fault) = c
 
-built_none : (bytes : List ℕ) (c : Configuration) (built : Option PlanFault) (sizes0 sizes1 : ℕ) → config_of bytes ≡ Ok c → HasReadings c → sizes1 ≢ raised sizes0 →
+built_none : (bytes : List ℕ) (c : Configuration) (built : Option PlanFault) (sizes0 sizes1 : ℕ) → config_of bytes ≡ Ok c → HasReadings c →
+    sizes1 ≢ raised sizes0 →
     IsBuilt (Got bytes) built sizes0 sizes1 → built ≡ None
 built_none bytes c None sizes0 sizes1 reads readings rose told = refl
 built_none bytes c (Some fault) sizes0 sizes1 reads readings rose told =
-    absurd (refuses_none c fault sizes0 sizes1 readings rose (subst (λ (d : Configuration). RefusesPattern d.contexts fault sizes0 sizes1) (read_once bytes c told.0 reads told.1) told.2))
+    absurd (refuses_none c fault sizes0 sizes1 readings rose
+    (subst (λ (d : Configuration). RefusesPattern d.contexts fault sizes0 sizes1) (read_once bytes c told.0 reads told.1) told.2))
 
 -- no read failed
-read_whole : (in0 in1 : Input) (input : List ℕ) (read_failed : Bool) → in1.faults ≢ raised in0.faults → HasRead in0 in1 input read_failed → read_failed ≡ false
+read_whole : (in0 in1 : Input) (input : List ℕ) (read_failed : Bool) → in1.faults ≢ raised in0.faults → HasRead in0 in1 input read_failed →
+    read_failed ≡ false
 read_whole in0 in1 input true rose has_read = absurd (rose has_read.faults)
 read_whole in0 in1 input false rose has_read = refl
 
 -- no write failed
-written_whole : (told : Told) (in1 : Input) (out0 out1 : Output) (line : List ℕ) (status : ℕ) → out1.faults ≢ raised out0.faults → CarriesOut told in1 out0 out1 line status →
+written_whole : (told : Told) (in1 : Input) (out0 out1 : Output) (line : List ℕ) (status : ℕ) → out1.faults ≢ raised out0.faults →
+    CarriesOut told in1 out0 out1 line status →
     Completes told in1 out0 out1 line status ⊎ BreaksForMemory told out0 out1 line status
 written_whole told in1 out0 out1 line status rose (completes h) = inl h
 written_whole told in1 out0 out1 line status rose (fails_to_write h) = absurd (rose h.stopped.faults)
@@ -62,25 +71,33 @@ written_whole told in1 out0 out1 line status rose (lacks_memory h) = inr h
 written_whole told in1 out0 out1 line status rose (fails_for_memory h) = absurd (rose h.stopped.faults)
 
 -- what is told then
-told_given : (asked : Option Asked) (of : Asked) (file : Load) (bytes : List ℕ) (c : Configuration) (built : Option PlanFault) (input : List ℕ) (read_failed : Bool) →
-    asked ≡ Some of → file ≡ Got bytes → config_of bytes ≡ Ok c → built ≡ None → read_failed ≡ false → told_words asked file built input read_failed ≡ told_asked of c input false
+told_given : (asked : Option Asked) (of : Asked) (file : Load) (bytes : List ℕ) (c : Configuration) (built : Option PlanFault)
+    (input : List ℕ) (read_failed : Bool) →
+    asked ≡ Some of → file ≡ Got bytes → config_of bytes ≡ Ok c → built ≡ None → read_failed ≡ false →
+    told_words asked file built input read_failed ≡ told_asked of c input false
 told_given asked of file bytes c built input read_failed is_asked is_file reads is_built is_whole =
     rw (is_asked, is_file, is_built, is_whole) (ap (λ (read : Result Configuration DocFault). told_read of read None input false) reads)
 
 -- all was done, or memory was wanting
-pub complete : (asked : Option Asked) (next_load : List ℕ → Option Load) (counts0 counts1 : LoadCounts) (sizes0 sizes1 : ℕ) (in0 in1 : Input) (out0 out1 err0 err1 : Output) (status : ℕ) →
-    Ran asked next_load counts0 counts1 sizes0 sizes1 in0 in1 out0 out1 err0 err1 status → (of : Asked) (c : Configuration) → IsGiven asked next_load of c →
+pub complete : (asked : Option Asked) (next_load : List ℕ → Option Load) (counts0 counts1 : LoadCounts) (sizes0 sizes1 : ℕ)
+    (in0 in1 : Input) (out0 out1 err0 err1 : Output) (status : ℕ) →
+    Ran asked next_load counts0 counts1 sizes0 sizes1 in0 in1 out0 out1 err0 err1 status → (of : Asked) (c : Configuration) →
+    IsGiven asked next_load of c →
     NoneRose sizes0 sizes1 in0 in1 out0 out1 → DoesAll of c in0 in1 out0 out1 err0 err1 status
 complete asked next_load counts0 counts1 sizes0 sizes1 in0 in1 out0 out1 err0 err1 status ran of c given rose =
     let tells : Tells (next_load (file_asked of)) ran.file = rw given.is_asked at ran.file_told in
     let file : ran.file ≡ Got given.bytes = rw given.told at tells in
-    let built : ran.built ≡ None = built_none given.bytes c ran.built sizes0 sizes1 given.reads given.readings rose.sizes (rw file at ran.built_told) in
+    let built : ran.built ≡ None =
+    built_none given.bytes c ran.built sizes0 sizes1 given.reads given.readings rose.sizes (rw file at ran.built_told) in
     let whole : ran.read_failed ≡ false = read_whole in0 in1 ran.input ran.read_failed rose.reads ran.has_read in
-    let told = told_given asked of ran.file given.bytes c ran.built ran.input ran.read_failed given.is_asked file given.reads built whole in record {
+    let told = told_given asked of ran.file given.bytes c ran.built ran.input ran.read_failed given.is_asked file given.reads built whole in
+    record {
       input = ran.input;
       line = ran.line;
       sent = ran.sent;
       has_read = rw whole at ran.has_read;
-      does = written_whole (told_asked of c ran.input false) in1 out0 out1 ran.line status rose.writes (subst (λ (t : Told). CarriesOut t in1 out0 out1 ran.line status) told ran.does);
+      does =
+          written_whole (told_asked of c ran.input false) in1 out0 out1 ran.line status rose.writes
+          (subst (λ (t : Told). CarriesOut t in1 out0 out1 ran.line status) told ran.does);
       said = ran.said;
     }

@@ -1,5 +1,6 @@
 -- What a run of the program comes to, and the causes of its statuses.
-use Rattle.std.proofs.Common.{◌≡◌, ◌≢◌, ℕ, Bool, true, false, cond, IsTrue, List, [], ◌++◌, Option, None, Some, IfSome, Result, Ok, Err, ◌⊎◌, unwrap_or, refl, sym, ap, ◌∙◌, subst, inl, inr}
+use Rattle.std.proofs.Common.{◌≡◌, ◌≢◌, ℕ, Bool, true, false, cond, IsTrue, List, [], ◌++◌, Option, None, Some, IfSome, Result, Ok, Err}
+use Rattle.std.proofs.Common.{◌⊎◌, unwrap_or, refl, sym, ap, ◌∙◌, subst, inl, inr}
 use Rattle.std.specs.List.{concat}
 use Rattle.std.specs.Option.{option_map}
 use Rattle.fs_ports.specs.Counts.{raised}
@@ -27,8 +28,13 @@ use Rattle.fs_conn.specs.Play.{switch_of, bytes_handed, played}
 use Rattle.fs_conn.specs.Turns.{HasRead, Plays, Finishes, Breaks, all_written, then_failed, failed_before}
 use Rattle.fs_conn.specs.Ends.{IsFullAt, HasCause}
 use Rattle.fs_conn.proofs.LawLemmas.{config_kept, ends_played, cause_played, bytes_begin}
-use Rattle.fs_top.specs.Told.{Told, Asked, Check, Hunt, Play, file_asked, told_words, told_file, told_read, told_built, told_asked, told_play, told_text, refused, is_eof, line_of_end, status_of_end, usage_line, cannot_read_line, fault_line, pattern_line}
-use Rattle.fs_top.specs.Runs.{line_of_outcome, status_of_outcome, PlaysTo, CarriesOut, completes, fails_to_write, lacks_memory, fails_for_memory, CarriesOutAs, Answers, IsPlanBuiltOf, IsBuilt, OverConfig, OverBytes, is_memory, not_read, not_built, Runs, RefusesPattern, Ran, HasConfig, HasFault, HasRefusal, CountRose, FillsJournal, MeetsTooLong, RunsAway}
+use Rattle.fs_top.specs.Told.{Told, Asked, Check, Hunt, Play, file_asked, told_words, told_file, told_read, told_built, told_asked}
+use Rattle.fs_top.specs.Told.{told_play, told_text, refused, is_eof, line_of_end, status_of_end, usage_line, cannot_read_line, fault_line}
+use Rattle.fs_top.specs.Told.{pattern_line}
+use Rattle.fs_top.specs.Runs.{line_of_outcome, status_of_outcome, PlaysTo, CarriesOut, completes, fails_to_write, lacks_memory}
+use Rattle.fs_top.specs.Runs.{fails_for_memory, CarriesOutAs, Answers, IsPlanBuiltOf, IsBuilt, OverConfig, OverBytes, is_memory, not_read}
+use Rattle.fs_top.specs.Runs.{not_built, Runs, RefusesPattern, Ran, HasConfig, HasFault, HasRefusal, CountRose, FillsJournal, MeetsTooLong}
+use Rattle.fs_top.specs.Runs.{RunsAway}
 use Rattle.fs_top.specs.declared.outcome.Outcome.{Outcome}
 use Rattle.fs_top.specs.declared.outcome.Outcome.TheVariants.{Usage, CannotRead, BadDocument, BadPattern, Printed, Ended}
 
@@ -54,7 +60,8 @@ pub print_all : (in1 : Input) (out0 out1 : Output) (text : List ℕ) → Writes 
     CarriesOutAs (told_text text) in1 out0 out1 Printed
 print_all in1 out0 out1 text written = completes (record { written = written; line_is = refl; status_is = refl; at_end = λ h. absurd (cc) })
 
-pub print_failed : (in1 : Input) (out0 out1 : Output) (text : List ℕ) → Stopped out0 out1 text → CarriesOutAs (told_text text) in1 out0 out1 (Ended ends.WriteFault)
+pub print_failed : (in1 : Input) (out0 out1 : Output) (text : List ℕ) → Stopped out0 out1 text →
+    CarriesOutAs (told_text text) in1 out0 out1 (Ended ends.WriteFault)
 print_failed in1 out0 out1 text stopped = fails_to_write (record { stopped = stopped; line_is = refl; status_is = refl })
 
 pub print_none : (in1 : Input) (out0 : Output) (text : List ℕ) → CarriesOutAs (told_text text) in1 out0 out0 (Ended ends.Memory)
@@ -88,7 +95,8 @@ abbrev tells : Configuration → List ℕ → Bool → Told
 tells c input read_failed = told_play c (played c input read_failed)
 
 -- the connection came to its end, or the play did before
-answers_finished : (c : Configuration) (file : List ℕ) (in0 in1 : Input) (out0 out1 : Output) (end : End) (journal : List Entry) → Finishes c in0 out0 in1 out1 end journal →
+answers_finished : (c : Configuration) (file : List ℕ) (in0 in1 : Input) (out0 out1 : Output) (end : End) (journal : List Entry) →
+    Finishes c in0 out0 in1 out1 end journal →
     Answers (tells c) (Some (Play file)) in0 in1 out0 out1 (Ended end)
 answers_finished c file in0 in1 out0 out1 end journal f = record {
   input = f.input;
@@ -105,26 +113,33 @@ answers_finished c file in0 in1 out0 out1 end journal f = record {
 
 -- what a front of the journal handed out is a front of the output
 begins_output : (c : Configuration) (in0 in1 : Input) (journal : List Entry) (breaks : Breaks c in0 in1 journal) →
-    bytes_handed c (played c breaks.input breaks.read_failed).journal ≡ bytes_handed c journal ++ concat (handed_from 1 (run_from (empty c) journal) breaks.more)
+    bytes_handed c (played c breaks.input breaks.read_failed).journal ≡ bytes_handed c journal
+    ++ concat (handed_from 1 (run_from (empty c) journal) breaks.more)
 begins_output c in0 in1 journal breaks = bytes_begin c (played c breaks.input breaks.read_failed).journal journal breaks.more breaks.split
 
 -- where a write of it failed, a write of the output did
-stopped_output : (c : Configuration) (in0 in1 : Input) (out0 out1 : Output) (journal : List Entry) (breaks : Breaks c in0 in1 journal) → Stopped out0 out1 (bytes_handed c journal) →
+stopped_output : (c : Configuration) (in0 in1 : Input) (out0 out1 : Output) (journal : List Entry) (breaks : Breaks c in0 in1 journal) →
+    Stopped out0 out1 (bytes_handed c journal) →
     Stopped out0 out1 (bytes_handed c (played c breaks.input breaks.read_failed).journal)
 stopped_output c in0 in1 out0 out1 journal breaks stopped =
     subst (λ (bytes : List ℕ). Stopped out0 out1 bytes) (sym (begins_output c in0 in1 journal breaks))
     (stopped_sooner out0 out1 (bytes_handed c journal) (concat (handed_from 1 (run_from (empty c) journal) breaks.more)) stopped)
 
 -- the connection was played
-answers_ended : (c : Configuration) (file : List ℕ) (in0 in1 : Input) (out0 out1 : Output) (end : End) (journal : List Entry) → Plays c in0 out0 in1 out1 journal end →
+answers_ended : (c : Configuration) (file : List ℕ) (in0 in1 : Input) (out0 out1 : Output) (end : End) (journal : List Entry) →
+    Plays c in0 out0 in1 out1 journal end →
     Answers (tells c) (Some (Play file)) in0 in1 out0 out1 (Ended end)
 answers_ended c file in0 in1 out0 out1 ends.Exit journal plays = answers_finished c file in0 in1 out0 out1 ends.Exit journal plays
 answers_ended c file in0 in1 out0 out1 ends.Eof journal plays = answers_finished c file in0 in1 out0 out1 ends.Eof journal plays
-answers_ended c file in0 in1 out0 out1 ends.AuthRefused journal plays = answers_finished c file in0 in1 out0 out1 ends.AuthRefused journal plays
+answers_ended c file in0 in1 out0 out1 ends.AuthRefused journal plays =
+    answers_finished c file in0 in1 out0 out1 ends.AuthRefused journal plays
 answers_ended c file in0 in1 out0 out1 ends.ReadFault journal plays = answers_finished c file in0 in1 out0 out1 ends.ReadFault journal plays
-answers_ended c file in0 in1 out0 out1 (ends.TooLong len) journal plays = answers_finished c file in0 in1 out0 out1 (ends.TooLong len) journal plays
-answers_ended c file in0 in1 out0 out1 (ends.JournalFull cost limit) journal plays = answers_finished c file in0 in1 out0 out1 (ends.JournalFull cost limit) journal plays
-answers_ended c file in0 in1 out0 out1 (ends.Runaway count) journal plays = answers_finished c file in0 in1 out0 out1 (ends.Runaway count) journal plays
+answers_ended c file in0 in1 out0 out1 (ends.TooLong len) journal plays =
+    answers_finished c file in0 in1 out0 out1 (ends.TooLong len) journal plays
+answers_ended c file in0 in1 out0 out1 (ends.JournalFull cost limit) journal plays =
+    answers_finished c file in0 in1 out0 out1 (ends.JournalFull cost limit) journal plays
+answers_ended c file in0 in1 out0 out1 (ends.Runaway count) journal plays =
+    answers_finished c file in0 in1 out0 out1 (ends.Runaway count) journal plays
 answers_ended c file in0 in1 out0 out1 ends.Memory journal (all_written plays) = let b = plays.breaks in record {
   input = b.input;
   read_failed = b.read_failed;
@@ -144,24 +159,36 @@ answers_ended c file in0 in1 out0 out1 ends.Memory journal (then_failed plays) =
   read_failed = b.read_failed;
   has_read = b.has_read;
   quiet = λ none. absurd none;
-  does = fails_for_memory (record { stopped = stopped_output c in0 in1 out0 out1 journal b plays.stopped; line_is = refl; status_is = refl });
+  does =
+      fails_for_memory (record { stopped = stopped_output c in0 in1 out0 out1 journal b plays.stopped; line_is = refl; status_is = refl });
 }
 answers_ended c file in0 in1 out0 out1 ends.Memory journal (failed_before p plays same) = let b = plays.breaks in record {
   input = b.input;
   read_failed = b.read_failed;
   has_read = b.has_read;
   quiet = λ none. absurd none;
-  does = fails_for_memory (record { stopped = stopped_output c in0 in1 out0 out1 p.journal b plays.stopped; line_is = refl; status_is = refl });
+  does =
+      fails_for_memory (record {
+        stopped = stopped_output c in0 in1 out0 out1 p.journal b plays.stopped;
+        line_is = refl;
+        status_is = refl;
+      });
 }
 answers_ended c file in0 in1 out0 out1 ends.WriteFault journal plays = let b = plays.breaks_at.breaks in record {
   input = b.input;
   read_failed = b.read_failed;
   has_read = b.has_read;
   quiet = λ none. absurd none;
-  does = fails_to_write (record { stopped = stopped_output c in0 in1 out0 out1 plays.play.journal b plays.breaks_at.stopped; line_is = refl; status_is = refl });
+  does =
+      fails_to_write (record {
+        stopped = stopped_output c in0 in1 out0 out1 plays.play.journal b plays.breaks_at.stopped;
+        line_is = refl;
+        status_is = refl;
+      });
 }
 
-pub answers_played : (c : Configuration) (file : List ℕ) (in0 in1 : Input) (out0 out1 : Output) (outcome : Outcome) → PlaysTo c in0 out0 in1 out1 outcome →
+pub answers_played : (c : Configuration) (file : List ℕ) (in0 in1 : Input) (out0 out1 : Output) (outcome : Outcome) →
+    PlaysTo c in0 out0 in1 out1 outcome →
     Answers (tells c) (Some (Play file)) in0 in1 out0 out1 outcome
 answers_played c file in0 in1 out0 out1 Usage plays = absurd plays
 answers_played c file in0 in1 out0 out1 (CannotRead name) plays = absurd plays
@@ -183,12 +210,14 @@ plays_none c in0 out0 = (
 -- ---- over a configuration
 
 -- no pattern was refused
-pub over_plan : (asked : Asked) (c : Configuration) (sizes0 sizes1 : ℕ) (in0 in1 : Input) (out0 out1 : Output) (outcome : Outcome) → sizes1 ≡ sizes0 →
+pub over_plan : (asked : Asked) (c : Configuration) (sizes0 sizes1 : ℕ) (in0 in1 : Input) (out0 out1 : Output) (outcome : Outcome) →
+    sizes1 ≡ sizes0 →
     Answers (told_asked asked c) (Some asked) in0 in1 out0 out1 outcome → OverConfig asked c sizes0 sizes1 in0 in1 out0 out1 outcome
 over_plan asked c sizes0 sizes1 in0 in1 out0 out1 outcome sizes answers = record { built = None; built_told = sizes; answers = answers }
 
 -- one was refused
-over_refused : (asked : Asked) (c : Configuration) (fault : PlanFault) (sizes0 sizes1 : ℕ) (in0 : Input) (out0 : Output) → RefusesPattern c.contexts fault sizes0 sizes1 →
+over_refused : (asked : Asked) (c : Configuration) (fault : PlanFault) (sizes0 sizes1 : ℕ) (in0 : Input) (out0 : Output) →
+    RefusesPattern c.contexts fault sizes0 sizes1 →
     OverConfig asked c sizes0 sizes1 in0 in0 out0 out0 (BadPattern fault)
 over_refused asked c fault sizes0 sizes1 in0 out0 refused = record {
   built = Some fault;
@@ -203,55 +232,73 @@ over_unbuilt : (asked : Asked) (c : Configuration) (sizes0 sizes1 : ℕ) (in0 : 
 over_unbuilt asked c sizes0 sizes1 in0 out0 sizes = record {
   built = None;
   built_told = sizes;
-  answers = answers_quiet (told_built asked c None) (Some asked) in0 in0 out0 out0 (Ended ends.Memory) refl (memory_does (told_built asked c None [] false) in0 out0);
+  answers =
+      answers_quiet (told_built asked c None) (Some asked) in0 in0 out0 out0 (Ended ends.Memory) refl
+      (memory_does (told_built asked c None [] false) in0 out0);
 }
 
 -- the dialplan was not built
-pub over_fault : (asked : Asked) (c : Configuration) (fault : PlanFault) (sizes0 sizes1 : ℕ) (in0 : Input) (out0 : Output) → IsPlanRefusal c.contexts fault → sizes1 ≡ sizes_after fault sizes0 →
+pub over_fault : (asked : Asked) (c : Configuration) (fault : PlanFault) (sizes0 sizes1 : ℕ) (in0 : Input) (out0 : Output) →
+    IsPlanRefusal c.contexts fault → sizes1 ≡ sizes_after fault sizes0 →
     OverConfig asked c sizes0 sizes1 in0 in0 out0 out0 (not_built fault)
 over_fault asked c NoMemory sizes0 sizes1 in0 out0 refusal sizes = over_unbuilt asked c sizes0 sizes1 in0 out0 sizes
 over_fault asked c (PatternRefused extension condition) sizes0 sizes1 in0 out0 refusal sizes =
-    over_refused asked c (PatternRefused extension condition) sizes0 sizes1 in0 out0 (record { refusal = refusal; no_want = λ e. absurd (cc); sizes = sizes })
+    over_refused asked c (PatternRefused extension condition) sizes0 sizes1 in0 out0
+    (record { refusal = refusal; no_want = λ e. absurd (cc); sizes = sizes })
 over_fault asked c (PatternTooLarge extension condition) sizes0 sizes1 in0 out0 refusal sizes =
-    over_refused asked c (PatternTooLarge extension condition) sizes0 sizes1 in0 out0 (record { refusal = refusal; no_want = λ e. absurd (cc); sizes = sizes })
+    over_refused asked c (PatternTooLarge extension condition) sizes0 sizes1 in0 out0
+    (record { refusal = refusal; no_want = λ e. absurd (cc); sizes = sizes })
 
 -- ---- over the bytes of a document
 
 -- a pattern of what the bytes are read as
-built_of : (bytes : List ℕ) (c : Configuration) (built : Option PlanFault) (sizes0 sizes1 : ℕ) → config_of bytes ≡ Ok c → IsPlanBuiltOf c built sizes0 sizes1 → IsBuilt (Got bytes) built sizes0 sizes1
+built_of : (bytes : List ℕ) (c : Configuration) (built : Option PlanFault) (sizes0 sizes1 : ℕ) → config_of bytes ≡ Ok c →
+    IsPlanBuiltOf c built sizes0 sizes1 → IsBuilt (Got bytes) built sizes0 sizes1
 built_of bytes c None sizes0 sizes1 reads told = told
 built_of bytes c (Some fault) sizes0 sizes1 reads told = (c, reads, told)
 
-pub over_read : (asked : Asked) (bytes : List ℕ) (c : Configuration) (sizes0 sizes1 : ℕ) (in0 in1 : Input) (out0 out1 : Output) (outcome : Outcome) → config_of bytes ≡ Ok c →
+pub over_read : (asked : Asked) (bytes : List ℕ) (c : Configuration) (sizes0 sizes1 : ℕ) (in0 in1 : Input) (out0 out1 : Output)
+    (outcome : Outcome) → config_of bytes ≡ Ok c →
     OverConfig asked c sizes0 sizes1 in0 in1 out0 out1 outcome → OverBytes asked bytes sizes0 sizes1 in0 in1 out0 out1 outcome
 over_read asked bytes c sizes0 sizes1 in0 in1 out0 out1 outcome reads over = record {
   built = over.built;
   built_told = built_of bytes c over.built sizes0 sizes1 reads over.built_told;
-  answers = subst (λ (r : Result Configuration DocFault). Answers (told_read asked r over.built) (Some asked) in0 in1 out0 out1 outcome) (sym reads) over.answers;
+  answers =
+      subst (λ (r : Result Configuration DocFault). Answers (told_read asked r over.built) (Some asked) in0 in1 out0 out1 outcome)
+      (sym reads) over.answers;
 }
 
-pub over_faulty : (asked : Asked) (bytes : List ℕ) (fault : DocFault) (sizes : ℕ) (in0 : Input) (out0 : Output) → config_of bytes ≡ Err fault →
+pub over_faulty : (asked : Asked) (bytes : List ℕ) (fault : DocFault) (sizes : ℕ) (in0 : Input) (out0 : Output) →
+    config_of bytes ≡ Err fault →
     OverBytes asked bytes sizes sizes in0 in0 out0 out0 (BadDocument fault)
 over_faulty asked bytes fault sizes in0 out0 reads = record {
   built = None;
   built_told = refl;
-  answers = subst (λ (r : Result Configuration DocFault). Answers (told_read asked r None) (Some asked) in0 in0 out0 out0 (BadDocument fault)) (sym reads)
-      (answers_quiet (told_read asked (Err fault) None) (Some asked) in0 in0 out0 out0 (BadDocument fault) refl (refused_does in0 out0 (fault_line fault) 3 (BadDocument fault) refl refl));
+  answers =
+      subst (λ (r : Result Configuration DocFault). Answers (told_read asked r None) (Some asked) in0 in0 out0 out0 (BadDocument fault))
+      (sym reads)
+      (answers_quiet (told_read asked (Err fault) None) (Some asked) in0 in0 out0 out0 (BadDocument fault) refl
+      (refused_does in0 out0 (fault_line fault) 3 (BadDocument fault) refl refl));
 }
 
-pub over_unread : (asked : Asked) (bytes : List ℕ) (sizes : ℕ) (in0 : Input) (out0 : Output) → OverBytes asked bytes sizes sizes in0 in0 out0 out0 (Ended ends.Memory)
+pub over_unread : (asked : Asked) (bytes : List ℕ) (sizes : ℕ) (in0 : Input) (out0 : Output) →
+    OverBytes asked bytes sizes sizes in0 in0 out0 out0 (Ended ends.Memory)
 over_unread asked bytes sizes in0 out0 = record {
   built = None;
   built_told = refl;
-  answers = answers_quiet (told_file asked (Got bytes) None) (Some asked) in0 in0 out0 out0 (Ended ends.Memory) refl (memory_does (told_file asked (Got bytes) None [] false) in0 out0);
+  answers =
+      answers_quiet (told_file asked (Got bytes) None) (Some asked) in0 in0 out0 out0 (Ended ends.Memory) refl
+      (memory_does (told_file asked (Got bytes) None [] false) in0 out0);
 }
 
 -- the document was not read: it has this fault, or memory was wanting
 pub over_answer : (asked : Asked) (bytes : List ℕ) (fault : DocFault) (sizes : ℕ) (in0 : Input) (out0 : Output) →
-    (fault ≡ record { at = 0; kind = Memory }) ⊎ (config_of bytes ≡ Err fault) → OverBytes asked bytes sizes sizes in0 in0 out0 out0 (not_read fault)
+    (fault ≡ record { at = 0; kind = Memory }) ⊎ (config_of bytes ≡ Err fault) →
+    OverBytes asked bytes sizes sizes in0 in0 out0 out0 (not_read fault)
 over_answer asked bytes fault sizes in0 out0 why = by (is_memory fault.kind) refl
   where
-    by : (memory : Bool) → is_memory fault.kind ≡ memory → OverBytes asked bytes sizes sizes in0 in0 out0 out0 (cond memory (Ended ends.Memory) (BadDocument fault))
+    by : (memory : Bool) → is_memory fault.kind ≡ memory →
+        OverBytes asked bytes sizes sizes in0 in0 out0 out0 (cond memory (Ended ends.Memory) (BadDocument fault))
     by true is = over_unread asked bytes sizes in0 out0
     by false is = over_faulty asked bytes fault sizes in0 out0 (reads why)
       where
@@ -261,34 +308,41 @@ over_answer asked bytes fault sizes in0 out0 why = by (is_memory fault.kind) ref
 
 -- ---- over a file
 
-pub runs_usage : (next_load : List ℕ → Option Load) (counts : LoadCounts) (sizes : ℕ) (in0 : Input) (out0 : Output) → Runs None next_load counts counts sizes sizes in0 in0 out0 out0 Usage
+pub runs_usage : (next_load : List ℕ → Option Load) (counts : LoadCounts) (sizes : ℕ) (in0 : Input) (out0 : Output) →
+    Runs None next_load counts counts sizes sizes in0 in0 out0 out0 Usage
 runs_usage next_load counts sizes in0 out0 = record {
   file = Absent;
   built = None;
   file_told = tt;
   built_told = refl;
   loaded = λ _. refl;
-  answers = answers_quiet (told_words None Absent None) None in0 in0 out0 out0 Usage refl (refused_does in0 out0 usage_line 2 Usage refl refl);
+  answers =
+      answers_quiet (told_words None Absent None) None in0 in0 out0 out0 Usage refl (refused_does in0 out0 usage_line 2 Usage refl refl);
   usage = λ _. refl;
 }
 
 -- the file gave these bytes
-pub runs_bytes : (asked : Asked) (bytes : List ℕ) (next_load : List ℕ → Option Load) (counts0 counts1 counts2 : LoadCounts) (sizes0 sizes1 sizes2 : ℕ) (in0 in1 : Input) (out0 out1 : Output) (outcome : Outcome) →
-    Tells (next_load (file_asked asked)) (Got bytes) → Counted counts0 counts1 (Got bytes) → counts2 ≡ counts1 → sizes1 ≡ sizes0 → OverBytes asked bytes sizes1 sizes2 in0 in1 out0 out1 outcome →
+pub runs_bytes : (asked : Asked) (bytes : List ℕ) (next_load : List ℕ → Option Load) (counts0 counts1 counts2 : LoadCounts)
+    (sizes0 sizes1 sizes2 : ℕ) (in0 in1 : Input) (out0 out1 : Output) (outcome : Outcome) →
+    Tells (next_load (file_asked asked)) (Got bytes) → Counted counts0 counts1 (Got bytes) → counts2 ≡ counts1 → sizes1 ≡ sizes0 →
+    OverBytes asked bytes sizes1 sizes2 in0 in1 out0 out1 outcome →
     Runs (Some asked) next_load counts0 counts2 sizes0 sizes2 in0 in1 out0 out1 outcome
-runs_bytes asked bytes next_load counts0 counts1 counts2 sizes0 sizes1 sizes2 in0 in1 out0 out1 outcome tells counted counts sizes over = record {
-  file = Got bytes;
-  built = over.built;
-  file_told = tells;
-  built_told = subst (λ (n : ℕ). IsBuilt (Got bytes) over.built n sizes2) sizes over.built_told;
-  loaded = λ _. subst (λ (n : LoadCounts). Counted counts0 n (Got bytes)) (sym counts) counted;
-  answers = over.answers;
-  usage = λ none. absurd (cc);
-}
+runs_bytes asked bytes next_load counts0 counts1 counts2 sizes0 sizes1 sizes2 in0 in1 out0 out1 outcome tells counted counts sizes over =
+    record {
+      file = Got bytes;
+      built = over.built;
+      file_told = tells;
+      built_told = subst (λ (n : ℕ). IsBuilt (Got bytes) over.built n sizes2) sizes over.built_told;
+      loaded = λ _. subst (λ (n : LoadCounts). Counted counts0 n (Got bytes)) (sym counts) counted;
+      answers = over.answers;
+      usage = λ none. absurd (cc);
+    }
 
 -- the file was not there, or could not be read
-pub runs_absent : (asked : Asked) (name : List ℕ) (next_load : List ℕ → Option Load) (counts0 counts1 : LoadCounts) (sizes0 sizes1 : ℕ) (in0 : Input) (out0 : Output) (outcome : Outcome) →
-    Tells (next_load (file_asked asked)) Absent → Counted counts0 counts1 Absent → sizes1 ≡ sizes0 → line_of_outcome outcome ≡ cannot_read_line (file_asked asked) → status_of_outcome outcome ≡ 4 →
+pub runs_absent : (asked : Asked) (name : List ℕ) (next_load : List ℕ → Option Load) (counts0 counts1 : LoadCounts) (sizes0 sizes1 : ℕ)
+    (in0 : Input) (out0 : Output) (outcome : Outcome) →
+    Tells (next_load (file_asked asked)) Absent → Counted counts0 counts1 Absent → sizes1 ≡ sizes0 →
+    line_of_outcome outcome ≡ cannot_read_line (file_asked asked) → status_of_outcome outcome ≡ 4 →
     Runs (Some asked) next_load counts0 counts1 sizes0 sizes1 in0 in0 out0 out0 outcome
 runs_absent asked name next_load counts0 counts1 sizes0 sizes1 in0 out0 outcome tells counted sizes line_is four = record {
   file = Absent;
@@ -296,12 +350,16 @@ runs_absent asked name next_load counts0 counts1 sizes0 sizes1 in0 out0 outcome 
   file_told = tells;
   built_told = sizes;
   loaded = λ _. counted;
-  answers = answers_quiet (told_file asked Absent None) (Some asked) in0 in0 out0 out0 outcome refl (refused_does in0 out0 (cannot_read_line (file_asked asked)) 4 outcome line_is four);
+  answers =
+      answers_quiet (told_file asked Absent None) (Some asked) in0 in0 out0 out0 outcome refl
+      (refused_does in0 out0 (cannot_read_line (file_asked asked)) 4 outcome line_is four);
   usage = λ none. absurd (cc);
 }
 
-pub runs_failed : (asked : Asked) (name : List ℕ) (next_load : List ℕ → Option Load) (counts0 counts1 : LoadCounts) (sizes0 sizes1 : ℕ) (in0 : Input) (out0 : Output) (outcome : Outcome) →
-    Tells (next_load (file_asked asked)) Failed → Counted counts0 counts1 Failed → sizes1 ≡ sizes0 → line_of_outcome outcome ≡ cannot_read_line (file_asked asked) → status_of_outcome outcome ≡ 4 →
+pub runs_failed : (asked : Asked) (name : List ℕ) (next_load : List ℕ → Option Load) (counts0 counts1 : LoadCounts) (sizes0 sizes1 : ℕ)
+    (in0 : Input) (out0 : Output) (outcome : Outcome) →
+    Tells (next_load (file_asked asked)) Failed → Counted counts0 counts1 Failed → sizes1 ≡ sizes0 →
+    line_of_outcome outcome ≡ cannot_read_line (file_asked asked) → status_of_outcome outcome ≡ 4 →
     Runs (Some asked) next_load counts0 counts1 sizes0 sizes1 in0 in0 out0 out0 outcome
 runs_failed asked name next_load counts0 counts1 sizes0 sizes1 in0 out0 outcome tells counted sizes line_is four = record {
   file = Failed;
@@ -309,7 +367,9 @@ runs_failed asked name next_load counts0 counts1 sizes0 sizes1 in0 out0 outcome 
   file_told = tells;
   built_told = sizes;
   loaded = λ _. counted;
-  answers = answers_quiet (told_file asked Failed None) (Some asked) in0 in0 out0 out0 outcome refl (refused_does in0 out0 (cannot_read_line (file_asked asked)) 4 outcome line_is four);
+  answers =
+      answers_quiet (told_file asked Failed None) (Some asked) in0 in0 out0 out0 outcome refl
+      (refused_does in0 out0 (cannot_read_line (file_asked asked)) 4 outcome line_is four);
   usage = λ none. absurd (cc);
 }
 
@@ -319,7 +379,8 @@ some_load None = (Absent, tt)
 some_load (Some load) = (load, refl)
 
 -- the file could not be loaded for want of memory
-pub runs_unloaded : (asked : Asked) (next_load : List ℕ → Option Load) (counts0 counts1 : LoadCounts) (sizes0 sizes1 : ℕ) (in0 : Input) (out0 : Output) → sizes1 ≡ sizes0 →
+pub runs_unloaded : (asked : Asked) (next_load : List ℕ → Option Load) (counts0 counts1 : LoadCounts) (sizes0 sizes1 : ℕ) (in0 : Input)
+    (out0 : Output) → sizes1 ≡ sizes0 →
     Runs (Some asked) next_load counts0 counts1 sizes0 sizes1 in0 in0 out0 out0 (Ended ends.Memory)
 runs_unloaded asked next_load counts0 counts1 sizes0 sizes1 in0 out0 sizes = let load = some_load (next_load (file_asked asked)) in record {
   file = load.0;
@@ -327,14 +388,18 @@ runs_unloaded asked next_load counts0 counts1 sizes0 sizes1 in0 out0 sizes = let
   file_told = load.1;
   built_told = sizes;
   loaded = λ not_one. absurd (not_one refl);
-  answers = answers_quiet (told_file asked load.0 None) (Some asked) in0 in0 out0 out0 (Ended ends.Memory) refl (memory_does (told_file asked load.0 None [] false) in0 out0);
+  answers =
+      answers_quiet (told_file asked load.0 None) (Some asked) in0 in0 out0 out0 (Ended ends.Memory) refl
+      (memory_does (told_file asked load.0 None [] false) in0 out0);
   usage = λ none. absurd (cc);
 }
 
 -- ---- the whole run
 
-pub ran : (asked : Option Asked) (next_load : List ℕ → Option Load) (counts0 counts1 : LoadCounts) (sizes0 sizes1 : ℕ) (in0 in1 : Input) (out0 out1 err0 err1 : Output) (outcome : Outcome) (sent : Sent) (status : ℕ) →
-    Runs asked next_load counts0 counts1 sizes0 sizes1 in0 in1 out0 out1 outcome → SendDid err0 err1 sent (line_of_outcome outcome) → status ≡ status_of_outcome outcome →
+pub ran : (asked : Option Asked) (next_load : List ℕ → Option Load) (counts0 counts1 : LoadCounts) (sizes0 sizes1 : ℕ) (in0 in1 : Input)
+    (out0 out1 err0 err1 : Output) (outcome : Outcome) (sent : Sent) (status : ℕ) →
+    Runs asked next_load counts0 counts1 sizes0 sizes1 in0 in1 out0 out1 outcome → SendDid err0 err1 sent (line_of_outcome outcome) →
+    status ≡ status_of_outcome outcome →
     Ran asked next_load counts0 counts1 sizes0 sizes1 in0 in1 out0 out1 err0 err1 status
 ran asked next_load counts0 counts1 sizes0 sizes1 in0 in1 out0 out1 err0 err1 outcome sent status runs says is = record {
   file = runs.file;
@@ -348,7 +413,9 @@ ran asked next_load counts0 counts1 sizes0 sizes1 in0 in1 out0 out1 err0 err1 ou
   loaded = λ not_1. runs.loaded (λ one. not_1 (is ∙ one));
   has_read = runs.answers.has_read;
   quiet = runs.answers.quiet;
-  does = subst (λ (n : ℕ). CarriesOut (told_words asked runs.file runs.built runs.answers.input runs.answers.read_failed) in1 out0 out1 (line_of_outcome outcome) n) (sym is) runs.answers.does;
+  does =
+      subst (λ (n : ℕ). CarriesOut (told_words asked runs.file runs.built runs.answers.input runs.answers.read_failed) in1 out0 out1
+      (line_of_outcome outcome) n) (sym is) runs.answers.does;
   said = says;
 }
 
@@ -362,7 +429,8 @@ status_ended c input read_failed status is =
     (ended.0, ended.1, sym (ap (λ (last : Option End). unwrap_or (option_map status_of_end last) 0) ended.1) ∙ is)
 
 -- the count that a status of 4 shows
-unreadable_end : (end : End) (s : Switch) (is_too_long read_failed : Bool) → status_of_end end ≡ 4 → HasCause end s is_too_long read_failed → read_failed ≡ true
+unreadable_end : (end : End) (s : Switch) (is_too_long read_failed : Bool) → status_of_end end ≡ 4 →
+    HasCause end s is_too_long read_failed → read_failed ≡ true
 unreadable_end ends.Exit s is_too_long read_failed four cause = absurd (cc)
 unreadable_end ends.Eof s is_too_long read_failed four cause = absurd (cc)
 unreadable_end ends.AuthRefused s is_too_long read_failed four cause = absurd (cc)
@@ -377,11 +445,14 @@ unreadable_play : (c : Configuration) (counts0 counts1 : LoadCounts) (in0 in1 : 
     HasRead in0 in1 input read_failed → (tells c input read_failed).status ≡ 4 → CountRose counts0 counts1 in0 in1
 unreadable_play c counts0 counts1 in0 in1 input read_failed has_read four =
     let ended = status_ended c input read_failed 4 four in
-    let failed = unreadable_end ended.0 (switch_of (played c input read_failed)) (too_long (rest_of input)) read_failed ended.2 (cause_played c input read_failed ended.0 ended.1) in
+    let failed =
+    unreadable_end ended.0 (switch_of (played c input read_failed)) (too_long (rest_of input)) read_failed ended.2
+    (cause_played c input read_failed ended.0 ended.1) in
     inr (inr (has_read.faults ∙ ap (λ b. cond b (raised in0.faults) in0.faults) failed))
 
 -- the rest that a status of 10 shows
-too_long_end : (end : End) (s : Switch) (is_too_long read_failed : Bool) → status_of_end end ≡ 10 → HasCause end s is_too_long read_failed → (end ≡ ends.TooLong 65537) × (is_too_long ≡ true)
+too_long_end : (end : End) (s : Switch) (is_too_long read_failed : Bool) → status_of_end end ≡ 10 → HasCause end s is_too_long read_failed →
+    (end ≡ ends.TooLong 65537) × (is_too_long ≡ true)
 too_long_end ends.Exit s is_too_long read_failed ten cause = absurd (cc)
 too_long_end ends.Eof s is_too_long read_failed ten cause = absurd (cc)
 too_long_end ends.AuthRefused s is_too_long read_failed ten cause = absurd (cc)
@@ -392,10 +463,12 @@ too_long_end (ends.JournalFull cost limit) s is_too_long read_failed ten cause =
 too_long_end ends.Memory s is_too_long read_failed ten cause = absurd cause
 too_long_end (ends.Runaway count) s is_too_long read_failed ten cause = absurd (cc)
 
-too_long_play : (c : Configuration) (in0 in1 : Input) (input : List ℕ) (read_failed : Bool) → HasRead in0 in1 input read_failed → (tells c input read_failed).status ≡ 10 → MeetsTooLong c in0 in1
+too_long_play : (c : Configuration) (in0 in1 : Input) (input : List ℕ) (read_failed : Bool) → HasRead in0 in1 input read_failed →
+    (tells c input read_failed).status ≡ 10 → MeetsTooLong c in0 in1
 too_long_play c in0 in1 input read_failed has_read ten =
     let ended = status_ended c input read_failed 10 ten in
-    let is = too_long_end ended.0 (switch_of (played c input read_failed)) (too_long (rest_of input)) read_failed ended.2 (cause_played c input read_failed ended.0 ended.1) in record {
+    let is = too_long_end ended.0 (switch_of (played c input read_failed)) (too_long (rest_of input)) read_failed ended.2
+    (cause_played c input read_failed ended.0 ended.1) in record {
       input = input;
       read_failed = read_failed;
       has_read = has_read;
@@ -407,7 +480,8 @@ too_long_play c in0 in1 input read_failed has_read ten =
 abbrev IsFull : End → Switch → Type 0
 IsFull end s = (cost : ℕ) × (limit : ℕ) × (end ≡ ends.JournalFull cost limit) × IsFullAt cost limit s
 
-full_end : (end : End) (s : Switch) (is_too_long read_failed : Bool) → status_of_end end ≡ 8 → HasCause end s is_too_long read_failed → IsFull end s
+full_end : (end : End) (s : Switch) (is_too_long read_failed : Bool) → status_of_end end ≡ 8 → HasCause end s is_too_long read_failed →
+    IsFull end s
 full_end ends.Exit s is_too_long read_failed eight cause = absurd (cc)
 full_end ends.Eof s is_too_long read_failed eight cause = absurd (cc)
 full_end ends.AuthRefused s is_too_long read_failed eight cause = absurd (cc)
@@ -418,10 +492,12 @@ full_end (ends.JournalFull cost limit) s is_too_long read_failed eight cause = (
 full_end ends.Memory s is_too_long read_failed eight cause = absurd cause
 full_end (ends.Runaway count) s is_too_long read_failed eight cause = absurd (cc)
 
-full_play : (c : Configuration) (in0 in1 : Input) (input : List ℕ) (read_failed : Bool) → HasRead in0 in1 input read_failed → (tells c input read_failed).status ≡ 8 → FillsJournal c in0 in1
+full_play : (c : Configuration) (in0 in1 : Input) (input : List ℕ) (read_failed : Bool) → HasRead in0 in1 input read_failed →
+    (tells c input read_failed).status ≡ 8 → FillsJournal c in0 in1
 full_play c in0 in1 input read_failed has_read eight =
     let ended = status_ended c input read_failed 8 eight in
-    let is = full_end ended.0 (switch_of (played c input read_failed)) (too_long (rest_of input)) read_failed ended.2 (cause_played c input read_failed ended.0 ended.1) in record {
+    let is = full_end ended.0 (switch_of (played c input read_failed)) (too_long (rest_of input)) read_failed ended.2
+    (cause_played c input read_failed ended.0 ended.1) in record {
       input = input;
       read_failed = read_failed;
       has_read = has_read;
@@ -433,7 +509,8 @@ full_play c in0 in1 input read_failed has_read eight =
     }
 
 -- the end that a status of 9 shows
-away_end : (end : End) (s : Switch) (is_too_long read_failed : Bool) → status_of_end end ≡ 9 → HasCause end s is_too_long read_failed → end ≡ ends.Runaway 100000
+away_end : (end : End) (s : Switch) (is_too_long read_failed : Bool) → status_of_end end ≡ 9 → HasCause end s is_too_long read_failed →
+    end ≡ ends.Runaway 100000
 away_end ends.Exit s is_too_long read_failed nine cause = absurd (cc)
 away_end ends.Eof s is_too_long read_failed nine cause = absurd (cc)
 away_end ends.AuthRefused s is_too_long read_failed nine cause = absurd (cc)
@@ -444,23 +521,28 @@ away_end (ends.JournalFull cost limit) s is_too_long read_failed nine cause = ab
 away_end ends.Memory s is_too_long read_failed nine cause = absurd cause
 away_end (ends.Runaway count) s is_too_long read_failed nine cause = ap ends.Runaway cause
 
-away_play : (c : Configuration) (in0 in1 : Input) (input : List ℕ) (read_failed : Bool) → HasRead in0 in1 input read_failed → (tells c input read_failed).status ≡ 9 → RunsAway c in0 in1
+away_play : (c : Configuration) (in0 in1 : Input) (input : List ℕ) (read_failed : Bool) → HasRead in0 in1 input read_failed →
+    (tells c input read_failed).status ≡ 9 → RunsAway c in0 in1
 away_play c in0 in1 input read_failed has_read nine =
     let ended = status_ended c input read_failed 9 nine in record {
       input = input;
       read_failed = read_failed;
       has_read = has_read;
-      end_is = ended.1 ∙ ap Some (away_end ended.0 (switch_of (played c input read_failed)) (too_long (rest_of input)) read_failed ended.2 (cause_played c input read_failed ended.0 ended.1));
+      end_is =
+          ended.1 ∙ ap Some (away_end ended.0 (switch_of (played c input read_failed)) (too_long (rest_of input)) read_failed ended.2
+          (cause_played c input read_failed ended.0 ended.1));
     }
 
 -- a status that is neither 1 nor 5 is the one that is told
-status-done : (told : Told) (in1 : Input) (out0 out1 : Output) (line : List ℕ) (status : ℕ) → CarriesOut told in1 out0 out1 line status → status ≢ 1 → status ≢ 5 → status ≡ told.status
+status-done : (told : Told) (in1 : Input) (out0 out1 : Output) (line : List ℕ) (status : ℕ) → CarriesOut told in1 out0 out1 line status →
+    status ≢ 1 → status ≢ 5 → status ≡ told.status
 status-done told in1 out0 out1 line status (completes h) not_1 not_5 = h.status_is
 status-done told in1 out0 out1 line status (fails_to_write h) not_1 not_5 = absurd (not_5 h.status_is)
 status-done told in1 out0 out1 line status (lacks_memory h) not_1 not_5 = absurd (not_1 h.status_is)
 status-done told in1 out0 out1 line status (fails_for_memory h) not_1 not_5 = absurd (not_1 h.status_is)
 
-status-told : (asked : Option Asked) (next_load : List ℕ → Option Load) (counts0 counts1 : LoadCounts) (sizes0 sizes1 : ℕ) (in0 in1 : Input) (out0 out1 : Output) (outcome : Outcome)
+status-told : (asked : Option Asked) (next_load : List ℕ → Option Load) (counts0 counts1 : LoadCounts) (sizes0 sizes1 : ℕ) (in0 in1 : Input)
+    (out0 out1 : Output) (outcome : Outcome)
     (runs : Runs asked next_load counts0 counts1 sizes0 sizes1 in0 in1 out0 out1 outcome) → status_of_outcome outcome ≢ 1 →
     status_of_outcome outcome ≢ 5 →
     status_of_outcome outcome ≡ (told_words asked runs.file runs.built runs.answers.input runs.answers.read_failed).status
@@ -473,8 +555,10 @@ record Played (asked : Option Asked) (next_load : List ℕ → Option Load) (inp
   has : HasConfig asked next_load c
   ended : (tells c input read_failed).status ≡ status
 
-played_asked : (asked : Asked) (bytes : List ℕ) (c : Configuration) (next_load : List ℕ → Option Load) (input : List ℕ) (read_failed : Bool) (status : ℕ) → status ≢ 0 →
-    Tells (next_load (file_asked asked)) (Got bytes) → config_of bytes ≡ Ok c → status ≡ (told_asked asked c input read_failed).status → Played (Some asked) next_load input read_failed status
+played_asked : (asked : Asked) (bytes : List ℕ) (c : Configuration) (next_load : List ℕ → Option Load) (input : List ℕ) (read_failed : Bool)
+    (status : ℕ) → status ≢ 0 →
+    Tells (next_load (file_asked asked)) (Got bytes) → config_of bytes ≡ Ok c → status ≡ (told_asked asked c input read_failed).status →
+    Played (Some asked) next_load input read_failed status
 played_asked (Check file) bytes c next_load input read_failed status not_0 tells reads is = absurd (not_0 is)
 played_asked (Hunt file context dest) bytes c next_load input read_failed status not_0 tells reads is = absurd (not_0 is)
 played_asked (Play file) bytes c next_load input read_failed status not_0 tells reads is = record {
@@ -483,15 +567,20 @@ played_asked (Play file) bytes c next_load input read_failed status not_0 tells 
   ended = sym is;
 }
 
-played_read : (asked : Asked) (bytes : List ℕ) (read : Result Configuration DocFault) (built : Option PlanFault) (next_load : List ℕ → Option Load) (input : List ℕ) (read_failed : Bool) (status : ℕ) →
-    status ≢ 0 → status ≢ 3 → Tells (next_load (file_asked asked)) (Got bytes) → config_of bytes ≡ read → status ≡ (told_read asked read built input read_failed).status →
+played_read : (asked : Asked) (bytes : List ℕ) (read : Result Configuration DocFault) (built : Option PlanFault) (next_load : List ℕ →
+    Option Load) (input : List ℕ) (read_failed : Bool) (status : ℕ) →
+    status ≢ 0 → status ≢ 3 → Tells (next_load (file_asked asked)) (Got bytes) → config_of bytes ≡ read →
+    status ≡ (told_read asked read built input read_failed).status →
     Played (Some asked) next_load input read_failed status
-played_read asked bytes (Ok c) None next_load input read_failed status not_0 not_3 tells reads is = played_asked asked bytes c next_load input read_failed status not_0 tells reads is
+played_read asked bytes (Ok c) None next_load input read_failed status not_0 not_3 tells reads is =
+    played_asked asked bytes c next_load input read_failed status not_0 tells reads is
 played_read asked bytes (Ok c) (Some fault) next_load input read_failed status not_0 not_3 tells reads is = absurd (not_3 is)
 played_read asked bytes (Err fault) built next_load input read_failed status not_0 not_3 tells reads is = absurd (not_3 is)
 
-played_file : (asked : Option Asked) (file : Load) (built : Option PlanFault) (next_load : List ℕ → Option Load) (input : List ℕ) (read_failed : Bool) (status : ℕ) →
-    status ≢ 0 → status ≢ 2 → status ≢ 3 → status ≢ 4 → IfSome asked (λ a. Tells (next_load (file_asked a)) file) → status ≡ (told_words asked file built input read_failed).status →
+played_file : (asked : Option Asked) (file : Load) (built : Option PlanFault) (next_load : List ℕ → Option Load) (input : List ℕ)
+    (read_failed : Bool) (status : ℕ) →
+    status ≢ 0 → status ≢ 2 → status ≢ 3 → status ≢ 4 → IfSome asked (λ a. Tells (next_load (file_asked a)) file) →
+    status ≡ (told_words asked file built input read_failed).status →
     Played asked next_load input read_failed status
 played_file None file built next_load input read_failed status not_0 not_2 not_3 not_4 tells is = absurd (not_2 is)
 played_file (Some asked) (Got bytes) built next_load input read_failed status not_0 not_2 not_3 not_4 tells is =
@@ -500,34 +589,53 @@ played_file (Some asked) Absent built next_load input read_failed status not_0 n
 played_file (Some asked) Failed built next_load input read_failed status not_0 not_2 not_3 not_4 tells is = absurd (not_4 is)
 
 -- what status 8 shows
-pub cause_full : (asked : Option Asked) (next_load : List ℕ → Option Load) (counts0 counts1 : LoadCounts) (sizes0 sizes1 : ℕ) (in0 in1 : Input) (out0 out1 : Output) (outcome : Outcome) →
-    Runs asked next_load counts0 counts1 sizes0 sizes1 in0 in1 out0 out1 outcome → status_of_outcome outcome ≡ 8 → (c : Configuration) × HasConfig asked next_load c × FillsJournal c in0 in1
+pub cause_full : (asked : Option Asked) (next_load : List ℕ → Option Load) (counts0 counts1 : LoadCounts) (sizes0 sizes1 : ℕ)
+    (in0 in1 : Input) (out0 out1 : Output) (outcome : Outcome) →
+    Runs asked next_load counts0 counts1 sizes0 sizes1 in0 in1 out0 out1 outcome → status_of_outcome outcome ≡ 8 →
+    (c : Configuration) × HasConfig asked next_load c × FillsJournal c in0 in1
 cause_full asked next_load counts0 counts1 sizes0 sizes1 in0 in1 out0 out1 outcome runs eight =
-    let told = status-told asked next_load counts0 counts1 sizes0 sizes1 in0 in1 out0 out1 outcome runs (λ e. absurd (cc)) (λ e. absurd (cc)) in
-    let p = played_file asked runs.file runs.built next_load runs.answers.input runs.answers.read_failed (status_of_outcome outcome) (λ e. absurd (cc)) (λ e. absurd (cc)) (λ e. absurd (cc)) (λ e. absurd (cc)) runs.file_told told in
-    let ended : (tells p.c runs.answers.input runs.answers.read_failed).status ≡ 8 = subst (λ (n : ℕ). (tells p.c runs.answers.input runs.answers.read_failed).status ≡ n) eight p.ended in
+    let told =
+    status-told asked next_load counts0 counts1 sizes0 sizes1 in0 in1 out0 out1 outcome runs (λ e. absurd (cc)) (λ e. absurd (cc)) in
+    let p =
+    played_file asked runs.file runs.built next_load runs.answers.input runs.answers.read_failed (status_of_outcome outcome)
+    (λ e. absurd (cc)) (λ e. absurd (cc)) (λ e. absurd (cc)) (λ e. absurd (cc)) runs.file_told told in
+    let ended : (tells p.c runs.answers.input runs.answers.read_failed).status ≡ 8 =
+    subst (λ (n : ℕ). (tells p.c runs.answers.input runs.answers.read_failed).status ≡ n) eight p.ended in
     (p.c, p.has, full_play p.c in0 in1 runs.answers.input runs.answers.read_failed runs.answers.has_read ended)
 
 -- what status 9 shows
-pub cause_away : (asked : Option Asked) (next_load : List ℕ → Option Load) (counts0 counts1 : LoadCounts) (sizes0 sizes1 : ℕ) (in0 in1 : Input) (out0 out1 : Output) (outcome : Outcome) →
-    Runs asked next_load counts0 counts1 sizes0 sizes1 in0 in1 out0 out1 outcome → status_of_outcome outcome ≡ 9 → (c : Configuration) × HasConfig asked next_load c × RunsAway c in0 in1
+pub cause_away : (asked : Option Asked) (next_load : List ℕ → Option Load) (counts0 counts1 : LoadCounts) (sizes0 sizes1 : ℕ)
+    (in0 in1 : Input) (out0 out1 : Output) (outcome : Outcome) →
+    Runs asked next_load counts0 counts1 sizes0 sizes1 in0 in1 out0 out1 outcome → status_of_outcome outcome ≡ 9 →
+    (c : Configuration) × HasConfig asked next_load c × RunsAway c in0 in1
 cause_away asked next_load counts0 counts1 sizes0 sizes1 in0 in1 out0 out1 outcome runs nine =
-    let told = status-told asked next_load counts0 counts1 sizes0 sizes1 in0 in1 out0 out1 outcome runs (λ e. absurd (cc)) (λ e. absurd (cc)) in
-    let p = played_file asked runs.file runs.built next_load runs.answers.input runs.answers.read_failed (status_of_outcome outcome) (λ e. absurd (cc)) (λ e. absurd (cc)) (λ e. absurd (cc)) (λ e. absurd (cc)) runs.file_told told in
-    let ended : (tells p.c runs.answers.input runs.answers.read_failed).status ≡ 9 = subst (λ (n : ℕ). (tells p.c runs.answers.input runs.answers.read_failed).status ≡ n) nine p.ended in
+    let told =
+    status-told asked next_load counts0 counts1 sizes0 sizes1 in0 in1 out0 out1 outcome runs (λ e. absurd (cc)) (λ e. absurd (cc)) in
+    let p =
+    played_file asked runs.file runs.built next_load runs.answers.input runs.answers.read_failed (status_of_outcome outcome)
+    (λ e. absurd (cc)) (λ e. absurd (cc)) (λ e. absurd (cc)) (λ e. absurd (cc)) runs.file_told told in
+    let ended : (tells p.c runs.answers.input runs.answers.read_failed).status ≡ 9 =
+    subst (λ (n : ℕ). (tells p.c runs.answers.input runs.answers.read_failed).status ≡ n) nine p.ended in
     (p.c, p.has, away_play p.c in0 in1 runs.answers.input runs.answers.read_failed runs.answers.has_read ended)
 
 -- what status 10 shows
-pub cause_too_long : (asked : Option Asked) (next_load : List ℕ → Option Load) (counts0 counts1 : LoadCounts) (sizes0 sizes1 : ℕ) (in0 in1 : Input) (out0 out1 : Output) (outcome : Outcome) →
-    Runs asked next_load counts0 counts1 sizes0 sizes1 in0 in1 out0 out1 outcome → status_of_outcome outcome ≡ 10 → (c : Configuration) × HasConfig asked next_load c × MeetsTooLong c in0 in1
+pub cause_too_long : (asked : Option Asked) (next_load : List ℕ → Option Load) (counts0 counts1 : LoadCounts) (sizes0 sizes1 : ℕ)
+    (in0 in1 : Input) (out0 out1 : Output) (outcome : Outcome) →
+    Runs asked next_load counts0 counts1 sizes0 sizes1 in0 in1 out0 out1 outcome → status_of_outcome outcome ≡ 10 →
+    (c : Configuration) × HasConfig asked next_load c × MeetsTooLong c in0 in1
 cause_too_long asked next_load counts0 counts1 sizes0 sizes1 in0 in1 out0 out1 outcome runs ten =
-    let told = status-told asked next_load counts0 counts1 sizes0 sizes1 in0 in1 out0 out1 outcome runs (λ e. absurd (cc)) (λ e. absurd (cc)) in
-    let p = played_file asked runs.file runs.built next_load runs.answers.input runs.answers.read_failed (status_of_outcome outcome) (λ e. absurd (cc)) (λ e. absurd (cc)) (λ e. absurd (cc)) (λ e. absurd (cc)) runs.file_told told in
-    let ended : (tells p.c runs.answers.input runs.answers.read_failed).status ≡ 10 = subst (λ (n : ℕ). (tells p.c runs.answers.input runs.answers.read_failed).status ≡ n) ten p.ended in
+    let told =
+    status-told asked next_load counts0 counts1 sizes0 sizes1 in0 in1 out0 out1 outcome runs (λ e. absurd (cc)) (λ e. absurd (cc)) in
+    let p =
+    played_file asked runs.file runs.built next_load runs.answers.input runs.answers.read_failed (status_of_outcome outcome)
+    (λ e. absurd (cc)) (λ e. absurd (cc)) (λ e. absurd (cc)) (λ e. absurd (cc)) runs.file_told told in
+    let ended : (tells p.c runs.answers.input runs.answers.read_failed).status ≡ 10 =
+    subst (λ (n : ℕ). (tells p.c runs.answers.input runs.answers.read_failed).status ≡ n) ten p.ended in
     (p.c, p.has, too_long_play p.c in0 in1 runs.answers.input runs.answers.read_failed runs.answers.has_read ended)
 
 -- no play is told to end by a write that failed
-unwritten_end : (end : End) (s : Switch) (is_too_long read_failed : Bool) → status_of_end end ≡ 5 → HasCause end s is_too_long read_failed → ⊥
+unwritten_end : (end : End) (s : Switch) (is_too_long read_failed : Bool) → status_of_end end ≡ 5 → HasCause end s is_too_long read_failed →
+    ⊥
 unwritten_end ends.Exit s is_too_long read_failed five cause = cc
 unwritten_end ends.Eof s is_too_long read_failed five cause = cc
 unwritten_end ends.AuthRefused s is_too_long read_failed five cause = cc
@@ -541,40 +649,55 @@ unwritten_end (ends.Runaway count) s is_too_long read_failed five cause = cc
 unwritten_play : (c : Configuration) (input : List ℕ) (read_failed : Bool) → (tells c input read_failed).status ≡ 5 → ⊥
 unwritten_play c input read_failed five =
     let ended = status_ended c input read_failed 5 five in
-    unwritten_end ended.0 (switch_of (played c input read_failed)) (too_long (rest_of input)) read_failed ended.2 (cause_played c input read_failed ended.0 ended.1)
+    unwritten_end ended.0 (switch_of (played c input read_failed)) (too_long (rest_of input)) read_failed ended.2
+    (cause_played c input read_failed ended.0 ended.1)
 
 -- so a status of 5 comes of a write
-failed_write : (told : Told) (in1 : Input) (out0 out1 : Output) (line : List ℕ) (status : ℕ) → CarriesOut told in1 out0 out1 line status → status ≡ 5 → told.status ≢ 5 → out1.faults ≡ raised out0.faults
+failed_write : (told : Told) (in1 : Input) (out0 out1 : Output) (line : List ℕ) (status : ℕ) → CarriesOut told in1 out0 out1 line status →
+    status ≡ 5 → told.status ≢ 5 → out1.faults ≡ raised out0.faults
 failed_write told in1 out0 out1 line status (completes h) five never = absurd (never (sym h.status_is ∙ five))
 failed_write told in1 out0 out1 line status (fails_to_write h) five never = h.stopped.faults
 failed_write told in1 out0 out1 line status (lacks_memory h) five never = let one : 1 ≡ 5 = sym h.status_is ∙ five in absurd (cc)
 failed_write told in1 out0 out1 line status (fails_for_memory h) five never = h.stopped.faults
 
 -- what status 5 shows
-pub cause_write : (asked : Option Asked) (next_load : List ℕ → Option Load) (counts0 counts1 : LoadCounts) (sizes0 sizes1 : ℕ) (in0 in1 : Input) (out0 out1 : Output) (outcome : Outcome) →
+pub cause_write : (asked : Option Asked) (next_load : List ℕ → Option Load) (counts0 counts1 : LoadCounts) (sizes0 sizes1 : ℕ)
+    (in0 in1 : Input) (out0 out1 : Output) (outcome : Outcome) →
     Runs asked next_load counts0 counts1 sizes0 sizes1 in0 in1 out0 out1 outcome → status_of_outcome outcome ≡ 5 → out1.faults ≡ raised
     out0.faults
 cause_write asked next_load counts0 counts1 sizes0 sizes1 in0 in1 out0 out1 outcome runs five =
-    failed_write (told_words asked runs.file runs.built runs.answers.input runs.answers.read_failed) in1 out0 out1 (line_of_outcome outcome) (status_of_outcome outcome) runs.answers.does five
-    (λ e. let p = played_file asked runs.file runs.built next_load runs.answers.input runs.answers.read_failed 5 (λ z. absurd (cc)) (λ z. absurd (cc)) (λ z. absurd (cc)) (λ z. absurd (cc)) runs.file_told (sym e) in
+    failed_write (told_words asked runs.file runs.built runs.answers.input runs.answers.read_failed) in1 out0 out1 (line_of_outcome outcome)
+    (status_of_outcome outcome) runs.answers.does five
+    (λ e. let p = played_file asked runs.file runs.built next_load runs.answers.input runs.answers.read_failed 5 (λ z. absurd (cc))
+    (λ z. absurd (cc)) (λ z. absurd (cc)) (λ z. absurd (cc)) runs.file_told (sym e) in
     unwritten_play p.c runs.answers.input runs.answers.read_failed p.ended)
 
 -- what status 4 shows
-unreadable_file : (asked : Asked) (file : Load) (built : Option PlanFault) (next_load : List ℕ → Option Load) (counts0 counts1 : LoadCounts) (in0 in1 : Input) (input : List ℕ) (read_failed : Bool) (status : ℕ) →
-    status ≡ 4 → Tells (next_load (file_asked asked)) file → Counted counts0 counts1 file → HasRead in0 in1 input read_failed → status ≡ (told_file asked file built input read_failed).status → CountRose counts0 counts1 in0 in1
+unreadable_file : (asked : Asked) (file : Load) (built : Option PlanFault) (next_load : List ℕ → Option Load) (counts0 counts1 : LoadCounts)
+    (in0 in1 : Input) (input : List ℕ) (read_failed : Bool) (status : ℕ) →
+    status ≡ 4 → Tells (next_load (file_asked asked)) file → Counted counts0 counts1 file → HasRead in0 in1 input read_failed →
+    status ≡ (told_file asked file built input read_failed).status → CountRose counts0 counts1 in0 in1
 unreadable_file asked (Got bytes) built next_load counts0 counts1 in0 in1 input read_failed status four tells counted has_read is =
-    let p = played_read asked bytes (config_of bytes) built next_load input read_failed 4 (λ e. absurd (cc)) (λ e. absurd (cc)) tells refl (sym four ∙ is) in
+    let p =
+    played_read asked bytes (config_of bytes) built next_load input read_failed 4 (λ e. absurd (cc)) (λ e. absurd (cc)) tells refl
+    (sym four ∙ is) in
     unreadable_play p.c counts0 counts1 in0 in1 input read_failed has_read p.ended
-unreadable_file asked Absent built next_load counts0 counts1 in0 in1 input read_failed status four tells counted has_read is = inl (ap (λ c. c.absences) counted)
-unreadable_file asked Failed built next_load counts0 counts1 in0 in1 input read_failed status four tells counted has_read is = inr (inl (ap (λ c. c.faults) counted))
+unreadable_file asked Absent built next_load counts0 counts1 in0 in1 input read_failed status four tells counted has_read is =
+    inl (ap (λ c. c.absences) counted)
+unreadable_file asked Failed built next_load counts0 counts1 in0 in1 input read_failed status four tells counted has_read is =
+    inr (inl (ap (λ c. c.faults) counted))
 
-pub cause_unreadable : (asked : Option Asked) (next_load : List ℕ → Option Load) (counts0 counts1 : LoadCounts) (sizes0 sizes1 : ℕ) (in0 in1 : Input) (out0 out1 : Output) (outcome : Outcome) →
+pub cause_unreadable : (asked : Option Asked) (next_load : List ℕ → Option Load) (counts0 counts1 : LoadCounts) (sizes0 sizes1 : ℕ)
+    (in0 in1 : Input) (out0 out1 : Output) (outcome : Outcome) →
     Runs asked next_load counts0 counts1 sizes0 sizes1 in0 in1 out0 out1 outcome → status_of_outcome outcome ≡ 4 → CountRose counts0 counts1
     in0 in1
 cause_unreadable None next_load counts0 counts1 sizes0 sizes1 in0 in1 out0 out1 outcome runs four = let two = runs.usage refl in absurd (cc)
 cause_unreadable (Some asked) next_load counts0 counts1 sizes0 sizes1 in0 in1 out0 out1 outcome runs four =
-    let told = status-told (Some asked) next_load counts0 counts1 sizes0 sizes1 in0 in1 out0 out1 outcome runs (λ e. absurd (cc)) (λ e. absurd (cc)) in
-    unreadable_file asked runs.file runs.built next_load counts0 counts1 in0 in1 runs.answers.input runs.answers.read_failed (status_of_outcome outcome) four runs.file_told (runs.loaded (λ e. absurd (cc))) runs.answers.has_read told
+    let told =
+    status-told (Some asked) next_load counts0 counts1 sizes0 sizes1 in0 in1 out0 out1 outcome runs (λ e. absurd (cc))
+    (λ e. absurd (cc)) in
+    unreadable_file asked runs.file runs.built next_load counts0 counts1 in0 in1 runs.answers.input runs.answers.read_failed
+    (status_of_outcome outcome) four runs.file_told (runs.loaded (λ e. absurd (cc))) runs.answers.has_read told
 
 -- no play has status 3
 end_not_3 : (end : End) → status_of_end end ≡ 3 → ⊥
@@ -588,17 +711,21 @@ end_not_3 (ends.JournalFull cost limit) three = cc
 end_not_3 ends.Memory three = cc
 end_not_3 (ends.Runaway count) three = cc
 
-asked_not_3 : (asked : Asked) (c : Configuration) (input : List ℕ) (read_failed : Bool) → (told_asked asked c input read_failed).status ≡ 3 → ⊥
+asked_not_3 : (asked : Asked) (c : Configuration) (input : List ℕ) (read_failed : Bool) →
+    (told_asked asked c input read_failed).status ≡ 3 → ⊥
 asked_not_3 (Check file) c input read_failed three = cc
 asked_not_3 (Hunt file context dest) c input read_failed three = cc
 asked_not_3 (Play file) c input read_failed three = let ended = status_ended c input read_failed 3 three in end_not_3 ended.0 ended.2
 
-document_read : (asked : Asked) (bytes : List ℕ) (read : Result Configuration DocFault) (built : Option PlanFault) (next_load : List ℕ → Option Load) (sizes0 sizes1 : ℕ) (input : List ℕ) (read_failed : Bool) →
-    Tells (next_load (file_asked asked)) (Got bytes) → config_of bytes ≡ read → IsBuilt (Got bytes) built sizes0 sizes1 → (told_read asked read built input read_failed).status ≡ 3 →
+document_read : (asked : Asked) (bytes : List ℕ) (read : Result Configuration DocFault) (built : Option PlanFault) (next_load : List ℕ →
+    Option Load) (sizes0 sizes1 : ℕ) (input : List ℕ) (read_failed : Bool) →
+    Tells (next_load (file_asked asked)) (Got bytes) → config_of bytes ≡ read → IsBuilt (Got bytes) built sizes0 sizes1 →
+    (told_read asked read built input read_failed).status ≡ 3 →
     HasFault (Some asked) next_load ⊎ HasRefusal (Some asked) next_load sizes0 sizes1
 document_read asked bytes (Err fault) built next_load sizes0 sizes1 input read_failed tells reads built_told three =
     inl (record { of = asked; bytes = bytes; fault = fault; is_asked = refl; told = tells; reads = reads })
-document_read asked bytes (Ok c) None next_load sizes0 sizes1 input read_failed tells reads built_told three = absurd (asked_not_3 asked c input read_failed three)
+document_read asked bytes (Ok c) None next_load sizes0 sizes1 input read_failed tells reads built_told three =
+    absurd (asked_not_3 asked c input read_failed three)
 document_read asked bytes (Ok c) (Some fault) next_load sizes0 sizes1 input read_failed tells reads built_told three = inr (record {
   c = built_told.0;
   fault = fault;
@@ -606,7 +733,8 @@ document_read asked bytes (Ok c) (Some fault) next_load sizes0 sizes1 input read
   refused = built_told.2;
 })
 
-document_file : (asked : Asked) (file : Load) (built : Option PlanFault) (next_load : List ℕ → Option Load) (sizes0 sizes1 : ℕ) (input : List ℕ) (read_failed : Bool) →
+document_file : (asked : Asked) (file : Load) (built : Option PlanFault) (next_load : List ℕ → Option Load) (sizes0 sizes1 : ℕ)
+    (input : List ℕ) (read_failed : Bool) →
     Tells (next_load (file_asked asked)) file → IsBuilt file built sizes0 sizes1 → (told_file asked file built input read_failed).status ≡ 3
     →
     HasFault (Some asked) next_load ⊎ HasRefusal (Some asked) next_load sizes0 sizes1
@@ -615,9 +743,14 @@ document_file asked (Got bytes) built next_load sizes0 sizes1 input read_failed 
 document_file asked Absent built next_load sizes0 sizes1 input read_failed tells built_told three = absurd (cc)
 document_file asked Failed built next_load sizes0 sizes1 input read_failed tells built_told three = absurd (cc)
 
-pub cause_document : (asked : Option Asked) (next_load : List ℕ → Option Load) (counts0 counts1 : LoadCounts) (sizes0 sizes1 : ℕ) (in0 in1 : Input) (out0 out1 : Output) (outcome : Outcome) →
-    Runs asked next_load counts0 counts1 sizes0 sizes1 in0 in1 out0 out1 outcome → status_of_outcome outcome ≡ 3 → HasFault asked next_load ⊎ HasRefusal asked next_load sizes0 sizes1
+pub cause_document : (asked : Option Asked) (next_load : List ℕ → Option Load) (counts0 counts1 : LoadCounts) (sizes0 sizes1 : ℕ)
+    (in0 in1 : Input) (out0 out1 : Output) (outcome : Outcome) →
+    Runs asked next_load counts0 counts1 sizes0 sizes1 in0 in1 out0 out1 outcome → status_of_outcome outcome ≡ 3 →
+    HasFault asked next_load ⊎ HasRefusal asked next_load sizes0 sizes1
 cause_document None next_load counts0 counts1 sizes0 sizes1 in0 in1 out0 out1 outcome runs three = let two = runs.usage refl in absurd (cc)
 cause_document (Some asked) next_load counts0 counts1 sizes0 sizes1 in0 in1 out0 out1 outcome runs three =
-    let told = status-told (Some asked) next_load counts0 counts1 sizes0 sizes1 in0 in1 out0 out1 outcome runs (λ e. absurd (cc)) (λ e. absurd (cc)) in
-    document_file asked runs.file runs.built next_load sizes0 sizes1 runs.answers.input runs.answers.read_failed runs.file_told runs.built_told (sym told ∙ three)
+    let told =
+    status-told (Some asked) next_load counts0 counts1 sizes0 sizes1 in0 in1 out0 out1 outcome runs (λ e. absurd (cc))
+    (λ e. absurd (cc)) in
+    document_file asked runs.file runs.built next_load sizes0 sizes1 runs.answers.input runs.answers.read_failed runs.file_told
+    runs.built_told (sym told ∙ three)

@@ -1,5 +1,6 @@
 -- What a run of the program does, and the causes of its statuses.
-use Rattle.std.specs.Prelude.{◌≡◌, ◌≢◌, ℕ, Bool, true, false, IsTrue, List, All, [], ◌++◌, Option, None, Some, IfSome, Ok, Err, ◌⊎◌, if◌then◌else◌}
+use Rattle.std.specs.Prelude.{◌≡◌, ◌≢◌, ℕ, Bool, true, false, IsTrue, List, All, [], ◌++◌, Option, None, Some, IfSome, Ok, Err, ◌⊎◌}
+use Rattle.std.specs.Prelude.{if◌then◌else◌}
 use Rattle.std.specs.Io.KnownBytes.{IsAtEnd}
 use Rattle.fs_ports.specs.Counts.{raised}
 use Rattle.fs_ports.specs.Ports.{Input, Output, Writes, Stopped, SendDid}
@@ -22,7 +23,8 @@ use Rattle.fs_conn.specs.declared.end.End.TheVariants as ends
 use Rattle.fs_conn.specs.Play.{switch_of, played}
 use Rattle.fs_conn.specs.Turns.{HasRead, Plays}
 use Rattle.fs_conn.specs.Ends.{IsFullAt}
-use Rattle.fs_top.specs.Told.{Told, Asked, Check, Hunt, Play, file_asked, told_asked, told_built, told_file, told_words, line_of_end, status_of_end, usage_line, cannot_read_line, fault_line, pattern_line, write_fault_line, memory_line}
+use Rattle.fs_top.specs.Told.{Told, Asked, Check, Hunt, Play, file_asked, told_asked, told_built, told_file, told_words, line_of_end}
+use Rattle.fs_top.specs.Told.{status_of_end, usage_line, cannot_read_line, fault_line, pattern_line, write_fault_line, memory_line}
 use Rattle.fs_top.specs.declared.outcome.Outcome.{Outcome}
 use Rattle.fs_top.specs.declared.outcome.Outcome.TheVariants.{Usage, CannotRead, BadDocument, BadPattern, Printed, Ended}
 
@@ -110,7 +112,8 @@ ReadsNothing (Some (Hunt file context dest)) = Unit {0}
 ReadsNothing (Some (Play file)) = ⊥
 
 -- what was taken from the link, and what was answered for it
-pub record Answers (told : List ℕ → Bool → Told) (asked : Option Asked) (in0 in1 : Input) (out0 out1 : Output) (outcome : Outcome) : Type 0 where
+pub record Answers (told : List ℕ → Bool → Told) (asked : Option Asked) (in0 in1 : Input) (out0 out1 : Output)
+    (outcome : Outcome) : Type 0 where
   pub input : List ℕ
   pub read_failed : Bool
   pub has_read : HasRead in0 in1 input read_failed
@@ -126,13 +129,15 @@ IsBuilt Absent (Some fault) sizes0 sizes1 = ⊥
 IsBuilt Failed (Some fault) sizes0 sizes1 = ⊥
 
 -- what was answered over a configuration: a pattern of it was refused, or what is asked was done
-pub record OverConfig (asked : Asked) (c : Configuration) (sizes0 sizes1 : ℕ) (in0 in1 : Input) (out0 out1 : Output) (outcome : Outcome) : Type 0 where
+pub record OverConfig (asked : Asked) (c : Configuration) (sizes0 sizes1 : ℕ) (in0 in1 : Input) (out0 out1 : Output)
+    (outcome : Outcome) : Type 0 where
   pub built : Option PlanFault
   pub built_told : IsPlanBuiltOf c built sizes0 sizes1
   pub answers : Answers (told_built asked c built) (Some asked) in0 in1 out0 out1 outcome
 
 -- what was answered over the bytes of a document
-pub record OverBytes (asked : Asked) (bytes : List ℕ) (sizes0 sizes1 : ℕ) (in0 in1 : Input) (out0 out1 : Output) (outcome : Outcome) : Type 0 where
+pub record OverBytes (asked : Asked) (bytes : List ℕ) (sizes0 sizes1 : ℕ) (in0 in1 : Input) (out0 out1 : Output)
+    (outcome : Outcome) : Type 0 where
   pub built : Option PlanFault
   pub built_told : IsBuilt (Got bytes) built sizes0 sizes1
   pub answers : Answers (told_file asked (Got bytes) built) (Some asked) in0 in1 out0 out1 outcome
@@ -157,8 +162,8 @@ abbrev pub Loaded : Option Asked → LoadCounts → LoadCounts → Load → Type
 Loaded None old new file = new ≡ old
 Loaded (Some asked) old new file = Counted old new file
 
--- the run answers as it is told where the words ask for this, or have no form, for what the file gave, for the pattern that was refused, and
--- for what was taken from the link
+-- the run answers as it is told where the words ask for this, or have no form, for what the file gave, for the pattern that was refused,
+-- and for what was taken from the link
 pub record Runs (asked : Option Asked) (next_load : List ℕ → Option Load) (counts0 counts1 : LoadCounts) (sizes0 sizes1 : ℕ)
     (in0 in1 : Input) (out0 out1 : Output) (outcome : Outcome) : Type 0 where
   pub file : Load
@@ -267,5 +272,6 @@ pub record DoesAll (asked : Asked) (c : Configuration) (in0 in1 : Input) (out0 o
   pub line : List ℕ
   pub sent : Sent
   pub has_read : HasRead in0 in1 input false
-  pub does : Completes (told_asked asked c input false) in1 out0 out1 line status ⊎ BreaksForMemory (told_asked asked c input false) out0 out1 line status
+  pub does : Completes (told_asked asked c input false) in1 out0 out1 line status
+      ⊎ BreaksForMemory (told_asked asked c input false) out0 out1 line status
   pub said : SendDid err0 err1 sent line

@@ -1,5 +1,6 @@
 -- What the program answers: its output, its printed line and its status.
-use Rattle.std.specs.Prelude.{ℕ, Bool, true, false, List, [], ◌∷◌, ◌++◌, Option, None, Some, unwrap_or, Result, Ok, Err, codes, if◌then◌else◌}
+use Rattle.std.specs.Prelude.{ℕ, Bool, true, false, List, [], ◌∷◌, ◌++◌, Option, None, Some, unwrap_or, Result, Ok, Err, codes}
+use Rattle.std.specs.Prelude.{if◌then◌else◌}
 use Rattle.std.specs.Str.{bytes_eq}
 use Rattle.std.specs.Fmt.{decimal}
 use Rattle.std.specs.Option.{option_map}
@@ -30,7 +31,9 @@ pub data Asked : Type 0 where
 
 -- the words `check FILE` and `play FILE`
 abbrev pub asked_of_two : List ℕ → List ℕ → Option Asked
-asked_of_two word file = if bytes_eq word (codes "check") then Some (Check file) else (if bytes_eq word (codes "play") then Some (Play file) else None)
+asked_of_two word file =
+    if bytes_eq word (codes "check") then Some (Check file)
+    else (if bytes_eq word (codes "play") then Some (Play file) else None)
 
 -- the words `hunt FILE CONTEXT DEST`
 abbrev pub asked_of_four : List ℕ → List ℕ → List ℕ → List ℕ → Option Asked
@@ -63,10 +66,12 @@ fault_line fault = codes "fsw: " ++ (kind_name fault.kind ++ (codes " at " ++ (d
 
 -- the pattern that was refused, by the numbers of its extension and condition
 unfoldable pub pattern_refused_line : ℕ → ℕ → List ℕ
-pattern_refused_line extension condition = codes "fsw: pattern refused in extension " ++ (decimal extension ++ (codes " condition " ++ (decimal condition ++ codes "\n")))
+pattern_refused_line extension condition =
+    codes "fsw: pattern refused in extension " ++ (decimal extension ++ (codes " condition " ++ (decimal condition ++ codes "\n")))
 
 unfoldable pub pattern_too_large_line : ℕ → ℕ → List ℕ
-pattern_too_large_line extension condition = codes "fsw: pattern too large in extension " ++ (decimal extension ++ (codes " condition " ++ (decimal condition ++ codes "\n")))
+pattern_too_large_line extension condition =
+    codes "fsw: pattern too large in extension " ++ (decimal extension ++ (codes " condition " ++ (decimal condition ++ codes "\n")))
 
 unfoldable pub read_fault_line : List ℕ
 read_fault_line = codes "fsw: read fault\n"

@@ -17,7 +17,7 @@ const USAGE: &str =
     "usage: fsw check FILE | hunt FILE CONTEXT DEST | play FILE | load COUNT START | serve FILE\n";
 
 // Prints the line of an outcome, if it has one.
-#[tactic(auto, unfolding(crate::specs::Told::usage_line, crate::specs::Told::read_fault_line, crate::specs::Told::write_fault_line, crate::specs::Told::memory_line,))]
+#[tactic(auto, unfolding(crate::specs::Told::usage_line))]
 pub(crate) fn say<E: Sink>(err: &mut E, outcome: Outcome<'_>) -> Sent
     ensures { SendDid (E.output err.old) (E.output err.new) result (line_of_outcome outcome.entry) }
 {
@@ -26,16 +26,33 @@ pub(crate) fn say<E: Sink>(err: &mut E, outcome: Outcome<'_>) -> Sent
         Outcome::CannotRead { name } => say_cannot_read(err, name.as_bytes()),
         Outcome::BadDocument(fault) => say_fault(err, fault),
         Outcome::BadPattern(fault) => say_pattern(err, fault),
-        Outcome::Printed | Outcome::Ended(End::Exit | End::AuthRefused | End::Eof) => {
-            send_all(err, b"")
-        }
-        Outcome::Ended(End::ReadFault) => send_all(err, b"fsw: read fault\n"),
-        Outcome::Ended(End::TooLong { len }) => say_too_long(err, len),
-        Outcome::Ended(End::JournalFull { cost, limit }) => say_journal_full(err, cost, limit),
-        Outcome::Ended(End::Runaway { count }) => say_runaway(err, count),
-        Outcome::Ended(End::Memory) => send_all(err, b"fsw: out of memory\n"),
-        Outcome::Ended(End::WriteFault) => send_all(err, b"fsw: write fault\n"),
+        Outcome::Printed => send_all(err, b""),
+        Outcome::Ended(end) => say_end(err, end),
     }
+}
+
+// Prints the line of an end, if it has one.
+#[tactic(auto, unfolding(crate::specs::Told::read_fault_line, crate::specs::Told::write_fault_line))]
+fn say_end<E: Sink>(err: &mut E, end: End) -> Sent
+    ensures { SendDid (E.output err.old) (E.output err.new) result (spec.line_of_end end) }
+{
+    match end {
+        End::Exit | End::AuthRefused | End::Eof => send_all(err, b""),
+        End::ReadFault => send_all(err, b"fsw: read fault\n"),
+        End::TooLong { len } => say_too_long(err, len),
+        End::JournalFull { cost, limit } => say_journal_full(err, cost, limit),
+        End::Runaway { count } => say_runaway(err, count),
+        End::Memory => say_memory(err),
+        End::WriteFault => send_all(err, b"fsw: write fault\n"),
+    }
+}
+
+// Prints that memory is wanting.
+#[tactic(auto, unfolding(crate::specs::Told::memory_line))]
+fn say_memory<E: Sink>(err: &mut E) -> Sent
+    ensures { SendDid (E.output err.old) (E.output err.new) result spec.memory_line }
+{
+    send_all(err, b"fsw: out of memory\n")
 }
 
 // Prints what is wrong with a document, and where.
@@ -50,7 +67,6 @@ fn say_fault<E: Sink>(err: &mut E, fault: DocFault) -> Sent
 }
 
 // Prints which pattern was refused.
-#[tactic(auto, unfolding(crate::specs::Told::memory_line))]
 fn say_pattern<E: Sink>(err: &mut E, fault: PlanFault) -> Sent
     ensures { SendDid (E.output err.old) (E.output err.new) result (spec.pattern_line fault) }
 {
@@ -63,7 +79,7 @@ fn say_pattern<E: Sink>(err: &mut E, fault: PlanFault) -> Sent
             extension,
             condition,
         } => say_too_large(err, extension, condition),
-        PlanFault::Memory => send_all(err, b"fsw: out of memory\n"),
+        PlanFault::Memory => say_memory(err),
     }
 }
 

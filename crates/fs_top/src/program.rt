@@ -6,7 +6,8 @@ ghost use Rattle.fs_doc.specs.Reading.{Configuration};
 ghost use Rattle.fs_top.specs.Documents as documents;
 ghost use Rattle.fs_top.specs.Told as spec;
 ghost use Rattle.fs_top.specs.Reading.{asked_seen};
-ghost use Rattle.fs_top.specs.Runs.{PlaysTo, Answers, OverBytes, OverConfig, not_read, not_built, Runs, Ran, CarriesOutAs};
+ghost use Rattle.fs_top.specs.Runs.{PlaysTo, Answers, OverBytes, OverConfig, not_read, not_built, Runs, Ran};
+ghost use Rattle.fs_top.specs.Runs.{CarriesOutAs};
 ghost use Rattle.fs_top.specs.Runs.{HasConfig, HasFault, HasRefusal, CountRose, FillsJournal, MeetsTooLong, RunsAway};
 ghost use Rattle.fs_top.specs.Runs.{IsGiven, NoneRose, DoesAll};
 

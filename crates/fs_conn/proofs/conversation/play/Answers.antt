@@ -8,11 +8,13 @@ returns-in-Err-clause-plays g c = wants_first c.args.machine.now.config _ _ _ c.
 
 pub returns-in-Ok-converse-clause-config : goal.returns-in-Ok-converse-clause-config
 returns-in-Ok-converse-clause-config g c =
-    config_concludes c.args.machine.now.config _ _ _ _ c.in-Ok-converse.end (play_of c.converse.new.machine c.converse.new.clock) c.in-Ok-converse.ensures
+    config_concludes c.args.machine.now.config _ _ _ _ c.in-Ok-converse.end
+    (play_of c.converse.new.machine c.converse.new.clock) c.in-Ok-converse.ensures
 
 pub returns-in-Ok-converse-clause-plays : goal.returns-in-Ok-converse-clause-plays
 returns-in-Ok-converse-clause-plays g c =
-    plays_end c.args.machine.now.config _ _ _ _ c.in-Ok-converse.end (play_of c.converse.new.machine c.converse.new.clock) c.in-Ok-converse.ensures
+    plays_end c.args.machine.now.config _ _ _ _ c.in-Ok-converse.end
+    (play_of c.converse.new.machine c.converse.new.clock) c.in-Ok-converse.ensures
 
 pub returns-clause-config : goal.returns-clause-config
 returns-clause-config g c =

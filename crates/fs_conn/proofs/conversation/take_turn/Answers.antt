@@ -7,7 +7,8 @@ use Rattle.fs_conn.specs.Play.{end_by}
 use Rattle.fs_conn.specs.Steps.{play_of}
 use Rattle.fs_conn.proofs.SendLemmas.{writing_none}
 use Rattle.fs_conn.proofs.HereLemmas.{here_commanded}
-use Rattle.fs_conn.proofs.TurnLemmas.{is_reading, stops_filling, stops_command, stops_following, goes_on_behind, goes_on_fed, ends_by_farewell, ends_between, writes_first, reads_failed, falls_behind, falls_fed}
+use Rattle.fs_conn.proofs.TurnLemmas.{is_reading, stops_filling, stops_command, stops_following, goes_on_behind, goes_on_fed}
+use Rattle.fs_conn.proofs.TurnLemmas.{ends_by_farewell, ends_between, writes_first, reads_failed, falls_behind, falls_fed}
 use Rattle.fs_conn.proofs.conversation.take_turn.Goals as goal
 
 pub returns-in-Some-clause-turns : goal.returns-in-Some-clause-turns

@@ -22,7 +22,8 @@ pub returns-in-OutOfMemory-clause-plays : goal.returns-in-OutOfMemory-clause-pla
 returns-in-OutOfMemory-clause-plays g c =
     let p = play_of c.args.machine.now c.args.clock in
     λ config in0 out0 stops. rw c.write-written.ensures.input
-    (wants_memory config in0 _ out0 _ _ _ c.write-written.new.self p c.write-written.result (rw c.in-OutOfMemory.is at stops) c.write-written.ensures.writes)
+    (wants_memory config in0 _ out0 _ _ _ c.write-written.new.self p c.write-written.result
+    (rw c.in-OutOfMemory.is at stops) c.write-written.ensures.writes)
 
 pub returns-in-WriteFault-clause-plays : goal.returns-in-WriteFault-clause-plays
 returns-in-WriteFault-clause-plays g c =

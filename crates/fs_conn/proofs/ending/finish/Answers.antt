@@ -6,7 +6,8 @@ use Rattle.fs_conn.specs.Play.{after_trying_act, after_input_end}
 use Rattle.fs_conn.specs.Steps.{play_of, HasFilled, MayClose}
 use Rattle.fs_conn.proofs.PlayLemmas.{goes_entered}
 use Rattle.fs_conn.proofs.StepLemmas.{halts_on, works_enters}
-use Rattle.fs_conn.proofs.SendLemmas.{writing_none, writing_then, writing_cleared, sends_later, sends_entered, sends_place, sends_before_close, halts_before_close}
+use Rattle.fs_conn.proofs.SendLemmas.{writing_none, writing_then, writing_cleared, sends_later, sends_entered, sends_place}
+use Rattle.fs_conn.proofs.SendLemmas.{sends_before_close, halts_before_close}
 use Rattle.fs_conn.proofs.ending.finish.Goals as goal
 
 pub returns-in_err-end_input-clause-does : goal.returns-in_err-end_input-clause-does
@@ -51,7 +52,8 @@ returns-in_err-enter-clause-sends g c =
     writing_cleared _ _ _ _ _ _ old mid c.in_ok-end_input.ensures.sends c.in_ok-write.ensures.writes.0 c.in_ok-write.ensures.writes.1 in
     rw (p.1, p.2)
     (sends_later {A = Unit {0}} (MayClose old) (g.L.Port.output c.args.link.now) (g.L.Port.output c.write.new.link)
-    (g.L.Port.output c.write.new.link) c.args.unsent.now c.write.new.self c.write.new.self old mid new (Err c.in_err-enter.field-0.0) cleared
+    (g.L.Port.output c.write.new.link) c.args.unsent.now c.write.new.self c.write.new.self old mid new
+    (Err c.in_err-enter.field-0.0) cleared
     (sends_entered (MayClose old) (g.L.Port.output c.write.new.link) c.write.new.self (Close 1 Sent) mid new c.in_err-enter.field-0.0
     c.in_err-enter.ensures))
 

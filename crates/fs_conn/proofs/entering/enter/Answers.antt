@@ -4,4 +4,5 @@ use Rattle.fs_conn.proofs.entering.enter.Goals as goal
 pub returns-in-Ok : goal.returns-in-Ok
 returns-in-Ok c =
     let did = c.in-Ok.ensures in
-    accepts c.args.machine.now c.step.new.self c.args.clock c.args.act c.in-Ok.reply did.config did.journal did.defined did.reply did.cost did.free
+    accepts c.args.machine.now c.step.new.self c.args.clock c.args.act c.in-Ok.reply did.config did.journal did.defined did.reply did.cost
+    did.free

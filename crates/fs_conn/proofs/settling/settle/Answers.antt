@@ -12,7 +12,8 @@ loop-init c = record { reaches = refl; works = works_same _ _ refl }
 
 pub returns-in_default-clause-does : goal.returns-in_default-clause-does
 returns-in_default-clause-does c =
-    settled_rest _ (play_of c.args.machine.now c.args.clock) (play_of c.loop.machine c.args.clock) (sym c.due_act.ensures ∙ is_none _ c.in_default.not-Some) c.loop.invariant.reaches
+    settled_rest _ (play_of c.args.machine.now c.args.clock) (play_of c.loop.machine c.args.clock)
+    (sym c.due_act.ensures ∙ is_none _ c.in_default.not-Some) c.loop.invariant.reaches
 
 pub returns-in_default-clause-works : goal.returns-in_default-clause-works
 returns-in_default-clause-works c = c.loop.invariant.works
@@ -24,20 +25,24 @@ pub returns-in_err-enter-clause-does : goal.returns-in_err-enter-clause-does
 returns-in_err-enter-clause-does c =
     let p = err_from_is_err_and c.from_residual.result c.from_residual.ensures.1 in
     rw (p.1, p.2)
-    (settled_stops c.loop.counter c.in-Some.act (play_of c.args.machine.now c.args.clock) (play_of c.loop.machine c.args.clock) (play_of c.enter.new.machine c.args.clock) _ refl
+    (settled_stops c.loop.counter c.in-Some.act (play_of c.args.machine.now c.args.clock) (play_of c.loop.machine c.args.clock)
+    (play_of c.enter.new.machine c.args.clock) _ refl
     (sym c.due_act.ensures ∙ c.in-Some.is) c.loop-test.true c.loop.invariant.reaches c.in_err-enter.ensures)
 
 pub returns-in_err-enter-clause-works : goal.returns-in_err-enter-clause-works
 returns-in_err-enter-clause-works c =
     works_then _ _ _ c.loop.invariant.works
-    (works_round c.in-Some.act (play_of c.loop.machine c.args.clock) (play_of c.enter.new.machine c.args.clock) _ (sym c.due_act.ensures ∙ c.in-Some.is) c.enter.ensures)
+    (works_round c.in-Some.act (play_of c.loop.machine c.args.clock) (play_of c.enter.new.machine c.args.clock) _
+    (sym c.due_act.ensures ∙ c.in-Some.is) c.enter.ensures)
 
 pub loop-preserved : goal.loop-preserved
 loop-preserved c =
     let is = sym c.due_act.ensures ∙ c.in-Some.is in record {
       reaches =
-          round_done 100000 c.loop.counter after_due_step (play_of c.loop.machine c.args.clock) (play_of c.enter.new.machine c.args.clock) _ c.loop-test.true
-          (round_worked c.in-Some.act (play_of c.loop.machine c.args.clock) (play_of c.enter.new.machine c.args.clock) _ refl is c.in_ok-enter.ensures) c.loop.invariant.reaches;
+          round_done 100000 c.loop.counter after_due_step (play_of c.loop.machine c.args.clock)
+          (play_of c.enter.new.machine c.args.clock) _ c.loop-test.true
+          (round_worked c.in-Some.act (play_of c.loop.machine c.args.clock)
+          (play_of c.enter.new.machine c.args.clock) _ refl is c.in_ok-enter.ensures) c.loop.invariant.reaches;
       works =
           works_then _ _ _ c.loop.invariant.works
           (works_round c.in-Some.act (play_of c.loop.machine c.args.clock) (play_of c.enter.new.machine c.args.clock) _ is c.enter.ensures);
@@ -45,7 +50,8 @@ loop-preserved c =
 
 pub returns-then-is_some-clause-does : goal.returns-then-is_some-clause-does
 returns-then-is_some-clause-does c =
-    settled_runs (play_of c.args.machine.now c.args.clock) (play_of c.loop.machine c.args.clock) refl (ap is_some (sym c.due_act-2.ensures) ∙ sym c.is_some.ensures ∙ c.if-is_some.true)
+    settled_runs (play_of c.args.machine.now c.args.clock) (play_of c.loop.machine c.args.clock) refl
+    (ap is_some (sym c.due_act-2.ensures) ∙ sym c.is_some.ensures ∙ c.if-is_some.true)
     (rounds_over 100000 c.loop.counter after_due_step (play_of c.loop.machine c.args.clock) _ c.loop-test.false c.loop.invariant.reaches)
 
 pub returns-clause-does : goal.returns-clause-does

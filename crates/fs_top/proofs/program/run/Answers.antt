@@ -27,4 +27,5 @@ returns-clause-too_long g c = λ ten. cause_too_long _ _ _ _ _ _ _ _ _ _ _ c.con
 pub returns-clause-complete : goal.returns-clause-complete
 returns-clause-complete g c =
     λ asked config given rose.
-    complete _ _ _ _ _ _ _ _ _ _ _ _ _ (ran _ _ _ _ _ _ _ _ _ _ _ _ _ _ _ c.conduct-outcome.ensures c.say.ensures c.status.ensures) asked config given rose
+    complete _ _ _ _ _ _ _ _ _ _ _ _ _ (ran _ _ _ _ _ _ _ _ _ _ _ _ _ _ _ c.conduct-outcome.ensures c.say.ensures c.status.ensures) asked
+    config given rose

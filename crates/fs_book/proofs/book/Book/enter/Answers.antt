@@ -6,7 +6,8 @@ pub fetch_add-ticket-requires : goal.fetch_add-ticket-requires
 fetch_add-ticket-requires g c = (
   search rules,
   search rules,
-  draws g.M.Turned.start g.M.Turned.journal g.M.Turned.opens g.M.Turned.names g.met.M.Turned.opens_once _ _ _ _ c.requires.rests.1 c.requires.rests.2,
+  draws g.M.Turned.start g.M.Turned.journal g.M.Turned.opens g.M.Turned.names g.met.M.Turned.opens_once _ _ _ _ c.requires.rests.1
+      c.requires.rests.2,
 )
 
 pub load-turn-requires : goal.load-turn-requires
@@ -14,7 +15,8 @@ load-turn-requires g c =
     let waits = c.loop.invariant.1 in (
       search rules,
       search rules,
-      comes g.M.Turned.start g.M.Turned.journal g.M.Turned.opens g.M.Turned.names g.met.M.Turned.opens_once _ _ _ _ waits.0 (ap (λ m. m.0.stage) waits.2)
+      comes g.M.Turned.start g.M.Turned.journal g.M.Turned.opens g.M.Turned.names g.met.M.Turned.opens_once _ _ _ _ waits.0
+          (ap (λ m. m.0.stage) waits.2)
           (subst (λ n. 0 < n) (sym (ap (λ m. m.0.parts) waits.2)) c.requires.rests.2),
     )
 

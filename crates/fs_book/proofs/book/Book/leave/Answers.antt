@@ -7,7 +7,8 @@ fetch_add-turn-requires g c =
     let put = c.put_back.ensures.carries in (
       search rules,
       search rules,
-      leaves g.M.Turned.start g.M.Turned.journal g.M.Turned.opens g.M.Turned.names g.met.M.Turned.opens_once _ _ _ _ _ c.args.state (ap (λ m. m.0.stage) put ∙ c.requires.out.1)
+      leaves g.M.Turned.start g.M.Turned.journal g.M.Turned.opens g.M.Turned.names g.met.M.Turned.opens_once _ _ _ _ _ c.args.state
+          (ap (λ m. m.0.stage) put ∙ c.requires.out.1)
           (subst (λ n. 0 < n) (sym (ap (λ m. m.0.parts) put)) c.requires.some_part)
           (ap (λ m. m.1) put)
           (ap (λ m. m.0.start) put ∙ c.requires.same_start)

@@ -11,7 +11,8 @@ join_seat-requires g c =
       search rules,
       empty_of _ other.empty_handed,
       search rules,
-      joins g.M.Turned.start g.M.Turned.journal g.M.Turned.opens g.M.Turned.names g.met.M.Turned.opens_once _ _ _ _ _ (idle_of _ pass.no_ticket) (idle_of _ other.no_ticket)
+      joins g.M.Turned.start g.M.Turned.journal g.M.Turned.opens g.M.Turned.names g.met.M.Turned.opens_once _ _ _ _ _
+          (idle_of _ pass.no_ticket) (idle_of _ other.no_ticket)
           (omega (arith, pass.some_part.0, pass.some_part.1)) (omega (arith, other.some_part.0, other.some_part.1)),
     )
 
@@ -21,5 +22,6 @@ load-requires g c =
     let joined = ap (λ m. m.0.parts) c.join_seat.ensures.2 in (
       search rules,
       search rules,
-      learns g.M.Turned.start g.M.Turned.journal g.M.Turned.opens g.M.Turned.names g.met.M.Turned.opens_once _ _ _ _ (omega (arith, joined, pass.some_part.0, pass.some_part.1)),
+      learns g.M.Turned.start g.M.Turned.journal g.M.Turned.opens g.M.Turned.names g.met.M.Turned.opens_once _ _ _ _
+          (omega (arith, joined, pass.some_part.0, pass.some_part.1)),
     )

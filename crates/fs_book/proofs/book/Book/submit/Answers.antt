@@ -13,5 +13,6 @@ leave_longer-requires-clause-longer g c =
       entry,
       c.in-Ok.ensures.cases.0 ∙ ap (λ m. m.0.seen ++ entry ∷ []) (sym inside.4),
       subst (λ m. NamesOwn g.M.Turned.opens g.M.Turned.names (g.M.Turned.start c.turn.new.self) m.0.seen m.0.mine entry) (sym inside.4)
-          (subst (λ b. NamesOwn g.M.Turned.opens g.M.Turned.names b (g.M.Turned.journal c.enter-state.result) c.args.pass.now.seat.me.0.mine entry) start_is own),
+          (subst (λ b. NamesOwn g.M.Turned.opens g.M.Turned.names b
+          (g.M.Turned.journal c.enter-state.result) c.args.pass.now.seat.me.0.mine entry) start_is own),
     )

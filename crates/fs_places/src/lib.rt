@@ -4,12 +4,14 @@
 //! sheet of writes: it is read as the table would be with them, and moved into the table without memory.
 #![tactic(auto)]
 
+mod boxed;
 mod numbered;
 mod overlay;
 mod places;
 mod rows;
 mod sheet;
 
+pub use boxed::Boxed;
 pub use numbered::Numbered;
 pub use overlay::Overlay;
 pub use places::Places;

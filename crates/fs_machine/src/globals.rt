@@ -18,7 +18,7 @@ pub(crate) fn set_global(draft: &mut Draft<'_>, name: &Txt, value: &Txt) -> Resu
     let mut globals = draft.globals().copy()?;
     let done = globals.set(name.as_bytes(), value.as_bytes())?;
     if done {
-        draft.set_globals(globals);
+        draft.set_globals(globals)?;
     }
     Ok(done)
 }

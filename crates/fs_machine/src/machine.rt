@@ -17,6 +17,7 @@ use crate::refusal::Refusal;
 use crate::refused::refused_act;
 use crate::reply::Reply;
 use fs_doc::Config;
+use fs_places::Boxed;
 use fs_plan::Dialplan;
 use fs_state::{Core, Delta, Draft};
 use fs_text::Memory;
@@ -49,7 +50,7 @@ impl Drop for Machine {
 /// What an entry is to change, once it was prepared.
 pub struct Change {
     pub entry: Entry,
-    pub delta: Delta,
+    pub delta: Boxed<Delta>,
     pub reply: Reply,
 }
 
@@ -65,7 +66,7 @@ impl Drop for Change {
 
 impl Change {
     /// The entry, what it changes, and the reply to it.
-    fn into_parts(self) -> (Entry, Delta, Reply)
+    fn into_parts(self) -> (Entry, Boxed<Delta>, Reply)
         ensures { result ≡ (self.entry, self.delta, self.reply) }
     {
         let Change {

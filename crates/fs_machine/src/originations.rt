@@ -8,6 +8,7 @@ ghost use Rattle.fs_machine.specs.Originations as spec;
 
 use fs_chan::{Action, Actions, ActionsLeft, Chan, Direction, SharedVars, Target3, Wait};
 use fs_orig::{Caller, Endpoint, LegPlan, OrigLeg, OrigLegs, Route, Winner};
+use fs_places::Boxed;
 use fs_state::Draft;
 use fs_text::{Cause, Memory, State, Txt};
 use fs_vars::{Bounds, Profile, Vars};
@@ -167,7 +168,8 @@ fn make_end(draft: &mut Draft<'_>, call: &Call, end: End) -> Result<Txt, Memory>
     ensures made { OnOk result (drafted draft.new ≡ spec.end_made call.now end (drafted draft.old)) }
 {
     let uuid = draft.draw_identifier()?;
-    let chan = end_of(draft.alloc(), call, end, uuid.copy()?)?;
+    let alloc = draft.alloc();
+    let chan = Boxed::of(alloc, end_of(alloc, call, end, uuid.copy()?)?)?;
     draft.put_chan(end.slot, Some(chan))?;
     Ok(uuid)
 }

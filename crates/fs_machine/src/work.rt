@@ -10,6 +10,7 @@ ghost use Rattle.fs_machine.specs.Work as spec;
 
 use crate::applications::run_next;
 use fs_chan::{Actions, Chan, Direction, Wait};
+use fs_places::Boxed;
 use fs_plan::{Dialplan, Hunt};
 use fs_ports::NoGate;
 use fs_state::Draft;
@@ -115,7 +116,7 @@ fn take_hunt(draft: &mut Draft<'_>, slot: u16, xml: bool, hunt: Hunt) -> Result<
     ensures ok { OnOk result (drafted draft.new ≡ spec.after_hunt xml hunt slot (drafted draft.old)) }
 {
     let (actions, vars, globals) = hunt.into_parts();
-    draft.set_globals(globals);
+    draft.set_globals(globals)?;
     if xml && !actions.is_empty() {
         return take_actions(draft, slot, vars, actions);
     }
@@ -156,7 +157,7 @@ fn take_variables(draft: &mut Draft<'_>, slot: u16, vars: Vars) -> Result<(), Me
 }
 
 // Routes a channel once more.
-fn routed(mut chan: Chan, vars: Vars, actions: Actions) -> Result<Chan, Memory>
+fn routed(mut chan: Boxed<Chan>, vars: Vars, actions: Actions) -> Result<Boxed<Chan>, Memory>
     requires may { may_route chan ≡ true }
     ensures { IfOk result (λ routed. routed ≡ changes.routed vars actions chan) }
 {

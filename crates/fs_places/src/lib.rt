@@ -4,6 +4,7 @@
 //! sheet of writes: it is read as the table would be with them, and moved into the table without memory.
 #![tactic(auto)]
 
+mod boxed;
 mod numbered;
 mod overlay;
 mod places;
@@ -11,6 +12,7 @@ mod rows;
 mod sheet;
 mod table;
 
+pub use boxed::Boxed;
 pub use numbered::{Numbered, Rows};
 pub use overlay::Overlay;
 pub use places::Places;

@@ -10,7 +10,7 @@ use crate::job::Job;
 use crate::switch::Core;
 use fs_chan::Chan;
 use fs_orig::Orig;
-use fs_places::{Numbered, Sheet};
+use fs_places::{Boxed, Numbered, Sheet};
 use fs_vars::Vars;
 
 /// What an entry does to the frames that wait.
@@ -26,8 +26,8 @@ pub enum QueueChange {
 /// What an entry changes. A contract sees its fields.
 pub struct Delta {
     /// The globals, where they change.
-    pub globals: Option<Vars>,
-    pub channels: Sheet<Chan>,
+    pub globals: Option<Boxed<Vars>>,
+    pub channels: Sheet<Boxed<Chan>>,
     pub origs: Sheet<Numbered<Orig>>,
     pub jobs: Sheet<Numbered<Job>>,
     pub conns: Sheet<Numbered<Conn>>,

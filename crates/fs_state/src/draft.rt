@@ -20,7 +20,7 @@ use crate::switch::Core;
 use fs_chan::Chan;
 use fs_doc::Config;
 use fs_orig::Orig;
-use fs_places::{Numbered, Overlay, Rows, Table};
+use fs_places::{Boxed, Numbered, Overlay, Rows, Table};
 use fs_text::{Memory, Txt};
 use fs_vars::Vars;
 use std::alloc::Global;
@@ -31,8 +31,8 @@ use std::marker::Model;
 /// Where memory is wanting a draft may have part of a change: it is to be dropped then.
 pub struct Draft<'a> {
     core: &'a Core,
-    globals: Option<Vars>,
-    channels: Overlay<'a, Chan>,
+    globals: Option<Boxed<Vars>>,
+    channels: Overlay<'a, Boxed<Chan>>,
     origs: Overlay<'a, Numbered<Orig>>,
     jobs: Overlay<'a, Numbered<Job>>,
     conns: Overlay<'a, Numbered<Conn>>,
@@ -217,11 +217,12 @@ impl<'a> Draft<'a> {
     }
 
     /// There are other globals.
-    pub fn set_globals(&mut self, globals: Vars)
+    pub fn set_globals(&mut self, globals: Vars) -> Result<(), Memory>
         ensures base { self.new.base ≡ self.old.base }
-        ensures globals { drafted self.new ≡ record (drafted self.old) { globals = globals } }
+        ensures ok { OnOk result (drafted self.new ≡ record (drafted self.old) { globals = globals }) }
     {
-        self.globals = Some(globals);
+        self.globals = Some(Boxed::of(self.alloc(), globals)?);
+        Ok(())
     }
 
     // ---- channels
@@ -230,11 +231,11 @@ impl<'a> Draft<'a> {
     pub fn chan(&self, slot: u16) -> Option<&Chan>
         ensures { option_copied result ≡ spec.chan_at (drafted self.now) slot }
     {
-        self.channels.get(usize::from(slot))
+        Some(self.channels.get(usize::from(slot))?)
     }
 
     /// Puts a channel into a slot, or empties it.
-    pub fn put_chan(&mut self, slot: u16, chan: Option<Chan>) -> Result<(), Memory>
+    pub fn put_chan(&mut self, slot: u16, chan: Option<Boxed<Chan>>) -> Result<(), Memory>
         ensures base { self.new.base ≡ self.old.base }
         ensures ok { OnOk result (drafted self.new ≡ spec.with_chan slot chan (drafted self.old)) }
     {
@@ -242,7 +243,7 @@ impl<'a> Draft<'a> {
     }
 
     /// Takes a channel back that was put into a slot last, so that it can be put there changed.
-    pub fn take_chan(&mut self, slot: u16) -> Option<Chan>
+    pub fn take_chan(&mut self, slot: u16) -> Option<Boxed<Chan>>
         ensures base { self.new.base ≡ self.old.base }
         ensures answer { result ≡ chan_taken_back self.old slot }
         ensures taken { MatchOption result (drafted self.new ≡ drafted self.old) (λ chan. chan_in self.old slot ≡ Some chan) }
@@ -482,7 +483,7 @@ impl<'a> Draft<'a> {
 
     /// What is to change. It is refused, as for want of memory, where a queue would have 2^63 frames.
     #[tactic(auto, using(crate::proofs::QueueLemmas::room_counted, crate::proofs::QueueLemmas::room_requeued))]
-    pub fn finish(self) -> Result<Delta, Memory>
+    pub fn finish(self) -> Result<Boxed<Delta>, Memory>
         ensures delta { IfOk result (λ delta. after self.entry.base delta ≡ drafted self.entry) }
         ensures fits { IfOk result (λ delta. Fits self.entry.base delta) }
     {
@@ -503,7 +504,7 @@ impl<'a> Draft<'a> {
             news,
             given,
         } = self;
-        Ok(Delta {
+        let delta = Delta {
             globals,
             channels: channels.into_sheet(),
             origs: origs.into_sheet(),
@@ -514,6 +515,7 @@ impl<'a> Draft<'a> {
             moment,
             news,
             given,
-        })
+        };
+        Boxed::of(core.alloc, delta)
     }
 }

@@ -9,6 +9,7 @@ ghost use Rattle.fs_state.specs.Moves as spec;
 use crate::draft::Draft;
 use crate::event::Event;
 use fs_chan::{Action, Chan, Target3};
+use fs_places::Boxed;
 use fs_text::{Cause, EventName, Memory, State};
 
 impl<'a> Draft<'a> {
@@ -62,18 +63,18 @@ impl<'a> Draft<'a> {
     }
 
     /// The channel in a slot once more.
-    pub fn copy_chan(&self, slot: u16) -> Result<Option<Chan>, Memory>
+    pub fn copy_chan(&self, slot: u16) -> Result<Option<Boxed<Chan>>, Memory>
         ensures { IfOk result (λ copy. copy ≡ chan_in self.now slot) }
     {
         match self.chan(slot) {
-            Some(chan) => Ok(Some(chan.copy()?)),
+            Some(chan) => Ok(Some(Boxed::of(self.alloc(), chan.copy()?)?)),
             None => Ok(None),
         }
     }
 
     /// The channel in a slot, to be changed and put there again: the one that was put there last is taken back, any
     /// other copied.
-    pub fn own_chan(&mut self, slot: u16) -> Result<Option<Chan>, Memory>
+    pub fn own_chan(&mut self, slot: u16) -> Result<Option<Boxed<Chan>>, Memory>
         ensures base { self.new.base ≡ self.old.base }
         ensures chan { IfOk result (λ own. own ≡ chan_in self.old slot) }
         ensures none { result ≡ Ok None → drafted self.new ≡ drafted self.old }
@@ -86,7 +87,7 @@ impl<'a> Draft<'a> {
     }
 
     /// Puts a channel into a slot that came there from a state, and tells of that.
-    pub fn put_moved(&mut self, slot: u16, old: State, chan: Chan) -> Result<(), Memory>
+    pub fn put_moved(&mut self, slot: u16, old: State, chan: Boxed<Chan>) -> Result<(), Memory>
         ensures base { self.new.base ≡ self.old.base }
         ensures ok { OnOk result (drafted self.new ≡ spec.put_moved slot old chan (drafted self.old)) }
     {

@@ -15,7 +15,7 @@ use crate::queues::Queues;
 use fs_chan::Chan;
 use fs_doc::Config;
 use fs_orig::Orig;
-use fs_places::{Numbered, Places, Rows, Table};
+use fs_places::{Boxed, Numbered, Places, Rows, Table};
 use fs_text::Memory;
 use fs_vars::Vars;
 use std::alloc::Global;
@@ -30,8 +30,8 @@ const JOBS: usize = 1_024;
 pub struct Core {
     pub(crate) alloc: Global,
     pub(crate) config: Config,
-    pub(crate) globals: Vars,
-    pub(crate) channels: Places<Chan>,
+    pub(crate) globals: Boxed<Vars>,
+    pub(crate) channels: Places<Boxed<Chan>>,
     pub(crate) origs: Places<Numbered<Orig>>,
     pub(crate) jobs: Places<Numbered<Job>>,
     pub(crate) conns: Places<Numbered<Conn>>,
@@ -103,7 +103,7 @@ impl Core {
         let slots = usize::from(settings.max_sessions) + 1;
         let conns = usize::from(settings.max_connections);
         let counts = Counts::new(alloc)?;
-        let globals = config.globals().copy()?;
+        let globals = Boxed::of(alloc, config.globals().copy()?)?;
         let (channels, origs, jobs) = call_tables(alloc, slots)?;
         let (conns, queues) = conn_tables(alloc, conns)?;
         Ok(Core {
@@ -126,11 +126,11 @@ impl Core {
 
     /// Does what an entry changes, at its cost. It takes no memory.
     #[tactic(auto, using(fs_places::proofs::PlaceLemmas::written_length))]
-    pub fn apply(&mut self, delta: Delta, cost: u64)
+    pub fn apply(&mut self, delta: Boxed<Delta>, cost: u64)
         requires { Fits self.old delta }
         ensures { self.new ≡ spec.after_entry cost (after self.old delta) }
     {
-        let (news, given) = delta.write_into(self);
+        let (news, given) = delta.into_inner().write_into(self);
         self.queues.deliver(&self.conns, given);
         self.counts.count_all(news.as_slice());
         self.entries = self.entries.saturating_add(1);
@@ -176,7 +176,7 @@ impl Core {
     pub fn chan(&self, slot: u16) -> Option<&Chan>
         ensures { option_copied result ≡ spec.chan_at self.now slot }
     {
-        self.channels.get(usize::from(slot))
+        Some(self.channels.get(usize::from(slot))?)
     }
 
     /// The connection of a number.
@@ -204,7 +204,7 @@ impl Core {
     }
 
     /// Has other globals, where there are any.
-    pub(crate) fn take_globals(&mut self, globals: Option<Vars>)
+    pub(crate) fn take_globals(&mut self, globals: Option<Boxed<Vars>>)
         ensures { self.new ≡ record self.old { globals = unwrap_or globals self.old.globals } }
     {
         if let Some(globals) = globals {
@@ -225,7 +225,11 @@ impl Core {
 }
 
 /// What calls are made of: channels, originations and jobs.
-type CallTables = (Places<Chan>, Places<Numbered<Orig>>, Places<Numbered<Job>>);
+type CallTables = (
+    Places<Boxed<Chan>>,
+    Places<Numbered<Orig>>,
+    Places<Numbered<Job>>,
+);
 
 /// Tables for calls, with nothing in them.
 fn call_tables(alloc: Global, slots: usize) -> Result<CallTables, Memory>

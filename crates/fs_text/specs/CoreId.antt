@@ -1,5 +1,5 @@
 -- The identifiers of a switch.
-use Rattle.std.specs.Prelude.{◌≡◌, ◌<◌, ◌+◌, ◌*◌, ◌/◌, ◌%◌, ◌^◌, ℕ, List, Option, Some}
+use Rattle.std.specs.Prelude.{◌≡◌, ◌<◌, ◌+◌, ◌*◌, ◌/◌, ◌%◌, ◌^◌, ◌==◌, ℕ, Bool, false, List, Option, None, Some}
 use Rattle.std.specs.Int.{to_be_bytes, from_be_bytes, w128}
 use Rattle.std.specs.Option.{option_map}
 use Rattle.uuid.specs.Text.{hyphenated_text, lower, parsed}
@@ -27,6 +27,15 @@ IsCoreText core text = IsCore core × (text ≡ uuid core 0)
 -- the text is a UUID whose high half is the core's
 abbrev pub Owns : ℕ → List ℕ → Type 0
 Owns core text = high_of text ≡ Some core
+
+-- a high half that is there is the core's
+abbrev pub is_half_of : ℕ → Option ℕ → Bool
+is_half_of core None = false
+is_half_of core (Some high) = high == core
+
+-- whether it is
+abbrev pub owns : ℕ → List ℕ → Bool
+owns core text = is_half_of core (high_of text)
 
 -- the core of a switch whose configuration names none
 abbrev pub default_core : ℕ

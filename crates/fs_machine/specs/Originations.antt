@@ -1,8 +1,7 @@
 -- How the legs of an origination are made, and what a leg does that has won.
 use Rattle.std.specs.Prelude.{◌≡◌, ℕ, ◌+◌, ◌*◌, ◌++◌, min, nat_lt, nat_le, Bool, false, not, ◌&&◌, if◌then◌else◌, List, [], ◌∷◌, length, take, Option, None, Some, option_map, unwrap_or, codes}
-use Rattle.std.specs.List.{list_all, list_any}
+use Rattle.std.specs.List.{list_all}
 use Rattle.std.specs.Option.{option_and_then}
-use Rattle.std.specs.Str.{bytes_eq}
 use Rattle.fs_text.specs.CoreId.{owns}
 use Rattle.fs_text.specs.declared.states.State.TheVariants.{CsExecute}
 use Rattle.fs_text.specs.declared.causes.Cause.{Cause}
@@ -29,7 +28,7 @@ use Rattle.fs_orig.specs.Changes.{ringing, unmade}
 use Rattle.fs_orig.specs.Endpoints.{endpoint_of}
 use Rattle.fs_orig.specs.Routes.{RouteTo}
 use Rattle.fs_orig.specs.Timeouts.{seconds_in}
-use Rattle.fs_state.specs.Switch.{Switch, with_chan, free_slot, with_next_identifier, identifier_of}
+use Rattle.fs_state.specs.Switch.{Switch, with_chan, free_slot, is_held, with_next_identifier, identifier_of}
 use Rattle.fs_state.specs.Moves.{after_move}
 use Rattle.fs_machine.specs.declared.originations.Call.{Call}
 use Rattle.fs_machine.specs.declared.originations.End.{End}
@@ -140,15 +139,6 @@ is_visible byte = nat_le 33 byte && nat_le byte 126
 -- 1 to 64 such bytes
 abbrev pub is_name : Text → Bool
 is_name uuid = nat_le 1 (length uuid) && nat_le (length uuid) 64 && list_all is_visible uuid
-
--- there is a channel, live or not, and it has this identifier
-abbrev pub is_called : Text → Option Chan → Bool
-is_called uuid None = false
-is_called uuid (Some c) = bytes_eq c.uuid uuid
-
--- a channel in a slot has it
-abbrev pub is_held : Text → Switch → Bool
-is_held uuid s = list_any (is_called uuid) s.channels
 
 -- a leg can have this identifier: the switch does not own it, and no channel has it
 abbrev pub is_free : Text → Switch → Bool

@@ -1,7 +1,7 @@
 //! The identifiers of a switch.
 
 ghost use Rattle.std.specs.Prelude.{◌≡◌, ◌<◌, ◌≤◌, ◌^◌, ◌↔◌, ℕ, Some, IsTrue, IfOk, length};
-ghost use Rattle.fs_text.specs.CoreId.{IsCore, IsCoreText, Owns, uuid_text, high_of, uuid, default_core};
+ghost use Rattle.fs_text.specs.CoreId.{IsCore, IsCoreText, Owns, owns, uuid_text, high_of, uuid, default_core};
 
 use crate::memory::Memory;
 use crate::text::Txt;
@@ -65,7 +65,8 @@ impl CoreId {
 
     /// Whether a text is a UUID, in any of its forms, whose high half is this switch's.
     pub fn owns(&self, text: &[u8]) -> bool
-        ensures { IsTrue result ↔ Owns self.now text.now }
+        ensures exact { result ≡ owns self.now text.now }
+        ensures tells { IsTrue result ↔ Owns self.now text.now }
     {
         high_half(text) == Some(self.high)
     }

@@ -6,12 +6,12 @@ ghost use Rattle.fs_machine.specs.Attempts as spec;
 ghost use Rattle.fs_machine.specs.Originations.{after_winning};
 
 use crate::channels::{ChanChange, change_chan};
-use crate::originations::{Caller, make_leg};
+use crate::originations::make_leg;
 use crate::owing::{begin_job, end_job};
 use crate::texts::{failed_text, made_text};
 use fs_chan::moment_after;
 use fs_orig::{
-    LegGroup, LegPlan, LegPlans, Orig, OrigLeg, OrigLegs, Owner, Verdict, Winner, judge,
+    Caller, LegGroup, LegPlan, LegPlans, Orig, OrigLeg, OrigLegs, Owner, Verdict, Winner, judge,
 };
 use fs_state::{Draft, JobWork};
 use fs_text::{Cause, Headers, Memory, Txt};
@@ -42,10 +42,18 @@ pub(crate) fn begin_originate(
         (drafted draft.new ≡ spec.originate_begun conn url.now winner.now caller timeout (drafted draft.old)) }
 {
     let orig = draft.next_orig();
-    let leg = make_leg(draft, url, caller, orig)?;
+    let leg = make_leg(draft, url, caller.copy()?, orig)?;
     begin_orig(draft, url.copy()?, leg, timeout.unwrap_or(DEFAULT_TIMEOUT))?;
     let winner = winner.copy()?;
-    begin_job(draft, conn, JobWork::Originate { orig, winner })
+    begin_job(
+        draft,
+        conn,
+        JobWork::Originate {
+            orig,
+            winner,
+            caller,
+        },
+    )
 }
 
 // Begins the origination of the next number: one leg is tried, until a deadline.

@@ -40,7 +40,7 @@ fn do_work(draft: &mut Draft<'_>, number: u64, conn: u32, work: &JobWork) -> Res
 {
     match work {
         JobWork::Sleep { .. } => end_job(draft, number, conn, b"+OK\n"),
-        JobWork::Originate { orig, winner } => {
+        JobWork::Originate { orig, winner, .. } => {
             let attempt = Attempt {
                 job: number,
                 conn,

@@ -2,6 +2,7 @@
 //! moment; and what a dial string says of one.
 #![tactic(auto)]
 
+mod caller;
 mod changes;
 mod dialled;
 mod endpoint;
@@ -14,6 +15,7 @@ mod timeout;
 mod verdict;
 mod winner;
 
+pub use caller::Caller;
 pub use changes::changes_law;
 pub use endpoint::{Endpoint, is_one_leg};
 pub use leg::{OrigLeg, OrigLegs};

@@ -1,7 +1,7 @@
 //! Jobs.
 ghost use Rattle.std.specs.Prelude.{◌≡◌, IfOk};
 
-use fs_orig::Winner;
+use fs_orig::{Caller, Winner};
 use fs_text::Memory;
 
 /// Work that goes on behind a command, and in the end gives its reply.
@@ -25,8 +25,13 @@ impl Drop for Job {
 pub enum JobWork {
     /// A moment, in microseconds.
     Sleep { until: u64 },
-    /// The verdict on the origination of this number. A leg that wins then does this.
-    Originate { orig: u64, winner: Winner },
+    /// The verdict on the origination of this number. A leg that wins then does this; the legs of a later group are made
+    /// with this caller.
+    Originate {
+        orig: u64,
+        winner: Winner,
+        caller: Caller,
+    },
 }
 
 impl Job {
@@ -48,9 +53,14 @@ impl JobWork {
     {
         Ok(match self {
             JobWork::Sleep { until } => JobWork::Sleep { until: *until },
-            JobWork::Originate { orig, winner } => JobWork::Originate {
+            JobWork::Originate {
+                orig,
+                winner,
+                caller,
+            } => JobWork::Originate {
                 orig: *orig,
                 winner: winner.copy()?,
+                caller: caller.copy()?,
             },
         })
     }

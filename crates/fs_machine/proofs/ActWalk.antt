@@ -88,99 +88,90 @@ module _ (before : Switch) (P : Fact) (calls : KeptByCalls P) (jobs : KeptByJobs
 
 -- a command may make a leg, which is a pair of channels
 module _ (conn : ℕ) (P : Fact) (calls : KeptByCalls P) (commands : KeptByCommands conn P) where
-  -- nothing is drawn, so two at most are
-  drew_none : {s : Switch} → P None s → P (Some 2) s
-  drew_none h = commands.more (omega arith) (commands.spent h)
-
-  done_either : (test : Bool) (x y : Done) → P (Some 2) x.state → P (Some 2) y.state → P (Some 2) (if test then x else y).state
+  done_either : (test : Bool) (x y : Done) → P (Some 0) x.state → P (Some 0) y.state → P (Some 0) (if test then x else y).state
   done_either true x y first second = first
   done_either false x y first second = second
 
-  killed_kept : (cause : Cause) (slot : Option ℕ) {s : Switch} → P None s → P (Some 2) (kill_done cause slot s).state
-  killed_kept cause None h = drew_none h
-  killed_kept cause (Some slot) h = drew_none (calls.hung cause slot h)
+  killed_kept : (cause : Cause) (slot : Option ℕ) {s : Switch} → P None s → P (Some 0) (kill_done cause slot s).state
+  killed_kept cause None h = commands.spent h
+  killed_kept cause (Some slot) h = commands.spent (calls.hung cause slot h)
 
-  slept_kept : (milliseconds : ℕ) {s : Switch} → P None s → P (Some 2) (msleep_done conn milliseconds s).state
+  slept_kept : (milliseconds : ℕ) {s : Switch} → P None s → P (Some 0) (msleep_done conn milliseconds s).state
   slept_kept milliseconds {s} h = by (is_full_of_jobs s) refl
     where
       by : (full : Bool) → is_full_of_jobs s ≡ full →
-          P (Some 2) (if full then says too_many_jobs s else no_answer_yet (sleep_begun conn milliseconds s)).state
-      by true is = drew_none h
-      by false is = commands.more (omega arith) (commands.sleeps (moment_after s.moment (milliseconds * 1000)) is h)
+          P (Some 0) (if full then says too_many_jobs s else no_answer_yet (sleep_begun conn milliseconds s)).state
+      by true is = commands.spent h
+      by false is = commands.sleeps (moment_after s.moment (milliseconds * 1000)) is h
 
   originated_kept : (url : Text) (winner : Winner) (caller : Caller) (timeout : Option ℕ) {s : Switch} → IsShortWinner winner → P None s →
-      P (Some 2) (originate_done conn url winner caller timeout s).state
+      P (Some 0) (originate_done conn url winner caller timeout s).state
   originated_kept url winner caller timeout {s} short h = by (is_full_of_jobs s) refl
     where
       by : (full : Bool) → is_full_of_jobs s ≡ full →
-          P (Some 2)
+          P (Some 0)
           (if full then says too_many_jobs
           s else (if is_one_leg url then no_answer_yet (originate_begun conn url winner caller timeout s) else says
           (failed_text InvalidNumberFormat) s)).state
-      by true is = drew_none h
-      by false is = done_either (is_one_leg url) _ _ (commands.originates url winner caller timeout short is h) (drew_none h)
+      by true is = commands.spent h
+      by false is = done_either (is_one_leg url) _ _ (commands.originates url winner caller timeout short is h) (commands.spent h)
 
-  done_plainly_kept : (what : Api) {s : Switch} → NamesShort what → P None s → P (Some 2) (done_plainly conn what s).state
-  done_plainly_kept (api.Echo text) short h = drew_none h
-  done_plainly_kept (api.Expand text) short h = drew_none h
-  done_plainly_kept (api.GlobalGetvar name) short h = drew_none h
+  done_plainly_kept : (what : Api) {s : Switch} → NamesShort what → P None s → P (Some 0) (done_plainly conn what s).state
+  done_plainly_kept (api.Echo text) short h = commands.spent h
+  done_plainly_kept (api.Expand text) short h = commands.spent h
+  done_plainly_kept (api.GlobalGetvar name) short h = commands.spent h
   done_plainly_kept (api.GlobalSetvar name value) {s} short h =
-      done_either (can_set s.globals name value) _ _ (calls.globals (set_to s.globals name value) (drew_none h)) (drew_none h)
+      done_either (can_set s.globals name value) _ _ (calls.globals (set_to s.globals name value) (commands.spent h)) (commands.spent h)
   done_plainly_kept (api.Msleep milliseconds) short h = slept_kept milliseconds h
-  done_plainly_kept (api.UuidExists uuid) short h = drew_none h
+  done_plainly_kept (api.UuidExists uuid) short h = commands.spent h
   done_plainly_kept (api.UuidKill uuid cause) {s} short h = killed_kept cause (slot_named uuid s) h
-  done_plainly_kept (api.UuidGetvar uuid name) short h = drew_none h
+  done_plainly_kept (api.UuidGetvar uuid name) short h = commands.spent h
   done_plainly_kept (api.Originate url winner cid_name cid_number timeout) short h =
       originated_kept url winner (record { name = cid_name; number = cid_number }) timeout short h
-  done_plainly_kept (api.Usage which) short h = drew_none h
-  done_plainly_kept (api.Unknown name) short h = drew_none h
+  done_plainly_kept (api.Usage which) short h = commands.spent h
+  done_plainly_kept (api.Unknown name) short h = commands.spent h
 
-  done_kept : (what : Api) {s : Switch} → NamesShort what → P None s → P (Some 2) (done_by conn what s).state
+  done_kept : (what : Api) {s : Switch} → NamesShort what → P None s → P (Some 0) (done_by conn what s).state
   done_kept (api.Expand text) {s} short h =
       let given : Text = expanded s.globals.pairs text in
-      done_either (nat_lt 65536 (length given)) _ _ (drew_none h) (done_plainly_kept (expanded_api_of given) (expanded_short given) h)
+      done_either (nat_lt 65536 (length given)) _ _ (commands.spent h) (done_plainly_kept (expanded_api_of given) (expanded_short given) h)
   done_kept other short h = done_plainly_kept other short h
 
-  responded_kept : (answer : Option Text) {s : Switch} → P (Some 2) s → P (Some 2) (with_response_of conn answer s)
+  responded_kept : (answer : Option Text) {s : Switch} → P (Some 0) s → P (Some 0) (with_response_of conn answer s)
   responded_kept None h = h
   responded_kept (Some answer) h = commands.gave (api_response (spoken answer)) h
 
-  dismissed_kept : (why : Parting) (text : Text) {s : Switch} → LeavesBy why → P (Some 2) s → P (Some 2) (after_dismissal conn why text s)
+  dismissed_kept : (why : Parting) (text : Text) {s : Switch} → LeavesBy why → P (Some 0) s → P (Some 0) (after_dismissal conn why text s)
   dismissed_kept why text leaves h = commands.gave notice (commands.gave (command_reply text) (commands.parted why leaves h))
 
-  offered_kept : (given : Text) {s : Switch} → phase_at s conn ≡ phase.Fresh → P (Some 2) s → P (Some 2) (after_password conn given s)
+  offered_kept : (given : Text) {s : Switch} → phase_at s conn ≡ phase.Fresh → P (Some 0) s → P (Some 0) (after_password conn given s)
   offered_kept given {s} fresh h = by (bytes_eq given s.config.settings.password)
     where
       by : (same : Bool) →
-          P (Some 2)
+          P (Some 0)
           (if same then command.with_reply conn accepted (conn_changed admitted conn s)
           else after_dismissal conn parting.AuthRefused invalid s)
       by true = commands.gave (command_reply accepted) (commands.admitted fresh h)
       by false = dismissed_kept parting.AuthRefused invalid tt h
 
-  pub commanded_kept : (c : Command) {s : Switch} → P None s → P (Some 2) (command_done conn c s)
+  pub commanded_kept : (c : Command) {s : Switch} → P None s → P (Some 0) (command_done conn c s)
   unfolding command_done
   commanded_kept c {s} h = by (phase_at s conn) refl c
     where
-      by : (at : Phase) → phase_at s conn ≡ at → (given : Command) → P (Some 2) (command_done_in at conn given s)
-      by phase.Fresh is (command.Auth given) = offered_kept given is (drew_none h)
-      by phase.Fresh is command.Exit = dismissed_kept parting.Exit bye tt (drew_none h)
-      by phase.Fresh is (command.Api text) = commands.gave (command_reply not_found) (drew_none h)
-      by phase.Fresh is command.Unknown = commands.gave (command_reply not_found) (drew_none h)
-      by phase.Ready is (command.Auth given) = commands.gave (command_reply not_found) (drew_none h)
-      by phase.Ready is command.Exit = dismissed_kept parting.Exit bye tt (drew_none h)
+      by : (at : Phase) → phase_at s conn ≡ at → (given : Command) → P (Some 0) (command_done_in at conn given s)
+      by phase.Fresh is (command.Auth given) = offered_kept given is (commands.spent h)
+      by phase.Fresh is command.Exit = dismissed_kept parting.Exit bye tt (commands.spent h)
+      by phase.Fresh is (command.Api text) = commands.gave (command_reply not_found) (commands.spent h)
+      by phase.Fresh is command.Unknown = commands.gave (command_reply not_found) (commands.spent h)
+      by phase.Ready is (command.Auth given) = commands.gave (command_reply not_found) (commands.spent h)
+      by phase.Ready is command.Exit = dismissed_kept parting.Exit bye tt (commands.spent h)
       by phase.Ready is (command.Api text) =
           responded_kept (done_by conn (api_of text) s).answer (done_kept (api_of text) (api_short text) h)
-      by phase.Ready is command.Unknown = commands.gave (command_reply not_found) (drew_none h)
-      by phase.Ending is given = drew_none h
-      by phase.Closed is given = drew_none h
+      by phase.Ready is command.Unknown = commands.gave (command_reply not_found) (commands.spent h)
+      by phase.Ending is given = commands.spent h
+      by phase.Closed is given = commands.spent h
 
 -- ---- all acts
-
--- how many identifiers an act draws at most
-abbrev pub most_drawn : Act → ℕ
-most_drawn (act.Command conn block) = 2
-most_drawn _ = 0
 
 module _ (before : Switch) (P : Fact) (kept : KeptByMoves before P) where
   spent : {s : Switch} → P None s → P (Some 0) s
@@ -191,10 +182,12 @@ module _ (before : Switch) (P : Fact) (kept : KeptByMoves before P) where
   closed_kept closing.Sent conn h = kept.visits.left conn h
   closed_kept closing.Failed conn h = kept.visits.left conn h
 
-  pub acted_kept : (a : Act) → P None before → P (Some (most_drawn a)) (act_done a before).state
-  acted_kept act.Arrive h = kept.visits.arrived h
-  acted_kept (act.Command conn block) h = commanded_kept conn P kept.calls (kept.commands conn) (command_of (line_of block)) h
-  acted_kept (act.Take conn) h = kept.visits.taken conn (spent h)
-  acted_kept (act.Close conn how) h = closed_kept how conn (spent h)
+  -- an act frees one slot at most
+  pub acted_kept : (a : Act) → P None before → P (Some 1) (act_done a before).state
+  acted_kept act.Arrive h = kept.calls.more (kept.visits.arrived h)
+  acted_kept (act.Command conn block) h =
+      kept.calls.more (commanded_kept conn P kept.calls (kept.commands conn) (command_of (line_of block)) h)
+  acted_kept (act.Take conn) h = kept.calls.more (kept.visits.taken conn (spent h))
+  acted_kept (act.Close conn how) h = kept.calls.more (closed_kept how conn (spent h))
   acted_kept (act.Work slot) h = worked_kept P kept.calls slot (spent h)
-  acted_kept (act.Job number) h = job_kept before P kept.calls kept.jobs number (spent h)
+  acted_kept (act.Job number) h = kept.calls.more (job_kept before P kept.calls kept.jobs number (spent h))

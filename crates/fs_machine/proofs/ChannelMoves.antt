@@ -123,7 +123,8 @@ fit_moves before stand winners =
           same_fit (front_of s) (front_of (orig_changed (leg_changed (λ position. with_answer position place) slot) number s))
           (orig_changed_front (leg_changed (λ position. with_answer position place) slot) number s) h;
       hung = λ cause slot {s = s} h. hung_fit cause slot s h;
+      more = λ h. h;
       gone = λ slot old {s = s} there dead h. each_put FitsIn s.channels slot None h tt;
     })
-    (record { spent = λ h. h; more = λ below h. h; pair = λ call orig a b {s = s} short first second h. pair_fit call orig a b s short h })
+    (record { spent = λ h. h; pair = λ call orig a b {s = s} short first second h. pair_fit call orig a b s short h })
     (λ a winner leg does has h. wins_fit a winner leg before does has stand winners h)

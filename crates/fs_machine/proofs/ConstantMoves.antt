@@ -40,8 +40,8 @@ by_front s t same = ap in_front same
 
 same_moves : (s : Switch) → KeptByMoves s (Same s)
 same_moves s =
-    moves_by_front s (Same s) (λ b t u h same. by_front t u same ∙ h) (calls_by_rest (Same s) (λ b t u h same. by_rest t u same ∙ h))
-    (record { spent = λ h. h; more = λ below h. h; pair = λ call orig a b short first second h. h })
+    moves_by_front s (Same s) (λ b t u h same. by_front t u same ∙ h) (calls_by_rest (Same s) (λ b t u h same. by_rest t u same ∙ h) (λ t h. h))
+    (record { spent = λ h. h; pair = λ call orig a b short first second h. h })
     (λ a winner leg does has h. by_rest s (after_winning winner (unwrap_or leg.slot 0) s) (won_rest winner (unwrap_or leg.slot 0) s))
 
 pub acted_constants : (act : Act) (s : Switch) → constants_of (act_done act s).state ≡ constants_of s

@@ -98,13 +98,13 @@ module _ (before : Switch) (P : Fact) (same : (b : Stage) (t u : Switch) → P b
   sleeps_same : (conn until : ℕ) (s : Switch) → P None s → P (Some 0) (after_job_begin conn (Sleep until) s)
   sleeps_same conn until s h = same (Some 0) s _ (births.spent h) (owing_front conn (Sleep until) s)
 
-  tried_same : (conn : ℕ) (endpoint : Text) (winner : Winner) (timeout orig : ℕ) (made : Made) → P (Some 2) made.state →
-      P (Some 2) (tried_by_job conn endpoint winner timeout orig made)
+  tried_same : (conn : ℕ) (endpoint : Text) (winner : Winner) (timeout orig : ℕ) (made : Made) → P (Some 0) made.state →
+      P (Some 0) (tried_by_job conn endpoint winner timeout orig made)
   tried_same conn endpoint winner timeout orig made h =
-      same (Some 2) made.state _ h (owing_front conn (Originate orig winner) (orig_begun endpoint made.leg timeout made.state))
+      same (Some 0) made.state _ h (owing_front conn (Originate orig winner) (orig_begun endpoint made.leg timeout made.state))
 
   originates_same : (conn : ℕ) (endpoint : Text) (winner : Winner) (caller : Caller) (timeout : Option ℕ) (s : Switch) → P None s →
-      P (Some 2) (originate_begun conn endpoint winner caller timeout s)
+      P (Some 0) (originate_begun conn endpoint winner caller timeout s)
   originates_same conn endpoint winner caller timeout s h =
       tried_same conn endpoint winner (unwrap_or timeout 60) (next_orig_number s) (leg_made endpoint caller (next_orig_number s) s)
       (leg_made_kept P births endpoint caller (next_orig_number s) {n = 0} {s = s} (births.spent h))
@@ -120,7 +120,6 @@ module _ (before : Switch) (P : Fact) (same : (b : Stage) (t u : Switch) → P b
     };
     commands = λ conn. record {
       spent = births.spent;
-      more = births.more;
       gave = λ frame h. same _ _ _ h refl;
       admitted = λ {n = n} {s = s} fresh h. changed_same admitted conn n s h;
       parted = λ why {n = n} {s = s} leaves h. changed_same (parted why) conn n s h;

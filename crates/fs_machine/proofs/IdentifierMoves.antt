@@ -1,12 +1,12 @@
--- Each act draws so many identifiers at most as its stages tell, and each of them stands in one slot.
-use Rattle.std.proofs.Common.{◌≡◌, ℕ, ◌+◌, ◌<◌, length, Option, None, Some, unwrap_or, refl, sym, ap, subst, length-set}
+-- Each act draws no more identifiers than it fills slots, but for those that it frees, and each identifier stands in one slot.
+use Rattle.std.proofs.Common.{◌≡◌, ℕ, ◌+◌, ◌<◌, length, Option, None, Some, unwrap_or, refl, sym, ap, subst, ◌∙◌, arith, length-set}
 use Rattle.fs_text.specs.declared.causes.Cause.{Cause}
 use Rattle.fs_chan.specs.declared.chan.Chan.{Chan}
 use Rattle.fs_chan.specs.Changes.{hung_up}
 use Rattle.fs_orig.specs.declared.winner.Winner.{Winner}
 use Rattle.fs_orig.specs.declared.winner.Winner.TheVariants.{App, Route}
 use Rattle.fs_orig.specs.Changes.{with_answer}
-use Rattle.fs_places.proofs.HeldLemmas.{IsFree}
+use Rattle.fs_places.proofs.HeldLemmas.{IsFree, held_there}
 use Rattle.fs_state.specs.Switch.{Switch, chan_at, with_chan, with_next_identifier, identifier_of}
 use Rattle.fs_state.specs.Moves.{after_move_from, orig_changed, leg_changed, after_hangup}
 use Rattle.fs_machine.specs.declared.originations.Call.{Call}
@@ -17,26 +17,30 @@ use Rattle.fs_machine.proofs.Walk.{state_told_kept, hung_kept}
 use Rattle.fs_machine.proofs.FrontLemmas.{Front, front_of, orig_changed_front, moves_by_front}
 use Rattle.fs_machine.proofs.SeenLemmas.{Seen, seen, put, Numbers, numbers_then, numbers_quietly, numbers_more, numbers_same, numbers_gone, numbers_new}
 
-abbrev pub drawn_by : Stage → ℕ
-drawn_by None = 0
-drawn_by (Some n) = n
+abbrev pub freed_by : Stage → ℕ
+freed_by None = 0
+freed_by (Some n) = n
 
--- so many at most were drawn since
+-- so many slots at most were freed since that are not filled again
 abbrev pub NumbersFrom : Seen → Fact
-NumbersFrom x b t = Numbers (drawn_by b) x (seen t)
+NumbersFrom x b t = Numbers (freed_by b) x (seen t)
 
 -- one end of a pair is made under the next identifier
-end_numbers : (call : Call) (end : End) (s : Switch) → end.slot < length s.channels → Numbers 1 (seen s) (seen (end_made call end s))
-end_numbers call end s within = numbers_new (seen s) end.slot (end_of call end (identifier_of (with_next_identifier s))) within refl
+end_numbers : (call : Call) (end : End) (s : Switch) → end.slot < length s.channels → chan_at s end.slot ≡ None →
+    Numbers 0 (seen s) (seen (end_made call end s))
+end_numbers call end s within free =
+    numbers_new (seen s) end.slot (end_of call end (identifier_of (with_next_identifier s))) within free refl
 
 pair_numbers : (call : Call) (orig a b : ℕ) (s : Switch) → IsFree Chan s.channels 1 a → IsFree Chan s.channels (a + 1) b →
-    Numbers 2 (seen s) (seen (pair_made call orig a b s))
+    Numbers 0 (seen s) (seen (pair_made call orig a b s))
 pair_numbers call orig a b s free_a free_b =
     let t : Switch = end_made call (leg_end orig a b) s in
     let u : Switch = end_made call (far_end a b) t in
     let leg : Chan = end_of call (leg_end orig a b) (identifier_of (with_next_identifier s)) in
-    numbers_then 1 1 (seen s) (seen t) (seen u) (end_numbers call (leg_end orig a b) s free_a.within)
-    (end_numbers call (far_end a b) t (subst (λ n. b < n) (sym (length-set s.channels a (Some leg))) free_b.within))
+    let still : chan_at t b ≡ None =
+    held_there s.channels a b (Some leg) (λ same. omega (arith, free_b.behind, same)) ∙ free_b.free in
+    numbers_quietly 0 (seen s) (seen t) (seen u) (end_numbers call (leg_end orig a b) s free_a.within free_a.free)
+    (end_numbers call (far_end a b) t (subst (λ n. b < n) (sym (length-set s.channels a (Some leg))) free_b.within) still)
 
 module _ (x : Seen) where
   put_numbers : (more slot : ℕ) (old new : Chan) (s : Switch) → chan_at s slot ≡ Some old → new.uuid ≡ old.uuid → Numbers more x (seen s) →
@@ -74,24 +78,23 @@ module _ (x : Seen) where
 
   pub numbers_moves : (before : Switch) → KeptByMoves before (NumbersFrom x)
   numbers_moves before =
-      moves_by_front before (NumbersFrom x) (λ b t u h same. front_numbers (drawn_by b) t u same h)
+      moves_by_front before (NumbersFrom x) (λ b t u h same. front_numbers (freed_by b) t u same h)
       (record {
         told = λ event plain h. h;
         globals = λ globals h. h;
         changed =
-            λ slot old new {b = b} {s = s} there stays h. put_numbers (drawn_by b) slot old new s there
+            λ slot old new {b = b} {s = s} there stays h. put_numbers (freed_by b) slot old new s there
             (ap (λ (l : Links). l.uuid) stays.links) h;
         answers = λ place slot number {b = b} {s = s} h.
-            front_numbers (drawn_by b) s (orig_changed (leg_changed (λ position. with_answer position place) slot) number s)
+            front_numbers (freed_by b) s (orig_changed (leg_changed (λ position. with_answer position place) slot) number s)
             (orig_changed_front (leg_changed (λ position. with_answer position place) slot) number s) h;
-        hung = λ cause slot {b = b} {s = s} h. hung_numbers (drawn_by b) cause slot s h;
-        gone = λ slot old {b = b} {s = s} there dead h. numbers_quietly (drawn_by b) x (seen s) (put slot None (seen s)) h
-            (numbers_gone (seen s) slot old there);
+        hung = λ cause slot {b = b} {s = s} h. hung_numbers (freed_by b) cause slot s h;
+        more = λ {s = s} h. numbers_more x (seen s) h;
+        gone = λ slot old {s = s} there dead h. numbers_then x (seen s) (put slot None (seen s)) h (numbers_gone (seen s) slot old there);
       })
       (record {
         spent = λ h. h;
-        more = λ {n = n} {m = m} {s = s} below h. numbers_more n m x (seen s) below h;
-        pair = λ call orig a b {n = n} {s = s} short first second h. numbers_then n 2 x (seen s) (seen (pair_made call orig a b s)) h
+        pair = λ call orig a b {n = n} {s = s} short first second h. numbers_quietly n x (seen s) (seen (pair_made call orig a b s)) h
             (pair_numbers call orig a b s first second);
       })
       (λ a winner leg does has h. won_numbers winner (unwrap_or leg.slot 0) before h)

@@ -234,7 +234,7 @@ abbrev KeepsFrom : Option ℕ → Switch → Fact
 KeepsFrom who s b t = Keeps who false s t
 
 calls_keep : (who : Option ℕ) (s : Switch) → KeptByCalls (KeepsFrom who s)
-calls_keep who s = calls_by_rest (KeepsFrom who s) (λ b t u h same. keeps_on s t u h (sockets_same t u same))
+calls_keep who s = calls_by_rest (KeepsFrom who s) (λ b t u h same. keeps_on s t u h (sockets_same t u same)) (λ t h. h)
 
 -- the jobs that end
 module _ (s : Switch) where
@@ -291,7 +291,6 @@ module _ (conn : ℕ) (s : Switch) where
   commands_keep : KeptByCommands conn (KeepsFrom (Some conn) s)
   commands_keep = record {
     spent = λ h. h;
-    more = λ below h. h;
     gave = λ frame h. gave_keeps frame h;
     admitted = λ fresh h. admitted_keeps fresh h;
     parted = λ why leaves h. leaves_keeps why leaves h;

@@ -1,5 +1,5 @@
 -- What a fact on switches has to bear for every entry to keep it: a case for each move that entries are made of.
-use Rattle.std.proofs.Common.{◌≡◌, ℕ, ◌+◌, ◌≤◌, false, Option, None, Some, unwrap_or}
+use Rattle.std.proofs.Common.{◌≡◌, ℕ, ◌+◌, false, Option, None, Some, unwrap_or}
 use Rattle.fs_text.specs.declared.causes.Cause.{Cause}
 use Rattle.fs_vars.specs.Pairs.{Text}
 use Rattle.fs_vars.specs.Variables.{Variables}
@@ -31,8 +31,8 @@ use Rattle.fs_machine.specs.Owing.{after_job_begin, after_job_end}
 use Rattle.fs_machine.specs.Step.{arrived}
 use Rattle.fs_machine.specs.Sound.{HasLeg}
 
--- How far an entry has come: nothing has begun in it that draws a number, or such a thing may have, and so many identifiers were drawn at
--- most.
+-- How far an entry has come: nothing has begun in it that draws a number, or such a thing may have, and so many slots at most were freed that
+-- are not filled again. An identifier is drawn only for a slot that is filled.
 abbrev pub Stage : Type 0
 Stage = Option ℕ
 
@@ -67,16 +67,16 @@ pub record KeptByCalls (P : Fact) : Type 0 where
   pub answers : (place slot number : ℕ) {b : Stage} {s : Switch} → P b s →
       P b (orig_changed (leg_changed (λ position. with_answer position place) slot) number s)
   pub hung : (cause : Cause) (slot : ℕ) {b : Stage} {s : Switch} → P b s → P b (after_hangup cause slot s)
-  pub gone : (slot : ℕ) (old : Chan) {b : Stage} {s : Switch} → chan_at s slot ≡ Some old → is_live old ≡ false → P b s →
-      P b (with_chan slot None s)
+  pub more : {s : Switch} → P (Some 0) s → P (Some 1) s
+  pub gone : (slot : ℕ) (old : Chan) {s : Switch} → chan_at s slot ≡ Some old → is_live old ≡ false → P (Some 0) s →
+      P (Some 1) (with_chan slot None s)
 
--- how channels are born: each pair draws two identifiers
+-- how channels are born: each pair draws two identifiers, and fills two slots
 pub record KeptByBirths (P : Fact) : Type 0 where
   pub spent : {s : Switch} → P None s → P (Some 0) s
-  pub more : {n m : ℕ} {s : Switch} → n ≤ m → P (Some n) s → P (Some m) s
   pub pair : (call : Call) (orig a b : ℕ) {n : ℕ} {s : Switch} → IsShortAddress call.exten call.context → IsFree Chan s.channels 1 a →
       IsFree Chan s.channels (a + 1) b →
-      P (Some n) s → P (Some (n + 2)) (pair_made call orig a b s)
+      P (Some n) s → P (Some n) (pair_made call orig a b s)
 
 -- ---- moves of jobs
 
@@ -111,14 +111,13 @@ IsShortWinner (Route to) = IsShortTarget (target_of to)
 -- what the commands of a connection do
 pub record KeptByCommands (conn : ℕ) (P : Fact) : Type 0 where
   pub spent : {s : Switch} → P None s → P (Some 0) s
-  pub more : {n m : ℕ} {s : Switch} → n ≤ m → P (Some n) s → P (Some m) s
   pub gave : (frame : Text) {b : Stage} {s : Switch} → P b s → P b (with_gift conn frame s)
   pub admitted : {n : ℕ} {s : Switch} → phase_at s conn ≡ Fresh → P (Some n) s → P (Some n) (conn_changed admitted conn s)
   pub parted : (why : Parting) {n : ℕ} {s : Switch} → LeavesBy why → P (Some n) s → P (Some n) (conn_changed (parted why) conn s)
   pub sleeps : (until : ℕ) {s : Switch} → is_full_of_jobs s ≡ false → P None s → P (Some 0) (after_job_begin conn (work.Sleep until) s)
   pub originates : (endpoint : Text) (winner : Winner) (caller : Caller) (timeout : Option ℕ) {s : Switch} → IsShortWinner winner →
       is_full_of_jobs s ≡ false → P None s →
-      P (Some 2) (originate_begun conn endpoint winner caller timeout s)
+      P (Some 0) (originate_begun conn endpoint winner caller timeout s)
 
 -- how connections come and go, and take their frames
 pub record KeptByVisits (P : Fact) : Type 0 where

@@ -445,6 +445,7 @@ legs_calls = record {
       (answered_legs place slot number s) h;
   hung = λ cause slot {s = s} h. legs_then s (after_hangup cause slot s) (hung_rest cause slot s)
       (pair_hung_kept (λ (t : Switch). LegsStand (roles_of t)) one_hung_legs cause slot s) h;
+  more = λ h. h;
   gone = λ slot old {s = s} there dead h few.
       legs_follow (roles_of s) (with_held s.channels slot None)
       (free_follows s.channels slot None (λ c is. ap is_live (same_Some c old (sym is ∙ there)) ∙ dead)) (h few);
@@ -453,9 +454,7 @@ legs_calls = record {
 legs_births : KeptByBirths Legs
 legs_births =
     record {
-      spent =
-          λ h. h;
-      more = λ below h. h;
+      spent = λ h. h;
       pair = λ call orig a b {s = s} short first second h few. pair_legs call orig a b s first second (h few);
     }
 
@@ -501,7 +500,6 @@ legs_moves before = record {
   };
   commands = λ conn. record {
     spent = λ h. h;
-    more = λ below h. h;
     gave = λ frame h. h;
     admitted = λ {s = s} fresh h. same_roles s (conn_changed admitted conn s) (conn_roles admitted conn s) h;
     parted = λ why {s = s} leaves h. same_roles s (conn_changed (parted why) conn s) (conn_roles (parted why) conn s) h;

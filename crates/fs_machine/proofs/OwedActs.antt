@@ -70,7 +70,7 @@ goes_same b None t u h same = books_same t u same ∙ h
 goes_same b (Some n) t u h same = subst (λ (x : Books). Goes b x) (sym (books_same t u same)) h
 
 calls_go : (b : Books) → KeptByCalls (GoesFrom b)
-calls_go b = calls_by_rest (GoesFrom b) (goes_same b)
+calls_go b = calls_by_rest (GoesFrom b) (goes_same b) (λ t h. h)
 
 goes_spent : (b : Books) → Sound b → (t : Switch) → books_of t ≡ b → Goes b (books_of t)
 goes_spent b sound t same = subst (λ (x : Books). Goes b x) (sym same) (record { sound = sound; near = near_self b })
@@ -137,7 +137,6 @@ module _ (b : Books) (conn : ℕ) (c : Conn) (there : row_of b.conns conn ≡ So
   commands_go : KeptByCommands conn (GoesFrom b)
   commands_go = record {
     spent = λ {s = s} h. goes_spent b sound s h;
-    more = λ below h. h;
     gave = λ frame {b = stage} {s = s} h. gave_goes frame stage s h;
     admitted = λ {s = s} new h. admitted_goes s new h;
     parted = λ why {s = s} leaves h. parted_goes why s h;
@@ -165,6 +164,6 @@ goes_acted (act.Command conn block) s accepts few h =
 goes_acted (act.Take conn) s accepts few h = goes_spent (books_of s) h s refl
 goes_acted (act.Close conn how) s accepts few h = closed_goes how conn s (goes_spent (books_of s) h s refl)
 goes_acted (act.Work slot) s accepts few h =
-    worked_kept (GoesFrom (books_of s)) (calls_go (books_of s)) slot {b = Some 0} {s = s} (goes_spent (books_of s) h s refl)
+    worked_kept (GoesFrom (books_of s)) (calls_go (books_of s)) slot {s = s} (goes_spent (books_of s) h s refl)
 goes_acted (act.Job number) s accepts few h =
     job_kept s (GoesFrom (books_of s)) (calls_go (books_of s)) (jobs_go (books_of s) s) number (goes_spent (books_of s) h s refl)

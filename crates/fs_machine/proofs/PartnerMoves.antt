@@ -87,12 +87,11 @@ partners_moves before =
           (front_of (orig_changed (leg_changed (λ position. with_answer position place) slot) number s))
           (orig_changed_front (leg_changed (λ position. with_answer position place) slot) number s) h;
       hung = λ cause slot {s = s} h. hung_partners cause slot s h;
+      more = λ h. h;
       gone = λ slot old {s = s} there dead h. ties_gone partner_of s.channels slot old there dead h;
     })
     (record {
-      spent =
-          λ h. h;
-      more = λ below h. h;
+      spent = λ h. h;
       pair = λ call orig a b {s = s} short first second h. pair_partners call orig a b s first second h;
     })
     (λ a winner leg does has h. won_partners winner (unwrap_or leg.slot 0) before h)

@@ -89,7 +89,8 @@ hung_rest cause slot s =
 -- ---- facts on the rest
 
 -- a fact that holds wherever the rest is the same is kept by what happens to channels
-module _ (P : Fact) (same : (b : Stage) (t u : Switch) → P b t → rest_of u ≡ rest_of t → P b u) where
+module _ (P : Fact) (same : (b : Stage) (t u : Switch) → P b t → rest_of u ≡ rest_of t → P b u)
+    (more : (t : Switch) → P (Some 0) t → P (Some 1) t) where
   answers_same : (place slot number : ℕ) {b : Stage} {s : Switch} → P b s →
       P b (orig_changed (leg_changed (λ position. with_answer position place) slot) number s)
   answers_same place slot number {b} {s} h =
@@ -105,20 +106,21 @@ module _ (P : Fact) (same : (b : Stage) (t u : Switch) → P b t → rest_of u �
     changed = λ slot old new there stays h. same _ _ _ h refl;
     answers = answers_same;
     hung = hung_same;
-    gone = λ slot old there dead h. same _ _ _ h refl;
+    more = λ {s = s} h. more s h;
+    gone = λ slot old there dead h. more _ (same _ _ _ h refl);
   }
 
 abbrev SameRest : Switch → Fact
 SameRest s b t = rest_of t ≡ rest_of s
 
 same_rest : (s : Switch) → KeptByCalls (SameRest s)
-same_rest s = calls_by_rest (SameRest s) (λ b t u h e. e ∙ h)
+same_rest s = calls_by_rest (SameRest s) (λ b t u h e. e ∙ h) (λ t h. h)
 
 pub all_hung_rest : (cause : Cause) (slots : List ℕ) (s : Switch) → rest_of (after_hangups cause slots s) ≡ rest_of s
 all_hung_rest cause slots s = all_hung_kept (SameRest s) (same_rest s) cause slots {b = None} {s = s} refl
 
 pub worked_rest : (slot : ℕ) (s : Switch) → rest_of (after_work slot s) ≡ rest_of s
-worked_rest slot s = worked_kept (SameRest s) (same_rest s) slot {b = None} {s = s} refl
+worked_rest slot s = worked_kept (SameRest s) (same_rest s) slot {s = s} refl
 
 pub won_rest : (winner : Winner) (slot : ℕ) (s : Switch) → rest_of (after_winning winner slot s) ≡ rest_of s
 unfolding after_winning
@@ -130,7 +132,7 @@ pub leg_made_rest : (endpoint : Text) (caller : Caller) (orig : ℕ) (s : Switch
     rest_of (leg_made endpoint caller orig s).state ≡ rest_of s
 leg_made_rest endpoint caller orig s =
     leg_made_kept (SameRest s)
-    (record { spent = λ h. h; more = λ below h. h; pair = λ call orig a b short first second h. h }) endpoint caller orig {n = 0}
+    (record { spent = λ h. h; pair = λ call orig a b short first second h. h }) endpoint caller orig {n = 0}
     {s = s} refl
 
 -- ---- a job is the one that it was

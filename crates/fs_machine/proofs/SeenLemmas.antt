@@ -1,5 +1,5 @@
 -- What of a switch tells identifiers, and what becomes of it.
-use Rattle.std.proofs.Common.{◌≡◌, ℕ, ◌+◌, ◌-◌, ◌<◌, ◌≤◌, ◌^◌, min, List, length, Option, None, Some, option_map, sym, ap, ◌∙◌, arith}
+use Rattle.std.proofs.Common.{◌≡◌, ℕ, ◌+◌, ◌-◌, ◌<◌, ◌≤◌, ◌^◌, min, List, length, Option, None, Some, option_map, refl, sym, ap, ◌∙◌, arith, length-set}
 use Rattle.fs_text.specs.CoreId.{uuid}
 use Rattle.fs_text.proofs.NamingLemmas.{Naming, naming_kept, naming_more}
 use Rattle.fs_vars.specs.Pairs.{Text}
@@ -7,6 +7,7 @@ use Rattle.fs_doc.specs.Reading.{Configuration}
 use Rattle.fs_chan.specs.declared.chan.Chan.{Chan}
 use Rattle.fs_places.specs.Places.{held_in, with_held}
 use Rattle.fs_places.proofs.HeldLemmas.{held_here, held_there, held_within, at_each}
+use Rattle.fs_places.proofs.TableLemmas.{taken_in, taken_same, taken_more, taken_less}
 use Rattle.fs_state.specs.Switch.{Switch}
 
 -- what is seen of a switch
@@ -32,76 +33,86 @@ uuid_in channels slot = option_map uuid_of (held_in channels slot)
 abbrev pub Named : Seen → Type 0
 Named x = Naming x.config.settings.core_uuid x.identifiers (uuid_in x.channels)
 
--- so many identifiers are drawn at most, and each stands in one slot still, unless the numbers are used up
+-- No more identifiers are drawn than slots are filled, but for so many that were freed, and each identifier stands in one slot still, unless
+-- the numbers are used up.
 pub record Numbers (more : ℕ) (x y : Seen) : Type 0 where
   pub names : y.identifiers < 2 ^ 62 - 1 → Named x → Named y
   pub few : y.identifiers < 2 ^ 62 - 1 → x.identifiers < 2 ^ 62 - 1
-  pub most : y.identifiers ≤ x.identifiers + more
+  pub most : y.identifiers + taken_in x.channels ≤ x.identifiers + taken_in y.channels + more
+  pub slots : length y.channels ≡ length x.channels
 
 pub numbers_stay : (x : Seen) → Numbers 0 x x
-numbers_stay x = record { names = λ few h. h; few = λ few. few; most = omega arith }
+numbers_stay x = record { names = λ few h. h; few = λ few. few; most = omega arith; slots = refl }
 
-pub numbers_then : (j k : ℕ) (x y z : Seen) → Numbers j x y → Numbers k y z → Numbers (j + k) x z
-numbers_then j k x y z first then = record {
+-- and then a slot is freed
+pub numbers_then : (x y z : Seen) → Numbers 0 x y → Numbers 1 y z → Numbers 1 x z
+numbers_then x y z first then = record {
   names = λ few h. then.names few (first.names (then.few few) h);
   few = λ few. first.few (then.few few);
   most = omega (arith, first.most, then.most);
+  slots = then.slots ∙ first.slots;
 }
 
--- and then something that draws none
+-- and then something that frees none
 pub numbers_quietly : (more : ℕ) (x y z : Seen) → Numbers more x y → Numbers 0 y z → Numbers more x z
 numbers_quietly more x y z first then = record {
   names = λ few h. then.names few (first.names (then.few few) h);
   few = λ few. first.few (then.few few);
   most = omega (arith, first.most, then.most);
+  slots = then.slots ∙ first.slots;
 }
 
--- more may be drawn than were
-pub numbers_more : (n m : ℕ) (x y : Seen) → n ≤ m → Numbers n x y → Numbers m x y
-numbers_more n m x y below numbers = record { names = numbers.names; few = numbers.few; most = omega (arith, numbers.most, below) }
+-- one more may be freed than was
+pub numbers_more : (x y : Seen) → Numbers 0 x y → Numbers 1 x y
+numbers_more x y numbers =
+    record { names = numbers.names; few = numbers.few; most = omega (arith, numbers.most); slots = numbers.slots }
 
 -- ---- something else stands in a slot
 
 -- no slot has an identifier that it had not
-numbers_put : (x : Seen) (slot : ℕ) (new : Option Chan) →
+numbers_put : (more : ℕ) (x : Seen) (slot : ℕ) (new : Option Chan) →
     ((q : ℕ) (text : Text) → uuid_in (with_held x.channels slot new) q ≡ Some text → uuid_in x.channels q ≡ Some text) →
-    Numbers 0 x (put slot new x)
-numbers_put x slot new had = record {
+    taken_in x.channels ≤ taken_in (with_held x.channels slot new) + more → Numbers more x (put slot new x)
+numbers_put more x slot new had fewer = record {
   names = λ few h. naming_kept x.config.settings.core_uuid x.identifiers (uuid_in x.channels)
       (uuid_in (with_held x.channels slot new)) had h;
   few = λ few. few;
-  most = omega arith;
+  most = omega (arith, fewer);
+  slots = length-set x.channels slot new;
 }
 
 -- the same channel, changed
 pub numbers_same : (x : Seen) (slot : ℕ) (old new : Chan) → held_in x.channels slot ≡ Some old → new.uuid ≡ old.uuid →
     Numbers 0 x (put slot (Some new) x)
 numbers_same x slot old new there same =
-    numbers_put x slot (Some new)
+    numbers_put 0 x slot (Some new)
     (at_each x.channels slot (Some new) (λ a b. (text : Text) → option_map uuid_of b ≡ Some text → option_map uuid_of a ≡ Some text)
     (held_within x.channels slot old there)
     (λ text e. ap (option_map uuid_of) there ∙ (ap Some (sym same) ∙ e))
     (λ a text e. e))
+    (omega (arith, taken_same x.channels slot old new there))
 
 -- a channel is gone
-pub numbers_gone : (x : Seen) (slot : ℕ) (old : Chan) → held_in x.channels slot ≡ Some old → Numbers 0 x (put slot None x)
+pub numbers_gone : (x : Seen) (slot : ℕ) (old : Chan) → held_in x.channels slot ≡ Some old → Numbers 1 x (put slot None x)
 numbers_gone x slot old there =
-    numbers_put x slot None
+    numbers_put 1 x slot None
     (at_each x.channels slot None (λ a b. (text : Text) → option_map uuid_of b ≡ Some text → option_map uuid_of a ≡ Some text)
     (held_within x.channels slot old there)
     (λ text e. absurd (cc))
     (λ a text e. e))
+    (omega (arith, taken_less x.channels slot old there))
 
 -- a channel under the next identifier
-pub numbers_new : (x : Seen) (slot : ℕ) (new : Chan) → slot < length x.channels →
+pub numbers_new : (x : Seen) (slot : ℕ) (new : Chan) → slot < length x.channels → held_in x.channels slot ≡ None →
     new.uuid ≡ uuid x.config.settings.core_uuid (min (x.identifiers + 1) (2 ^ 62 - 1)) →
-    Numbers 1 x (record (put slot (Some new) x) { identifiers = min (x.identifiers + 1) (2 ^ 62 - 1) })
-numbers_new x slot new within named = record {
+    Numbers 0 x (record (put slot (Some new) x) { identifiers = min (x.identifiers + 1) (2 ^ 62 - 1) })
+numbers_new x slot new within free named = record {
   names =
       λ few h. naming_more x.config.settings.core_uuid x.identifiers (min (x.identifiers + 1) (2 ^ 62 - 1)) slot (uuid_in x.channels)
       (uuid_in (with_held x.channels slot (Some new))) (omega (arith, few)) (omega (arith, few))
       (ap (option_map uuid_of) (held_here x.channels slot (Some new) within) ∙ ap Some named)
       (λ q other. ap (option_map uuid_of) (held_there x.channels slot q (Some new) other)) h;
   few = λ few. omega (arith, few);
-  most = omega arith;
+  most = omega (arith, taken_more x.channels slot new within free);
+  slots = length-set x.channels slot (Some new);
 }

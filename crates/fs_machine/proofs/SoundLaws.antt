@@ -15,7 +15,7 @@ sound_state config kept journal within stands = record {
   partners = partners_agree config journal;
   live = live_has_partner config journal within.settings.journal.1 stands.defined;
   profiles = profiles_are_short config journal within.settings.journal.1 stands.defined;
-  identifiers = identifiers_differ config journal within.settings.journal.1 stands.defined;
+  identifiers = identifiers_differ config journal within stands.defined;
   legs = run_has_legs config journal within.settings.journal.1 stands.defined;
   owed = run_is_owed config journal within.settings.journal.1 stands.defined;
 }

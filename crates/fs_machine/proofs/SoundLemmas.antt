@@ -1,8 +1,9 @@
 -- In every run live channels have partners, which agree, the texts of channels keep their limits, identifiers differ, and legs are
 -- channels.
-use Rattle.std.proofs.Common.{◌≡◌, ℕ, ◌+◌, ◌-◌, ◌*◌, ◌<◌, ◌≤◌, ◌^◌, min, true, IsSome, List, [], ◌∷◌, Option, None, Some, option_and_then, option_map, refl, sym, ap, subst, ◌∙◌, arith}
+use Rattle.std.proofs.Common.{◌≡◌, ℕ, ◌+◌, ◌-◌, ◌*◌, ◌<◌, ◌≤◌, ◌^◌, min, true, IsSome, List, [], ◌∷◌, length, Option, None, Some, option_and_then, option_map, refl, sym, ap, subst, ◌∙◌, arith}
 use Rattle.std.proofs.lemmas.Bool.{both_ways, false≢true, ltb-false}
 use Rattle.fs_text.proofs.NamingLemmas.{naming_none}
+use Rattle.fs_doc.specs.Limits.{AreInRange, IsWithin}
 use Rattle.fs_doc.specs.Reading.{Configuration}
 use Rattle.fs_chan.specs.declared.chan.Chan.{Chan}
 use Rattle.fs_chan.specs.Changes.{is_live}
@@ -11,21 +12,23 @@ use Rattle.fs_places.specs.declared.numbered.Numbered.{Numbered}
 use Rattle.fs_places.specs.Places.{no_places, held_in}
 use Rattle.fs_places.specs.Rows.{has_number}
 use Rattle.fs_places.proofs.HeldLemmas.{nothing_held}
+use Rattle.fs_places.proofs.TableLemmas.{taken_in, taken_most}
 use Rattle.fs_state.specs.declared.job.Job.{Job}
 use Rattle.fs_state.specs.Switch.{Switch, empty, chan_at, at_moment, after_entry}
 use Rattle.fs_state.specs.Moves.{partner_of}
 use Rattle.fs_state.proofs.LegTables.{Seat, seat_at, seat_number}
+use Rattle.fs_state.proofs.SlotLemmas.{no_places_length}
 use Rattle.fs_machine.specs.declared.entry.Entry.{Entry}
 use Rattle.fs_machine.specs.declared.entry.Act.{Act}
-use Rattle.fs_machine.specs.declared.entry.Act.TheVariants as act
 use Rattle.fs_machine.specs.Entries.{cost_of}
 use Rattle.fs_machine.specs.Step.{refusal_of, act_done, step}
 use Rattle.fs_machine.specs.Runs.{run_from, IsRunFrom}
 use Rattle.fs_machine.specs.Sound.{HasPartner, PartnersAgree, HasLivePartner, LiveHasPartner, ProfilesAreShort, IdentifiersDiffer, LegsAreChannels}
 use Rattle.fs_machine.proofs.TieLemmas.{lives_as, named_in, Ties}
-use Rattle.fs_machine.proofs.OrderLemmas.{acted_cost, not_full}
+use Rattle.fs_machine.proofs.FrameLemmas.{some_cost}
+use Rattle.fs_machine.proofs.OrderLemmas.{acted_cost, acted_config, not_full}
 use Rattle.fs_machine.proofs.FramesLaws.{config_step}
-use Rattle.fs_machine.proofs.ActWalk.{most_drawn, acted_kept}
+use Rattle.fs_machine.proofs.ActWalk.{acted_kept}
 use Rattle.fs_machine.proofs.OwedBooks.{books_of}
 use Rattle.fs_machine.proofs.OwedLaws.{Holds, holds_empty, holds_step}
 use Rattle.fs_machine.proofs.PartnerMoves.{Partners, partners_moves}
@@ -162,16 +165,18 @@ profiles_are_short config entries small run =
 
 -- ---- identifiers
 
--- each was drawn and stands in one slot, and for each of them an entry was paid
+-- each was drawn and stands in one slot, and for each of them a slot is filled, or an entry was paid
 record Counted (s : Switch) : Type 0 where
   named : Named (seen s)
-  paid : 32 * s.drawn.identifiers ≤ s.cost
+  slots : length s.channels ≡ s.config.settings.max_sessions + 1
+  paid : 64 * s.drawn.identifiers ≤ s.cost + 64 * taken_in s.channels
 
 none_counted : (config : Configuration) → Counted (empty config)
 none_counted config = record {
   named =
       naming_none config.settings.core_uuid 0 (uuid_in (empty config).channels)
       (λ q. ap (option_map uuid_of) (nothing_held Chan (config.settings.max_sessions + 1) q));
+  slots = no_places_length Chan (config.settings.max_sessions + 1);
   paid = omega arith;
 }
 
@@ -179,45 +184,41 @@ none_counted config = record {
 has_room : (s : Switch) (entry : Entry) → refusal_of s entry ≡ None → s.cost + 65600 ≤ s.config.settings.journal_limit
 has_room s entry defined = ltb-false s.config.settings.journal_limit (s.cost + 65600) (not_full s entry defined)
 
--- one entry more, of which all that counts is known
-closed_counted : (s t : Switch) (cost more : ℕ) → Numbers more (seen s) (seen t) → t.cost ≡ s.cost → 32 * more ≤ min cost 65600 →
-    s.cost + 65600 ≤ 1073741824 → Counted s →
-    Counted (after_entry cost t)
-closed_counted s t cost more numbers same least room h =
-    let most : t.drawn.identifiers ≤ s.drawn.identifiers + more = numbers.most in
-    let paid : 32 * s.drawn.identifiers ≤ s.cost = h.paid in
-    let few : t.drawn.identifiers < 2 ^ 62 - 1 = omega (arith, most, paid, least, room) in
-    record { named = numbers.names few h.named; paid = omega (arith, most, same, paid, least, room) }
+-- one entry more, of which all that counts is known; it frees one slot at most, and costs as much as an identifier
+closed_counted : (s t : Switch) (cost : ℕ) → Numbers 1 (seen s) (seen t) → t.config ≡ s.config → t.cost ≡ s.cost → 64 ≤ cost →
+    s.config.settings.max_sessions ≤ 256 → s.cost + 65600 ≤ 1073741824 → Counted s → Counted (after_entry cost t)
+closed_counted s t cost numbers same_config same least few_slots room h =
+    let most : t.drawn.identifiers + taken_in s.channels ≤ s.drawn.identifiers + taken_in t.channels + 1 = numbers.most in
+    let paid : 64 * s.drawn.identifiers ≤ s.cost + 64 * taken_in s.channels = h.paid in
+    let filled : taken_in t.channels ≤ length t.channels = taken_most t.channels in
+    let slots : length t.channels ≡ s.config.settings.max_sessions + 1 = numbers.slots ∙ h.slots in
+    let few : t.drawn.identifiers < 2 ^ 62 - 1 = omega (arith, most, paid, filled, slots, few_slots, room) in
+    record {
+      named = numbers.names few h.named;
+      slots = slots ∙ ap (λ (config : Configuration). config.settings.max_sessions + 1) (sym same_config);
+      paid = omega (arith, most, same, paid, least, room);
+    }
 
--- an act costs 32 for each identifier that it may draw
-drawn_paid : (a : Act) → 32 * most_drawn a ≤ min (cost_of a) 65600
-drawn_paid act.Arrive = omega arith
-drawn_paid (act.Command conn block) = omega arith
-drawn_paid (act.Take conn) = omega arith
-drawn_paid (act.Close conn how) = omega arith
-drawn_paid (act.Work slot) = omega arith
-drawn_paid (act.Job number) = omega arith
-
-acted_numbers : (a : Act) (s : Switch) → Numbers (most_drawn a) (seen s) (seen (act_done a s).state)
+acted_numbers : (a : Act) (s : Switch) → Numbers 1 (seen s) (seen (act_done a s).state)
 acted_numbers a s = acted_kept s (NumbersFrom (seen s)) (numbers_moves (seen s) s) a (numbers_stay (seen s))
 
-step_counted : (s : Switch) (entry : Entry) → s.cost + 65600 ≤ 1073741824 → Counted s → Counted (step s entry).state
+step_counted : (s : Switch) (entry : Entry) → s.config.settings.max_sessions ≤ 256 → s.cost + 65600 ≤ 1073741824 → Counted s →
+    Counted (step s entry).state
 unfolding step
-step_counted s entry room h =
-    closed_counted (at_moment entry.moment s) (act_done entry.act (at_moment entry.moment s)).state (cost_of entry.act)
-    (most_drawn entry.act)
-    (acted_numbers entry.act (at_moment entry.moment s)) (acted_cost entry.act (at_moment entry.moment s))
-    (drawn_paid entry.act) room
-    (record { named = h.named; paid = h.paid })
+step_counted s entry few_slots room h =
+    let now : Switch = at_moment entry.moment s in
+    closed_counted now (act_done entry.act now).state (cost_of entry.act) (acted_numbers entry.act now) (acted_config entry.act now)
+    (acted_cost entry.act now) (some_cost entry.act) few_slots room
+    (record { named = h.named; slots = h.slots; paid = h.paid })
 
-run_counted : (s : Switch) (entries : List Entry) → s.config.settings.journal_limit ≤ 1073741824 → IsRunFrom s entries → Counted s →
+run_counted : (s : Switch) (entries : List Entry) → AreInRange s.config.settings → IsRunFrom s entries → Counted s →
     Counted (run_from s entries)
-run_counted s [] small run h = h
-run_counted s (entry ∷ entries) small run h =
+run_counted s [] range run h = h
+run_counted s (entry ∷ entries) range run h =
     let room : s.cost + 65600 ≤ s.config.settings.journal_limit = has_room s entry run.0 in
     run_counted (step s entry).state entries
-    (subst (λ (config : Configuration). config.settings.journal_limit ≤ 1073741824) (sym (config_step s entry)) small)
-    run.1 (step_counted s entry (omega (arith, room, small)) h)
+    (subst (λ (config : Configuration). AreInRange config.settings) (sym (config_step s entry)) range)
+    run.1 (step_counted s entry range.sessions.1 (omega (arith, room, range.journal.1)) h)
 
 -- as the definition has it
 told_apart : (s : Switch) → Named (seen s) → IdentifiersDiffer s
@@ -227,8 +228,7 @@ told_apart s h = record {
       (h.once slot other c.uuid (ap (option_map uuid_of) is_c) (ap (option_map uuid_of) is_d ∙ ap Some (sym same)));
 }
 
-pub identifiers_differ : (config : Configuration) (entries : List Entry) → config.settings.journal_limit ≤ 1073741824 →
-    IsRunFrom (empty config) entries →
+pub identifiers_differ : (config : Configuration) (entries : List Entry) → IsWithin config → IsRunFrom (empty config) entries →
     IdentifiersDiffer (run_from (empty config) entries)
-identifiers_differ config entries small run =
-    told_apart (run_from (empty config) entries) (run_counted (empty config) entries small run (none_counted config)).named
+identifiers_differ config entries within run =
+    told_apart (run_from (empty config) entries) (run_counted (empty config) entries within.settings run (none_counted config)).named

@@ -278,8 +278,8 @@ module _ (P : Fact) (kept : KeptByCalls P) where
           let same : d ≡ c = cc in
           live_by d CsHangup false (ap (λ (x : Chan). x.state) same ∙ hangup) hangup_dead
 
-  destroyed_kept : (slot : ℕ) (c : Chan) {b : Stage} {s : Switch} → chan_at s slot ≡ Some c → c.state ≡ CsReporting → P b s →
-      P b (after_destroy slot s)
+  destroyed_kept : (slot : ℕ) (c : Chan) {s : Switch} → chan_at s slot ≡ Some c → c.state ≡ CsReporting → P (Some 0) s →
+      P (Some 1) (after_destroy slot s)
   destroyed_kept slot c is reporting h =
       kept.told (plain_event ChannelDestroy) refl
       (kept.told (plain_event ChannelState) refl (kept.gone slot c is (live_by c CsReporting false reporting reporting_dead) h))
@@ -379,27 +379,30 @@ module _ (P : Fact) (kept : KeptByCalls P) where
   waiting_kept (Socket conn) slot at h = ran_kept slot at h
   waiting_kept _ slot at h = h
 
-  working_kept : (state : State) (slot : ℕ) (c : Chan) {b : Stage} {s : Switch} → chan_at s slot ≡ Some c → c.state ≡ state → P b s →
-      P b (after_work_in state slot c s)
-  working_kept CsNew slot c {b} {s} there is h = begun_kept slot (lives_at s.channels slot c CsNew there is new_lives) h
-  working_kept CsInit slot c {b} {s} there is h =
-      moved_alive (in_state (first_state c.direction)) slot (lives_at s.channels slot c CsInit there is init_lives)
-      (λ d live. record { links = refl; live = first_lives c.direction ∙ sym live; short = λ short. short }) h
-  working_kept CsRouting slot c {b} {s} there is h =
-      routing_kept slot (chan_at s slot) (lives_at s.channels slot c CsRouting there is routing_lives) h
-  working_kept CsExecute slot c {b} {s} there is h =
-      waiting_kept c.wait slot (lives_at s.channels slot c CsExecute there is execute_lives) h
-  working_kept CsPark slot c {b} {s} there is h = waiting_kept c.wait slot (lives_at s.channels slot c CsPark there is park_lives) h
-  working_kept CsHangup slot c there is h = reported_kept slot c there is h
+  -- only a channel that has come to its end leaves its slot
+  working_kept : (state : State) (slot : ℕ) (c : Chan) {s : Switch} → chan_at s slot ≡ Some c → c.state ≡ state → P (Some 0) s →
+      P (Some 1) (after_work_in state slot c s)
+  working_kept CsNew slot c {s} there is h = kept.more (begun_kept slot (lives_at s.channels slot c CsNew there is new_lives) h)
+  working_kept CsInit slot c {s} there is h =
+      kept.more
+      (moved_alive (in_state (first_state c.direction)) slot (lives_at s.channels slot c CsInit there is init_lives)
+      (λ d live. record { links = refl; live = first_lives c.direction ∙ sym live; short = λ short. short }) h)
+  working_kept CsRouting slot c {s} there is h =
+      kept.more (routing_kept slot (chan_at s slot) (lives_at s.channels slot c CsRouting there is routing_lives) h)
+  working_kept CsExecute slot c {s} there is h =
+      kept.more (waiting_kept c.wait slot (lives_at s.channels slot c CsExecute there is execute_lives) h)
+  working_kept CsPark slot c {s} there is h =
+      kept.more (waiting_kept c.wait slot (lives_at s.channels slot c CsPark there is park_lives) h)
+  working_kept CsHangup slot c there is h = kept.more (reported_kept slot c there is h)
   working_kept CsReporting slot c there is h = destroyed_kept slot c there is h
-  working_kept _ slot c there is h = h
+  working_kept _ slot c there is h = kept.more h
 
-  pub worked_kept : (slot : ℕ) {b : Stage} {s : Switch} → P b s → P b (after_work slot s)
+  pub worked_kept : (slot : ℕ) {s : Switch} → P (Some 0) s → P (Some 1) (after_work slot s)
   unfolding after_work
-  worked_kept slot {b} {s} h = by (chan_at s slot) refl
+  worked_kept slot {s} h = by (chan_at s slot) refl
     where
-      by : (found : Option Chan) → chan_at s slot ≡ found → P b (after_work_from slot found s)
-      by None there = h
+      by : (found : Option Chan) → chan_at s slot ≡ found → P (Some 1) (after_work_from slot found s)
+      by None there = kept.more h
       by (Some c) there = working_kept c.state slot c there refl h
 
 -- ---- births
@@ -409,32 +412,28 @@ module _ (P : Fact) (births : KeptByBirths P) where
   either_made true x y first second = first
   either_made false x y first second = second
 
-  -- where there is no pair, no more is drawn
-  unmade : {n : ℕ} {s : Switch} → P (Some n) s → P (Some (n + 2)) s
-  unmade h = births.more (omega arith) h
-
   pair_kept : (call : Call) (orig : ℕ) {n : ℕ} {s : Switch} → endpoints.IsShortAddress call.exten call.context → P (Some n) s →
-      P (Some (n + 2)) (made_in call orig (free_pair s) s).state
+      P (Some n) (made_in call orig (free_pair s) s).state
   pair_kept call orig {n} {s} short h = first (free_slot 1 s) refl
     where
       second : (a : ℕ) → free_slot 1 s ≡ Some a → (found : Option ℕ) → free_slot (a + 1) s ≡ found →
-          P (Some (n + 2)) (made_in call orig (option_map (λ b. (a, b)) found) s).state
-      second a is_a None is = unmade h
+          P (Some n) (made_in call orig (option_map (λ b. (a, b)) found) s).state
+      second a is_a None is = h
       second a is_a (Some b) is =
           births.pair call orig a b short (free_place Chan s.channels 1 a is_a) (free_place Chan s.channels (a + 1) b is) h
 
       first : (found : Option ℕ) → free_slot 1 s ≡ found →
-          P (Some (n + 2)) (made_in call orig (option_and_then (with_second s) found) s).state
-      first None is = unmade h
+          P (Some n) (made_in call orig (option_and_then (with_second s) found) s).state
+      first None is = h
       first (Some a) is = second a is (free_slot (a + 1) s) refl
 
   made_kept : (endpoint : Endpoint) (caller : Caller) (orig : ℕ) {n : ℕ} {s : Switch} → endpoints.IsShortEndpoint endpoint → P (Some n) s →
-      P (Some (n + 2)) (made_of endpoint caller orig s).state
-  made_kept (Dead cause) caller orig short h = unmade h
+      P (Some n) (made_of endpoint caller orig s).state
+  made_kept (Dead cause) caller orig short h = h
   made_kept (Loopback exten context) caller orig {s} short h =
-      either_made (is_congested s) _ _ (unmade h) (pair_kept (record { exten = exten; context = context; caller = caller }) orig short h)
+      either_made (is_congested s) _ _ h (pair_kept (record { exten = exten; context = context; caller = caller }) orig short h)
 
   pub leg_made_kept : (endpoint : Text) (caller : Caller) (orig : ℕ) {n : ℕ} {s : Switch} → P (Some n) s →
-      P (Some (n + 2)) (leg_made endpoint caller orig s).state
+      P (Some n) (leg_made endpoint caller orig s).state
   unfolding leg_made
   leg_made_kept endpoint caller orig h = made_kept (endpoint_of endpoint) caller orig (endpoint_short endpoint) h

@@ -80,7 +80,7 @@ originates_winners conn endpoint winner caller timeout s short h =
 
 pub winners_moves : (before : Switch) → KeptByMoves before Winners
 winners_moves before = record {
-  calls = calls_by_rest Winners (λ b t u h same. rest_winners t u same h);
+  calls = calls_by_rest Winners (λ b t u h same. rest_winners t u same h) (λ t h. h);
   jobs = record {
     woken = λ number conn until answer {s = s} does h. ended_winners number conn answer s h;
     failed = λ a winner cause {s = s} does h. ended_winners a.job a.conn (failed_text cause) (without_orig a.orig s) h;
@@ -90,7 +90,6 @@ winners_moves before = record {
   };
   commands = λ conn. record {
     spent = λ h. h;
-    more = λ below h. h;
     gave = λ frame h. h;
     admitted = λ {s = s} fresh h. same_winners s (conn_changed admitted conn s) (conn_jobs admitted conn s) h;
     parted = λ why {s = s} leaves h. same_winners s (conn_changed (parted why) conn s) (conn_jobs (parted why) conn s) h;

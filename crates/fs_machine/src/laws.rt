@@ -1,6 +1,7 @@
 //! What holds of every run. These functions do nothing: each stands for its contract.
 
 ghost use Rattle.std.specs.Prelude.{◌≡◌, ◌≢◌, ℕ, true, false, List, [], ◌∷◌, ◌++◌};
+ghost use Rattle.fs_doc.specs.Limits.{IsWithin};
 ghost use Rattle.fs_doc.specs.Reading.{Configuration};
 ghost use Rattle.fs_state.specs.Queues.{Frames};
 ghost use Rattle.fs_state.specs.Switch.{waiting_for};
@@ -48,9 +49,9 @@ pub fn partners_agree()
 {}
 
 /// In a run none of whose entries is refused, channels in different slots have different identifiers, where the
-/// journal may cost at most 2^30: far fewer identifiers are then drawn than there are.
+/// configuration keeps its limits: far fewer identifiers are then drawn than there are.
 pub fn identifiers_differ()
-    ensures { (config : Configuration) (entries : List Entry) → IsLimited config → IsRun config entries
+    ensures { (config : Configuration) (entries : List Entry) → IsWithin config → IsRun config entries
         → IdentifiersDiffer (state_after config entries) }
 {}
 

@@ -1,5 +1,5 @@
 -- What stands at the places of a table, behind one write too, and how many places are taken.
-use Rattle.std.proofs.Common.{◌≡◌, ◌≢◌, ◌⊎◌, ℕ, zero, suc, ◌+◌, ◌<◌, true, false, List, ◌∷◌, length, map, Option, None, Some, is_none, refl, sym, ap, subst, ◌∙◌, inl, inr, ⊎_elim, arith, []}
+use Rattle.std.proofs.Common.{◌≡◌, ◌≢◌, ◌⊎◌, ℕ, zero, suc, ◌+◌, ◌<◌, ◌≤◌, true, false, List, ◌∷◌, length, map, Option, None, Some, is_none, refl, sym, ap, subst, ◌∙◌, inl, inr, ⊎_elim, arith, []}
 use Rattle.std.specs.List.{slice_set, sum_by}
 use Rattle.std.proofs.lemmas.List.{get_or-set_other, set-get_or, map-set}
 use Rattle.std.proofs.lemmas.List.Sums.{sum_by-cons, sum_by-set}
@@ -252,6 +252,28 @@ taken_less places place x stands =
     sum_by-set one_if places place None None (held_within places place x stands) in
     let one : one_if (held_in places place) ≡ 1 = ap one_if stands in
     omega (arith, sums, one)
+
+-- as many are where something stands for something else
+pub taken_same : {T : Type 0} → (places : List (Option T)) (place : ℕ) (old new : T) → held_in places place ≡ Some old →
+    taken_in (with_held places place (Some new)) ≡ taken_in places
+taken_same places place old new stands =
+    let sums : taken_in (with_held places place (Some new)) + one_if (held_in places place) ≡ taken_in places + 1 =
+    sum_by-set one_if places place (Some new) None (held_within places place old stands) in
+    let one : one_if (held_in places place) ≡ 1 = ap one_if stands in
+    omega (arith, sums, one)
+
+-- no more are than there are
+pub taken_most : {T : Type 0} → (places : List (Option T)) → taken_in places ≤ length places
+taken_most [] = omega arith
+taken_most {T} (held ∷ more) =
+    let rest : taken_in more ≤ length more = taken_most more in
+    let all : taken_in (held ∷ more) ≡ one_if held + taken_in more = sum_by-cons one_if held more in
+    let one : one_if held ≤ 1 = at_most held in
+    omega (arith, rest, all, one)
+  where
+    at_most : (x : Option T) → one_if x ≤ 1
+    at_most None = omega arith
+    at_most (Some x) = omega arith
 
 -- a table of empty places has none that is taken
 pub none_taken : {T : Type 0} → (measure : Option T → ℕ) (count : ℕ) → measure None ≡ 0 → sum_by measure (no_places {T = T} count) ≡ 0

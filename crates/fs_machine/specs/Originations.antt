@@ -211,6 +211,10 @@ pub record MadeGroup : Type 0 where
   pub state : Switch
   pub legs : List OrigLeg
 
+-- a group comes to this: the switch after it, and its legs
+abbrev pub GroupComesTo : MadeGroup → Switch → List OrigLeg → Type 0
+GroupComesTo made state legs = made ≡ record { state = state; legs = legs }
+
 -- with a leg before them
 abbrev pub with_first : OrigLeg → MadeGroup → MadeGroup
 with_first leg group = record { state = group.state; legs = leg ∷ group.legs }

@@ -1,10 +1,11 @@
 //! What an api command answers, and what it does to the switch.
 
-ghost use Rattle.std.specs.Prelude.{◌≡◌, ◌≤◌, ◌++◌, length, Some, is_some, IfOk, IfErr, OnOk};
+ghost use Rattle.std.specs.Prelude.{◌≡◌, ◌≤◌, ◌++◌, length, Some, is_some, Ok, IfOk, IfErr, OnOk};
 ghost use Rattle.std.specs.Option.{option_copied};
 ghost use Rattle.fs_vars.specs.Outputs.{IsTextRefusal};
 ghost use Rattle.fs_vars.specs.Expansion.{expanded};
 ghost use Rattle.fs_api.specs.declared.api.Api.TheVariants.{Expand};
+ghost use Rattle.fs_dial.specs.DialStrings.{dial_of};
 ghost use Rattle.fs_state.specs.Drafts.{drafted};
 ghost use Rattle.fs_state.specs.Switch.{slot_named};
 ghost use Rattle.fs_machine.specs.Api as spec;
@@ -15,7 +16,8 @@ use crate::jobs::begin_sleep;
 use crate::texts::{api_not_found, failed_text, usage_text};
 use fs_api::{Api, usage};
 use fs_chan::Chan;
-use fs_orig::{Caller, Winner, is_one_leg};
+use fs_dial::{DialKind, DialString, parse};
+use fs_orig::{Caller, LegPlans, Winner, braces_timeout};
 use fs_state::Draft;
 use fs_text::{Cause, Memory, Txt};
 use fs_vars::{Profile, Refused, Scope, Vars, expand};
@@ -88,7 +90,7 @@ fn run_plainly(draft: &mut Draft<'_>, conn: u32, api: &Api) -> Result<Option<Txt
             timeout,
         } => {
             let caller = caller_of(cid_name, cid_number)?;
-            originate(draft, conn, url, winner, caller, *timeout)
+            originate(draft, conn, url, winner, &caller, *timeout)
         }
         Api::Usage(which) => Ok(Some(usage_text(alloc, usage(*which).as_bytes())?)),
         Api::Unknown(name) => Ok(Some(api_not_found(alloc, name.as_bytes())?)),
@@ -180,29 +182,53 @@ fn sleep(draft: &mut Draft<'_>, conn: u32, milliseconds: u64) -> Result<Option<T
     Ok(None)
 }
 
-// Makes a leg, and owes the answer until it has won or failed.
+// Tries the legs of a dial string, and owes the answer until one has won or all have failed.
 #[tactic(auto, unfolding(crate::specs::Texts::too_many_jobs))]
 fn originate(
     draft: &mut Draft<'_>,
     conn: u32,
     url: &Txt,
     winner: &Winner,
-    caller: Caller,
+    caller: &Caller,
     timeout: Option<u64>,
 ) -> Result<Option<Txt>, Memory>
     ensures base { draft.new.base ≡ draft.old.base }
     ensures done { IfOk result
-        (spec.ComesTo (spec.originate_done conn url.now winner.now caller timeout (drafted draft.old))
+        (spec.ComesTo (spec.originate_done conn url.now winner.now caller.now timeout (drafted draft.old))
         (drafted draft.new)) }
 {
     let alloc = draft.alloc();
     if draft.is_full_of_jobs() {
         return says(alloc, b"-ERR too many jobs\n");
     }
-    if !is_one_leg(url.as_bytes()) {
-        return Ok(Some(failed_text(alloc, Cause::InvalidNumberFormat)?));
+    match parse(alloc, url.as_bytes()) {
+        Ok(dial) => dial_legs(draft, conn, &dial, winner, caller, timeout),
+        Err(fault) if fault.kind == DialKind::Memory => Err(Memory),
+        Err(_fault) => Ok(Some(failed_text(alloc, Cause::InvalidNumberFormat)?)),
     }
-    begin_originate(draft, conn, url, winner, caller, timeout)?;
+}
+
+// Tries the legs of a dial string that has no fault.
+fn dial_legs(
+    draft: &mut Draft<'_>,
+    conn: u32,
+    dial: &DialString<'_>,
+    winner: &Winner,
+    caller: &Caller,
+    timeout: Option<u64>,
+) -> Result<Option<Txt>, Memory>
+    ensures base { draft.new.base ≡ draft.old.base }
+    ensures done { IfOk result
+        (spec.ComesTo (spec.dialled conn (Ok (dial_of dial.now)) winner.now caller.now timeout (drafted draft.old))
+        (drafted draft.new)) }
+{
+    let alloc = draft.alloc();
+    let groups = LegPlans::of(alloc, dial)?;
+    let timeout = match timeout {
+        Some(seconds) => Some(seconds),
+        None => braces_timeout(alloc, dial)?,
+    };
+    begin_originate(draft, conn, groups, winner, caller, timeout)?;
     Ok(None)
 }
 

@@ -1,12 +1,17 @@
 //! Originations that jobs try: how they begin, and what comes of them.
-ghost use Rattle.std.specs.Prelude.{◌≡◌, Some, slice_get, IfOk, OnOk};
+ghost use Rattle.std.specs.Prelude.{◌≡◌, ◌<◌, ◌++◌, None, length, slice_get, IfOk, OnOk};
+ghost use Rattle.std.specs.Option.{option_and_then};
+ghost use Rattle.fs_text.specs.declared.causes.Cause.TheVariants.{LoseRace, NoAnswer};
 ghost use Rattle.fs_orig.specs.Legs as legs;
+ghost use Rattle.fs_orig.specs.Verdicts.{next_group};
 ghost use Rattle.fs_state.specs.Drafts.{drafted};
+ghost use Rattle.fs_state.specs.Moves.{for_slot, after_hangup};
+ghost use Rattle.fs_state.specs.Switch.{chan_at};
 ghost use Rattle.fs_machine.specs.Attempts as spec;
-ghost use Rattle.fs_machine.specs.Originations.{after_winning};
+ghost use Rattle.fs_machine.specs.Originations.{after_winning, group_made};
 
 use crate::channels::{ChanChange, change_chan};
-use crate::originations::make_leg;
+use crate::originations::make_group;
 use crate::owing::{begin_job, end_job};
 use crate::texts::{failed_text, made_text};
 use fs_chan::moment_after;
@@ -14,7 +19,7 @@ use fs_orig::{
     Caller, LegGroup, LegPlan, LegPlans, Orig, OrigLeg, OrigLegs, Owner, Verdict, Winner, judge,
 };
 use fs_state::{Draft, JobWork};
-use fs_text::{Cause, Headers, Memory, Txt};
+use fs_text::{Cause, Memory};
 use std::alloc::Global;
 
 /// How many seconds an origination has without a timeout.
@@ -28,75 +33,89 @@ pub(crate) struct Attempt {
     pub(crate) orig: u64,
 }
 
-/// Begins an origination of one leg, to which the reply is owed.
+// ---- the beginning
+
+/// Begins an origination of these groups, to which the reply is owed.
 pub(crate) fn begin_originate(
     draft: &mut Draft<'_>,
     conn: u32,
-    url: &Txt,
+    groups: LegPlans,
     winner: &Winner,
-    caller: Caller,
+    caller: &Caller,
     timeout: Option<u64>,
 ) -> Result<(), Memory>
     ensures base { draft.new.base ≡ draft.old.base }
     ensures ok { OnOk result
-        (drafted draft.new ≡ spec.originate_begun conn url.now winner.now caller timeout (drafted draft.old)) }
+        (drafted draft.new ≡ spec.originate_begun conn groups winner.now caller.now timeout (drafted draft.old)) }
 {
     let orig = draft.next_orig();
-    let leg = make_leg(draft, url, caller.copy()?, orig)?;
-    begin_orig(draft, url.copy()?, leg, timeout.unwrap_or(DEFAULT_TIMEOUT))?;
-    let winner = winner.copy()?;
-    begin_job(
-        draft,
-        conn,
-        JobWork::Originate {
-            orig,
-            winner,
-            caller,
-        },
-    )
+    let legs = make_group(draft, first_group(&groups), caller, orig)?;
+    begin_orig(draft, groups, legs, timeout.unwrap_or(DEFAULT_TIMEOUT))?;
+    let work = JobWork::Originate {
+        orig,
+        winner: winner.copy()?,
+        caller: caller.copy()?,
+    };
+    begin_job(draft, conn, work)
 }
 
-// Begins the origination of the next number: one leg is tried, until a deadline.
+// The group that is tried first.
+fn first_group(groups: &LegPlans) -> &[LegPlan]
+    ensures { result.now ≡ spec.first_group groups.now }
+{
+    match groups.as_slice().first() {
+        Some(group) => group.as_slice(),
+        None => &[],
+    }
+}
+
+// Begins the origination of the next number: these legs of its first group are tried, until a deadline.
 fn begin_orig(
     draft: &mut Draft<'_>,
-    endpoint: Txt,
-    leg: OrigLeg,
+    groups: LegPlans,
+    legs: OrigLegs,
     timeout: u64,
 ) -> Result<(), Memory>
     ensures base { draft.new.base ≡ draft.old.base }
-    ensures ok { OnOk result (drafted draft.new ≡ spec.orig_begun endpoint leg timeout (drafted draft.old)) }
+    ensures ok { OnOk result (drafted draft.new ≡ spec.orig_begun groups legs timeout (drafted draft.old)) }
 {
-    let alloc = draft.alloc();
-    let mut group = LegGroup::new(alloc);
-    group.push(LegPlan {
-        endpoint,
-        pairs: Headers::new(alloc),
-    })?;
-    let mut groups = LegPlans::new(alloc);
-    groups.push(group)?;
-    let mut legs = OrigLegs::new(alloc);
-    legs.push(leg)?;
     let owner = Owner::Job(draft.next_job());
     let deadline = moment_after(draft.moment(), timeout.saturating_mul(1_000_000));
     let _number = draft.add_orig(Orig::new(owner, groups, legs, deadline))?;
     Ok(())
 }
 
+// ---- the verdict
+
 /// Does what the verdict on an origination says.
 pub(crate) fn judge_attempt(
     draft: &mut Draft<'_>,
     attempt: Attempt,
     winner: &Winner,
+    caller: &Caller,
 ) -> Result<(), Memory>
     ensures base { draft.new.base ≡ draft.old.base }
-    ensures ok { OnOk result (drafted draft.new ≡ spec.after_verdict_on attempt winner.now (drafted draft.old)) }
+    ensures ok { OnOk result
+        (drafted draft.new ≡ spec.after_verdict_on attempt winner.now caller.now (drafted draft.old)) }
 {
     let Some(orig) = draft.orig(attempt.orig) else {
         return Ok(());
     };
     match judge(orig, draft.moment()) {
+        Verdict::Wait { .. } => Ok(()),
         Verdict::Won { position } => match leg_at(orig, position as usize)? {
-            Some(leg) => win_attempt(draft, attempt, winner, &leg),
+            Some(leg) => {
+                let losers = other_slots(draft.alloc(), orig, position as usize)?;
+                end_race(draft, attempt, winner, &leg, &losers)
+            }
+            None => Ok(()),
+        },
+        Verdict::LegExpired { position } => {
+            let slot = living_slot_at(orig, position as usize);
+            expire_leg(draft, slot)
+        }
+        Verdict::NextGroup => match next_group_of(orig)? {
+            Some(group) => try_group(draft, attempt.orig, &group, caller),
             None => Ok(()),
         },
         Verdict::Failed(cause) => fail(draft, attempt, cause),
@@ -104,11 +123,12 @@ pub(crate) fn judge_attempt(
             let slots = living_slots(draft.alloc(), orig)?;
             expire(draft, attempt, &slots)
         }
-        _ => Ok(()),
     }
 }
 
-// The leg of an origination at a position.
+// ---- what is looked up in an origination
+
+// The leg at a position.
 fn leg_at(orig: &Orig, position: usize) -> Result<Option<OrigLeg>, Memory>
     ensures { IfOk result (λ leg. leg ≡ slice_get orig.now.legs position) }
 {
@@ -116,6 +136,93 @@ fn leg_at(orig: &Orig, position: usize) -> Result<Option<OrigLeg>, Memory>
         Some(leg) => Ok(Some(leg.copy()?)),
         None => Ok(None),
     }
+}
+
+// The slot of the leg at a position, if it lives.
+fn living_slot_at(orig: &Orig, position: usize) -> Option<u16>
+    ensures { result ≡ option_and_then legs.living_slot (slice_get orig.now.legs position) }
+{
+    living_slot(orig.legs.as_slice().get(position)?)
+}
+
+// The group that is tried after the current one.
+fn next_group_of(orig: &Orig) -> Result<Option<LegGroup>, Memory>
+    ensures { IfOk result (λ group. group ≡ next_group orig.now) }
+{
+    match orig.next_group() {
+        Some(group) => Ok(Some(group.copy()?)),
+        None => Ok(None),
+    }
+}
+
+// The slots of the legs that live.
+fn living_slots(alloc: Global, orig: &Orig) -> Result<Vec<u16>, Memory>
+    ensures { IfOk result (λ slots. slots.items ≡ legs.living_slots orig.now.legs) }
+{
+    let mut slots = Vec::new(alloc);
+    add_living(&mut slots, orig.legs.as_slice())?;
+    Ok(slots)
+}
+
+// The slots of the legs that live, without the leg at a position.
+fn other_slots(alloc: Global, orig: &Orig, position: usize) -> Result<Vec<u16>, Memory>
+    requires { position < length orig.now.legs }
+    ensures { IfOk result (λ slots. slots.items ≡ legs.living_slots (spec.others position orig.now.legs)) }
+{
+    let legs = orig.legs.as_slice();
+    let mut slots = Vec::new(alloc);
+    add_living(&mut slots, &legs[..position])?;
+    add_living(&mut slots, &legs[position + 1..])?;
+    Ok(slots)
+}
+
+// Adds the slots of the legs that live.
+#[tactic(auto, using(fs_orig::proofs::LegLemmas::living_there, fs_orig::proofs::LegLemmas::living_elsewhere, fs_orig::proofs::LegLemmas::living_done))]
+fn add_living(slots: &mut Vec<u16>, legs: &[OrigLeg]) -> Result<(), Memory>
+    ensures { OnOk result (slots.new.items ≡ slots.old.items ++ legs.living_slots legs.now) }
+{
+    for leg in legs {
+        if let Some(slot) = living_slot(leg) {
+            slots.push(slot)?;
+        }
+    }
+    Ok(())
+}
+
+// The slot of a leg, if it lives.
+fn living_slot(leg: &OrigLeg) -> Option<u16>
+    ensures { result ≡ legs.living_slot leg.now }
+{
+    if leg.lives() { leg.slot } else { None }
+}
+
+// ---- what comes of it
+
+// Ends a race: the legs in these slots have lost it, and the other has won, unless it died of that.
+fn end_race(
+    draft: &mut Draft<'_>,
+    attempt: Attempt,
+    winner: &Winner,
+    leg: &OrigLeg,
+    losers: &[u16],
+) -> Result<(), Memory>
+    ensures base { draft.new.base ≡ draft.old.base }
+    ensures ok { OnOk result (drafted draft.new ≡ spec.after_race attempt winner.now leg.now
+        (spec.after_hangups LoseRace losers.now (drafted draft.old))) }
+{
+    hang_up_all(draft, losers, Cause::LoseRace)?;
+    match death_in(draft, leg.slot.unwrap_or(0)) {
+        None => win_attempt(draft, attempt, winner, leg),
+        Some(cause) => fail(draft, attempt, cause),
+    }
+}
+
+// What the channel in a slot died of, if it is there and not alive.
+fn death_in(draft: &Draft<'_>, slot: u16) -> Option<Cause>
+    ensures { result ≡ spec.death_of (chan_at (drafted draft.now) slot) }
+{
+    let chan = draft.chan(slot)?;
+    if chan.is_live() { None } else { chan.cause }
 }
 
 // Ends an origination that a leg has won.
@@ -126,8 +233,7 @@ fn win_attempt(
     leg: &OrigLeg,
 ) -> Result<(), Memory>
     ensures base { draft.new.base ≡ draft.old.base }
-    ensures ok { OnOk result (drafted draft.new ≡ spec.after_winning_at attempt winner.now (Some leg.now)
-        (drafted draft.old)) }
+    ensures ok { OnOk result (drafted draft.new ≡ spec.after_race_by None attempt winner.now leg.now (drafted draft.old)) }
 {
     let answer = made_text(draft.alloc(), leg.uuid.as_bytes())?;
     win(draft, leg.slot.unwrap_or(0), winner)?;
@@ -141,6 +247,32 @@ fn win(draft: &mut Draft<'_>, slot: u16, winner: &Winner) -> Result<(), Memory>
     ensures ok { OnOk result (drafted draft.new ≡ after_winning winner.now slot (drafted draft.old)) }
 {
     change_chan(draft, slot, ChanChange::Win { winner })
+}
+
+// Makes the legs of the next group of the origination of a number, and tries them.
+fn try_group(
+    draft: &mut Draft<'_>,
+    number: u64,
+    group: &LegGroup,
+    caller: &Caller,
+) -> Result<(), Memory>
+    ensures base { draft.new.base ≡ draft.old.base }
+    ensures ok { OnOk result (drafted draft.new ≡ spec.with_group number
+        (group_made group.now caller.now number (drafted draft.old))) }
+{
+    let legs = make_group(draft, group.as_slice(), caller, number)?;
+    draft.enter_next_group(number, legs)
+}
+
+// Hangs up the leg in a slot, if it is one, that has had its time.
+fn expire_leg(draft: &mut Draft<'_>, slot: Option<u16>) -> Result<(), Memory>
+    ensures base { draft.new.base ≡ draft.old.base }
+    ensures ok { OnOk result (drafted draft.new ≡ for_slot (after_hangup NoAnswer) slot (drafted draft.old)) }
+{
+    match slot {
+        Some(slot) => draft.hang_up(slot, Cause::NoAnswer),
+        None => Ok(()),
+    }
 }
 
 // Ends an origination at its deadline: its legs in these slots are hung up.
@@ -168,27 +300,6 @@ fn end_attempt(draft: &mut Draft<'_>, attempt: Attempt, answer: &[u8]) -> Result
 {
     draft.drop_orig(attempt.orig)?;
     end_job(draft, attempt.job, attempt.conn, answer)
-}
-
-// The slots of the legs of an origination that live.
-#[tactic(auto, using(fs_orig::proofs::LegLemmas::living_there, fs_orig::proofs::LegLemmas::living_elsewhere, fs_orig::proofs::LegLemmas::living_done))]
-fn living_slots(alloc: Global, orig: &Orig) -> Result<Vec<u16>, Memory>
-    ensures { IfOk result (λ slots. slots.items ≡ legs.living_slots orig.now.legs) }
-{
-    let mut slots = Vec::new(alloc);
-    for leg in orig.legs.as_slice() {
-        if let Some(slot) = living_slot(leg) {
-            slots.push(slot)?;
-        }
-    }
-    Ok(slots)
-}
-
-// The slot of a leg, if it lives.
-fn living_slot(leg: &OrigLeg) -> Option<u16>
-    ensures { result ≡ legs.living_slot leg.now }
-{
-    if leg.lives() { leg.slot } else { None }
 }
 
 // Hangs up the channels in these slots, one after another.

@@ -40,13 +40,17 @@ fn do_work(draft: &mut Draft<'_>, number: u64, conn: u32, work: &JobWork) -> Res
 {
     match work {
         JobWork::Sleep { .. } => end_job(draft, number, conn, b"+OK\n"),
-        JobWork::Originate { orig, winner, .. } => {
+        JobWork::Originate {
+            orig,
+            winner,
+            caller,
+        } => {
             let attempt = Attempt {
                 job: number,
                 conn,
                 orig: *orig,
             };
-            judge_attempt(draft, attempt, winner)
+            judge_attempt(draft, attempt, winner, caller)
         }
     }
 }

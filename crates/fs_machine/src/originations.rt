@@ -8,7 +8,7 @@ ghost use Rattle.fs_machine.specs.Originations as spec;
 
 use crate::terms::{call_with, deadline_of, is_misnamed, set_all};
 use fs_chan::{Action, Actions, ActionsLeft, Chan, Direction, SharedVars, Target3, Wait};
-use fs_orig::{Caller, Endpoint, LegPlan, OrigLeg, Route, Winner};
+use fs_orig::{Caller, Endpoint, LegPlan, OrigLeg, OrigLegs, Route, Winner};
 use fs_state::Draft;
 use fs_text::{Cause, Memory, State, Txt};
 use fs_vars::{Profile, Vars};
@@ -49,11 +49,31 @@ pub(crate) struct End {
     pub(crate) leg_of: Option<u64>,
 }
 
+// ---- a group of legs
+
+/// Makes the legs of an origination of this number that the plans of a group come to, one after another.
+pub(crate) fn make_group(
+    draft: &mut Draft<'_>,
+    plans: &[LegPlan],
+    caller: &Caller,
+    orig: u64,
+) -> Result<OrigLegs, Memory>
+    ensures base { draft.new.base ≡ draft.old.base }
+    ensures made { IfOk result
+        (spec.GroupComesTo (spec.group_made plans.now caller.now orig (drafted draft.old)) (drafted draft.new)) }
+{
+    let mut legs = OrigLegs::new(draft.alloc());
+    for plan in plans {
+        legs.push(make_leg(draft, plan, caller, orig)?)?;
+    }
+    Ok(legs)
+}
+
 // ---- a leg
 
-/// Makes the leg of an origination of this number that a plan comes to.
+// Makes the leg of an origination of this number that a plan comes to.
 #[tactic(auto, unfolding(crate::specs::Originations::leg_made))]
-pub(crate) fn make_leg(
+fn make_leg(
     draft: &mut Draft<'_>,
     plan: &LegPlan,
     caller: &Caller,

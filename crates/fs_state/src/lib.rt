@@ -12,6 +12,7 @@ mod draft;
 mod drawn;
 mod event;
 mod gift;
+mod groups;
 mod job;
 mod moves;
 mod queues;

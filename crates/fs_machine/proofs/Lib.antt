@@ -25,6 +25,7 @@ pub mod DueLaws
 pub mod CloseLaws
 pub mod PartnerLemmas
 pub mod SeenLemmas
+pub mod TermLemmas
 pub mod TieLemmas
 pub mod PartnerMoves
 pub mod IdentifierMoves

@@ -1,9 +1,8 @@
 //! What a leg is told by its variables: who calls, what it is called, and how long it has.
 
 ghost use Rattle.std.specs.Prelude.{◌≡◌, IfOk};
-ghost use Rattle.std.specs.Option.{option_copied, option_map};
+ghost use Rattle.std.specs.List.{list_all};
 ghost use Rattle.fs_state.specs.Drafts.{drafted};
-ghost use Rattle.fs_vars.specs.Pairs.{value_of};
 ghost use Rattle.fs_machine.specs.Originations as spec;
 
 use crate::originations::Call;
@@ -18,6 +17,7 @@ use std::alloc::Global;
 const LONGEST_NAME: usize = 64;
 
 /// The variables that pairs come to, set one after another, unless one is refused.
+#[tactic(auto, using(crate::proofs::TermLemmas::set_next, crate::proofs::TermLemmas::set_refused, crate::proofs::TermLemmas::set_done))]
 pub(crate) fn set_all(alloc: Global, pairs: &Headers) -> Result<Option<Vars>, Memory>
     ensures { IfOk result (λ vars. vars ≡ spec.set_all pairs.now spec.no_variables) }
 {
@@ -102,5 +102,12 @@ fn is_free(draft: &Draft<'_>, uuid: &[u8]) -> bool
 fn is_name(uuid: &[u8]) -> bool
     ensures { result ≡ spec.is_name uuid.now }
 {
-    (1..=LONGEST_NAME).contains(&uuid.len()) && uuid.iter().all(|byte| (b'!'..=b'~').contains(byte))
+    !uuid.is_empty() && uuid.len() <= LONGEST_NAME && are_visible(uuid)
+}
+
+// Whether each byte is one from `!` to `~`.
+fn are_visible(bytes: &[u8]) -> bool
+    ensures { result ≡ list_all spec.is_visible bytes.now }
+{
+    bytes.iter().all(|byte| matches!(byte, b'!'..=b'~'))
 }

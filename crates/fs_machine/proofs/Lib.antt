@@ -1,4 +1,5 @@
 pub mod RunLemmas
+pub mod GroupLemmas
 pub mod FrameLemmas
 pub mod DueLemmas
 pub mod Kept

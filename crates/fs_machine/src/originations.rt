@@ -52,6 +52,7 @@ pub(crate) struct End {
 // ---- a group of legs
 
 /// Makes the legs of an origination of this number that the plans of a group come to, one after another.
+#[tactic(auto, using(crate::proofs::GroupLemmas::group_there, crate::proofs::GroupLemmas::group_done))]
 pub(crate) fn make_group(
     draft: &mut Draft<'_>,
     plans: &[LegPlan],

@@ -24,7 +24,9 @@ impl Drop for Job {
 #[derive(Drop)]
 pub enum JobWork {
     /// A moment, in microseconds.
-    Sleep { until: u64 },
+    Sleep {
+        until: u64,
+    },
     /// The verdict on the origination of this number. A leg that wins then does this; the legs of a later group are made
     /// with this caller.
     Originate {

@@ -1,8 +1,9 @@
 -- The walk goes on: jobs, commands and all acts.
-use Rattle.std.proofs.Common.{◌≡◌, ℕ, ◌*◌, arith, nat_lt, Bool, true, false, if◌then◌else◌, length, slice_get, Option, None, Some, refl}
+use Rattle.std.proofs.Common.{◌≡◌, ℕ, ◌*◌, nat_lt, Bool, true, false, if◌then◌else◌, List, length, slice_get, Option, None, Some, unwrap_or, option_and_then, Result, Ok, Err, refl}
+use Rattle.std.specs.List.{list_all}
 use Rattle.std.specs.Str.{bytes_eq}
 use Rattle.fs_text.specs.declared.causes.Cause.{Cause}
-use Rattle.fs_text.specs.declared.causes.Cause.TheVariants.{NoAnswer, InvalidNumberFormat}
+use Rattle.fs_text.specs.declared.causes.Cause.TheVariants.{NoAnswer, LoseRace}
 use Rattle.fs_vars.specs.Pairs.{Text}
 use Rattle.fs_vars.specs.Variables.{can_set, set_to}
 use Rattle.fs_vars.specs.Expansion.{expanded}
@@ -11,14 +12,18 @@ use Rattle.fs_api.specs.declared.api.Api.{Api}
 use Rattle.fs_api.specs.declared.api.Api.TheVariants as api
 use Rattle.fs_api.specs.Readings.{api_of, expanded_api_of}
 use Rattle.fs_chan.specs.Moments.{moment_after}
+use Rattle.fs_dial.specs.declared.fault.DialFault.{DialFault}
+use Rattle.fs_dial.specs.DialStrings.{Dial, dial_string}
+use Rattle.fs_orig.specs.declared.caller.Caller.{Caller}
 use Rattle.fs_orig.specs.declared.leg.OrigLeg.{OrigLeg}
+use Rattle.fs_orig.specs.declared.plan.LegPlan.{LegPlan}
 use Rattle.fs_orig.specs.declared.orig.Orig.{Orig}
 use Rattle.fs_orig.specs.declared.verdict.Verdict.{Verdict}
 use Rattle.fs_orig.specs.declared.verdict.Verdict.TheVariants as verdict
 use Rattle.fs_orig.specs.declared.winner.Winner.{Winner}
-use Rattle.fs_orig.specs.Endpoints.{is_one_leg}
-use Rattle.fs_orig.specs.Legs.{living_slots}
-use Rattle.fs_orig.specs.Verdicts.{verdict_of}
+use Rattle.fs_orig.specs.Legs.{living_slot, living_slots}
+use Rattle.fs_orig.specs.Plans.{plans_of}
+use Rattle.fs_orig.specs.Verdicts.{next_group, verdict_of}
 use Rattle.fs_orig.proofs.VerdictLemmas.{winner_lives}
 use Rattle.fs_state.specs.declared.conn.Phase.{Phase}
 use Rattle.fs_state.specs.declared.conn.Phase.TheVariants as phase
@@ -27,22 +32,23 @@ use Rattle.fs_state.specs.declared.conn.Parting.TheVariants as parting
 use Rattle.fs_state.specs.declared.job.Job.{Job}
 use Rattle.fs_state.specs.declared.job.JobWork.{JobWork}
 use Rattle.fs_state.specs.declared.job.JobWork.TheVariants as work
-use Rattle.fs_state.specs.Switch.{Switch, orig_of, job_of, slot_named, is_full_of_jobs}
+use Rattle.fs_state.specs.Switch.{Switch, chan_at, orig_of, job_of, slot_named, is_full_of_jobs}
+use Rattle.fs_state.specs.Moves.{for_slot, after_hangup}
 use Rattle.fs_machine.specs.declared.entry.Act.{Act}
 use Rattle.fs_machine.specs.declared.entry.Act.TheVariants as act
 use Rattle.fs_machine.specs.declared.entry.Closing.{Closing}
 use Rattle.fs_machine.specs.declared.entry.Closing.TheVariants as closing
 use Rattle.fs_machine.specs.declared.attempts.Attempt.{Attempt}
-use Rattle.fs_machine.specs.declared.originations.Caller.{Caller}
-use Rattle.fs_machine.specs.Texts.{ok, accepted, invalid, bye, not_found, notice, command_reply, api_response, spoken, too_many_jobs, failed_text}
+use Rattle.fs_machine.specs.Texts.{ok, accepted, invalid, bye, not_found, notice, command_reply, api_response, spoken, too_many_jobs}
 use Rattle.fs_machine.specs.Connections.{phase_at, conn_changed, admitted}
-use Rattle.fs_machine.specs.Attempts.{originate_begun, after_winning_at, after_verdict, after_verdict_from}
+use Rattle.fs_machine.specs.Attempts.{death_of, others, after_race_by, after_winning_at, after_leg_expiry, after_next_group, after_verdict, after_verdict_from}
 use Rattle.fs_machine.specs.Jobs.{sleep_begun, after_job_work, job_done_from, job_done}
-use Rattle.fs_machine.specs.Api.{Done, says, no_answer_yet, kill_done, msleep_done, originate_done, done_plainly, done_by}
+use Rattle.fs_machine.specs.Api.{Done, says, no_answer_yet, kill_done, msleep_done, is_bare, dialled, originate_done, done_plainly, done_by}
 use Rattle.fs_machine.specs.Commands as command
 use Rattle.fs_machine.specs.Commands.{Command, command_of, after_dismissal, after_password, with_response_of, command_done_in, command_done}
 use Rattle.fs_machine.specs.Step.{after_close, act_done}
-use Rattle.fs_machine.proofs.Kept.{Fact, KeptByCalls, DoesJob, KeptByJobs, LeavesBy, IsShortWinner, KeptByCommands, KeptByMoves}
+use Rattle.fs_machine.specs.Sound.{HasLeg}
+use Rattle.fs_machine.proofs.Kept.{Fact, KeptByCalls, DoesJob, raced, KeptByJobs, LeavesBy, IsShortWinner, KeptByCommands, KeptByMoves}
 use Rattle.fs_machine.proofs.ShortLemmas.{NamesShort, api_short, expanded_short}
 use Rattle.fs_machine.proofs.Walk.{all_hung_kept, worked_kept}
 use Rattle.fs_machine.proofs.RestLemmas.{all_hung_rest, does_same}
@@ -50,31 +56,58 @@ use Rattle.fs_machine.proofs.RestLemmas.{all_hung_rest, does_same}
 -- ---- jobs
 
 module _ (before : Switch) (P : Fact) (calls : KeptByCalls P) (jobs : KeptByJobs before P) where
-  judged_kept : (v : Verdict) (a : Attempt) (winner : Winner) (o : Orig) → verdict_of before.moment o ≡ v → orig_of before a.orig ≡ Some o →
-      DoesJob before a.job a.conn (work.Originate a.orig winner) → P (Some 0) before → P (Some 0) (after_verdict v a winner o before)
-  judged_kept (verdict.Won position) a winner o is there does h = by (slice_get o.legs position) refl
+  -- a leg that lives wins, or dies as the others lose
+  race_kept : (a : Attempt) (winner : Winner) (caller : Caller) (leg : OrigLeg) (slots : List ℕ) →
+      DoesJob before a.job a.conn (work.Originate a.orig winner caller) → HasLeg before a.orig leg → P (Some 0) before →
+      (died : Option Cause) → death_of (chan_at (raced slots before) (unwrap_or leg.slot 0)) ≡ died →
+      P (Some 0) (after_race_by died a winner leg (raced slots before))
+  race_kept a winner caller leg slots does has h None survives =
+      jobs.wins a winner caller leg slots (does_same does (all_hung_rest LoseRace slots before))
+      (record { has = has; survives = survives }) (all_hung_kept P calls LoseRace slots h)
+  race_kept a winner caller leg slots does has h (Some cause) dies =
+      jobs.failed a winner caller cause (does_same does (all_hung_rest LoseRace slots before)) (all_hung_kept P calls LoseRace slots h)
+
+  expired_kept : (leg : Option OrigLeg) {s : Switch} → P (Some 0) s → P (Some 0) (after_leg_expiry leg s)
+  expired_kept leg {s} h = by (option_and_then living_slot leg)
     where
-      by : (leg : Option OrigLeg) → slice_get o.legs position ≡ leg → P (Some 0) (after_winning_at a winner leg before)
+      by : (slot : Option ℕ) → P (Some 0) (for_slot (after_hangup NoAnswer) slot s)
+      by None = h
+      by (Some slot) = calls.hung NoAnswer slot h
+
+  regrouped_kept : (a : Attempt) (caller : Caller) (next : Option (List LegPlan)) {s : Switch} → P (Some 0) s →
+      P (Some 0) (after_next_group a caller next s)
+  regrouped_kept a caller None h = h
+  regrouped_kept a caller (Some plans) h = jobs.regroups a.orig plans caller h
+
+  judged_kept : (v : Verdict) (a : Attempt) (winner : Winner) (caller : Caller) (o : Orig) → verdict_of before.moment o ≡ v →
+      orig_of before a.orig ≡ Some o → DoesJob before a.job a.conn (work.Originate a.orig winner caller) → P (Some 0) before →
+      P (Some 0) (after_verdict v a winner caller o before)
+  judged_kept (verdict.Won position) a winner caller o is there does h = by (slice_get o.legs position) refl
+    where
+      by : (leg : Option OrigLeg) → slice_get o.legs position ≡ leg → P (Some 0) (after_winning_at a winner position o.legs leg before)
       by None at = h
       by (Some leg) at =
-          jobs.wins a winner leg does
+          race_kept a winner caller leg (living_slots (others position o.legs)) does
           (record { orig = o; there = there; position = position; at = at; lives = winner_lives before.moment position o leg is at }) h
-  judged_kept (verdict.Failed cause) a winner o is there does h = jobs.failed a winner cause does h
-  judged_kept verdict.Expired a winner o is there does h =
-      jobs.failed a winner NoAnswer (does_same does (all_hung_rest NoAnswer (living_slots o.legs) before))
+          (death_of (chan_at (raced (living_slots (others position o.legs)) before) (unwrap_or leg.slot 0))) refl
+  judged_kept (verdict.LegExpired position) a winner caller o is there does h = expired_kept (slice_get o.legs position) h
+  judged_kept verdict.NextGroup a winner caller o is there does h = regrouped_kept a caller (next_group o) h
+  judged_kept (verdict.Failed cause) a winner caller o is there does h = jobs.failed a winner caller cause does h
+  judged_kept verdict.Expired a winner caller o is there does h =
+      jobs.failed a winner caller NoAnswer (does_same does (all_hung_rest NoAnswer (living_slots o.legs) before))
       (all_hung_kept P calls NoAnswer (living_slots o.legs) h)
-  judged_kept _ a winner o is there does h = h
+  judged_kept (verdict.Wait until) a winner caller o is there does h = h
 
   job_works_kept : (what : JobWork) (number conn : ℕ) → DoesJob before number conn what → P (Some 0) before →
       P (Some 0) (after_job_work what number conn before)
   job_works_kept (work.Sleep until) number conn does h = jobs.woken number conn until ok does h
-  job_works_kept (work.Originate orig winner) number conn does h = by (orig_of before orig) refl
+  job_works_kept (work.Originate orig winner caller) number conn does h = by (orig_of before orig) refl
     where
       by : (found : Option Orig) → orig_of before orig ≡ found →
-          P (Some 0) (after_verdict_from (record { job = number; conn = conn; orig = orig }) winner found before)
+          P (Some 0) (after_verdict_from (record { job = number; conn = conn; orig = orig }) winner caller found before)
       by None there = h
       by (Some o) there =
-          judged_kept (verdict_of before.moment o) (record { job = number; conn = conn; orig = orig }) winner o refl there does h
+          judged_kept (verdict_of before.moment o) (record { job = number; conn = conn; orig = orig }) winner caller o refl there does h
 
   pub job_kept : (number : ℕ) → P (Some 0) before → P (Some 0) (job_done number before)
   unfolding job_done
@@ -104,17 +137,21 @@ module _ (conn : ℕ) (P : Fact) (calls : KeptByCalls P) (commands : KeptByComma
       by true is = commands.spent h
       by false is = commands.sleeps (moment_after s.moment (milliseconds * 1000)) is h
 
+  dialled_kept : (dial : Result Dial DialFault) (winner : Winner) (caller : Caller) (timeout : Option ℕ) {s : Switch} →
+      IsShortWinner winner → is_full_of_jobs s ≡ false → P None s → P (Some 0) (dialled conn dial winner caller timeout s).state
+  dialled_kept (Err fault) winner caller timeout short room h = commands.spent h
+  dialled_kept (Ok dial) winner caller timeout short room h =
+      done_either (list_all is_bare (plans_of dial)) _ _ (commands.originates (plans_of dial) winner caller timeout short room h)
+      (commands.spent h)
+
   originated_kept : (url : Text) (winner : Winner) (caller : Caller) (timeout : Option ℕ) {s : Switch} → IsShortWinner winner → P None s →
       P (Some 0) (originate_done conn url winner caller timeout s).state
   originated_kept url winner caller timeout {s} short h = by (is_full_of_jobs s) refl
     where
       by : (full : Bool) → is_full_of_jobs s ≡ full →
-          P (Some 0)
-          (if full then says too_many_jobs
-          s else (if is_one_leg url then no_answer_yet (originate_begun conn url winner caller timeout s) else says
-          (failed_text InvalidNumberFormat) s)).state
+          P (Some 0) (if full then says too_many_jobs s else dialled conn (dial_string url) winner caller timeout s).state
       by true is = commands.spent h
-      by false is = done_either (is_one_leg url) _ _ (commands.originates url winner caller timeout short is h) (commands.spent h)
+      by false is = dialled_kept (dial_string url) winner caller timeout short is h
 
   done_plainly_kept : (what : Api) {s : Switch} → NamesShort what → P None s → P (Some 0) (done_plainly conn what s).state
   done_plainly_kept (api.Echo text) short h = commands.spent h

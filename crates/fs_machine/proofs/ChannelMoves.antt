@@ -2,8 +2,10 @@
 use Rattle.std.proofs.Common.{◌≡◌, ℕ, true, List, Option, None, Some, IsSome, unwrap_or, refl, sym, ap, subst, ◌∙◌, true≢false}
 use Rattle.std.proofs.lemmas.Option.{same_Some}
 use Rattle.fs_text.specs.declared.causes.Cause.{Cause}
+use Rattle.fs_text.specs.declared.causes.Cause.TheVariants.{LoseRace}
 use Rattle.fs_chan.specs.declared.chan.Chan.{Chan}
 use Rattle.fs_chan.specs.Changes.{is_live, hung_up, HasShortFields}
+use Rattle.fs_orig.specs.declared.caller.Caller.{Caller}
 use Rattle.fs_orig.specs.declared.leg.OrigLeg.{OrigLeg}
 use Rattle.fs_orig.specs.declared.winner.Winner.{Winner}
 use Rattle.fs_orig.specs.declared.winner.Winner.TheVariants.{App, Route}
@@ -19,13 +21,13 @@ use Rattle.fs_machine.specs.declared.attempts.Attempt.{Attempt}
 use Rattle.fs_machine.specs.declared.originations.Call.{Call}
 use Rattle.fs_machine.specs.declared.originations.End.{End}
 use Rattle.fs_machine.specs.Originations.{target_of, end_of, end_made, leg_end, far_end, pair_made, won_by, after_winning}
-use Rattle.fs_machine.specs.Sound.{HasLeg}
-use Rattle.fs_machine.proofs.Kept.{Fact, Links, Stays, DoesJob, IsShortWinner, KeptByMoves}
+use Rattle.fs_machine.proofs.Kept.{Fact, Links, Stays, DoesJob, raced, HasWon, IsShortWinner, KeptByMoves}
 use Rattle.fs_machine.proofs.ShortLemmas.{sent_short, profile_short}
 use Rattle.fs_machine.proofs.Walk.{hangup_dead, state_told_kept, hung_kept}
 use Rattle.fs_machine.proofs.FrontLemmas.{Front, front_of, orig_changed_front, moves_by_front}
-use Rattle.fs_machine.proofs.LegMoves.{roles_of, IsLegOf, LegsStand, has_leg}
-use Rattle.fs_machine.proofs.WinnerMoves.{WinnersAreShort, winner_of_job}
+use Rattle.fs_machine.proofs.RestLemmas.{all_hung_rest}
+use Rattle.fs_machine.proofs.LegMoves.{roles_of, IsLegOf, LegsStand, winning_leg}
+use Rattle.fs_machine.proofs.WinnerMoves.{WinnersAreShort, winner_of_job, rest_winners}
 
 -- a channel has a partner while it lives, and texts that keep their limits
 pub record IsFit (c : Chan) : Type 0 where
@@ -101,14 +103,17 @@ won_at_fit winner slot s short live h = by (chan_at s slot) refl
         (won_by winner c).state {s = with_chan slot (Some (won_by winner c)) s}
         (put_fit slot (won_by winner c) s (won_by_fit winner c short (live c is) (fit_there s slot c is h)) h)
 
-wins_fit : (a : Attempt) (winner : Winner) (leg : OrigLeg) (s : Switch) → DoesJob s a.job a.conn (Originate a.orig winner) →
-    HasLeg s a.orig leg → LegsStand (roles_of s) → WinnersAreShort s.jobs →
-    AllFit s.channels → AllFit (after_winning winner (unwrap_or leg.slot 0) s).channels
-wins_fit a winner leg s does has stand short h =
-    let stands : IsLegOf s.channels (seated a.orig leg.slot) = has_leg s a.orig leg has stand in
+wins_fit : (a : Attempt) (winner : Winner) (caller : Caller) (leg : OrigLeg) (slots : List ℕ) (s : Switch) →
+    DoesJob (raced slots s) a.job a.conn (Originate a.orig winner caller) → HasWon s a.orig leg slots → LegsStand (roles_of s) →
+    WinnersAreShort s.jobs → AllFit (raced slots s).channels →
+    AllFit (after_winning winner (unwrap_or leg.slot 0) (raced slots s)).channels
+wins_fit a winner caller leg slots s does won stand short h =
+    let t : Switch = raced slots s in
+    let stands : IsLegOf t.channels (seated a.orig leg.slot) = winning_leg s a.orig leg slots won stand in
     let same : unwrap_or leg.slot 0 ≡ stands.at = ap (λ (slot : Option ℕ). unwrap_or slot 0) stands.is in
-    won_at_fit winner (unwrap_or leg.slot 0) s (winner_of_job s a.job a.conn a.orig winner does short)
-    (λ c is. ap is_live (same_Some c stands.chan (sym is ∙ (ap (chan_at s) same ∙ stands.there))) ∙ stands.live) h
+    won_at_fit winner (unwrap_or leg.slot 0) t
+    (winner_of_job t a.job a.conn a.orig winner caller does (rest_winners s t (all_hung_rest LoseRace slots s) short))
+    (λ c is. ap is_live (same_Some c stands.chan (sym is ∙ (ap (chan_at t) same ∙ stands.there))) ∙ stands.live) h
 
 -- ---- every move
 
@@ -127,4 +132,4 @@ fit_moves before stand winners =
       gone = λ slot old {s = s} there dead h. each_put FitsIn s.channels slot None h tt;
     })
     (record { spent = λ h. h; pair = λ call orig a b {s = s} short first second h. pair_fit call orig a b s short h })
-    (λ a winner leg does has h. wins_fit a winner leg before does has stand winners h)
+    (λ a winner caller leg slots does won h. wins_fit a winner caller leg slots before does won stand winners h)

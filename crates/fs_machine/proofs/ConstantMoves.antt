@@ -6,7 +6,7 @@ use Rattle.fs_state.specs.Switch.{Switch}
 use Rattle.fs_machine.specs.declared.entry.Act.{Act}
 use Rattle.fs_machine.specs.Originations.{after_winning}
 use Rattle.fs_machine.specs.Step.{act_done}
-use Rattle.fs_machine.proofs.Kept.{Fact, KeptByMoves}
+use Rattle.fs_machine.proofs.Kept.{Fact, raced, KeptByMoves}
 use Rattle.fs_machine.proofs.RestLemmas.{Rest, rest_of, calls_by_rest, won_rest}
 use Rattle.fs_machine.proofs.FrontLemmas.{Front, front_of, moves_by_front}
 use Rattle.fs_machine.proofs.ActWalk.{acted_kept}
@@ -40,9 +40,12 @@ by_front s t same = ap in_front same
 
 same_moves : (s : Switch) → KeptByMoves s (Same s)
 same_moves s =
-    moves_by_front s (Same s) (λ b t u h same. by_front t u same ∙ h) (calls_by_rest (Same s) (λ b t u h same. by_rest t u same ∙ h) (λ t h. h))
+    moves_by_front s (Same s) (λ b t u h same. by_front t u same ∙ h)
+    (calls_by_rest (Same s) (λ b t u h same. by_rest t u same ∙ h) (λ t h. h))
     (record { spent = λ h. h; pair = λ call orig a b short first second h. h })
-    (λ a winner leg does has h. by_rest s (after_winning winner (unwrap_or leg.slot 0) s) (won_rest winner (unwrap_or leg.slot 0) s))
+    (λ a winner caller leg slots does won h.
+    by_rest (raced slots s) (after_winning winner (unwrap_or leg.slot 0) (raced slots s))
+    (won_rest winner (unwrap_or leg.slot 0) (raced slots s)) ∙ h)
 
 pub acted_constants : (act : Act) (s : Switch) → constants_of (act_done act s).state ≡ constants_of s
 acted_constants act s = acted_kept s (Same s) (same_moves s) act refl

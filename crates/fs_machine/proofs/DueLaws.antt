@@ -155,7 +155,7 @@ orig_comes now moment (Some o) is =
 work_comes : (s : Switch) (now moment : ℕ) (work : JobWork) → work_due (record s { moment = now }) work ≡ Some (At moment) →
     work_due (record s { moment = moment }) work ≡ Some Now
 work_comes s now moment (Sleep until) is = ap Some (has_come_at now until moment (same_Some (due_at now until) (At moment) is))
-work_comes s now moment (Originate orig winner) is = orig_comes now moment (orig_of s orig) is
+work_comes s now moment (Originate orig winner caller) is = orig_comes now moment (orig_of s orig) is
 
 chan_comes : (s : Switch) (now moment : ℕ) (held : Option Chan) → chan_moment (record s { moment = now }) held ≡ Some moment →
     is_due (record s { moment = moment }) held ≡ true

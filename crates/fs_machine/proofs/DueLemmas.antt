@@ -32,7 +32,7 @@ orig_after now (Some o) n h = to_come_at now (verdicts.due_moment_of now o) n (c
 
 work_after : (s : Switch) (work : JobWork) (n : ℕ) → work_due s work ≡ Some (At n) → s.moment < n
 work_after s (Sleep until) n h = to_come_at s.moment until n (cc)
-work_after s (Originate orig winner) n h = orig_after s.moment (orig_of s orig) n h
+work_after s (Originate orig winner caller) n h = orig_after s.moment (orig_of s orig) n h
 
 row_after : (s : Switch) (row : Option (Numbered Job)) → IsAfter s.moment (row_moment s row)
 row_after s None n h = absurd (cc)

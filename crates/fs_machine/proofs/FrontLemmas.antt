@@ -4,9 +4,12 @@ use Rattle.fs_vars.specs.Pairs.{Text}
 use Rattle.fs_vars.specs.Variables.{Variables}
 use Rattle.fs_doc.specs.Reading.{Configuration}
 use Rattle.fs_chan.specs.declared.chan.Chan.{Chan}
+use Rattle.fs_orig.specs.declared.caller.Caller.{Caller}
 use Rattle.fs_orig.specs.declared.leg.OrigLeg.{OrigLeg}
+use Rattle.fs_orig.specs.declared.plan.LegPlan.{LegPlan}
 use Rattle.fs_orig.specs.declared.orig.Orig.{Orig}
 use Rattle.fs_orig.specs.declared.winner.Winner.{Winner}
+use Rattle.fs_orig.specs.Changes.{at_next_group}
 use Rattle.fs_places.specs.declared.numbered.Numbered.{Numbered}
 use Rattle.fs_places.specs.Rows.{with_row}
 use Rattle.fs_state.specs.declared.conn.Conn.{Conn}
@@ -18,15 +21,13 @@ use Rattle.fs_state.specs.Counts.{Tallies}
 use Rattle.fs_state.specs.Switch.{Switch, conn_of, orig_of, next_orig_number, with_new_job, without_job, without_orig}
 use Rattle.fs_state.specs.Moves.{orig_changed_from, orig_changed}
 use Rattle.fs_machine.specs.declared.attempts.Attempt.{Attempt}
-use Rattle.fs_machine.specs.declared.originations.Caller.{Caller}
 use Rattle.fs_machine.specs.Texts.{made_text, failed_text}
 use Rattle.fs_machine.specs.Connections.{conn_changed_from, conn_changed, admitted, parted, owed_since, not_owed}
-use Rattle.fs_machine.specs.Originations.{Made, leg_made, after_winning}
-use Rattle.fs_machine.specs.Attempts.{orig_begun, tried_by_job, originate_begun}
+use Rattle.fs_machine.specs.Originations.{MadeGroup, group_made, after_winning}
+use Rattle.fs_machine.specs.Attempts.{first_group, orig_begun, tried_by_job, originate_begun, with_group}
 use Rattle.fs_machine.specs.Owing.{after_job_begin, after_job_end}
-use Rattle.fs_machine.specs.Sound.{HasLeg}
-use Rattle.fs_machine.proofs.Kept.{Stage, Fact, KeptByCalls, KeptByBirths, DoesJob, KeptByMoves}
-use Rattle.fs_machine.proofs.Walk.{leg_made_kept}
+use Rattle.fs_machine.proofs.Kept.{Stage, Fact, KeptByCalls, KeptByBirths, DoesJob, raced, HasWon, KeptByMoves}
+use Rattle.fs_machine.proofs.Walk.{group_made_kept}
 
 -- what is left of a switch without connections, jobs, originations and what they are given
 pub record Front : Type 0 where
@@ -82,9 +83,10 @@ ended_front number conn answer s = conn_changed_front not_owed conn (without_job
 -- a fact that holds wherever the front is the same is kept by all moves, if channels and births keep it, and a leg that wins
 module _ (before : Switch) (P : Fact) (same : (b : Stage) (t u : Switch) → P b t → front_of u ≡ front_of t → P b u) (calls : KeptByCalls P)
     (births : KeptByBirths P)
-    (wins : (a : Attempt) (winner : Winner) (leg : OrigLeg) → DoesJob before a.job a.conn (Originate a.orig winner) →
-    HasLeg before a.orig leg → P (Some 0) before →
-    P (Some 0) (after_winning winner (unwrap_or leg.slot 0) before)) where
+    (wins : (a : Attempt) (winner : Winner) (caller : Caller) (leg : OrigLeg) (slots : List ℕ) →
+    DoesJob (raced slots before) a.job a.conn (Originate a.orig winner caller) → HasWon before a.orig leg slots →
+    P (Some 0) (raced slots before) →
+    P (Some 0) (after_winning winner (unwrap_or leg.slot 0) (raced slots before))) where
   changed_same : (change : Conn → Conn) (conn n : ℕ) (s : Switch) → P (Some n) s → P (Some n) (conn_changed change conn s)
   changed_same change conn n s h = same (Some n) s _ h (conn_changed_front change conn s)
 
@@ -98,25 +100,32 @@ module _ (before : Switch) (P : Fact) (same : (b : Stage) (t u : Switch) → P b
   sleeps_same : (conn until : ℕ) (s : Switch) → P None s → P (Some 0) (after_job_begin conn (Sleep until) s)
   sleeps_same conn until s h = same (Some 0) s _ (births.spent h) (owing_front conn (Sleep until) s)
 
-  tried_same : (conn : ℕ) (endpoint : Text) (winner : Winner) (timeout orig : ℕ) (made : Made) → P (Some 0) made.state →
-      P (Some 0) (tried_by_job conn endpoint winner timeout orig made)
-  tried_same conn endpoint winner timeout orig made h =
-      same (Some 0) made.state _ h (owing_front conn (Originate orig winner) (orig_begun endpoint made.leg timeout made.state))
+  tried_same : (conn : ℕ) (groups : List (List LegPlan)) (winner : Winner) (caller : Caller) (timeout orig : ℕ) (made : MadeGroup) →
+      P (Some 0) made.state → P (Some 0) (tried_by_job conn groups winner caller timeout orig made)
+  tried_same conn groups winner caller timeout orig made h =
+      same (Some 0) made.state _ h (owing_front conn (Originate orig winner caller) (orig_begun groups made.legs timeout made.state))
 
-  originates_same : (conn : ℕ) (endpoint : Text) (winner : Winner) (caller : Caller) (timeout : Option ℕ) (s : Switch) → P None s →
-      P (Some 0) (originate_begun conn endpoint winner caller timeout s)
-  originates_same conn endpoint winner caller timeout s h =
-      tried_same conn endpoint winner (unwrap_or timeout 60) (next_orig_number s) (leg_made endpoint caller (next_orig_number s) s)
-      (leg_made_kept P births endpoint caller (next_orig_number s) {n = 0} {s = s} (births.spent h))
+  originates_same : (conn : ℕ) (groups : List (List LegPlan)) (winner : Winner) (caller : Caller) (timeout : Option ℕ) (s : Switch) →
+      P None s → P (Some 0) (originate_begun conn groups winner caller timeout s)
+  originates_same conn groups winner caller timeout s h =
+      tried_same conn groups winner caller (unwrap_or timeout 60) (next_orig_number s)
+      (group_made (first_group groups) caller (next_orig_number s) s)
+      (group_made_kept P births (first_group groups) caller (next_orig_number s) {n = 0} {s = s} (births.spent h))
+
+  regroups_same : (number : ℕ) (made : MadeGroup) → P (Some 0) made.state → P (Some 0) (with_group number made)
+  regroups_same number made h = same (Some 0) made.state _ h (orig_changed_front (at_next_group made.legs) number made.state)
 
   pub moves_by_front : KeptByMoves before P
   moves_by_front = record {
     calls = calls;
     jobs = record {
       woken = λ number conn until answer {s = s} does h. ended_same number conn answer s h;
-      failed = λ a winner cause {s = s} does h. over_same a (failed_text cause) s h;
-      wins = λ a winner leg does has h. over_same a (made_text leg.uuid) (after_winning winner (unwrap_or leg.slot 0) before)
-          (wins a winner leg does has h);
+      failed = λ a winner caller cause {s = s} does h. over_same a (failed_text cause) s h;
+      wins = λ a winner caller leg slots does won h.
+          over_same a (made_text leg.uuid) (after_winning winner (unwrap_or leg.slot 0) (raced slots before))
+          (wins a winner caller leg slots does won h);
+      regroups = λ number plans caller {s = s} h. regroups_same number (group_made plans caller number s)
+          (group_made_kept P births plans caller number {n = 0} {s = s} h);
     };
     commands = λ conn. record {
       spent = births.spent;
@@ -124,7 +133,7 @@ module _ (before : Switch) (P : Fact) (same : (b : Stage) (t u : Switch) → P b
       admitted = λ {n = n} {s = s} fresh h. changed_same admitted conn n s h;
       parted = λ why {n = n} {s = s} leaves h. changed_same (parted why) conn n s h;
       sleeps = λ until {s = s} room h. sleeps_same conn until s h;
-      originates = λ endpoint winner caller timeout {s = s} short room h. originates_same conn endpoint winner caller timeout s h;
+      originates = λ groups winner caller timeout {s = s} short room h. originates_same conn groups winner caller timeout s h;
     };
     visits = record {
       arrived = λ h. same _ _ _ (births.spent h) refl;

@@ -12,7 +12,7 @@ use Rattle.fs_state.specs.Moves.{after_move_from, orig_changed, leg_changed, aft
 use Rattle.fs_machine.specs.declared.originations.Call.{Call}
 use Rattle.fs_machine.specs.declared.originations.End.{End}
 use Rattle.fs_machine.specs.Originations.{end_of, end_made, leg_end, far_end, pair_made, won_by, after_winning}
-use Rattle.fs_machine.proofs.Kept.{Stage, Fact, Links, KeptByMoves}
+use Rattle.fs_machine.proofs.Kept.{Stage, Fact, Links, raced, KeptByMoves}
 use Rattle.fs_machine.proofs.Walk.{state_told_kept, hung_kept}
 use Rattle.fs_machine.proofs.FrontLemmas.{Front, front_of, orig_changed_front, moves_by_front}
 use Rattle.fs_machine.proofs.SeenLemmas.{Seen, seen, put, Numbers, numbers_then, numbers_quietly, numbers_more, numbers_same, numbers_gone, numbers_new}
@@ -97,4 +97,4 @@ module _ (x : Seen) where
         pair = λ call orig a b {n = n} {s = s} short first second h. numbers_quietly n x (seen s) (seen (pair_made call orig a b s)) h
             (pair_numbers call orig a b s first second);
       })
-      (λ a winner leg does has h. won_numbers winner (unwrap_or leg.slot 0) before h)
+      (λ a winner caller leg slots does won h. won_numbers winner (unwrap_or leg.slot 0) (raced slots before) h)

@@ -4,7 +4,9 @@ use Rattle.std.proofs.lemmas.Bool.{cases_eq}
 use Rattle.std.proofs.lemmas.Option.{same_Some, none-some}
 use Rattle.fs_vars.specs.Pairs.{Text}
 use Rattle.fs_frame.specs.Block.{line_of}
+use Rattle.fs_orig.specs.declared.caller.Caller.{Caller}
 use Rattle.fs_orig.specs.declared.leg.OrigLeg.{OrigLeg}
+use Rattle.fs_orig.specs.declared.plan.LegPlan.{LegPlan}
 use Rattle.fs_orig.specs.declared.winner.Winner.{Winner}
 use Rattle.fs_places.specs.declared.numbered.Numbered.{Numbered}
 use Rattle.fs_places.specs.Places.{held_in}
@@ -22,19 +24,18 @@ use Rattle.fs_machine.specs.declared.entry.Act.{Act}
 use Rattle.fs_machine.specs.declared.entry.Act.TheVariants as act
 use Rattle.fs_machine.specs.declared.entry.Closing.TheVariants as closing
 use Rattle.fs_machine.specs.declared.attempts.Attempt.{Attempt}
-use Rattle.fs_machine.specs.declared.originations.Caller.{Caller}
 use Rattle.fs_machine.specs.Texts.{made_text, failed_text}
 use Rattle.fs_machine.specs.Connections.{conn_changed_from, conn_changed, admitted, parted, owed_since, not_owed, phase_of, phase_at}
 use Rattle.fs_machine.specs.Questions.{parting_of, owed_of}
-use Rattle.fs_machine.specs.Originations.{Made, leg_made, after_winning}
-use Rattle.fs_machine.specs.Attempts.{orig_begun, tried_by_job, originate_begun}
+use Rattle.fs_machine.specs.Originations.{MadeGroup, group_made, after_winning}
+use Rattle.fs_machine.specs.Attempts.{first_group, orig_begun, tried_by_job, originate_begun, with_group}
 use Rattle.fs_machine.specs.Jobs.{job_done}
 use Rattle.fs_machine.specs.Owing.{after_job_begin, after_job_end}
 use Rattle.fs_machine.specs.Commands.{Command, command_of, command_done}
 use Rattle.fs_machine.specs.Work.{after_work}
 use Rattle.fs_machine.specs.Step.{is_closed, act_done}
-use Rattle.fs_machine.proofs.Kept.{Fact, KeptByCalls, KeptByJobs, LeavesBy, KeptByCommands}
-use Rattle.fs_machine.proofs.RestLemmas.{Rest, rest_of, calls_by_rest, leg_made_rest, worked_rest, won_rest}
+use Rattle.fs_machine.proofs.Kept.{Fact, KeptByCalls, raced, KeptByJobs, LeavesBy, KeptByCommands}
+use Rattle.fs_machine.proofs.RestLemmas.{Rest, rest_of, calls_by_rest, group_made_rest, regrouped_rest, worked_rest, won_rest}
 use Rattle.fs_machine.proofs.ActWalk.{job_kept, commanded_kept}
 
 -- the connections of a switch, with what waits for them and what numbers them
@@ -219,13 +220,13 @@ ended_keeps number conn answer s =
     (without_job number s)))
     refl
 
-begun_keeps : (conn : ℕ) (endpoint : Text) (winner : Winner) (timeout orig : ℕ) (made : Made) (s : Switch) →
-    sockets_of made.state ≡ sockets_of s →
-    Keeps (Some conn) false s (tried_by_job conn endpoint winner timeout orig made)
-begun_keeps conn endpoint winner timeout orig made s same =
-    keeps_trans s (orig_begun endpoint made.leg timeout made.state) (tried_by_job conn endpoint winner timeout orig made)
-    (keeps_same s (orig_begun endpoint made.leg timeout made.state) same)
-    (owing_keeps conn (Originate orig winner) (orig_begun endpoint made.leg timeout made.state))
+begun_keeps : (conn : ℕ) (groups : List (List LegPlan)) (winner : Winner) (caller : Caller) (timeout orig : ℕ) (made : MadeGroup)
+    (s : Switch) → sockets_of made.state ≡ sockets_of s →
+    Keeps (Some conn) false s (tried_by_job conn groups winner caller timeout orig made)
+begun_keeps conn groups winner caller timeout orig made s same =
+    let begun : Switch = orig_begun groups made.legs timeout made.state in
+    keeps_trans s begun (tried_by_job conn groups winner caller timeout orig made) (keeps_same s begun same)
+    (owing_keeps conn (Originate orig winner caller) begun)
 
 -- ---- every move
 
@@ -245,19 +246,26 @@ module _ (s : Switch) where
       (keeps_on s t (without_orig a.orig u) h same)
       (ended_keeps a.job a.conn answer (without_orig a.orig u))
 
-  wins_keep : (a : Attempt) (winner : Winner) (leg : OrigLeg) → Keeps None false s s →
+  wins_keep : (a : Attempt) (winner : Winner) (leg : OrigLeg) (t : Switch) → Keeps None false s t →
       Keeps None false s (after_job_end a.job a.conn (made_text leg.uuid)
-      (without_orig a.orig (after_winning winner (unwrap_or leg.slot 0) s)))
-  wins_keep a winner leg h =
-      let t : Switch = after_winning winner (unwrap_or leg.slot 0) s in
-      over_keeps a (made_text leg.uuid) s t (sockets_same s t (won_rest winner (unwrap_or leg.slot 0) s)) h
+      (without_orig a.orig (after_winning winner (unwrap_or leg.slot 0) t)))
+  wins_keep a winner leg t h =
+      let u : Switch = after_winning winner (unwrap_or leg.slot 0) t in
+      over_keeps a (made_text leg.uuid) t u (sockets_same t u (won_rest winner (unwrap_or leg.slot 0) t)) h
+
+  regroups_keep : (number : ℕ) (plans : List LegPlan) (caller : Caller) (t : Switch) → Keeps None false s t →
+      Keeps None false s (with_group number (group_made plans caller number t))
+  regroups_keep number plans caller t h =
+      let u : Switch = with_group number (group_made plans caller number t) in
+      keeps_on s t u h (sockets_same t u (regrouped_rest number plans caller t))
 
   jobs_keep : KeptByJobs s (KeepsFrom None s)
   jobs_keep = record {
     woken = λ number conn until answer {s = t} does h. keeps_trans s t (after_job_end number conn answer t) h
         (ended_keeps number conn answer t);
-    failed = λ a winner cause {s = t} does h. over_keeps a (failed_text cause) t t refl h;
-    wins = λ a winner leg does has h. wins_keep a winner leg h;
+    failed = λ a winner caller cause {s = t} does h. over_keeps a (failed_text cause) t t refl h;
+    wins = λ a winner caller leg slots does won h. wins_keep a winner leg (raced slots s) h;
+    regroups = λ number plans caller {s = t} h. regroups_keep number plans caller t h;
   }
 
 -- the commands of a connection
@@ -281,12 +289,13 @@ module _ (conn : ℕ) (s : Switch) where
       Keeps (Some conn) false s (after_job_begin conn (Sleep until) t)
   sleeps_keep until {t} room h = keeps_trans s t (after_job_begin conn (Sleep until) t) h (owing_keeps conn (Sleep until) t)
 
-  originates_keep : (endpoint : Text) (winner : Winner) (caller : Caller) (timeout : Option ℕ) {t : Switch} → Keeps (Some conn) false s t →
-      Keeps (Some conn) false s (originate_begun conn endpoint winner caller timeout t)
-  originates_keep endpoint winner caller timeout {t} h =
-      keeps_trans s t (originate_begun conn endpoint winner caller timeout t) h
-      (begun_keeps conn endpoint winner (unwrap_or timeout 60) (next_orig_number t) (leg_made endpoint caller (next_orig_number t) t) t
-      (sockets_same t (leg_made endpoint caller (next_orig_number t) t).state (leg_made_rest endpoint caller (next_orig_number t) t)))
+  originates_keep : (groups : List (List LegPlan)) (winner : Winner) (caller : Caller) (timeout : Option ℕ) {t : Switch} →
+      Keeps (Some conn) false s t → Keeps (Some conn) false s (originate_begun conn groups winner caller timeout t)
+  originates_keep groups winner caller timeout {t} h =
+      let made : MadeGroup = group_made (first_group groups) caller (next_orig_number t) t in
+      keeps_trans s t (originate_begun conn groups winner caller timeout t) h
+      (begun_keeps conn groups winner caller (unwrap_or timeout 60) (next_orig_number t) made t
+      (sockets_same t made.state (group_made_rest (first_group groups) caller (next_orig_number t) t)))
 
   commands_keep : KeptByCommands conn (KeepsFrom (Some conn) s)
   commands_keep = record {
@@ -295,7 +304,7 @@ module _ (conn : ℕ) (s : Switch) where
     admitted = λ fresh h. admitted_keeps fresh h;
     parted = λ why leaves h. leaves_keeps why leaves h;
     sleeps = sleeps_keep;
-    originates = λ endpoint winner caller timeout short room h. originates_keep endpoint winner caller timeout h;
+    originates = λ groups winner caller timeout short room h. originates_keep groups winner caller timeout h;
   }
 
 -- ---- what acts keep

@@ -1,12 +1,15 @@
 -- What a fact on switches has to bear for every entry to keep it: a case for each move that entries are made of.
-use Rattle.std.proofs.Common.{◌≡◌, ℕ, ◌+◌, false, Option, None, Some, unwrap_or}
+use Rattle.std.proofs.Common.{◌≡◌, ℕ, ◌+◌, false, List, Option, None, Some, unwrap_or}
 use Rattle.fs_text.specs.declared.causes.Cause.{Cause}
+use Rattle.fs_text.specs.declared.causes.Cause.TheVariants.{LoseRace}
 use Rattle.fs_vars.specs.Pairs.{Text}
 use Rattle.fs_vars.specs.Variables.{Variables}
 use Rattle.fs_chan.specs.declared.chan.Chan.{Chan}
 use Rattle.fs_chan.specs.declared.peer.Peer.{Peer}
 use Rattle.fs_chan.specs.Changes.{is_live, IsShortTarget, HasShortFields}
+use Rattle.fs_orig.specs.declared.caller.Caller.{Caller}
 use Rattle.fs_orig.specs.declared.leg.OrigLeg.{OrigLeg}
+use Rattle.fs_orig.specs.declared.plan.LegPlan.{LegPlan}
 use Rattle.fs_orig.specs.declared.winner.Winner.{Winner}
 use Rattle.fs_orig.specs.declared.winner.Winner.TheVariants.{App, Route}
 use Rattle.fs_orig.specs.Changes.{with_answer}
@@ -18,21 +21,20 @@ use Rattle.fs_state.specs.declared.conn.Parting.TheVariants as parting
 use Rattle.fs_state.specs.declared.event.Event.{Event}
 use Rattle.fs_state.specs.declared.job.JobWork.{JobWork}
 use Rattle.fs_state.specs.declared.job.JobWork.TheVariants as work
-use Rattle.fs_state.specs.Switch.{Switch, chan_at, with_chan, is_full_of_jobs, job_of, without_orig, without_conn, with_frame_taken, with_event, with_gift}
+use Rattle.fs_state.specs.Switch.{Switch, chan_at, with_chan, is_full_of_jobs, job_of, without_conn, with_frame_taken, with_event, with_gift}
 use Rattle.fs_state.specs.Moves.{orig_changed, leg_changed, after_hangup}
 use Rattle.fs_machine.specs.declared.attempts.Attempt.{Attempt}
 use Rattle.fs_machine.specs.declared.originations.Call.{Call}
-use Rattle.fs_machine.specs.declared.originations.Caller.{Caller}
 use Rattle.fs_machine.specs.Connections.{phase_at, conn_changed, admitted, parted}
 use Rattle.fs_machine.specs.Texts.{made_text}
-use Rattle.fs_machine.specs.Originations.{pair_made, target_of, after_winning}
-use Rattle.fs_machine.specs.Attempts.{originate_begun, after_failure}
+use Rattle.fs_machine.specs.Originations.{pair_made, target_of, group_made, after_winning}
+use Rattle.fs_machine.specs.Attempts.{originate_begun, after_hangups, after_attempt, after_failure, death_of, with_group}
 use Rattle.fs_machine.specs.Owing.{after_job_begin, after_job_end}
 use Rattle.fs_machine.specs.Step.{arrived}
 use Rattle.fs_machine.specs.Sound.{HasLeg}
 
--- How far an entry has come: nothing has begun in it that draws a number, or such a thing may have, and so many slots at most were freed that
--- are not filled again. An identifier is drawn only for a slot that is filled.
+-- How far an entry has come: nothing has begun in it that draws a number, or such a thing may have, and so many slots at most were freed
+-- that are not filled again. An identifier is drawn only for a slot that is filled.
 abbrev pub Stage : Type 0
 Stage = Option ℕ
 
@@ -84,16 +86,27 @@ pub record KeptByBirths (P : Fact) : Type 0 where
 pub record DoesJob (s : Switch) (number conn : ℕ) (what : JobWork) : Type 0 where
   pub there : job_of s number ≡ Some (record { conn = conn; work = what })
 
--- the jobs that end; a leg wins in the switch in which the entry begins
+-- the legs in these slots have lost the race
+abbrev pub raced : List ℕ → Switch → Switch
+raced slots s = after_hangups LoseRace slots s
+
+-- a leg lived when the entry began, and did not die as those in these slots lost
+pub record HasWon (before : Switch) (orig : ℕ) (leg : OrigLeg) (slots : List ℕ) : Type 0 where
+  pub has : HasLeg before orig leg
+  pub survives : death_of (chan_at (raced slots before) (unwrap_or leg.slot 0)) ≡ None
+
+-- the jobs that end, and originations that come to their next group
 pub record KeptByJobs (before : Switch) (P : Fact) : Type 0 where
   pub woken : (number conn until : ℕ) (answer : Text) {s : Switch} → DoesJob s number conn (work.Sleep until) → P (Some 0) s →
       P (Some 0) (after_job_end number conn answer s)
-  pub failed : (a : Attempt) (winner : Winner) (cause : Cause) {s : Switch} → DoesJob s a.job a.conn (work.Originate a.orig winner) →
-      P (Some 0) s → P (Some 0) (after_failure a cause s)
-  pub wins : (a : Attempt) (winner : Winner) (leg : OrigLeg) → DoesJob before a.job a.conn (work.Originate a.orig winner) →
-      HasLeg before a.orig leg → P (Some 0) before →
-      P (Some 0) (after_job_end a.job a.conn (made_text leg.uuid) (without_orig a.orig
-      (after_winning winner (unwrap_or leg.slot 0) before)))
+  pub failed : (a : Attempt) (winner : Winner) (caller : Caller) (cause : Cause) {s : Switch} →
+      DoesJob s a.job a.conn (work.Originate a.orig winner caller) → P (Some 0) s → P (Some 0) (after_failure a cause s)
+  pub wins : (a : Attempt) (winner : Winner) (caller : Caller) (leg : OrigLeg) (slots : List ℕ) →
+      DoesJob (raced slots before) a.job a.conn (work.Originate a.orig winner caller) → HasWon before a.orig leg slots →
+      P (Some 0) (raced slots before) →
+      P (Some 0) (after_attempt a (made_text leg.uuid) (after_winning winner (unwrap_or leg.slot 0) (raced slots before)))
+  pub regroups : (number : ℕ) (plans : List LegPlan) (caller : Caller) {s : Switch} → P (Some 0) s →
+      P (Some 0) (with_group number (group_made plans caller number s))
 
 -- ---- moves of a connection
 
@@ -115,9 +128,9 @@ pub record KeptByCommands (conn : ℕ) (P : Fact) : Type 0 where
   pub admitted : {n : ℕ} {s : Switch} → phase_at s conn ≡ Fresh → P (Some n) s → P (Some n) (conn_changed admitted conn s)
   pub parted : (why : Parting) {n : ℕ} {s : Switch} → LeavesBy why → P (Some n) s → P (Some n) (conn_changed (parted why) conn s)
   pub sleeps : (until : ℕ) {s : Switch} → is_full_of_jobs s ≡ false → P None s → P (Some 0) (after_job_begin conn (work.Sleep until) s)
-  pub originates : (endpoint : Text) (winner : Winner) (caller : Caller) (timeout : Option ℕ) {s : Switch} → IsShortWinner winner →
-      is_full_of_jobs s ≡ false → P None s →
-      P (Some 0) (originate_begun conn endpoint winner caller timeout s)
+  pub originates : (groups : List (List LegPlan)) (winner : Winner) (caller : Caller) (timeout : Option ℕ) {s : Switch} →
+      IsShortWinner winner → is_full_of_jobs s ≡ false → P None s →
+      P (Some 0) (originate_begun conn groups winner caller timeout s)
 
 -- how connections come and go, and take their frames
 pub record KeptByVisits (P : Fact) : Type 0 where

@@ -1,44 +1,47 @@
 -- Each act leaves each living leg of an origination a live channel that names the origination.
-use Rattle.std.proofs.Common.{◌≡◌, ℕ, ◌+◌, ◌-◌, ◌<◌, ◌^◌, min, Bool, true, false, if◌then◌else◌, List, [], ◌∷◌, Option, None, Some, option_map, option_and_then, unwrap_or, ◌⊎◌, inl, inr, refl, sym, ap, subst, ◌∙◌, arith, true≢false}
-use Rattle.std.proofs.lemmas.Bool.{cases_eq, both_ways}
+use Rattle.std.proofs.Common.{◌≡◌, ℕ, zero, suc, ◌+◌, ◌-◌, ◌<◌, ◌^◌, min, Bool, true, false, if◌then◌else◌, List, [], ◌∷◌, slice_get, Option, None, Some, IsSome, option_map, option_and_then, unwrap_or, ◌⊎◌, inl, inr, refl, sym, ap, subst, ◌∙◌, arith, true≢false}
+use Rattle.std.proofs.lemmas.Bool.{cases_eq, both_ways, false≢true}
 use Rattle.std.proofs.lemmas.Option.{none-some, same_Some}
 use Rattle.fs_text.specs.declared.states.State.TheVariants.{CsHangup}
 use Rattle.fs_text.specs.declared.causes.Cause.{Cause}
-use Rattle.fs_text.specs.declared.causes.Cause.TheVariants.{SwitchCongestion}
+use Rattle.fs_text.specs.declared.causes.Cause.TheVariants.{LoseRace, SwitchCongestion}
 use Rattle.fs_vars.specs.Pairs.{Text}
 use Rattle.fs_chan.specs.declared.chan.Chan.{Chan}
 use Rattle.fs_chan.specs.Changes.{is_live, hung_up}
+use Rattle.fs_orig.specs.declared.caller.Caller.{Caller}
 use Rattle.fs_orig.specs.declared.endpoint.Endpoint.{Endpoint}
 use Rattle.fs_orig.specs.declared.endpoint.Endpoint.TheVariants.{Loopback, Dead}
 use Rattle.fs_orig.specs.declared.leg.OrigLeg.{OrigLeg}
 use Rattle.fs_orig.specs.declared.orig.Orig.{Orig}
+use Rattle.fs_orig.specs.declared.plan.LegPlan.{LegPlan}
 use Rattle.fs_orig.specs.declared.winner.Winner.{Winner}
 use Rattle.fs_orig.specs.Legs.{lives}
-use Rattle.fs_orig.specs.Changes.{with_leg_answer, with_leg_death, with_answer, with_death}
+use Rattle.fs_orig.specs.Changes.{with_leg_answer, with_leg_death, with_answer, with_death, may_enter_next, at_next_group}
 use Rattle.fs_orig.specs.Endpoints.{endpoint_of}
 use Rattle.fs_places.specs.Places.{held_in, with_held}
 use Rattle.fs_places.specs.Rows.{has_number, place_of, row_of, with_row, without_row}
 use Rattle.fs_places.proofs.HeldLemmas.{IsFree, free_place, held_here, held_there, held_within}
+use Rattle.fs_places.proofs.TableLemmas.{still_there, not_free}
 use Rattle.fs_places.proofs.RowLemmas.{AreDistinct, AreWithin, row_gone, none_stands, above_nowhere, distinct_same, numbers-with_row, place_of-without_row_same, distinct-without_row, within-without_row, distinct-with_new_row, within-with_new_row}
 use Rattle.fs_state.specs.declared.conn.Conn.{Conn}
 use Rattle.fs_state.specs.declared.conn.Parting.TheVariants as parting
+use Rattle.fs_state.specs.declared.job.JobWork.{JobWork}
 use Rattle.fs_state.specs.declared.job.JobWork.TheVariants.{Sleep, Originate}
 use Rattle.fs_state.specs.Switch.{Switch, chan_at, with_chan, free_slot, with_next_identifier, identifier_of, next_orig_number, orig_of, with_orig, with_new_orig, without_orig, with_new_job, without_job, with_event}
 use Rattle.fs_state.specs.Moves.{with_state_events, after_move_from, orig_changed_from, orig_changed, leg_changed, its_leg_changed, hangup_event, after_hangup_from, after_one_hangup, after_hangup}
-use Rattle.fs_state.proofs.LegTables.{Origs, Seat, seated, seat_if, seat_of, seat_in, seat_at, in_slot, Fewer, seat_number, seat_its, answer_spares, death_spares, touched_spares, row_there, changed_fewer, without_fewer, death_leaves_none, new_or_old}
+use Rattle.fs_state.proofs.LegTables.{Origs, Seat, seated, seat_if, seat_of, seat_in, seat_at, in_slot, Fewer, seat_number, seat_its, answer_spares, death_spares, touched_spares, row_there, HasPlace, changed_fewer, without_fewer, death_leaves_none, changed_or_old, new_or_old}
 use Rattle.fs_machine.specs.declared.attempts.Attempt.{Attempt}
 use Rattle.fs_machine.specs.declared.originations.Call.{Call}
-use Rattle.fs_machine.specs.declared.originations.Caller.{Caller}
 use Rattle.fs_machine.specs.Texts.{made_text, failed_text}
 use Rattle.fs_machine.specs.Connections.{conn_changed, admitted, parted, owed_since, not_owed}
-use Rattle.fs_machine.specs.Originations.{end_of, end_made, leg_end, far_end, pair_made, Made, made_dead, is_congested, made_in, with_second, free_pair, made_of, leg_made, won_by, after_winning}
-use Rattle.fs_machine.specs.Attempts.{orig_begun, tried_by_job, originate_begun}
+use Rattle.fs_machine.specs.Originations.{end_of, end_made, leg_end, far_end, pair_made, Made, made_dead, is_congested, made_in, with_second, free_pair, made_of, leg_made, MadeGroup, group_made, won_by, after_winning}
+use Rattle.fs_machine.specs.Attempts.{first_group, orig_begun, tried_by_job, originate_begun, death_of, with_group}
 use Rattle.fs_machine.specs.Owing.{after_job_begin, after_job_end}
 use Rattle.fs_machine.specs.Sound.{HasLeg, LegsAreChannels}
-use Rattle.fs_machine.proofs.Kept.{Fact, Links, KeptByCalls, KeptByBirths, KeptByMoves}
-use Rattle.fs_machine.proofs.Walk.{new_lives, state_told_kept, pair_hung_kept, leg_made_kept}
-use Rattle.fs_machine.proofs.FrontLemmas.{conn_unread}
-use Rattle.fs_machine.proofs.RestLemmas.{Rest, rest_of, orig_changed_rest, hung_rest, leg_made_rest, won_rest}
+use Rattle.fs_machine.proofs.Kept.{Fact, Links, KeptByCalls, KeptByBirths, raced, HasWon, KeptByMoves}
+use Rattle.fs_machine.proofs.Walk.{new_lives, hangup_dead, state_told_kept, pair_hung_kept, hung_kept, leg_made_kept, group_made_kept}
+use Rattle.fs_machine.proofs.FrontLemmas.{Front, orig_changed_front, conn_unread}
+use Rattle.fs_machine.proofs.RestLemmas.{Rest, rest_of, orig_changed_rest, hung_rest, group_made_rest, won_rest}
 
 abbrev pub Channels : Type 0
 Channels = List (Option Chan)
@@ -75,18 +78,17 @@ pub record LegsStand (r : Roles) : Type 0 where
   pub stand : (place position : ℕ) (seat : Seat) → seat_at r.origs place position ≡ Some seat → IsLegOf r.channels seat
   pub apart : (place p q : ℕ) (seat : Seat) → seat_at r.origs place p ≡ Some seat → seat_at r.origs place q ≡ Some seat → p ≡ q
 
+-- a leg stands where its channel is there still
+abbrev leg_still : (channels new : Channels) (seat : Seat) (leg : IsLegOf channels seat) → held_in new leg.at ≡ Some leg.chan →
+    IsLegOf new seat
+leg_still channels new seat leg there =
+    record { at = leg.at; is = leg.is; chan = leg.chan; there = there; live = leg.live; names = leg.names }
+
 -- a leg stands where nothing was written
 leg_elsewhere : (channels : Channels) (slot : ℕ) (new : Option Chan) (seat : Seat) → (leg : IsLegOf channels seat) → (leg.at ≡ slot → ⊥) →
     IsLegOf (with_held channels slot new) seat
 leg_elsewhere channels slot new seat leg other =
-    record {
-      at = leg.at;
-      is = leg.is;
-      chan = leg.chan;
-      there = held_there channels slot leg.at new other ∙ leg.there;
-      live = leg.live;
-      names = leg.names;
-    }
+    leg_still channels (with_held channels slot new) seat leg (held_there channels slot leg.at new other ∙ leg.there)
 
 -- there are as many legs or fewer, and each stands
 legs_fewer : (r : Roles) (channels : Channels) (origs : Origs) → AreDistinct origs → AreWithin r.drawn origs → Fewer r.origs origs →
@@ -236,14 +238,46 @@ answered_legs place slot number s h = by (orig_of s number) refl
         (changed_fewer s.origs number o new is (touched_spares (with_leg_answer place) (answer_spares place) slot number o))
         (λ at position seat has leg. leg) h
 
+-- ---- a pair is made
+
+-- the second slot is free still
+second_free : (call : Call) (orig a b : ℕ) (s : Switch) → IsFree Chan s.channels (a + 1) b →
+    chan_at (end_made call (leg_end orig a b) s) b ≡ None
+second_free call orig a b s free_b =
+    held_there s.channels a b (Some (end_of call (leg_end orig a b) (identifier_of (with_next_identifier s))))
+    (λ same. omega (arith, free_b.behind, same))
+    ∙ free_b.free
+
+-- what stands somewhere stands there still
+pair_spares : (call : Call) (orig a b : ℕ) (s : Switch) → IsFree Chan s.channels 1 a → IsFree Chan s.channels (a + 1) b → (slot : ℕ)
+    (c : Chan) → chan_at s slot ≡ Some c → chan_at (pair_made call orig a b s) slot ≡ Some c
+pair_spares call orig a b s free_a free_b slot c there =
+    let leg : Option Chan = Some (end_of call (leg_end orig a b) (identifier_of (with_next_identifier s))) in
+    let t : Switch = end_made call (leg_end orig a b) s in
+    let far : Option Chan = Some (end_of call (far_end a b) (identifier_of (with_next_identifier t))) in
+    let first : chan_at t slot ≡ Some c = still_there s.channels a leg slot c (not_free s.channels a slot c free_a.free there) there in
+    still_there t.channels b far slot c (not_free t.channels b slot c (second_free call orig a b s free_b) first) first
+
+pair_legs : (call : Call) (orig a b : ℕ) (s : Switch) → IsFree Chan s.channels 1 a → IsFree Chan s.channels (a + 1) b →
+    LegsStand (roles_of s) → LegsStand (roles_of (pair_made call orig a b s))
+pair_legs call orig a b s free_a free_b h =
+    legs_follow (roles_of s) (pair_made call orig a b s).channels
+    (λ seat leg. leg_still s.channels (pair_made call orig a b s).channels seat leg
+    (pair_spares call orig a b s free_a free_b leg.at leg.chan leg.there)) h
+
 -- ---- a leg is made
 
--- it stands, if it lives
-abbrev MadeStands : ℕ → Made → Type 0
-MadeStands orig made = lives made.leg ≡ true → IsLegOf made.state.channels (seated orig made.leg.slot)
+-- a leg stands in a slot that was free
+record IsNewLeg (before after : Channels) (seat : Seat) : Type 0 where
+  leg : IsLegOf after seat
+  free : held_in before leg.at ≡ None
+
+-- it does, if it lives
+abbrev MadeStands : ℕ → Switch → Made → Type 0
+MadeStands orig s made = lives made.leg ≡ true → IsNewLeg s.channels made.state.channels (seated orig made.leg.slot)
 
 pair_leg : (call : Call) (orig a : ℕ) (s : Switch) → free_slot 1 s ≡ Some a → (found : Option ℕ) → free_slot (a + 1) s ≡ found →
-    MadeStands orig (made_in call orig (option_map (λ b. (a, b)) found) s)
+    MadeStands orig s (made_in call orig (option_map (λ b. (a, b)) found) s)
 pair_leg call orig a s is_a None is_b live = absurd (true≢false (sym live))
 pair_leg call orig a s is_a (Some b) is_b live =
     let free_a : IsFree Chan s.channels 1 a = free_place Chan s.channels 1 a is_a in
@@ -251,60 +285,132 @@ pair_leg call orig a s is_a (Some b) is_b live =
     let leg : Chan = end_of call (leg_end orig a b) (identifier_of (with_next_identifier s)) in
     let t : Switch = end_made call (leg_end orig a b) s in
     record {
-      at = a;
-      is = refl;
-      chan = leg;
-      there =
-          held_there t.channels b a (Some (end_of call (far_end a b) (identifier_of (with_next_identifier t))))
-          (λ same. omega (arith, free_b.behind, same))
-          ∙ held_here s.channels a (Some leg) free_a.within;
-      live = new_lives;
-      names = refl;
+      leg = record {
+        at = a;
+        is = refl;
+        chan = leg;
+        there =
+            held_there t.channels b a (Some (end_of call (far_end a b) (identifier_of (with_next_identifier t))))
+            (λ same. omega (arith, free_b.behind, same))
+            ∙ held_here s.channels a (Some leg) free_a.within;
+        live = new_lives;
+        names = refl;
+      };
+      free = free_a.free;
     }
 
 loopback_leg : (call : Call) (orig : ℕ) (s : Switch) (congested : Bool) →
-    MadeStands orig (if congested then made_dead SwitchCongestion s else made_in call orig (free_pair s) s)
+    MadeStands orig s (if congested then made_dead SwitchCongestion s else made_in call orig (free_pair s) s)
 loopback_leg call orig s true live = absurd (true≢false (sym live))
 loopback_leg call orig s false live = by (free_slot 1 s) refl live
   where
-    by : (found : Option ℕ) → free_slot 1 s ≡ found → MadeStands orig (made_in call orig (option_and_then (with_second s) found) s)
+    by : (found : Option ℕ) → free_slot 1 s ≡ found → MadeStands orig s (made_in call orig (option_and_then (with_second s) found) s)
     by None is live = absurd (true≢false (sym live))
     by (Some a) is live = pair_leg call orig a s is (free_slot (a + 1) s) refl live
 
-made_leg : (endpoint : Endpoint) (caller : Caller) (orig : ℕ) (s : Switch) → MadeStands orig (made_of endpoint caller orig s)
+made_leg : (endpoint : Endpoint) (caller : Caller) (orig : ℕ) (s : Switch) → MadeStands orig s (made_of endpoint caller orig s)
 made_leg (Dead cause) caller orig s live = absurd (true≢false (sym live))
 made_leg (Loopback exten context) caller orig s live =
     loopback_leg (record { exten = exten; context = context; caller = caller }) orig s (is_congested s) live
 
-leg_stands : (endpoint : Text) (caller : Caller) (orig : ℕ) (s : Switch) → MadeStands orig (leg_made endpoint caller orig s)
+leg_stands : (plan : LegPlan) (caller : Caller) (orig : ℕ) (s : Switch) → MadeStands orig s (leg_made plan caller orig s)
 unfolding leg_made
-leg_stands endpoint caller orig s = made_leg (endpoint_of endpoint) caller orig s
+leg_stands plan caller orig s = made_leg (endpoint_of plan.endpoint) caller orig s
 
-pair_legs : (call : Call) (orig a b : ℕ) (s : Switch) → IsFree Chan s.channels 1 a → IsFree Chan s.channels (a + 1) b →
-    LegsStand (roles_of s) → LegsStand (roles_of (pair_made call orig a b s))
-pair_legs call orig a b s free_a free_b h =
-    let leg : Option Chan = Some (end_of call (leg_end orig a b) (identifier_of (with_next_identifier s))) in
-    let t : Switch = end_made call (leg_end orig a b) s in
-    let far : Option Chan = Some (end_of call (far_end a b) (identifier_of (with_next_identifier t))) in
-    let still : held_in t.channels b ≡ None = held_there s.channels a b leg (λ same. omega (arith, free_b.behind, same)) ∙ free_b.free in
-    legs_follow (roles_of t) (with_held t.channels b far)
-    (free_follows t.channels b far (λ c there. absurd (none-some c (sym still ∙ there))))
-    (legs_follow (roles_of s) (with_held s.channels a leg)
-    (free_follows s.channels a leg (λ c there. absurd (none-some c (sym free_a.free ∙ there)))) h)
+-- ---- the legs of a group are made
 
--- ---- an origination of one leg begins
+spared_births : (slot : ℕ) (c : Chan) → KeptByBirths (λ b s. chan_at s slot ≡ Some c)
+spared_births slot c = record {
+  spent = λ h. h;
+  pair = λ call orig a b {s = s} short first second h. pair_spares call orig a b s first second slot c h;
+}
 
-new_orig_legs : (o : Orig) (leg : OrigLeg) (t : Switch) → o.legs ≡ leg ∷ [] → t.drawn.origs < 2 ^ 62 →
-    (lives leg ≡ true → IsLegOf t.channels (seated (next_orig_number t) leg.slot)) →
-    LegsStand (roles_of t) → LegsStand (roles_of (with_new_orig o t))
-new_orig_legs o leg t one few mine h = record {
+-- those that live stand in slots that were free, each in one of its own
+record GroupStands (number : ℕ) (legs : List OrigLeg) (before after : Channels) : Type 0 where
+  new : (position : ℕ) (seat : Seat) → seat_of number (slice_get legs position) ≡ Some seat → IsNewLeg before after seat
+  apart : (p q : ℕ) (seat : Seat) → seat_of number (slice_get legs p) ≡ Some seat → seat_of number (slice_get legs q) ≡ Some seat → p ≡ q
+
+no_group : (number : ℕ) (channels : Channels) → GroupStands number [] channels channels
+no_group number channels = record {
+  new = λ position seat has. absurd (none-some seat has);
+  apart = λ p q seat first second. absurd (none-some seat first);
+}
+
+-- one is made, and then the others
+module _ (number : ℕ) (s : Switch) (made : Made) (group : MadeGroup)
+    (one : MadeStands number s made) (later : GroupStands number group.legs made.state.channels group.state.channels)
+    (first_spares : (slot : ℕ) (c : Chan) → chan_at s slot ≡ Some c → chan_at made.state slot ≡ Some c)
+    (then_spares : (slot : ℕ) (c : Chan) → chan_at made.state slot ≡ Some c → chan_at group.state slot ≡ Some c) where
+  first_seat : (seat : Seat) → seat_of number (Some made.leg) ≡ Some seat → IsNewLeg s.channels made.state.channels seat
+  first_seat seat = by (lives made.leg) refl
+    where
+      by : (test : Bool) → lives made.leg ≡ test → seat_if test number made.leg.slot ≡ Some seat →
+          IsNewLeg s.channels made.state.channels seat
+      by true live h = subst (IsNewLeg s.channels made.state.channels) (same_Some (seated number made.leg.slot) seat h) (one live)
+      by false live h = absurd (none-some seat h)
+
+  -- what is free later was free at first
+  was_free : (slot : ℕ) → chan_at made.state slot ≡ None → chan_at s slot ≡ None
+  was_free slot free = by (chan_at s slot) refl
+    where
+      by : (found : Option Chan) → chan_at s slot ≡ found → found ≡ None
+      by None is = refl
+      by (Some c) is = absurd (none-some c (sym free ∙ first_spares slot c is))
+
+  new_leg : (position : ℕ) (seat : Seat) → seat_of number (slice_get (made.leg ∷ group.legs) position) ≡ Some seat →
+      IsNewLeg s.channels group.state.channels seat
+  new_leg zero seat has =
+      let new : IsNewLeg s.channels made.state.channels seat = first_seat seat has in
+      record {
+        leg = leg_still made.state.channels group.state.channels seat new.leg (then_spares new.leg.at new.leg.chan new.leg.there);
+        free = new.free;
+      }
+  new_leg (suc position) seat has =
+      let new : IsNewLeg made.state.channels group.state.channels seat = later.new position seat has in
+      record { leg = new.leg; free = was_free new.leg.at new.free }
+
+  -- the first is in no slot of a later one
+  none_later : (position : ℕ) (seat : Seat) → seat_of number (Some made.leg) ≡ Some seat →
+      seat_of number (slice_get group.legs position) ≡ Some seat → ⊥
+  none_later position seat first second =
+      let old : IsNewLeg s.channels made.state.channels seat = first_seat seat first in
+      let new : IsNewLeg made.state.channels group.state.channels seat = later.new position seat second in
+      let same : old.leg.at ≡ new.leg.at = same_Some old.leg.at new.leg.at (sym old.leg.is ∙ new.leg.is) in
+      none-some old.leg.chan (sym new.free ∙ (ap (held_in made.state.channels) (sym same) ∙ old.leg.there))
+
+  each_apart : (p q : ℕ) (seat : Seat) → seat_of number (slice_get (made.leg ∷ group.legs) p) ≡ Some seat →
+      seat_of number (slice_get (made.leg ∷ group.legs) q) ≡ Some seat → p ≡ q
+  each_apart zero zero seat first second = refl
+  each_apart zero (suc q) seat first second = absurd (none_later q seat first second)
+  each_apart (suc p) zero seat first second = absurd (none_later p seat second first)
+  each_apart (suc p) (suc q) seat first second = ap suc (later.apart p q seat first second)
+
+  with_first_stands : GroupStands number (made.leg ∷ group.legs) s.channels group.state.channels
+  with_first_stands = record { new = new_leg; apart = each_apart }
+
+group_stands : (plans : List LegPlan) (caller : Caller) (number : ℕ) (s : Switch) →
+    GroupStands number (group_made plans caller number s).legs s.channels (group_made plans caller number s).state.channels
+group_stands [] caller number s = no_group number s.channels
+group_stands (plan ∷ plans) caller number s =
+    let made : Made = leg_made plan caller number s in
+    with_first_stands number s made (group_made plans caller number made.state) (leg_stands plan caller number s)
+    (group_stands plans caller number made.state)
+    (λ slot c there. leg_made_kept (λ b t. chan_at t slot ≡ Some c) (spared_births slot c) plan caller number {n = 0} {s = s} there)
+    (λ slot c there. group_made_kept (λ b t. chan_at t slot ≡ Some c) (spared_births slot c) plans caller number {n = 0} {s = made.state}
+    there)
+
+-- ---- an origination begins
+
+new_orig_legs : (o : Orig) (before : Channels) (t : Switch) → t.drawn.origs < 2 ^ 62 →
+    GroupStands (next_orig_number t) o.legs before t.channels → LegsStand (roles_of t) → LegsStand (roles_of (with_new_orig o t))
+new_orig_legs o before t few group h = record {
   distinct = distinct-with_new_row t.origs (next_orig_number t) o h.distinct nowhere;
   within = within-with_new_row t.origs (next_orig_number t) o (next_orig_number t) (λ n p is. omega (arith, h.within n p is, next))
       (omega arith);
-  stand = λ place position seat has. stand place position seat (new_or_old t.origs (next_orig_number t) o leg one place position seat has);
+  stand = λ place position seat has. stand place position seat (new_or_old t.origs (next_orig_number t) o place position seat has);
   apart = λ place p q seat first second.
-      apart place p q seat (new_or_old t.origs (next_orig_number t) o leg one place p seat first)
-      (new_or_old t.origs (next_orig_number t) o leg one place q seat second);
+      apart place p q seat (new_or_old t.origs (next_orig_number t) o place p seat first)
+      (new_or_old t.origs (next_orig_number t) o place q seat second);
 }
   where
     next : next_orig_number t ≡ t.drawn.origs + 1
@@ -313,32 +419,120 @@ new_orig_legs o leg t one few mine h = record {
     nowhere : place_of t.origs (next_orig_number t) ≡ None
     nowhere = above_nowhere t.origs t.drawn.origs (next_orig_number t) h.within (omega (arith, next))
 
-    by_life : (seat : Seat) (test : Bool) → lives leg ≡ test → seat_if test (next_orig_number t) leg.slot ≡ Some seat →
-        IsLegOf t.channels seat
-    by_life seat true live h = subst (IsLegOf t.channels) (same_Some (seated (next_orig_number t) leg.slot) seat h) (mine live)
-    by_life seat false live h = absurd (none-some seat h)
-
     stand : (place position : ℕ) (seat : Seat) →
-        ((position ≡ 0) × (seat_of (next_orig_number t) (Some leg) ≡ Some seat)) ⊎ (seat_at t.origs place position ≡ Some seat) →
+        (seat_of (next_orig_number t) (slice_get o.legs position) ≡ Some seat) ⊎ (seat_at t.origs place position ≡ Some seat) →
         IsLegOf t.channels seat
-    stand place position seat (inl new) = by_life seat (lives leg) refl new.1
+    stand place position seat (inl new) = (group.new position seat new).leg
     stand place position seat (inr old) = h.stand place position seat old
 
     -- none that was there has the number
-    not_old : (place position : ℕ) (seat : Seat) → seat_at t.origs place position ≡ Some seat →
-        seat_of (next_orig_number t) (Some leg) ≡ Some seat → ⊥
-    not_old place position seat old new =
+    not_old : (place p q : ℕ) (seat : Seat) → seat_at t.origs place p ≡ Some seat →
+        seat_of (next_orig_number t) (slice_get o.legs q) ≡ Some seat → ⊥
+    not_old place p q seat old new =
         both_ways (has_number (next_orig_number t) (held_in t.origs place)) (none_stands t.origs (next_orig_number t) nowhere place)
-        (subst (λ (n : ℕ). has_number n (held_in t.origs place) ≡ true) (seat_its (next_orig_number t) (Some leg) seat new)
-        (seat_number position (held_in t.origs place) seat old))
+        (subst (λ (n : ℕ). has_number n (held_in t.origs place) ≡ true) (seat_its (next_orig_number t) (slice_get o.legs q) seat new)
+        (seat_number p (held_in t.origs place) seat old))
 
     apart : (place p q : ℕ) (seat : Seat) →
-        ((p ≡ 0) × (seat_of (next_orig_number t) (Some leg) ≡ Some seat)) ⊎ (seat_at t.origs place p ≡ Some seat) →
-        ((q ≡ 0) × (seat_of (next_orig_number t) (Some leg) ≡ Some seat)) ⊎ (seat_at t.origs place q ≡ Some seat) → p ≡ q
-    apart place p q seat (inl a) (inl b) = a.0 ∙ sym b.0
-    apart place p q seat (inl a) (inr b) = absurd (not_old place q seat b a.1)
-    apart place p q seat (inr a) (inl b) = absurd (not_old place p seat a b.1)
+        (seat_of (next_orig_number t) (slice_get o.legs p) ≡ Some seat) ⊎ (seat_at t.origs place p ≡ Some seat) →
+        (seat_of (next_orig_number t) (slice_get o.legs q) ≡ Some seat) ⊎ (seat_at t.origs place q ≡ Some seat) → p ≡ q
+    apart place p q seat (inl a) (inl b) = group.apart p q seat a b
+    apart place p q seat (inl a) (inr b) = absurd (not_old place q p seat b a)
+    apart place p q seat (inr a) (inl b) = absurd (not_old place p q seat a b)
     apart place p q seat (inr a) (inr b) = h.apart place p q seat a b
+
+-- ---- an origination comes to its next group
+
+regrouped_legs : (number : ℕ) (legs : List OrigLeg) (before : Channels) (t : Switch) → GroupStands number legs before t.channels →
+    LegsStand (roles_of t) → LegsStand (roles_of (orig_changed (at_next_group legs) number t))
+regrouped_legs number legs before t group h = by (orig_of t number) refl
+  where
+    -- its legs are those of the group
+    with_them : (o new : Orig) → orig_of t number ≡ Some o → new.legs ≡ legs → LegsStand (roles_of (with_orig number new t))
+    with_them o new is legs_are = record {
+      distinct = distinct_same t.origs (with_row t.origs number new) (numbers-with_row t.origs number new) h.distinct;
+      within = within_same t.origs number new t.drawn.origs h.within;
+      stand = λ place position seat has. stand place position seat (changed_or_old t.origs number o new row place position seat has);
+      apart = λ place p q seat first second.
+          apart place p q seat (changed_or_old t.origs number o new row place p seat first)
+          (changed_or_old t.origs number o new row place q seat second);
+    }
+      where
+        row : HasPlace t.origs number o
+        row = row_there t.origs number o is
+
+        its : (position : ℕ) (seat : Seat) → seat_of number (slice_get new.legs position) ≡ Some seat →
+            seat_of number (slice_get legs position) ≡ Some seat
+        its position seat has = subst (λ (l : List OrigLeg). seat_of number (slice_get l position) ≡ Some seat) legs_are has
+
+        stand : (place position : ℕ) (seat : Seat) →
+            ((place ≡ row.0) × (seat_of number (slice_get new.legs position) ≡ Some seat)) ⊎ ((place ≡ row.0 → ⊥) ×
+            (seat_at t.origs place position ≡ Some seat)) →
+            IsLegOf t.channels seat
+        stand place position seat (inl new) = (group.new position seat (its position seat new.1)).leg
+        stand place position seat (inr old) = h.stand place position seat old.1
+
+        apart : (place p q : ℕ) (seat : Seat) →
+            ((place ≡ row.0) × (seat_of number (slice_get new.legs p) ≡ Some seat)) ⊎ ((place ≡ row.0 → ⊥) ×
+            (seat_at t.origs place p ≡ Some seat)) →
+            ((place ≡ row.0) × (seat_of number (slice_get new.legs q) ≡ Some seat)) ⊎ ((place ≡ row.0 → ⊥) ×
+            (seat_at t.origs place q ≡ Some seat)) →
+            p ≡ q
+        apart place p q seat (inl a) (inl b) = group.apart p q seat (its p seat a.1) (its q seat b.1)
+        apart place p q seat (inl a) (inr b) = absurd (b.0 a.0)
+        apart place p q seat (inr a) (inl b) = absurd (a.0 b.0)
+        apart place p q seat (inr a) (inr b) = h.apart place p q seat a.1 b.1
+
+    in_it : (o : Orig) → orig_of t number ≡ Some o → (test : Bool) →
+        LegsStand (roles_of (with_orig number (if test then record o { current = o.current + 1; legs = legs } else o) t))
+    in_it o is true = with_them o (record o { current = o.current + 1; legs = legs }) is refl
+    in_it o is false =
+        legs_fewer (roles_of t) t.channels (with_row t.origs number o)
+        (distinct_same t.origs (with_row t.origs number o) (numbers-with_row t.origs number o) h.distinct)
+        (within_same t.origs number o t.drawn.origs h.within) (changed_fewer t.origs number o o is (λ position seat has. has))
+        (λ place position seat has leg. leg) h
+
+    by : (found : Option Orig) → orig_of t number ≡ found → LegsStand (roles_of (orig_changed_from (at_next_group legs) number found t))
+    by None is = h
+    by (Some o) is = in_it o is (may_enter_next o)
+
+-- ---- others lose the race
+
+-- a channel names the origination while it lives, and has a cause once it does not
+record MayLive (number slot : ℕ) (channels : Channels) : Type 0 where
+  chan : Chan
+  there : held_in channels slot ≡ Some chan
+  names : is_live chan ≡ true → chan.leg_of ≡ Some number
+  dies : is_live chan ≡ false → IsSome chan.cause
+
+cut_may_live : (number slot place : ℕ) (cause : Cause) (c : Chan) (channels : Channels) → held_in channels place ≡ Some c →
+    MayLive number slot channels → MayLive number slot (with_held channels place (Some (hung_up cause c)))
+cut_may_live number slot place cause c channels is h = by (cases_eq slot place)
+  where
+    by : (slot ≡ place) ⊎ (slot ≡ place → ⊥) → MayLive number slot (with_held channels place (Some (hung_up cause c)))
+    by (inl same) = record {
+      chan = hung_up cause c;
+      there = ap (held_in (with_held channels place (Some (hung_up cause c)))) same
+          ∙ held_here channels place (Some (hung_up cause c)) (held_within channels place c is);
+      names = λ live. absurd (true≢false (sym live ∙ hangup_dead));
+      dies = λ dead. refl;
+    }
+    by (inr other) = record {
+      chan = h.chan;
+      there = held_there channels place slot (Some (hung_up cause c)) other ∙ h.there;
+      names = h.names;
+      dies = h.dies;
+    }
+
+raced_may_live : (number slot : ℕ) (slots : List ℕ) (s : Switch) → MayLive number slot s.channels →
+    MayLive number slot (raced slots s).channels
+raced_may_live number slot [] s h = h
+raced_may_live number slot (loser ∷ slots) s h =
+    raced_may_live number slot slots (after_hangup LoseRace loser s)
+    (hung_kept (λ (t : Switch). MayLive number slot t.channels) (λ event t plain k. k)
+    (λ why place c t is k. cut_may_live number slot place why c t.channels is k)
+    (λ change orig t k. subst (λ (f : Front). MayLive number slot f.channels) (sym (orig_changed_front change orig t)) k)
+    LoseRace loser s h)
 
 -- ---- what leaves the roles as they are
 
@@ -408,10 +602,46 @@ legs_are_channels s h = record {
       (second.2 ∙ ap (λ (slot : Option ℕ). Some (seated number slot)) (sym same)));
 }
 
-won_legs : (winner : Winner) (number : ℕ) (leg : OrigLeg) (s : Switch) → HasLeg s number leg → LegsStand (roles_of s) →
-    LegsStand (roles_of (without_orig number (after_winning winner (unwrap_or leg.slot 0) s)))
-won_legs winner number leg s has h =
-    let stands : IsLegOf s.channels (seated number leg.slot) = has_leg s number leg has h in
+-- a leg that has won stands still
+pub winning_leg : (s : Switch) (number : ℕ) (leg : OrigLeg) (slots : List ℕ) → HasWon s number leg slots → LegsStand (roles_of s) →
+    IsLegOf (raced slots s).channels (seated number leg.slot)
+winning_leg s number leg slots won h = record {
+  at = was.at;
+  is = was.is;
+  chan = may.chan;
+  there = may.there;
+  live = live;
+  names = may.names live;
+}
+  where
+    was : IsLegOf s.channels (seated number leg.slot)
+    was = has_leg s number leg won.has h
+
+    may : MayLive number was.at (raced slots s).channels
+    may = raced_may_live number was.at slots s
+        (record {
+          chan = was.chan;
+          there = was.there;
+          names = λ live. was.names;
+          dies = λ dead. absurd (true≢false (sym was.live ∙ dead));
+        })
+
+    survives : death_of (Some may.chan) ≡ None
+    survives =
+        let at : chan_at (raced slots s) (unwrap_or leg.slot 0) ≡ Some may.chan =
+        ap (λ (slot : Option ℕ). chan_at (raced slots s) (unwrap_or slot 0)) was.is ∙ may.there in
+        sym (ap death_of at) ∙ won.survives
+
+    live : is_live may.chan ≡ true
+    live = by (is_live may.chan) refl survives
+      where
+        by : (test : Bool) → is_live may.chan ≡ test → (if test then None else may.chan.cause) ≡ None → test ≡ true
+        by true is none = refl
+        by false is none = absurd (false≢true (subst IsSome none (may.dies is)))
+
+won_legs : (winner : Winner) (number : ℕ) (leg : OrigLeg) (s : Switch) → IsLegOf s.channels (seated number leg.slot) →
+    LegsStand (roles_of s) → LegsStand (roles_of (without_orig number (after_winning winner (unwrap_or leg.slot 0) s)))
+won_legs winner number leg s stands h =
     at stands.at (ap (λ (slot : Option ℕ). unwrap_or slot 0) stands.is) stands.chan stands.there stands.names
   where
     at : (slot : ℕ) → unwrap_or leg.slot 0 ≡ slot → (c : Chan) → chan_at s slot ≡ Some c → c.leg_of ≡ Some number →
@@ -458,45 +688,62 @@ legs_births =
       pair = λ call orig a b {s = s} short first second h few. pair_legs call orig a b s first second (h few);
     }
 
-originates_legs : (conn : ℕ) (endpoint : Text) (winner : Winner) (caller : Caller) (timeout : Option ℕ) (s : Switch) → Stand (roles_of s) →
-    Stand (roles_of (originate_begun conn endpoint winner caller timeout s))
-originates_legs conn endpoint winner caller timeout s h =
-    tried (leg_made endpoint caller (next_orig_number s) s) next (leg_stands endpoint caller (next_orig_number s) s)
-    (leg_made_kept Legs legs_births endpoint caller (next_orig_number s) {n = 0} {s = s} h)
+originates_legs : (conn : ℕ) (groups : List (List LegPlan)) (winner : Winner) (caller : Caller) (timeout : Option ℕ) (s : Switch) →
+    Stand (roles_of s) → Stand (roles_of (originate_begun conn groups winner caller timeout s))
+originates_legs conn groups winner caller timeout s h =
+    tried (group_made plans caller (next_orig_number s) s) next (group_stands plans caller (next_orig_number s) s)
+    (group_made_kept Legs legs_births plans caller (next_orig_number s) {n = 0} {s = s} h)
   where
-    next : next_orig_number (leg_made endpoint caller (next_orig_number s) s).state ≡ next_orig_number s
-    next = ap (λ (r : Rest). min (r.origs_drawn + 1) (2 ^ 64 - 1)) (leg_made_rest endpoint caller (next_orig_number s) s)
+    plans : List LegPlan
+    plans = first_group groups
 
-    tried : (made : Made) → next_orig_number made.state ≡ next_orig_number s → MadeStands (next_orig_number s) made →
-        Stand (roles_of made.state) →
-        Stand (roles_of (tried_by_job conn endpoint winner (unwrap_or timeout 60) (next_orig_number s) made))
+    next : next_orig_number (group_made plans caller (next_orig_number s) s).state ≡ next_orig_number s
+    next = ap (λ (r : Rest). min (r.origs_drawn + 1) (2 ^ 64 - 1)) (group_made_rest plans caller (next_orig_number s) s)
+
+    tried : (made : MadeGroup) → next_orig_number made.state ≡ next_orig_number s →
+        GroupStands (next_orig_number s) made.legs s.channels made.state.channels → Stand (roles_of made.state) →
+        Stand (roles_of (tried_by_job conn groups winner caller (unwrap_or timeout 60) (next_orig_number s) made))
     tried made same stands h =
-        let t : Switch = orig_begun endpoint made.leg (unwrap_or timeout 60) made.state in
-        same_roles t (after_job_begin conn (Originate (next_orig_number s) winner) t)
-        (conn_roles (owed_since t.entries) conn (with_new_job (record { conn = conn; work = Originate (next_orig_number s) winner }) t))
+        let work : JobWork = Originate (next_orig_number s) winner caller in
+        let t : Switch = orig_begun groups made.legs (unwrap_or timeout 60) made.state in
+        same_roles t (after_job_begin conn work t)
+        (conn_roles (owed_since t.entries) conn (with_new_job (record { conn = conn; work = work }) t))
         (λ few. let fewer : made.state.drawn.origs < 2 ^ 62 = omega (arith, few) in
-        new_orig_legs _ made.leg made.state refl fewer
-        (λ live. subst (λ (n : ℕ). IsLegOf made.state.channels (seated n made.leg.slot)) (sym same) (stands live)) (h fewer))
+        new_orig_legs _ s.channels made.state fewer
+        (subst (λ (n : ℕ). GroupStands n made.legs s.channels made.state.channels) (sym same) stands) (h fewer))
+
+regroups_legs : (number : ℕ) (plans : List LegPlan) (caller : Caller) (s : Switch) → Stand (roles_of s) →
+    Stand (roles_of (with_group number (group_made plans caller number s)))
+regroups_legs number plans caller s h few =
+    let made : MadeGroup = group_made plans caller number s in
+    let fewer : made.state.drawn.origs < 2 ^ 62 =
+    subst (λ (n : ℕ). n < 2 ^ 62)
+    (ap (λ (r : Rest). r.origs_drawn) (orig_changed_rest (at_next_group made.legs) number made.state)) few in
+    regrouped_legs number made.legs s.channels made.state (group_stands plans caller number s)
+    (group_made_kept Legs legs_births plans caller number {n = 0} {s = s} h fewer)
 
 ended_legs : (number conn : ℕ) (answer : Text) (s : Switch) → Stand (roles_of s) → Stand (roles_of (after_job_end number conn answer s))
 ended_legs number conn answer s h = same_roles s (after_job_end number conn answer s) (conn_roles not_owed conn (without_job number s)) h
 
-wins_legs : (a : Attempt) (winner : Winner) (leg : OrigLeg) (s : Switch) → HasLeg s a.orig leg → Stand (roles_of s) →
+wins_legs : (a : Attempt) (winner : Winner) (leg : OrigLeg) (s : Switch) → IsLegOf s.channels (seated a.orig leg.slot) →
+    Stand (roles_of s) →
     Stand (roles_of (after_job_end a.job a.conn (made_text leg.uuid) (without_orig a.orig (after_winning winner (unwrap_or leg.slot 0) s))))
-wins_legs a winner leg s has h =
+wins_legs a winner leg s stands h =
     let slot : ℕ = unwrap_or leg.slot 0 in
     ended_legs a.job a.conn (made_text leg.uuid) (without_orig a.orig (after_winning winner slot s))
-    (λ few. won_legs winner a.orig leg s has
+    (λ few. won_legs winner a.orig leg s stands
     (h (subst (λ (n : ℕ). n < 2 ^ 62) (ap (λ (r : Rest). r.origs_drawn) (won_rest winner slot s)) few)))
 
-pub legs_moves : (before : Switch) → KeptByMoves before Legs
-legs_moves before = record {
+pub legs_moves : (before : Switch) → LegsStand (roles_of before) → KeptByMoves before Legs
+legs_moves before stand = record {
   calls = legs_calls;
   jobs = record {
     woken = λ number conn until answer {s = s} does h. ended_legs number conn answer s h;
-    failed = λ a winner cause {s = s} does h. ended_legs a.job a.conn (failed_text cause) (without_orig a.orig s)
+    failed = λ a winner caller cause {s = s} does h. ended_legs a.job a.conn (failed_text cause) (without_orig a.orig s)
         (λ few. without_legs a.orig s (h few));
-    wins = λ a winner leg does has h. wins_legs a winner leg before has h;
+    wins = λ a winner caller leg slots does won h.
+        wins_legs a winner leg (raced slots before) (winning_leg before a.orig leg slots won stand) h;
+    regroups = λ number plans caller {s = s} h. regroups_legs number plans caller s h;
   };
   commands = λ conn. record {
     spent = λ h. h;
@@ -505,7 +752,7 @@ legs_moves before = record {
     parted = λ why {s = s} leaves h. same_roles s (conn_changed (parted why) conn s) (conn_roles (parted why) conn s) h;
     sleeps = λ until {s = s} room h. same_roles s (after_job_begin conn (Sleep until) s)
         (conn_roles (owed_since s.entries) conn (with_new_job (record { conn = conn; work = Sleep until }) s)) h;
-    originates = λ endpoint winner caller timeout {s = s} short room h. originates_legs conn endpoint winner caller timeout s h;
+    originates = λ groups winner caller timeout {s = s} short room h. originates_legs conn groups winner caller timeout s h;
   };
   visits = record {
     arrived = λ h. h;

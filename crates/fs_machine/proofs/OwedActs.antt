@@ -1,10 +1,12 @@
 -- What entries do keeps the facts on connections, on jobs and on originations.
-use Rattle.std.proofs.Common.{◌≡◌, ℕ, true, false, not, Option, None, Some, is_none, unwrap_or, refl, sym, ap, subst, ◌∙◌}
+use Rattle.std.proofs.Common.{◌≡◌, ℕ, true, false, not, List, Option, None, Some, is_none, unwrap_or, refl, sym, ap, subst, ◌∙◌}
 use Rattle.std.specs.Option.{option_and_then}
 use Rattle.std.proofs.lemmas.Bool.{false≢true, not-false}
 use Rattle.fs_vars.specs.Pairs.{Text}
 use Rattle.fs_frame.specs.Block.{line_of}
+use Rattle.fs_orig.specs.declared.caller.Caller.{Caller}
 use Rattle.fs_orig.specs.declared.leg.OrigLeg.{OrigLeg}
+use Rattle.fs_orig.specs.declared.plan.LegPlan.{LegPlan}
 use Rattle.fs_orig.specs.declared.winner.Winner.{Winner}
 use Rattle.fs_places.specs.Places.{least_free}
 use Rattle.fs_places.specs.Rows.{row_of}
@@ -21,20 +23,19 @@ use Rattle.fs_machine.specs.declared.entry.Act.TheVariants as act
 use Rattle.fs_machine.specs.declared.entry.Closing.{Closing}
 use Rattle.fs_machine.specs.declared.entry.Closing.TheVariants as closing
 use Rattle.fs_machine.specs.declared.attempts.Attempt.{Attempt}
-use Rattle.fs_machine.specs.declared.originations.Caller.{Caller}
 use Rattle.fs_machine.specs.declared.refusal.Refusal.TheVariants as refusal
 use Rattle.fs_machine.specs.Texts.{made_text, failed_text}
 use Rattle.fs_machine.specs.Connections.{phase_of, phase_at, conn_changed, admitted, parted}
 use Rattle.fs_machine.specs.Questions.{owed_of, owed_to}
-use Rattle.fs_machine.specs.Originations.{after_winning}
-use Rattle.fs_machine.specs.Attempts.{originate_begun}
+use Rattle.fs_machine.specs.Originations.{group_made, after_winning}
+use Rattle.fs_machine.specs.Attempts.{originate_begun, with_group}
 use Rattle.fs_machine.specs.Owing.{after_job_begin, after_job_end}
 use Rattle.fs_machine.specs.Commands.{command_of}
 use Rattle.fs_machine.specs.Step.{reads, busy, refused_act, after_close, act_done}
 use Rattle.fs_machine.specs.Owed.{PartsIn}
-use Rattle.fs_machine.proofs.Kept.{Stage, Fact, KeptByCalls, DoesJob, KeptByJobs, KeptByCommands}
+use Rattle.fs_machine.proofs.Kept.{Stage, Fact, KeptByCalls, DoesJob, raced, KeptByJobs, KeptByCommands}
 use Rattle.fs_machine.proofs.Walk.{worked_kept}
-use Rattle.fs_machine.proofs.RestLemmas.{rest_of, calls_by_rest, does_same, won_rest}
+use Rattle.fs_machine.proofs.RestLemmas.{rest_of, calls_by_rest, does_same, won_rest, regrouped_rest}
 use Rattle.fs_machine.proofs.OrderLemmas.{none_refused}
 use Rattle.fs_machine.proofs.ActWalk.{job_kept, commanded_kept}
 use Rattle.fs_machine.proofs.OwedBooks.{Books, books_of, books_same, Sound, Goes, Few}
@@ -76,20 +77,23 @@ goes_spent : (b : Books) → Sound b → (t : Switch) → books_of t ≡ b → G
 goes_spent b sound t same = subst (λ (x : Books). Goes b x) (sym same) (record { sound = sound; near = near_self b })
 
 -- the jobs that end
-wins_go : (b : Books) (s : Switch) (a : Attempt) (winner : Winner) (leg : OrigLeg) → DoesJob s a.job a.conn (work.Originate a.orig winner) →
-    Goes b (books_of s) →
+wins_go : (b : Books) (s : Switch) (a : Attempt) (winner : Winner) (caller : Caller) (leg : OrigLeg) →
+    DoesJob s a.job a.conn (work.Originate a.orig winner caller) → Goes b (books_of s) →
     Goes b (books_of (after_job_end a.job a.conn (made_text leg.uuid) (without_orig a.orig
     (after_winning winner (unwrap_or leg.slot 0) s))))
-wins_go b s a winner leg does h =
+wins_go b s a winner caller leg does h =
     let slot : ℕ = unwrap_or leg.slot 0 in
-    goes_over b (after_winning winner slot s) a.job a.conn a.orig winner (made_text leg.uuid) (does_same does (won_rest winner slot s))
+    goes_over b (after_winning winner slot s) a.job a.conn a.orig winner caller (made_text leg.uuid)
+    (does_same does (won_rest winner slot s))
     (goes_same b (Some 0) s (after_winning winner slot s) h (won_rest winner slot s))
 
 jobs_go : (b : Books) (before : Switch) → KeptByJobs before (GoesFrom b)
 jobs_go b before = record {
   woken = λ number conn until answer {s = s} does h. goes_woken b s number conn until answer does h;
-  failed = λ a winner cause {s = s} does h. goes_over b s a.job a.conn a.orig winner (failed_text cause) does h;
-  wins = λ a winner leg does has h. wins_go b before a winner leg does h;
+  failed = λ a winner caller cause {s = s} does h. goes_over b s a.job a.conn a.orig winner caller (failed_text cause) does h;
+  wins = λ a winner caller leg slots does won h. wins_go b (raced slots before) a winner caller leg does h;
+  regroups = λ number plans caller {s = s} h.
+      goes_same b (Some 0) s (with_group number (group_made plans caller number s)) h (regrouped_rest number plans caller s);
 }
 
 -- the commands of a connection that is there and is owed nothing, where few numbers were drawn
@@ -122,13 +126,12 @@ module _ (b : Books) (conn : ℕ) (c : Conn) (there : row_of b.conns conn ≡ So
       from s (after_job_begin conn (work.Sleep until) s) same
       (goes_sleep s conn until c place.0 (ap (λ (x : Books). row_of x.conns conn) same ∙ there) none place.1)
 
-  originates_go : (endpoint : Text) (winner : Winner) (caller : Caller) (timeout : Option ℕ) (s : Switch) → is_full_of_jobs s ≡ false →
-      books_of s ≡ b →
-      Goes b (books_of (originate_begun conn endpoint winner caller timeout s))
-  originates_go endpoint winner caller timeout s room same =
+  originates_go : (groups : List (List LegPlan)) (winner : Winner) (caller : Caller) (timeout : Option ℕ) (s : Switch) →
+      is_full_of_jobs s ≡ false → books_of s ≡ b → Goes b (books_of (originate_begun conn groups winner caller timeout s))
+  originates_go groups winner caller timeout s room same =
       let place = a_place s room in
-      from s (originate_begun conn endpoint winner caller timeout s) same
-      (goes_originate s conn endpoint winner caller timeout c place.0 (ap (λ (x : Books). row_of x.conns conn) same ∙ there) none place.1)
+      from s (originate_begun conn groups winner caller timeout s) same
+      (goes_originate s conn groups winner caller timeout c place.0 (ap (λ (x : Books). row_of x.conns conn) same ∙ there) none place.1)
 
   gave_goes : (frame : Text) (stage : Stage) (s : Switch) → GoesFrom b stage s → GoesFrom b stage (with_gift conn frame s)
   gave_goes frame None s h = h
@@ -141,7 +144,7 @@ module _ (b : Books) (conn : ℕ) (c : Conn) (there : row_of b.conns conn ≡ So
     admitted = λ {s = s} new h. admitted_goes s new h;
     parted = λ why {s = s} leaves h. parted_goes why s h;
     sleeps = λ until {s = s} room h. sleeps_go until s room h;
-    originates = λ endpoint winner caller timeout {s = s} short room h. originates_go endpoint winner caller timeout s room h;
+    originates = λ groups winner caller timeout {s = s} short room h. originates_go groups winner caller timeout s room h;
   }
 
 -- ---- acts

@@ -89,7 +89,7 @@ pub record Linked (conns : Conns) (jobs : Jobs) (drawn jobs_drawn : ℕ) : Type 
 -- the origination that work tries, if it tries one
 abbrev pub tried_by : JobWork → Option ℕ
 tried_by (Sleep until) = None
-tried_by (Originate orig winner) = Some orig
+tried_by (Originate orig winner caller) = Some orig
 
 abbrev pub tried_in : Option (Numbered Job) → Option ℕ
 tried_in None = None

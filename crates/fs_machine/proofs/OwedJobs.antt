@@ -3,8 +3,10 @@ use Rattle.std.proofs.Common.{◌≡◌, ◌≢◌, ℕ, ◌+◌, ◌-◌, ◌^�
 use Rattle.std.proofs.lemmas.List.{length-map}
 use Rattle.fs_vars.specs.Pairs.{Text}
 use Rattle.fs_chan.specs.Moments.{moment_after}
+use Rattle.fs_orig.specs.declared.caller.Caller.{Caller}
 use Rattle.fs_orig.specs.declared.orig.Orig.{Orig}
 use Rattle.fs_orig.specs.declared.orig.Owner.TheVariants as owner
+use Rattle.fs_orig.specs.declared.plan.LegPlan.{LegPlan}
 use Rattle.fs_orig.specs.declared.winner.Winner.{Winner}
 use Rattle.fs_orig.specs.Changes.{new_orig}
 use Rattle.fs_places.specs.declared.numbered.Numbered.{Numbered}
@@ -17,16 +19,15 @@ use Rattle.fs_state.specs.declared.job.Job.{Job}
 use Rattle.fs_state.specs.declared.job.JobWork.{JobWork}
 use Rattle.fs_state.specs.declared.job.JobWork.TheVariants.{Sleep, Originate}
 use Rattle.fs_state.specs.Switch.{Switch, next_orig_number, next_job_number, conn_of, with_conn, with_new_job, with_new_orig, without_job, without_conn, without_orig}
-use Rattle.fs_machine.specs.declared.originations.Caller.{Caller}
 use Rattle.fs_machine.specs.Connections.{conn_changed_from, conn_changed, owed_since, not_owed}
-use Rattle.fs_machine.specs.Originations.{Made, leg_made}
-use Rattle.fs_machine.specs.Attempts.{seconds, tried_by_job, originate_begun}
+use Rattle.fs_machine.specs.Originations.{MadeGroup, group_made}
+use Rattle.fs_machine.specs.Attempts.{seconds, first_group, tried_by_job, originate_begun}
 use Rattle.fs_machine.specs.Owing.{after_job_begin, after_job_end}
 use Rattle.fs_machine.specs.Step.{new_conn, arrived}
 use Rattle.fs_machine.specs.Owed.{Parts}
 use Rattle.fs_machine.proofs.OwedBooks.{Conns, Jobs, Books, books_of, books_same, PartEach, Linked, HasNumber, tried_by, trying_in, Tries, Sound, Near, Goes, Few}
 use Rattle.fs_machine.proofs.Kept.{DoesJob}
-use Rattle.fs_machine.proofs.RestLemmas.{leg_made_rest}
+use Rattle.fs_machine.proofs.RestLemmas.{group_made_rest}
 use Rattle.fs_machine.proofs.OwedLemmas.{linked_changed, linked_gone, linked_come, linked_more, linked_begun, linked_ended, linked_dropped, tries_slept, tries_begun, tries_woken, tries_ended, trying_most}
 
 -- ---- nothing of it changes
@@ -192,15 +193,15 @@ orig_place jobs origs drawn h none =
     omega (arith, all, same, fewer, most, job_places, orig_places, lengths)
 
 -- at that place it is there, and the job that tries it
-begun_at : (b : Books) (t : Switch) (conn orig : ℕ) (winner : Winner) (o : Orig) (c : Conn) (q p : ℕ) → conn_of t conn ≡ Some c →
-    c.owed ≡ None → least_free t.jobs 0 ≡ Some q →
+begun_at : (b : Books) (t : Switch) (conn orig : ℕ) (winner : Winner) (caller : Caller) (o : Orig) (c : Conn) (q p : ℕ) →
+    conn_of t conn ≡ Some c → c.owed ≡ None → least_free t.jobs 0 ≡ Some q →
     least_free t.origs 0 ≡ Some p → t.drawn.jobs < 2 ^ 30 → orig ≡ t.drawn.origs + 1 → next_orig_number t ≡ t.drawn.origs + 1 →
     Sound (books_of t) → b ≡ books_of t →
-    Goes b (books_of (after_job_begin conn (Originate orig winner) (with_new_orig o t)))
-begun_at b t conn orig winner o c q p is none is_free is_orig_free few is_next next h same =
+    Goes b (books_of (after_job_begin conn (Originate orig winner caller) (with_new_orig o t)))
+begun_at b t conn orig winner caller o c q p is none is_free is_orig_free few is_next next h same =
     let free = free_least t.jobs q is_free in
     let orig_free = free_least t.origs p is_orig_free in
-    let job : Numbered Job = job_for (next_job_number t) conn (Originate orig winner) in
+    let job : Numbered Job = job_for (next_job_number t) conn (Originate orig winner caller) in
     let lengths : length (numbers_in t.origs) ≡ length t.origs = length-map t.origs number_at in
     let number_within : p < length (numbers_in t.origs) = subst (λ (n : ℕ). p < n) (sym lengths) orig_free.1 in
     let tried : Tries (with_held t.jobs q (Some job)) (with_held (numbers_in t.origs) p (Some (t.drawn.origs + 1))) (t.drawn.origs + 1) =
@@ -215,16 +216,16 @@ begun_at b t conn orig winner o c q p is none is_free is_orig_free few is_next n
     (sym (numbers_added t.origs (next_orig_number t) p o is_orig_free)) tried_next in
     let near_t : Near (books_of t) (books_of (with_new_orig o t)) =
     record { conns = omega arith; jobs = omega arith; origs = omega (arith, next); cost = refl; limit = refl } in
-    goes_owing b (with_new_orig o t) conn (Originate orig winner) c q is none is_free few
+    goes_owing b (with_new_orig o t) conn (Originate orig winner caller) c q is none is_free few
     (sym (ap (λ (x : Books). x.jobs_drawn) same)) h.linked tried_there
     (subst (λ (old : Books). Near old (books_of (with_new_orig o t))) (sym same) near_t)
 
--- originate, once its leg was made
-goes_tried : (s : Switch) (made : Made) (conn : ℕ) (endpoint : Text) (winner : Winner) (timeout : ℕ) (c : Conn) (q : ℕ) →
-    books_of made.state ≡ books_of s →
+-- originate, once the legs of its first group were made
+goes_tried : (s : Switch) (made : MadeGroup) (conn : ℕ) (groups : List (List LegPlan)) (winner : Winner) (caller : Caller) (timeout : ℕ)
+    (c : Conn) (q : ℕ) → books_of made.state ≡ books_of s →
     conn_of s conn ≡ Some c → c.owed ≡ None → least_free s.jobs 0 ≡ Some q → Few (books_of s) → Sound (books_of s) →
-    Goes (books_of s) (books_of (tried_by_job conn endpoint winner timeout (next_orig_number s) made))
-goes_tried s made conn endpoint winner timeout c q same is none is_free few h = by (least_free made.state.origs 0) refl
+    Goes (books_of s) (books_of (tried_by_job conn groups winner caller timeout (next_orig_number s) made))
+goes_tried s made conn groups winner caller timeout c q same is none is_free few h = by (least_free made.state.origs 0) refl
   where
     drawn : made.state.drawn.origs ≡ s.drawn.origs
     drawn = ap (λ (b : Books). b.origs_drawn) same
@@ -239,25 +240,24 @@ goes_tried s made conn endpoint winner timeout c q same is none is_free few h = 
     sound = subst (λ (b : Books). Sound b) (sym same) h
 
     by : (found : Option ℕ) → least_free made.state.origs 0 ≡ found →
-        Goes (books_of s) (books_of (tried_by_job conn endpoint winner timeout (next_orig_number s) made))
+        Goes (books_of s) (books_of (tried_by_job conn groups winner caller timeout (next_orig_number s) made))
     by None is_none = absurd (orig_place made.state.jobs made.state.origs made.state.drawn.origs sound.tries is_none)
     by (Some p) is_orig_free =
-        begun_at (books_of s) made.state conn (next_orig_number s) winner
-        (new_orig (owner.Job (next_job_number made.state)) ((record { endpoint = endpoint; pairs = [] } ∷ []) ∷ []) (made.leg ∷ [])
-        (moment_after made.state.moment (seconds timeout)))
+        begun_at (books_of s) made.state conn (next_orig_number s) winner caller
+        (new_orig (owner.Job (next_job_number made.state)) groups made.legs (moment_after made.state.moment (seconds timeout)))
         c q p
         (ap (λ (b : Books). row_of b.conns conn) same ∙ is) none
         (ap (λ (b : Books). least_free b.jobs 0) same ∙ is_free) is_orig_free few_jobs
         (omega (arith, few_origs, drawn)) (omega (arith, few_origs, drawn)) sound (sym same)
 
 -- originate
-pub goes_originate : (s : Switch) (conn : ℕ) (endpoint : Text) (winner : Winner) (caller : Caller) (timeout : Option ℕ) (c : Conn) (q : ℕ) →
-    conn_of s conn ≡ Some c → c.owed ≡ None → least_free s.jobs 0 ≡ Some q → Few (books_of s) → Sound (books_of s) →
-    Goes (books_of s) (books_of (originate_begun conn endpoint winner caller timeout s))
-goes_originate s conn endpoint winner caller timeout c q is none is_free few h =
-    goes_tried s (leg_made endpoint caller (next_orig_number s) s) conn endpoint winner (unwrap_or timeout 60) c q
-    (books_same s (leg_made endpoint caller (next_orig_number s) s).state (leg_made_rest endpoint caller (next_orig_number s) s)) is none
-    is_free few h
+pub goes_originate : (s : Switch) (conn : ℕ) (groups : List (List LegPlan)) (winner : Winner) (caller : Caller) (timeout : Option ℕ)
+    (c : Conn) (q : ℕ) → conn_of s conn ≡ Some c → c.owed ≡ None → least_free s.jobs 0 ≡ Some q → Few (books_of s) →
+    Sound (books_of s) → Goes (books_of s) (books_of (originate_begun conn groups winner caller timeout s))
+goes_originate s conn groups winner caller timeout c q is none is_free few h =
+    let made : MadeGroup = group_made (first_group groups) caller (next_orig_number s) s in
+    goes_tried s made conn groups winner caller (unwrap_or timeout 60) c q
+    (books_same s made.state (group_made_rest (first_group groups) caller (next_orig_number s) s)) is none is_free few h
 
 -- ---- a job ends
 
@@ -324,11 +324,11 @@ tries_without jobs origs drawn q number job stands tried h = by (h.there q job n
     by had = at (row_of_number origs number had.0 had.1)
 
 -- a job ends with the origination that it tried
-pub goes_over : (b : Books) (s : Switch) (number conn orig : ℕ) (winner : Winner) (answer : Text) →
-    DoesJob s number conn (Originate orig winner) → Goes b (books_of s) →
+pub goes_over : (b : Books) (s : Switch) (number conn orig : ℕ) (winner : Winner) (caller : Caller) (answer : Text) →
+    DoesJob s number conn (Originate orig winner caller) → Goes b (books_of s) →
     Goes b (books_of (after_job_end number conn answer (without_orig orig s)))
-goes_over b s number conn orig winner answer does h =
-    let found = row_found s.jobs number (record { conn = conn; work = Originate orig winner }) does.there in
+goes_over b s number conn orig winner caller answer does h =
+    let found = row_found s.jobs number (record { conn = conn; work = Originate orig winner caller }) does.there in
     let fits : Tries (with_held s.jobs found.0 None) (numbers_in (without_row s.origs orig)) s.drawn.origs =
     tries_without s.jobs s.origs s.drawn.origs found.0 orig found.1 found.2.there
     (ap (λ (y : Job). tried_by y.work) found.3) h.sound.tries in

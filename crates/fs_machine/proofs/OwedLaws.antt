@@ -127,7 +127,7 @@ orig_is_due now x (Some o) is none = cc none
 work_is_due : (s : Switch) (work : JobWork) → ((number : ℕ) → tried_by work ≡ Some number → HasNumber (numbers_in s.origs) number) →
     work_due s work ≢ None
 work_is_due s (Sleep until) there none = cc none
-work_is_due s (Originate orig winner) there none =
+work_is_due s (Originate orig winner caller) there none =
     let had = there orig refl in
     let row : HasRow s.origs orig = row_of_number s.origs orig had.0 had.1 in
     orig_is_due s.moment row.1.held (orig_of s orig) (row_is s.origs orig row.0 row.1 row.2) none
@@ -206,7 +206,7 @@ never_due s q row there is =
 -- at another moment the same work is due
 due_at_moment : (s : Switch) (now : ℕ) (work : JobWork) → work_due (at_moment now s) work ≡ None → work_due s work ≡ None
 due_at_moment s now (Sleep until) is = absurd (cc is)
-due_at_moment s now (Originate orig winner) is = by (orig_of s orig) is
+due_at_moment s now (Originate orig winner caller) is = by (orig_of s orig) is
   where
     by : (o : Option Orig) → orig_due (at_moment now s).moment o ≡ None → orig_due s.moment o ≡ None
     by None e = refl

@@ -11,7 +11,7 @@ use Rattle.fs_state.specs.Switch.{Switch, chan_at, with_chan, with_next_identifi
 use Rattle.fs_state.specs.Moves.{after_move_from, orig_changed, leg_changed, partner_of, partner_at, after_one_hangup, after_hangup_with, after_hangup}
 use Rattle.fs_machine.specs.declared.originations.Call.{Call}
 use Rattle.fs_machine.specs.Originations.{end_of, end_made, leg_end, far_end, pair_made, won_by, after_winning}
-use Rattle.fs_machine.proofs.Kept.{Fact, Links, KeptByMoves}
+use Rattle.fs_machine.proofs.Kept.{Fact, Links, raced, KeptByMoves}
 use Rattle.fs_machine.proofs.Walk.{new_lives, execute_lives, routing_lives, state_told_kept}
 use Rattle.fs_machine.proofs.FrontLemmas.{Front, front_of, orig_changed_front, moves_by_front}
 use Rattle.fs_machine.proofs.PartnerLemmas.{one_closed, two_closed}
@@ -94,4 +94,4 @@ partners_moves before =
       spent = λ h. h;
       pair = λ call orig a b {s = s} short first second h. pair_partners call orig a b s first second h;
     })
-    (λ a winner leg does has h. won_partners winner (unwrap_or leg.slot 0) before h)
+    (λ a winner caller leg slots does won h. won_partners winner (unwrap_or leg.slot 0) (raced slots before) h)

@@ -4,9 +4,11 @@ use Rattle.fs_text.specs.declared.causes.Cause.{Cause}
 use Rattle.fs_vars.specs.Pairs.{Text}
 use Rattle.fs_doc.specs.Reading.{Configuration}
 use Rattle.fs_chan.specs.declared.chan.Chan.{Chan}
+use Rattle.fs_orig.specs.declared.caller.Caller.{Caller}
 use Rattle.fs_orig.specs.declared.orig.Orig.{Orig}
+use Rattle.fs_orig.specs.declared.plan.LegPlan.{LegPlan}
 use Rattle.fs_orig.specs.declared.winner.Winner.{Winner}
-use Rattle.fs_orig.specs.Changes.{with_answer}
+use Rattle.fs_orig.specs.Changes.{with_answer, at_next_group}
 use Rattle.fs_places.specs.declared.numbered.Numbered.{Numbered}
 use Rattle.fs_places.specs.Rows.{row_of}
 use Rattle.fs_places.proofs.TableLemmas.{numbers_in, numbers_kept}
@@ -18,12 +20,11 @@ use Rattle.fs_state.specs.Counts.{Tallies}
 use Rattle.fs_state.specs.Queues.{Frames}
 use Rattle.fs_state.specs.Switch.{Switch, chan_at, with_chan, orig_of}
 use Rattle.fs_state.specs.Moves.{after_move_from, after_move, orig_changed_from, orig_changed, leg_changed, after_hangup}
-use Rattle.fs_machine.specs.declared.originations.Caller.{Caller}
-use Rattle.fs_machine.specs.Originations.{leg_made, won_by, after_winning}
-use Rattle.fs_machine.specs.Attempts.{after_hangups}
+use Rattle.fs_machine.specs.Originations.{MadeGroup, group_made, won_by, after_winning}
+use Rattle.fs_machine.specs.Attempts.{after_hangups, with_group}
 use Rattle.fs_machine.specs.Work.{after_work}
 use Rattle.fs_machine.proofs.Kept.{Stage, Fact, KeptByCalls, DoesJob}
-use Rattle.fs_machine.proofs.Walk.{state_told_kept, hung_kept, all_hung_kept, worked_kept, leg_made_kept}
+use Rattle.fs_machine.proofs.Walk.{state_told_kept, hung_kept, all_hung_kept, worked_kept, group_made_kept}
 
 -- what is left of a switch without channels, globals, news and identifiers; of originations that is their numbers
 pub record Rest : Type 0 where
@@ -126,14 +127,21 @@ pub won_rest : (winner : Winner) (slot : ℕ) (s : Switch) → rest_of (after_wi
 unfolding after_winning
 won_rest winner slot s = moved_rest (won_by winner) slot s
 
--- ---- a leg is made
+-- ---- the legs of a group are made
 
-pub leg_made_rest : (endpoint : Text) (caller : Caller) (orig : ℕ) (s : Switch) →
-    rest_of (leg_made endpoint caller orig s).state ≡ rest_of s
-leg_made_rest endpoint caller orig s =
-    leg_made_kept (SameRest s)
-    (record { spent = λ h. h; pair = λ call orig a b short first second h. h }) endpoint caller orig {n = 0}
+pub group_made_rest : (plans : List LegPlan) (caller : Caller) (orig : ℕ) (s : Switch) →
+    rest_of (group_made plans caller orig s).state ≡ rest_of s
+group_made_rest plans caller orig s =
+    group_made_kept (SameRest s)
+    (record { spent = λ h. h; pair = λ call orig a b short first second h. h }) plans caller orig {n = 0}
     {s = s} refl
+
+-- and an origination comes to them
+pub regrouped_rest : (number : ℕ) (plans : List LegPlan) (caller : Caller) (s : Switch) →
+    rest_of (with_group number (group_made plans caller number s)) ≡ rest_of s
+regrouped_rest number plans caller s =
+    let made : MadeGroup = group_made plans caller number s in
+    orig_changed_rest (at_next_group made.legs) number made.state ∙ group_made_rest plans caller number s
 
 -- ---- a job is the one that it was
 

@@ -33,8 +33,8 @@ uuid_in channels slot = option_map uuid_of (held_in channels slot)
 abbrev pub Named : Seen → Type 0
 Named x = Naming x.config.settings.core_uuid x.identifiers (uuid_in x.channels)
 
--- No more identifiers are drawn than slots are filled, but for so many that were freed, and each identifier stands in one slot still, unless
--- the numbers are used up.
+-- No more identifiers are drawn than slots are filled, but for so many that were freed, and each identifier stands in one slot still,
+-- unless the numbers are used up.
 pub record Numbers (more : ℕ) (x y : Seen) : Type 0 where
   pub names : y.identifiers < 2 ^ 62 - 1 → Named x → Named y
   pub few : y.identifiers < 2 ^ 62 - 1 → x.identifiers < 2 ^ 62 - 1

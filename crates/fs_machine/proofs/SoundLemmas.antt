@@ -116,7 +116,7 @@ step_stands s entry holds h =
     =
     holds.paid.origs in
     record {
-      legs = acted_kept now Legs (legs_moves now) entry.act (λ few. h.legs) (omega (arith, paid));
+      legs = acted_kept now Legs (legs_moves now h.legs) entry.act (λ few. h.legs) (omega (arith, paid));
       winners = acted_kept now Winners (winners_moves now) entry.act h.winners;
       fit = acted_kept now Fit (fit_moves now h.legs h.winners) entry.act h.fit;
     }

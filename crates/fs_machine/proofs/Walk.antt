@@ -22,9 +22,11 @@ use Rattle.fs_chan.specs.declared.wait.Wait.TheVariants.{Ready, Sleep, Parked, S
 use Rattle.fs_chan.specs.Changes.{IsShortTarget, is_live, in_state, with_answer_place, at_rest, hung_up, transferred, parked, asleep, may_route, routed}
 use Rattle.fs_chan.specs.Exports.{with_set}
 use Rattle.fs_chan.specs.Work as chan
+use Rattle.fs_orig.specs.declared.caller.Caller.{Caller}
 use Rattle.fs_orig.specs.declared.endpoint.Endpoint.{Endpoint}
 use Rattle.fs_orig.specs.declared.endpoint.Endpoint.TheVariants.{Loopback, Dead}
 use Rattle.fs_orig.specs.declared.orig.Orig.{Orig}
+use Rattle.fs_orig.specs.declared.plan.LegPlan.{LegPlan}
 use Rattle.fs_orig.specs.Changes.{with_answer, with_death}
 use Rattle.fs_orig.specs.Endpoints as endpoints
 use Rattle.fs_orig.specs.Endpoints.{endpoint_of}
@@ -35,10 +37,9 @@ use Rattle.fs_state.specs.declared.event.Event.{Event}
 use Rattle.fs_state.specs.Switch.{Switch, chan_at, with_chan, free_slot, with_event}
 use Rattle.fs_state.specs.Moves.{plain_event, with_leaving_event, with_coming_event, with_state_events, after_move_from, after_move, after_begin, with_running, run_on, after_completion, orig_changed, leg_changed, its_leg_changed, after_answer_from, after_one_answer, partner_at, for_slot, after_answer, hangup_event, after_hangup_from, after_one_hangup, after_hangup_with, after_hangup, after_report, after_destroy}
 use Rattle.fs_machine.specs.declared.originations.Call.{Call}
-use Rattle.fs_machine.specs.declared.originations.Caller.{Caller}
 use Rattle.fs_machine.specs.Applications.{with_variable, without_variable, with_export, after_sleep, state_at, after_park_in, after_effect, argument_in, executed_within, after_running_next, after_running_from, after_running}
 use Rattle.fs_machine.specs.Work.{with_variables, routed_to, has_xml, actions_for, too_long_cause, found_for, routed_by, after_routing_from, first_state, after_wait, after_work_in, after_work_from, after_work}
-use Rattle.fs_machine.specs.Originations.{Made, made_in, with_second, free_pair, is_congested, made_of, leg_made}
+use Rattle.fs_machine.specs.Originations.{Made, made_in, with_second, free_pair, is_congested, made_of, leg_made, group_made}
 use Rattle.fs_machine.specs.Attempts.{after_hangups}
 use Rattle.fs_machine.proofs.ShortLemmas.{sent_short, application_short, endpoint_short}
 use Rattle.fs_machine.proofs.Kept.{Stage, Fact, Stays, KeptByCalls, KeptByBirths}
@@ -433,7 +434,13 @@ module _ (P : Fact) (births : KeptByBirths P) where
   made_kept (Loopback exten context) caller orig {s} short h =
       either_made (is_congested s) _ _ h (pair_kept (record { exten = exten; context = context; caller = caller }) orig short h)
 
-  pub leg_made_kept : (endpoint : Text) (caller : Caller) (orig : ℕ) {n : ℕ} {s : Switch} → P (Some n) s →
-      P (Some n) (leg_made endpoint caller orig s).state
+  pub leg_made_kept : (plan : LegPlan) (caller : Caller) (orig : ℕ) {n : ℕ} {s : Switch} → P (Some n) s →
+      P (Some n) (leg_made plan caller orig s).state
   unfolding leg_made
-  leg_made_kept endpoint caller orig h = made_kept (endpoint_of endpoint) caller orig (endpoint_short endpoint) h
+  leg_made_kept plan caller orig h = made_kept (endpoint_of plan.endpoint) caller orig (endpoint_short plan.endpoint) h
+
+  pub group_made_kept : (plans : List LegPlan) (caller : Caller) (orig : ℕ) {n : ℕ} {s : Switch} → P (Some n) s →
+      P (Some n) (group_made plans caller orig s).state
+  group_made_kept [] caller orig h = h
+  group_made_kept (plan ∷ plans) caller orig {n} {s} h =
+      group_made_kept plans caller orig {n = n} {s = (leg_made plan caller orig s).state} (leg_made_kept plan caller orig h)

@@ -1,6 +1,8 @@
 -- Each act keeps the texts short by which the winners of originations are to be routed.
 use Rattle.std.proofs.Common.{◌≡◌, ℕ, List, Option, None, Some, unwrap_or, refl, sym, ap, subst}
 use Rattle.fs_vars.specs.Pairs.{Text}
+use Rattle.fs_orig.specs.declared.caller.Caller.{Caller}
+use Rattle.fs_orig.specs.declared.plan.LegPlan.{LegPlan}
 use Rattle.fs_orig.specs.declared.winner.Winner.{Winner}
 use Rattle.fs_places.specs.declared.numbered.Numbered.{Numbered}
 use Rattle.fs_places.specs.Places.{held_in, least_free}
@@ -13,20 +15,19 @@ use Rattle.fs_state.specs.declared.job.Job.{Job}
 use Rattle.fs_state.specs.declared.job.JobWork.{JobWork}
 use Rattle.fs_state.specs.declared.job.JobWork.TheVariants.{Sleep, Originate}
 use Rattle.fs_state.specs.Switch.{Switch, next_orig_number, next_job_number, with_new_job, without_job, without_orig}
-use Rattle.fs_machine.specs.declared.originations.Caller.{Caller}
 use Rattle.fs_machine.specs.Texts.{made_text, failed_text}
 use Rattle.fs_machine.specs.Connections.{conn_changed, admitted, parted, owed_since, not_owed}
-use Rattle.fs_machine.specs.Originations.{leg_made, after_winning}
-use Rattle.fs_machine.specs.Attempts.{orig_begun, originate_begun}
+use Rattle.fs_machine.specs.Originations.{MadeGroup, group_made, after_winning}
+use Rattle.fs_machine.specs.Attempts.{first_group, orig_begun, originate_begun, with_group}
 use Rattle.fs_machine.specs.Owing.{after_job_begin, after_job_end}
-use Rattle.fs_machine.proofs.Kept.{Fact, DoesJob, IsShortWinner, KeptByMoves}
+use Rattle.fs_machine.proofs.Kept.{Fact, DoesJob, raced, IsShortWinner, KeptByMoves}
 use Rattle.fs_machine.proofs.FrontLemmas.{conn_unread}
-use Rattle.fs_machine.proofs.RestLemmas.{Rest, rest_of, calls_by_rest, leg_made_rest, won_rest}
+use Rattle.fs_machine.proofs.RestLemmas.{Rest, rest_of, calls_by_rest, group_made_rest, regrouped_rest, won_rest}
 
 -- the winner that work has is routed by short texts
 abbrev pub IsShortWork : JobWork → Type 0
 IsShortWork (Sleep until) = Unit {0}
-IsShortWork (Originate orig winner) = IsShortWinner winner
+IsShortWork (Originate orig winner caller) = IsShortWinner winner
 
 abbrev pub ShortIn : Option (Numbered Job) → Type 0
 ShortIn None = Unit {0}
@@ -39,10 +40,11 @@ abbrev pub Winners : Fact
 Winners b s = WinnersAreShort s.jobs
 
 -- so is that of a job that is there
-pub winner_of_job : (s : Switch) (number conn orig : ℕ) (winner : Winner) → DoesJob s number conn (Originate orig winner) →
+pub winner_of_job : (s : Switch) (number conn orig : ℕ) (winner : Winner) (caller : Caller) →
+    DoesJob s number conn (Originate orig winner caller) →
     WinnersAreShort s.jobs → IsShortWinner winner
-winner_of_job s number conn orig winner does h =
-    let found = row_found s.jobs number (record { conn = conn; work = Originate orig winner }) does.there in
+winner_of_job s number conn orig winner caller does h =
+    let found = row_found s.jobs number (record { conn = conn; work = Originate orig winner caller }) does.there in
     let there : IsShortWork found.1.held.work = subst ShortIn found.2.there (h found.0) in
     subst (λ (job : Job). IsShortWork job.work) found.3 there
 
@@ -67,26 +69,30 @@ ended_winners number conn answer s h =
     (each_put_at ShortIn s.jobs None (place_of s.jobs number) h tt)
 
 -- by what leaves the rest as it is
-rest_winners : (s t : Switch) → rest_of t ≡ rest_of s → WinnersAreShort s.jobs → WinnersAreShort t.jobs
+pub rest_winners : (s t : Switch) → rest_of t ≡ rest_of s → WinnersAreShort s.jobs → WinnersAreShort t.jobs
 rest_winners s t same h = same_winners s t (ap (λ (r : Rest). r.jobs) same) h
 
-originates_winners : (conn : ℕ) (endpoint : Text) (winner : Winner) (caller : Caller) (timeout : Option ℕ) (s : Switch) →
+originates_winners : (conn : ℕ) (groups : List (List LegPlan)) (winner : Winner) (caller : Caller) (timeout : Option ℕ) (s : Switch) →
     IsShortWinner winner → WinnersAreShort s.jobs →
-    WinnersAreShort (originate_begun conn endpoint winner caller timeout s).jobs
-originates_winners conn endpoint winner caller timeout s short h =
-    let made = leg_made endpoint caller (next_orig_number s) s in
-    owing_winners conn (Originate (next_orig_number s) winner) (orig_begun endpoint made.leg (unwrap_or timeout 60) made.state) short
-    (rest_winners s made.state (leg_made_rest endpoint caller (next_orig_number s) s) h)
+    WinnersAreShort (originate_begun conn groups winner caller timeout s).jobs
+originates_winners conn groups winner caller timeout s short h =
+    let made : MadeGroup = group_made (first_group groups) caller (next_orig_number s) s in
+    owing_winners conn (Originate (next_orig_number s) winner caller) (orig_begun groups made.legs (unwrap_or timeout 60) made.state) short
+    (rest_winners s made.state (group_made_rest (first_group groups) caller (next_orig_number s) s) h)
 
 pub winners_moves : (before : Switch) → KeptByMoves before Winners
 winners_moves before = record {
   calls = calls_by_rest Winners (λ b t u h same. rest_winners t u same h) (λ t h. h);
   jobs = record {
     woken = λ number conn until answer {s = s} does h. ended_winners number conn answer s h;
-    failed = λ a winner cause {s = s} does h. ended_winners a.job a.conn (failed_text cause) (without_orig a.orig s) h;
-    wins = λ a winner leg does has h.
-        ended_winners a.job a.conn (made_text leg.uuid) (without_orig a.orig (after_winning winner (unwrap_or leg.slot 0) before))
-        (rest_winners before (after_winning winner (unwrap_or leg.slot 0) before) (won_rest winner (unwrap_or leg.slot 0) before) h);
+    failed = λ a winner caller cause {s = s} does h. ended_winners a.job a.conn (failed_text cause) (without_orig a.orig s) h;
+    wins = λ a winner caller leg slots does won h.
+        let t : Switch = raced slots before in
+        let u : Switch = after_winning winner (unwrap_or leg.slot 0) t in
+        ended_winners a.job a.conn (made_text leg.uuid) (without_orig a.orig u)
+        (rest_winners t u (won_rest winner (unwrap_or leg.slot 0) t) h);
+    regroups = λ number plans caller {s = s} h.
+        rest_winners s (with_group number (group_made plans caller number s)) (regrouped_rest number plans caller s) h;
   };
   commands = λ conn. record {
     spent = λ h. h;
@@ -94,7 +100,7 @@ winners_moves before = record {
     admitted = λ {s = s} fresh h. same_winners s (conn_changed admitted conn s) (conn_jobs admitted conn s) h;
     parted = λ why {s = s} leaves h. same_winners s (conn_changed (parted why) conn s) (conn_jobs (parted why) conn s) h;
     sleeps = λ until {s = s} room h. owing_winners conn (Sleep until) s tt h;
-    originates = λ endpoint winner caller timeout {s = s} short room h. originates_winners conn endpoint winner caller timeout s short h;
+    originates = λ groups winner caller timeout {s = s} short room h. originates_winners conn groups winner caller timeout s short h;
   };
   visits = record {
     arrived = λ h. h;

@@ -201,8 +201,10 @@ none_left number slot place cause o apart position = by (position_in slot o.legs
 -- ---- one origination of a table is changed, or is gone
 
 -- the row of an origination that is there
-pub row_there : (origs : Origs) (number : ℕ) (o : Orig) → row_of origs number ≡ Some o →
-    (place : ℕ) × (place_of origs number ≡ Some place) × (held_in origs place ≡ as_row number o)
+abbrev pub HasPlace : Origs → ℕ → Orig → Type 0
+HasPlace origs number o = (place : ℕ) × (place_of origs number ≡ Some place) × (held_in origs place ≡ as_row number o)
+
+pub row_there : (origs : Origs) (number : ℕ) (o : Orig) → row_of origs number ≡ Some o → HasPlace origs number o
 row_there origs number o is =
     let found = row_found origs number o is in
     let named : as_row found.1.number o ≡ as_row number o = ap (λ (n : ℕ). as_row n o) found.2.numbered in
@@ -256,29 +258,46 @@ death_leaves_none origs number o slot place cause distinct is apart at position 
         other (distinct number at row.0 (seat_number position (held_in origs at) (in_slot number slot) was)
         (place_stands origs number row.0 row.1))
 
+-- ---- the legs of an origination are others
+
+-- a leg that lives is one of the new ones, or of another origination
+pub changed_or_old : (origs : Origs) (number : ℕ) (o new : Orig) (row : HasPlace origs number o) (place position : ℕ) (seat : Seat) →
+    seat_at (with_row origs number new) place position ≡ Some seat →
+    ((place ≡ row.0) × (seat_of number (slice_get new.legs position) ≡ Some seat)) ⊎ ((place ≡ row.0 → ⊥) × (seat_at origs place position ≡
+    Some seat))
+changed_or_old origs number o new row place position seat has = by (cases_eq place row.0)
+  where
+    now : seat_at (with_held origs row.0 (as_row number new)) place position ≡ Some seat
+    now = subst (λ (rows : Origs). seat_at rows place position ≡ Some seat) (row_written origs number row.0 new row.1) has
+
+    by : (place ≡ row.0) ⊎ (place ≡ row.0 → ⊥) →
+        ((place ≡ row.0) × (seat_of number (slice_get new.legs position) ≡ Some seat)) ⊎ ((place ≡ row.0 → ⊥) ×
+        (seat_at origs place position ≡ Some seat))
+    by (inl same) =
+        let here : held_in (with_held origs row.0 (as_row number new)) place ≡ as_row number new =
+        ap (held_in (with_held origs row.0 (as_row number new))) same
+        ∙ held_here origs row.0 (as_row number new) (place_within origs number row.0 row.1) in
+        inl (same, sym (ap (seat_in position) here) ∙ now)
+    by (inr other) = inr (other, sym (ap (seat_in position) (held_there origs row.0 place (as_row number new) other)) ∙ now)
+
 -- ---- one origination more
 
--- the one leg that it tries, or one that was there
-pub new_or_old : (origs : Origs) (next : ℕ) (o : Orig) (leg : OrigLeg) → o.legs ≡ leg ∷ [] → (place position : ℕ) (seat : Seat) →
+-- a leg that lives is one of its, or was there
+pub new_or_old : (origs : Origs) (next : ℕ) (o : Orig) (place position : ℕ) (seat : Seat) →
     seat_at (with_new_row origs next o) place position ≡ Some seat →
-    ((position ≡ 0) × (seat_of next (Some leg) ≡ Some seat)) ⊎ (seat_at origs place position ≡ Some seat)
-new_or_old origs next o leg one place position seat = by (least_free origs 0) refl
+    (seat_of next (slice_get o.legs position) ≡ Some seat) ⊎ (seat_at origs place position ≡ Some seat)
+new_or_old origs next o place position seat = by (least_free origs 0) refl
   where
-    only : (q : ℕ) → seat_of next (slice_get (leg ∷ []) q) ≡ Some seat → (q ≡ 0) × (seat_of next (Some leg) ≡ Some seat)
-    only zero h = (refl, h)
-    only (suc q) h = absurd (none-some seat h)
-
     at : (put : ℕ) → least_free origs 0 ≡ Some put → (place ≡ put) ⊎ (place ≡ put → ⊥) →
         seat_at (with_held origs put (as_row next o)) place position ≡ Some seat →
-        ((position ≡ 0) × (seat_of next (Some leg) ≡ Some seat)) ⊎ (seat_at origs place position ≡ Some seat)
+        (seat_of next (slice_get o.legs position) ≡ Some seat) ⊎ (seat_at origs place position ≡ Some seat)
     at put free (inl same) h =
         let new : held_in (with_held origs put (as_row next o)) place ≡ as_row next o =
         ap (held_in (with_held origs put (as_row next o))) same ∙ held_here origs put (as_row next o) (free_least origs put free).1 in
-        inl (only position
-        (ap (λ (l : List OrigLeg). seat_of next (slice_get l position)) (sym one) ∙ (sym (ap (seat_in position) new) ∙ h)))
+        inl (sym (ap (seat_in position) new) ∙ h)
     at put free (inr other) h = inr (sym (ap (seat_in position) (held_there origs put place (as_row next o) other)) ∙ h)
 
     by : (found : Option ℕ) → least_free origs 0 ≡ found → seat_at (with_held_at origs (as_row next o) found) place position ≡ Some seat →
-        ((position ≡ 0) × (seat_of next (Some leg) ≡ Some seat)) ⊎ (seat_at origs place position ≡ Some seat)
+        (seat_of next (slice_get o.legs position) ≡ Some seat) ⊎ (seat_at origs place position ≡ Some seat)
     by None is h = inr h
     by (Some put) is h = at put is (cases_eq place put) h

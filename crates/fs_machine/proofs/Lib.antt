@@ -11,6 +11,7 @@ pub mod ActWalk
 pub mod ConstantMoves
 pub mod KeepLemmas
 pub mod WaitingLemmas
+pub mod NameLemmas
 pub mod OrderLemmas
 pub mod FramesLaws
 pub mod ConcernLemmas

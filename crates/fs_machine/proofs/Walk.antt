@@ -1,5 +1,5 @@
 -- The one walk through what channels do: a fact that bears each of their moves is kept by all that they do.
-use Rattle.std.proofs.Common.{◌≡◌, ℕ, ◌+◌, ◌==◌, nat_lt, Bool, true, false, if◌then◌else◌, List, [], ◌∷◌, length, Option, None, Some, option_map, option_and_then, is_none, refl, sym, ap, subst, ◌∙◌, arith}
+use Rattle.std.proofs.Common.{◌≡◌, ℕ, ◌+◌, ◌==◌, nat_lt, Bool, true, false, if◌then◌else◌, List, [], ◌∷◌, length, Option, None, Some, option_map, option_and_then, is_none, refl, sym, ap, subst, ◌∙◌}
 use Rattle.fs_text.specs.declared.states.State.{State}
 use Rattle.fs_text.specs.declared.states.State.TheVariants.{CsNew, CsInit, CsRouting, CsExecute, CsPark, CsConsumeMedia, CsHangup, CsReporting}
 use Rattle.fs_text.specs.State.{state_row, state_number}

@@ -9,7 +9,7 @@ use crate::disk::{tell_build, tell_load};
 use crate::documents::{attributes, tell_config};
 use crate::frames::Frames;
 use crate::hunts::Hunts;
-use crate::legs::{Legs, tell_endpoint, tell_one_leg};
+use crate::legs::{Legs, tell_endpoint};
 use crate::links::{tell_reads, tell_sends, tell_writes};
 use crate::long::longer;
 use crate::names::tell_text;
@@ -97,7 +97,6 @@ impl<D: Files + Drop> Desk<D> {
             "app" => tell_app(alloc, rest, answer),
             "channel" => tell_channel(alloc, rest, answer),
             "endpoint" => tell_endpoint(alloc, rest, answer),
-            "one-leg" => tell_one_leg(alloc, rest, answer),
             "dial" => tell_dial(alloc, rest, answer),
             "plans" => tell_plans(alloc, rest, answer),
             "timeout" => tell_timeout(alloc, rest, answer),

@@ -2,9 +2,7 @@
 
 use crate::answer::Answer;
 use crate::words::{bytes_of, cut, number_of};
-use fs_orig::{
-    Endpoint, LegGroup, LegPlan, LegPlans, Orig, OrigLeg, OrigLegs, Owner, is_one_leg, judge,
-};
+use fs_orig::{Endpoint, LegGroup, LegPlan, LegPlans, Orig, OrigLeg, OrigLegs, Owner, judge};
 use fs_text::{Cause, Headers, Memory, Txt};
 use std::alloc::Global;
 
@@ -107,12 +105,6 @@ pub(crate) fn tell_endpoint(alloc: Global, text: &str, answer: &mut Answer) -> R
         Endpoint::Loopback { exten, context } => answer.named("Loopback", &[exten, context]),
         Endpoint::Dead { cause } => answer.line(&[b"Dead ", cause.name().as_bytes()]),
     }
-    Ok(())
-}
-
-/// Answers `one-leg TEXT` with whether a dial string is one leg without variables.
-pub(crate) fn tell_one_leg(alloc: Global, text: &str, answer: &mut Answer) -> Result<(), Memory> {
-    answer.truth(is_one_leg(&bytes_of(alloc, text)?));
     Ok(())
 }
 

@@ -2,7 +2,7 @@
 ghost use Rattle.std.specs.Prelude.{◌≡◌, ◌<◌, ◌++◌, None, length, slice_get, IfOk, OnOk};
 ghost use Rattle.std.specs.Option.{option_and_then};
 ghost use Rattle.fs_text.specs.declared.causes.Cause.TheVariants.{LoseRace, NoAnswer};
-ghost use Rattle.fs_orig.specs.Legs as legs;
+ghost use Rattle.fs_orig.specs.Legs as orig_legs;
 ghost use Rattle.fs_orig.specs.Verdicts.{next_group};
 ghost use Rattle.fs_state.specs.Drafts.{drafted};
 ghost use Rattle.fs_state.specs.Moves.{for_slot, after_hangup};
@@ -140,7 +140,7 @@ fn leg_at(orig: &Orig, position: usize) -> Result<Option<OrigLeg>, Memory>
 
 // The slot of the leg at a position, if it lives.
 fn living_slot_at(orig: &Orig, position: usize) -> Option<u16>
-    ensures { result ≡ option_and_then legs.living_slot (slice_get orig.now.legs position) }
+    ensures { result ≡ option_and_then orig_legs.living_slot (slice_get orig.now.legs position) }
 {
     living_slot(orig.legs.as_slice().get(position)?)
 }
@@ -157,7 +157,7 @@ fn next_group_of(orig: &Orig) -> Result<Option<LegGroup>, Memory>
 
 // The slots of the legs that live.
 fn living_slots(alloc: Global, orig: &Orig) -> Result<Vec<u16>, Memory>
-    ensures { IfOk result (λ slots. slots.items ≡ legs.living_slots orig.now.legs) }
+    ensures { IfOk result (λ slots. slots.items ≡ orig_legs.living_slots orig.now.legs) }
 {
     let mut slots = Vec::new(alloc);
     add_living(&mut slots, orig.legs.as_slice())?;
@@ -167,7 +167,7 @@ fn living_slots(alloc: Global, orig: &Orig) -> Result<Vec<u16>, Memory>
 // The slots of the legs that live, without the leg at a position.
 fn other_slots(alloc: Global, orig: &Orig, position: usize) -> Result<Vec<u16>, Memory>
     requires { position < length orig.now.legs }
-    ensures { IfOk result (λ slots. slots.items ≡ legs.living_slots (spec.others position orig.now.legs)) }
+    ensures { IfOk result (λ slots. slots.items ≡ orig_legs.living_slots (spec.others position orig.now.legs)) }
 {
     let legs = orig.legs.as_slice();
     let mut slots = Vec::new(alloc);
@@ -179,7 +179,7 @@ fn other_slots(alloc: Global, orig: &Orig, position: usize) -> Result<Vec<u16>, 
 // Adds the slots of the legs that live.
 #[tactic(auto, using(fs_orig::proofs::LegLemmas::living_there, fs_orig::proofs::LegLemmas::living_elsewhere, fs_orig::proofs::LegLemmas::living_done))]
 fn add_living(slots: &mut Vec<u16>, legs: &[OrigLeg]) -> Result<(), Memory>
-    ensures { OnOk result (slots.new.items ≡ slots.old.items ++ legs.living_slots legs.now) }
+    ensures { OnOk result (slots.new.items ≡ slots.old.items ++ orig_legs.living_slots legs.now) }
 {
     for leg in legs {
         if let Some(slot) = living_slot(leg) {
@@ -191,7 +191,7 @@ fn add_living(slots: &mut Vec<u16>, legs: &[OrigLeg]) -> Result<(), Memory>
 
 // The slot of a leg, if it lives.
 fn living_slot(leg: &OrigLeg) -> Option<u16>
-    ensures { result ≡ legs.living_slot leg.now }
+    ensures { result ≡ orig_legs.living_slot leg.now }
 {
     if leg.lives() { leg.slot } else { None }
 }

@@ -1,6 +1,5 @@
--- What the endpoint of a leg comes to, and which dial strings are one leg.
-use Rattle.std.specs.Prelude.{ℕ, ◌==◌, ◌≤◌, nat_le, Bool, not, ◌||◌, ◌&&◌, if◌then◌else◌, List, [], ◌∷◌, length, unwrap_or, codes}
-use Rattle.std.specs.List.{list_all}
+-- What the endpoint of a leg comes to.
+use Rattle.std.specs.Prelude.{ℕ, ◌≤◌, nat_le, Bool, not, ◌&&◌, if◌then◌else◌, List, [], ◌∷◌, length, unwrap_or, codes}
 use Rattle.std.specs.Str.{bytes_eq}
 use Rattle.fs_text.specs.Cause.{cause_of_name}
 use Rattle.fs_text.specs.Words.{before_byte, behind_byte}
@@ -65,12 +64,3 @@ pub record IsShortAddress (exten context : Text) : Type 0 where
 abbrev pub IsShortEndpoint : Endpoint → Type 0
 IsShortEndpoint (Loopback exten context) = IsShortAddress exten context
 IsShortEndpoint (Dead cause) = Unit {0}
-
--- ---- dial strings
-
--- one of  { [ , | ' \
-abbrev pub is_dial_mark : ℕ → Bool
-is_dial_mark byte = byte == 123 || byte == 91 || byte == 44 || byte == 124 || byte == 39 || byte == 92
-
-abbrev pub is_one_leg : Text → Bool
-is_one_leg text = list_all (λ byte. not (is_dial_mark byte)) text

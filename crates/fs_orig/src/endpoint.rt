@@ -1,4 +1,4 @@
-//! What the endpoint of a leg comes to, and which dial strings are one leg.
+//! What the endpoint of a leg comes to.
 
 ghost use Rattle.std.specs.Prelude.{◌≡◌, IfOk};
 ghost use Rattle.fs_orig.specs.Endpoints as spec;
@@ -102,11 +102,4 @@ fn part_or<'a>(otherwise: &'a [u8], part: &'a [u8]) -> &'a [u8]
     ensures { result.now ≡ spec.part_or otherwise.entry.now part.entry.now }
 {
     if part.is_empty() { otherwise } else { part }
-}
-
-/// Whether a dial string is one leg without variables: it has none of the bytes `{`, `[`, `,`, `|`, `'` and `\`.
-pub fn is_one_leg(text: &[u8]) -> bool
-    ensures { result ≡ spec.is_one_leg text.now }
-{
-    text.iter().all(|byte| !matches!(byte, b'{' | b'[' | b',' | b'|' | b'\'' | b'\\'))
 }

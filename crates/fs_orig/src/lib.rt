@@ -17,7 +17,7 @@ mod winner;
 
 pub use caller::Caller;
 pub use changes::changes_law;
-pub use endpoint::{Endpoint, is_one_leg};
+pub use endpoint::Endpoint;
 pub use leg::{OrigLeg, OrigLegs};
 pub use orig::{Orig, Owner};
 pub use plan::{LegGroup, LegPlan, LegPlans};

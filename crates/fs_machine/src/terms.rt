@@ -55,8 +55,12 @@ pub(crate) fn call_with(
 fn caller_with(vars: &Vars, caller: &Caller) -> Result<Caller, Memory>
     ensures { IfOk result (λ given. given ≡ spec.caller_with vars.now caller.now) }
 {
-    let name = vars.get(b"origination_caller_id_name").unwrap_or(&caller.name);
-    let number = vars.get(b"origination_caller_id_number").unwrap_or(&caller.number);
+    let name = vars
+        .get(b"origination_caller_id_name")
+        .unwrap_or(&caller.name);
+    let number = vars
+        .get(b"origination_caller_id_number")
+        .unwrap_or(&caller.number);
     Ok(Caller {
         name: name.copy()?,
         number: number.copy()?,

@@ -1,6 +1,5 @@
 -- The walk goes on: jobs, commands and all acts.
 use Rattle.std.proofs.Common.{◌≡◌, ℕ, ◌*◌, nat_lt, Bool, true, false, if◌then◌else◌, List, [], length, slice_get, Option, None, Some, unwrap_or, option_and_then, Result, Ok, Err, refl}
-use Rattle.std.specs.List.{list_all}
 use Rattle.std.specs.Str.{bytes_eq}
 use Rattle.fs_text.specs.Texts.{Text}
 use Rattle.fs_text.specs.declared.causes.Cause.{Cause}
@@ -26,6 +25,7 @@ use Rattle.fs_orig.specs.declared.verdict.Verdict.TheVariants as verdict
 use Rattle.fs_orig.specs.declared.winner.Winner.{Winner}
 use Rattle.fs_orig.specs.Legs.{living_slot, living_slots}
 use Rattle.fs_orig.specs.Plans.{plans_of}
+use Rattle.fs_orig.specs.Timeouts.{braces_timeout}
 use Rattle.fs_orig.specs.Verdicts.{next_group, verdict_of}
 use Rattle.fs_orig.proofs.VerdictLemmas.{winner_lives}
 use Rattle.fs_state.specs.declared.conn.Phase.{Phase}
@@ -46,7 +46,7 @@ use Rattle.fs_machine.specs.Texts.{ok, too_many_jobs}
 use Rattle.fs_machine.specs.Connections.{phase_at, conn_changed, admitted}
 use Rattle.fs_machine.specs.Attempts.{death_of, others, after_race_by, after_winning_at, after_leg_expiry, after_next_group, after_verdict, after_verdict_from}
 use Rattle.fs_machine.specs.Jobs.{sleep_begun, after_job_work, job_done_from, job_done}
-use Rattle.fs_machine.specs.Api.{Done, says, no_answer_yet, kill_done, msleep_done, is_bare, dialled, originate_done, done_plainly, done_by}
+use Rattle.fs_machine.specs.Api.{Done, says, no_answer_yet, kill_done, msleep_done, first_there, dialled, originate_done, done_plainly, done_by}
 use Rattle.fs_machine.specs.Commands.{with_reply, after_dismissal, after_password, with_response_of, command_done_in, command_done}
 use Rattle.fs_machine.specs.Step.{after_close, act_done}
 use Rattle.fs_machine.specs.Sound.{HasLeg}
@@ -143,8 +143,7 @@ module _ (conn : ℕ) (P : Fact) (calls : KeptByCalls P) (commands : KeptByComma
       IsShortWinner winner → is_full_of_jobs s ≡ false → P None s → P (Some 0) (dialled conn dial winner caller timeout s).state
   dialled_kept (Err fault) winner caller timeout short room h = commands.spent h
   dialled_kept (Ok dial) winner caller timeout short room h =
-      done_either (list_all is_bare (plans_of dial)) _ _ (commands.originates (plans_of dial) winner caller timeout short room h)
-      (commands.spent h)
+      commands.originates (plans_of dial) winner caller (first_there timeout (braces_timeout dial)) short room h
 
   originated_kept : (url : Text) (winner : Winner) (caller : Caller) (timeout : Option ℕ) {s : Switch} → IsShortWinner winner → P None s →
       P (Some 0) (originate_done conn url winner caller timeout s).state

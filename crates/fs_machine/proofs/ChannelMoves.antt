@@ -1,6 +1,7 @@
 -- Each act keeps a partner for each live channel, and the texts of all channels within their limits.
-use Rattle.std.proofs.Common.{◌≡◌, ℕ, true, List, Option, None, Some, IsSome, unwrap_or, refl, sym, ap, subst, ◌∙◌, true≢false}
+use Rattle.std.proofs.Common.{◌≡◌, ℕ, ◌≤◌, true, false, List, length, Option, None, Some, IsSome, unwrap_or, refl, sym, ap, subst, ◌∙◌, true≢false}
 use Rattle.std.proofs.lemmas.Option.{same_Some}
+use Rattle.fs_text.specs.Texts.{Text}
 use Rattle.fs_text.specs.declared.causes.Cause.{Cause}
 use Rattle.fs_text.specs.declared.causes.Cause.TheVariants.{LoseRace}
 use Rattle.fs_chan.specs.declared.chan.Chan.{Chan}
@@ -11,7 +12,7 @@ use Rattle.fs_orig.specs.declared.winner.Winner.{Winner}
 use Rattle.fs_orig.specs.declared.winner.Winner.TheVariants.{App, Route}
 use Rattle.fs_orig.specs.Changes.{with_answer}
 use Rattle.fs_orig.specs.Endpoints.{IsShortAddress}
-use Rattle.fs_places.specs.Places.{held_in}
+use Rattle.fs_places.specs.Places.{held_in, with_held}
 use Rattle.fs_places.proofs.RowLemmas.{each_put}
 use Rattle.fs_state.specs.declared.job.JobWork.TheVariants.{Originate}
 use Rattle.fs_state.specs.Switch.{Switch, chan_at, with_chan, with_next_identifier, identifier_of}
@@ -20,9 +21,10 @@ use Rattle.fs_state.proofs.LegTables.{seated}
 use Rattle.fs_machine.specs.declared.attempts.Attempt.{Attempt}
 use Rattle.fs_machine.specs.declared.originations.Call.{Call}
 use Rattle.fs_machine.specs.declared.originations.End.{End}
-use Rattle.fs_machine.specs.Originations.{target_of, end_of, end_made, leg_end, far_end, pair_made, won_by, after_winning}
+use Rattle.fs_machine.specs.Originations.{target_of, end_of, leg_end, far_end, pair_made, leg_uuid, is_misnamed, won_by, after_winning}
 use Rattle.fs_machine.proofs.Kept.{Fact, Links, Stays, DoesJob, raced, HasWon, IsShortWinner, KeptByMoves}
-use Rattle.fs_machine.proofs.ShortLemmas.{sent_short, profile_short}
+use Rattle.fs_machine.proofs.ShortLemmas.{sent_short, uuid_short, profile_short}
+use Rattle.fs_machine.proofs.NameLemmas.{leg_uuid_short, leg_chan, far_chan, with_leg, pair_channels}
 use Rattle.fs_machine.proofs.Walk.{hangup_dead, state_told_kept, hung_kept}
 use Rattle.fs_machine.proofs.FrontLemmas.{Front, front_of, orig_changed_front, moves_by_front}
 use Rattle.fs_machine.proofs.RestLemmas.{all_hung_rest}
@@ -69,20 +71,21 @@ hung_fit cause slot s h =
 
 -- ---- two channels are made
 
-end_fit : (call : Call) (end : End) (s : Switch) → IsShortAddress call.exten call.context → AllFit s.channels →
-    AllFit (end_made call end s).channels
-end_fit call end s short h =
-    put_fit end.slot (end_of call end (identifier_of (with_next_identifier s))) (with_next_identifier s)
-    (record {
-      partner =
-          λ live. refl;
-      short = profile_short call end.direction s.config.settings.core_uuid (with_next_identifier s).drawn.identifiers short;
-    }) h
+end_fit : (call : Call) (end : End) (uuid : Text) → IsShortAddress call.exten call.context → length uuid ≤ 256 → IsFit (end_of call end uuid)
+end_fit call end uuid short small = record { partner = λ live. refl; short = profile_short call end.direction uuid short small }
 
-pair_fit : (call : Call) (orig a b : ℕ) (s : Switch) → IsShortAddress call.exten call.context → AllFit s.channels →
-    AllFit (pair_made call orig a b s).channels
-pair_fit call orig a b s short h =
-    end_fit call (far_end a b) (end_made call (leg_end orig a b) s) short (end_fit call (leg_end orig a b) s short h)
+pair_fit : (call : Call) (orig a b : ℕ) (s : Switch) → IsShortAddress call.exten call.context → is_misnamed call.uuid s ≡ false →
+    AllFit s.channels → AllFit (pair_made call orig a b s).channels
+pair_fit call orig a b s short named h =
+    let t : Switch = with_leg call orig a b s in
+    let leg : Chan = leg_chan call orig a b s in
+    let far : Chan = far_chan call orig a b s in
+    let drawn : ℕ = (with_next_identifier t).drawn.identifiers in
+    subst AllFit (sym (pair_channels call orig a b s))
+    (each_put FitsIn (with_held s.channels a (Some leg)) b (Some far)
+    (each_put FitsIn s.channels a (Some leg) h
+    (end_fit call (leg_end orig a b) (leg_uuid call.uuid s) short (leg_uuid_short call.uuid s named)))
+    (end_fit call (far_end a b) (identifier_of (with_next_identifier t)) short (uuid_short t.config.settings.core_uuid drawn)))
 
 -- ---- a leg wins
 
@@ -131,5 +134,5 @@ fit_moves before stand winners =
       more = λ h. h;
       gone = λ slot old {s = s} there dead h. each_put FitsIn s.channels slot None h tt;
     })
-    (record { spent = λ h. h; pair = λ call orig a b {s = s} short first second h. pair_fit call orig a b s short h })
+    (record { spent = λ h. h; pair = λ call orig a b {s = s} short named first second h. pair_fit call orig a b s short named h })
     (λ a winner caller leg slots does won h. wins_fit a winner caller leg slots before does won stand winners h)

@@ -1,21 +1,24 @@
 -- Each act draws no more identifiers than it fills slots, but for those that it frees, and each identifier stands in one slot.
-use Rattle.std.proofs.Common.{◌≡◌, ℕ, ◌+◌, ◌<◌, length, Option, None, Some, unwrap_or, refl, sym, ap, subst, ◌∙◌, arith, length-set}
+use Rattle.std.proofs.Common.{◌≡◌, ℕ, ◌+◌, ◌<◌, false, List, length, Option, None, Some, unwrap_or, refl, sym, ap, subst, ◌∙◌, arith, length-set}
+use Rattle.fs_text.specs.Texts.{Text}
 use Rattle.fs_text.specs.declared.causes.Cause.{Cause}
 use Rattle.fs_chan.specs.declared.chan.Chan.{Chan}
 use Rattle.fs_chan.specs.Changes.{hung_up}
 use Rattle.fs_orig.specs.declared.winner.Winner.{Winner}
 use Rattle.fs_orig.specs.declared.winner.Winner.TheVariants.{App, Route}
 use Rattle.fs_orig.specs.Changes.{with_answer}
+use Rattle.fs_places.specs.Places.{held_in}
 use Rattle.fs_places.proofs.HeldLemmas.{IsFree, held_there}
 use Rattle.fs_state.specs.Switch.{Switch, chan_at, with_chan, with_next_identifier, identifier_of}
 use Rattle.fs_state.specs.Moves.{after_move_from, orig_changed, leg_changed, after_hangup}
 use Rattle.fs_machine.specs.declared.originations.Call.{Call}
 use Rattle.fs_machine.specs.declared.originations.End.{End}
-use Rattle.fs_machine.specs.Originations.{end_of, end_made, leg_end, far_end, pair_made, won_by, after_winning}
+use Rattle.fs_machine.specs.Originations.{end_of, end_made, named_end_made, leg_end, far_end, pair_made, is_misnamed, won_by, after_winning}
 use Rattle.fs_machine.proofs.Kept.{Stage, Fact, Links, raced, KeptByMoves}
 use Rattle.fs_machine.proofs.Walk.{state_told_kept, hung_kept}
 use Rattle.fs_machine.proofs.FrontLemmas.{Front, front_of, orig_changed_front, moves_by_front}
-use Rattle.fs_machine.proofs.SeenLemmas.{Seen, seen, put, Numbers, numbers_then, numbers_quietly, numbers_more, numbers_same, numbers_gone, numbers_new}
+use Rattle.fs_machine.proofs.SeenLemmas.{Seen, seen, put, Numbers, numbers_then, numbers_quietly, numbers_more, numbers_same, numbers_gone, numbers_new, numbers_named}
+use Rattle.fs_machine.proofs.NameLemmas.{name_foreign, name_unheld, leg_chan, with_leg, leg_channels}
 
 abbrev pub freed_by : Stage → ℕ
 freed_by None = 0
@@ -31,16 +34,27 @@ end_numbers : (call : Call) (end : End) (s : Switch) → end.slot < length s.cha
 end_numbers call end s within free =
     numbers_new (seen s) end.slot (end_of call end (identifier_of (with_next_identifier s))) within free refl
 
-pair_numbers : (call : Call) (orig a b : ℕ) (s : Switch) → IsFree Chan s.channels 1 a → IsFree Chan s.channels (a + 1) b →
+-- the other, under one of its own that is free
+leg_numbers : (uuid : Option Text) (call : Call) (end : End) (s : Switch) → end.slot < length s.channels → chan_at s end.slot ≡ None →
+    is_misnamed uuid s ≡ false → Numbers 0 (seen s) (seen (named_end_made uuid call end s))
+leg_numbers None call end s within free named = end_numbers call end s within free
+leg_numbers (Some uuid) call end s within free named =
+    numbers_named (seen s) end.slot (end_of call end uuid) within free (name_foreign uuid s named) (name_unheld uuid s named)
+
+pair_numbers : (call : Call) (orig a b : ℕ) (s : Switch) → is_misnamed call.uuid s ≡ false → IsFree Chan s.channels 1 a →
+    IsFree Chan s.channels (a + 1) b →
     Numbers 0 (seen s) (seen (pair_made call orig a b s))
-pair_numbers call orig a b s free_a free_b =
-    let t : Switch = end_made call (leg_end orig a b) s in
+pair_numbers call orig a b s named free_a free_b =
+    let t : Switch = with_leg call orig a b s in
     let u : Switch = end_made call (far_end a b) t in
-    let leg : Chan = end_of call (leg_end orig a b) (identifier_of (with_next_identifier s)) in
+    let leg : Chan = leg_chan call orig a b s in
     let still : chan_at t b ≡ None =
-    held_there s.channels a b (Some leg) (λ same. omega (arith, free_b.behind, same)) ∙ free_b.free in
-    numbers_quietly 0 (seen s) (seen t) (seen u) (end_numbers call (leg_end orig a b) s free_a.within free_a.free)
-    (end_numbers call (far_end a b) t (subst (λ n. b < n) (sym (length-set s.channels a (Some leg))) free_b.within) still)
+    ap (λ (channels : List (Option Chan)). held_in channels b) (leg_channels call orig a b s)
+    ∙ held_there s.channels a b (Some leg) (λ same. omega (arith, free_b.behind, same))
+    ∙ free_b.free in
+    let slots : length t.channels ≡ length s.channels = ap length (leg_channels call orig a b s) ∙ length-set s.channels a (Some leg) in
+    numbers_quietly 0 (seen s) (seen t) (seen u) (leg_numbers call.uuid call (leg_end orig a b) s free_a.within free_a.free named)
+    (end_numbers call (far_end a b) t (subst (λ n. b < n) (sym slots) free_b.within) still)
 
 module _ (x : Seen) where
   put_numbers : (more slot : ℕ) (old new : Chan) (s : Switch) → chan_at s slot ≡ Some old → new.uuid ≡ old.uuid → Numbers more x (seen s) →
@@ -94,7 +108,7 @@ module _ (x : Seen) where
       })
       (record {
         spent = λ h. h;
-        pair = λ call orig a b {n = n} {s = s} short first second h. numbers_quietly n x (seen s) (seen (pair_made call orig a b s)) h
-            (pair_numbers call orig a b s first second);
+        pair = λ call orig a b {n = n} {s = s} short named first second h.
+            numbers_quietly n x (seen s) (seen (pair_made call orig a b s)) h (pair_numbers call orig a b s named first second);
       })
       (λ a winner caller leg slots does won h. won_numbers winner (unwrap_or leg.slot 0) (raced slots before) h)

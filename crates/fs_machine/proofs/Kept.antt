@@ -27,7 +27,7 @@ use Rattle.fs_machine.specs.declared.attempts.Attempt.{Attempt}
 use Rattle.fs_machine.specs.declared.originations.Call.{Call}
 use Rattle.fs_machine.specs.Connections.{phase_at, conn_changed, admitted, parted}
 use Rattle.fs_machine.specs.Texts.{made_text}
-use Rattle.fs_machine.specs.Originations.{pair_made, target_of, group_made, after_winning}
+use Rattle.fs_machine.specs.Originations.{pair_made, is_misnamed, target_of, group_made, after_winning}
 use Rattle.fs_machine.specs.Attempts.{originate_begun, after_hangups, after_attempt, after_failure, death_of, with_group}
 use Rattle.fs_machine.specs.Owing.{after_job_begin, after_job_end}
 use Rattle.fs_machine.specs.Step.{arrived}
@@ -73,10 +73,12 @@ pub record KeptByCalls (P : Fact) : Type 0 where
   pub gone : (slot : ℕ) (old : Chan) {s : Switch} → chan_at s slot ≡ Some old → is_live old ≡ false → P (Some 0) s →
       P (Some 1) (with_chan slot None s)
 
--- how channels are born: each pair draws two identifiers, and fills two slots
+-- how channels are born: each pair fills two slots, and draws no more identifiers than that
 pub record KeptByBirths (P : Fact) : Type 0 where
   pub spent : {s : Switch} → P None s → P (Some 0) s
-  pub pair : (call : Call) (orig a b : ℕ) {n : ℕ} {s : Switch} → IsShortAddress call.exten call.context → IsFree Chan s.channels 1 a →
+  pub pair : (call : Call) (orig a b : ℕ) {n : ℕ} {s : Switch} → IsShortAddress call.exten call.context →
+      is_misnamed call.uuid s ≡ false →
+      IsFree Chan s.channels 1 a →
       IsFree Chan s.channels (a + 1) b →
       P (Some n) s → P (Some n) (pair_made call orig a b s)
 

@@ -5,7 +5,8 @@ use Rattle.std.proofs.lemmas.Option.{none-some, same_Some}
 use Rattle.fs_text.specs.Texts.{Text}
 use Rattle.fs_text.specs.declared.states.State.TheVariants.{CsHangup}
 use Rattle.fs_text.specs.declared.causes.Cause.{Cause}
-use Rattle.fs_text.specs.declared.causes.Cause.TheVariants.{LoseRace, SwitchCongestion}
+use Rattle.fs_text.specs.declared.causes.Cause.TheVariants.{LoseRace, NormalTemporaryFailure, SwitchCongestion}
+use Rattle.fs_vars.specs.Variables.{Variables}
 use Rattle.fs_chan.specs.declared.chan.Chan.{Chan}
 use Rattle.fs_chan.specs.Changes.{is_live, hung_up}
 use Rattle.fs_orig.specs.declared.caller.Caller.{Caller}
@@ -27,19 +28,20 @@ use Rattle.fs_state.specs.declared.conn.Conn.{Conn}
 use Rattle.fs_state.specs.declared.conn.Parting.TheVariants as parting
 use Rattle.fs_state.specs.declared.job.JobWork.{JobWork}
 use Rattle.fs_state.specs.declared.job.JobWork.TheVariants.{Sleep, Originate}
-use Rattle.fs_state.specs.Switch.{Switch, chan_at, with_chan, free_slot, with_next_identifier, identifier_of, next_orig_number, orig_of, with_orig, with_new_orig, without_orig, with_new_job, without_job, with_event}
+use Rattle.fs_state.specs.Switch.{Switch, chan_at, with_chan, free_slot, next_orig_number, orig_of, with_orig, with_new_orig, without_orig, with_new_job, without_job, with_event}
 use Rattle.fs_state.specs.Moves.{with_state_events, after_move_from, orig_changed_from, orig_changed, leg_changed, its_leg_changed, hangup_event, after_hangup_from, after_one_hangup, after_hangup}
 use Rattle.fs_state.proofs.LegTables.{Origs, Seat, seated, seat_if, seat_of, seat_in, seat_at, in_slot, Fewer, seat_number, seat_its, answer_spares, death_spares, touched_spares, row_there, HasPlace, changed_fewer, without_fewer, death_leaves_none, changed_or_old, new_or_old}
 use Rattle.fs_machine.specs.declared.attempts.Attempt.{Attempt}
 use Rattle.fs_machine.specs.declared.originations.Call.{Call}
 use Rattle.fs_machine.specs.Texts.{made_text, failed_text}
 use Rattle.fs_machine.specs.Connections.{conn_changed, admitted, parted, owed_since, not_owed}
-use Rattle.fs_machine.specs.Originations.{end_of, end_made, leg_end, far_end, pair_made, Made, made_dead, is_congested, made_in, with_second, free_pair, made_of, leg_made, MadeGroup, group_made, won_by, after_winning}
+use Rattle.fs_machine.specs.Originations.{end_made, leg_end, far_end, pair_made, set_all, no_variables, own_uuid, call_with, is_misnamed, Made, made_dead, is_congested, made_in, with_second, free_pair, loopback_made, made_with, made_of, leg_made, MadeGroup, group_made, won_by, after_winning}
 use Rattle.fs_machine.specs.Attempts.{first_group, orig_begun, tried_by_job, originate_begun, death_of, with_group}
 use Rattle.fs_machine.specs.Owing.{after_job_begin, after_job_end}
 use Rattle.fs_machine.specs.Sound.{HasLeg, LegsAreChannels}
 use Rattle.fs_machine.proofs.Kept.{Fact, Links, KeptByCalls, KeptByBirths, raced, HasWon, KeptByMoves}
 use Rattle.fs_machine.proofs.Walk.{new_lives, hangup_dead, state_told_kept, pair_hung_kept, hung_kept, leg_made_kept, group_made_kept}
+use Rattle.fs_machine.proofs.NameLemmas.{leg_by, leg_chan, far_chan, pair_channels}
 use Rattle.fs_machine.proofs.FrontLemmas.{Front, orig_changed_front, conn_unread}
 use Rattle.fs_machine.proofs.RestLemmas.{Rest, rest_of, orig_changed_rest, hung_rest, group_made_rest, won_rest}
 
@@ -241,29 +243,37 @@ answered_legs place slot number s h = by (orig_of s number) refl
 -- ---- a pair is made
 
 -- the second slot is free still
-second_free : (call : Call) (orig a b : ℕ) (s : Switch) → IsFree Chan s.channels (a + 1) b →
-    chan_at (end_made call (leg_end orig a b) s) b ≡ None
-second_free call orig a b s free_b =
-    held_there s.channels a b (Some (end_of call (leg_end orig a b) (identifier_of (with_next_identifier s))))
-    (λ same. omega (arith, free_b.behind, same))
-    ∙ free_b.free
+second_free : (leg : Chan) (a b : ℕ) (channels : Channels) → IsFree Chan channels (a + 1) b →
+    held_in (with_held channels a (Some leg)) b ≡ None
+second_free leg a b channels free_b =
+    held_there channels a b (Some leg) (λ same. omega (arith, free_b.behind, same)) ∙ free_b.free
 
 -- what stands somewhere stands there still
 pair_spares : (call : Call) (orig a b : ℕ) (s : Switch) → IsFree Chan s.channels 1 a → IsFree Chan s.channels (a + 1) b → (slot : ℕ)
     (c : Chan) → chan_at s slot ≡ Some c → chan_at (pair_made call orig a b s) slot ≡ Some c
 pair_spares call orig a b s free_a free_b slot c there =
-    let leg : Option Chan = Some (end_of call (leg_end orig a b) (identifier_of (with_next_identifier s))) in
-    let t : Switch = end_made call (leg_end orig a b) s in
-    let far : Option Chan = Some (end_of call (far_end a b) (identifier_of (with_next_identifier t))) in
-    let first : chan_at t slot ≡ Some c = still_there s.channels a leg slot c (not_free s.channels a slot c free_a.free there) there in
-    still_there t.channels b far slot c (not_free t.channels b slot c (second_free call orig a b s free_b) first) first
+    let leg : Chan = leg_chan call orig a b s in
+    let with_one : Channels = with_held s.channels a (Some leg) in
+    let first : held_in with_one slot ≡ Some c =
+    still_there s.channels a (Some leg) slot c (not_free s.channels a slot c free_a.free there) there in
+    ap (λ (channels : Channels). held_in channels slot) (pair_channels call orig a b s)
+    ∙ still_there with_one b (Some (far_chan call orig a b s)) slot c
+    (not_free with_one b slot c (second_free leg a b s.channels free_b) first) first
+
+-- of what tells of legs a pair changes the channels alone
+pair_roles : (call : Call) (orig a b : ℕ) (s : Switch) →
+    roles_of (pair_made call orig a b s) ≡ record (roles_of s) { channels = (pair_made call orig a b s).channels }
+pair_roles call orig a b s =
+    leg_by (λ t. roles_of (end_made call (far_end a b) t) ≡ record (roles_of s) { channels = (end_made call (far_end a b) t).channels })
+    call.uuid call (leg_end orig a b) s refl (λ own. refl)
 
 pair_legs : (call : Call) (orig a b : ℕ) (s : Switch) → IsFree Chan s.channels 1 a → IsFree Chan s.channels (a + 1) b →
     LegsStand (roles_of s) → LegsStand (roles_of (pair_made call orig a b s))
 pair_legs call orig a b s free_a free_b h =
-    legs_follow (roles_of s) (pair_made call orig a b s).channels
-    (λ seat leg. leg_still s.channels (pair_made call orig a b s).channels seat leg
-    (pair_spares call orig a b s free_a free_b leg.at leg.chan leg.there)) h
+    let channels : Channels = (pair_made call orig a b s).channels in
+    subst LegsStand (sym (pair_roles call orig a b s))
+    (legs_follow (roles_of s) channels
+    (λ seat leg. leg_still s.channels channels seat leg (pair_spares call orig a b s free_a free_b leg.at leg.chan leg.there)) h)
 
 -- ---- a leg is made
 
@@ -282,15 +292,15 @@ pair_leg call orig a s is_a None is_b live = absurd (true≢false (sym live))
 pair_leg call orig a s is_a (Some b) is_b live =
     let free_a : IsFree Chan s.channels 1 a = free_place Chan s.channels 1 a is_a in
     let free_b : IsFree Chan s.channels (a + 1) b = free_place Chan s.channels (a + 1) b is_b in
-    let leg : Chan = end_of call (leg_end orig a b) (identifier_of (with_next_identifier s)) in
-    let t : Switch = end_made call (leg_end orig a b) s in
+    let leg : Chan = leg_chan call orig a b s in
     record {
       leg = record {
         at = a;
         is = refl;
         chan = leg;
         there =
-            held_there t.channels b a (Some (end_of call (far_end a b) (identifier_of (with_next_identifier t))))
+            ap (λ (channels : Channels). held_in channels a) (pair_channels call orig a b s)
+            ∙ held_there (with_held s.channels a (Some leg)) b a (Some (far_chan call orig a b s))
             (λ same. omega (arith, free_b.behind, same))
             ∙ held_here s.channels a (Some leg) free_a.within;
         live = new_lives;
@@ -308,21 +318,32 @@ loopback_leg call orig s false live = by (free_slot 1 s) refl live
     by None is live = absurd (true≢false (sym live))
     by (Some a) is live = pair_leg call orig a s is (free_slot (a + 1) s) refl live
 
-made_leg : (endpoint : Endpoint) (caller : Caller) (orig : ℕ) (s : Switch) → MadeStands orig s (made_of endpoint caller orig s)
-made_leg (Dead cause) caller orig s live = absurd (true≢false (sym live))
-made_leg (Loopback exten context) caller orig s live =
-    loopback_leg (record { exten = exten; context = context; caller = caller }) orig s (is_congested s) live
+named_leg : (call : Call) (orig : ℕ) (s : Switch) (misnamed : Bool) →
+    MadeStands orig s (if misnamed then made_dead NormalTemporaryFailure s else loopback_made call orig s)
+named_leg call orig s true live = absurd (true≢false (sym live))
+named_leg call orig s false live = loopback_leg call orig s (is_congested s) live
+
+leg_with : (exten context : Text) (vars : Option Variables) (caller : Caller) (orig : ℕ) (s : Switch) →
+    MadeStands orig s (made_with exten context vars caller orig s)
+leg_with exten context None caller orig s live = absurd (true≢false (sym live))
+leg_with exten context (Some vars) caller orig s live =
+    named_leg (call_with exten context vars caller) orig s (is_misnamed (own_uuid vars) s) live
+
+made_leg : (endpoint : Endpoint) (pairs : List (Text × Text)) (caller : Caller) (orig : ℕ) (s : Switch) →
+    MadeStands orig s (made_of endpoint pairs caller orig s)
+made_leg (Dead cause) pairs caller orig s live = absurd (true≢false (sym live))
+made_leg (Loopback exten context) pairs caller orig s live = leg_with exten context (set_all pairs no_variables) caller orig s live
 
 leg_stands : (plan : LegPlan) (caller : Caller) (orig : ℕ) (s : Switch) → MadeStands orig s (leg_made plan caller orig s)
 unfolding leg_made
-leg_stands plan caller orig s = made_leg (endpoint_of plan.endpoint) caller orig s
+leg_stands plan caller orig s = made_leg (endpoint_of plan.endpoint) plan.pairs caller orig s
 
 -- ---- the legs of a group are made
 
 spared_births : (slot : ℕ) (c : Chan) → KeptByBirths (λ b s. chan_at s slot ≡ Some c)
 spared_births slot c = record {
   spent = λ h. h;
-  pair = λ call orig a b {s = s} short first second h. pair_spares call orig a b s first second slot c h;
+  pair = λ call orig a b {s = s} short named first second h. pair_spares call orig a b s first second slot c h;
 }
 
 -- those that live stand in slots that were free, each in one of its own
@@ -685,7 +706,9 @@ legs_births : KeptByBirths Legs
 legs_births =
     record {
       spent = λ h. h;
-      pair = λ call orig a b {s = s} short first second h few. pair_legs call orig a b s first second (h few);
+      pair = λ call orig a b {s = s} short named first second h few.
+          pair_legs call orig a b s first second
+          (h (subst (λ (n : ℕ). n < 2 ^ 62) (ap (λ (r : Roles). r.drawn) (pair_roles call orig a b s)) few));
     }
 
 originates_legs : (conn : ℕ) (groups : List (List LegPlan)) (winner : Winner) (caller : Caller) (timeout : Option ℕ) (s : Switch) →

@@ -11,6 +11,7 @@ pub mod ActWalk
 pub mod ConstantMoves
 pub mod KeepLemmas
 pub mod WaitingLemmas
+pub mod NameLemmas
 pub mod OrderLemmas
 pub mod FramesLaws
 pub mod ConcernLemmas
@@ -26,6 +27,7 @@ pub mod DueLaws
 pub mod CloseLaws
 pub mod PartnerLemmas
 pub mod SeenLemmas
+pub mod TermLemmas
 pub mod TieLemmas
 pub mod PartnerMoves
 pub mod IdentifierMoves

@@ -1,5 +1,5 @@
 -- Changes of connections, and jobs that begin and end, in a switch.
-use Rattle.std.proofs.Common.{◌≡◌, ◌≢◌, ℕ, ◌+◌, ◌-◌, ◌^◌, ◌<◌, ◌≤◌, min, List, ◌∷◌, length, Option, None, Some, unwrap_or, refl, sym, ap, subst, ◌∙◌, arith, []}
+use Rattle.std.proofs.Common.{◌≡◌, ◌≢◌, ℕ, ◌+◌, ◌-◌, ◌^◌, ◌<◌, ◌≤◌, min, List, length, Option, None, Some, unwrap_or, refl, sym, ap, subst, ◌∙◌, arith}
 use Rattle.std.proofs.lemmas.List.{length-map}
 use Rattle.fs_text.specs.Texts.{Text}
 use Rattle.fs_chan.specs.Moments.{moment_after}
@@ -20,8 +20,8 @@ use Rattle.fs_state.specs.declared.job.JobWork.{JobWork}
 use Rattle.fs_state.specs.declared.job.JobWork.TheVariants.{Sleep, Originate}
 use Rattle.fs_state.specs.Switch.{Switch, next_orig_number, next_job_number, conn_of, with_conn, with_new_job, with_new_orig, without_job, without_conn, without_orig}
 use Rattle.fs_machine.specs.Connections.{conn_changed_from, conn_changed, owed_since, not_owed}
-use Rattle.fs_machine.specs.Originations.{MadeGroup, group_made}
-use Rattle.fs_machine.specs.Attempts.{seconds, first_group, tried_by_job, originate_begun}
+use Rattle.fs_machine.specs.Originations.{seconds, MadeGroup, group_made}
+use Rattle.fs_machine.specs.Attempts.{first_group, tried_by_job, originate_begun}
 use Rattle.fs_machine.specs.Owing.{after_job_begin, after_job_end}
 use Rattle.fs_machine.specs.Step.{new_conn, arrived}
 use Rattle.fs_machine.specs.Owed.{Parts}

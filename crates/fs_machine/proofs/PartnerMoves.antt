@@ -7,12 +7,13 @@ use Rattle.fs_orig.specs.declared.winner.Winner.{Winner}
 use Rattle.fs_orig.specs.declared.winner.Winner.TheVariants.{App, Route}
 use Rattle.fs_orig.specs.Changes.{with_answer}
 use Rattle.fs_places.proofs.HeldLemmas.{IsFree, held_within}
-use Rattle.fs_state.specs.Switch.{Switch, chan_at, with_chan, with_next_identifier, identifier_of}
+use Rattle.fs_state.specs.Switch.{Switch, chan_at, with_chan}
 use Rattle.fs_state.specs.Moves.{after_move_from, orig_changed, leg_changed, partner_of, partner_at, after_one_hangup, after_hangup_with, after_hangup}
 use Rattle.fs_machine.specs.declared.originations.Call.{Call}
-use Rattle.fs_machine.specs.Originations.{end_of, end_made, leg_end, far_end, pair_made, won_by, after_winning}
+use Rattle.fs_machine.specs.Originations.{pair_made, won_by, after_winning}
 use Rattle.fs_machine.proofs.Kept.{Fact, Links, raced, KeptByMoves}
 use Rattle.fs_machine.proofs.Walk.{new_lives, execute_lives, routing_lives, state_told_kept}
+use Rattle.fs_machine.proofs.NameLemmas.{leg_chan, far_chan, pair_channels}
 use Rattle.fs_machine.proofs.FrontLemmas.{Front, front_of, orig_changed_front, moves_by_front}
 use Rattle.fs_machine.proofs.PartnerLemmas.{one_closed, two_closed}
 use Rattle.fs_machine.proofs.TieLemmas.{lives_as, named_in, Ties, ties_put, ties_gone, ties_joined, cut_off_ties}
@@ -49,11 +50,10 @@ hung_partners cause slot s h = by (partner_at s slot) refl
 pair_partners : (call : Call) (orig a b : ℕ) (s : Switch) → IsFree Chan s.channels 1 a → IsFree Chan s.channels (a + 1) b →
     Ties partner_of s.channels → Ties partner_of (pair_made call orig a b s).channels
 pair_partners call orig a b s free_a free_b h =
-    let t : Switch = end_made call (leg_end orig a b) s in
-    ties_joined partner_of s.channels a b (end_of call (leg_end orig a b) (identifier_of (with_next_identifier s)))
-    (end_of call (far_end a b) (identifier_of (with_next_identifier t))) (λ same. omega (arith, free_b.behind, same))
-    free_a.within free_b.within (ap (option_and_then partner_of) free_a.free)
-    (ap (option_and_then partner_of) free_b.free) refl refl new_lives new_lives h
+    subst (Ties partner_of) (sym (pair_channels call orig a b s))
+    (ties_joined partner_of s.channels a b (leg_chan call orig a b s) (far_chan call orig a b s)
+    (λ same. omega (arith, free_b.behind, same)) free_a.within free_b.within (ap (option_and_then partner_of) free_a.free)
+    (ap (option_and_then partner_of) free_b.free) refl refl new_lives new_lives h)
 
 won_partners : (winner : Winner) (slot : ℕ) (s : Switch) → Ties partner_of s.channels →
     Ties partner_of (after_winning winner slot s).channels
@@ -92,6 +92,6 @@ partners_moves before =
     })
     (record {
       spent = λ h. h;
-      pair = λ call orig a b {s = s} short first second h. pair_partners call orig a b s first second h;
+      pair = λ call orig a b {s = s} short named first second h. pair_partners call orig a b s first second h;
     })
     (λ a winner caller leg slots does won h. won_partners winner (unwrap_or leg.slot 0) (raced slots before) h)

@@ -20,10 +20,12 @@ use Rattle.fs_state.specs.Counts.{Tallies}
 use Rattle.fs_state.specs.Queues.{Frames}
 use Rattle.fs_state.specs.Switch.{Switch, chan_at, with_chan, orig_of}
 use Rattle.fs_state.specs.Moves.{after_move_from, after_move, orig_changed_from, orig_changed, leg_changed, after_hangup}
-use Rattle.fs_machine.specs.Originations.{MadeGroup, group_made, won_by, after_winning}
+use Rattle.fs_machine.specs.declared.originations.Call.{Call}
+use Rattle.fs_machine.specs.Originations.{leg_end, pair_made, MadeGroup, group_made, won_by, after_winning}
 use Rattle.fs_machine.specs.Attempts.{after_hangups, with_group}
 use Rattle.fs_machine.specs.Work.{after_work}
-use Rattle.fs_machine.proofs.Kept.{Stage, Fact, KeptByCalls, DoesJob}
+use Rattle.fs_machine.proofs.Kept.{Stage, Fact, KeptByCalls, KeptByBirths, DoesJob}
+use Rattle.fs_machine.proofs.NameLemmas.{leg_by}
 use Rattle.fs_machine.proofs.Walk.{state_told_kept, hung_kept, all_hung_kept, worked_kept, group_made_kept}
 
 -- what is left of a switch without channels, globals, news and identifiers; of originations that is their numbers
@@ -129,12 +131,23 @@ won_rest winner slot s = moved_rest (won_by winner) slot s
 
 -- ---- the legs of a group are made
 
+pair_rest : (call : Call) (orig a b : ℕ) (s : Switch) → rest_of (pair_made call orig a b s) ≡ rest_of s
+pair_rest call orig a b s =
+    leg_by (λ t. rest_of t ≡ rest_of s) call.uuid call (leg_end orig a b) s refl (λ own. refl)
+
+-- what is left does not tell that a pair was made
+pub births_by_rest : (P : Fact) → ((b : Stage) (t u : Switch) → P b t → rest_of u ≡ rest_of t → P b u) →
+    ((t : Switch) → P None t → P (Some 0) t) → KeptByBirths P
+births_by_rest P same spent = record {
+  spent = λ {s = s} h. spent s h;
+  pair = λ call orig a b {n = n} {s = s} short named first second h.
+      same (Some n) s (pair_made call orig a b s) h (pair_rest call orig a b s);
+}
+
 pub group_made_rest : (plans : List LegPlan) (caller : Caller) (orig : ℕ) (s : Switch) →
     rest_of (group_made plans caller orig s).state ≡ rest_of s
 group_made_rest plans caller orig s =
-    group_made_kept (SameRest s)
-    (record { spent = λ h. h; pair = λ call orig a b short first second h. h }) plans caller orig {n = 0}
-    {s = s} refl
+    group_made_kept (SameRest s) (births_by_rest (SameRest s) (λ b t u h e. e ∙ h) (λ t h. h)) plans caller orig {n = 0} {s = s} refl
 
 -- and an origination comes to them
 pub regrouped_rest : (number : ℕ) (plans : List LegPlan) (caller : Caller) (s : Switch) →

@@ -1,8 +1,8 @@
 -- What of a switch tells identifiers, and what becomes of it.
-use Rattle.std.proofs.Common.{◌≡◌, ℕ, ◌+◌, ◌-◌, ◌<◌, ◌≤◌, ◌^◌, min, List, length, Option, None, Some, option_map, refl, sym, ap, ◌∙◌, arith, length-set}
-use Rattle.fs_text.specs.CoreId.{uuid}
+use Rattle.std.proofs.Common.{◌≡◌, ℕ, ◌+◌, ◌-◌, ◌<◌, ◌≤◌, ◌^◌, min, false, List, length, Option, None, Some, option_map, refl, sym, ap, ◌∙◌, arith, length-set}
+use Rattle.fs_text.specs.CoreId.{uuid, owns, IsCore}
 use Rattle.fs_text.specs.Texts.{Text}
-use Rattle.fs_text.proofs.NamingLemmas.{Naming, naming_kept, naming_more}
+use Rattle.fs_text.proofs.NamingLemmas.{Naming, naming_kept, naming_more, naming_named}
 use Rattle.fs_doc.specs.Reading.{Configuration}
 use Rattle.fs_chan.specs.declared.chan.Chan.{Chan}
 use Rattle.fs_places.specs.Places.{held_in, with_held}
@@ -29,9 +29,10 @@ uuid_of c = c.uuid
 abbrev pub uuid_in : List (Option Chan) → ℕ → Option Text
 uuid_in channels slot = option_map uuid_of (held_in channels slot)
 
--- each identifier was drawn, and stands in one slot
-abbrev pub Named : Seen → Type 0
-Named x = Naming x.config.settings.core_uuid x.identifiers (uuid_in x.channels)
+-- each identifier was drawn, or is not the switch's, and stands in one slot
+pub record Named (x : Seen) : Type 0 where
+  pub core : IsCore x.config.settings.core_uuid
+  pub naming : Naming x.config.settings.core_uuid x.identifiers (uuid_in x.channels)
 
 -- No more identifiers are drawn than slots are filled, but for so many that were freed, and each identifier stands in one slot still,
 -- unless the numbers are used up.
@@ -74,8 +75,11 @@ numbers_put : (more : ℕ) (x : Seen) (slot : ℕ) (new : Option Chan) →
     ((q : ℕ) (text : Text) → uuid_in (with_held x.channels slot new) q ≡ Some text → uuid_in x.channels q ≡ Some text) →
     taken_in x.channels ≤ taken_in (with_held x.channels slot new) + more → Numbers more x (put slot new x)
 numbers_put more x slot new had fewer = record {
-  names = λ few h. naming_kept x.config.settings.core_uuid x.identifiers (uuid_in x.channels)
-      (uuid_in (with_held x.channels slot new)) had h;
+  names = λ few h. record {
+    core = h.core;
+    naming = naming_kept x.config.settings.core_uuid x.identifiers (uuid_in x.channels)
+        (uuid_in (with_held x.channels slot new)) had h.naming;
+  };
   few = λ few. few;
   most = omega (arith, fewer);
   slots = length-set x.channels slot new;
@@ -107,12 +111,33 @@ pub numbers_new : (x : Seen) (slot : ℕ) (new : Chan) → slot < length x.chann
     new.uuid ≡ uuid x.config.settings.core_uuid (min (x.identifiers + 1) (2 ^ 62 - 1)) →
     Numbers 0 x (record (put slot (Some new) x) { identifiers = min (x.identifiers + 1) (2 ^ 62 - 1) })
 numbers_new x slot new within free named = record {
-  names =
-      λ few h. naming_more x.config.settings.core_uuid x.identifiers (min (x.identifiers + 1) (2 ^ 62 - 1)) slot (uuid_in x.channels)
-      (uuid_in (with_held x.channels slot (Some new))) (omega (arith, few)) (omega (arith, few))
-      (ap (option_map uuid_of) (held_here x.channels slot (Some new) within) ∙ ap Some named)
-      (λ q other. ap (option_map uuid_of) (held_there x.channels slot q (Some new) other)) h;
+  names = λ few h. record {
+    core = h.core;
+    naming =
+        naming_more x.config.settings.core_uuid x.identifiers (min (x.identifiers + 1) (2 ^ 62 - 1)) slot (uuid_in x.channels)
+        (uuid_in (with_held x.channels slot (Some new))) h.core (omega (arith, few)) (omega (arith, few))
+        (ap (option_map uuid_of) (held_here x.channels slot (Some new) within) ∙ ap Some named)
+        (λ q other. ap (option_map uuid_of) (held_there x.channels slot q (Some new) other)) h.naming;
+  };
   few = λ few. omega (arith, few);
+  most = omega (arith, taken_more x.channels slot new within free);
+  slots = length-set x.channels slot (Some new);
+}
+
+-- a channel under an identifier of its own
+pub numbers_named : (x : Seen) (slot : ℕ) (new : Chan) → slot < length x.channels → held_in x.channels slot ≡ None →
+    owns x.config.settings.core_uuid new.uuid ≡ false → ((q : ℕ) → uuid_in x.channels q ≡ Some new.uuid → ⊥) →
+    Numbers 0 x (put slot (Some new) x)
+numbers_named x slot new within free foreign unheld = record {
+  names = λ few h. record {
+    core = h.core;
+    naming =
+        naming_named x.config.settings.core_uuid x.identifiers slot new.uuid (uuid_in x.channels)
+        (uuid_in (with_held x.channels slot (Some new))) foreign
+        (ap (option_map uuid_of) (held_here x.channels slot (Some new) within))
+        (λ q other. ap (option_map uuid_of) (held_there x.channels slot q (Some new) other)) unheld h.naming;
+  };
+  few = λ few. few;
   most = omega (arith, taken_more x.channels slot new within free);
   slots = length-set x.channels slot (Some new);
 }

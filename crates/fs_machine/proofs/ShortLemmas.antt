@@ -40,11 +40,11 @@ use Rattle.fs_machine.proofs.Kept.{IsShortWinner}
 
 -- ---- tests
 
-left_holds : (a b : Bool) → (a && b) ≡ true → a ≡ true
+pub left_holds : (a b : Bool) → (a && b) ≡ true → a ≡ true
 left_holds true b h = refl
 left_holds false b h = h
 
-right_holds : (a b : Bool) → (a && b) ≡ true → b ≡ true
+pub right_holds : (a b : Bool) → (a && b) ≡ true → b ≡ true
 right_holds true b h = h
 right_holds false b h = absurd (cc)
 
@@ -280,16 +280,16 @@ endpoint_short text =
 cut_short : (text : Text) → length (cut text) ≤ 256
 cut_short text = omega (arith, length-take (min 256 (length text)) text)
 
-uuid_short : (core n : ℕ) → length (uuid core n) ≤ 256
+pub uuid_short : (core n : ℕ) → length (uuid core n) ≤ 256
 uuid_short core n = omega (arith, uuid_length core n)
 
 name_short : (exten : Text) (direction : Direction) → length exten ≤ 256 → length (loopback_name exten direction) ≤ 267
 name_short exten Outbound short = simp length-append (omega (arith, short))
 name_short exten Inbound short = simp length-append (omega (arith, short))
 
-pub profile_short : (call : Call) (direction : Direction) (core n : ℕ) → endpoints.IsShortAddress call.exten call.context →
-    HasShortFields (loopback_profile call direction (uuid core n))
-profile_short call direction core n short = record {
+pub profile_short : (call : Call) (direction : Direction) (uuid : Text) → endpoints.IsShortAddress call.exten call.context →
+    length uuid ≤ 256 → HasShortFields (loopback_profile call direction uuid)
+profile_short call direction uuid short small = record {
   destination_number = short.exten_short;
   caller_id_name = cut_short call.caller.name;
   caller_id_number = cut_short call.caller.number;
@@ -298,7 +298,7 @@ profile_short call direction core n short = record {
   context = short.context_short;
   dialplan = omega arith;
   source = omega arith;
-  uuid = uuid_short core n;
+  uuid = small;
   chan_name = name_short call.exten direction short.exten_short;
   network_addr = omega arith;
   username = omega arith;

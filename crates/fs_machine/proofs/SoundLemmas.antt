@@ -165,17 +165,20 @@ profiles_are_short config entries small run =
 
 -- ---- identifiers
 
--- each was drawn and stands in one slot, and for each of them a slot is filled, or an entry was paid
+-- each stands in one slot, and for each of them a slot is filled, or an entry was paid
 record Counted (s : Switch) : Type 0 where
   named : Named (seen s)
   slots : length s.channels ≡ s.config.settings.max_sessions + 1
   paid : 64 * s.drawn.identifiers ≤ s.cost + 64 * taken_in s.channels
 
-none_counted : (config : Configuration) → Counted (empty config)
-none_counted config = record {
-  named =
-      naming_none config.settings.core_uuid 0 (uuid_in (empty config).channels)
-      (λ q. ap (option_map uuid_of) (nothing_held Chan (config.settings.max_sessions + 1) q));
+none_counted : (config : Configuration) → IsWithin config → Counted (empty config)
+none_counted config within = record {
+  named = record {
+    core = within.settings.core;
+    naming =
+        naming_none config.settings.core_uuid 0 (uuid_in (empty config).channels)
+        (λ q. ap (option_map uuid_of) (nothing_held Chan (config.settings.max_sessions + 1) q));
+  };
   slots = no_places_length Chan (config.settings.max_sessions + 1);
   paid = omega arith;
 }
@@ -225,10 +228,10 @@ told_apart : (s : Switch) → Named (seen s) → IdentifiersDiffer s
 told_apart s h = record {
   apart =
       λ slot other c d is_c is_d other_slot same. other_slot
-      (h.once slot other c.uuid (ap (option_map uuid_of) is_c) (ap (option_map uuid_of) is_d ∙ ap Some (sym same)));
+      (h.naming.once slot other c.uuid (ap (option_map uuid_of) is_c) (ap (option_map uuid_of) is_d ∙ ap Some (sym same)));
 }
 
 pub identifiers_differ : (config : Configuration) (entries : List Entry) → IsWithin config → IsRunFrom (empty config) entries →
     IdentifiersDiffer (run_from (empty config) entries)
 identifiers_differ config entries within run =
-    told_apart (run_from (empty config) entries) (run_counted (empty config) entries within.settings run (none_counted config)).named
+    told_apart (run_from (empty config) entries) (run_counted (empty config) entries within.settings run (none_counted config within)).named

@@ -1,5 +1,5 @@
 -- The one walk through what channels do: a fact that bears each of their moves is kept by all that they do.
-use Rattle.std.proofs.Common.{◌≡◌, ℕ, ◌+◌, ◌==◌, nat_lt, Bool, true, false, if◌then◌else◌, List, [], ◌∷◌, length, Option, None, Some, option_map, option_and_then, is_none, refl, sym, ap, subst, ◌∙◌, arith}
+use Rattle.std.proofs.Common.{◌≡◌, ℕ, ◌+◌, ◌==◌, nat_lt, Bool, true, false, if◌then◌else◌, List, [], ◌∷◌, length, Option, None, Some, option_map, option_and_then, is_none, refl, sym, ap, subst, ◌∙◌}
 use Rattle.fs_text.specs.declared.states.State.{State}
 use Rattle.fs_text.specs.declared.states.State.TheVariants.{CsNew, CsInit, CsRouting, CsExecute, CsPark, CsConsumeMedia, CsHangup, CsReporting}
 use Rattle.fs_text.specs.State.{state_row, state_number}
@@ -41,7 +41,7 @@ use Rattle.fs_state.specs.Moves.{plain_event, with_leaving_event, with_coming_ev
 use Rattle.fs_machine.specs.declared.originations.Call.{Call}
 use Rattle.fs_machine.specs.Applications.{with_assignment, after_assignment, after_sleep, state_at, after_park_in, after_effect, argument_in, executed_within, after_running_next, after_running_from, after_running}
 use Rattle.fs_machine.specs.Work.{with_variables, routed_to, has_xml, actions_for, too_long_cause, found_for, routed_by, after_routing_from, first_state, after_wait, after_work_in, after_work_from, after_work}
-use Rattle.fs_machine.specs.Originations.{Made, made_in, with_second, free_pair, is_congested, made_of, leg_made, group_made}
+use Rattle.fs_machine.specs.Originations.{Made, made_dead, made_in, with_second, free_pair, is_congested, loopback_made, set_all, no_variables, own_uuid, call_with, is_misnamed, made_with, made_of, leg_made, group_made}
 use Rattle.fs_machine.specs.Attempts.{after_hangups}
 use Rattle.fs_machine.proofs.ShortLemmas.{sent_short, application_short, endpoint_short}
 use Rattle.fs_machine.proofs.Kept.{Stage, Fact, Stays, KeptByCalls, KeptByBirths}
@@ -421,31 +421,46 @@ module _ (P : Fact) (births : KeptByBirths P) where
   either_made true x y first second = first
   either_made false x y first second = second
 
-  pair_kept : (call : Call) (orig : ℕ) {n : ℕ} {s : Switch} → endpoints.IsShortAddress call.exten call.context → P (Some n) s →
-      P (Some n) (made_in call orig (free_pair s) s).state
-  pair_kept call orig {n} {s} short h = first (free_slot 1 s) refl
+  pair_kept : (call : Call) (orig : ℕ) {n : ℕ} {s : Switch} → endpoints.IsShortAddress call.exten call.context →
+      is_misnamed call.uuid s ≡ false → P (Some n) s → P (Some n) (made_in call orig (free_pair s) s).state
+  pair_kept call orig {n} {s} short named h = first (free_slot 1 s) refl
     where
       second : (a : ℕ) → free_slot 1 s ≡ Some a → (found : Option ℕ) → free_slot (a + 1) s ≡ found →
           P (Some n) (made_in call orig (option_map (λ b. (a, b)) found) s).state
       second a is_a None is = h
       second a is_a (Some b) is =
-          births.pair call orig a b short (free_place Chan s.channels 1 a is_a) (free_place Chan s.channels (a + 1) b is) h
+          births.pair call orig a b short named (free_place Chan s.channels 1 a is_a) (free_place Chan s.channels (a + 1) b is) h
 
       first : (found : Option ℕ) → free_slot 1 s ≡ found →
           P (Some n) (made_in call orig (option_and_then (with_second s) found) s).state
       first None is = h
       first (Some a) is = second a is (free_slot (a + 1) s) refl
 
-  made_kept : (endpoint : Endpoint) (caller : Caller) (orig : ℕ) {n : ℕ} {s : Switch} → endpoints.IsShortEndpoint endpoint → P (Some n) s →
-      P (Some n) (made_of endpoint caller orig s).state
-  made_kept (Dead cause) caller orig short h = h
-  made_kept (Loopback exten context) caller orig {s} short h =
-      either_made (is_congested s) _ _ h (pair_kept (record { exten = exten; context = context; caller = caller }) orig short h)
+  with_kept : (exten context : Text) (vars : Option Variables) (caller : Caller) (orig : ℕ) {n : ℕ} {s : Switch} →
+      endpoints.IsShortAddress exten context → P (Some n) s →
+      P (Some n) (made_with exten context vars caller orig s).state
+  with_kept exten context None caller orig short h = h
+  with_kept exten context (Some vars) caller orig {n} {s} short h = by (is_misnamed (own_uuid vars) s) refl
+    where
+      call : Call
+      call = call_with exten context vars caller
+
+      by : (test : Bool) → is_misnamed (own_uuid vars) s ≡ test →
+          P (Some n) (if test then made_dead NormalTemporaryFailure s else loopback_made call orig s).state
+      by true is = h
+      by false is = either_made (is_congested s) _ _ h (pair_kept call orig short is h)
+
+  made_kept : (endpoint : Endpoint) (pairs : List (Text × Text)) (caller : Caller) (orig : ℕ) {n : ℕ} {s : Switch} →
+      endpoints.IsShortEndpoint endpoint → P (Some n) s →
+      P (Some n) (made_of endpoint pairs caller orig s).state
+  made_kept (Dead cause) pairs caller orig short h = h
+  made_kept (Loopback exten context) pairs caller orig short h =
+      with_kept exten context (set_all pairs no_variables) caller orig short h
 
   pub leg_made_kept : (plan : LegPlan) (caller : Caller) (orig : ℕ) {n : ℕ} {s : Switch} → P (Some n) s →
       P (Some n) (leg_made plan caller orig s).state
   unfolding leg_made
-  leg_made_kept plan caller orig h = made_kept (endpoint_of plan.endpoint) caller orig (endpoint_short plan.endpoint) h
+  leg_made_kept plan caller orig h = made_kept (endpoint_of plan.endpoint) plan.pairs caller orig (endpoint_short plan.endpoint) h
 
   pub group_made_kept : (plans : List LegPlan) (caller : Caller) (orig : ℕ) {n : ℕ} {s : Switch} → P (Some n) s →
       P (Some n) (group_made plans caller orig s).state

@@ -1,6 +1,6 @@
 -- What an api command answers, and what it does to the switch.
-use Rattle.std.specs.Prelude.{◌≡◌, ℕ, ◌==◌, nat_lt, List, [], ◌++◌, length, map, Bool, Option, None, Some, is_some, unwrap_or, Result, Ok, Err, codes, if◌then◌else◌}
-use Rattle.std.specs.List.{concat, list_all}
+use Rattle.std.specs.Prelude.{◌≡◌, ℕ, nat_lt, [], ◌++◌, length, map, Bool, Option, None, Some, is_some, unwrap_or, Result, Ok, Err, codes, if◌then◌else◌}
+use Rattle.std.specs.List.{concat}
 use Rattle.std.specs.Option.{option_and_then}
 use Rattle.fs_text.specs.Texts.{Text}
 use Rattle.fs_text.specs.declared.causes.Cause.{Cause}
@@ -16,9 +16,9 @@ use Rattle.fs_chan.specs.declared.chan.Chan.{Chan}
 use Rattle.fs_dial.specs.declared.fault.DialFault.{DialFault}
 use Rattle.fs_dial.specs.DialStrings.{Dial, dial_string}
 use Rattle.fs_orig.specs.declared.caller.Caller.{Caller}
-use Rattle.fs_orig.specs.declared.plan.LegPlan.{LegPlan}
 use Rattle.fs_orig.specs.declared.winner.Winner.{Winner}
 use Rattle.fs_orig.specs.Plans.{plans_of}
+use Rattle.fs_orig.specs.Timeouts.{braces_timeout}
 use Rattle.fs_state.specs.Switch.{Switch, chan_at, slot_named, is_full_of_jobs}
 use Rattle.fs_state.specs.Moves.{after_hangup}
 use Rattle.fs_machine.specs.Texts.{ok, yes, no, limit_passed, too_long_text, usage_text, api_not_found, no_channel, undefined, too_many_jobs, failed_text}
@@ -89,16 +89,16 @@ chan_named uuid s = option_and_then (chan_at s) (slot_named uuid s)
 abbrev pub msleep_done : ℕ → ℕ → Switch → Done
 msleep_done conn milliseconds s = if is_full_of_jobs s then says too_many_jobs s else no_answer_yet (sleep_begun conn milliseconds s)
 
--- no leg has variables
-abbrev pub is_bare : List LegPlan → Bool
-is_bare plans = list_all (λ plan. length plan.pairs == 0) plans
+-- a number, or else another
+abbrev pub first_there : Option ℕ → Option ℕ → Option ℕ
+first_there None other = other
+first_there (Some n) other = Some n
 
--- the legs of a dial string are tried, unless it has a fault; variables of legs are not built yet
+-- the legs of a dial string are tried, unless it has a fault; a timeout that was given comes before that of the braces
 abbrev pub dialled : ℕ → Result Dial DialFault → Winner → Caller → Option ℕ → Switch → Done
 dialled conn (Err fault) winner caller timeout s = says (failed_text InvalidNumberFormat) s
 dialled conn (Ok dial) winner caller timeout s =
-    if list_all is_bare (plans_of dial) then no_answer_yet (originate_begun conn (plans_of dial) winner caller timeout s)
-    else says (failed_text InvalidNumberFormat) s
+    no_answer_yet (originate_begun conn (plans_of dial) winner caller (first_there timeout (braces_timeout dial)) s)
 
 abbrev pub originate_done : ℕ → Text → Winner → Caller → Option ℕ → Switch → Done
 originate_done conn url winner caller timeout s =

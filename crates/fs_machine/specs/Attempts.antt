@@ -1,5 +1,5 @@
 -- Originations that jobs try: how they begin, and what comes of them.
-use Rattle.std.specs.Prelude.{ℕ, ◌+◌, ◌*◌, if◌then◌else◌, List, [], ◌∷◌, ◌++◌, take, drop, Option, None, Some, unwrap_or, slice_get}
+use Rattle.std.specs.Prelude.{ℕ, ◌+◌, if◌then◌else◌, List, [], ◌∷◌, ◌++◌, take, drop, Option, None, Some, unwrap_or, slice_get}
 use Rattle.std.specs.Option.{option_and_then}
 use Rattle.fs_text.specs.Texts.{Text}
 use Rattle.fs_text.specs.declared.causes.Cause.{Cause}
@@ -23,12 +23,8 @@ use Rattle.fs_state.specs.Switch.{Switch, next_orig_number, next_job_number, cha
 use Rattle.fs_state.specs.Moves.{orig_changed, for_slot, after_hangup}
 use Rattle.fs_machine.specs.Texts.{failed_text, made_text}
 use Rattle.fs_machine.specs.declared.attempts.Attempt.{Attempt}
-use Rattle.fs_machine.specs.Originations.{MadeGroup, group_made, after_winning}
+use Rattle.fs_machine.specs.Originations.{seconds, MadeGroup, group_made, after_winning}
 use Rattle.fs_machine.specs.Owing.{after_job_begin, after_job_end}
-
--- a second has a million microseconds
-abbrev pub seconds : ℕ → ℕ
-seconds n = n * 1000000
 
 -- the group that is tried first
 abbrev pub first_group : List (List LegPlan) → List LegPlan

@@ -1,7 +1,6 @@
 //! What an api command answers, and what it does to the switch.
 
 ghost use Rattle.std.specs.Prelude.{◌≡◌, ◌≤◌, ◌++◌, length, Some, is_some, Ok, IfOk, IfErr, OnOk};
-ghost use Rattle.std.specs.List.{list_all};
 ghost use Rattle.std.specs.Option.{option_copied};
 ghost use Rattle.fs_vars.specs.Outputs.{IsTextRefusal};
 ghost use Rattle.fs_vars.specs.Expansion.{expanded};
@@ -18,7 +17,7 @@ use crate::texts::{api_not_found, failed_text, usage_text};
 use fs_api::{Api, usage};
 use fs_chan::Chan;
 use fs_dial::{DialKind, DialString, parse};
-use fs_orig::{Caller, LegGroup, LegPlans, Winner};
+use fs_orig::{Caller, LegPlans, Winner, braces_timeout};
 use fs_state::Draft;
 use fs_text::{Cause, Memory, Txt};
 use fs_vars::{Profile, Refused, Scope, Vars, expand};
@@ -225,28 +224,12 @@ fn dial_legs(
 {
     let alloc = draft.alloc();
     let groups = LegPlans::of(alloc, dial)?;
-    if !are_bare(&groups) {
-        return Ok(Some(failed_text(alloc, Cause::InvalidNumberFormat)?));
-    }
+    let timeout = match timeout {
+        Some(seconds) => Some(seconds),
+        None => braces_timeout(alloc, dial)?,
+    };
     begin_originate(draft, conn, groups, winner, caller, timeout)?;
     Ok(None)
-}
-
-// Whether no leg of these groups has variables.
-fn are_bare(groups: &LegPlans) -> bool
-    ensures { result ≡ list_all spec.is_bare groups.now }
-{
-    groups.as_slice().iter().all(|group| is_bare(group))
-}
-
-// Whether no leg of a group has variables.
-fn is_bare(group: &LegGroup) -> bool
-    ensures { result ≡ spec.is_bare group.now }
-{
-    group
-        .as_slice()
-        .iter()
-        .all(|plan| plan.pairs.pairs().is_empty())
 }
 
 // ---- globals

@@ -21,6 +21,7 @@ mod questions;
 mod refusal;
 mod refused;
 mod reply;
+mod terms;
 mod texts;
 mod work;
 

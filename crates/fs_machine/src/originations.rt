@@ -6,12 +6,13 @@ ghost use Rattle.fs_state.specs.Drafts.{drafted};
 ghost use Rattle.fs_state.specs.Switch.{identifier_of, with_next_identifier, free_slot};
 ghost use Rattle.fs_machine.specs.Originations as spec;
 
+use crate::terms::{call_with, deadline_of, is_misnamed, set_all};
 use fs_chan::{Action, Actions, ActionsLeft, Chan, Direction, SharedVars, Target3, Wait};
 use fs_orig::{Caller, Endpoint, LegPlan, OrigLeg, OrigLegs, Route, Winner};
 use fs_places::Boxed;
 use fs_state::Draft;
 use fs_text::{Cause, Memory, State, Txt};
-use fs_vars::{Bounds, Profile, Vars};
+use fs_vars::{Profile, Vars};
 use std::alloc::Global;
 
 /// The most bytes of a caller id.
@@ -22,6 +23,10 @@ pub(crate) struct Call {
     pub(crate) exten: Txt,
     pub(crate) context: Txt,
     pub(crate) caller: Caller,
+    // The variables of both channels.
+    pub(crate) vars: SharedVars,
+    // The identifier of its leg, where it is not the next one.
+    pub(crate) uuid: Option<Txt>,
 }
 
 impl Drop for Call {
@@ -30,6 +35,8 @@ impl Drop for Call {
             exten: _exten,
             context: _context,
             caller: _caller,
+            vars: _vars,
+            uuid: _uuid,
         } = self;
     }
 }
@@ -81,15 +88,31 @@ fn make_leg(
     let alloc = draft.alloc();
     match Endpoint::of(alloc, plan.endpoint.as_bytes())? {
         Endpoint::Dead { cause } => OrigLeg::unmade(alloc, draft.place(), cause),
-        Endpoint::Loopback { exten, context } => {
-            let call = Call {
-                exten,
-                context,
-                caller: caller.copy()?,
-            };
-            make_loopback(draft, &call, orig)
-        }
+        Endpoint::Loopback { exten, context } => match set_all(alloc, &plan.pairs)? {
+            Some(vars) => make_with(draft, exten, context, vars, caller, orig),
+            None => OrigLeg::unmade(alloc, draft.place(), Cause::NormalTemporaryFailure),
+        },
     }
+}
+
+// Makes a leg over the loopback with these variables, unless it cannot have its identifier.
+fn make_with(
+    draft: &mut Draft<'_>,
+    exten: Txt,
+    context: Txt,
+    vars: Vars,
+    caller: &Caller,
+    orig: u64,
+) -> Result<OrigLeg, Memory>
+    ensures base { draft.new.base ≡ draft.old.base }
+    ensures made { IfOk result (spec.ComesTo
+        (spec.made_with exten context (Some vars) caller.now orig (drafted draft.old)) (drafted draft.new)) }
+{
+    if is_misnamed(draft, &vars) {
+        return OrigLeg::unmade(draft.alloc(), draft.place(), Cause::NormalTemporaryFailure);
+    }
+    let call = call_with(draft.alloc(), exten, context, vars, caller)?;
+    make_loopback(draft, &call, orig)
 }
 
 // Makes a leg over the loopback.
@@ -156,12 +179,28 @@ fn make_pair(
         partner: leg,
         leg_of: None,
     };
-    let uuid = make_end(draft, call, leg_end)?;
+    let deadline = deadline_of(&call.vars, draft.moment());
+    let uuid = make_named_end(draft, call, leg_end)?;
     let _far_uuid = make_end(draft, call, far_end)?;
-    Ok(OrigLeg::ringing(leg, uuid, None))
+    Ok(OrigLeg::ringing(leg, uuid, deadline))
 }
 
-// Makes the channel at one end, and gives its identifier.
+// Makes the channel at the end that is the leg, and gives its identifier.
+fn make_named_end(draft: &mut Draft<'_>, call: &Call, end: End) -> Result<Txt, Memory>
+    ensures base { draft.new.base ≡ draft.old.base }
+    ensures uuid { IfOk result (λ uuid. uuid ≡ spec.leg_uuid call.now.uuid (drafted draft.old)) }
+    ensures made { OnOk result (drafted draft.new ≡ spec.named_end_made call.now.uuid call.now end (drafted draft.old)) }
+{
+    let Some(name) = &call.uuid else {
+        return make_end(draft, call, end);
+    };
+    let uuid = name.copy()?;
+    let chan = end_of(draft.alloc(), call, end, name.copy()?)?;
+    draft.put_chan(end.slot, Some(chan))?;
+    Ok(uuid)
+}
+
+// Makes the channel at one end under the next identifier, and gives that.
 fn make_end(draft: &mut Draft<'_>, call: &Call, end: End) -> Result<Txt, Memory>
     ensures base { draft.new.base ≡ draft.old.base }
     ensures uuid { IfOk result (λ uuid. uuid ≡ identifier_of (with_next_identifier (drafted draft.old))) }
@@ -179,7 +218,7 @@ fn end_of(alloc: Global, call: &Call, end: End, uuid: Txt) -> Result<Chan, Memor
     ensures { IfOk result (λ chan. chan ≡ spec.end_of call.now end uuid) }
 {
     let profile = loopback_profile(alloc, call, end.direction, &uuid)?;
-    let vars = SharedVars::of(alloc, Vars::new(alloc, Bounds::Channel)?)?;
+    let vars = call.vars.copy()?;
     let mut chan = Chan::new(alloc, uuid, end.slot, end.direction, profile, vars);
     chan.partner = Some(end.partner);
     chan.leg_of = end.leg_of;

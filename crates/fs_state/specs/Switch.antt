@@ -1,5 +1,5 @@
 -- The state of a switch.
-use Rattle.std.specs.Prelude.{ℕ, ◌+◌, ◌-◌, ◌^◌, min, max, Bool, false, ◌&&◌, List, [], ◌∷◌, ◌++◌, position, Option, None, Some, is_none}
+use Rattle.std.specs.Prelude.{ℕ, ◌+◌, ◌-◌, ◌^◌, min, max, Bool, false, ◌&&◌, List, [], ◌∷◌, ◌++◌, position, Option, None, Some, is_none, is_some}
 use Rattle.std.specs.Str.{bytes_eq}
 use Rattle.fs_text.specs.CoreId as core_id
 use Rattle.fs_text.specs.Texts.{Text}
@@ -9,7 +9,7 @@ use Rattle.fs_chan.specs.declared.chan.Chan.{Chan}
 use Rattle.fs_chan.specs.Changes.{is_live}
 use Rattle.fs_orig.specs.declared.orig.Orig.{Orig}
 use Rattle.fs_places.specs.declared.numbered.Numbered.{Numbered}
-use Rattle.fs_places.specs.Places.{no_places, held_in, with_held, least_free}
+use Rattle.fs_places.specs.Places.{no_places, held_in, with_held, first_place, least_free}
 use Rattle.fs_places.specs.Rows.{place_of, row_of, with_row, without_row, with_new_row}
 use Rattle.fs_state.specs.declared.conn.Conn.{Conn}
 use Rattle.fs_state.specs.declared.drawn.Drawn.{Drawn}
@@ -103,6 +103,15 @@ is_live_as uuid (Some c) = is_live c && bytes_eq c.uuid uuid
 -- the least slot whose channel is live and has this identifier
 abbrev pub slot_named : Text → Switch → Option ℕ
 slot_named uuid s = position (is_live_as uuid) s.channels
+
+-- there is a channel, live or not, and it has this identifier
+abbrev pub is_called : Text → Option Chan → Bool
+is_called uuid None = false
+is_called uuid (Some c) = bytes_eq c.uuid uuid
+
+-- the channel in some slot has it
+abbrev pub is_held : Text → Switch → Bool
+is_held uuid s = is_some (first_place (is_called uuid) s.channels 0)
 
 abbrev pub orig_of : Switch → ℕ → Option Orig
 orig_of s number = row_of s.origs number

@@ -301,6 +301,29 @@ impl<'a> Draft<'a> {
         }
     }
 
+    /// Whether the channel in some slot has this identifier, live or not.
+    #[tactic(auto, using(fs_places::proofs::PlaceLemmas::first_here, fs_places::proofs::PlaceLemmas::first_behind, fs_places::proofs::PlaceLemmas::first_empty))]
+    pub fn is_held(&self, uuid: &[u8]) -> bool
+        ensures { result ≡ spec.is_held uuid.now (drafted self.now) }
+    {
+        for slot in 0..self.filled_slots() {
+            if self.is_called(slot, uuid) {
+                return true;
+            }
+        }
+        false
+    }
+
+    /// Whether there is a channel in a slot, and it has this identifier.
+    fn is_called(&self, slot: u16, uuid: &[u8]) -> bool
+        ensures { result ≡ spec.is_called uuid.now (spec.chan_at (drafted self.now) slot) }
+    {
+        match self.chan(slot) {
+            Some(chan) => chan.uuid.as_bytes() == uuid,
+            None => false,
+        }
+    }
+
     // ---- originations
 
     /// The origination of a number.

@@ -207,14 +207,13 @@ fn make_end(draft: &mut Draft<'_>, call: &Call, end: End) -> Result<Txt, Memory>
     ensures made { OnOk result (drafted draft.new ≡ spec.end_made call.now end (drafted draft.old)) }
 {
     let uuid = draft.draw_identifier()?;
-    let alloc = draft.alloc();
-    let chan = Boxed::of(alloc, end_of(alloc, call, end, uuid.copy()?)?)?;
+    let chan = end_of(draft.alloc(), call, end, uuid.copy()?)?;
     draft.put_chan(end.slot, Some(chan))?;
     Ok(uuid)
 }
 
 // The channel at one end of a pair.
-fn end_of(alloc: Global, call: &Call, end: End, uuid: Txt) -> Result<Chan, Memory>
+fn end_of(alloc: Global, call: &Call, end: End, uuid: Txt) -> Result<Boxed<Chan>, Memory>
     ensures { IfOk result (λ chan. chan ≡ spec.end_of call.now end uuid) }
 {
     let profile = loopback_profile(alloc, call, end.direction, &uuid)?;
@@ -222,7 +221,7 @@ fn end_of(alloc: Global, call: &Call, end: End, uuid: Txt) -> Result<Chan, Memor
     let mut chan = Chan::new(alloc, uuid, end.slot, end.direction, profile, vars);
     chan.partner = Some(end.partner);
     chan.leg_of = end.leg_of;
-    Ok(chan)
+    Boxed::of(alloc, chan)
 }
 
 // What is known of a channel of the loopback.

@@ -71,7 +71,8 @@ hung_fit cause slot s h =
 
 -- ---- two channels are made
 
-end_fit : (call : Call) (end : End) (uuid : Text) → IsShortAddress call.exten call.context → length uuid ≤ 256 → IsFit (end_of call end uuid)
+end_fit : (call : Call) (end : End) (uuid : Text) → IsShortAddress call.exten call.context → length uuid ≤ 256 →
+    IsFit (end_of call end uuid)
 end_fit call end uuid short small = record { partner = λ live. refl; short = profile_short call end.direction uuid short small }
 
 pair_fit : (call : Call) (orig a b : ℕ) (s : Switch) → IsShortAddress call.exten call.context → is_misnamed call.uuid s ≡ false →

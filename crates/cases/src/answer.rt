@@ -2,7 +2,8 @@
 
 use fs_text::{Memory, Txt};
 use percent_encoding::{AsciiSet, CONTROLS, ascii_set, percent_encode};
-use std::alloc::{AllocError, Global};
+use std::alloc::Global;
+use std::fmt::Display;
 
 const ESCAPED: AsciiSet = ascii_set!(CONTROLS.add(b'%'));
 
@@ -10,6 +11,7 @@ const ESCAPED: AsciiSet = ascii_set!(CONTROLS.add(b'%'));
 /// asked once, at the end: whoever adds to it need not ask.
 #[derive(Drop)]
 pub(crate) struct Answer {
+    alloc: Global,
     text: String,
     wanting: bool,
 }
@@ -17,6 +19,7 @@ pub(crate) struct Answer {
 impl Answer {
     pub(crate) fn new(alloc: Global) -> Answer {
         Answer {
+            alloc,
             text: String::new(alloc),
             wanting: false,
         }
@@ -68,10 +71,17 @@ impl Answer {
         self.push("\n");
     }
 
-    /// Adds an indented line that was formed, if there was memory for it.
-    pub(crate) fn told(&mut self, told: Result<String, AllocError>) {
-        match told {
-            Ok(text) => self.line(&[text.as_bytes()]),
+    /// Adds an indented line that shows a value.
+    pub(crate) fn told<D: Display + Drop>(&mut self, value: D) {
+        self.begin();
+        self.show(value);
+        self.end();
+    }
+
+    /// Adds what shows a value to the line.
+    pub(crate) fn show<D: Display + Drop>(&mut self, value: D) {
+        match format!(in self.alloc; "{value}") {
+            Ok(text) => self.push_escaped(text.as_bytes()),
             Err(_) => self.wanting = true,
         }
     }
@@ -86,9 +96,23 @@ impl Answer {
         self.begin();
         self.push(name);
         for text in texts {
-            self.add(&[b" [", text.as_bytes(), b"]"]);
+            self.bracket(text.as_bytes());
         }
         self.end();
+    }
+
+    /// Adds an indented line of a name with a place, and of texts in brackets.
+    pub(crate) fn placed(&mut self, name: &str, at: usize, texts: &[&[u8]]) {
+        self.begin();
+        self.show(format_args!("{name} {at}"));
+        for text in texts {
+            self.bracket(text);
+        }
+        self.end();
+    }
+
+    fn bracket(&mut self, text: &[u8]) {
+        self.add(&[b" [", text, b"]"]);
     }
 
     /// Adds a text of several lines, each of them indented, and says where its last one has no end. An empty text has

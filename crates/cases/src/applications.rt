@@ -12,18 +12,17 @@ pub(crate) fn tell_app(alloc: Global, rest: &str, answer: &mut Answer) -> Result
     let (name, argument) = cut(rest);
     let name = bytes_of(alloc, name)?;
     let argument = bytes_of(alloc, argument)?;
-    let application = Application::of(alloc, &name, &argument)?;
-    tell_application(alloc, &application, answer);
+    tell_application(&Application::of(alloc, &name, &argument)?, answer);
     Ok(())
 }
 
-fn tell_application(alloc: Global, application: &Application, answer: &mut Answer) {
+fn tell_application(application: &Application, answer: &mut Answer) {
     match application {
         Application::Answer => answer.named("Answer", &[]),
         Application::Assign { how, argument } => answer.named(assignment_name(*how), &[argument]),
         Application::Eval => answer.named("Eval", &[]),
         Application::Sleep { milliseconds } => {
-            answer.told(format!(in alloc; "Sleep [{milliseconds}]"));
+            answer.told(format_args!("Sleep [{milliseconds}]"));
         }
         Application::Hangup { cause } => answer.line(&[b"Hangup ", cause.name().as_bytes()]),
         Application::Park => answer.named("Park", &[]),

@@ -10,16 +10,16 @@ use std::alloc::Global;
 /// Answers `api TEXT` with the command and its parts.
 pub(crate) fn tell_api(alloc: Global, text: &str, answer: &mut Answer) -> Result<(), Memory> {
     let text = bytes_of(alloc, text)?;
-    tell_command(alloc, &Api::of(alloc, &text)?, answer)
+    tell_command(&Api::of(alloc, &text)?, answer)
 }
 
 /// Answers `expanded TEXT`, where `expand` gave the text, in the same way.
 pub(crate) fn tell_expanded(alloc: Global, text: &str, answer: &mut Answer) -> Result<(), Memory> {
     let text = bytes_of(alloc, text)?;
-    tell_command(alloc, &Api::of_expanded(alloc, &text)?, answer)
+    tell_command(&Api::of_expanded(alloc, &text)?, answer)
 }
 
-fn tell_command(alloc: Global, api: &Api, answer: &mut Answer) -> Result<(), Memory> {
+fn tell_command(api: &Api, answer: &mut Answer) -> Result<(), Memory> {
     match api {
         Api::Echo { text } => answer.named("Echo", &[text]),
         Api::Expand { text } => answer.named("Expand", &[text]),
@@ -27,7 +27,7 @@ fn tell_command(alloc: Global, api: &Api, answer: &mut Answer) -> Result<(), Mem
         Api::GlobalGetvar { name: Some(name) } => answer.named("GlobalGetvar", &[name]),
         Api::GlobalSetvar { name, value } => answer.named("GlobalSetvar", &[name, value]),
         Api::Msleep { milliseconds } => {
-            answer.told(format!(in alloc; "Msleep [{milliseconds}]"));
+            answer.told(format_args!("Msleep [{milliseconds}]"));
         }
         Api::UuidExists { uuid } => answer.named("UuidExists", &[uuid]),
         Api::UuidKill { uuid, cause } => {
@@ -43,19 +43,19 @@ fn tell_command(alloc: Global, api: &Api, answer: &mut Answer) -> Result<(), Mem
             timeout,
         } => {
             answer.named("Originate", &[url, cid_name, cid_number]);
-            tell_timeout(alloc, *timeout, answer);
+            tell_timeout(*timeout, answer);
             return tell_winner(winner, answer);
         }
-        Api::Usage(which) => answer.told(format!(in alloc; "Usage {which:?}")),
+        Api::Usage(which) => answer.told(format_args!("Usage {which:?}")),
         Api::Unknown(name) => answer.named("Unknown", &[name]),
     }
     Ok(())
 }
 
 // Adds the seconds that the legs have, where they are told.
-fn tell_timeout(alloc: Global, timeout: Option<u64>, answer: &mut Answer) {
+fn tell_timeout(timeout: Option<u64>, answer: &mut Answer) {
     if let Some(seconds) = timeout {
-        answer.told(format!(in alloc; "timeout [{seconds}]"));
+        answer.told(format_args!("timeout [{seconds}]"));
     }
 }
 

@@ -79,7 +79,7 @@ impl<D: Files + Drop> Desk<D> {
             "play" => tell_play(self.alloc, &self.table, false, answer),
             "count" => tell_play(self.alloc, &self.table, true, answer),
             "contexts" => self.hunts.build(&self.table, rest, answer),
-            "reads" => tell_reads(self.alloc, &self.table, rest, answer),
+            "reads" => tell_reads(&self.table, rest, answer),
             "writes" => tell_writes(self.alloc, &self.table, rest, answer),
             "sends" => tell_sends(self.alloc, &self.table, rest, answer),
             _ => return self.tells_parts(verb, rest, answer),

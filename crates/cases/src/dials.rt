@@ -4,7 +4,7 @@ use crate::answer::Answer;
 use crate::words::bytes_of;
 use fs_dial::{DialString, Leg, RawPair, RawPairs, parse};
 use fs_orig::{LegPlan, LegPlans, braces_timeout};
-use fs_text::{Memory, Txt};
+use fs_text::Memory;
 use std::alloc::Global;
 
 /// Answers `dial TEXT` with the pairs of the braces, and with the legs, each with its own pairs behind it; `or` stands
@@ -32,7 +32,7 @@ pub(crate) fn tell_timeout(alloc: Global, text: &str, answer: &mut Answer) -> Re
     let bytes = bytes_of(alloc, text)?;
     if let Some(dial) = read_dial(alloc, &bytes, answer) {
         let seconds = braces_timeout(alloc, &dial)?;
-        answer.told(format!(in alloc; "{seconds:?}"));
+        answer.told(format_args!("{seconds:?}"));
     }
     Ok(())
 }
@@ -42,7 +42,7 @@ fn read_dial<'a>(alloc: Global, bytes: &'a [u8], answer: &mut Answer) -> Option<
     match parse(alloc, bytes) {
         Ok(dial) => Some(dial),
         Err(fault) => {
-            answer.told(format!(in alloc; "{fault}"));
+            answer.told(fault);
             None
         }
     }
@@ -63,9 +63,7 @@ fn tell_groups(alloc: Global, dial: &DialString<'_>, answer: &mut Answer) -> Res
 
 fn tell_legs(alloc: Global, legs: &[Leg<'_>], answer: &mut Answer) -> Result<(), Memory> {
     for leg in legs {
-        let at = leg.at;
-        let endpoint = Txt::of(alloc, leg.endpoint)?;
-        answer.named(&format!(in alloc; "leg {at}")?, &[&endpoint]);
+        answer.placed("leg", leg.at, &[leg.endpoint]);
         tell_pairs(alloc, &leg.pairs, answer)?;
     }
     Ok(())
@@ -79,11 +77,8 @@ fn tell_pairs(alloc: Global, pairs: &RawPairs<'_>, answer: &mut Answer) -> Resul
 }
 
 fn tell_pair(alloc: Global, pair: &RawPair<'_>, answer: &mut Answer) -> Result<(), Memory> {
-    let at = pair.at;
-    let name = Txt::of(alloc, pair.name)?;
-    let value = Txt::of(alloc, pair.value)?;
     let plain = pair.plain(alloc)?;
-    answer.named(&format!(in alloc; "pair {at}")?, &[&name, &value, &plain]);
+    answer.placed("pair", pair.at, &[pair.name, pair.value, plain.as_bytes()]);
     Ok(())
 }
 

@@ -21,7 +21,7 @@ pub(crate) fn tell_config(
     match read_config(alloc, document) {
         Ok(config) => tell_part(alloc, &config, what, answer),
         Err(fault) => {
-            answer.told(fault.to_string(alloc));
+            answer.told(fault);
             Ok(())
         }
     }
@@ -36,7 +36,7 @@ fn tell_part(
     match what {
         "settings" => return tell_settings(alloc, config.settings(), answer),
         "globals" => tell_vars(config.globals(), answer),
-        "dialplan" => tell_contexts(alloc, config.contexts(), answer),
+        "dialplan" => tell_contexts(config.contexts(), answer),
         _ => answer.line(&[b"OK"]),
     }
     Ok(())
@@ -47,7 +47,7 @@ fn tell_settings(alloc: Global, settings: &Settings, answer: &mut Answer) -> Res
     answer.line(&[b"core-uuid ", core.as_bytes()]);
     answer.line(&[b"listen-ip ", settings.listen_ip.as_bytes()]);
     answer.line(&[b"password ", settings.password.as_bytes()]);
-    answer.told(format!(in alloc;
+    answer.told(format_args!(
         "max-sessions {}, journal-limit {}, listen-port {}, max-connections {}",
         settings.max_sessions,
         settings.journal_limit,
@@ -57,38 +57,38 @@ fn tell_settings(alloc: Global, settings: &Settings, answer: &mut Answer) -> Res
     Ok(())
 }
 
-fn tell_contexts(alloc: Global, contexts: &[ContextDef<Txt>], answer: &mut Answer) {
+fn tell_contexts(contexts: &[ContextDef<Txt>], answer: &mut Answer) {
     for context in contexts {
         answer.line(&[b"context ", context.name.as_bytes()]);
-        tell_extensions(alloc, context.extensions.as_slice(), answer);
+        tell_extensions(context.extensions.as_slice(), answer);
     }
 }
 
-fn tell_extensions(alloc: Global, extensions: &[ExtensionDef<Txt>], answer: &mut Answer) {
+fn tell_extensions(extensions: &[ExtensionDef<Txt>], answer: &mut Answer) {
     for extension in extensions {
         let way: &[u8] = if extension.goes_on { b", goes on" } else { b"" };
         answer.line(&[b"extension ", extension.name.as_bytes(), way]);
-        tell_conditions(alloc, extension.conditions.as_slice(), answer);
+        tell_conditions(extension.conditions.as_slice(), answer);
     }
 }
 
-fn tell_conditions(alloc: Global, conditions: &[ConditionDef<Txt>], answer: &mut Answer) {
+fn tell_conditions(conditions: &[ConditionDef<Txt>], answer: &mut Answer) {
     for condition in conditions {
-        tell_test(alloc, &condition.test, condition.stop, answer);
+        tell_test(&condition.test, condition.stop, answer);
         tell_actions(b"action ", condition.actions.as_slice(), answer);
         tell_actions(b"anti-action ", condition.anti.as_slice(), answer);
     }
 }
 
-fn tell_test(alloc: Global, test: &Test<Txt>, stop: Break, answer: &mut Answer) {
+fn tell_test(test: &Test<Txt>, stop: Break, answer: &mut Answer) {
     match test {
-        Test::Always => answer.told(format!(in alloc; "condition Always, {stop:?}")),
+        Test::Always => answer.told(format_args!("condition Always, {stop:?}")),
         Test::Plain { field, expression } => {
-            answer.told(format!(in alloc; "condition Plain, {stop:?}"));
+            answer.told(format_args!("condition Plain, {stop:?}"));
             tell_pattern(field, expression, answer);
         }
         Test::Many { kind, children } => {
-            answer.told(format!(in alloc; "condition {kind:?}, {stop:?}"));
+            answer.told(format_args!("condition {kind:?}, {stop:?}"));
             tell_children(children.as_slice(), answer);
         }
     }

@@ -34,8 +34,8 @@ impl Frames {
             "new" => self.blocks = Blocks::new(self.alloc)?,
             "feed" => self.blocks.feed(&bytes_of(self.alloc, rest)?)?,
             "feeds" => self.blocks.feed(&counted(self.alloc, rest)?)?,
-            "next" => tell_next(self.alloc, self.blocks.next_block(), answer),
-            "length" => tell_length(self.alloc, self.blocks.next_block(), answer),
+            "next" => tell_next(self.blocks.next_block(), answer),
+            "length" => tell_length(self.blocks.next_block(), answer),
             _ => answer.line(&[b"no case"]),
         }
         Ok(())
@@ -51,7 +51,7 @@ fn tell_cut(alloc: Global, rest: &str, answer: &mut Answer) -> Result<(), Memory
         blocks.feed(piece)?;
         add_lines(&mut blocks, piece.len(), answer);
     }
-    answer.add(&[format!(in alloc; "{:?}", blocks.next_block())?.as_bytes()]);
+    answer.show(format_args!("{:?}", blocks.next_block()));
     answer.end();
     Ok(())
 }
@@ -66,18 +66,18 @@ fn add_lines(blocks: &mut Blocks, most: usize, answer: &mut Answer) {
     }
 }
 
-fn tell_next(alloc: Global, next: Next<'_>, answer: &mut Answer) {
-    answer.told(format!(in alloc; "{next:?}"));
+fn tell_next(next: Next<'_>, answer: &mut Answer) {
+    answer.told(format_args!("{next:?}"));
     if let Next::Block(block) = next {
         answer.line(&[block.bytes()]);
     }
 }
 
-fn tell_length(alloc: Global, next: Next<'_>, answer: &mut Answer) {
+fn tell_length(next: Next<'_>, answer: &mut Answer) {
     let Next::Block(block) = next else {
         return answer.line(&[b"no block"]);
     };
     let line = block.line().len();
     let whole = block.bytes().len();
-    answer.told(format!(in alloc; "a line of {line} bytes in a block of {whole}"));
+    answer.told(format_args!("a line of {line} bytes in a block of {whole}"));
 }

@@ -56,7 +56,7 @@ impl Hunts {
         match read_config(self.alloc, &document) {
             Ok(config) => match Dialplan::build(self.alloc, &config, &mut files) {
                 Ok(plan) => self.plan = Some(plan),
-                Err(fault) => answer.told(format!(in self.alloc; "{fault}")),
+                Err(fault) => answer.told(fault),
             },
             Err(_) => answer.line(&[b"no document"]),
         }
@@ -72,7 +72,7 @@ impl Hunts {
         match hunt(self.alloc, plan, rest) {
             Ok(hunt) => tell_actions(&hunt, answer),
             Err(Refused::TooLong { len }) => {
-                answer.told(format!(in self.alloc; "too long {len}"));
+                answer.told(format_args!("too long {len}"));
             }
             Err(Refused::Memory) => return Err(Memory),
         }
@@ -99,14 +99,20 @@ fn hunt(alloc: Global, plan: &Dialplan, rest: &str) -> Result<Hunt, Refused> {
     let context = bytes_of(alloc, context)?;
     let vars = Vars::new(alloc, Bounds::Channel)?;
     let globals = Vars::new(alloc, Bounds::Globals)?;
-    let mut profile = Profile::empty(alloc)?;
-    profile.destination_number = text_of(alloc, number)?;
+    let profile = called(alloc, number)?;
     let scope = Scope {
         vars: &vars,
         profile: &profile,
         globals: &globals,
     };
     plan.hunt(alloc, &scope, &context, &mut NoGate)
+}
+
+// Who calls a number.
+fn called(alloc: Global, number: &str) -> Result<Profile, Memory> {
+    let mut profile = Profile::empty(alloc)?;
+    profile.destination_number = text_of(alloc, number)?;
+    Ok(profile)
 }
 
 // Adds each action with its argument, or says that there is none.

@@ -64,7 +64,7 @@ impl Legs {
     fn tell_verdict(&self, now: u64, answer: &mut Answer) {
         let verdict = judge(&self.orig, now);
         let due = self.orig.due(now);
-        answer.told(format!(in self.alloc; "{verdict:?}, due {due}"));
+        answer.told(format_args!("{verdict:?}, due {due}"));
     }
 
     fn tell_answered(&mut self, rest: &str, answer: &mut Answer) {
@@ -86,7 +86,7 @@ impl Legs {
 
     fn tell_position(&self, slot: u16, answer: &mut Answer) {
         let position = self.orig.legs.position_in(slot);
-        answer.told(format!(in self.alloc; "{position:?}"));
+        answer.told(format_args!("{position:?}"));
     }
 
     fn tell_next(&mut self, rest: &str, answer: &mut Answer) -> Result<(), Memory> {
@@ -101,11 +101,15 @@ impl Legs {
 /// Answers `endpoint TEXT` with what the endpoint of a leg comes to.
 pub(crate) fn tell_endpoint(alloc: Global, text: &str, answer: &mut Answer) -> Result<(), Memory> {
     let text = bytes_of(alloc, text)?;
-    match &Endpoint::of(alloc, &text)? {
+    tell_parts(&Endpoint::of(alloc, &text)?, answer);
+    Ok(())
+}
+
+fn tell_parts(endpoint: &Endpoint, answer: &mut Answer) {
+    match endpoint {
         Endpoint::Loopback { exten, context } => answer.named("Loopback", &[exten, context]),
         Endpoint::Dead { cause } => answer.line(&[b"Dead ", cause.name().as_bytes()]),
     }
-    Ok(())
 }
 
 // The origination of a job, of these groups and legs, with the deadline 60.
@@ -138,17 +142,21 @@ fn legs_of(alloc: Global, words: &str) -> Result<OrigLegs, Memory> {
 fn leg_of(alloc: Global, word: &str) -> Result<OrigLeg, Memory> {
     let mut leg = OrigLeg::ringing(0, Txt::of(alloc, b"A")?, None);
     for part in word.split(',') {
-        let (name, value) = part.split_once('=').unwrap_or((part, ""));
-        match name {
-            "slot" => leg.slot = Some(slot_of(value)),
-            "until" => leg.deadline = Some(number_of(value)),
-            "answered" => leg.answered = Some(number_of(value)),
-            "died" => leg.died = Some(number_of(value)),
-            "of" => leg.cause = Cause::of_name(value.as_bytes()),
-            _ => {}
-        }
+        set_part(&mut leg, part);
     }
     Ok(leg)
+}
+
+fn set_part(leg: &mut OrigLeg, part: &str) {
+    let (name, value) = part.split_once('=').unwrap_or((part, ""));
+    match name {
+        "slot" => leg.slot = Some(slot_of(value)),
+        "until" => leg.deadline = Some(number_of(value)),
+        "answered" => leg.answered = Some(number_of(value)),
+        "died" => leg.died = Some(number_of(value)),
+        "of" => leg.cause = Cause::of_name(value.as_bytes()),
+        _ => {}
+    }
 }
 
 fn slot_of(word: &str) -> u16 {

@@ -23,7 +23,7 @@ mod variables;
 mod words;
 
 use desk::Desk;
-use fs_ports::{DiskFiles, Sent, Stdio, send_all};
+use fs_ports::{DiskFiles, Files, Sent, Sink, Stdio, send_all};
 use std::io::{self, ErrorKind};
 
 fn main(rt: HostRuntime) -> io::Result<()> {
@@ -32,13 +32,21 @@ fn main(rt: HostRuntime) -> io::Result<()> {
     let disk = DiskFiles::new(alloc, rt);
     let mut desk = Desk::new(alloc, disk).map_err(|_| ErrorKind::OutOfMemory)?;
     for line in rt.lines(alloc) {
-        let answer = desk
-            .answered(line?.as_str())
-            .map_err(|_| ErrorKind::OutOfMemory)?;
-        let bytes = answer.bytes().map_err(|_| ErrorKind::OutOfMemory)?;
-        if send_all(&mut out, bytes) != Sent::All {
-            return Err(ErrorKind::WriteZero.into());
-        }
+        answer_line(&mut desk, line?.as_str(), &mut out)?;
     }
     Ok(())
+}
+
+// Writes a line with its answer.
+fn answer_line<D: Files + Drop, S: Sink>(
+    desk: &mut Desk<D>,
+    line: &str,
+    out: &mut S,
+) -> Result<(), ErrorKind> {
+    let answer = desk.answered(line).map_err(|_| ErrorKind::OutOfMemory)?;
+    let bytes = answer.bytes().map_err(|_| ErrorKind::OutOfMemory)?;
+    match send_all(out, bytes) {
+        Sent::All => Ok(()),
+        Sent::Failed => Err(ErrorKind::WriteZero),
+    }
 }

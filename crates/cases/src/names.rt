@@ -15,14 +15,14 @@ pub(crate) fn tell_text(alloc: Global, rest: &str, answer: &mut Answer) -> Resul
     let (verb, rest) = cut(rest);
     let text = bytes_of(alloc, rest)?;
     match verb {
-        "number" => tell_number(alloc, read_u64(&text), answer),
+        "number" => tell_number(read_u64(&text), answer),
         "escape" => answer.line(&[escape(alloc, &text)?.as_bytes()]),
-        "name" => tell_name(alloc, &text, answer),
+        "name" => tell_name(&text, answer),
         "core" => tell_whether(CoreId::of_text(&text).is_some(), answer),
         "owns" => tell_whether(CoreId::default().owns(&text), answer),
         "identifier" => return tell_identifier(alloc, number_of(rest), answer),
         "place" => return tell_place(alloc, rest, answer),
-        "tables" => tell_tables(alloc, answer),
+        "tables" => tell_tables(answer),
         _ => answer.line(&[b"no case"]),
     }
     Ok(())
@@ -32,41 +32,41 @@ fn tell_whether(is_so: bool, answer: &mut Answer) {
     answer.line(&[if is_so { b"yes" } else { b"no" }]);
 }
 
-fn tell_number(alloc: Global, number: Option<u64>, answer: &mut Answer) {
+fn tell_number(number: Option<u64>, answer: &mut Answer) {
     match number {
-        Some(n) => answer.told(format!(in alloc; "{n}")),
+        Some(n) => answer.told(n),
         None => answer.line(&[b"none"]),
     }
 }
 
-fn tell_name(alloc: Global, name: &[u8], answer: &mut Answer) {
+fn tell_name(name: &[u8], answer: &mut Answer) {
     if let Some(state) = State::of_name(name) {
-        tell_row(alloc, "state", state.number(), state.name(), answer);
+        tell_row("state", state.number(), state.name(), answer);
     } else if let Some(cause) = Cause::of_name(name) {
-        tell_row(alloc, "cause", cause.number(), cause.name(), answer);
+        tell_row("cause", cause.number(), cause.name(), answer);
     } else if let Some(event) = EventName::of_name(name) {
-        tell_row(alloc, "event", event.number(), event.name(), answer);
+        tell_row("event", event.number(), event.name(), answer);
     } else {
         answer.line(&[b"none"]);
     }
 }
 
-fn tell_row(alloc: Global, table: &str, number: u16, name: &str, answer: &mut Answer) {
-    answer.told(format!(in alloc; "{table} {number} {name}"));
+fn tell_row(table: &str, number: u16, name: &str, answer: &mut Answer) {
+    answer.told(format_args!("{table} {number} {name}"));
 }
 
-fn tell_tables(alloc: Global, answer: &mut Answer) {
+fn tell_tables(answer: &mut Answer) {
     let states = State::table().len();
     let causes = Cause::table().len();
     let events = EventName::table().len();
-    answer.told(format!(in alloc; "{states} states, {causes} causes, {events} events"));
+    answer.told(format_args!("{states} states, {causes} causes, {events} events"));
 }
 
 fn tell_place(alloc: Global, rest: &str, answer: &mut Answer) -> Result<(), Memory> {
     let (byte, text) = cut(rest);
     let text = bytes_of(alloc, text)?;
     match bytes_of(alloc, byte)?.first() {
-        Some(byte) => answer.told(format!(in alloc; "{}", place_of(*byte, &text))),
+        Some(byte) => answer.told(place_of(*byte, &text)),
         None => answer.line(&[b"no case"]),
     }
     Ok(())

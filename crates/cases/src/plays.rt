@@ -33,17 +33,17 @@ pub(crate) fn tell_play(
     let mut machine = Machine::new(alloc, config, plan)?;
     let end = play(alloc, &mut machine, &mut link);
     answer.lines(link.written());
-    tell_end(alloc, &machine, end, answer);
+    tell_end(&machine, end, answer);
     if counts {
-        tell_events(alloc, &machine, answer);
+        tell_events(&machine, answer);
     }
     Ok(())
 }
 
-fn tell_end(alloc: Global, machine: &Machine, end: End, answer: &mut Answer) {
+fn tell_end(machine: &Machine, end: End, answer: &mut Answer) {
     let moment = machine.moment();
     let commands = commands_in(machine);
-    answer.told(format!(in alloc; "{end:?} at {moment}, {commands} commands"));
+    answer.told(format_args!("{end:?} at {moment}, {commands} commands"));
 }
 
 // How many commands stand in a machine's journal.
@@ -56,12 +56,12 @@ fn commands_in(machine: &Machine) -> usize {
 }
 
 // Adds how many events there were of each name that had one.
-fn tell_events(alloc: Global, machine: &Machine, answer: &mut Answer) {
+fn tell_events(machine: &Machine, answer: &mut Answer) {
     let counts = machine.counts();
     for row in EventName::table() {
         let count = counts.events(row.0);
         if count > 0 {
-            answer.told(format!(in alloc; "{} {count}", row.2));
+            answer.told(format_args!("{} {count}", row.2));
         }
     }
 }

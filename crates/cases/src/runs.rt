@@ -27,11 +27,11 @@ pub(crate) fn tell_run(
     let status = run(alloc, &words, &mut files, &mut link, &mut err);
     let written = link.written();
     if measures {
-        answer.told(format!(in alloc; "{} bytes", written.len()));
+        answer.told(format_args!("{} bytes", written.len()));
     } else {
         answer.lines(written);
     }
     answer.lines(err.written());
-    answer.told(format!(in alloc; "status {}", status.code));
+    answer.told(format_args!("status {}", status.code));
     Ok(())
 }

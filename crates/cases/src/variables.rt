@@ -65,7 +65,7 @@ impl Variables {
             "list" => tell_vars(&self.vars, answer),
             "expand" => self.tell_expanded(rest, answer),
             "length" => self.tell_length(rest, answer),
-            "memory" => answer.told(Refused::Memory.to_string(self.alloc)),
+            "memory" => answer.told(Refused::Memory),
             _ => answer.line(&[b"no case"]),
         }
         Ok(())
@@ -109,14 +109,14 @@ impl Variables {
     fn tell_expanded(&self, text: &str, answer: &mut Answer) {
         match self.expanded(text) {
             Ok(whole) => answer.line(&[whole.as_bytes()]),
-            Err(refused) => answer.told(refused.to_string(self.alloc)),
+            Err(refused) => answer.told(refused),
         }
     }
 
     fn tell_length(&self, text: &str, answer: &mut Answer) {
         match self.expanded(text) {
-            Ok(whole) => answer.told(format!(in self.alloc; "{} bytes", whole.as_bytes().len())),
-            Err(refused) => answer.told(refused.to_string(self.alloc)),
+            Ok(whole) => answer.told(format_args!("{} bytes", whole.as_bytes().len())),
+            Err(refused) => answer.told(refused),
         }
     }
 }

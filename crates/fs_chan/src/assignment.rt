@@ -40,8 +40,8 @@ impl Assignment {
         }
     }
 
-    /// Does it, by its argument, to the variables of a channel, or to the globals. Where a limit would be passed, nothing
-    /// changes.
+    /// Does it, by its argument, to the variables of a channel, or to the globals. Where a limit would be passed,
+    /// nothing changes.
     ///
     /// The argument is `name=value`, where the value is empty without `=`, or the name of what is taken out.
     pub fn apply(self, alloc: Global, argument: &[u8], vars: &mut Vars) -> Result<(), Memory>

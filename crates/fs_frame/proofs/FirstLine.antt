@@ -1,5 +1,6 @@
 -- The first line that has a text, where lines without one were passed.
-use Rattle.std.proofs.Common.{◌≡◌, ◌≢◌, ℕ, ◌+◌, ◌-◌, ◌≤◌, false, List, [], ◌∷◌, ◌++◌, length, take, drop, refl, sym, ap, ◌∙◌, append_assoc, arith, length-append}
+use Rattle.std.proofs.Common.{◌≡◌, ◌≢◌, ℕ, ◌+◌, ◌-◌, ◌≤◌, false, List, [], ◌∷◌, ◌++◌, length, take, drop, refl, sym, ap, ◌∙◌, append_assoc}
+use Rattle.std.proofs.Common.{arith, length-append}
 use Rattle.std.proofs.lemmas.List.{drop_at, drop-drop, take-append-le, length-drop, length-take-le}
 use Rattle.std.specs.List.{list_any}
 use Rattle.fs_frame.specs.Block.{is_lf, text_of, lines_of, first_text, line_of}
@@ -52,7 +53,9 @@ found_here bytes start text_len len ahead goes some = record {
     has empty = some (omega (arith, ap length (sym goes.text_is ∙ empty), length-take-le text_len goes.content goes.text_within))
 
     text : first_text (lines_of (drop start bytes)) ≡ take text_len (drop start bytes)
-    text = rw (lines_here (drop start bytes) text_len len goes, has_bytes-some (text_of line) has) (text_here (drop start bytes) text_len len goes)
+    text =
+        rw (lines_here (drop start bytes) text_len len goes, has_bytes-some (text_of line) has)
+        (text_here (drop start bytes) text_len len goes)
 
 -- behind a line without a text it stands ahead
 pub ahead_behind : (bytes : List ℕ) (start text_len len : ℕ) → StandsAhead bytes start → GoesOn (drop start bytes) text_len len →

@@ -1,5 +1,6 @@
 -- The walk goes on: jobs, commands and all acts.
-use Rattle.std.proofs.Common.{◌≡◌, ℕ, ◌*◌, nat_lt, Bool, true, false, if◌then◌else◌, List, [], length, slice_get, Option, None, Some, unwrap_or, option_and_then, Result, Ok, Err, refl}
+use Rattle.std.proofs.Common.{◌≡◌, ℕ, ◌*◌, nat_lt, Bool, true, false, if◌then◌else◌, List, [], length, slice_get, Option, None, Some}
+use Rattle.std.proofs.Common.{unwrap_or, option_and_then, Result, Ok, Err, refl}
 use Rattle.std.specs.Str.{bytes_eq}
 use Rattle.fs_text.specs.Texts.{Text}
 use Rattle.fs_text.specs.declared.causes.Cause.{Cause}
@@ -44,9 +45,11 @@ use Rattle.fs_machine.specs.declared.entry.Closing.TheVariants as closing
 use Rattle.fs_machine.specs.declared.attempts.Attempt.{Attempt}
 use Rattle.fs_machine.specs.Texts.{ok, too_many_jobs}
 use Rattle.fs_machine.specs.Connections.{phase_at, conn_changed, admitted}
-use Rattle.fs_machine.specs.Attempts.{death_of, others, after_race_by, after_winning_at, after_leg_expiry, after_next_group, after_verdict, after_verdict_from}
+use Rattle.fs_machine.specs.Attempts.{death_of, others, after_race_by, after_winning_at, after_leg_expiry, after_next_group, after_verdict}
+use Rattle.fs_machine.specs.Attempts.{after_verdict_from}
 use Rattle.fs_machine.specs.Jobs.{sleep_begun, after_job_work, job_done_from, job_done}
-use Rattle.fs_machine.specs.Api.{Done, says, no_answer_yet, kill_done, msleep_done, first_there, dialled, originate_done, done_plainly, done_by}
+use Rattle.fs_machine.specs.Api.{Done, says, no_answer_yet, kill_done, msleep_done, first_there, dialled, originate_done, done_plainly}
+use Rattle.fs_machine.specs.Api.{done_by}
 use Rattle.fs_machine.specs.Commands.{with_reply, after_dismissal, after_password, with_response_of, command_done_in, command_done}
 use Rattle.fs_machine.specs.Step.{after_close, act_done}
 use Rattle.fs_machine.specs.Sound.{HasLeg}

@@ -1,5 +1,6 @@
 -- Each act keeps a partner for each live channel, and the texts of all channels within their limits.
-use Rattle.std.proofs.Common.{◌≡◌, ℕ, ◌≤◌, true, false, List, length, Option, None, Some, IsSome, unwrap_or, refl, sym, ap, subst, ◌∙◌, true≢false}
+use Rattle.std.proofs.Common.{◌≡◌, ℕ, ◌≤◌, true, false, List, length, Option, None, Some, IsSome, unwrap_or, refl, sym, ap, subst, ◌∙◌}
+use Rattle.std.proofs.Common.{true≢false}
 use Rattle.std.proofs.lemmas.Option.{same_Some}
 use Rattle.fs_text.specs.Texts.{Text}
 use Rattle.fs_text.specs.declared.causes.Cause.{Cause}
@@ -71,7 +72,8 @@ hung_fit cause slot s h =
 
 -- ---- two channels are made
 
-end_fit : (call : Call) (end : End) (uuid : Text) → IsShortAddress call.exten call.context → length uuid ≤ 256 → IsFit (end_of call end uuid)
+end_fit : (call : Call) (end : End) (uuid : Text) → IsShortAddress call.exten call.context → length uuid ≤ 256 →
+    IsFit (end_of call end uuid)
 end_fit call end uuid short small = record { partner = λ live. refl; short = profile_short call end.direction uuid short small }
 
 pair_fit : (call : Call) (orig a b : ℕ) (s : Switch) → IsShortAddress call.exten call.context → is_misnamed call.uuid s ≡ false →

@@ -1,5 +1,6 @@
 -- Each entry of a run is for a connection its own, one of others, or the one by which it comes.
-use Rattle.std.proofs.Common.{◌≡◌, ◌≢◌, ℕ, ◌-◌, ◌^◌, ◌<◌, ◌≤◌, ◌==◌, Bool, true, false, not, if◌then◌else◌, List, [], ◌∷◌, ◌++◌, length, take, Option, None, Some, is_none, ◌⊎◌, inl, inr, refl, ap, subst, ◌∙◌}
+use Rattle.std.proofs.Common.{◌≡◌, ◌≢◌, ℕ, ◌-◌, ◌^◌, ◌<◌, ◌≤◌, ◌==◌, Bool, true, false, not, if◌then◌else◌, List, [], ◌∷◌, ◌++◌, length}
+use Rattle.std.proofs.Common.{take, Option, None, Some, is_none, ◌⊎◌, inl, inr, refl, ap, subst, ◌∙◌}
 use Rattle.std.proofs.lemmas.Bool.{both_ways, eq-eqb, ne_eqb, cases_eq}
 use Rattle.std.proofs.lemmas.Option.{same_Some, none-some}
 use Rattle.fs_doc.specs.Reading.{Configuration}
@@ -19,13 +20,16 @@ use Rattle.fs_machine.specs.declared.refusal.Refusal.TheVariants as refusal
 use Rattle.fs_machine.specs.Entries.{cost_of}
 use Rattle.fs_machine.specs.Connections.{phase_of, phase_at}
 use Rattle.fs_machine.specs.Questions.{owed_to}
-use Rattle.fs_machine.specs.Step.{reads, is_closed, busy, refused_where, refused_act, refusal_of, places_for_conns, new_conn, arrived, act_done, step}
+use Rattle.fs_machine.specs.Step.{reads, is_closed, busy, refused_where, refused_act, refusal_of, places_for_conns, new_conn, arrived}
+use Rattle.fs_machine.specs.Step.{act_done, step}
 use Rattle.fs_machine.specs.Runs.{run_from, IsRunFrom}
 use Rattle.fs_machine.specs.Frames.{frames_among, given_in, given_by, handed_in, command_in}
 use Rattle.fs_machine.specs.Concerns.{actor_of, IsOwn, IsOthers, Comes, Concerns}
 use Rattle.fs_machine.proofs.KeepLemmas.{Settles, settles_same, Keeps, act_keeps}
-use Rattle.fs_machine.proofs.WaitingLemmas.{Ordered, none_closed, keeps_waiting, closed_waits, taken_other, without_other, number_new, arrived_ordered, arrived_waits}
-use Rattle.fs_machine.proofs.OrderLemmas.{Orderly, acted_ordered, none_refused, not_full, not_refused, room_left, advanced_orderly, run_orderly, empty_orderly}
+use Rattle.fs_machine.proofs.WaitingLemmas.{Ordered, none_closed, keeps_waiting, closed_waits, taken_other, without_other, number_new}
+use Rattle.fs_machine.proofs.WaitingLemmas.{arrived_ordered, arrived_waits}
+use Rattle.fs_machine.proofs.OrderLemmas.{Orderly, acted_ordered, none_refused, not_full, not_refused, room_left, advanced_orderly}
+use Rattle.fs_machine.proofs.OrderLemmas.{run_orderly, empty_orderly}
 use Rattle.fs_machine.proofs.FramesLaws.{close_refused, Lost, entry_follows, none_waits, run_front}
 
 -- ---- whose act it is

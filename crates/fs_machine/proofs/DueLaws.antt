@@ -1,5 +1,6 @@
 -- Whoever has something to do is not refused it, and what is due later is due once its moment has come.
-use Rattle.std.proofs.Common.{◌≡◌, ℕ, ◌<◌, ◌≤◌, max, leb, Bool, true, false, List, Option, None, Some, ◌⊎◌, inl, inr, refl, sym, ap, subst, ◌∙◌, arith, if◌then◌else◌}
+use Rattle.std.proofs.Common.{◌≡◌, ℕ, ◌<◌, ◌≤◌, max, leb, Bool, true, false, List, Option, None, Some, ◌⊎◌, inl, inr, refl, sym, ap, subst}
+use Rattle.std.proofs.Common.{◌∙◌, arith, if◌then◌else◌}
 use Rattle.std.specs.Option.{option_and_then}
 use Rattle.std.proofs.lemmas.Bool.{both_ways}
 use Rattle.std.proofs.lemmas.Option.{none-some, same_Some}
@@ -27,7 +28,9 @@ use Rattle.fs_machine.specs.declared.due.DueActor.{DueActor}
 use Rattle.fs_machine.specs.declared.due.DueActor.TheVariants as actor
 use Rattle.fs_machine.specs.declared.entry.Entry.{Entry}
 use Rattle.fs_machine.specs.declared.entry.Act.TheVariants.{Work, Job as Works}
-use Rattle.fs_machine.specs.Due.{slot_due, orig_due, work_due, job_due, is_now, later_of, is_due, due_slot, chan_moment, row_moment, number_where, due_number, due_job, first_chan_moment, first_job_moment, actor_or, later_or_never, due_among_all, next_due}
+use Rattle.fs_machine.specs.Due.{slot_due, orig_due, work_due, job_due, is_now, later_of, is_due, due_slot, chan_moment, row_moment}
+use Rattle.fs_machine.specs.Due.{number_where, due_number, due_job, first_chan_moment, first_job_moment, actor_or, later_or_never}
+use Rattle.fs_machine.specs.Due.{due_among_all, next_due}
 use Rattle.fs_machine.specs.Step.{not_due, refused_act}
 use Rattle.fs_machine.specs.Runs.{run_from, IsRunFrom}
 use Rattle.fs_machine.proofs.DueLemmas.{next_to_come}

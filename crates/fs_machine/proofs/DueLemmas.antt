@@ -15,7 +15,8 @@ use Rattle.fs_state.specs.declared.job.JobWork.{JobWork}
 use Rattle.fs_state.specs.declared.job.JobWork.TheVariants.{Sleep, Originate}
 use Rattle.fs_state.specs.Switch.{Switch, orig_of, at_moment}
 use Rattle.fs_machine.specs.declared.due.DueActor.TheVariants as actor
-use Rattle.fs_machine.specs.Due.{orig_due, work_due, later_of, chan_moment, row_moment, due_slot, due_job, first_chan_moment, first_job_moment, later_or_never, due_among_all}
+use Rattle.fs_machine.specs.Due.{orig_due, work_due, later_of, chan_moment, row_moment, due_slot, due_job, first_chan_moment}
+use Rattle.fs_machine.specs.Due.{first_job_moment, later_or_never, due_among_all}
 
 later_at : (due : Option Due) (n : ℕ) → later_of due ≡ Some n → due ≡ Some (At n)
 later_at None n h = absurd (cc)

@@ -1,5 +1,6 @@
 -- What entries cost and hand out, and what the acts of a connection answer and are refused for.
-use Rattle.std.proofs.Common.{◌≡◌, ℕ, ◌≤◌, true, false, List, [], ◌∷◌, ◌++◌, Option, None, Some, is_some, unwrap_or, slice_get, not, refl, sym, ap, ◌∙◌, append_assoc, append-nil, arith}
+use Rattle.std.proofs.Common.{◌≡◌, ℕ, ◌≤◌, true, false, List, [], ◌∷◌, ◌++◌, Option, None, Some, is_some, unwrap_or, slice_get, not, refl}
+use Rattle.std.proofs.Common.{sym, ap, ◌∙◌, append_assoc, append-nil, arith}
 use Rattle.fs_text.specs.Texts.{Text}
 use Rattle.fs_state.specs.Switch.{Switch, waiting_for}
 use Rattle.fs_machine.specs.declared.entry.Entry.{Entry}

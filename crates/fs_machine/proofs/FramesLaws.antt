@@ -1,5 +1,7 @@
 -- The frames that entries give a connection are those that they hand out to it, and then those that wait.
-use Rattle.std.proofs.Common.{◌≡◌, ℕ, ◌-◌, ◌^◌, ◌<◌, ◌≤◌, ◌==◌, Bool, true, false, if◌then◌else◌, not, ◌||◌, List, [], ◌∷◌, ◌++◌, length, take, drop, Option, None, Some, is_some, ◌⊎◌, inl, inr, refl, sym, ap, subst, ◌∙◌, append_assoc, append-nil, take-append-drop, arith}
+use Rattle.std.proofs.Common.{◌≡◌, ℕ, ◌-◌, ◌^◌, ◌<◌, ◌≤◌, ◌==◌, Bool, true, false, if◌then◌else◌, not, ◌||◌, List, [], ◌∷◌, ◌++◌, length}
+use Rattle.std.proofs.Common.{take, drop, Option, None, Some, is_some, ◌⊎◌, inl, inr, refl, sym, ap, subst, ◌∙◌, append_assoc, append-nil}
+use Rattle.std.proofs.Common.{take-append-drop, arith}
 use Rattle.std.proofs.lemmas.Bool.{both_ways, eqb-true, eqb-false, cases_eq, or_parts, not-false}
 use Rattle.std.proofs.lemmas.List.{nil_from_length}
 use Rattle.fs_doc.specs.Reading.{Configuration}
@@ -21,8 +23,11 @@ use Rattle.fs_machine.specs.Frames.{given_in, given_by, frames_from, handed_in, 
 use Rattle.fs_machine.proofs.FrameLemmas.{handed_more}
 use Rattle.fs_machine.proofs.RestLemmas.{whichever}
 use Rattle.fs_machine.proofs.KeepLemmas.{Keeps, act_keeps}
-use Rattle.fs_machine.proofs.WaitingLemmas.{Ordered, none_closed, some_open, keeps_waiting, closed_waits, closed_quietly, none_given, nothing_given, taken_ordered, taken_same, taken_other, without_ordered, without_same, without_other, arrived_waits}
-use Rattle.fs_machine.proofs.OrderLemmas.{Orderly, acted_ordered, acted_config, acted_drawn, acted_gone, none_refused, not_full, not_refused, room_left, advanced_orderly, entry_orderly, run_orderly, empty_waits, empty_orderly}
+use Rattle.fs_machine.proofs.WaitingLemmas.{Ordered, none_closed, some_open, keeps_waiting, closed_waits, closed_quietly, none_given}
+use Rattle.fs_machine.proofs.WaitingLemmas.{nothing_given, taken_ordered, taken_same, taken_other, without_ordered, without_same}
+use Rattle.fs_machine.proofs.WaitingLemmas.{without_other, arrived_waits}
+use Rattle.fs_machine.proofs.OrderLemmas.{Orderly, acted_ordered, acted_config, acted_drawn, acted_gone, none_refused, not_full}
+use Rattle.fs_machine.proofs.OrderLemmas.{not_refused, room_left, advanced_orderly, entry_orderly, run_orderly, empty_waits, empty_orderly}
 
 -- ---- one act
 

@@ -1,5 +1,6 @@
 -- Each act draws no more identifiers than it fills slots, but for those that it frees, and each identifier stands in one slot.
-use Rattle.std.proofs.Common.{◌≡◌, ℕ, ◌+◌, ◌<◌, false, List, length, Option, None, Some, unwrap_or, refl, sym, ap, subst, ◌∙◌, arith, length-set}
+use Rattle.std.proofs.Common.{◌≡◌, ℕ, ◌+◌, ◌<◌, false, List, length, Option, None, Some, unwrap_or, refl, sym, ap, subst, ◌∙◌, arith}
+use Rattle.std.proofs.Common.{length-set}
 use Rattle.fs_text.specs.Texts.{Text}
 use Rattle.fs_text.specs.declared.causes.Cause.{Cause}
 use Rattle.fs_chan.specs.declared.chan.Chan.{Chan}
@@ -17,7 +18,8 @@ use Rattle.fs_machine.specs.Originations.{end_of, end_made, named_end_made, leg_
 use Rattle.fs_machine.proofs.Kept.{Stage, Fact, Links, raced, KeptByMoves}
 use Rattle.fs_machine.proofs.Walk.{state_told_kept, hung_kept}
 use Rattle.fs_machine.proofs.FrontLemmas.{Front, front_of, orig_changed_front, moves_by_front}
-use Rattle.fs_machine.proofs.SeenLemmas.{Seen, seen, put, Numbers, numbers_then, numbers_quietly, numbers_more, numbers_same, numbers_gone, numbers_new, numbers_named}
+use Rattle.fs_machine.proofs.SeenLemmas.{Seen, seen, put, Numbers, numbers_then, numbers_quietly, numbers_more, numbers_same, numbers_gone}
+use Rattle.fs_machine.proofs.SeenLemmas.{numbers_new, numbers_named}
 use Rattle.fs_machine.proofs.NameLemmas.{name_foreign, name_unheld, leg_chan, with_leg, leg_channels}
 
 abbrev pub freed_by : Stage → ℕ

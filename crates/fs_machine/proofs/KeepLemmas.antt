@@ -1,5 +1,6 @@
 -- Commands, work and jobs keep all connections in their places, with what waits for them, and end no input.
-use Rattle.std.proofs.Common.{◌≡◌, ◌≢◌, ℕ, Bool, true, false, List, length, Option, None, Some, unwrap_or, option_and_then, ◌⊎◌, inl, inr, refl, sym, ap, subst, ◌∙◌}
+use Rattle.std.proofs.Common.{◌≡◌, ◌≢◌, ℕ, Bool, true, false, List, length, Option, None, Some, unwrap_or, option_and_then, ◌⊎◌, inl, inr}
+use Rattle.std.proofs.Common.{refl, sym, ap, subst, ◌∙◌}
 use Rattle.std.proofs.lemmas.Bool.{cases_eq}
 use Rattle.std.proofs.lemmas.Option.{same_Some, none-some}
 use Rattle.fs_text.specs.Texts.{Text}
@@ -12,7 +13,8 @@ use Rattle.fs_orig.specs.declared.winner.Winner.{Winner}
 use Rattle.fs_places.specs.declared.numbered.Numbered.{Numbered}
 use Rattle.fs_places.specs.Places.{held_in}
 use Rattle.fs_places.specs.Rows.{has_number, place_of, row_of, with_row}
-use Rattle.fs_places.proofs.RowLemmas.{each_put_at, length_put_at, SameNumbers, held_of, row_at, row_none, numbers-with_row, row_of-with_row_same, row_of-with_row_other}
+use Rattle.fs_places.proofs.RowLemmas.{each_put_at, length_put_at, SameNumbers, held_of, row_at, row_none, numbers-with_row}
+use Rattle.fs_places.proofs.RowLemmas.{row_of-with_row_same, row_of-with_row_other}
 use Rattle.fs_state.specs.Queues.{Frames}
 use Rattle.fs_state.specs.declared.conn.Conn.{Conn}
 use Rattle.fs_state.specs.declared.conn.Phase.TheVariants.{Fresh}

@@ -1,5 +1,7 @@
 -- Each act leaves each living leg of an origination a live channel that names the origination.
-use Rattle.std.proofs.Common.{◌≡◌, ℕ, zero, suc, ◌+◌, ◌-◌, ◌<◌, ◌^◌, min, Bool, true, false, if◌then◌else◌, List, [], ◌∷◌, slice_get, Option, None, Some, IsSome, option_map, option_and_then, unwrap_or, ◌⊎◌, inl, inr, refl, sym, ap, subst, ◌∙◌, arith, true≢false}
+use Rattle.std.proofs.Common.{◌≡◌, ℕ, zero, suc, ◌+◌, ◌-◌, ◌<◌, ◌^◌, min, Bool, true, false, if◌then◌else◌, List, [], ◌∷◌, slice_get}
+use Rattle.std.proofs.Common.{Option, None, Some, IsSome, option_map, option_and_then, unwrap_or, ◌⊎◌, inl, inr, refl, sym, ap, subst, ◌∙◌}
+use Rattle.std.proofs.Common.{arith, true≢false}
 use Rattle.std.proofs.lemmas.Bool.{cases_eq, both_ways, false≢true}
 use Rattle.std.proofs.lemmas.Option.{none-some, same_Some}
 use Rattle.fs_text.specs.Texts.{Text}
@@ -23,19 +25,27 @@ use Rattle.fs_places.specs.Places.{held_in, with_held}
 use Rattle.fs_places.specs.Rows.{has_number, place_of, row_of, with_row, without_row}
 use Rattle.fs_places.proofs.HeldLemmas.{IsFree, free_place, held_here, held_there, held_within}
 use Rattle.fs_places.proofs.TableLemmas.{still_there, not_free}
-use Rattle.fs_places.proofs.RowLemmas.{AreDistinct, AreWithin, row_gone, none_stands, above_nowhere, distinct_same, numbers-with_row, place_of-without_row_same, distinct-without_row, within-without_row, distinct-with_new_row, within-with_new_row}
+use Rattle.fs_places.proofs.RowLemmas.{AreDistinct, AreWithin, row_gone, none_stands, above_nowhere, distinct_same, numbers-with_row}
+use Rattle.fs_places.proofs.RowLemmas.{place_of-without_row_same, distinct-without_row, within-without_row, distinct-with_new_row}
+use Rattle.fs_places.proofs.RowLemmas.{within-with_new_row}
 use Rattle.fs_state.specs.declared.conn.Conn.{Conn}
 use Rattle.fs_state.specs.declared.conn.Parting.TheVariants as parting
 use Rattle.fs_state.specs.declared.job.JobWork.{JobWork}
 use Rattle.fs_state.specs.declared.job.JobWork.TheVariants.{Sleep, Originate}
-use Rattle.fs_state.specs.Switch.{Switch, chan_at, with_chan, free_slot, next_orig_number, orig_of, with_orig, with_new_orig, without_orig, with_new_job, without_job, with_event}
-use Rattle.fs_state.specs.Moves.{with_state_events, after_move_from, orig_changed_from, orig_changed, leg_changed, its_leg_changed, hangup_event, after_hangup_from, after_one_hangup, after_hangup}
-use Rattle.fs_state.proofs.LegTables.{Origs, Seat, seated, seat_if, seat_of, seat_in, seat_at, in_slot, Fewer, seat_number, seat_its, answer_spares, death_spares, touched_spares, row_there, HasPlace, changed_fewer, without_fewer, death_leaves_none, changed_or_old, new_or_old}
+use Rattle.fs_state.specs.Switch.{Switch, chan_at, with_chan, free_slot, next_orig_number, orig_of, with_orig, with_new_orig, without_orig}
+use Rattle.fs_state.specs.Switch.{with_new_job, without_job, with_event}
+use Rattle.fs_state.specs.Moves.{with_state_events, after_move_from, orig_changed_from, orig_changed, leg_changed, its_leg_changed}
+use Rattle.fs_state.specs.Moves.{hangup_event, after_hangup_from, after_one_hangup, after_hangup}
+use Rattle.fs_state.proofs.LegTables.{Origs, Seat, seated, seat_if, seat_of, seat_in, seat_at, in_slot, Fewer, seat_number, seat_its}
+use Rattle.fs_state.proofs.LegTables.{answer_spares, death_spares, touched_spares, row_there, HasPlace, changed_fewer, without_fewer}
+use Rattle.fs_state.proofs.LegTables.{death_leaves_none, changed_or_old, new_or_old}
 use Rattle.fs_machine.specs.declared.attempts.Attempt.{Attempt}
 use Rattle.fs_machine.specs.declared.originations.Call.{Call}
 use Rattle.fs_machine.specs.Texts.{made_text, failed_text}
 use Rattle.fs_machine.specs.Connections.{conn_changed, admitted, parted, owed_since, not_owed}
-use Rattle.fs_machine.specs.Originations.{end_made, leg_end, far_end, pair_made, set_all, no_variables, own_uuid, call_with, is_misnamed, Made, made_dead, is_congested, made_in, with_second, free_pair, loopback_made, made_with, made_of, leg_made, MadeGroup, group_made, won_by, after_winning}
+use Rattle.fs_machine.specs.Originations.{end_made, leg_end, far_end, pair_made, set_all, no_variables, own_uuid, call_with, is_misnamed}
+use Rattle.fs_machine.specs.Originations.{Made, made_dead, is_congested, made_in, with_second, free_pair, loopback_made, made_with, made_of}
+use Rattle.fs_machine.specs.Originations.{leg_made, MadeGroup, group_made, won_by, after_winning}
 use Rattle.fs_machine.specs.Attempts.{first_group, orig_begun, tried_by_job, originate_begun, death_of, with_group}
 use Rattle.fs_machine.specs.Owing.{after_job_begin, after_job_end}
 use Rattle.fs_machine.specs.Sound.{HasLeg, LegsAreChannels}

@@ -1,5 +1,6 @@
 -- Which identifiers a leg may have, and how its pair stands in the table of channels.
-use Rattle.std.proofs.Common.{◌≡◌, ℕ, ◌≤◌, Bool, true, false, not, ◌&&◌, nat_le, List, length, Option, None, Some, option_map, is_some, refl, sym, ap, arith}
+use Rattle.std.proofs.Common.{◌≡◌, ℕ, ◌≤◌, Bool, true, false, not, ◌&&◌, nat_le, List, length, Option, None, Some, option_map, is_some}
+use Rattle.std.proofs.Common.{refl, sym, ap, arith}
 use Rattle.std.specs.List.{list_all}
 use Rattle.std.proofs.lemmas.Bool.{both_ways, leb-true, not-false}
 use Rattle.std.proofs.lemmas.Option.{same_Some}
@@ -12,7 +13,8 @@ use Rattle.fs_places.proofs.RowLemmas.{none_found}
 use Rattle.fs_state.specs.Switch.{Switch, is_called, is_held, with_next_identifier, identifier_of}
 use Rattle.fs_machine.specs.declared.originations.Call.{Call}
 use Rattle.fs_machine.specs.declared.originations.End.{End}
-use Rattle.fs_machine.specs.Originations.{end_of, end_made, end_made_as, named_end_made, leg_end, far_end, pair_made, is_visible, is_name, is_free, is_misnamed, leg_uuid}
+use Rattle.fs_machine.specs.Originations.{end_of, end_made, end_made_as, named_end_made, leg_end, far_end, pair_made, is_visible, is_name}
+use Rattle.fs_machine.specs.Originations.{is_free, is_misnamed, leg_uuid}
 use Rattle.fs_machine.proofs.SeenLemmas.{uuid_of, uuid_in}
 use Rattle.fs_machine.proofs.ShortLemmas.{left_holds, right_holds, uuid_short}
 

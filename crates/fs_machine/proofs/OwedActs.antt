@@ -39,7 +39,8 @@ use Rattle.fs_machine.proofs.RestLemmas.{rest_of, calls_by_rest, does_same, won_
 use Rattle.fs_machine.proofs.OrderLemmas.{none_refused}
 use Rattle.fs_machine.proofs.ActWalk.{job_kept, commanded_kept}
 use Rattle.fs_machine.proofs.OwedBooks.{Books, books_of, books_same, Sound, Goes, Few}
-use Rattle.fs_machine.proofs.OwedJobs.{near_self, parts_of, goes_conn, goes_gone, goes_arrived, goes_sleep, goes_originate, goes_woken, goes_over}
+use Rattle.fs_machine.proofs.OwedJobs.{near_self, parts_of, goes_conn, goes_gone, goes_arrived, goes_sleep, goes_originate, goes_woken}
+use Rattle.fs_machine.proofs.OwedJobs.{goes_over}
 
 -- ---- refusals
 

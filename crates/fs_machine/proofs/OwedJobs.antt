@@ -1,5 +1,6 @@
 -- Changes of connections, and jobs that begin and end, in a switch.
-use Rattle.std.proofs.Common.{◌≡◌, ◌≢◌, ℕ, ◌+◌, ◌-◌, ◌^◌, ◌<◌, ◌≤◌, min, List, length, Option, None, Some, unwrap_or, refl, sym, ap, subst, ◌∙◌, arith}
+use Rattle.std.proofs.Common.{◌≡◌, ◌≢◌, ℕ, ◌+◌, ◌-◌, ◌^◌, ◌<◌, ◌≤◌, min, List, length, Option, None, Some, unwrap_or, refl, sym, ap, subst}
+use Rattle.std.proofs.Common.{◌∙◌, arith}
 use Rattle.std.proofs.lemmas.List.{length-map}
 use Rattle.fs_text.specs.Texts.{Text}
 use Rattle.fs_chan.specs.Moments.{moment_after}
@@ -13,22 +14,27 @@ use Rattle.fs_places.specs.declared.numbered.Numbered.{Numbered}
 use Rattle.fs_places.specs.Places.{held_in, with_held, least_free}
 use Rattle.fs_places.specs.Rows.{place_of, row_of, with_held_at, with_new_row, without_row}
 use Rattle.fs_places.proofs.RowLemmas.{free_least}
-use Rattle.fs_places.proofs.TableLemmas.{something_there, IsRow, HasRow, row_found, no_row, row_written, row_removed, row_added, numbers_in, numbers_held, number_at, number_there, row_of_number, numbers_removed, numbers_added, taken_in, full_taken, taken_numbers}
+use Rattle.fs_places.proofs.TableLemmas.{something_there, IsRow, HasRow, row_found, no_row, row_written, row_removed, row_added, numbers_in}
+use Rattle.fs_places.proofs.TableLemmas.{numbers_held, number_at, number_there, row_of_number, numbers_removed, numbers_added, taken_in}
+use Rattle.fs_places.proofs.TableLemmas.{full_taken, taken_numbers}
 use Rattle.fs_state.specs.declared.conn.Conn.{Conn}
 use Rattle.fs_state.specs.declared.job.Job.{Job}
 use Rattle.fs_state.specs.declared.job.JobWork.{JobWork}
 use Rattle.fs_state.specs.declared.job.JobWork.TheVariants.{Sleep, Originate}
-use Rattle.fs_state.specs.Switch.{Switch, next_orig_number, next_job_number, conn_of, with_conn, with_new_job, with_new_orig, without_job, without_conn, without_orig}
+use Rattle.fs_state.specs.Switch.{Switch, next_orig_number, next_job_number, conn_of, with_conn, with_new_job, with_new_orig, without_job}
+use Rattle.fs_state.specs.Switch.{without_conn, without_orig}
 use Rattle.fs_machine.specs.Connections.{conn_changed_from, conn_changed, owed_since, not_owed}
 use Rattle.fs_machine.specs.Originations.{seconds, MadeGroup, group_made}
 use Rattle.fs_machine.specs.Attempts.{first_group, tried_by_job, originate_begun}
 use Rattle.fs_machine.specs.Owing.{after_job_begin, after_job_end}
 use Rattle.fs_machine.specs.Step.{new_conn, arrived}
 use Rattle.fs_machine.specs.Owed.{Parts}
-use Rattle.fs_machine.proofs.OwedBooks.{Conns, Jobs, Books, books_of, books_same, PartEach, Linked, HasNumber, tried_by, trying_in, Tries, Sound, Near, Goes, Few}
+use Rattle.fs_machine.proofs.OwedBooks.{Conns, Jobs, Books, books_of, books_same, PartEach, Linked, HasNumber, tried_by, trying_in, Tries}
+use Rattle.fs_machine.proofs.OwedBooks.{Sound, Near, Goes, Few}
 use Rattle.fs_machine.proofs.Kept.{DoesJob}
 use Rattle.fs_machine.proofs.RestLemmas.{group_made_rest}
-use Rattle.fs_machine.proofs.OwedLemmas.{linked_changed, linked_gone, linked_come, linked_more, linked_begun, linked_ended, linked_dropped, tries_slept, tries_begun, tries_woken, tries_ended, trying_most}
+use Rattle.fs_machine.proofs.OwedLemmas.{linked_changed, linked_gone, linked_come, linked_more, linked_begun, linked_ended, linked_dropped}
+use Rattle.fs_machine.proofs.OwedLemmas.{tries_slept, tries_begun, tries_woken, tries_ended, trying_most}
 
 -- ---- nothing of it changes
 

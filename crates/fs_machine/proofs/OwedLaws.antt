@@ -1,5 +1,6 @@
 -- Behind every run each reply that is owed has one job that owes it, and somebody has something to do.
-use Rattle.std.proofs.Common.{◌≡◌, ◌≢◌, ℕ, ◌+◌, ◌-◌, ◌*◌, ◌^◌, ◌≤◌, min, true, List, ◌∷◌, Option, None, Some, is_some, refl, sym, ap, ◌∙◌, arith, [], if◌then◌else◌}
+use Rattle.std.proofs.Common.{◌≡◌, ◌≢◌, ℕ, ◌+◌, ◌-◌, ◌*◌, ◌^◌, ◌≤◌, min, true, List, ◌∷◌, Option, None, Some, is_some, refl, sym, ap, ◌∙◌}
+use Rattle.std.proofs.Common.{arith, [], if◌then◌else◌}
 use Rattle.std.specs.Option.{option_and_then}
 use Rattle.std.proofs.lemmas.Bool.{ltb-false}
 use Rattle.std.proofs.lemmas.List.{length-map}
@@ -10,7 +11,8 @@ use Rattle.fs_doc.specs.Reading.{Configuration}
 use Rattle.fs_orig.specs.declared.orig.Orig.{Orig}
 use Rattle.fs_places.specs.declared.numbered.Numbered.{Numbered}
 use Rattle.fs_places.specs.Places.{held_in, no_places}
-use Rattle.fs_places.proofs.TableLemmas.{something_there, one_there, none_held, HasRow, row_is, row_found, row_of_held, row_of_number, number_at, numbers_in, taken_in, one_if, taken_numbers, none_taken}
+use Rattle.fs_places.proofs.TableLemmas.{something_there, one_there, none_held, HasRow, row_is, row_found, row_of_held, row_of_number}
+use Rattle.fs_places.proofs.TableLemmas.{number_at, numbers_in, taken_in, one_if, taken_numbers, none_taken}
 use Rattle.fs_places.specs.Least.{lesser}
 use Rattle.fs_places.proofs.LeastLemmas.{lesser_never, least_never}
 use Rattle.fs_places.proofs.NumberLemmas.{no_number, none_numbered}
@@ -24,7 +26,8 @@ use Rattle.fs_machine.specs.declared.due.DueActor.TheVariants as actor
 use Rattle.fs_machine.specs.declared.entry.Entry.{Entry}
 use Rattle.fs_machine.specs.Entries.{cost_of}
 use Rattle.fs_machine.specs.Questions.{owed_of, owed_to, owes}
-use Rattle.fs_machine.specs.Due.{orig_due, work_due, job_due, is_now, later_of, row_moment, due_number, due_slot, due_job, first_chan_moment, first_job_moment, actor_or, later_or_never, due_among_all, next_due}
+use Rattle.fs_machine.specs.Due.{orig_due, work_due, job_due, is_now, later_of, row_moment, due_number, due_slot, due_job}
+use Rattle.fs_machine.specs.Due.{first_chan_moment, first_job_moment, actor_or, later_or_never, due_among_all, next_due}
 use Rattle.fs_machine.specs.Step.{act_done, step, refusal_of}
 use Rattle.fs_machine.specs.Runs.{run_from, IsRunFrom}
 use Rattle.fs_machine.specs.Owed.{HasOneJob, AreOwed}

@@ -1,5 +1,6 @@
 -- Each act keeps the agreement of loopback partners.
-use Rattle.std.proofs.Common.{◌≡◌, ℕ, ◌+◌, Bool, true, false, cond, nat_lt, [], ◌∷◌, Option, None, Some, option_and_then, unwrap_or, refl, sym, ap, subst, ◌∙◌, arith}
+use Rattle.std.proofs.Common.{◌≡◌, ℕ, ◌+◌, Bool, true, false, cond, nat_lt, [], ◌∷◌, Option, None, Some, option_and_then, unwrap_or, refl}
+use Rattle.std.proofs.Common.{sym, ap, subst, ◌∙◌, arith}
 use Rattle.fs_text.specs.declared.causes.Cause.{Cause}
 use Rattle.fs_chan.specs.declared.chan.Chan.{Chan}
 use Rattle.fs_chan.specs.Changes.{is_live}
@@ -8,7 +9,8 @@ use Rattle.fs_orig.specs.declared.winner.Winner.TheVariants.{App, Route}
 use Rattle.fs_orig.specs.Changes.{with_answer}
 use Rattle.fs_places.proofs.HeldLemmas.{IsFree, held_within}
 use Rattle.fs_state.specs.Switch.{Switch, chan_at, with_chan}
-use Rattle.fs_state.specs.Moves.{after_move_from, orig_changed, leg_changed, partner_of, partner_at, after_one_hangup, after_hangup_with, after_hangup}
+use Rattle.fs_state.specs.Moves.{after_move_from, orig_changed, leg_changed, partner_of, partner_at, after_one_hangup, after_hangup_with}
+use Rattle.fs_state.specs.Moves.{after_hangup}
 use Rattle.fs_machine.specs.declared.originations.Call.{Call}
 use Rattle.fs_machine.specs.Originations.{pair_made, won_by, after_winning}
 use Rattle.fs_machine.proofs.Kept.{Fact, Links, raced, KeptByMoves}

@@ -14,7 +14,8 @@ use Rattle.fs_machine.specs.Entries.{is_full}
 use Rattle.fs_machine.specs.Connections.{phase_at}
 use Rattle.fs_machine.specs.Questions.{owed_to}
 use Rattle.fs_machine.specs.Due.{slot_due, job_due}
-use Rattle.fs_machine.specs.Step.{reads, is_closed, is_unsent, refusal_of, refused_where, refused_act, refused_close, places_for_conns, not_due, busy}
+use Rattle.fs_machine.specs.Step.{reads, is_closed, is_unsent, refusal_of, refused_where, refused_act, refused_close, places_for_conns}
+use Rattle.fs_machine.specs.Step.{not_due, busy}
 
 -- no other test refuses so
 not_full : (test : Bool) (other : Refusal) (otherwise : Option Refusal) (cost limit : ℕ) → other ≢ refusal.JournalFull cost limit →

@@ -1,5 +1,6 @@
 -- What of a switch tells identifiers, and what becomes of it.
-use Rattle.std.proofs.Common.{◌≡◌, ℕ, ◌+◌, ◌-◌, ◌<◌, ◌≤◌, ◌^◌, min, false, List, length, Option, None, Some, option_map, refl, sym, ap, ◌∙◌, arith, length-set}
+use Rattle.std.proofs.Common.{◌≡◌, ℕ, ◌+◌, ◌-◌, ◌<◌, ◌≤◌, ◌^◌, min, false, List, length, Option, None, Some, option_map, refl, sym, ap, ◌∙◌}
+use Rattle.std.proofs.Common.{arith, length-set}
 use Rattle.fs_text.specs.CoreId.{uuid, owns, IsCore}
 use Rattle.fs_text.specs.Texts.{Text}
 use Rattle.fs_text.proofs.NamingLemmas.{Naming, naming_kept, naming_more, naming_named}

@@ -1,5 +1,6 @@
 -- Which texts can stand in the profile of a channel: those that commands and applications name, and those that a leg is made with.
-use Rattle.std.proofs.Common.{◌≡◌, ℕ, ◌≤◌, min, ◌==◌, Bool, true, false, not, ◌&&◌, if◌then◌else◌, nat_le, [], ◌∷◌, length, Option, None, Some, IfSome, unwrap_or, refl, codes, arith, length-append}
+use Rattle.std.proofs.Common.{◌≡◌, ℕ, ◌≤◌, min, ◌==◌, Bool, true, false, not, ◌&&◌, if◌then◌else◌, nat_le, [], ◌∷◌, length, Option, None}
+use Rattle.std.proofs.Common.{Some, IfSome, unwrap_or, refl, codes, arith, length-append}
 use Rattle.std.specs.Str.{bytes_eq}
 use Rattle.std.proofs.lemmas.Bool.{leb-true, not-false}
 use Rattle.std.proofs.lemmas.List.{length-take}

@@ -1,6 +1,7 @@
--- In every run live channels have partners, which agree, the texts of channels keep their limits, identifiers differ, legs are channels, and
--- an origination that fails is told why.
-use Rattle.std.proofs.Common.{◌≡◌, ℕ, ◌+◌, ◌-◌, ◌*◌, ◌<◌, ◌≤◌, ◌^◌, min, true, IsSome, List, [], ◌∷◌, length, Option, None, Some, option_and_then, option_map, refl, sym, ap, subst, ◌∙◌, arith}
+-- In every run live channels have partners, which agree, the texts of channels keep their limits, identifiers differ, legs are channels,
+-- and an origination that fails is told why.
+use Rattle.std.proofs.Common.{◌≡◌, ℕ, ◌+◌, ◌-◌, ◌*◌, ◌<◌, ◌≤◌, ◌^◌, min, true, IsSome, List, [], ◌∷◌, length, Option, None, Some}
+use Rattle.std.proofs.Common.{option_and_then, option_map, refl, sym, ap, subst, ◌∙◌, arith}
 use Rattle.std.proofs.lemmas.Bool.{both_ways, false≢true, ltb-false}
 use Rattle.fs_text.proofs.NamingLemmas.{naming_none}
 use Rattle.fs_doc.specs.Limits.{AreInRange, IsWithin}
@@ -25,7 +26,8 @@ use Rattle.fs_machine.specs.declared.entry.Act.{Act}
 use Rattle.fs_machine.specs.Entries.{cost_of}
 use Rattle.fs_machine.specs.Step.{refusal_of, act_done, step}
 use Rattle.fs_machine.specs.Runs.{run_from, IsRunFrom}
-use Rattle.fs_machine.specs.Sound.{HasPartner, PartnersAgree, HasLivePartner, LiveHasPartner, ProfilesAreShort, IdentifiersDiffer, LegsAreChannels, FailuresAreTold}
+use Rattle.fs_machine.specs.Sound.{HasPartner, PartnersAgree, HasLivePartner, LiveHasPartner, ProfilesAreShort, IdentifiersDiffer}
+use Rattle.fs_machine.specs.Sound.{LegsAreChannels, FailuresAreTold}
 use Rattle.fs_machine.proofs.TieLemmas.{lives_as, named_in, Ties}
 use Rattle.fs_machine.proofs.FrameLemmas.{some_cost}
 use Rattle.fs_machine.proofs.OrderLemmas.{acted_cost, acted_config, not_full}

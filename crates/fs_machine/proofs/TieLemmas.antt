@@ -1,5 +1,6 @@
 -- Channels that name each other in pairs.
-use Rattle.std.proofs.Common.{◌≡◌, ℕ, ◌<◌, Bool, true, false, cond, List, [], ◌∷◌, length, Option, None, Some, option_and_then, ◌⊎◌, inl, inr, refl, sym, ap, subst, ◌∙◌, length-set}
+use Rattle.std.proofs.Common.{◌≡◌, ℕ, ◌<◌, Bool, true, false, cond, List, [], ◌∷◌, length, Option, None, Some, option_and_then, ◌⊎◌, inl}
+use Rattle.std.proofs.Common.{inr, refl, sym, ap, subst, ◌∙◌, length-set}
 use Rattle.fs_text.specs.declared.states.State.TheVariants.{CsHangup}
 use Rattle.fs_text.specs.declared.causes.Cause.{Cause}
 use Rattle.fs_chan.specs.declared.chan.Chan.{Chan}
@@ -10,7 +11,8 @@ use Rattle.fs_places.specs.Places.{held_in, with_held}
 use Rattle.fs_places.proofs.HeldLemmas.{held_here, held_there, held_within, at_each}
 use Rattle.fs_state.specs.Switch.{Switch, chan_at, with_chan, with_event}
 use Rattle.fs_state.specs.Moves.{with_state_events, leg_changed, its_leg_changed, hangup_event, after_hangup_from, after_one_hangup}
-use Rattle.fs_machine.proofs.PartnerLemmas.{LiveNamers, Agree, lone, agree_kept, Cuts, live_cut, CutsAll, AreClosed, none_cut, one_more_cut, all_cut, joined}
+use Rattle.fs_machine.proofs.PartnerLemmas.{LiveNamers, Agree, lone, agree_kept, Cuts, live_cut, CutsAll, AreClosed, none_cut, one_more_cut}
+use Rattle.fs_machine.proofs.PartnerLemmas.{all_cut, joined}
 use Rattle.fs_machine.proofs.Walk.{state_told_kept}
 use Rattle.fs_machine.proofs.FrontLemmas.{Front, orig_changed_front}
 

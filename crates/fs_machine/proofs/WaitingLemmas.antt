@@ -1,17 +1,22 @@
 -- What waits for connections, before and after a change.
-use Rattle.std.proofs.Common.{◌≡◌, ℕ, ◌+◌, ◌-◌, ◌^◌, ◌<◌, ◌≤◌, ◌==◌, min, Bool, true, false, if◌then◌else◌, List, [], ◌∷◌, ◌++◌, length, drop, Option, None, Some, ◌⊎◌, inl, inr, refl, sym, ap, subst, ◌∙◌, append_assoc, append-nil, arith}
+use Rattle.std.proofs.Common.{◌≡◌, ℕ, ◌+◌, ◌-◌, ◌^◌, ◌<◌, ◌≤◌, ◌==◌, min, Bool, true, false, if◌then◌else◌, List, [], ◌∷◌, ◌++◌, length}
+use Rattle.std.proofs.Common.{drop, Option, None, Some, ◌⊎◌, inl, inr, refl, sym, ap, subst, ◌∙◌, append_assoc, append-nil, arith}
 use Rattle.std.proofs.lemmas.List.{get_or-set_same, get_or-set_other, length-set}
 use Rattle.std.proofs.lemmas.Bool.{cases_eq}
 use Rattle.fs_places.specs.declared.numbered.Numbered.{Numbered}
 use Rattle.fs_places.specs.Places.{held_in, least_free}
 use Rattle.fs_places.specs.Rows.{has_number, place_of, with_new_row}
-use Rattle.fs_places.proofs.RowLemmas.{AreDistinct, AreWithin, held_of, row_at, row_none, each_put_at, length_put_at, place_stands, place_within, places_apart, above_nowhere, places_same, distinct_same, distinct-without_row, within-without_row, place_of-without_row_same, place_of-without_row_other, distinct-with_new_row, within-with_new_row, place_of-with_new_row_other, new_stands, new_free}
+use Rattle.fs_places.proofs.RowLemmas.{AreDistinct, AreWithin, held_of, row_at, row_none, each_put_at, length_put_at, place_stands}
+use Rattle.fs_places.proofs.RowLemmas.{place_within, places_apart, above_nowhere, places_same, distinct_same, distinct-without_row}
+use Rattle.fs_places.proofs.RowLemmas.{within-without_row, place_of-without_row_same, place_of-without_row_other, distinct-with_new_row}
+use Rattle.fs_places.proofs.RowLemmas.{within-with_new_row, place_of-with_new_row_other, new_stands, new_free}
 use Rattle.fs_state.specs.declared.conn.Conn.{Conn}
 use Rattle.fs_state.specs.declared.gift.Gift.{Gift}
 use Rattle.fs_state.specs.Drawn as numbers
 use Rattle.fs_state.specs.Queues.{Frames, queue_at, without_first_frame, without_frames, with_frames_at, delivered}
 use Rattle.fs_state.specs.Switch.{Switch, waiting_at, waiting_for, changed_at, with_frame_taken, without_conn, after_entry}
-use Rattle.fs_state.proofs.GiftLemmas.{AreQuiet, quiet_less, quiet_taken, quiet_delivered, changed_length, given_length, delivered_length, one_given}
+use Rattle.fs_state.proofs.GiftLemmas.{AreQuiet, quiet_less, quiet_taken, quiet_delivered, changed_length, given_length, delivered_length}
+use Rattle.fs_state.proofs.GiftLemmas.{one_given}
 use Rattle.fs_machine.specs.Connections.{phase_of, phase_at}
 use Rattle.fs_machine.specs.Step.{is_closed, new_conn, arrived}
 use Rattle.fs_machine.specs.Frames.{frames_among, given_in}

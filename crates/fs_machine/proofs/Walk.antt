@@ -1,12 +1,17 @@
 -- The one walk through what channels do: a fact that bears each of their moves is kept by all that they do.
-use Rattle.std.proofs.Common.{◌≡◌, ℕ, ◌+◌, ◌==◌, nat_lt, Bool, true, false, if◌then◌else◌, List, [], ◌∷◌, length, Option, None, Some, option_map, option_and_then, is_none, refl, sym, ap, subst, ◌∙◌}
+use Rattle.std.proofs.Common.{◌≡◌, ℕ, ◌+◌, ◌==◌, nat_lt, Bool, true, false, if◌then◌else◌, List, [], ◌∷◌, length, Option, None, Some}
+use Rattle.std.proofs.Common.{option_map, option_and_then, is_none, refl, sym, ap, subst, ◌∙◌}
 use Rattle.fs_text.specs.declared.states.State.{State}
-use Rattle.fs_text.specs.declared.states.State.TheVariants.{CsNew, CsInit, CsRouting, CsExecute, CsPark, CsConsumeMedia, CsHangup, CsReporting}
+use Rattle.fs_text.specs.declared.states.State.TheVariants.{CsNew, CsInit, CsRouting, CsExecute, CsPark, CsConsumeMedia, CsHangup}
+use Rattle.fs_text.specs.declared.states.State.TheVariants.{CsReporting}
 use Rattle.fs_text.specs.State.{state_row, state_number}
 use Rattle.fs_text.specs.Texts.{Text}
 use Rattle.fs_text.specs.declared.causes.Cause.{Cause}
-use Rattle.fs_text.specs.declared.causes.Cause.TheVariants.{NormalClearing, NormalTemporaryFailure, DestinationOutOfOrder, ExchangeRoutingError, NoRouteDestination}
-use Rattle.fs_text.specs.declared.event_names.EventName.TheVariants.{ChannelCreate, ChannelState, ChannelAnswer, ChannelExecute, ChannelExecuteComplete, ChannelPark, ChannelUnpark, ChannelHangupComplete, ChannelDestroy}
+use Rattle.fs_text.specs.declared.causes.Cause.TheVariants.{NormalClearing, NormalTemporaryFailure, DestinationOutOfOrder}
+use Rattle.fs_text.specs.declared.causes.Cause.TheVariants.{ExchangeRoutingError, NoRouteDestination}
+use Rattle.fs_text.specs.declared.event_names.EventName.TheVariants.{ChannelCreate, ChannelState, ChannelAnswer, ChannelExecute}
+use Rattle.fs_text.specs.declared.event_names.EventName.TheVariants.{ChannelExecuteComplete, ChannelPark, ChannelUnpark}
+use Rattle.fs_text.specs.declared.event_names.EventName.TheVariants.{ChannelHangupComplete, ChannelDestroy}
 use Rattle.fs_vars.specs.Variables.{Variables}
 use Rattle.fs_app.specs.declared.application.Application.{Application}
 use Rattle.fs_app.specs.declared.application.Application.TheVariants as app
@@ -19,7 +24,8 @@ use Rattle.fs_chan.specs.declared.peer.Direction.TheVariants.{Inbound, Outbound}
 use Rattle.fs_chan.specs.declared.target.Target3.{Target3}
 use Rattle.fs_chan.specs.declared.wait.Wait.{Wait}
 use Rattle.fs_chan.specs.declared.wait.Wait.TheVariants.{Ready, Sleep, Parked, Socket}
-use Rattle.fs_chan.specs.Changes.{IsShortTarget, is_live, in_state, with_answer_place, at_rest, hung_up, transferred, parked, asleep, may_route, routed}
+use Rattle.fs_chan.specs.Changes.{IsShortTarget, is_live, in_state, with_answer_place, at_rest, hung_up, transferred, parked, asleep}
+use Rattle.fs_chan.specs.Changes.{may_route, routed}
 use Rattle.fs_chan.specs.declared.assignment.Assignment.{Assignment}
 use Rattle.fs_chan.specs.declared.assignment.Assignment.TheVariants.{Set, Unset, Export, SetGlobal}
 use Rattle.fs_chan.specs.Assignments.{assigned}
@@ -37,11 +43,17 @@ use Rattle.fs_places.proofs.HeldLemmas.{held_here, held_within, free_place}
 use Rattle.fs_plan.specs.declared.hunt.Hunt.{Hunt}
 use Rattle.fs_state.specs.declared.event.Event.{Event}
 use Rattle.fs_state.specs.Switch.{Switch, chan_at, with_chan, free_slot, with_event}
-use Rattle.fs_state.specs.Moves.{plain_event, with_leaving_event, with_coming_event, with_state_events, after_move_from, after_move, after_begin, with_running, run_on, after_completion, orig_changed, leg_changed, its_leg_changed, after_answer_from, after_one_answer, partner_at, for_slot, after_answer, hangup_event, after_hangup_from, after_one_hangup, after_hangup_with, after_hangup, after_report, after_destroy}
+use Rattle.fs_state.specs.Moves.{plain_event, with_leaving_event, with_coming_event, with_state_events, after_move_from, after_move}
+use Rattle.fs_state.specs.Moves.{after_begin, with_running, run_on, after_completion, orig_changed, leg_changed, its_leg_changed}
+use Rattle.fs_state.specs.Moves.{after_answer_from, after_one_answer, partner_at, for_slot, after_answer, hangup_event, after_hangup_from}
+use Rattle.fs_state.specs.Moves.{after_one_hangup, after_hangup_with, after_hangup, after_report, after_destroy}
 use Rattle.fs_machine.specs.declared.originations.Call.{Call}
-use Rattle.fs_machine.specs.Applications.{with_assignment, after_assignment, after_sleep, state_at, after_park_in, after_effect, argument_in, executed_within, after_running_next, after_running_from, after_running}
-use Rattle.fs_machine.specs.Work.{with_variables, routed_to, has_xml, actions_for, too_long_cause, found_for, routed_by, after_routing_from, first_state, after_wait, after_work_in, after_work_from, after_work}
-use Rattle.fs_machine.specs.Originations.{Made, made_dead, made_in, with_second, free_pair, is_congested, loopback_made, set_all, no_variables, own_uuid, call_with, is_misnamed, made_with, made_of, leg_made, group_made}
+use Rattle.fs_machine.specs.Applications.{with_assignment, after_assignment, after_sleep, state_at, after_park_in, after_effect}
+use Rattle.fs_machine.specs.Applications.{argument_in, executed_within, after_running_next, after_running_from, after_running}
+use Rattle.fs_machine.specs.Work.{with_variables, routed_to, has_xml, actions_for, too_long_cause, found_for, routed_by, after_routing_from}
+use Rattle.fs_machine.specs.Work.{first_state, after_wait, after_work_in, after_work_from, after_work}
+use Rattle.fs_machine.specs.Originations.{Made, made_dead, made_in, with_second, free_pair, is_congested, loopback_made, set_all}
+use Rattle.fs_machine.specs.Originations.{no_variables, own_uuid, call_with, is_misnamed, made_with, made_of, leg_made, group_made}
 use Rattle.fs_machine.specs.Attempts.{after_hangups}
 use Rattle.fs_machine.proofs.ShortLemmas.{sent_short, application_short, endpoint_short}
 use Rattle.fs_machine.proofs.Kept.{Stage, Fact, Stays, KeptByCalls, KeptByBirths}

@@ -1,5 +1,6 @@
 -- What an api command answers, and what it does to the switch.
-use Rattle.std.specs.Prelude.{◌≡◌, ℕ, nat_lt, [], ◌++◌, length, map, Bool, Option, None, Some, is_some, unwrap_or, Result, Ok, Err, codes, if◌then◌else◌}
+use Rattle.std.specs.Prelude.{◌≡◌, ℕ, nat_lt, [], ◌++◌, length, map, Bool, Option, None, Some, is_some, unwrap_or, Result, Ok, Err, codes}
+use Rattle.std.specs.Prelude.{if◌then◌else◌}
 use Rattle.std.specs.List.{concat}
 use Rattle.std.specs.Option.{option_and_then}
 use Rattle.fs_text.specs.Texts.{Text}
@@ -21,7 +22,8 @@ use Rattle.fs_orig.specs.Plans.{plans_of}
 use Rattle.fs_orig.specs.Timeouts.{braces_timeout}
 use Rattle.fs_state.specs.Switch.{Switch, chan_at, slot_named, is_full_of_jobs}
 use Rattle.fs_state.specs.Moves.{after_hangup}
-use Rattle.fs_machine.specs.Texts.{ok, yes, no, limit_passed, too_long_text, usage_text, api_not_found, no_channel, undefined, too_many_jobs, failed_text}
+use Rattle.fs_machine.specs.Texts.{ok, yes, no, limit_passed, too_long_text, usage_text, api_not_found, no_channel, undefined}
+use Rattle.fs_machine.specs.Texts.{too_many_jobs, failed_text}
 use Rattle.fs_machine.specs.Attempts.{originate_begun}
 use Rattle.fs_machine.specs.Jobs.{sleep_begun}
 

@@ -1,5 +1,6 @@
 -- Which entries are refused, and what the others do.
-use Rattle.std.specs.Prelude.{◌≡◌, ◌≢◌, ℕ, ◌-◌, ◌^◌, min, ◌==◌, ◌||◌, not, Bool, true, false, [], length, Option, None, Some, is_some, unwrap_or, slice_get, if◌then◌else◌}
+use Rattle.std.specs.Prelude.{◌≡◌, ◌≢◌, ℕ, ◌-◌, ◌^◌, min, ◌==◌, ◌||◌, not, Bool, true, false, [], length, Option, None, Some, is_some}
+use Rattle.std.specs.Prelude.{unwrap_or, slice_get, if◌then◌else◌}
 use Rattle.fs_frame.specs.Block.{line_of}
 use Rattle.fs_cmd.specs.Commands.{command_of}
 use Rattle.fs_cmd.specs.Frames.{auth_request}
@@ -10,7 +11,8 @@ use Rattle.fs_state.specs.declared.conn.Phase.{Phase}
 use Rattle.fs_state.specs.declared.conn.Phase.TheVariants as phase
 use Rattle.fs_state.specs.declared.conn.Parting.TheVariants as parting
 use Rattle.fs_state.specs.Drawn as numbers
-use Rattle.fs_state.specs.Switch.{Switch, with_new_conn, without_conn, with_frame_taken, waiting_for, is_full_of_conns, with_gift, at_moment, after_entry}
+use Rattle.fs_state.specs.Switch.{Switch, with_new_conn, without_conn, with_frame_taken, waiting_for, is_full_of_conns, with_gift}
+use Rattle.fs_state.specs.Switch.{at_moment, after_entry}
 use Rattle.fs_machine.specs.declared.entry.Entry.{Entry}
 use Rattle.fs_machine.specs.declared.entry.Act.{Act}
 use Rattle.fs_machine.specs.declared.entry.Act.TheVariants.{Arrive, Command, Take, Close, Work, Job}

@@ -2,7 +2,8 @@
 use Rattle.std.specs.Prelude.{ℕ, ◌==◌, Bool, [], List, length, Ok, Err, codes, if◌then◌else◌, Option, None, Some}
 use Rattle.std.specs.Str.{bytes_eq}
 use Rattle.fs_text.specs.declared.states.State.{State}
-use Rattle.fs_text.specs.declared.states.State.TheVariants.{CsNew, CsInit, CsRouting, CsExecute, CsPark, CsConsumeMedia, CsHangup, CsReporting}
+use Rattle.fs_text.specs.declared.states.State.TheVariants.{CsNew, CsInit, CsRouting, CsExecute, CsPark, CsConsumeMedia, CsHangup}
+use Rattle.fs_text.specs.declared.states.State.TheVariants.{CsReporting}
 use Rattle.fs_text.specs.declared.causes.Cause.{Cause}
 use Rattle.fs_text.specs.declared.causes.Cause.TheVariants.{ExchangeRoutingError, NoRouteDestination, NormalTemporaryFailure}
 use Rattle.fs_vars.specs.Variables.{Variables}

@@ -118,7 +118,7 @@ fn assign(draft: &mut Draft<'_>, slot: u16, how: Assignment, argument: &Txt) -> 
         Assignment::SetGlobal => {
             let mut globals = draft.globals().copy()?;
             how.apply(draft.alloc(), argument.as_bytes(), &mut globals)?;
-            draft.set_globals(globals);
+            draft.set_globals(globals)?;
         }
         _ => change_chan(draft, slot, ChanChange::Assign { how, argument })?,
     }

@@ -177,7 +177,14 @@ fn other_slots(alloc: Global, orig: &Orig, position: usize) -> Result<Vec<u16>, 
 }
 
 // Adds the slots of the legs that live.
-#[tactic(auto, using(fs_orig::proofs::LegLemmas::living_there, fs_orig::proofs::LegLemmas::living_elsewhere, fs_orig::proofs::LegLemmas::living_done))]
+#[tactic(
+    auto,
+    using(
+        fs_orig::proofs::LegLemmas::living_there,
+        fs_orig::proofs::LegLemmas::living_elsewhere,
+        fs_orig::proofs::LegLemmas::living_done
+    )
+)]
 fn add_living(slots: &mut Vec<u16>, legs: &[OrigLeg]) -> Result<(), Memory>
     ensures { OnOk result (slots.new.items ≡ slots.old.items ++ orig_legs.living_slots legs.now) }
 {
@@ -233,7 +240,8 @@ fn win_attempt(
     leg: &OrigLeg,
 ) -> Result<(), Memory>
     ensures base { draft.new.base ≡ draft.old.base }
-    ensures ok { OnOk result (drafted draft.new ≡ spec.after_race_by None attempt winner.now leg.now (drafted draft.old)) }
+    ensures ok { OnOk result
+        (drafted draft.new ≡ spec.after_race_by None attempt winner.now leg.now (drafted draft.old)) }
 {
     let answer = made_text(draft.alloc(), leg.uuid.as_bytes())?;
     win(draft, leg.slot.unwrap_or(0), winner)?;

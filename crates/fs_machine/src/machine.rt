@@ -208,7 +208,8 @@ fn change_by(mut draft: Draft<'_>, plan: &Dialplan, asked: &Entry) -> Result<Cha
     requires plan { plan.now ≡ draft.base.config.contexts }
     ensures entry { IfOk result (λ change. change.entry ≡ asked.entry.now) }
     ensures acted { IfOk result (λ change.
-        ComesTo (act_done asked.entry.now.act (drafted draft.entry)) (after draft.entry.base change.delta) change.reply) }
+        ComesTo (act_done asked.entry.now.act (drafted draft.entry))
+        (after draft.entry.base change.delta) change.reply) }
     ensures fits { IfOk result (λ change. Fits draft.entry.base change.delta) }
 {
     let reply = do_act(&mut draft, plan, &asked.act)?;

@@ -189,7 +189,8 @@ fn make_pair(
 fn make_named_end(draft: &mut Draft<'_>, call: &Call, end: End) -> Result<Txt, Memory>
     ensures base { draft.new.base ≡ draft.old.base }
     ensures uuid { IfOk result (λ uuid. uuid ≡ spec.leg_uuid call.now.uuid (drafted draft.old)) }
-    ensures made { OnOk result (drafted draft.new ≡ spec.named_end_made call.now.uuid call.now end (drafted draft.old)) }
+    ensures made { OnOk result
+        (drafted draft.new ≡ spec.named_end_made call.now.uuid call.now end (drafted draft.old)) }
 {
     let Some(name) = &call.uuid else {
         return make_end(draft, call, end);

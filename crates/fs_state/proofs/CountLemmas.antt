@@ -1,5 +1,6 @@
 -- What the counts tell of all events so far.
-use Rattle.std.proofs.Common.{◌≡◌, ℕ, ◌+◌, ◌-◌, ◌^◌, ◌<◌, ◌≤◌, ◌==◌, ltb, min, Bool, true, false, List, [], ◌∷◌, ◌++◌, length, cond, Option, None, Some, refl, sym, ap, ◌∙◌, arith}
+use Rattle.std.proofs.Common.{◌≡◌, ℕ, ◌+◌, ◌-◌, ◌^◌, ◌<◌, ◌≤◌, ◌==◌, ltb, min, Bool, true, false, List, [], ◌∷◌, ◌++◌, length, cond, Option}
+use Rattle.std.proofs.Common.{None, Some, refl, sym, ap, ◌∙◌, arith}
 use Rattle.std.specs.List.{count_by}
 use Rattle.std.proofs.lemmas.Bool.{eqb-true, eqb-false, ltb-true}
 use Rattle.std.proofs.lemmas.List.Sums.{sum_by-append}
@@ -11,10 +12,12 @@ use Rattle.fs_text.specs.declared.event_names.EventName.TheVariants.{Custom}
 use Rattle.fs_text.specs.Cause.{cause_row, cause_number}
 use Rattle.fs_text.specs.EventName.{event_row, event_number}
 use Rattle.fs_state.specs.declared.event.Event.{Event}
-use Rattle.fs_state.specs.Counts.{Tallies, zeros, no_tallies, counted_at, raised_at, with_hangup_counted, with_event_counted, with_events_counted, is_named, is_cause, events_named, hangups_for}
+use Rattle.fs_state.specs.Counts.{Tallies, zeros, no_tallies, counted_at, raised_at, with_hangup_counted, with_event_counted}
+use Rattle.fs_state.specs.Counts.{with_events_counted, is_named, is_cause, events_named, hangups_for}
 
 -- some events, and then others
-pub counted_append : (events others : List Event) (t : Tallies) → with_events_counted (events ++ others) t ≡ with_events_counted others (with_events_counted events t)
+pub counted_append : (events others : List Event) (t : Tallies) →
+    with_events_counted (events ++ others) t ≡ with_events_counted others (with_events_counted events t)
 counted_append [] others t = refl
 counted_append (event ∷ events) others t = counted_append events others (with_event_counted event t)
 
@@ -31,7 +34,8 @@ raised_here counts raised number true is low =
     ap (λ n. counted_at (raised_at n counts) number) (eqb-true raised number is)
     ∙ get_or-set_same counts number (min (counted_at counts number + 1) (2 ^ 64 - 1)) 0 low.0
 raised_here counts raised number false is low =
-    get_or-set_other counts raised number (min (counted_at counts raised + 1) (2 ^ 64 - 1)) 0 (λ same. eqb-false raised number is (sym same)) ∙ omega (arith, low.1)
+    get_or-set_other counts raised number (min (counted_at counts raised + 1) (2 ^ 64 - 1)) 0
+        (λ same. eqb-false raised number is (sym same)) ∙ omega (arith, low.1)
 
 raised_low : (counts : List ℕ) (raised number : ℕ) → IsLow number counts → IsLow number (raised_at raised counts)
 raised_low counts raised number low = (
@@ -43,7 +47,8 @@ raised_low counts raised number low = (
 one_more : {X : Type 0} → (p : X → Bool) (x : X) (xs : List X) → count_by p (x ∷ xs) ≡ cond (p x) 1 0 + count_by p xs
 one_more p x xs = omega (arith, sum_by-append (λ y. cond (p y) 1 0) (x ∷ []) xs)
 
-counts_on : (here mid after one others all : ℕ) → mid ≡ min (here + one) (2 ^ 64 - 1) → after ≡ min (mid + others) (2 ^ 64 - 1) → all ≡ one + others →
+counts_on : (here mid after one others all : ℕ) → mid ≡ min (here + one) (2 ^ 64 - 1) → after ≡ min (mid + others) (2 ^ 64 - 1) →
+    all ≡ one + others →
     after ≡ min (here + all) (2 ^ 64 - 1)
 counts_on here mid after one others all first rest more = omega (arith, first, rest, more)
 
@@ -65,16 +70,19 @@ event_low Custom = refl
 event_low _ = refl
 
 named_on : (name : EventName) (events : List Event) (t : Tallies) → IsLow (event_number name) t.events →
-    counted_at (with_events_counted events t).events (event_number name) ≡ min (counted_at t.events (event_number name) + count_by (is_named name) events) (2 ^ 64 - 1)
+    counted_at (with_events_counted events t).events (event_number name)
+        ≡ min (counted_at t.events (event_number name) + count_by (is_named name) events) (2 ^ 64 - 1)
 named_on name [] t low = omega (arith, low.1)
 named_on name (event ∷ events) t low =
-    counts_on (counted_at t.events (event_number name)) (counted_at (with_event_counted event t).events (event_number name)) (counted_at (with_events_counted events (with_event_counted event t)).events (event_number name))
+    counts_on (counted_at t.events (event_number name)) (counted_at (with_event_counted event t).events (event_number name))
+        (counted_at (with_events_counted events (with_event_counted event t)).events (event_number name))
     (cond (is_named name event) 1 0) (count_by (is_named name) events) (count_by (is_named name) (event ∷ events))
     (raised_here t.events (event_number event.name) (event_number name) (is_named name event) refl low)
     (named_on name events (with_event_counted event t) (raised_low t.events (event_number event.name) (event_number name) low))
     (one_more (is_named name) event events)
 
-pub counts_names : (name : EventName) (events : List Event) → counted_at (with_events_counted events no_tallies).events (event_number name) ≡ events_named name events
+pub counts_names : (name : EventName) (events : List Event) →
+    counted_at (with_events_counted events no_tallies).events (event_number name) ≡ events_named name events
 counts_names name events =
     let none = zeros_low 16 (event_number name) (ltb-true (event_number name) 16 (event_low name)) in
     named_on name events no_tallies none.0 ∙ from_none (counted_at (zeros 16) (event_number name)) (count_by (is_named name) events) none.1
@@ -87,11 +95,14 @@ cause_low UnallocatedNumber = refl
 cause_low _ = refl
 
 hangup_here : (cause : Cause) (told : Option Cause) (hangups : List ℕ) → IsLow (cause_number cause) hangups →
-    counted_at (with_hangup_counted told hangups) (cause_number cause) ≡ min (counted_at hangups (cause_number cause) + cond (is_cause cause told) 1 0) (2 ^ 64 - 1)
+    counted_at (with_hangup_counted told hangups) (cause_number cause)
+        ≡ min (counted_at hangups (cause_number cause) + cond (is_cause cause told) 1 0) (2 ^ 64 - 1)
 hangup_here cause None hangups low = omega (arith, low.1)
-hangup_here cause (Some other) hangups low = raised_here hangups (cause_number other) (cause_number cause) (is_cause cause (Some other)) refl low
+hangup_here cause (Some other) hangups low =
+    raised_here hangups (cause_number other) (cause_number cause) (is_cause cause (Some other)) refl low
 
-hangup_low : (cause : Cause) (told : Option Cause) (hangups : List ℕ) → IsLow (cause_number cause) hangups → IsLow (cause_number cause) (with_hangup_counted told hangups)
+hangup_low : (cause : Cause) (told : Option Cause) (hangups : List ℕ) → IsLow (cause_number cause) hangups →
+    IsLow (cause_number cause) (with_hangup_counted told hangups)
 hangup_low cause None hangups low = low
 hangup_low cause (Some other) hangups low = raised_low hangups (cause_number other) (cause_number cause) low
 
@@ -100,13 +111,16 @@ hung_on : (cause : Cause) (events : List Event) (t : Tallies) → IsLow (cause_n
     ≡ min (counted_at t.hangups (cause_number cause) + count_by (λ event. is_cause cause event.cause) events) (2 ^ 64 - 1)
 hung_on cause [] t low = omega (arith, low.1)
 hung_on cause (event ∷ events) t low =
-    counts_on (counted_at t.hangups (cause_number cause)) (counted_at (with_event_counted event t).hangups (cause_number cause)) (counted_at (with_events_counted events (with_event_counted event t)).hangups (cause_number cause))
-    (cond (is_cause cause event.cause) 1 0) (count_by (λ (e : Event). is_cause cause e.cause) events) (count_by (λ (e : Event). is_cause cause e.cause) (event ∷ events))
+    counts_on (counted_at t.hangups (cause_number cause)) (counted_at (with_event_counted event t).hangups (cause_number cause))
+        (counted_at (with_events_counted events (with_event_counted event t)).hangups (cause_number cause))
+    (cond (is_cause cause event.cause) 1 0) (count_by (λ (e : Event). is_cause cause e.cause) events)
+        (count_by (λ (e : Event). is_cause cause e.cause) (event ∷ events))
     (hangup_here cause event.cause t.hangups low)
     (hung_on cause events (with_event_counted event t) (hangup_low cause event.cause t.hangups low))
     (one_more (λ (e : Event). is_cause cause e.cause) event events)
 
-pub counts_hangups : (cause : Cause) (events : List Event) → counted_at (with_events_counted events no_tallies).hangups (cause_number cause) ≡ hangups_for cause events
+pub counts_hangups : (cause : Cause) (events : List Event) →
+    counted_at (with_events_counted events no_tallies).hangups (cause_number cause) ≡ hangups_for cause events
 counts_hangups cause events =
     let none = zeros_low 606 (cause_number cause) (ltb-true (cause_number cause) 606 (cause_low cause)) in
     hung_on cause events no_tallies none.0

@@ -1,5 +1,6 @@
 -- That the queues have room for what is given.
-use Rattle.std.proofs.Common.{◌≡◌, ℕ, ◌+◌, ◌-◌, ◌^◌, ◌<◌, ◌≤◌, ◌==◌, min, Bool, true, false, List, [], ◌∷◌, ◌++◌, length, drop, get_or, Option, None, Some, refl, sym, ap, subst, ◌∙◌, arith}
+use Rattle.std.proofs.Common.{◌≡◌, ℕ, ◌+◌, ◌-◌, ◌^◌, ◌<◌, ◌≤◌, ◌==◌, min, Bool, true, false, List, [], ◌∷◌, ◌++◌, length, drop, get_or}
+use Rattle.std.proofs.Common.{Option, None, Some, refl, sym, ap, subst, ◌∙◌, arith}
 use Rattle.std.specs.List.{slice_set}
 use Rattle.std.proofs.lemmas.List.{get_or-set_same, get_or-set_other, length-set, length-append, length-drop}
 use Rattle.std.proofs.lemmas.List.Sums.{sum_by-cons}
@@ -11,7 +12,8 @@ use Rattle.fs_places.specs.declared.numbered.Numbered.{Numbered}
 use Rattle.fs_places.specs.Rows.{place_of}
 use Rattle.fs_state.specs.declared.conn.Conn.{Conn}
 use Rattle.fs_state.specs.declared.gift.Gift.{Gift}
-use Rattle.fs_state.specs.Queues.{Frames, queue_at, with_queue, behind_first, with_gift_delivered, requeued, with_frames_at, frames_given, HaveRoom}
+use Rattle.fs_state.specs.Queues.{Frames, queue_at, with_queue, behind_first, with_gift_delivered, requeued, with_frames_at, frames_given}
+use Rattle.fs_state.specs.Queues.{HaveRoom}
 
 -- less fits where more does
 pub room_less : (queues : List Frames) (n m : ℕ) → n ≤ m → HaveRoom queues m → HaveRoom queues n
@@ -22,7 +24,8 @@ room_with : (place : ℕ) (queue : Frames) (queues : List Frames) (n more : ℕ)
     HaveRoom queues (more + n) → HaveRoom (with_queue place queue queues) n
 room_with place queue queues n more shorter h = record { each = each }
   where
-    at : (k : ℕ) (d : Frames) → k < length queues → (b : Bool) → (k == place) ≡ b → length (get_or (slice_set queues place queue) k d) + n < 2 ^ 63
+    at : (k : ℕ) (d : Frames) → k < length queues → (b : Bool) → (k == place) ≡ b →
+        length (get_or (slice_set queues place queue) k d) + n < 2 ^ 63
     at k d there true e =
         let same : k ≡ place = eqb-true k place e in
         let here : place < length queues = subst (λ p. p < length queues) same there in
@@ -33,7 +36,8 @@ room_with place queue queues n more shorter h = record { each = each }
         subst (λ q. length q + n < 2 ^ 63) (sym (get_or-set_other queues place k queue d (λ same. grind (arith, nat_tests, e, same))))
         (omega (arith, h.each k d there))
 
-    each : (k : ℕ) (d : Frames) → k < length (slice_set queues place queue) → length (get_or (slice_set queues place queue) k d) + n < 2 ^ 63
+    each : (k : ℕ) (d : Frames) → k < length (slice_set queues place queue) →
+        length (get_or (slice_set queues place queue) k d) + n < 2 ^ 63
     each k d within = at k d (subst (λ len. k < len) (length-set queues place queue) within) (k == place) refl
 
 -- ---- gifts
@@ -41,7 +45,8 @@ room_with place queue queues n more shorter h = record { each = each }
 given_more : (gift : Gift) (gifts : List Gift) → frames_given (gift ∷ gifts) ≡ length gift.frames + frames_given gifts
 given_more gift gifts = sum_by-cons (λ g. length g.frames) gift gifts
 
-pub room_for_gift : (queues : List Frames) (gift : Gift) (gifts : List Gift) → HaveRoom queues (frames_given (gift ∷ gifts)) → HaveRoom queues (length gift.frames)
+pub room_for_gift : (queues : List Frames) (gift : Gift) (gifts : List Gift) → HaveRoom queues (frames_given (gift ∷ gifts)) →
+    HaveRoom queues (length gift.frames)
 room_for_gift queues gift gifts h =
     room_less queues (length gift.frames) (frames_given (gift ∷ gifts)) (omega (arith, given_more gift gifts)) h
 
@@ -51,19 +56,24 @@ room_after_at : (at : Option ℕ) (queues : List Frames) (gift : Gift) (gifts : 
 room_after_at None queues gift gifts h =
     room_less queues (frames_given gifts) (frames_given (gift ∷ gifts)) (omega (arith, given_more gift gifts)) h
 room_after_at (Some place) queues gift gifts h =
-    room_with place (queue_at queues place ++ gift.frames) queues (frames_given gifts) (length gift.frames) (omega (arith, length-append (queue_at queues place) gift.frames))
+    room_with place (queue_at queues place ++ gift.frames) queues (frames_given gifts) (length gift.frames)
+        (omega (arith, length-append (queue_at queues place) gift.frames))
     (subst (HaveRoom queues) (given_more gift gifts) h)
 
-pub room_after_gift : (conns : List (Option (Numbered Conn))) (gift : Gift) (gifts : List Gift) (queues : List Frames) → HaveRoom queues (frames_given (gift ∷ gifts)) →
+pub room_after_gift : (conns : List (Option (Numbered Conn))) (gift : Gift) (gifts : List Gift) (queues : List Frames) →
+    HaveRoom queues (frames_given (gift ∷ gifts)) →
     HaveRoom (with_gift_delivered conns gift queues) (frames_given gifts)
 room_after_gift conns gift gifts queues h = room_after_at (place_of conns gift.conn) queues gift gifts h
 
 -- where the first one, if there is any, is already given
-pub room_behind : (conns : List (Option (Numbered Conn))) (first : Option Gift) (gift : Gift) (more given : List Gift) (queues new : List Frames) →
-    HaveRoom queues (frames_given given) → behind_first first more ≡ given → first ≡ Some gift → new ≡ with_gift_delivered conns gift queues → HaveRoom new (frames_given more)
+pub room_behind : (conns : List (Option (Numbered Conn))) (first : Option Gift) (gift : Gift) (more given : List Gift)
+    (queues new : List Frames) →
+    HaveRoom queues (frames_given given) → behind_first first more ≡ given → first ≡ Some gift →
+        new ≡ with_gift_delivered conns gift queues → HaveRoom new (frames_given more)
 room_behind conns first gift more given queues new h parts is then =
     let whole : given ≡ gift ∷ more = sym parts ∙ ap (λ f. behind_first f more) is in
-    subst (λ q. HaveRoom q (frames_given more)) (sym then) (room_after_gift conns gift more queues (subst (λ gifts. HaveRoom queues (frames_given gifts)) whole h))
+    subst (λ q. HaveRoom q (frames_given more)) (sym then)
+        (room_after_gift conns gift more queues (subst (λ gifts. HaveRoom queues (frames_given gifts)) whole h))
 
 pub room_without : (first : Option Gift) (more given : List Gift) (queues new : List Frames) →
     HaveRoom queues (frames_given given) → behind_first first more ≡ given → first ≡ None → new ≡ queues → HaveRoom new (frames_given more)
@@ -83,5 +93,6 @@ room_counted queues count h = record { each = λ k d within. omega (arith, h.eac
 pub room_requeued : (change : QueueChange) (queues : List Frames) (n : ℕ) → HaveRoom queues n → HaveRoom (requeued change queues) n
 room_requeued Unchanged queues n h = h
 room_requeued (Taken place) queues n h =
-    room_with place (drop 1 (queue_at queues place)) queues n 0 (omega (arith, length-drop 1 (queue_at queues place))) (room_less queues (0 + n) n (omega arith) h)
+    room_with place (drop 1 (queue_at queues place)) queues n 0 (omega (arith, length-drop 1 (queue_at queues place)))
+        (room_less queues (0 + n) n (omega arith) h)
 room_requeued (Cleared place) queues n h = room_with place [] queues n 0 (omega arith) (room_less queues (0 + n) n (omega arith) h)

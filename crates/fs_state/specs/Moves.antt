@@ -6,7 +6,9 @@ use Rattle.fs_text.specs.declared.states.State.TheVariants.{CsInit, CsPark, CsHa
 use Rattle.fs_text.specs.State.{state_number}
 use Rattle.fs_text.specs.declared.causes.Cause.{Cause}
 use Rattle.fs_text.specs.declared.event_names.EventName.{EventName}
-use Rattle.fs_text.specs.declared.event_names.EventName.TheVariants.{ChannelCreate, ChannelState, ChannelAnswer, ChannelExecute, ChannelExecuteComplete, ChannelPark, ChannelUnpark, ChannelHangup, ChannelHangupComplete, ChannelDestroy}
+use Rattle.fs_text.specs.declared.event_names.EventName.TheVariants.{ChannelCreate, ChannelState, ChannelAnswer, ChannelExecute}
+use Rattle.fs_text.specs.declared.event_names.EventName.TheVariants.{ChannelExecuteComplete, ChannelPark, ChannelUnpark, ChannelHangup}
+use Rattle.fs_text.specs.declared.event_names.EventName.TheVariants.{ChannelHangupComplete, ChannelDestroy}
 use Rattle.fs_chan.specs.Changes.{is_live, in_state, with_answer_place, at_rest, hung_up}
 use Rattle.fs_chan.specs.declared.action.Action.{Action}
 use Rattle.fs_chan.specs.declared.chan.Chan.{Chan}
@@ -124,7 +126,8 @@ abbrev pub after_answer_from : ℕ → Option Chan → Switch → Switch
 after_answer_from slot None s = s
 after_answer_from slot (Some c) s =
     if is_none c.answered
-    then its_leg_changed (λ position. with_answer position s.entries) slot c.leg_of (with_event (plain_event ChannelAnswer) (with_chan slot (Some (with_answer_place s.entries c)) s))
+    then its_leg_changed (λ position. with_answer position s.entries) slot c.leg_of
+        (with_event (plain_event ChannelAnswer) (with_chan slot (Some (with_answer_place s.entries c)) s))
     else s
 
 abbrev pub after_one_answer : ℕ → Switch → Switch

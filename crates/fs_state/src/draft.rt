@@ -246,7 +246,8 @@ impl<'a> Draft<'a> {
     pub fn take_chan(&mut self, slot: u16) -> Option<Boxed<Chan>>
         ensures base { self.new.base ≡ self.old.base }
         ensures answer { result ≡ chan_taken_back self.old slot }
-        ensures taken { MatchOption result (drafted self.new ≡ drafted self.old) (λ chan. chan_in self.old slot ≡ Some chan) }
+        ensures taken { MatchOption result (drafted self.new ≡ drafted self.old)
+            (λ chan. chan_in self.old slot ≡ Some chan) }
         ensures put { (chan : Option Chan) → with_chan_in self.new slot chan ≡ with_chan_in self.old slot chan }
     {
         self.channels.take(usize::from(slot))
@@ -302,7 +303,14 @@ impl<'a> Draft<'a> {
     }
 
     /// Whether the channel in some slot has this identifier, live or not.
-    #[tactic(auto, using(fs_places::proofs::PlaceLemmas::first_here, fs_places::proofs::PlaceLemmas::first_behind, fs_places::proofs::PlaceLemmas::first_empty))]
+    #[tactic(
+        auto,
+        using(
+            fs_places::proofs::PlaceLemmas::first_here,
+            fs_places::proofs::PlaceLemmas::first_behind,
+            fs_places::proofs::PlaceLemmas::first_empty
+        )
+    )]
     pub fn is_held(&self, uuid: &[u8]) -> bool
         ensures { result ≡ spec.is_held uuid.now (drafted self.now) }
     {

@@ -27,8 +27,8 @@ pub enum JobWork {
     Sleep {
         until: u64,
     },
-    /// The verdict on the origination of this number. A leg that wins then does this; the legs of a later group are made
-    /// with this caller.
+    /// The verdict on the origination of this number. A leg that wins then does this; the legs of a later group are
+    /// made with this caller.
     Originate {
         orig: u64,
         winner: Winner,

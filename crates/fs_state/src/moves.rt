@@ -172,7 +172,8 @@ impl<'a> Draft<'a> {
     /// The channel in a slot has begun an application.
     fn set_running(&mut self, slot: u16, action: Action) -> Result<(), Memory>
         ensures base { self.new.base ≡ self.old.base }
-        ensures ok { OnOk result (drafted self.new ≡ spec.after_move (spec.with_running action) slot (drafted self.old)) }
+        ensures ok { OnOk result
+            (drafted self.new ≡ spec.after_move (spec.with_running action) slot (drafted self.old)) }
     {
         let Some(mut chan) = self.own_chan(slot)? else {
             return Ok(());

@@ -11,6 +11,7 @@ deliver_all-requires c =
     let more = c.into_parts-first.result.1.items in
     let new = c.match-first.self in
     elim c.match-first.branch [
-      | in-Some w ↦ room_behind c.args.conns.now first w.in-Some.gift more c.args.given c.args.self.now new room c.into_parts-first.ensures w.in-Some.is (w.self-is ∙ w.deliver_one.ensures)
+      | in-Some w ↦ room_behind c.args.conns.now first w.in-Some.gift more c.args.given c.args.self.now new room c.into_parts-first.ensures
+          w.in-Some.is (w.self-is ∙ w.deliver_one.ensures)
       | in_default w ↦ room_without first more c.args.given c.args.self.now new room c.into_parts-first.ensures w.in_default.is w.self-is
     ]

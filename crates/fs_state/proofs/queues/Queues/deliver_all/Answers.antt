@@ -10,6 +10,7 @@ loop-gift-preserved c =
     let conns = c.args.conns.now in
     rw c.deliver_one.ensures (
       subst (λ items. delivered conns items c.loop-gift.self ≡ delivered conns c.args.gifts.items c.args.self.now) steps.0 kept.0,
-      room_after_gift conns c.in-Some.gift c.next.new.self.rest.items c.loop-gift.self (subst (λ items. HaveRoom c.loop-gift.self (frames_given items)) steps.0 kept.1),
+      room_after_gift conns c.in-Some.gift c.next.new.self.rest.items c.loop-gift.self
+          (subst (λ items. HaveRoom c.loop-gift.self (frames_given items)) steps.0 kept.1),
       omega (arith, steps.1, kept.2, ap length steps.0),
     )

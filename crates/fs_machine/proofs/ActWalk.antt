@@ -151,7 +151,8 @@ module _ (conn : ℕ) (P : Fact) (calls : KeptByCalls P) (commands : KeptByComma
       P (Some 0) (dialled conn read winner caller timeout s).state
   dialled_kept url (Err fault) is winner caller timeout short room h = commands.spent h
   dialled_kept url (Ok dial) is winner caller timeout short room h =
-      commands.originates (plans_of dial) winner caller (first_there timeout (braces_timeout dial)) (dialled_groups url dial is) short room h
+      commands.originates (plans_of dial) winner caller (first_there timeout (braces_timeout dial)) (dialled_groups url dial is) short room
+      h
 
   originated_kept : (url : Text) (winner : Winner) (caller : Caller) (timeout : Option ℕ) {s : Switch} → IsShortWinner winner → P None s →
       P (Some 0) (originate_done conn url winner caller timeout s).state

@@ -1,5 +1,6 @@
 -- Each act leaves each origination a leg, and each of its legs that died a cause.
-use Rattle.std.proofs.Common.{◌≡◌, ℕ, zero, suc, ◌+◌, Bool, true, false, if◌then◌else◌, List, [], ◌∷◌, slice_get, Option, None, Some, IsSome, option_and_then, unwrap_or, ◌⊎◌, inl, inr, refl, sym, ap, subst, ◌∙◌}
+use Rattle.std.proofs.Common.{◌≡◌, ℕ, zero, suc, ◌+◌, Bool, true, false, if◌then◌else◌, List, [], ◌∷◌, slice_get, Option, None, Some}
+use Rattle.std.proofs.Common.{IsSome, option_and_then, unwrap_or, ◌⊎◌, inl, inr, refl, sym, ap, subst, ◌∙◌}
 use Rattle.std.specs.List.{slice_set}
 use Rattle.std.proofs.lemmas.Bool.{cases_eq}
 use Rattle.fs_text.specs.Texts.{Text}
@@ -19,7 +20,8 @@ use Rattle.fs_orig.specs.declared.orig.Owner.TheVariants as owner
 use Rattle.fs_orig.specs.declared.plan.LegPlan.{LegPlan}
 use Rattle.fs_orig.specs.declared.winner.Winner.{Winner}
 use Rattle.fs_orig.specs.Legs.{lives, position_in}
-use Rattle.fs_orig.specs.Changes.{rings, with_leg_answer, with_leg_death, with_leg, with_changed_leg, with_answer, with_death, new_orig, may_enter_next, at_next_group}
+use Rattle.fs_orig.specs.Changes.{rings, with_leg_answer, with_leg_death, with_leg, with_changed_leg, with_answer, with_death, new_orig}
+use Rattle.fs_orig.specs.Changes.{may_enter_next, at_next_group}
 use Rattle.fs_orig.specs.Endpoints.{endpoint_of}
 use Rattle.fs_orig.specs.Meaning.{IsWithCauses}
 use Rattle.fs_orig.specs.Verdicts.{next_group}
@@ -31,13 +33,17 @@ use Rattle.fs_state.specs.declared.conn.Conn.{Conn}
 use Rattle.fs_state.specs.declared.conn.Parting.TheVariants as parting
 use Rattle.fs_state.specs.declared.job.JobWork.{JobWork}
 use Rattle.fs_state.specs.declared.job.JobWork.TheVariants.{Sleep, Originate}
-use Rattle.fs_state.specs.Switch.{Switch, chan_at, with_chan, orig_of, next_orig_number, next_job_number, with_new_job, without_job, without_orig, with_event}
-use Rattle.fs_state.specs.Moves.{with_state_events, after_move_from, orig_changed_from, orig_changed, leg_changed_at, leg_changed, its_leg_changed, hangup_event, after_hangup_from, after_one_hangup, after_hangup}
+use Rattle.fs_state.specs.Switch.{Switch, chan_at, with_chan, orig_of, next_orig_number, next_job_number, with_new_job, without_job}
+use Rattle.fs_state.specs.Switch.{without_orig, with_event}
+use Rattle.fs_state.specs.Moves.{with_state_events, after_move_from, orig_changed_from, orig_changed, leg_changed_at, leg_changed}
+use Rattle.fs_state.specs.Moves.{its_leg_changed, hangup_event, after_hangup_from, after_one_hangup}
 use Rattle.fs_state.proofs.LegTables.{Origs, row_there, set_here, set_there}
 use Rattle.fs_machine.specs.declared.originations.Call.{Call}
 use Rattle.fs_machine.specs.Texts.{made_text, failed_text}
 use Rattle.fs_machine.specs.Connections.{conn_changed, admitted, parted, owed_since, not_owed}
-use Rattle.fs_machine.specs.Originations.{set_all, no_variables, own_uuid, call_with, is_misnamed, seconds, made_dead, is_congested, made_in, free_pair, loopback_made, made_with, made_of, leg_made, MadeGroup, group_made, won_by, after_winning}
+use Rattle.fs_machine.specs.Originations.{set_all, no_variables, own_uuid, call_with, is_misnamed, seconds, made_dead, is_congested}
+use Rattle.fs_machine.specs.Originations.{made_in, free_pair, loopback_made, made_with, made_of, leg_made, MadeGroup, group_made, won_by}
+use Rattle.fs_machine.specs.Originations.{after_winning}
 use Rattle.fs_machine.specs.Attempts.{first_group, orig_begun, originate_begun, with_group}
 use Rattle.fs_machine.specs.Owing.{after_job_begin, after_job_end}
 use Rattle.fs_machine.proofs.Kept.{Fact, KeptByBirths, raced, AreGroups, KeptByMoves}
@@ -213,7 +219,8 @@ group_has_leg (plan ∷ plans) caller orig s some = refl
 told_births : KeptByBirths Told
 told_births = record {
   spent = λ h. h;
-  pair = λ call orig a b {s = s} short named first second h. subst AllTold (sym (ap (λ (r : Roles). r.origs) (pair_roles call orig a b s))) h;
+  pair = λ call orig a b {s = s} short named first second h.
+      subst AllTold (sym (ap (λ (r : Roles). r.origs) (pair_roles call orig a b s))) h;
 }
 
 -- the group that is tried first has a leg

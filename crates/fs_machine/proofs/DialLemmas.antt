@@ -1,5 +1,6 @@
 -- The groups of a dial string that is read: there is one, and each has a leg.
-use Rattle.std.proofs.Common.{◌≡◌, ℕ, zero, suc, List, [], ◌∷◌, map, slice_get, Option, None, Some, IsSome, option_map, Ok, refl, sym, subst, ◌∙◌}
+use Rattle.std.proofs.Common.{◌≡◌, ℕ, zero, suc, List, [], ◌∷◌, map, slice_get, Option, None, Some, IsSome, option_map, Ok, refl, sym}
+use Rattle.std.proofs.Common.{subst, ◌∙◌}
 use Rattle.std.proofs.lemmas.Option.{none-some, same_Some, slice_get-map}
 use Rattle.fs_text.specs.Texts.{Text}
 use Rattle.fs_dial.specs.Legs.{LegText}

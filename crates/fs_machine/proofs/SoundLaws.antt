@@ -6,7 +6,8 @@ use Rattle.fs_state.specs.Switch.{Switch, empty}
 use Rattle.fs_machine.specs.declared.entry.Entry.{Entry}
 use Rattle.fs_machine.specs.Runs.{run_from, StandsFor}
 use Rattle.fs_machine.specs.Sound.{IsSound}
-use Rattle.fs_machine.proofs.SoundLemmas.{partners_agree, live_has_partner, profiles_are_short, identifiers_differ, run_has_legs, failures_are_told}
+use Rattle.fs_machine.proofs.SoundLemmas.{partners_agree, live_has_partner, profiles_are_short, identifiers_differ, run_has_legs}
+use Rattle.fs_machine.proofs.SoundLemmas.{failures_are_told}
 use Rattle.fs_machine.proofs.OwedLaws.{run_is_owed}
 
 pub sound_state : (config : Configuration) (kept : Switch) (journal : List Entry) → IsWithin config → StandsFor config kept journal →

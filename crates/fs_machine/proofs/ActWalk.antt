@@ -55,6 +55,7 @@ use Rattle.fs_machine.specs.Step.{after_close, act_done}
 use Rattle.fs_machine.specs.Sound.{HasLeg}
 use Rattle.fs_machine.proofs.Kept.{Fact, KeptByCalls, DoesJob, raced, KeptByJobs, LeavesBy, IsShortWinner, KeptByCommands, KeptByMoves}
 use Rattle.fs_machine.proofs.ShortLemmas.{NamesShort, api_short, expanded_short}
+use Rattle.fs_machine.proofs.DialLemmas.{dialled_groups}
 use Rattle.fs_machine.proofs.Walk.{all_hung_kept, worked_kept}
 use Rattle.fs_machine.proofs.RestLemmas.{all_hung_rest, does_same}
 
@@ -79,10 +80,13 @@ module _ (before : Switch) (P : Fact) (calls : KeptByCalls P) (jobs : KeptByJobs
       by None = h
       by (Some slot) = calls.hung NoAnswer slot h
 
-  regrouped_kept : (a : Attempt) (caller : Caller) (next : Option (List LegPlan)) {s : Switch} → P (Some 0) s →
-      P (Some 0) (after_next_group a caller next s)
-  regrouped_kept a caller None h = h
-  regrouped_kept a caller (Some plans) h = jobs.regroups a.orig plans caller h
+  regrouped_kept : (a : Attempt) (caller : Caller) (o : Orig) {s : Switch} → orig_of s a.orig ≡ Some o → P (Some 0) s →
+      P (Some 0) (after_next_group a caller (next_group o) s)
+  regrouped_kept a caller o {s} there h = by (next_group o) refl
+    where
+      by : (next : Option (List LegPlan)) → next_group o ≡ next → P (Some 0) (after_next_group a caller next s)
+      by None is = h
+      by (Some plans) is = jobs.regroups a.orig o plans caller there is h
 
   judged_kept : (v : Verdict) (a : Attempt) (winner : Winner) (caller : Caller) (o : Orig) → verdict_of before.moment o ≡ v →
       orig_of before a.orig ≡ Some o → DoesJob before a.job a.conn (work.Originate a.orig winner caller) → P (Some 0) before →
@@ -96,7 +100,7 @@ module _ (before : Switch) (P : Fact) (calls : KeptByCalls P) (jobs : KeptByJobs
           (record { orig = o; there = there; position = position; at = at; lives = winner_lives before.moment position o leg is at }) h
           (death_of (chan_at (raced (living_slots (others position o.legs)) before) (unwrap_or leg.slot 0))) refl
   judged_kept (verdict.LegExpired position) a winner caller o is there does h = expired_kept (slice_get o.legs position) h
-  judged_kept verdict.NextGroup a winner caller o is there does h = regrouped_kept a caller (next_group o) h
+  judged_kept verdict.NextGroup a winner caller o is there does h = regrouped_kept a caller o there h
   judged_kept (verdict.Failed cause) a winner caller o is there does h = jobs.failed a winner caller cause does h
   judged_kept verdict.Expired a winner caller o is there does h =
       jobs.failed a winner caller NoAnswer (does_same does (all_hung_rest NoAnswer (living_slots o.legs) before))
@@ -142,11 +146,13 @@ module _ (conn : ℕ) (P : Fact) (calls : KeptByCalls P) (commands : KeptByComma
       by true is = commands.spent h
       by false is = commands.sleeps (moment_after s.moment (milliseconds * 1000)) is h
 
-  dialled_kept : (dial : Result Dial DialFault) (winner : Winner) (caller : Caller) (timeout : Option ℕ) {s : Switch} →
-      IsShortWinner winner → is_full_of_jobs s ≡ false → P None s → P (Some 0) (dialled conn dial winner caller timeout s).state
-  dialled_kept (Err fault) winner caller timeout short room h = commands.spent h
-  dialled_kept (Ok dial) winner caller timeout short room h =
-      commands.originates (plans_of dial) winner caller (first_there timeout (braces_timeout dial)) short room h
+  dialled_kept : (url : Text) (read : Result Dial DialFault) → dial_string url ≡ read → (winner : Winner) (caller : Caller)
+      (timeout : Option ℕ) {s : Switch} → IsShortWinner winner → is_full_of_jobs s ≡ false → P None s →
+      P (Some 0) (dialled conn read winner caller timeout s).state
+  dialled_kept url (Err fault) is winner caller timeout short room h = commands.spent h
+  dialled_kept url (Ok dial) is winner caller timeout short room h =
+      commands.originates (plans_of dial) winner caller (first_there timeout (braces_timeout dial)) (dialled_groups url dial is) short room
+      h
 
   originated_kept : (url : Text) (winner : Winner) (caller : Caller) (timeout : Option ℕ) {s : Switch} → IsShortWinner winner → P None s →
       P (Some 0) (originate_done conn url winner caller timeout s).state
@@ -155,7 +161,7 @@ module _ (conn : ℕ) (P : Fact) (calls : KeptByCalls P) (commands : KeptByComma
       by : (full : Bool) → is_full_of_jobs s ≡ full →
           P (Some 0) (if full then says too_many_jobs s else dialled conn (dial_string url) winner caller timeout s).state
       by true is = commands.spent h
-      by false is = dialled_kept (dial_string url) winner caller timeout short is h
+      by false is = dialled_kept url (dial_string url) refl winner caller timeout short is h
 
   done_plainly_kept : (what : Api) {s : Switch} → NamesShort what → P None s → P (Some 0) (done_plainly conn what s).state
   done_plainly_kept (api.Echo text) short h = commands.spent h

@@ -124,7 +124,7 @@ module _ (before : Switch) (P : Fact) (same : (b : Stage) (t u : Switch) → P b
       wins = λ a winner caller leg slots does won h.
           over_same a (made_text leg.uuid) (after_winning winner (unwrap_or leg.slot 0) (raced slots before))
           (wins a winner caller leg slots does won h);
-      regroups = λ number plans caller {s = s} h. regroups_same number (group_made plans caller number s)
+      regroups = λ number o plans caller {s = s} there next h. regroups_same number (group_made plans caller number s)
           (group_made_kept P births plans caller number {n = 0} {s = s} h);
     };
     commands = λ conn. record {
@@ -133,7 +133,7 @@ module _ (before : Switch) (P : Fact) (same : (b : Stage) (t u : Switch) → P b
       admitted = λ {n = n} {s = s} fresh h. changed_same admitted conn n s h;
       parted = λ why {n = n} {s = s} leaves h. changed_same (parted why) conn n s h;
       sleeps = λ until {s = s} room h. sleeps_same conn until s h;
-      originates = λ groups winner caller timeout {s = s} short room h. originates_same conn groups winner caller timeout s h;
+      originates = λ groups winner caller timeout {s = s} are short room h. originates_same conn groups winner caller timeout s h;
     };
     visits = record {
       arrived = λ h. same _ _ _ (births.spent h) refl;

@@ -268,7 +268,7 @@ module _ (s : Switch) where
         (ended_keeps number conn answer t);
     failed = λ a winner caller cause {s = t} does h. over_keeps a (failed_text cause) t t refl h;
     wins = λ a winner caller leg slots does won h. wins_keep a winner leg (raced slots s) h;
-    regroups = λ number plans caller {s = t} h. regroups_keep number plans caller t h;
+    regroups = λ number o plans caller {s = t} there next h. regroups_keep number plans caller t h;
   }
 
 -- the commands of a connection
@@ -307,7 +307,7 @@ module _ (conn : ℕ) (s : Switch) where
     admitted = λ fresh h. admitted_keeps fresh h;
     parted = λ why leaves h. leaves_keeps why leaves h;
     sleeps = sleeps_keep;
-    originates = λ groups winner caller timeout short room h. originates_keep groups winner caller timeout h;
+    originates = λ groups winner caller timeout are short room h. originates_keep groups winner caller timeout h;
   }
 
 -- ---- what acts keep

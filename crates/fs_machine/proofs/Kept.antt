@@ -1,5 +1,5 @@
 -- What a fact on switches has to bear for every entry to keep it: a case for each move that entries are made of.
-use Rattle.std.proofs.Common.{◌≡◌, ℕ, ◌+◌, false, List, Option, None, Some, unwrap_or}
+use Rattle.std.proofs.Common.{◌≡◌, ℕ, ◌+◌, false, List, slice_get, Option, None, Some, IsSome, unwrap_or}
 use Rattle.fs_text.specs.Texts.{Text}
 use Rattle.fs_text.specs.declared.causes.Cause.{Cause}
 use Rattle.fs_text.specs.declared.causes.Cause.TheVariants.{LoseRace}
@@ -9,11 +9,13 @@ use Rattle.fs_chan.specs.declared.peer.Peer.{Peer}
 use Rattle.fs_chan.specs.Changes.{is_live, IsShortTarget, HasShortFields}
 use Rattle.fs_orig.specs.declared.caller.Caller.{Caller}
 use Rattle.fs_orig.specs.declared.leg.OrigLeg.{OrigLeg}
+use Rattle.fs_orig.specs.declared.orig.Orig.{Orig}
 use Rattle.fs_orig.specs.declared.plan.LegPlan.{LegPlan}
 use Rattle.fs_orig.specs.declared.winner.Winner.{Winner}
 use Rattle.fs_orig.specs.declared.winner.Winner.TheVariants.{App, Route}
 use Rattle.fs_orig.specs.Changes.{with_answer}
 use Rattle.fs_orig.specs.Endpoints.{IsShortAddress}
+use Rattle.fs_orig.specs.Verdicts.{next_group}
 use Rattle.fs_places.proofs.HeldLemmas.{IsFree}
 use Rattle.fs_state.specs.declared.conn.Phase.TheVariants.{Fresh}
 use Rattle.fs_state.specs.declared.conn.Parting.{Parting}
@@ -22,7 +24,7 @@ use Rattle.fs_state.specs.declared.event.Event.{Event}
 use Rattle.fs_state.specs.declared.job.JobWork.{JobWork}
 use Rattle.fs_state.specs.declared.job.JobWork.TheVariants as work
 use Rattle.fs_state.specs.Switch.{Switch, chan_at, with_chan, is_full_of_jobs, job_of, without_conn, with_frame_taken, with_event}
-use Rattle.fs_state.specs.Switch.{with_gift}
+use Rattle.fs_state.specs.Switch.{orig_of, with_gift}
 use Rattle.fs_state.specs.Moves.{orig_changed, leg_changed, after_hangup}
 use Rattle.fs_machine.specs.declared.attempts.Attempt.{Attempt}
 use Rattle.fs_machine.specs.declared.originations.Call.{Call}
@@ -108,7 +110,8 @@ pub record KeptByJobs (before : Switch) (P : Fact) : Type 0 where
       DoesJob (raced slots before) a.job a.conn (work.Originate a.orig winner caller) → HasWon before a.orig leg slots →
       P (Some 0) (raced slots before) →
       P (Some 0) (after_attempt a (made_text leg.uuid) (after_winning winner (unwrap_or leg.slot 0) (raced slots before)))
-  pub regroups : (number : ℕ) (plans : List LegPlan) (caller : Caller) {s : Switch} → P (Some 0) s →
+  pub regroups : (number : ℕ) (o : Orig) (plans : List LegPlan) (caller : Caller) {s : Switch} → orig_of s number ≡ Some o →
+      next_group o ≡ Some plans → P (Some 0) s →
       P (Some 0) (with_group number (group_made plans caller number s))
 
 -- ---- moves of a connection
@@ -124,6 +127,11 @@ abbrev pub IsShortWinner : Winner → Type 0
 IsShortWinner (App application argument) = Unit {0}
 IsShortWinner (Route to) = IsShortTarget (target_of to)
 
+-- there is a group, and each has a leg
+pub record AreGroups (groups : List (List LegPlan)) : Type 0 where
+  pub some : IsSome (slice_get groups 0)
+  pub filled : (k : ℕ) (group : List LegPlan) → slice_get groups k ≡ Some group → IsSome (slice_get group 0)
+
 -- what the commands of a connection do
 pub record KeptByCommands (conn : ℕ) (P : Fact) : Type 0 where
   pub spent : {s : Switch} → P None s → P (Some 0) s
@@ -132,7 +140,7 @@ pub record KeptByCommands (conn : ℕ) (P : Fact) : Type 0 where
   pub parted : (why : Parting) {n : ℕ} {s : Switch} → LeavesBy why → P (Some n) s → P (Some n) (conn_changed (parted why) conn s)
   pub sleeps : (until : ℕ) {s : Switch} → is_full_of_jobs s ≡ false → P None s → P (Some 0) (after_job_begin conn (work.Sleep until) s)
   pub originates : (groups : List (List LegPlan)) (winner : Winner) (caller : Caller) (timeout : Option ℕ) {s : Switch} →
-      IsShortWinner winner → is_full_of_jobs s ≡ false → P None s →
+      AreGroups groups → IsShortWinner winner → is_full_of_jobs s ≡ false → P None s →
       P (Some 0) (originate_begun conn groups winner caller timeout s)
 
 -- how connections come and go, and take their frames

@@ -271,7 +271,7 @@ pair_spares call orig a b s free_a free_b slot c there =
     (not_free with_one b slot c (second_free leg a b s.channels free_b) first) first
 
 -- of what tells of legs a pair changes the channels alone
-pair_roles : (call : Call) (orig a b : ℕ) (s : Switch) →
+pub pair_roles : (call : Call) (orig a b : ℕ) (s : Switch) →
     roles_of (pair_made call orig a b s) ≡ record (roles_of s) { channels = (pair_made call orig a b s).channels }
 pair_roles call orig a b s =
     leg_by (λ t. roles_of (end_made call (far_end a b) t) ≡ record (roles_of s) { channels = (end_made call (far_end a b) t).channels })
@@ -776,7 +776,7 @@ legs_moves before stand = record {
         (λ few. without_legs a.orig s (h few));
     wins = λ a winner caller leg slots does won h.
         wins_legs a winner leg (raced slots before) (winning_leg before a.orig leg slots won stand) h;
-    regroups = λ number plans caller {s = s} h. regroups_legs number plans caller s h;
+    regroups = λ number o plans caller {s = s} there next h. regroups_legs number plans caller s h;
   };
   commands = λ conn. record {
     spent = λ h. h;
@@ -785,7 +785,7 @@ legs_moves before stand = record {
     parted = λ why {s = s} leaves h. same_roles s (conn_changed (parted why) conn s) (conn_roles (parted why) conn s) h;
     sleeps = λ until {s = s} room h. same_roles s (after_job_begin conn (Sleep until) s)
         (conn_roles (owed_since s.entries) conn (with_new_job (record { conn = conn; work = Sleep until }) s)) h;
-    originates = λ groups winner caller timeout {s = s} short room h. originates_legs conn groups winner caller timeout s h;
+    originates = λ groups winner caller timeout {s = s} are short room h. originates_legs conn groups winner caller timeout s h;
   };
   visits = record {
     arrived = λ h. h;

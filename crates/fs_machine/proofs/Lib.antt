@@ -3,6 +3,7 @@ pub mod GroupLemmas
 pub mod FrameLemmas
 pub mod DueLemmas
 pub mod Kept
+pub mod DialLemmas
 pub mod ShortLemmas
 pub mod Walk
 pub mod RestLemmas
@@ -33,6 +34,7 @@ pub mod PartnerMoves
 pub mod IdentifierMoves
 pub mod LegMoves
 pub mod WinnerMoves
+pub mod CauseMoves
 pub mod ChannelMoves
 pub mod SoundLemmas
 pub mod SoundLaws

@@ -93,7 +93,7 @@ jobs_go b before = record {
   woken = λ number conn until answer {s = s} does h. goes_woken b s number conn until answer does h;
   failed = λ a winner caller cause {s = s} does h. goes_over b s a.job a.conn a.orig winner caller (failed_text cause) does h;
   wins = λ a winner caller leg slots does won h. wins_go b (raced slots before) a winner caller leg does h;
-  regroups = λ number plans caller {s = s} h.
+  regroups = λ number o plans caller {s = s} there next h.
       goes_same b (Some 0) s (with_group number (group_made plans caller number s)) h (regrouped_rest number plans caller s);
 }
 
@@ -145,7 +145,7 @@ module _ (b : Books) (conn : ℕ) (c : Conn) (there : row_of b.conns conn ≡ So
     admitted = λ {s = s} new h. admitted_goes s new h;
     parted = λ why {s = s} leaves h. parted_goes why s h;
     sleeps = λ until {s = s} room h. sleeps_go until s room h;
-    originates = λ groups winner caller timeout {s = s} short room h. originates_go groups winner caller timeout s room h;
+    originates = λ groups winner caller timeout {s = s} are short room h. originates_go groups winner caller timeout s room h;
   }
 
 -- ---- acts

@@ -1,5 +1,5 @@
--- In every run live channels have partners, which agree, the texts of channels keep their limits, identifiers differ, and legs are
--- channels.
+-- In every run live channels have partners, which agree, the texts of channels keep their limits, identifiers differ, legs are channels,
+-- and an origination that fails is told why.
 use Rattle.std.proofs.Common.{◌≡◌, ℕ, ◌+◌, ◌-◌, ◌*◌, ◌<◌, ◌≤◌, ◌^◌, min, true, IsSome, List, [], ◌∷◌, length, Option, None, Some}
 use Rattle.std.proofs.Common.{option_and_then, option_map, refl, sym, ap, subst, ◌∙◌, arith}
 use Rattle.std.proofs.lemmas.Bool.{both_ways, false≢true, ltb-false}
@@ -9,13 +9,15 @@ use Rattle.fs_doc.specs.Reading.{Configuration}
 use Rattle.fs_chan.specs.declared.chan.Chan.{Chan}
 use Rattle.fs_chan.specs.Changes.{is_live}
 use Rattle.fs_orig.specs.declared.orig.Orig.{Orig}
+use Rattle.fs_orig.specs.Meaning.{IsWithCauses}
+use Rattle.fs_orig.proofs.VerdictLemmas.{failed_is}
 use Rattle.fs_places.specs.declared.numbered.Numbered.{Numbered}
 use Rattle.fs_places.specs.Places.{no_places, held_in}
 use Rattle.fs_places.specs.Rows.{has_number}
 use Rattle.fs_places.proofs.HeldLemmas.{nothing_held}
 use Rattle.fs_places.proofs.TableLemmas.{taken_in, taken_most}
 use Rattle.fs_state.specs.declared.job.Job.{Job}
-use Rattle.fs_state.specs.Switch.{Switch, empty, chan_at, at_moment, after_entry}
+use Rattle.fs_state.specs.Switch.{Switch, empty, chan_at, orig_of, at_moment, after_entry}
 use Rattle.fs_state.specs.Moves.{partner_of}
 use Rattle.fs_state.proofs.LegTables.{Seat, seat_at, seat_number}
 use Rattle.fs_state.proofs.SlotLemmas.{no_places_length}
@@ -25,7 +27,7 @@ use Rattle.fs_machine.specs.Entries.{cost_of}
 use Rattle.fs_machine.specs.Step.{refusal_of, act_done, step}
 use Rattle.fs_machine.specs.Runs.{run_from, IsRunFrom}
 use Rattle.fs_machine.specs.Sound.{HasPartner, PartnersAgree, HasLivePartner, LiveHasPartner, ProfilesAreShort, IdentifiersDiffer}
-use Rattle.fs_machine.specs.Sound.{LegsAreChannels}
+use Rattle.fs_machine.specs.Sound.{LegsAreChannels, FailuresAreTold}
 use Rattle.fs_machine.proofs.TieLemmas.{lives_as, named_in, Ties}
 use Rattle.fs_machine.proofs.FrameLemmas.{some_cost}
 use Rattle.fs_machine.proofs.OrderLemmas.{acted_cost, acted_config, not_full}
@@ -37,6 +39,7 @@ use Rattle.fs_machine.proofs.PartnerMoves.{Partners, partners_moves}
 use Rattle.fs_machine.proofs.SeenLemmas.{seen, uuid_of, uuid_in, Named, Numbers, numbers_stay}
 use Rattle.fs_machine.proofs.IdentifierMoves.{NumbersFrom, numbers_moves}
 use Rattle.fs_machine.proofs.LegMoves.{roles_of, LegsStand, Legs, legs_are_channels, legs_moves}
+use Rattle.fs_machine.proofs.CauseMoves.{ToldIn, AllTold, Told, told_there, with_causes, told_moves}
 use Rattle.fs_machine.proofs.WinnerMoves.{ShortIn, WinnersAreShort, Winners, winners_moves}
 use Rattle.fs_machine.proofs.ChannelMoves.{FitsIn, AllFit, Fit, fit_there, fit_moves}
 
@@ -85,6 +88,7 @@ partners_agree config entries = named_back (run_from (empty config) entries) (ru
 
 record Stands (s : Switch) : Type 0 where
   legs : LegsStand (roles_of s)
+  told : AllTold s.origs
   winners : WinnersAreShort s.jobs
   fit : AllFit s.channels
 
@@ -106,6 +110,7 @@ nothing_stands config = record {
     stand = λ place position seat has. absurd (none_seated place position seat has);
     apart = λ place p q seat first second. absurd (none_seated place p seat first);
   };
+  told = λ place. subst ToldIn (sym (nothing_held (Numbered Orig) 1280 place)) tt;
   winners = λ place. subst ShortIn (sym (nothing_held (Numbered Job) 1024 place)) tt;
   fit = λ slot. subst FitsIn (sym (nothing_held Chan (config.settings.max_sessions + 1) slot)) tt;
 }
@@ -119,6 +124,7 @@ step_stands s entry holds h =
     holds.paid.origs in
     record {
       legs = acted_kept now Legs (legs_moves now h.legs) entry.act (λ few. h.legs) (omega (arith, paid));
+      told = acted_kept now Told (told_moves now) entry.act h.told;
       winners = acted_kept now Winners (winners_moves now) entry.act h.winners;
       fit = acted_kept now Fit (fit_moves now h.legs h.winners) entry.act h.fit;
     }
@@ -149,6 +155,18 @@ pub run_has_legs : (config : Configuration) (entries : List Entry) → config.se
     IsRunFrom (empty config) entries →
     LegsAreChannels (run_from (empty config) entries)
 run_has_legs config entries small run = legs_are_channels (run_from (empty config) entries) (all_stand config entries small run).legs
+
+pub failures_are_told : (config : Configuration) (entries : List Entry) → config.settings.journal_limit ≤ 1073741824 →
+    IsRunFrom (empty config) entries →
+    FailuresAreTold (run_from (empty config) entries)
+failures_are_told config entries small run = record {
+  causes = has_causes;
+  last = λ number now o cause there fails. failed_is now cause o fails (has_causes number o there);
+}
+  where
+    has_causes : (number : ℕ) (o : Orig) → orig_of (run_from (empty config) entries) number ≡ Some o → IsWithCauses o.legs
+    has_causes number o there =
+        with_causes o (told_there (run_from (empty config) entries).origs number o there (all_stand config entries small run).told)
 
 pub live_has_partner : (config : Configuration) (entries : List Entry) → config.settings.journal_limit ≤ 1073741824 →
     IsRunFrom (empty config) entries →

@@ -91,7 +91,7 @@ winners_moves before = record {
         let u : Switch = after_winning winner (unwrap_or leg.slot 0) t in
         ended_winners a.job a.conn (made_text leg.uuid) (without_orig a.orig u)
         (rest_winners t u (won_rest winner (unwrap_or leg.slot 0) t) h);
-    regroups = λ number plans caller {s = s} h.
+    regroups = λ number o plans caller {s = s} there next h.
         rest_winners s (with_group number (group_made plans caller number s)) (regrouped_rest number plans caller s) h;
   };
   commands = λ conn. record {
@@ -100,7 +100,7 @@ winners_moves before = record {
     admitted = λ {s = s} fresh h. same_winners s (conn_changed admitted conn s) (conn_jobs admitted conn s) h;
     parted = λ why {s = s} leaves h. same_winners s (conn_changed (parted why) conn s) (conn_jobs (parted why) conn s) h;
     sleeps = λ until {s = s} room h. owing_winners conn (Sleep until) s tt h;
-    originates = λ groups winner caller timeout {s = s} short room h. originates_winners conn groups winner caller timeout s short h;
+    originates = λ groups winner caller timeout {s = s} are short room h. originates_winners conn groups winner caller timeout s short h;
   };
   visits = record {
     arrived = λ h. h;

@@ -1,10 +1,14 @@
 -- What holds of the channels, and of the legs of originations, in every switch that a run comes to.
 use Rattle.std.specs.Prelude.{◌≡◌, ◌≢◌, ℕ, true, Some, slice_get}
+use Rattle.fs_text.specs.declared.causes.Cause.{Cause}
 use Rattle.fs_chan.specs.declared.chan.Chan.{Chan}
 use Rattle.fs_chan.specs.Changes.{is_live, HasShortFields}
 use Rattle.fs_orig.specs.declared.leg.OrigLeg.{OrigLeg}
 use Rattle.fs_orig.specs.declared.orig.Orig.{Orig}
+use Rattle.fs_orig.specs.declared.verdict.Verdict.TheVariants.{Failed}
 use Rattle.fs_orig.specs.Legs.{lives}
+use Rattle.fs_orig.specs.Meaning.{IsWithCauses, IsLastToDie}
+use Rattle.fs_orig.specs.Verdicts.{verdict_of}
 use Rattle.fs_state.specs.Switch.{Switch, chan_at, orig_of}
 use Rattle.fs_machine.specs.Owed.{AreOwed}
 
@@ -60,6 +64,12 @@ pub record LegsAreChannels (s : Switch) : Type 0 where
   pub apart : (number : ℕ) (leg other : OrigLeg) (one : HasLeg s number leg) (two : HasLeg s number other) → leg.slot ≡ other.slot →
       one.position ≡ two.position
 
+-- an origination has a leg, and each that died has a cause; so where it fails it is told the cause of the leg that died last
+pub record FailuresAreTold (s : Switch) : Type 0 where
+  pub causes : (number : ℕ) (o : Orig) → orig_of s number ≡ Some o → IsWithCauses o.legs
+  pub last : (number now : ℕ) (o : Orig) (cause : Cause) → orig_of s number ≡ Some o → verdict_of now o ≡ Failed cause →
+      IsLastToDie o.legs cause
+
 -- what holds of the state of every machine
 pub record IsSound (s : Switch) : Type 0 where
   pub partners : PartnersAgree s
@@ -67,4 +77,5 @@ pub record IsSound (s : Switch) : Type 0 where
   pub profiles : ProfilesAreShort s
   pub identifiers : IdentifiersDiffer s
   pub legs : LegsAreChannels s
+  pub failures : FailuresAreTold s
   pub owed : AreOwed s

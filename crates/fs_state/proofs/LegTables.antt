@@ -92,13 +92,13 @@ lives_seated number slot leg = by (lives leg) leg.slot
 
 -- ---- one leg of a list is changed
 
-set_here : (these : List OrigLeg) (first : ℕ) (old new : OrigLeg) → slice_get these first ≡ Some old →
+pub set_here : (these : List OrigLeg) (first : ℕ) (old new : OrigLeg) → slice_get these first ≡ Some old →
     slice_get (slice_set these first new) first ≡ Some new
 set_here [] first old new is = absurd (none-some old is)
 set_here (leg ∷ more) zero old new is = refl
 set_here (leg ∷ more) (suc first) old new is = set_here more first old new is
 
-set_there : (these : List OrigLeg) (first other : ℕ) (new : OrigLeg) → (other ≡ first → ⊥) →
+pub set_there : (these : List OrigLeg) (first other : ℕ) (new : OrigLeg) → (other ≡ first → ⊥) →
     slice_get (slice_set these first new) other ≡ slice_get these other
 set_there [] first other new apart = refl
 set_there (leg ∷ more) zero zero new apart = absurd (apart refl)

@@ -177,14 +177,7 @@ fn other_slots(alloc: Global, orig: &Orig, position: usize) -> Result<Vec<u16>, 
 }
 
 // Adds the slots of the legs that live.
-#[tactic(
-    auto,
-    using(
-        fs_orig::proofs::LegLemmas::living_there,
-        fs_orig::proofs::LegLemmas::living_elsewhere,
-        fs_orig::proofs::LegLemmas::living_done
-    )
-)]
+#[tactic(auto, using(fs_orig::proofs::LegLemmas::living_there, fs_orig::proofs::LegLemmas::living_elsewhere, fs_orig::proofs::LegLemmas::living_done))]
 fn add_living(slots: &mut Vec<u16>, legs: &[OrigLeg]) -> Result<(), Memory>
     ensures { OnOk result (slots.new.items ≡ slots.old.items ++ orig_legs.living_slots legs.now) }
 {

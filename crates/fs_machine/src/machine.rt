@@ -198,27 +198,29 @@ fn plan(core: &Core, plan: &Dialplan, asked: &Entry) -> Result<Change, Refusal>
     draft.advance(asked.moment);
     match refused_act(&draft, &asked.act) {
         Some(refusal) => Err(refusal),
-        None => Ok(change_by(draft, plan, asked)?),
+        None => {
+            let (entry, reply) = enter(&mut draft, plan, asked)?;
+            let delta = draft.finish()?;
+            Ok(Change {
+                entry,
+                delta,
+                reply,
+            })
+        }
     }
 }
 
-// What an entry changes that is not refused.
-fn change_by(mut draft: Draft<'_>, plan: &Dialplan, asked: &Entry) -> Result<Change, Memory>
-    requires queue { draft.delta.queue ≡ Unchanged }
-    requires plan { plan.now ≡ draft.base.config.contexts }
-    ensures entry { IfOk result (λ change. change.entry ≡ asked.entry.now) }
-    ensures acted { IfOk result (λ change.
-        ComesTo (act_done asked.entry.now.act (drafted draft.entry))
-        (after draft.entry.base change.delta) change.reply) }
-    ensures fits { IfOk result (λ change. Fits draft.entry.base change.delta) }
+// Does an entry that is not refused to a draft, and copies it.
+fn enter(draft: &mut Draft<'_>, plan: &Dialplan, asked: &Entry) -> Result<(Entry, Reply), Memory>
+    requires queue { draft.old.delta.queue ≡ Unchanged }
+    requires plan { plan.now ≡ draft.old.base.config.contexts }
+    ensures base { draft.new.base ≡ draft.old.base }
+    ensures entry { IfOk result (λ done. done.0 ≡ asked.entry.now) }
+    ensures ok { IfOk result
+        (λ done. ComesTo (act_done asked.entry.now.act (drafted draft.old)) (drafted draft.new) done.1) }
 {
-    let reply = do_act(&mut draft, plan, &asked.act)?;
-    let entry = asked.copy()?;
-    Ok(Change {
-        entry,
-        delta: draft.finish()?,
-        reply,
-    })
+    let reply = do_act(draft, plan, &asked.act)?;
+    Ok((asked.copy()?, reply))
 }
 
 // Whether the largest entry would pass the limit of the journal.

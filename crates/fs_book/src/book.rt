@@ -1,3 +1,5 @@
+// A book: a state, the desk at which its callers wait, and the bells that wake them.
+
 ghost use Rattle.std.specs.Prelude.{◌≡◌};
 
 use crate::bells::Bells;

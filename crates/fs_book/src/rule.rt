@@ -1,3 +1,5 @@
+// The rule by which the state passes from caller to caller.
+
 ghost use Rattle.std.specs.Prelude.{ℕ};
 
 use crate::turned::Turned;

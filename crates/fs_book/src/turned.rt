@@ -1,3 +1,5 @@
+// States that take entries one at a time.
+
 ghost use Rattle.std.specs.Prelude.{◌≡◌, ℕ, List, [], ◌∷◌, ◌++◌, length, Option, MatchResult};
 ghost use mathlib.Core.List.{IsPrefix};
 ghost use Rattle.fs_book.specs.Opened.{OpensAt};

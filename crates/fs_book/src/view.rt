@@ -1,3 +1,5 @@
+// What is known of the holder of a pass.
+
 use std::collections::LinkedList;
 
 /// Where the holder of a pass stands: it has no ticket, waits with one, or has the state.

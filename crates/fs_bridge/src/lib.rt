@@ -1,8 +1,12 @@
-//! Bridges between channels: the rows of those that stand, and what a channel does that outlives its bridge.
+//! Bridges between channels: those that stand, and what a channel does that outlives its bridge.
 #![tactic(auto)]
 
 mod after;
+mod bridges;
+mod laws;
 mod row;
 
-pub use after::After;
+pub use after::{After, after_bridge};
+pub use bridges::Bridges;
+pub use laws::bridges_law;
 pub use row::{BridgeKind, Row};

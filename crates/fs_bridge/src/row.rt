@@ -1,5 +1,8 @@
 //! One bridge.
 
+ghost use Rattle.std.specs.Prelude.{◌≡◌};
+ghost use Rattle.fs_bridge.specs.Bridges.{has_leg};
+
 /// How a bridge came to be, and so what its legs do once it ends.
 #[derive(Clone, Copy, Debug, PartialEq, Eq)]
 pub enum BridgeKind {
@@ -18,4 +21,13 @@ pub struct Row {
     pub caller: u16,
     pub answerer: u16,
     pub kind: BridgeKind,
+}
+
+impl Row {
+    /// Whether a slot is one of its two legs.
+    pub fn has_leg(&self, slot: u16) -> bool
+        ensures { result ≡ has_leg slot self.now }
+    {
+        self.caller == slot || self.answerer == slot
+    }
 }

@@ -29,8 +29,15 @@ pub fn after_bridge(row: &Row, survivor: u16, vars: &Vars, cause: Cause) -> Afte
     requires leg { has_leg survivor row.now ≡ true }
     ensures { result ≡ spec.after_bridge row.now survivor vars.now cause }
 {
-    match row.kind {
-        BridgeKind::Dial if row.caller == survivor => after_calling(vars, cause),
+    after_kind(row.kind, row.caller == survivor, vars, cause)
+}
+
+/// What a leg does that outlives a bridge of this kind, and that called where `called`.
+pub(crate) fn after_kind(kind: BridgeKind, called: bool, vars: &Vars, cause: Cause) -> After
+    ensures { result ≡ spec.after_kind kind called vars.now cause }
+{
+    match kind {
+        BridgeKind::Dial if called => after_calling(vars, cause),
         BridgeKind::Dial | BridgeKind::Joined => after_being_called(vars),
         BridgeKind::Fifo => after_calling(vars, cause),
     }

@@ -21,9 +21,9 @@ pub enum After {
 
 /// What the survivor of a bridge does, by its variables, once the bridge has ended of a cause.
 ///
-/// Who dialed goes on, or hangs up for that cause where its `hangup_after_bridge` is `true`, and so does either leg of a
-/// bridge out of a queue. Who was dialed hangs up, or parks where its `park_after_bridge` is `true`, and so does either
-/// leg of a bridge that a command joined.
+/// Who dialed goes on, or hangs up for that cause where its `hangup_after_bridge` is `true`, and so does either leg
+/// of a bridge out of a queue. Who was dialed hangs up, or parks where its `park_after_bridge` is `true`, and so does
+/// either leg of a bridge that a command joined.
 pub fn after_bridge(row: &Row, survivor: u16, vars: &Vars, cause: Cause) -> After
     requires apart { row.now.caller ≢ row.now.answerer }
     requires leg { has_leg survivor row.now ≡ true }

@@ -10,8 +10,9 @@ use fs_text::Memory;
 use std::alloc::Global;
 use std::marker::Model;
 
-/// The bridges that stand, in order of their numbers, which are drawn from 1 on. A contract sees their rows, and how many
-/// numbers were drawn.
+/// The bridges that stand, in order of their numbers, which are drawn from 1 on.
+///
+/// A contract sees their rows, and how many numbers were drawn.
 pub struct Bridges {
     rows: Vec<Row>,
     drawn: u64,

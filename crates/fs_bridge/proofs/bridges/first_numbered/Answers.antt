@@ -7,4 +7,5 @@ use Rattle.fs_bridge.proofs.bridges.first_numbered.Goals as goal
 pub returns : goal.returns
 returns c =
     c.copied.ensures
-    ∙ find_from_yields_List (has_number c.args.number) _ _ _ c.find.ensures.ran (YieldsList-from_slice c.args.rows.now cc) (λ x b q k. search rules)
+    ∙ find_from_yields_List (has_number c.args.number) _ _ _ c.find.ensures.ran
+    (YieldsList-from_slice c.args.rows.now cc) (λ x b q k. search rules)

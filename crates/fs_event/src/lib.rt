@@ -2,5 +2,7 @@
 #![tactic(auto)]
 
 mod event;
+mod texts;
 
 pub use event::Event;
+pub use texts::{frame, plain};

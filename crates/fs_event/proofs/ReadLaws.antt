@@ -1,6 +1,6 @@
 -- What was written of an event is read back.
-use Rattle.std.proofs.Common.{◌≡◌, ◌<◌, ◌≤◌, ◌+◌, ◌^◌, ◌&&◌, ◌==◌, ℕ, zero, suc, Bool, true, false, not, cond, List, [], ◌∷◌, ◌++◌, map, length, codes, nat_lt}
-use Rattle.std.proofs.Common.{All, append-nil, refl, sym, ap, ◌∙◌, append_assoc, arith, rules}
+use Rattle.std.proofs.Common.{◌≡◌, ◌<◌, ◌≤◌, ◌+◌, ◌^◌, ◌&&◌, ◌==◌, ℕ, zero, suc, Bool, true, false, not, cond, List, [], ◌∷◌, ◌++◌, map}
+use Rattle.std.proofs.Common.{length, codes, nat_lt, All, append-nil, refl, sym, ap, ◌∙◌, append_assoc, arith, rules}
 use Rattle.std.specs.Char.{is_ascii_digit}
 use Rattle.std.specs.Fmt.{decimal}
 use Rattle.std.specs.List.{concat, list_any, list_all}
@@ -103,9 +103,9 @@ lines_read (suc k) (header ∷ headers) body are within =
 lines_are_long : (headers : List (Text × Text)) (body : Text) → length headers ≤ length (lines headers ++ body)
 lines_are_long [] body = omega arith
 lines_are_long (header ∷ headers) body =
-    let seam : length (lines (header ∷ headers) ++ body) ≡ length (content header ++ 10 ∷ (lines headers ++ body)) =
-    ap length (append_assoc (header_line header) (lines headers) body ∙ line_seam header (lines headers ++ body)) in
-    omega (arith, seam, length-append (content header) (10 ∷ (lines headers ++ body)), lines_are_long headers body)
+    let seam = append_assoc (header_line header) (lines headers) body ∙ line_seam header (lines headers ++ body) in
+    let size : length (lines (header ∷ headers) ++ body) ≡ length (content header ++ 10 ∷ (lines headers ++ body)) = ap length seam in
+    omega (arith, size, length-append (content header) (10 ∷ (lines headers ++ body)), lines_are_long headers body)
 
 all_read : (headers : List (Text × Text)) (body : Text) → All IsHeader headers → read_text (lines headers ++ 10 ∷ body) ≡ (headers, body)
 unfolding read_text
@@ -139,14 +139,18 @@ length_line_is : (text : Text) → length text < 2 ^ 64 → length_line (length 
 length_line_is text small = rw (decimal_is_kept (length text) small) refl
 
 are_bytes : (text : Text) → list_all (λ b. nat_lt b 256) text ≡ true → All (λ b. b < 256) text
-are_bytes text all = All-weaker (λ b. nat_lt b 256 ≡ true) (λ b. b < 256) (λ b is. grind (arith, nat_tests)) text (AllPass-from_list_all _ text all)
+are_bytes text all =
+    All-weaker (λ b. nat_lt b 256 ≡ true) (λ b. b < 256) (λ b is. grind (arith, nat_tests)) text (AllPass-from_list_all _ text all)
+
+digits_are_bytes : (text : Text) → list_all is_ascii_digit text ≡ true → All (λ b. b < 256) text
+digits_are_bytes text all =
+    All-weaker (λ b. is_ascii_digit b ≡ true) (λ b. b < 256) (λ b is. grind (arith, nat_tests)) text (AllPass-from_list_all _ text all)
 
 length_is_header : (text : Text) → length text < 2 ^ 64 → IsHeader (length_header text)
 length_is_header text small = record {
   no_colon = refl;
   no_lf = refl;
-  bytes = All-weaker (λ b. is_ascii_digit b ≡ true) (λ b. b < 256) (λ b is. grind (arith, nat_tests)) (decimal (length text))
-      (AllPass-from_list_all _ (decimal (length text)) (digits_decimal digits (length text) small));
+  bytes = digits_are_bytes (decimal (length text)) (digits_decimal digits (length text) small);
 }
 
 -- ---- the text of an event
@@ -193,12 +197,13 @@ plain_is_lines event is =
 pub plain_is_read : (event : Event) → IsTellable event → read_text (plain event) ≡ told event
 unfolding told
 plain_is_read event is =
-    let are = All-append IsHeader (with_values event.headers) (body_header event.body)
-    (All-filter (λ header. not (length header.1 == 0)) IsHeader event.headers is.headers) (body_headers event.body is.body) in
+    let front = All-filter (λ header. not (length header.1 == 0)) IsHeader event.headers is.headers in
+    let back = body_headers event.body is.body in
+    let are = All-append IsHeader (with_values event.headers) (body_header event.body) front back in
     ap read_text (plain_is_lines event is) ∙ all_read (told event).0 event.body are
 
-pub one_is_told : (some other : Event) → IsTellable some → IsTellable other → plain some ≡ plain other → told some ≡ told other
-one_is_told some other is_some is_other same = sym (plain_is_read some is_some) ∙ ap read_text same ∙ plain_is_read other is_other
+pub one_is_told : (a b : Event) → IsTellable a → IsTellable b → plain a ≡ plain b → told a ≡ told b
+one_is_told a b a_is b_is same = sym (plain_is_read a a_is) ∙ ap read_text same ∙ plain_is_read b b_is
 
 -- ---- its frame
 
@@ -220,6 +225,6 @@ pub frame_is_read : (event : Event) → length (plain event) < 2 ^ 64 → read_t
 unfolding frame framed
 frame_is_read event small =
     let text = plain event in
-    let are = All-cons IsHeader (length_header text) (type_header ∷ []) (length_is_header text small)
-    (All-cons IsHeader type_header [] type_is_header (All-nil IsHeader)) in
+    let last = All-cons IsHeader type_header [] type_is_header (All-nil IsHeader) in
+    let are = All-cons IsHeader (length_header text) (type_header ∷ []) (length_is_header text small) last in
     ap read_text (frame_is_lines text small) ∙ all_read (framed text).0 text are

@@ -10,5 +10,5 @@ ghost use Rattle.fs_event.specs.Reading.{IsTellable, read_text, told, framed};
 pub fn read_back()
     ensures plain { (event : Event) → IsTellable event → read_text (plain event) ≡ told event }
     ensures frame { (event : Event) → length (plain event) < 2 ^ 64 → read_text (frame event) ≡ framed (plain event) }
-    ensures one { (some other : Event) → IsTellable some → IsTellable other → plain some ≡ plain other → told some ≡ told other }
+    ensures one { (a b : Event) → IsTellable a → IsTellable b → plain a ≡ plain b → told a ≡ told b }
 {}

@@ -1,3 +1,6 @@
 pub mod After
 pub mod Bridges
+pub mod Closure
 pub mod Laws
+pub mod Orders
+pub mod Worlds

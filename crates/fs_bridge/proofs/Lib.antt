@@ -1,2 +1,5 @@
+pub mod DragLemmas
+pub mod OnceLemmas
 pub mod RoundLemmas
 mod RowLemmas
+pub mod SettledLemmas

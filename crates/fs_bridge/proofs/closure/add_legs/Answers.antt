@@ -20,7 +20,8 @@ returns g c =
     let w = g.L.Lines.world c.args.world.now in
     let few = few_legs w c.args.slot c.requires in
     let done : w.slots + 1 ≤ c.loop-k.k = omega (arith, c.loop-k-test.false, c.from-most.ensures, c.slots.ensures) in
+    let all = take_all c.loop-k.k (w.legs c.args.slot) (omega (arith, few, done)) in
     record {
       ok = c.loop-k.invariant
-          ∙ ap (λ legs. c.args.members.now.items ++ map cancelled legs) (take_all c.loop-k.k (w.legs c.args.slot) (omega (arith, few, done)));
+          ∙ ap (λ legs. c.args.members.now.items ++ map cancelled legs) all;
     }

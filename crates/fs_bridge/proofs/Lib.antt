@@ -3,3 +3,4 @@ pub mod OnceLemmas
 pub mod RoundLemmas
 mod RowLemmas
 pub mod SettledLemmas
+pub mod SurvivorLemmas

@@ -250,6 +250,19 @@ rounds_settle w (suc more) members round lines h enough by is =
     rounds_settle w more (members ++ round_after w members round) (round_after w members round) lines (next_settles w members round h)
     (next_enough w more members round enough) by is
 
+rounds_live : (w : World) (more : ℕ) (members round : Members) (slot : ℕ) → Settles w members round →
+    has_slot slot (with_rounds w more members round) ≡ true → w.live slot ≡ true
+rounds_live w zero members round slot h is = h.lives slot is
+rounds_live w (suc more) members round slot h is =
+    rounds_live w more (members ++ round_after w members round) (round_after w members round) slot (next_settles w members round h) is
+
+-- whoever is one of them stands in a slot that they have
+pub one_stands : (m : Member) (ms : Members) → IsOneOf m ms → has_slot m.0 ms ≡ true
+one_stands m [] is = absurd is
+one_stands m (d ∷ ms) (inl same) =
+    or_left (d.0 == m.0) (has_slot m.0 ms) (ap (λ other. other.0 == m.0) (sym same) ∙ nat_eq_equiv.refl m.0)
+one_stands m (d ∷ ms) (inr is) = or_right (d.0 == m.0) (has_slot m.0 ms) (one_stands m ms is)
+
 -- ---- those who are named
 
 named_at : (w : World) (named : Members) (slot : ℕ) → AreNamed w named → Any (λ m. (m.0 == slot) ≡ true) named → w.live slot ≡ true
@@ -278,3 +291,9 @@ unfolding members_of
 each_dragged_hangs_up w named m lines are dragged lives =
     rounds_settle w w.slots (in_order named) (in_order named) lines (named_settle w named are) (first_enough w (in_order named))
     dragged.by dragged.member m dragged.dragged lives
+
+-- whoever hangs up lived
+pub members_live : (w : World) (named : Members) (slot : ℕ) → AreNamed w named → has_slot slot (members_of w named) ≡ true →
+    w.live slot ≡ true
+unfolding members_of
+members_live w named slot are is = rounds_live w w.slots (in_order named) (in_order named) slot (named_settle w named are) is

@@ -11,9 +11,11 @@ pub fn bridges_law()
 {}
 
 /// Law: whoever hangs up is named, or dragged by one who hangs up; whoever lives and is dragged by one who hangs up,
-/// hangs up; and nobody hangs up twice.
+/// hangs up; nobody hangs up twice, nor outlives a bridge to hang up.
 pub fn closure_law()
     ensures each { hangups.EachIsNamedOrDragged }
     ensures dragged { hangups.EachDraggedHangsUp }
     ensures once { hangups.NobodyTwice }
+    ensures members { hangups.RoundsAreMembers }
+    ensures survivors { hangups.NoSurvivorHangsUp }
 {}

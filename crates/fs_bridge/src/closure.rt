@@ -87,7 +87,7 @@ fn members_of<L: Lines>(
     ensures { IfOk result (λ members. members.items ≡ spec.members_of (L.world world.now) named.now) }
 {
     let mut round = by_slots(alloc, named)?;
-    let mut members = by_slots(alloc, named)?;
+    let mut members = Vec::from_slice(alloc, &round)?;
     for _more in 0..world.slots() {
         if round.is_empty() {
             return Ok(members);

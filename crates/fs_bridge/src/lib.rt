@@ -1,12 +1,18 @@
-//! Bridges between channels: those that stand, and what a channel does that outlives its bridge.
+//! Bridges between channels: those that stand, what a channel does that outlives its bridge, and what a hangup drags
+//! along.
 #![tactic(auto)]
 
 mod after;
 mod bridges;
+mod closure;
 mod laws;
+mod lines;
+mod order;
 mod row;
 
 pub use after::{After, after_bridge};
 pub use bridges::Bridges;
-pub use laws::bridges_law;
+pub use closure::{Closure, closure_of_hangup};
+pub use laws::{bridges_law, closure_law};
+pub use lines::Lines;
 pub use row::{BridgeKind, Row};

@@ -1,0 +1,98 @@
+-- Rounds of a hangup, one member after another.
+use Rattle.std.proofs.Common.{◌≡◌, ℕ, zero, suc, ◌+◌, ◌-◌, ◌<◌, ◌≤◌, eqb}
+use Rattle.std.proofs.Common.{List, [], ◌∷◌, ◌++◌, length, take, get_or, map, filter, filter_map}
+use Rattle.std.proofs.Common.{fold, flat_map, Option, None, Some, option_to_list, slice_get, refl, ap, sym, ◌∙◌, arith, Any, true}
+use Rattle.std.specs.List.{cons_option}
+use Rattle.std.proofs.lemmas.List.{take_more, map_more, append-nil}
+use Rattle.std.proofs.lemmas.List.Sums.{fold-append}
+use Rattle.std.proofs.lemmas.List.Elements.{filter-append, filter_map-append}
+use Rattle.std.proofs.lemmas.List.Folds.{Any-from_list_any}
+use Rattle.std.proofs.lemmas.Grind.{flat_map-append}
+use Rattle.std.proofs.lemmas.Map.Steps.{length-le_from_distinct_below}
+use Rattle.std.proofs.lemmas.Bool.{eqb-true}
+use Rattle.std.proofs.lemmas.Option.{slice_get_within, get_or_from_slice_get}
+use Rattle.std.proofs.Math.Nat.{suc-ne-zero}
+use Rattle.fs_bridge.specs.Worlds.{World, AreLines}
+use Rattle.fs_bridge.specs.Orders.{placed, in_order}
+use Rattle.fs_bridge.specs.Closure.{Member, Members, drags, may_join, round_after, with_rounds}
+
+-- ---- legs
+
+-- one more leg
+pub leg_next : {X Y : Type 0} (f : X → Y) (legs : List X) (k : ℕ) (leg : X) → slice_get legs k ≡ Some leg →
+    map f (take (k + 1) legs) ≡ map f (take k legs) ++ f leg ∷ []
+leg_next f legs k leg is =
+    map_more f legs k leg (slice_get_within legs k leg is)
+    ∙ ap (λ next. map f (take k legs) ++ f next ∷ []) (get_or_from_slice_get legs k leg leg is)
+
+leg_within : (w : World) (slot leg : ℕ) → AreLines w → Any (λ other. eqb leg other ≡ true) (w.legs slot) → leg < w.slots + 1
+leg_within w slot leg lines among =
+    let last : get_or (w.legs slot) among.0 among.1 ≤ w.slots = (lines.legs slot among.0 among.1 among.2).last in
+    let there : get_or (w.legs slot) among.0 among.1 ≡ among.1 = among.3 in
+    let same : leg ≡ among.1 = eqb-true leg among.1 among.4 in
+    omega arith
+
+-- no more legs than slots, and one
+pub few_legs : (w : World) (slot : ℕ) → AreLines w → length (w.legs slot) ≤ w.slots + 1
+few_legs w slot lines =
+    length-le_from_distinct_below (w.legs slot) (w.slots + 1) (lines.differ slot)
+    (λ leg among. leg_within w slot leg lines (Any-from_list_any (eqb leg) (w.legs slot) among))
+
+-- ---- a round
+
+option_alone : {X : Type 0} (o : Option X) → cons_option o [] ≡ option_to_list o
+option_alone None = refl
+option_alone (Some x) = refl
+
+-- one more survivor, if there is one
+pub survivor_next : {X T : Type 0} (h : X → Option (ℕ × T)) (xs : List X) (i : ℕ) (d : X) (before : List (ℕ × T)) (o : Option (ℕ × T)) →
+    i < length xs → before ≡ in_order (filter_map h (take i xs)) → o ≡ h (get_or xs i d) →
+    fold placed before (option_to_list o) ≡ in_order (filter_map h (take (i + 1) xs))
+survivor_next h xs i d before o within so_far is =
+    ap (λ all. fold placed all (option_to_list o)) so_far
+    ∙ ap (λ one. fold placed (in_order (filter_map h (take i xs))) (option_to_list one)) is
+    ∙ ap (λ last. fold placed (in_order (filter_map h (take i xs))) last) (sym (option_alone (h (get_or xs i d))))
+    ∙ sym (fold-append placed [] (filter_map h (take i xs)) (cons_option (h (get_or xs i d)) []))
+    ∙ ap (λ all. in_order all) (sym (filter_map-append h (take i xs) (get_or xs i d ∷ [])))
+    ∙ ap (λ front. in_order (filter_map h front)) (sym (take_more xs i d within))
+
+-- with those whom one more member drags
+pub round_next : (w : World) (members round : Members) (i : ℕ) (d : Member) → i < length round →
+    round_after w members (take (i + 1) round)
+    ≡ fold placed (round_after w members (take i round)) (filter (may_join w members) (drags w (get_or round i d)))
+round_next w members round i d within =
+    ap (λ front. round_after w members front) (take_more round i d within)
+    ∙ ap (λ all. in_order (filter (may_join w members) all)) (flat_map-append (drags w) (take i round) (get_or round i d ∷ []))
+    ∙ ap (λ last. in_order (filter (may_join w members) (flat_map (drags w) (take i round) ++ last)))
+    (append-nil (drags w (get_or round i d)))
+    ∙ ap (λ all. in_order all) (filter-append (may_join w members) (flat_map (drags w) (take i round)) (drags w (get_or round i d)))
+    ∙ fold-append placed [] (filter (may_join w members) (flat_map (drags w) (take i round)))
+    (filter (may_join w members) (drags w (get_or round i d)))
+
+-- ---- the rounds
+
+-- behind a round in which there is nobody comes nobody
+pub none_more : (w : World) (more : ℕ) (members : Members) → with_rounds w more members [] ≡ members
+none_more w zero members = refl
+none_more w (suc more) members = ap (λ all. with_rounds w more all []) (append-nil members) ∙ none_more w more members
+
+pub none_left : (w : World) (more : ℕ) (members round : Members) → length round ≡ 0 → with_rounds w more members round ≡ members
+none_left w more members [] empty = none_more w more members
+none_left w more members (m ∷ round) empty = absurd (suc-ne-zero (length round) empty)
+
+-- one more round
+pub rounds_next : (w : World) (done : ℕ) (members round : Members) → done < w.slots →
+    with_rounds w (w.slots - done) members round
+    ≡ with_rounds w (w.slots - (done + 1)) (members ++ round_after w members round) (round_after w members round)
+rounds_next w done members round within =
+    let left : w.slots - done ≡ suc (w.slots - (done + 1)) = omega arith in
+    ap (λ more. with_rounds w more members round) left
+
+-- no round is left
+pub rounds_done : (w : World) (done : ℕ) (members round : Members) → w.slots ≤ done →
+    with_rounds w (w.slots - done) members round ≡ members
+rounds_done w done members round past =
+    let left : w.slots - done ≡ 0 = omega arith in
+    ap (λ more. with_rounds w more members round) left
+
+pub ruleset round_rules = (rounds_next, rounds_done)

@@ -1,0 +1,9 @@
+//! What a connection asked to be told: the events that it subscribed, and its filters over their headers.
+#![tactic(auto)]
+
+mod asked;
+mod filters;
+mod subclasses;
+mod subs;
+
+pub use subs::Subs;

@@ -2,7 +2,7 @@
 
 use fs_text::{EventName, Headers, Txt};
 
-/// What happened, as a connection that subscribed is told.
+/// What happened, as a connection is told.
 #[derive(Drop)]
 pub struct Event {
     pub name: EventName,
@@ -12,4 +12,21 @@ pub struct Event {
     pub headers: Headers,
     /// The text behind the headers; mostly empty.
     pub body: Txt,
+}
+
+impl Event {
+    ghost use Rattle.std.specs.Prelude.{◌≡◌, option_map};
+    ghost use Rattle.fs_event.specs.Headers.{value_of};
+
+    /// The value of the first header of this name.
+    #[tactic(auto, unfolding(crate::specs::Headers::value_of))]
+    pub fn header(&self, name: &[u8]) -> Option<&Txt>
+        ensures { option_map (λ value. value.now) result ≡ value_of name.now self.now.headers }
+    {
+        self.headers
+            .pairs()
+            .iter()
+            .find(|header| header.0.as_bytes() == name)
+            .map(|header| &header.1)
+    }
 }

@@ -2,5 +2,9 @@
 #![tactic(auto)]
 
 mod event;
+mod laws;
+mod texts;
 
 pub use event::Event;
+pub use laws::read_back;
+pub use texts::{frame, plain};

@@ -1,8 +1,10 @@
 -- Words that are lent.
-use Rattle.std.proofs.Common.{◌≡◌, ℕ, ◌+◌, ◌||◌, Bool, true, false, cond, not, List, [], ◌∷◌, take, drop, Option, None, Some, is_some, option_map}
-use Rattle.std.proofs.Common.{refl, sym, ap, ◌∙◌, Bor}
-use Rattle.std.specs.List.{list_any, position_or_len}
+use Rattle.std.proofs.Common.{◌≡◌, ℕ, ◌+◌, ◌||◌, Bool, true, false, cond, not, List, [], ◌∷◌, take, drop, length, ◌≤◌, ltb, Option, None, Some, is_some, unwrap_or, option_map}
+use Rattle.std.proofs.Common.{refl, sym, ap, ◌∙◌, arith, Bor}
+use Rattle.std.specs.List.{list_any, position, position_or_len}
 use Rattle.std.proofs.lemmas.Bool.{false≢true}
+use Rattle.std.proofs.lemmas.Bool.Decides.{nat_tests}
+use Rattle.std.proofs.lemmas.List.Sums.{prefix_len-le-length}
 use Rattle.std.proofs.lemmas.List.{take-map, drop-map}
 use Rattle.fs_text.specs.Texts.{Text}
 use Rattle.fs_filter.specs.Asked.{Asked, texts, asked_of, behind_first, is_custom, is_known, is_known_word}
@@ -16,6 +18,13 @@ any_text p (word ∷ words) = ap (λ rest. p word.now || rest) (any_text p words
 pub text_place : (p : Text → Bool) (words : List (Bor Text)) → position_or_len (λ word. p word.now) words ≡ position_or_len p (texts words)
 text_place p [] = refl
 text_place p (word ∷ words) = ap (λ rest. cond (not (p word.now)) (1 + rest) 0) (text_place p words)
+
+-- the place, or the length where none passes
+pub place_is : (p : Bor Text → Bool) (words : List (Bor Text)) → unwrap_or (position p words) (length words) ≡ position_or_len p words
+place_is p words = by (position_or_len p words) (length words) (prefix_len-le-length (λ word. not (p word)) words)
+  where
+    by : (place len : ℕ) → place ≤ len → unwrap_or (cond (ltb place len) (Some place) None) len ≡ place
+    by place len h = grind (arith, nat_tests)
 
 -- what stands before the first `CUSTOM` and behind it
 pub cut_at_custom : (words : List (Bor Text)) (place : ℕ) (names from : List (Bor Text)) (subclasses : Option (Bor (List (Bor Text)))) →

@@ -10,7 +10,7 @@ use Rattle.fs_filter.proofs.subs.with_names.Goals as goal
 pub returns : goal.returns
 returns c =
     let kept : EventName → Bool = λ name. has_name c.args.names.now name || asks_name c.args.asked.now name in
-    rw c.in_ok-all.is at (items_from_collect _ c.collect.ensures.ran
+    rw c.in_ok-all.was at (items_from_collect _ c.collect.ensures.ran
     (YieldsList-from_filter _ kept
     (YieldsList-at c.filter.ensures.source
     (YieldsList-from_map _ (λ row. row.0) (YieldsList-from_slice c.table.result.now cc) c.map.ensures.closure

@@ -1,7 +1,12 @@
-use Rattle.std.proofs.Common.{◌∙◌, rules, tests}
+use Rattle.std.proofs.Common.{not, ◌∙◌, arith}
+use Rattle.std.proofs.lemmas.List.Sums.{prefix_len-le-length}
 use Rattle.fs_filter.specs.Asked.{is_custom}
 use Rattle.fs_filter.proofs.AskedLemmas.{text_place, cut_at_custom}
 use Rattle.fs_filter.proofs.asked.Asked.of.Goals as goal
+
+pub split_at-requires : goal.split_at-requires
+split_at-requires c =
+    omega (arith, c.place_of_custom.ensures, prefix_len-le-length (λ word. not (is_custom word.now)) c.args.words.now)
 
 pub returns : goal.returns
 returns c =

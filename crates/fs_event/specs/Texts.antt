@@ -1,0 +1,31 @@
+-- The texts that a connection is sent of an event.
+use Rattle.std.specs.Prelude.{ℕ, [], map, ◌++◌, ◌==◌, length, codes, if◌then◌else◌}
+use Rattle.std.specs.List.{concat}
+use Rattle.std.specs.Fmt.{decimal}
+use Rattle.fs_text.specs.Escape.{escape}
+use Rattle.fs_text.specs.Texts.{Text}
+use Rattle.fs_event.specs.declared.event.Event.{Event}
+
+-- the line of a header, with its value escaped
+abbrev pub header_line : Text × Text → Text
+header_line header = header.0 ++ codes ": " ++ escape header.1 ++ codes "\n"
+
+-- a header with an empty value is left out
+unfoldable pub line_with_value : Text × Text → Text
+line_with_value header = if length header.1 == 0 then [] else header_line header
+
+-- the line that tells a length
+abbrev pub length_line : ℕ → Text
+length_line len = codes "Content-Length: " ++ decimal len ++ codes "\n"
+
+-- the length of a body, if there is one
+unfoldable pub body_length : Text → Text
+body_length body = if length body == 0 then [] else length_line (length body)
+
+-- the plain text of an event
+unfoldable pub plain : Event → Text
+plain event = concat (map line_with_value event.headers) ++ body_length event.body ++ codes "\n" ++ event.body
+
+-- the frame of an event
+unfoldable pub frame : Event → Text
+frame event = length_line (length (plain event)) ++ codes "Content-Type: text/event-plain\n\n" ++ plain event

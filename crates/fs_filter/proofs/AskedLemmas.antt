@@ -1,5 +1,5 @@
 -- Words that are lent.
-use Rattle.std.proofs.Common.{◌≡◌, ℕ, ◌+◌, ◌||◌, Bool, true, false, cond, not, List, [], ◌∷◌, take, drop, length, ◌≤◌, ltb, Option, None, Some, is_some, unwrap_or, option_map}
+use Rattle.std.proofs.Common.{◌≡◌, ℕ, ◌+◌, ◌||◌, Bool, false, cond, not, List, [], ◌∷◌, take, drop, length, ◌≤◌, ltb, Option, None, Some, is_some, unwrap_or, option_map}
 use Rattle.std.proofs.Common.{refl, sym, ap, ◌∙◌, arith, Bor}
 use Rattle.std.specs.List.{list_any, position, position_or_len}
 use Rattle.std.proofs.lemmas.Bool.{false≢true}
@@ -7,7 +7,7 @@ use Rattle.std.proofs.lemmas.Bool.Decides.{nat_tests}
 use Rattle.std.proofs.lemmas.List.Sums.{prefix_len-le-length}
 use Rattle.std.proofs.lemmas.List.{take-map, drop-map}
 use Rattle.fs_text.specs.Texts.{Text}
-use Rattle.fs_filter.specs.Asked.{Asked, texts, asked_of, behind_first, is_custom, is_known, is_known_word}
+use Rattle.fs_filter.specs.Asked.{texts, asked_of, behind_first, is_custom, is_known, is_known_word}
 
 -- some word passes a test
 pub any_text : (p : Text → Bool) (words : List (Bor Text)) → list_any (λ word. p word.now) words ≡ list_any p (texts words)

@@ -1,7 +1,7 @@
 use Rattle.std.proofs.Common.{not, Some, sym, ap, ◌∙◌, rules, tests}
 use Rattle.std.proofs.lemmas.Fn.{filter_same}
 use Rattle.fs_filter.specs.Asked.{texts}
-use Rattle.fs_filter.specs.Subscriptions.{Subclasses, These, has_text, subclasses_of, without_behind}
+use Rattle.fs_filter.specs.Subscriptions.{These, has_text, subclasses_of, without_behind}
 use Rattle.fs_filter.proofs.SubscriptionLemmas.{taken_out}
 use Rattle.fs_filter.proofs.subclasses.Subclasses.remove_behind.Goals as goal
 

@@ -1,4 +1,4 @@
-use Rattle.std.proofs.Common.{◌≡◌, ap, ◌∙◌, rules, tests}
+use Rattle.std.proofs.Common.{◌≡◌, ap, ◌∙◌}
 use Rattle.fs_filter.specs.Asked.{texts, asked_of, asked_in}
 use Rattle.fs_filter.specs.Subscriptions.{with_names, subscribed}
 use Rattle.fs_filter.proofs.SubscriptionLemmas.{subscribed_is}

@@ -33,9 +33,9 @@ pub cut_at_custom : (words : List (Bor Text)) (place : ℕ) (names from : List (
     record { names = texts names; subclasses = option_map (λ s. texts s.now) subclasses } ≡ asked_of (texts words)
 cut_at_custom words place names from subclasses is front back behind =
     let first : texts names ≡ take (position_or_len is_custom (texts words)) (texts words) =
-        ap texts front ∙ sym (take-map (λ word. word.now) place words) ∙ ap (λ n. take n (texts words)) is in
+    ap texts front ∙ sym (take-map (λ word. word.now) place words) ∙ ap (λ n. take n (texts words)) is in
     let rest : texts from ≡ drop (position_or_len is_custom (texts words)) (texts words) =
-        ap texts back ∙ sym (drop-map (λ word. word.now) place words) ∙ ap (λ n. drop n (texts words)) is in
+    ap texts back ∙ sym (drop-map (λ word. word.now) place words) ∙ ap (λ n. drop n (texts words)) is in
     rw (first, behind, rest) refl
 
 -- where no `CUSTOM` stands there, a known name is one of the names

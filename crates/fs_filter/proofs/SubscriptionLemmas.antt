@@ -26,7 +26,7 @@ pub subscribed_is : (asked whole : Asked) (names all : List EventName) (subclass
     ≡ subscribed whole (record { names = names; subclasses = subclasses; listening = listening; filters = filters })
 subscribed_is asked whole names all subclasses more listening known filters is there behind knows =
     let of : List EventName → Subclasses → Bool → Subscription = λ n s k.
-        record { names = n; subclasses = s; listening = listening || k; filters = filters } in
+    record { names = n; subclasses = s; listening = listening || k; filters = filters } in
     ap (λ n. of n more known) there ∙ ap (λ s. of (with_names asked names) s known) behind
     ∙ ap (of (with_names asked names) (with_subclasses asked subclasses)) knows
     ∙ ap (λ a. subscribed a (record { names = names; subclasses = subclasses; listening = listening; filters = filters })) is

@@ -59,10 +59,11 @@ impl Filters {
         ensures { result ≡ spec.lets_through self.now headers.now }
     {
         self.pairs.is_empty()
-            || self
-                .pairs
-                .iter()
-                .any(|filter| has_pair(headers, filter.0.as_bytes(), filter.1.as_bytes()))
+            || self.pairs.iter().any(|filter| has_pair(
+                headers,
+                filter.0.as_bytes(),
+                filter.1.as_bytes(),
+            ))
     }
 }
 
@@ -70,9 +71,7 @@ impl Filters {
 fn has_pair(pairs: &[(Txt, Txt)], header: &[u8], value: &[u8]) -> bool
     ensures { result ≡ spec.has_pair pairs.now (header.now, value.now) }
 {
-    pairs
-        .iter()
-        .any(|pair| pair.0.as_bytes() == header && pair.1.as_bytes() == value)
+    pairs.iter().any(|pair| pair.0.as_bytes() == header && pair.1.as_bytes() == value)
 }
 
 // Whether a filter is of this header, and has this value where one is named.

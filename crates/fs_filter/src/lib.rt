@@ -3,7 +3,9 @@
 
 mod asked;
 mod filters;
+mod laws;
 mod subclasses;
 mod subs;
 
+pub use laws::subscriptions_are_sets;
 pub use subs::Subs;

@@ -26,7 +26,11 @@ impl Model for Subs {
     ghost Value = { Subscription };
 
     ghost view = { λ s. record {
-        names = s.names.items; subclasses = s.subclasses; listening = s.listening; filters = s.filters } };
+      names = s.names.items;
+      subclasses = s.subclasses;
+      listening = s.listening;
+      filters = s.filters;
+    } };
 }
 
 impl Drop for Subs {
@@ -120,7 +124,8 @@ impl Subs {
     pub fn delete_filter(&mut self, header: &[u8], value: Option<&[u8]>) -> bool
         ensures rest { self.new
             ≡ record self.old {
-                filters = spec.without_filter self.old.filters header.now (lent value.entry) } }
+              filters = spec.without_filter self.old.filters header.now (lent value.entry);
+            } }
         ensures found { result ≡ spec.has_filter self.old.filters header.now (lent value.entry) }
     {
         self.filters.remove(header, value)

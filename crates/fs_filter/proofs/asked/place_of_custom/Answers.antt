@@ -9,7 +9,7 @@ use Rattle.fs_filter.proofs.asked.place_of_custom.Goals as goal
 pub returns : goal.returns
 returns c =
     let found : c.position.result ≡ position (λ word. is_custom word.now) c.args.words.now =
-        position_from_yields_List (λ word. is_custom word.now) _ _ c.position.result c.position.ensures.ran
-        (YieldsList-from_slice c.args.words.now cc) (λ x b q k. search (rules, tests)) in
+    position_from_yields_List (λ word. is_custom word.now) _ _ c.position.result c.position.ensures.ran
+    (YieldsList-from_slice c.args.words.now cc) (λ x b q k. search (rules, tests)) in
     c.unwrap_or.ensures ∙ ap (λ place. unwrap_or place (length c.args.words.now)) found
     ∙ place_is (λ word. is_custom word.now) c.args.words.now

@@ -1,5 +1,6 @@
 -- Words that are lent.
-use Rattle.std.proofs.Common.{◌≡◌, ℕ, ◌+◌, ◌||◌, Bool, false, cond, not, List, [], ◌∷◌, take, drop, length, ◌≤◌, ltb, Option, None, Some, is_some, unwrap_or, option_map}
+use Rattle.std.proofs.Common.{◌≡◌, ℕ, ◌+◌, ◌||◌, Bool, false, cond, not, List, [], ◌∷◌, take, drop, length, ◌≤◌, ltb, Option}
+use Rattle.std.proofs.Common.{None, Some, is_some, unwrap_or, option_map}
 use Rattle.std.proofs.Common.{refl, sym, ap, ◌∙◌, arith, Bor}
 use Rattle.std.specs.List.{list_any, position, position_or_len}
 use Rattle.std.proofs.lemmas.Bool.{false≢true}

@@ -1,5 +1,6 @@
 -- What subscriptions come to, for each name and each subclass.
-use Rattle.std.proofs.Common.{◌≡◌, ◌==◌, ◌||◌, ◌&&◌, not, Bool, true, false, cond, List, [], ◌∷◌, ◌++◌, Option, None, Some, unwrap_or, refl, sym, ap, ◌∙◌}
+use Rattle.std.proofs.Common.{◌≡◌, ◌==◌, ◌||◌, ◌&&◌, not, Bool, true, false, cond, List, [], ◌∷◌, ◌++◌, Option, None, Some}
+use Rattle.std.proofs.Common.{unwrap_or, refl, sym, ap, ◌∙◌}
 use Rattle.std.specs.List.{list_any, filter}
 use Rattle.std.specs.Str.{bytes_eq}
 use Rattle.std.proofs.Math.Bool.{and-false, and-true, or-false, or-true}
@@ -12,7 +13,8 @@ use Rattle.fs_text.specs.declared.event_names.EventName.{EventName}
 use Rattle.fs_text.specs.declared.event_names.EventName.TheVariants.{Custom}
 use Rattle.fs_text.proofs.TheTables.{event_table}
 use Rattle.fs_filter.specs.Asked.{asks_all, asks_name}
-use Rattle.fs_filter.specs.Subscriptions.{Subclasses, All, These, has_name, has_text, has_subclass, with_texts, without_texts, with_behind, without_behind}
+use Rattle.fs_filter.specs.Subscriptions.{Subclasses, All, These, has_name, has_text, has_subclass, with_texts, without_texts}
+use Rattle.fs_filter.specs.Subscriptions.{with_behind, without_behind}
 use Rattle.fs_filter.specs.Laws.{NameIsAdded, NameIsTaken, SubclassIsAdded, SubclassIsTaken, AllAreTaken, is_alone}
 
 -- ---- what a filter keeps
@@ -64,7 +66,8 @@ same_text : (one other : Text) → bytes_eq one other ≡ true → one ≡ other
 same_text one other same = (bytes_eq-Decides one other).0 same
 
 -- a text is among these and the new ones
-text_is_added : (texts known : List Text) (text : Text) → has_text (with_texts known texts) text ≡ (has_text known text || has_text texts text)
+text_is_added : (texts known : List Text) (text : Text) →
+    has_text (with_texts known texts) text ≡ (has_text known text || has_text texts text)
 text_is_added [] known text = sym (or-false (has_text known text))
 text_is_added (new ∷ texts) known text =
     text_is_added texts (cond (has_text known new) known (known ++ new ∷ [])) text ∙ by (has_text known new) refl
@@ -87,7 +90,8 @@ text_is_added (new ∷ texts) known text =
         ap (λ b. b || has_text texts text) (list_any-append (λ other. bytes_eq other text) known (new ∷ []))
         ∙ ends (has_text known text) (bytes_eq new text) (has_text texts text)
 
-text_is_taken : (texts known : List Text) (text : Text) → has_text (without_texts known texts) text ≡ (has_text known text && not (has_text texts text))
+text_is_taken : (texts known : List Text) (text : Text) →
+    has_text (without_texts known texts) text ≡ (has_text known text && not (has_text texts text))
 text_is_taken texts known text =
     let kept : Text → Bool = λ other. not (has_text texts other) in
     found_kept (λ other. bytes_eq other text) kept (kept text) (λ other same. ap kept (same_text other text same)) known

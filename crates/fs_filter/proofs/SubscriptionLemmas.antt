@@ -6,7 +6,8 @@ use Rattle.fs_text.specs.Texts.{Text}
 use Rattle.fs_text.specs.declared.event_names.EventName.{EventName}
 use Rattle.fs_filter.specs.Asked.{Asked, texts, is_known}
 use Rattle.fs_filter.specs.Subscriptions.{Subclasses, These, with_names, with_subclasses, without_names, without_subclasses}
-use Rattle.fs_filter.specs.Subscriptions.{without_behind, without_texts, Filters, has_pair, lets_through, Subscription, subscribed, unsubscribed}
+use Rattle.fs_filter.specs.Subscriptions.{without_behind, without_texts, Filters, has_pair, lets_through, Subscription}
+use Rattle.fs_filter.specs.Subscriptions.{subscribed, unsubscribed}
 
 -- with something behind `CUSTOM` it is taken out of a list
 pub taken_out : (behind : List (Bor Text)) (known : List Text) → false ≡ (length behind == 0) →
@@ -20,7 +21,8 @@ pub one_fits : (filters : Filters) (headers : List (Text × Text)) → false ≡
 one_fits filters headers some = rw (← some) refl
 
 -- each part with what is asked for
-pub subscribed_is : (asked whole : Asked) (names all : List EventName) (subclasses more : Subclasses) (listening known : Bool) (filters : Filters) →
+pub subscribed_is : (asked whole : Asked) (names all : List EventName) (subclasses more : Subclasses) (listening known : Bool)
+    (filters : Filters) →
     asked ≡ whole → all ≡ with_names asked names → more ≡ with_subclasses asked subclasses → known ≡ is_known asked →
     record { names = all; subclasses = more; listening = listening || known; filters = filters }
     ≡ subscribed whole (record { names = names; subclasses = subclasses; listening = listening; filters = filters })
@@ -32,7 +34,8 @@ subscribed_is asked whole names all subclasses more listening known filters is t
     ∙ ap (λ a. subscribed a (record { names = names; subclasses = subclasses; listening = listening; filters = filters })) is
 
 -- each part without it
-pub unsubscribed_is : (asked whole : Asked) (names left : List EventName) (subclasses less : Subclasses) (listening : Bool) (filters : Filters) →
+pub unsubscribed_is : (asked whole : Asked) (names left : List EventName) (subclasses less : Subclasses) (listening : Bool)
+    (filters : Filters) →
     asked ≡ whole → left ≡ without_names asked names → less ≡ without_subclasses asked subclasses →
     record { names = left; subclasses = less; listening = listening; filters = filters }
     ≡ unsubscribed whole (record { names = names; subclasses = subclasses; listening = listening; filters = filters })

@@ -1,5 +1,6 @@
 -- What the words of a subscription ask for.
-use Rattle.std.specs.Prelude.{◌==◌, Bool, not, ◌||◌, List, [], ◌∷◌, filter, drop, map, length, codes, Option, None, Some, is_some, option_map}
+use Rattle.std.specs.Prelude.{◌==◌, Bool, not, ◌||◌, List, [], ◌∷◌, filter, drop, map, length, codes, Option, None, Some, is_some}
+use Rattle.std.specs.Prelude.{option_map}
 use Rattle.std.specs.List.{slice_split, before_first, position_or_len, list_any}
 use Rattle.std.specs.Str.{bytes_eq}
 use Rattle.std.specs.Borrow.{Bor}

@@ -59,7 +59,8 @@ impl Subs {
 
     /// Subscribes the events that these words name. Answers whether a known name stands among them.
     ///
-    /// Unknown words are passed over. `ALL` names all events and all subclasses; all words behind `CUSTOM` are subclasses.
+    /// Unknown words are passed over. `ALL` names all events and all subclasses; all words behind `CUSTOM` are
+    /// subclasses.
     pub fn subscribe(&mut self, names: &[u8]) -> Result<bool, Memory>
         ensures ok { OnOk result (self.new ≡ spec.subscribed (asked_in names.now) self.old) }
         ensures known { IfOk result (λ known. known ≡ is_known (asked_in names.now)) }
@@ -71,14 +72,15 @@ impl Subs {
         let names = with_names(alloc, self.names.as_slice(), &asked)?;
         self.subclasses = self.subclasses.with(alloc, &asked)?;
         self.names = names;
-        self.listening |= asked.is_known();
-        Ok(asked.is_known())
+        let known = asked.is_known();
+        self.listening |= known;
+        Ok(known)
     }
 
     /// Takes the events that these words name out again. Answers whether a known name stands among them.
     ///
-    /// `CUSTOM` with nothing behind it takes all subclasses out. Where all subclasses are subscribed, none is taken out by
-    /// its name.
+    /// `CUSTOM` with nothing behind it takes all subclasses out. Where all subclasses are subscribed, none is taken out
+    /// by its name.
     pub fn nix(&mut self, names: &[u8]) -> Result<bool, Memory>
         ensures ok { OnOk result (self.new ≡ spec.unsubscribed (asked_in names.now) self.old) }
         ensures known { IfOk result (λ known. known ≡ is_known (asked_in names.now)) }
@@ -131,8 +133,8 @@ impl Subs {
         self.filters.remove(header, value)
     }
 
-    /// Whether the connection is to be told of an event: it is subscribed, of a `CUSTOM` event its subclass, and there is no
-    /// filter or some filter is one of its headers with its value. Takes no memory.
+    /// Whether the connection is to be told of an event: it is subscribed, of a `CUSTOM` event its subclass, and there
+    /// is no filter or some filter is one of its headers with its value. Takes no memory.
     pub fn wants(&self, event: &Event) -> bool
         ensures { result ≡ spec.wants self.now event.now }
     {

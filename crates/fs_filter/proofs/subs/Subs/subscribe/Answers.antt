@@ -10,5 +10,5 @@ returns-clause-ok c =
     c.of-asked.ensures ∙ ap asked_of (ap texts c.as_slice.ensures.value ∙ c.in_ok-words.ensures) in
     let names : c.in_ok-names.names.items ≡ with_names c.of-asked.result c.self.inside.names.items =
     c.in_ok-names.ensures ∙ ap (with_names c.of-asked.result) c.as_slice-2.ensures.value in
-    subscribed_is _ _ _ _ _ _ _ _ _ asked names c.in_ok-self-inside.ensures c.is_known.ensures
+    subscribed_is _ _ _ _ _ _ _ _ _ asked names c.in_ok-self-inside.ensures c.is_known-known.ensures
     ∙ ap (subscribed (asked_in c.args.names.now)) c.self.view_is

@@ -7,6 +7,7 @@ use crate::commands::{tell_api, tell_expanded};
 use crate::dials::{tell_dial, tell_plans, tell_timeout};
 use crate::disk::{tell_build, tell_load};
 use crate::documents::{attributes, tell_config};
+use crate::events::tell_event;
 use crate::frames::Frames;
 use crate::hunts::Hunts;
 use crate::legs::{Legs, tell_endpoint};
@@ -116,6 +117,7 @@ impl<D: Files + Drop> Desk<D> {
             "config" => tell_config(self.alloc, self.table.file(), rest, answer),
             "attributes" => self.add_attributes(rest),
             "text" => tell_text(self.alloc, rest, answer),
+            "event" => tell_event(self.alloc, rest, answer),
             "frames" => self.frames.tell(rest, answer),
             _ => self.tells_rest(verb, rest, answer),
         }

@@ -10,6 +10,7 @@ mod desk;
 mod dials;
 mod disk;
 mod documents;
+mod events;
 mod frames;
 mod hunts;
 mod legs;

@@ -35,7 +35,7 @@ raised_here counts raised number true is low =
     ∙ get_or-set_same counts number (min (counted_at counts number + 1) (2 ^ 64 - 1)) 0 low.0
 raised_here counts raised number false is low =
     get_or-set_other counts raised number (min (counted_at counts raised + 1) (2 ^ 64 - 1)) 0
-        (λ same. eqb-false raised number is (sym same)) ∙ omega (arith, low.1)
+    (λ same. eqb-false raised number is (sym same)) ∙ omega (arith, low.1)
 
 raised_low : (counts : List ℕ) (raised number : ℕ) → IsLow number counts → IsLow number (raised_at raised counts)
 raised_low counts raised number low = (
@@ -71,11 +71,11 @@ event_low _ = refl
 
 named_on : (name : EventName) (events : List Event) (t : Tallies) → IsLow (event_number name) t.events →
     counted_at (with_events_counted events t).events (event_number name)
-        ≡ min (counted_at t.events (event_number name) + count_by (is_named name) events) (2 ^ 64 - 1)
+    ≡ min (counted_at t.events (event_number name) + count_by (is_named name) events) (2 ^ 64 - 1)
 named_on name [] t low = omega (arith, low.1)
 named_on name (event ∷ events) t low =
     counts_on (counted_at t.events (event_number name)) (counted_at (with_event_counted event t).events (event_number name))
-        (counted_at (with_events_counted events (with_event_counted event t)).events (event_number name))
+    (counted_at (with_events_counted events (with_event_counted event t)).events (event_number name))
     (cond (is_named name event) 1 0) (count_by (is_named name) events) (count_by (is_named name) (event ∷ events))
     (raised_here t.events (event_number event.name) (event_number name) (is_named name event) refl low)
     (named_on name events (with_event_counted event t) (raised_low t.events (event_number event.name) (event_number name) low))
@@ -96,7 +96,7 @@ cause_low _ = refl
 
 hangup_here : (cause : Cause) (told : Option Cause) (hangups : List ℕ) → IsLow (cause_number cause) hangups →
     counted_at (with_hangup_counted told hangups) (cause_number cause)
-        ≡ min (counted_at hangups (cause_number cause) + cond (is_cause cause told) 1 0) (2 ^ 64 - 1)
+    ≡ min (counted_at hangups (cause_number cause) + cond (is_cause cause told) 1 0) (2 ^ 64 - 1)
 hangup_here cause None hangups low = omega (arith, low.1)
 hangup_here cause (Some other) hangups low =
     raised_here hangups (cause_number other) (cause_number cause) (is_cause cause (Some other)) refl low
@@ -112,9 +112,9 @@ hung_on : (cause : Cause) (events : List Event) (t : Tallies) → IsLow (cause_n
 hung_on cause [] t low = omega (arith, low.1)
 hung_on cause (event ∷ events) t low =
     counts_on (counted_at t.hangups (cause_number cause)) (counted_at (with_event_counted event t).hangups (cause_number cause))
-        (counted_at (with_events_counted events (with_event_counted event t)).hangups (cause_number cause))
+    (counted_at (with_events_counted events (with_event_counted event t)).hangups (cause_number cause))
     (cond (is_cause cause event.cause) 1 0) (count_by (λ (e : Event). is_cause cause e.cause) events)
-        (count_by (λ (e : Event). is_cause cause e.cause) (event ∷ events))
+    (count_by (λ (e : Event). is_cause cause e.cause) (event ∷ events))
     (hangup_here cause event.cause t.hangups low)
     (hung_on cause events (with_event_counted event t) (hangup_low cause event.cause t.hangups low))
     (one_more (λ (e : Event). is_cause cause e.cause) event events)

@@ -57,7 +57,7 @@ room_after_at None queues gift gifts h =
     room_less queues (frames_given gifts) (frames_given (gift ∷ gifts)) (omega (arith, given_more gift gifts)) h
 room_after_at (Some place) queues gift gifts h =
     room_with place (queue_at queues place ++ gift.frames) queues (frames_given gifts) (length gift.frames)
-        (omega (arith, length-append (queue_at queues place) gift.frames))
+    (omega (arith, length-append (queue_at queues place) gift.frames))
     (subst (HaveRoom queues) (given_more gift gifts) h)
 
 pub room_after_gift : (conns : List (Option (Numbered Conn))) (gift : Gift) (gifts : List Gift) (queues : List Frames) →
@@ -69,11 +69,11 @@ room_after_gift conns gift gifts queues h = room_after_at (place_of conns gift.c
 pub room_behind : (conns : List (Option (Numbered Conn))) (first : Option Gift) (gift : Gift) (more given : List Gift)
     (queues new : List Frames) →
     HaveRoom queues (frames_given given) → behind_first first more ≡ given → first ≡ Some gift →
-        new ≡ with_gift_delivered conns gift queues → HaveRoom new (frames_given more)
+    new ≡ with_gift_delivered conns gift queues → HaveRoom new (frames_given more)
 room_behind conns first gift more given queues new h parts is then =
     let whole : given ≡ gift ∷ more = sym parts ∙ ap (λ f. behind_first f more) is in
     subst (λ q. HaveRoom q (frames_given more)) (sym then)
-        (room_after_gift conns gift more queues (subst (λ gifts. HaveRoom queues (frames_given gifts)) whole h))
+    (room_after_gift conns gift more queues (subst (λ gifts. HaveRoom queues (frames_given gifts)) whole h))
 
 pub room_without : (first : Option Gift) (more given : List Gift) (queues new : List Frames) →
     HaveRoom queues (frames_given given) → behind_first first more ≡ given → first ≡ None → new ≡ queues → HaveRoom new (frames_given more)
@@ -94,5 +94,5 @@ pub room_requeued : (change : QueueChange) (queues : List Frames) (n : ℕ) → 
 room_requeued Unchanged queues n h = h
 room_requeued (Taken place) queues n h =
     room_with place (drop 1 (queue_at queues place)) queues n 0 (omega (arith, length-drop 1 (queue_at queues place)))
-        (room_less queues (0 + n) n (omega arith) h)
+    (room_less queues (0 + n) n (omega arith) h)
 room_requeued (Cleared place) queues n h = room_with place [] queues n 0 (omega arith) (room_less queues (0 + n) n (omega arith) h)

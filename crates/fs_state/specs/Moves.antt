@@ -127,7 +127,7 @@ after_answer_from slot None s = s
 after_answer_from slot (Some c) s =
     if is_none c.answered
     then its_leg_changed (λ position. with_answer position s.entries) slot c.leg_of
-        (with_event (plain_event ChannelAnswer) (with_chan slot (Some (with_answer_place s.entries c)) s))
+    (with_event (plain_event ChannelAnswer) (with_chan slot (Some (with_answer_place s.entries c)) s))
     else s
 
 abbrev pub after_one_answer : ℕ → Switch → Switch

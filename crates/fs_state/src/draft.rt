@@ -303,14 +303,7 @@ impl<'a> Draft<'a> {
     }
 
     /// Whether the channel in some slot has this identifier, live or not.
-    #[tactic(
-        auto,
-        using(
-            fs_places::proofs::PlaceLemmas::first_here,
-            fs_places::proofs::PlaceLemmas::first_behind,
-            fs_places::proofs::PlaceLemmas::first_empty
-        )
-    )]
+    #[tactic(auto, using(fs_places::proofs::PlaceLemmas::first_here, fs_places::proofs::PlaceLemmas::first_behind, fs_places::proofs::PlaceLemmas::first_empty))]
     pub fn is_held(&self, uuid: &[u8]) -> bool
         ensures { result ≡ spec.is_held uuid.now (drafted self.now) }
     {

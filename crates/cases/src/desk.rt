@@ -16,6 +16,7 @@ use crate::long::longer;
 use crate::names::tell_text;
 use crate::plays::tell_play;
 use crate::runs::tell_run;
+use crate::subscriptions::tell_subs;
 use crate::table::Table;
 use crate::variables::Variables;
 use crate::words::cut;
@@ -118,6 +119,7 @@ impl<D: Files + Drop> Desk<D> {
             "attributes" => self.add_attributes(rest),
             "text" => tell_text(self.alloc, rest, answer),
             "event" => tell_event(self.alloc, rest, answer),
+            "subs" => tell_subs(self.alloc, rest, answer),
             "frames" => self.frames.tell(rest, answer),
             _ => self.tells_rest(verb, rest, answer),
         }

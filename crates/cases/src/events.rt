@@ -1,4 +1,4 @@
-//! The frames of events.
+//! Events and their frames.
 
 use crate::answer::Answer;
 use crate::words::{cut, text_of};
@@ -10,19 +10,26 @@ use std::alloc::Global;
 /// without spaces, and stands behind the one that says the event's name.
 pub(crate) fn tell_event(alloc: Global, rest: &str, answer: &mut Answer) -> Result<(), Memory> {
     let (told, body) = rest.split_once(" | ").unwrap_or((rest, ""));
-    let (name, headers) = cut(told);
-    let Some(event_name) = EventName::of_name(name.as_bytes()) else {
-        answer.line(&[b"no event"]);
-        return Ok(());
-    };
-    let event = Event {
-        name: event_name,
-        subclass: Txt::of(alloc, b"")?,
-        headers: headers_of(alloc, name, headers)?,
-        body: text_of(alloc, body)?,
-    };
-    answer.lines(frame(alloc, &event)?.as_bytes());
+    match event_of(alloc, told, body)? {
+        Some(event) => answer.lines(frame(alloc, &event)?.as_bytes()),
+        None => answer.line(&[b"no event"]),
+    }
     Ok(())
+}
+
+/// The event of this name, with these headers and this body. Its subclass is what its header `Event-Subclass` says.
+pub(crate) fn event_of(alloc: Global, told: &str, body: &str) -> Result<Option<Event>, Memory> {
+    let (name, told) = cut(told);
+    let Some(event_name) = EventName::of_name(name.as_bytes()) else {
+        return Ok(None);
+    };
+    let headers = headers_of(alloc, name, told)?;
+    Ok(Some(Event {
+        name: event_name,
+        subclass: subclass_of(alloc, &headers)?,
+        headers,
+        body: text_of(alloc, body)?,
+    }))
 }
 
 // The headers of an event of this name.
@@ -34,4 +41,14 @@ fn headers_of(alloc: Global, name: &str, told: &str) -> Result<Headers, Memory> 
         headers.push(text_of(alloc, name)?, text_of(alloc, value)?)?;
     }
     Ok(headers)
+}
+
+// The subclass that these headers tell, if they do.
+fn subclass_of(alloc: Global, headers: &Headers) -> Result<Txt, Memory> {
+    let told = headers.pairs().iter().find(|header| header.0.as_bytes()
+        == b"Event-Subclass".as_slice());
+    match told {
+        Some(header) => header.1.copy(),
+        None => Txt::of(alloc, b""),
+    }
 }

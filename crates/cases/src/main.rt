@@ -19,6 +19,7 @@ mod long;
 mod names;
 mod plays;
 mod runs;
+mod subscriptions;
 mod table;
 mod variables;
 mod words;

@@ -1,0 +1,42 @@
+-- What one more subscription leaves.
+use Rattle.std.proofs.Common.{◌≡◌, ◌==◌, ◌||◌, Bool, false, List, [], ◌∷◌, length, Some, refl, ap, ◌∙◌, Bor}
+use Rattle.std.specs.List.{list_any}
+use Rattle.std.proofs.lemmas.Bool.{false≢true}
+use Rattle.fs_text.specs.Texts.{Text}
+use Rattle.fs_text.specs.declared.event_names.EventName.{EventName}
+use Rattle.fs_filter.specs.Asked.{Asked, texts, is_known}
+use Rattle.fs_filter.specs.Subscriptions.{Subclasses, These, with_names, with_subclasses, without_names, without_subclasses}
+use Rattle.fs_filter.specs.Subscriptions.{without_behind, without_texts, Filters, has_pair, lets_through, Subscription}
+use Rattle.fs_filter.specs.Subscriptions.{subscribed, unsubscribed}
+
+-- with something behind `CUSTOM` it is taken out of a list
+pub taken_out : (behind : List (Bor Text)) (known : List Text) → false ≡ (length behind == 0) →
+    These (without_texts known (texts behind)) ≡ without_behind (Some (texts behind)) (These known)
+taken_out [] known some = absurd (false≢true some)
+taken_out (text ∷ behind) known some = refl
+
+-- where there are filters one of them has to fit
+pub one_fits : (filters : Filters) (headers : List (Text × Text)) → false ≡ (length filters == 0) →
+    list_any (has_pair headers) filters ≡ lets_through filters headers
+one_fits filters headers some = rw (← some) refl
+
+-- each part with what is asked for
+pub subscribed_is : (asked whole : Asked) (names all : List EventName) (subclasses more : Subclasses) (listening known : Bool)
+    (filters : Filters) →
+    asked ≡ whole → all ≡ with_names asked names → more ≡ with_subclasses asked subclasses → known ≡ is_known asked →
+    record { names = all; subclasses = more; listening = listening || known; filters = filters }
+    ≡ subscribed whole (record { names = names; subclasses = subclasses; listening = listening; filters = filters })
+subscribed_is asked whole names all subclasses more listening known filters is there behind knows =
+    let of : List EventName → Subclasses → Bool → Subscription = λ n s k.
+    record { names = n; subclasses = s; listening = listening || k; filters = filters } in
+    ap (λ n. of n more known) there ∙ ap (λ s. of (with_names asked names) s known) behind
+    ∙ ap (of (with_names asked names) (with_subclasses asked subclasses)) knows
+    ∙ ap (λ a. subscribed a (record { names = names; subclasses = subclasses; listening = listening; filters = filters })) is
+
+-- each part without it
+pub unsubscribed_is : (asked whole : Asked) (names left : List EventName) (subclasses less : Subclasses) (listening : Bool)
+    (filters : Filters) →
+    asked ≡ whole → left ≡ without_names asked names → less ≡ without_subclasses asked subclasses →
+    record { names = left; subclasses = less; listening = listening; filters = filters }
+    ≡ unsubscribed whole (record { names = names; subclasses = subclasses; listening = listening; filters = filters })
+unsubscribed_is asked whole names left subclasses less listening filters is there behind = rw (← is, there, behind) refl

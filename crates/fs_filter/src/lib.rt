@@ -1,0 +1,11 @@
+//! What a connection asked to be told: the events that it subscribed, and its filters over their headers.
+#![tactic(auto)]
+
+mod asked;
+mod filters;
+mod laws;
+mod subclasses;
+mod subs;
+
+pub use laws::subscriptions_are_sets;
+pub use subs::Subs;

@@ -2,6 +2,7 @@
 
 use crate::answer::Answer;
 use crate::applications::tell_app;
+use crate::bridges::tell_bridges;
 use crate::channels::tell_channel;
 use crate::commands::{tell_api, tell_expanded};
 use crate::dials::{tell_dial, tell_plans, tell_timeout};
@@ -120,6 +121,7 @@ impl<D: Files + Drop> Desk<D> {
             "text" => tell_text(self.alloc, rest, answer),
             "event" => tell_event(self.alloc, rest, answer),
             "subs" => tell_subs(self.alloc, rest, answer),
+            "bridges" => tell_bridges(self.alloc, rest, answer),
             "frames" => self.frames.tell(rest, answer),
             _ => self.tells_rest(verb, rest, answer),
         }

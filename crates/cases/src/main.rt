@@ -4,6 +4,7 @@
 
 mod answer;
 mod applications;
+mod bridges;
 mod channels;
 mod commands;
 mod desk;

@@ -1,4 +1,5 @@
 pub mod Lists
 pub mod Opening
 pub mod Quiets
+pub mod Stages
 pub mod Keeps

@@ -1,7 +1,8 @@
 use Rattle.std.proofs.Common.{◌∷◌, Some, ap, sym, ◌∙◌, subst}
 use Rattle.fs_book.specs.Opened.{Owned}
 use Rattle.fs_book.specs.Passes.{mine, met}
-use Rattle.fs_book.proofs.Keeps.{closes, idle_of, Some_is}
+use Rattle.fs_book.proofs.Stages.{idle_of, Some_is}
+use Rattle.fs_book.proofs.Keeps.{closes}
 use Rattle.fs_book.proofs.book.Book.close.Goals as goal
 
 pub unreachable-requires : goal.unreachable-requires

@@ -1,5 +1,6 @@
 use Rattle.std.proofs.Common.{rules, ◌<◌, Some, sym, ap, ◌∙◌, subst}
-use Rattle.fs_book.proofs.Keeps.{draws, comes, taken_last}
+use Rattle.fs_book.proofs.Stages.{taken_last}
+use Rattle.fs_book.proofs.Keeps.{draws, comes}
 use Rattle.fs_book.proofs.book.Book.enter.Goals as goal
 
 pub fetch_add-ticket-requires : goal.fetch_add-ticket-requires

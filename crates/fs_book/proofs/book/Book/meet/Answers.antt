@@ -1,6 +1,7 @@
 use Rattle.std.proofs.Common.{rules, ap, arith}
 use Rattle.fs_book.proofs.Lists.{empty_of}
-use Rattle.fs_book.proofs.Keeps.{joins, learns, idle_of}
+use Rattle.fs_book.proofs.Stages.{idle_of}
+use Rattle.fs_book.proofs.Keeps.{joins, learns}
 use Rattle.fs_book.proofs.book.Book.meet.Goals as goal
 
 pub join_seat-requires : goal.join_seat-requires

@@ -1,6 +1,6 @@
 use Rattle.std.proofs.Common.{◌∷◌, ◌++◌, [], ap, sym, ◌∙◌, subst}
 use Rattle.fs_book.specs.Opened.{NamesOwn}
-use Rattle.fs_book.proofs.Keeps.{Some_is}
+use Rattle.fs_book.proofs.Stages.{Some_is}
 use Rattle.fs_book.proofs.Opening.{own_up}
 use Rattle.fs_book.proofs.book.Book.submit.Goals as goal
 

@@ -7,7 +7,7 @@ use Rattle.fs_text.specs.Cause.{cause_or_clearing}
 use Rattle.fs_text.specs.Texts.{Text}
 use Rattle.fs_api.specs.declared.api.Api.{Api}
 use Rattle.fs_api.specs.declared.api.Api.TheVariants.{Echo, Expand, GlobalGetvar, GlobalSetvar, Msleep, UuidExists, UuidKill, UuidGetvar}
-use Rattle.fs_api.specs.declared.api.Api.TheVariants.{Usage, Unknown}
+use Rattle.fs_api.specs.declared.api.Api.TheVariants.{UuidBridge, Usage, Unknown}
 use Rattle.fs_api.specs.declared.usages.Which.{Which}
 use Rattle.fs_api.specs.declared.usages.Which.TheVariants as which
 use Rattle.fs_api.specs.Originates.{originate_of}
@@ -42,6 +42,9 @@ uuid_kill_of arguments = UuidKill (word_of arguments) (cause_or_clearing (word_o
 abbrev pub uuid_getvar_of : Text → Api
 uuid_getvar_of arguments = needs which.UuidGetvar (λ name. UuidGetvar (word_of arguments) (word_of name)) (behind_word arguments)
 
+abbrev pub uuid_bridge_of : Text → Api
+uuid_bridge_of arguments = needs which.UuidBridge (λ other. UuidBridge (word_of arguments) (word_of other)) (behind_word arguments)
+
 -- the api command of a name with these arguments
 unfoldable pub api_named : Text → Text → Api
 api_named name arguments =
@@ -51,10 +54,11 @@ api_named name arguments =
     else (if bytes_eq name (codes "global_setvar") then needs which.GlobalSetvar global_setvar_of arguments
     else (if bytes_eq name (codes "msleep") then msleep_of arguments
     else (if bytes_eq name (codes "originate") then originate_of arguments
+    else (if bytes_eq name (codes "uuid_bridge") then needs which.UuidBridge uuid_bridge_of arguments
     else (if bytes_eq name (codes "uuid_exists") then needs which.UuidExists uuid_exists_of arguments
     else (if bytes_eq name (codes "uuid_getvar") then needs which.UuidGetvar uuid_getvar_of arguments
     else (if bytes_eq name (codes "uuid_kill") then needs which.UuidKill uuid_kill_of arguments
-    else Unknown name))))))))
+    else Unknown name)))))))))
 
 -- the api command that a text is
 abbrev pub api_of : Text → Api

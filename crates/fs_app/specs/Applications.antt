@@ -66,9 +66,10 @@ application_of name argument =
     else (if bytes_eq name (codes "log") || bytes_eq name (codes "eval") then app.Eval
     else (if bytes_eq name (codes "sleep") then sleep_application argument
     else (if bytes_eq name (codes "hangup") then hangup_application argument
+    else (if bytes_eq name (codes "bridge") then app.Bridge argument
     else (if bytes_eq name (codes "park") then app.Park
     else (if bytes_eq name (codes "transfer") then transfer_application (without_spaces argument)
-    else app.Unknown))))))
+    else app.Unknown)))))))
 
 -- the texts of a transfer can stand in a profile
 abbrev pub IsShortApplication : Application → Type 0

@@ -1,5 +1,5 @@
 -- What an api command answers, and what it does to the switch.
-use Rattle.std.specs.Prelude.{◌≡◌, ℕ, nat_lt, [], ◌++◌, length, map, Bool, Option, None, Some, is_some, unwrap_or, Result, Ok, Err, codes}
+use Rattle.std.specs.Prelude.{ℕ, nat_lt, [], ◌++◌, length, map, Bool, Option, None, Some, is_some, unwrap_or, Result, Ok, Err, codes}
 use Rattle.std.specs.Prelude.{if◌then◌else◌}
 use Rattle.std.specs.List.{concat}
 use Rattle.std.specs.Option.{option_and_then}
@@ -21,28 +21,13 @@ use Rattle.fs_orig.specs.declared.winner.Winner.{Winner}
 use Rattle.fs_orig.specs.Plans.{plans_of}
 use Rattle.fs_orig.specs.Timeouts.{braces_timeout}
 use Rattle.fs_state.specs.Switch.{Switch, chan_at, slot_named, is_full_of_jobs}
-use Rattle.fs_state.specs.Moves.{after_hangup}
+use Rattle.fs_state.specs.Hangups.{after_hangup}
+use Rattle.fs_machine.specs.Done.{Done, says, no_answer_yet}
+use Rattle.fs_machine.specs.Joining.{uuid_bridge_done}
 use Rattle.fs_machine.specs.Texts.{ok, yes, no, limit_passed, too_long_text, usage_text, api_not_found, no_channel, undefined}
 use Rattle.fs_machine.specs.Texts.{too_many_jobs, failed_text}
 use Rattle.fs_machine.specs.Attempts.{originate_begun}
 use Rattle.fs_machine.specs.Jobs.{sleep_begun}
-
--- the switch after an api command, and its answer, unless that is owed
-pub record Done : Type 0 where
-  pub state : Switch
-  pub answer : Option Text
-
--- a command comes to this state and this answer, if it is not owed
-abbrev pub ComesTo : Done → Switch → Option Text → Type 0
-ComesTo done state answer = done ≡ record { state = state; answer = answer }
-
--- an answer, and nothing else
-abbrev pub says : Text → Switch → Done
-says answer s = record { state = s; answer = Some answer }
-
--- no answer yet
-abbrev pub no_answer_yet : Switch → Done
-no_answer_yet s = record { state = s; answer = None }
 
 -- ---- globals
 
@@ -117,6 +102,7 @@ done_plainly conn (api.GlobalSetvar name value) s = set_global name value s
 done_plainly conn (api.Msleep milliseconds) s = msleep_done conn milliseconds s
 done_plainly conn (api.UuidExists uuid) s = says (told_whether (is_some (slot_named uuid s))) s
 done_plainly conn (api.UuidKill uuid cause) s = killed_as cause uuid s
+done_plainly conn (api.UuidBridge uuid other) s = uuid_bridge_done uuid other s
 done_plainly conn (api.UuidGetvar uuid name) s = says (variable_text name (chan_named uuid s)) s
 done_plainly conn (api.Originate url winner cid_name cid_number timeout) s =
     originate_done conn url winner (record { name = cid_name; number = cid_number }) timeout s

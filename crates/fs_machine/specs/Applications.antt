@@ -17,7 +17,9 @@ use Rattle.fs_app.specs.declared.application.Application.{Application}
 use Rattle.fs_app.specs.declared.application.Application.TheVariants as app
 use Rattle.fs_app.specs.Applications.{application_of}
 use Rattle.fs_state.specs.Switch.{Switch, chan_at}
-use Rattle.fs_state.specs.Moves.{after_move, after_answer, after_hangup, after_completion, run_on}
+use Rattle.fs_state.specs.Hangups.{after_hangup}
+use Rattle.fs_state.specs.Moves.{after_move, after_answer, after_completion, run_on}
+use Rattle.fs_machine.specs.Dialing.{after_dialing}
 
 -- a variable was set or taken out
 abbrev pub with_assignment : Assignment → Text → Chan → Chan
@@ -59,6 +61,7 @@ after_effect (app.Sleep milliseconds) slot s = after_sleep milliseconds slot s
 after_effect (app.Hangup cause) slot s = after_hangup cause slot s
 after_effect app.Park slot s = after_park slot s
 after_effect (app.Transfer to) slot s = after_move (transferred to) slot s
+after_effect (app.Bridge dial) slot s = after_dialing dial slot s
 after_effect app.Unknown slot s = after_hangup DestinationOutOfOrder slot s
 
 -- ---- running one

@@ -4,6 +4,7 @@ use Rattle.std.specs.Option.{option_and_then}
 use Rattle.fs_chan.specs.declared.chan.Chan.{Chan}
 use Rattle.fs_chan.specs.declared.due.Due.{Due}
 use Rattle.fs_chan.specs.declared.due.Due.TheVariants.{Now, At}
+use Rattle.fs_chan.specs.Bridging.{awaited_by}
 use Rattle.fs_chan.specs.Work.{due_of, due_at}
 use Rattle.fs_orig.specs.declared.orig.Orig.{Orig}
 use Rattle.fs_orig.specs.Verdicts as verdicts
@@ -19,17 +20,22 @@ use Rattle.fs_machine.specs.declared.due.DueActor.TheVariants as actor
 
 -- ---- one channel, one job
 
--- what stands in a slot, if it is a channel
-abbrev pub chan_due : Switch → Option Chan → Option Due
-chan_due s chan = option_and_then (due_of s.moment) chan
-
-abbrev pub slot_due : ℕ → Switch → Option Due
-slot_due slot s = chan_due s (chan_at s slot)
-
 -- an origination, by the verdict on it
 abbrev pub orig_due : ℕ → Option Orig → Option Due
 orig_due now None = None
 orig_due now (Some o) = Some (due_at now (verdicts.due_moment_of now o))
+
+-- a channel that waits for the legs that it dialed has something to do by the verdict on them
+abbrev pub due_by : Switch → Chan → Option ℕ → Option Due
+due_by s c None = due_of s.moment c
+due_by s c (Some orig) = orig_due s.moment (orig_of s orig)
+
+-- what stands in a slot, if it is a channel
+abbrev pub chan_due : Switch → Option Chan → Option Due
+chan_due s chan = option_and_then (λ c. due_by s c (awaited_by c)) chan
+
+abbrev pub slot_due : ℕ → Switch → Option Due
+slot_due slot s = chan_due s (chan_at s slot)
 
 abbrev pub work_due : Switch → JobWork → Option Due
 work_due s (Sleep until) = Some (due_at s.moment until)

@@ -5,6 +5,7 @@ use Rattle.fs_state.specs.declared.job.Job.{Job}
 use Rattle.fs_state.specs.declared.job.JobWork.{JobWork}
 use Rattle.fs_state.specs.declared.job.JobWork.TheVariants.{Sleep, Originate}
 use Rattle.fs_state.specs.Switch.{Switch, job_of}
+use Rattle.fs_machine.specs.declared.attempts.Party.TheVariants as party
 use Rattle.fs_machine.specs.Texts.{ok}
 use Rattle.fs_machine.specs.Owing.{after_job_begin, after_job_end}
 use Rattle.fs_machine.specs.Attempts.{after_verdict_on}
@@ -17,7 +18,7 @@ sleep_begun conn milliseconds s = after_job_begin conn (Sleep (moment_after s.mo
 abbrev pub after_job_work : JobWork → ℕ → ℕ → Switch → Switch
 after_job_work (Sleep until) number conn s = after_job_end number conn ok s
 after_job_work (Originate orig winner caller) number conn s =
-    after_verdict_on (record { job = number; conn = conn; orig = orig }) winner caller s
+    after_verdict_on (record { orig = orig; party = party.Job number conn winner caller }) s
 
 abbrev pub job_done_from : ℕ → Option Job → Switch → Switch
 job_done_from number None s = s

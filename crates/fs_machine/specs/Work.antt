@@ -12,13 +12,16 @@ use Rattle.fs_chan.specs.declared.chan.Chan.{Chan}
 use Rattle.fs_chan.specs.declared.peer.Direction.{Direction}
 use Rattle.fs_chan.specs.declared.peer.Direction.TheVariants.{Inbound, Outbound}
 use Rattle.fs_chan.specs.declared.wait.Wait.{Wait}
-use Rattle.fs_chan.specs.declared.wait.Wait.TheVariants.{Ready, Sleep, Parked, Socket}
+use Rattle.fs_chan.specs.declared.wait.Wait.TheVariants.{Ready, Sleep, Parked, Legs, Socket}
 use Rattle.fs_chan.specs.Changes.{in_state, may_route, routed}
 use Rattle.fs_plan.specs.declared.hunt.Hunt.{Hunt}
 use Rattle.fs_plan.specs.Outcomes.{Outcome}
 use Rattle.fs_plan.specs.Hunting.{hunted}
 use Rattle.fs_state.specs.Switch.{Switch, chan_at}
-use Rattle.fs_state.specs.Moves.{after_move, after_hangup, after_begin, after_completion, after_report, after_destroy}
+use Rattle.fs_state.specs.Hangups.{after_hangup}
+use Rattle.fs_state.specs.Moves.{after_move, after_begin, after_completion, after_report, after_destroy}
+use Rattle.fs_machine.specs.declared.attempts.Party.TheVariants as party
+use Rattle.fs_machine.specs.Attempts.{after_verdict_on}
 use Rattle.fs_machine.specs.Applications.{after_running}
 
 -- ---- routing
@@ -76,12 +79,13 @@ abbrev pub first_state : Direction → State
 first_state Inbound = CsRouting
 first_state Outbound = CsConsumeMedia
 
--- what a channel waits for is over, or it runs what is next
+-- what a channel waits for is over, or it runs what is next; one that dialed does what the verdict on the legs says
 abbrev pub after_wait : Wait → ℕ → Switch → Switch
 after_wait Ready slot s = after_running slot s
 after_wait (Sleep until) slot s = after_completion slot s
 after_wait Parked slot s = after_running slot s
 after_wait (Socket conn) slot s = after_running slot s
+after_wait (Legs orig) slot s = after_verdict_on (record { orig = orig; party = party.Slot slot }) s
 after_wait _ slot s = s
 
 abbrev pub after_work_in : State → ℕ → Chan → Switch → Switch

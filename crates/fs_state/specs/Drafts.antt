@@ -12,6 +12,7 @@ abbrev pub after : Switch → Delta → Switch
 after s d = record s {
   globals = unwrap_or d.globals s.globals;
   channels = written s.channels d.channels;
+  bridges = unwrap_or d.bridges s.bridges;
   origs = written s.origs d.origs;
   jobs = written s.jobs d.jobs;
   conns = written s.conns d.conns;

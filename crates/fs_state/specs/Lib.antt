@@ -4,3 +4,5 @@ pub mod Queues
 pub mod Switch
 pub mod Drafts
 pub mod Moves
+pub mod Hangups
+pub mod Bridging

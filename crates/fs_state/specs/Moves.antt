@@ -1,5 +1,5 @@
 -- What happens to channels and to those that they name.
-use Rattle.std.specs.Prelude.{ℕ, ◌==◌, nat_lt, if◌then◌else◌, Option, None, Some, is_none}
+use Rattle.std.specs.Prelude.{ℕ, ◌==◌, Bool, false, if◌then◌else◌, Option, None, Some, is_none}
 use Rattle.std.specs.Option.{option_and_then}
 use Rattle.fs_text.specs.declared.states.State.{State}
 use Rattle.fs_text.specs.declared.states.State.TheVariants.{CsInit, CsPark, CsHangup, CsReporting}
@@ -10,13 +10,16 @@ use Rattle.fs_text.specs.declared.event_names.EventName.TheVariants.{ChannelCrea
 use Rattle.fs_text.specs.declared.event_names.EventName.TheVariants.{ChannelExecuteComplete, ChannelPark, ChannelUnpark, ChannelHangup}
 use Rattle.fs_text.specs.declared.event_names.EventName.TheVariants.{ChannelHangupComplete, ChannelDestroy}
 use Rattle.fs_chan.specs.Changes.{is_live, in_state, with_answer_place, at_rest, hung_up}
+use Rattle.fs_chan.specs.Bridging.{awaited_by}
 use Rattle.fs_chan.specs.declared.action.Action.{Action}
 use Rattle.fs_chan.specs.declared.chan.Chan.{Chan}
 use Rattle.fs_orig.specs.declared.orig.Orig.{Orig}
+use Rattle.fs_orig.specs.declared.orig.Owner.{Owner}
+use Rattle.fs_orig.specs.declared.orig.Owner.TheVariants as owner
 use Rattle.fs_orig.specs.Legs.{position_in}
 use Rattle.fs_orig.specs.Changes.{with_answer, with_death}
 use Rattle.fs_state.specs.declared.event.Event.{Event}
-use Rattle.fs_state.specs.Switch.{Switch, chan_at, with_chan, orig_of, with_orig, with_event}
+use Rattle.fs_state.specs.Switch.{Switch, chan_at, with_chan, orig_of, with_orig, without_orig, with_event}
 
 -- an event that tells of no bridge and of no cause
 abbrev pub plain_event : EventName → Event
@@ -96,6 +99,11 @@ leg_changed_at change (Some position) o = change position o
 abbrev pub leg_changed : (ℕ → Orig → Orig) → ℕ → Orig → Orig
 leg_changed change slot o = leg_changed_at change (position_in slot o.legs) o
 
+-- the channel in this slot owns an origination
+abbrev pub is_owner : ℕ → Owner → Bool
+is_owner slot (owner.Slot other) = other == slot
+is_owner slot (owner.Job number) = false
+
 -- the origination that a channel is a leg of has that leg changed
 abbrev pub its_leg_changed : (ℕ → Orig → Orig) → ℕ → Option ℕ → Switch → Switch
 its_leg_changed change slot None s = s
@@ -155,26 +163,26 @@ after_answer slot s = for_slot after_one_answer (partner_at s slot) (after_one_a
 abbrev pub hangup_event : Cause → Event
 hangup_event cause = record { name = ChannelHangup; bridge = 0; cause = Some cause }
 
--- a live channel is hung up, and the leg that it is dies
+-- an origination is given up, if the channel in a slot owns it
+abbrev pub given_up_by : ℕ → ℕ → Option Orig → Switch → Switch
+given_up_by slot number None s = s
+given_up_by slot number (Some o) s = if is_owner slot o.owner then without_orig number s else s
+
+-- the origination that a channel in a slot waits for is given up
+abbrev pub orig_given_up : ℕ → Option ℕ → Switch → Switch
+orig_given_up slot None s = s
+orig_given_up slot (Some number) s = given_up_by slot number (orig_of s number) s
+
+-- a live channel is hung up, the leg that it is dies, and what it dialed is given up
 abbrev pub after_hangup_from : Cause → ℕ → Option Chan → Switch → Switch
 after_hangup_from cause slot None s = s
 after_hangup_from cause slot (Some c) s =
-    if is_live c then its_leg_changed (λ position. with_death position s.entries cause) slot c.leg_of
-    (with_state_events c.state CsHangup (with_event (hangup_event cause) (with_chan slot (Some (hung_up cause c)) s)))
+    if is_live c then orig_given_up slot (awaited_by c) (its_leg_changed (λ position. with_death position s.entries cause) slot c.leg_of
+    (with_state_events c.state CsHangup (with_event (hangup_event cause) (with_chan slot (Some (hung_up cause c)) s))))
     else s
 
 abbrev pub after_one_hangup : Cause → ℕ → Switch → Switch
 after_one_hangup cause slot s = after_hangup_from cause slot (chan_at s slot) s
-
--- a channel is hung up, and its partner with it, in the order of their slots
-abbrev pub after_hangup_with : Cause → ℕ → Option ℕ → Switch → Switch
-after_hangup_with cause slot None s = after_one_hangup cause slot s
-after_hangup_with cause slot (Some partner) s =
-    if nat_lt slot partner then after_one_hangup cause partner (after_one_hangup cause slot s)
-    else after_one_hangup cause slot (after_one_hangup cause partner s)
-
-abbrev pub after_hangup : Cause → ℕ → Switch → Switch
-after_hangup cause slot s = after_hangup_with cause slot (partner_at s slot) s
 
 -- the end of a call is told
 abbrev pub after_report : ℕ → Switch → Switch

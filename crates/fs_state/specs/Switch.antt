@@ -8,6 +8,9 @@ use Rattle.fs_vars.specs.Variables.{Variables}
 use Rattle.fs_doc.specs.Reading.{Configuration}
 use Rattle.fs_chan.specs.declared.chan.Chan.{Chan}
 use Rattle.fs_chan.specs.Changes.{is_live}
+use Rattle.fs_bridge.specs.declared.row.Row.{Row}
+use Rattle.fs_bridge.specs.declared.row.BridgeKind.{BridgeKind}
+use Rattle.fs_bridge.specs.Bridges.{BridgeRows, no_bridges, part_of, joined, unbridged}
 use Rattle.fs_orig.specs.declared.orig.Orig.{Orig}
 use Rattle.fs_places.specs.declared.numbered.Numbered.{Numbered}
 use Rattle.fs_places.specs.Places.{no_places, held_in, with_held, first_place, least_free}
@@ -30,6 +33,7 @@ pub record Switch : Type 0 where
   -- what is there
   pub globals : Variables
   pub channels : List (Option Chan)
+  pub bridges : BridgeRows
   pub origs : List (Option (Numbered Orig))
   pub jobs : List (Option (Numbered Job))
   pub conns : List (Option (Numbered Conn))
@@ -52,6 +56,7 @@ empty config = record {
   config = config;
   globals = config.globals;
   channels = no_places (config.settings.max_sessions + 1);
+  bridges = no_bridges;
   origs = no_places 1280;
   jobs = no_places 1024;
   conns = no_places config.settings.max_connections;
@@ -113,6 +118,22 @@ is_called uuid (Some c) = bytes_eq c.uuid uuid
 -- the channel in some slot has it
 abbrev pub is_held : Text → Switch → Bool
 is_held uuid s = is_some (first_place (is_called uuid) s.channels 0)
+
+-- the bridge that a slot is a leg of
+abbrev pub bridge_at : Switch → ℕ → Option Row
+bridge_at s slot = part_of slot s.bridges
+
+-- the number that the next bridge gets
+abbrev pub next_bridge_number : Switch → ℕ
+next_bridge_number s = s.bridges.drawn + 1
+
+-- with a bridge between two slots, of the next number
+abbrev pub with_bridge : ℕ → ℕ → BridgeKind → Switch → Switch
+with_bridge caller answerer kind s = record s { bridges = joined caller answerer kind s.bridges }
+
+-- without the bridge of a number
+abbrev pub without_bridge : ℕ → Switch → Switch
+without_bridge number s = record s { bridges = unbridged number s.bridges }
 
 abbrev pub orig_of : Switch → ℕ → Option Orig
 orig_of s number = row_of s.origs number

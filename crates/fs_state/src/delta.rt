@@ -8,6 +8,7 @@ use crate::event::Events;
 use crate::gift::Gifts;
 use crate::job::Job;
 use crate::switch::Core;
+use fs_bridge::Bridges;
 use fs_chan::Chan;
 use fs_orig::Orig;
 use fs_places::{Boxed, Numbered, Sheet};
@@ -28,6 +29,8 @@ pub struct Delta {
     /// The globals, where they change.
     pub globals: Option<Boxed<Vars>>,
     pub channels: Sheet<Boxed<Chan>>,
+    /// The bridges, where they change.
+    pub bridges: Option<Bridges>,
     pub origs: Sheet<Numbered<Orig>>,
     pub jobs: Sheet<Numbered<Job>>,
     pub conns: Sheet<Numbered<Conn>>,
@@ -46,6 +49,7 @@ impl Drop for Delta {
         let Delta {
             globals: _globals,
             channels: _channels,
+            bridges: _bridges,
             origs: _origs,
             jobs: _jobs,
             conns: _conns,
@@ -68,6 +72,7 @@ impl Delta {
         let Delta {
             globals,
             channels,
+            bridges,
             origs,
             jobs,
             conns,
@@ -79,6 +84,7 @@ impl Delta {
         } = self;
         core.take_globals(globals);
         channels.write_into(&mut core.channels);
+        core.take_bridges(bridges);
         origs.write_into(&mut core.origs);
         jobs.write_into(&mut core.jobs);
         conns.write_into(&mut core.conns);

@@ -17,6 +17,7 @@ use crate::event::{Event, Events};
 use crate::gift::Gifts;
 use crate::job::Job;
 use crate::switch::Core;
+use fs_bridge::Bridges;
 use fs_chan::Chan;
 use fs_doc::Config;
 use fs_orig::Orig;
@@ -33,6 +34,7 @@ pub struct Draft<'a> {
     core: &'a Core,
     globals: Option<Boxed<Vars>>,
     channels: Overlay<'a, Boxed<Chan>>,
+    pub(crate) bridges: Option<Bridges>,
     origs: Overlay<'a, Numbered<Orig>>,
     jobs: Overlay<'a, Numbered<Job>>,
     conns: Overlay<'a, Numbered<Conn>>,
@@ -49,6 +51,7 @@ impl Drop for Draft<'_> {
             core: _core,
             globals: _globals,
             channels: _channels,
+            bridges: _bridges,
             origs: _origs,
             jobs: _jobs,
             conns: _conns,
@@ -72,6 +75,7 @@ impl<'a> Model for Draft<'a> {
       delta = record {
         globals = d.globals;
         channels = d.channels.sheet;
+        bridges = d.bridges;
         origs = d.origs.sheet;
         jobs = d.jobs.sheet;
         conns = d.conns.sheet;
@@ -100,6 +104,7 @@ impl<'a> Draft<'a> {
             core,
             globals: None,
             channels: Overlay::new(alloc, &core.channels),
+            bridges: None,
             origs: Overlay::new(alloc, &core.origs),
             jobs: Overlay::new(alloc, &core.jobs),
             conns: Overlay::new(alloc, &core.conns),
@@ -519,6 +524,7 @@ impl<'a> Draft<'a> {
             core: _core,
             globals,
             channels,
+            bridges,
             origs,
             jobs,
             conns,
@@ -531,6 +537,7 @@ impl<'a> Draft<'a> {
         let delta = Delta {
             globals,
             channels: channels.into_sheet(),
+            bridges,
             origs: origs.into_sheet(),
             jobs: jobs.into_sheet(),
             conns: conns.into_sheet(),

@@ -12,6 +12,7 @@ use crate::delta::{Delta, QueueChange};
 use crate::drawn::Drawn;
 use crate::job::Job;
 use crate::queues::Queues;
+use fs_bridge::Bridges;
 use fs_chan::Chan;
 use fs_doc::Config;
 use fs_orig::Orig;
@@ -32,6 +33,7 @@ pub struct Core {
     pub(crate) config: Config,
     pub(crate) globals: Boxed<Vars>,
     pub(crate) channels: Places<Boxed<Chan>>,
+    pub(crate) bridges: Bridges,
     pub(crate) origs: Places<Numbered<Orig>>,
     pub(crate) jobs: Places<Numbered<Job>>,
     pub(crate) conns: Places<Numbered<Conn>>,
@@ -51,6 +53,7 @@ impl Drop for Core {
             config: _config,
             globals: _globals,
             channels: _channels,
+            bridges: _bridges,
             origs: _origs,
             jobs: _jobs,
             conns: _conns,
@@ -75,6 +78,7 @@ impl Model for Core {
       config = c.config;
       globals = c.globals;
       channels = c.channels;
+      bridges = c.bridges;
       origs = c.origs;
       jobs = c.jobs;
       conns = c.conns;
@@ -111,6 +115,7 @@ impl Core {
             config,
             globals,
             channels,
+            bridges: Bridges::new(alloc),
             origs,
             jobs,
             conns,
@@ -209,6 +214,15 @@ impl Core {
     {
         if let Some(globals) = globals {
             self.globals = globals;
+        }
+    }
+
+    /// Has other bridges, where there are any.
+    pub(crate) fn take_bridges(&mut self, bridges: Option<Bridges>)
+        ensures { self.new ≡ record self.old { bridges = unwrap_or bridges self.old.bridges } }
+    {
+        if let Some(bridges) = bridges {
+            self.bridges = bridges;
         }
     }
 

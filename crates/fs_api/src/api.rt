@@ -36,6 +36,11 @@ pub enum Api {
         uuid: Txt,
         cause: Cause,
     },
+    /// Two channels are to be joined.
+    UuidBridge {
+        uuid: Txt,
+        other: Txt,
+    },
     /// The value of a channel's variable is asked for.
     UuidGetvar {
         uuid: Txt,
@@ -71,6 +76,10 @@ impl Drop for Api {
             Api::UuidKill {
                 uuid: _uuid,
                 cause: _,
+            } => {}
+            Api::UuidBridge {
+                uuid: _uuid,
+                other: _other,
             } => {}
             Api::UuidGetvar {
                 uuid: _uuid,

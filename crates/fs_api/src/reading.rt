@@ -61,6 +61,8 @@ fn named(alloc: Global, name: &[u8], arguments: &[u8]) -> Result<Api, Memory>
         Ok(msleep_of(arguments))
     } else if name == b"originate".as_slice() {
         originate_of(alloc, arguments)
+    } else if name == b"uuid_bridge".as_slice() {
+        uuid_bridge_of(alloc, arguments)
     } else if name == b"uuid_exists".as_slice() {
         uuid_exists_of(alloc, arguments)
     } else if name == b"uuid_getvar".as_slice() {
@@ -114,6 +116,19 @@ fn msleep_of(arguments: &[u8]) -> Api
         Some(milliseconds) if milliseconds <= LONGEST_SLEEP => Api::Msleep { milliseconds },
         _ => Api::Usage(Which::Msleep),
     }
+}
+
+fn uuid_bridge_of(alloc: Global, arguments: &[u8]) -> Result<Api, Memory>
+    ensures { IfOk result (λ api. api ≡ spec.uuid_bridge_of arguments.now) }
+{
+    let (word, behind) = cut_word(arguments);
+    if behind.is_empty() {
+        return Ok(Api::Usage(Which::UuidBridge));
+    }
+    let (other, _) = cut_word(behind);
+    let uuid = Txt::of(alloc, word)?;
+    let other = Txt::of(alloc, other)?;
+    Ok(Api::UuidBridge { uuid, other })
 }
 
 fn uuid_exists_of(alloc: Global, arguments: &[u8]) -> Result<Api, Memory>

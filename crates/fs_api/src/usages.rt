@@ -10,6 +10,7 @@ pub enum Which {
     GlobalSetvar,
     Msleep,
     Originate,
+    UuidBridge,
     UuidExists,
     UuidGetvar,
     UuidKill,
@@ -27,6 +28,7 @@ pub fn usage(which: Which) -> &'static str
         Which::Originate => {
             "<call url> <exten>|&<app>(<args>) [dialplan] [context] [cid_name] [cid_num] [timeout]"
         }
+        Which::UuidBridge => "<uuid> <other_uuid>",
         Which::UuidExists => "<uuid>",
         Which::UuidGetvar => "<uuid> <name>",
         Which::UuidKill => "<uuid> [cause]",

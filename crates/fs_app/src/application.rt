@@ -15,6 +15,8 @@ pub enum Application {
     Sleep { milliseconds: u64 },
     /// The channel is hung up.
     Hangup { cause: Cause },
+    /// The legs of a dial string are tried, and the channel is joined to the one that wins.
+    Bridge { dial: Txt },
     /// The channel is parked.
     Park,
     /// The channel is routed anew; each text has at most 256 bytes.
@@ -34,6 +36,7 @@ impl Drop for Application {
             Application::Eval => {}
             Application::Sleep { milliseconds: _ } => {}
             Application::Hangup { cause: _ } => {}
+            Application::Bridge { dial: _dial } => {}
             Application::Park => {}
             Application::Transfer { to: _to } => {}
             Application::Unknown => {}

@@ -36,6 +36,9 @@ impl Application {
             Ok(sleep_application(argument))
         } else if name == b"hangup".as_slice() {
             Ok(hangup_application(argument))
+        } else if name == b"bridge".as_slice() {
+            let dial = Txt::of(alloc, argument)?;
+            Ok(Application::Bridge { dial })
         } else if name == b"park".as_slice() {
             Ok(Application::Park)
         } else if name == b"transfer".as_slice() {

@@ -17,7 +17,7 @@ impl Chan {
         ensures { IfOk result (λ headers. headers ≡ spec.channel_headers self.now) }
     {
         let number = decimal(alloc, self.state.number() as u64)?;
-        let profile = &self.profile;
+        let profile = &*self.profile;
         let mut given = Given {
             alloc,
             headers: Headers::new(alloc),

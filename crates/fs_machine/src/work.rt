@@ -98,7 +98,7 @@ fn hunt_for(draft: &Draft<'_>, plan: &Dialplan, chan: &Chan) -> Result<Option<Hu
     let vars = &*chan.vars;
     let scope = Scope {
         vars,
-        profile: &chan.profile,
+        profile: &*chan.profile,
         globals: draft.globals(),
     };
     let context = chan.profile.context.as_bytes();

@@ -1,4 +1,4 @@
-// Entries into a book, whose passes are split among the threads and met again.
+//! Entries into a book, whose passes are split among the threads and met again.
 ghost use Rattle.std.specs.Prelude.{◌≡◌};
 ghost use Rattle.std.specs.Thread.{IsSync};
 ghost use Rattle.fs_book.specs.Passes.{parts, IsPassOf};

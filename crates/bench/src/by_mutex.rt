@@ -1,4 +1,4 @@
-// The same entries under a `Mutex`.
+//! The same entries under a `Mutex`.
 ghost use Rattle.std.specs.Thread.{IsSync};
 
 use crate::tally::Tally;

@@ -1,4 +1,4 @@
-// A state that counts its entries, and answers each with the count.
+//! A state that counts its entries, and answers each with the count.
 ghost use Rattle.std.specs.Prelude.{◌≡◌};
 
 use fs_book::Turned;

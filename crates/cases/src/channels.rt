@@ -1,7 +1,7 @@
 //! The headers of a channel.
 
 use crate::answer::Answer;
-use fs_chan::{Chan, Direction, Peer, SharedVars};
+use fs_chan::{Chan, Direction, Peer, SharedProfile, SharedVars};
 use fs_text::{Cause, Memory, State, Txt};
 use fs_vars::{Bounds, Profile, Vars};
 use std::alloc::Global;
@@ -50,7 +50,8 @@ fn hung_up(alloc: Global) -> Result<Chan, Memory> {
 fn channel(alloc: Global, direction: Direction, profile: Profile) -> Result<Chan, Memory> {
     let uuid = Txt::of(alloc, b"46530000-0000-8000-8000-000000000001")?;
     let vars = SharedVars::of(alloc, Vars::new(alloc, Bounds::Channel)?)?;
-    Ok(Chan::new(alloc, uuid, 1, direction, profile, vars))
+    let profile = SharedProfile::of(alloc, profile)?;
+    Ok(Chan::new(uuid, 1, direction, profile, vars))
 }
 
 // Who was called at an extension, as a channel of this name.

@@ -85,7 +85,7 @@ fn tell_test(test: &Test<Txt>, stop: Break, answer: &mut Answer) {
         Test::Always => answer.told(format_args!("condition Always, {stop:?}")),
         Test::Plain { field, expression } => {
             answer.told(format_args!("condition Plain, {stop:?}"));
-            tell_pattern(field, expression, answer);
+            tell_pattern(field.text(), expression, answer);
         }
         Test::Many { kind, children } => {
             answer.told(format_args!("condition {kind:?}, {stop:?}"));
@@ -96,7 +96,7 @@ fn tell_test(test: &Test<Txt>, stop: Break, answer: &mut Answer) {
 
 fn tell_children(children: &[Child<Txt>], answer: &mut Answer) {
     for child in children {
-        tell_pattern(&child.field, &child.expression, answer);
+        tell_pattern(child.field.text(), &child.expression, answer);
     }
 }
 

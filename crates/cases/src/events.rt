@@ -6,8 +6,8 @@ use fs_event::{Event, frame};
 use fs_text::{EventName, Headers, Memory, Txt};
 use std::alloc::Global;
 
-/// Answers `event NAME HEADERS` and `event NAME HEADERS | BODY` with the frame of such an event. A header is `NAME=VALUE`
-/// without spaces, and stands behind the one that says the event's name.
+/// Answers `event NAME HEADERS` and `event NAME HEADERS | BODY` with the frame of such an event. A header is
+/// `NAME=VALUE` without spaces, and stands behind the one that says the event's name.
 pub(crate) fn tell_event(alloc: Global, rest: &str, answer: &mut Answer) -> Result<(), Memory> {
     let (told, body) = rest.split_once(" | ").unwrap_or((rest, ""));
     match event_of(alloc, told, body)? {

@@ -23,7 +23,8 @@ use Rattle.fs_book.proofs.Lists.{prefix_self, prefix_trans, prefix_shorter, pref
 use Rattle.fs_book.proofs.Lists.{total_append, one_le_total, two_le_total, total_le, total_only, total_alone, find, times_push, once_more}
 use Rattle.fs_book.proofs.Opening.{opens_up, names_up, names_down, closed_up, closed_push}
 -- what stands at one place is one
-use Rattle.fs_book.proofs.Stages.{same_at, at_below, each_set, tickets_le, idle_out, waiting_out, waiting_is, Some_is, no_ticket, one_carried, none_in, none_rises, alone, only_one, rises_all, at_either}
+use Rattle.fs_book.proofs.Stages.{same_at, at_below, each_set, tickets_le, idle_out, waiting_out, waiting_is, Some_is, no_ticket}
+use Rattle.fs_book.proofs.Stages.{one_carried, none_in, none_rises, alone, only_one, rises_all, at_either}
 
 module _ {E : Type 0} (xs ys : List E) where
   picks : (log : List E) (b : Bool) → ltb (length xs) (length ys) ≡ b → IsPrefix xs log → IsPrefix ys log

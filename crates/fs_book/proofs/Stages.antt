@@ -22,8 +22,8 @@ at_below (x ∷ xs) zero a at = omega arith
 at_below (x ∷ xs) (suc i) a at = let r = at_below xs i a at in omega arith
 
 -- what holds of each, where one changed
-pub each_set : {V : Type 0} (P : V → Type 0) (vs : List V) (i : ℕ) (w : V) → P w → ((j : ℕ) (u : V) → j ≢ i → get_elem? vs j ≡ some u → P u) →
-    (j : ℕ) (u : V) → get_elem? (set vs i w) j ≡ some u → P u
+pub each_set : {V : Type 0} (P : V → Type 0) (vs : List V) (i : ℕ) (w : V) → P w →
+    ((j : ℕ) (u : V) → j ≢ i → get_elem? vs j ≡ some u → P u) → (j : ℕ) (u : V) → get_elem? (set vs i w) j ≡ some u → P u
 each_set P vs i w mine others j u e =
     ⊎_elim (λ (x : (j ≡ i) × (w ≡ u)). subst P x.1 mine) (λ (x : (j ≢ i) × (get_elem? vs j ≡ some u)). others j u x.0 x.1)
     (at_set vs i j w u e)

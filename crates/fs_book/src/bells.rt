@@ -1,4 +1,4 @@
-// Where callers sleep until their turn is near.
+//! Where callers sleep until their turn is near.
 use std::sync::Wait;
 use std::sync::atomic::{AtomicU64, Ordering};
 use std::{hint, thread};

@@ -1,4 +1,4 @@
-// A book: a state, the desk at which its callers wait, and the bells that wake them.
+//! A book: a state, the desk at which its callers wait, and the bells that wake them.
 
 ghost use Rattle.std.specs.Prelude.{◌≡◌};
 

@@ -1,4 +1,4 @@
-// What the holder of a pass does.
+//! What the holder of a pass does.
 ghost use Rattle.std.specs.Prelude.{◌≡◌, ℕ, ◌+◌, ◌<◌, List, [], ◌∷◌, ◌++◌, length, IfOk, IfErr};
 ghost use mathlib.Core.List.{IsPrefix};
 ghost use Rattle.fs_book.specs.Opened.{NamesOwn};

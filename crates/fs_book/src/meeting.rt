@@ -1,4 +1,4 @@
-// Passes are split, and met into one another.
+//! Passes are split, and met into one another.
 ghost use Rattle.std.specs.Prelude.{◌≡◌, ◌+◌, ◌<◌, [], ◌∷◌, ◌++◌};
 ghost use mathlib.Core.List.{IsPrefix};
 ghost use Rattle.fs_book.specs.declared.view.Stage.TheVariants.{Idle};

@@ -1,4 +1,4 @@
-// What a caller knows of a book.
+//! What a caller knows of a book.
 
 ghost use Rattle.std.specs.Prelude.{◌≡◌, ◌<◌, length};
 ghost use Rattle.fs_book.specs.Turns.{tickets_of, Sound};

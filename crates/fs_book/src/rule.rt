@@ -1,4 +1,4 @@
-// The rule by which the state passes from caller to caller.
+//! The rule by which the state passes from caller to caller.
 
 ghost use Rattle.std.specs.Prelude.{ℕ};
 

@@ -1,4 +1,4 @@
-// A book begins and ends.
+//! A book begins and ends.
 ghost use Rattle.std.specs.Prelude.{◌≡◌, ℕ, ◌^◌, [], ◌∷◌, length, Some, IfOk, IfErr};
 ghost use Rattle.fs_book.specs.Counts.{total, times, once_below};
 ghost use Rattle.fs_book.specs.Opened.{Owned};

@@ -1,4 +1,4 @@
-// A caller's time with the state: from the ticket to the turn that is passed on.
+//! A caller's time with the state: from the ticket to the turn that is passed on.
 ghost use Rattle.std.specs.Prelude.{◌≡◌, ℕ, ◌<◌, [], ◌∷◌, ◌++◌, length, Some, None};
 ghost use Rattle.fs_book.specs.declared.view.Stage.TheVariants.{Idle, Out};
 ghost use Rattle.fs_book.specs.Opened.{NamesOwn};

@@ -1,4 +1,4 @@
-// The tests of the book, with the states that they take turns at.
+//! The tests of the book, with the states that they take turns at.
 
 mod notes;
 mod tally;

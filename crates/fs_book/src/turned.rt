@@ -1,4 +1,4 @@
-// States that take entries one at a time.
+//! States that take entries one at a time.
 
 ghost use Rattle.std.specs.Prelude.{◌≡◌, ℕ, List, [], ◌∷◌, ◌++◌, length, Option, MatchResult};
 ghost use mathlib.Core.List.{IsPrefix};

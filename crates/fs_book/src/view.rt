@@ -1,4 +1,4 @@
-// What is known of the holder of a pass.
+//! What is known of the holder of a pass.
 
 use std::collections::LinkedList;
 

@@ -3,7 +3,7 @@ use Rattle.std.proofs.Common.{◌≡◌, [], ◌∷◌, ◌++◌, append_assoc, 
 use Rattle.std.proofs.lemmas.List.{append-nil}
 use Rattle.std.proofs.lemmas.List.Elements.{filter-append}
 use Rattle.fs_vars.specs.Pairs.{Pairs}
-use Rattle.fs_chan.specs.Headers.{with_values}
+use Rattle.fs_text.specs.Headers.{with_values}
 
 -- the headers once these were added, each unless its value is empty
 abbrev pub added : Pairs → Pairs → Pairs

@@ -1,6 +1,7 @@
 -- The headers that tell of a channel.
-use Rattle.std.specs.Prelude.{◌==◌, not, if◌then◌else◌, [], ◌∷◌, length, filter, Option, None, Some, is_some, codes}
+use Rattle.std.specs.Prelude.{if◌then◌else◌, [], ◌∷◌, Option, None, Some, is_some, codes}
 use Rattle.std.specs.Fmt as fmt
+use Rattle.fs_text.specs.Headers.{with_values}
 use Rattle.fs_text.specs.State.{state_name, state_number}
 use Rattle.fs_text.specs.Texts.{Text}
 use Rattle.fs_vars.specs.Pairs.{Pairs}
@@ -39,10 +40,6 @@ all_headers c =
     ∷ (codes "Caller-Context", c.profile.context)
     ∷ (codes "Other-Leg-Unique-ID", peer_uuid c.peer)
     ∷ []
-
--- those headers that have a value
-abbrev pub with_values : Pairs → Pairs
-with_values headers = filter (λ header. not (length header.1 == 0)) headers
 
 -- the headers of a channel, without those of an empty value
 unfoldable pub channel_headers : Chan → Pairs

@@ -1,9 +1,7 @@
 //! Actions: what a channel is to run, in order.
-ghost use Rattle.std.specs.Prelude.{◌≡◌, ◌==◌, [], ◌∷◌, ◌++◌, length, MatchOption, IfOk, OnOk, OnErr};
+ghost use Rattle.std.specs.Prelude.{◌≡◌, ◌==◌, [], ◌∷◌, ◌++◌, length, IfOk, OnOk, OnErr};
 ghost use Rattle.std.specs.Iterator.{at_most};
-ghost use Rattle.std.specs.Option.{option_copied};
 ghost use Rattle.std.specs.Map.Iter.{TakesFirst};
-ghost use Rattle.fs_chan.specs.Work.{first_of};
 
 use fs_text::{Memory, Txt};
 use std::alloc::Global;
@@ -33,7 +31,6 @@ impl Action {
 /// Actions that are still to be run, in order. A contract sees them as that list.
 #[derive(Drop)]
 pub struct Actions {
-    alloc: Global,
     queue: VecDeque<Action>,
 }
 
@@ -52,7 +49,6 @@ impl Actions {
         ensures { result ≡ [] }
     {
         Actions {
-            alloc,
             queue: VecDeque::new(alloc),
         }
     }
@@ -99,43 +95,11 @@ impl Actions {
         }
     }
 
-    /// The first action.
-    pub fn first(&self) -> Option<&Action>
-        ensures { option_copied result ≡ first_of self.now }
-    {
-        self.queue.front()
-    }
-
-    /// Takes the first action out, if there is one.
-    pub fn take_first(&mut self) -> Option<Action>
-        ensures { MatchOption result ((self.old ≡ []) × (self.new ≡ [])) (λ action. self.old ≡ action ∷ self.new) }
-    {
-        self.queue.pop_front()
-    }
-
-    /// Takes all actions out.
-    pub fn clear(&mut self)
-        ensures { self.new ≡ [] }
-    {
-        self.queue.clear();
-    }
-
     /// The actions as a list.
     pub(crate) fn into_vec(self) -> Vec<Action>
         ensures { result.items ≡ self }
     {
         Vec::from(self.queue)
-    }
-
-    /// The same actions once more.
-    pub fn copy(&self) -> Result<Actions, Memory>
-        ensures { IfOk result (λ actions. actions ≡ self.now) }
-    {
-        let mut actions = Actions::new(self.alloc);
-        for action in &self.queue {
-            actions.push(action.copy()?)?;
-        }
-        Ok(actions)
     }
 }
 

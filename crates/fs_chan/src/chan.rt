@@ -1,14 +1,13 @@
 //! The record of a channel, and its copy.
 ghost use Rattle.std.specs.Prelude.{◌≡◌, IfOk};
 
-use crate::action::{Action, Actions};
+use crate::action::Action;
 use crate::left::ActionsLeft;
 use crate::peer::{Direction, Peer};
+use crate::profile::SharedProfile;
 use crate::shared::SharedVars;
 use crate::wait::Wait;
 use fs_text::{Cause, Memory, State, Txt};
-use fs_vars::Profile;
-use std::alloc::Global;
 
 /// A channel: one leg of a call.
 ///
@@ -21,12 +20,12 @@ pub struct Chan {
     /// Where it stands in its life.
     pub state: State,
     pub direction: Direction,
-    pub profile: Profile,
+    pub profile: SharedProfile,
     pub vars: SharedVars,
     /// What it is to run, as the dialplan gave it.
     pub actions: ActionsLeft,
     /// What it is to run first, as clients sent it.
-    pub messages: Actions,
+    pub messages: ActionsLeft,
     /// The application that has begun and is not complete.
     pub running: Option<Action>,
     pub wait: Wait,
@@ -75,11 +74,10 @@ impl Chan {
 
     /// A channel in CS_NEW that has run nothing.
     pub fn new(
-        alloc: Global,
         uuid: Txt,
         slot: u16,
         direction: Direction,
-        profile: Profile,
+        profile: SharedProfile,
         vars: SharedVars,
     ) -> Chan
         ensures { result ≡ new_channel uuid slot direction profile vars }
@@ -92,7 +90,7 @@ impl Chan {
             profile,
             vars,
             actions: ActionsLeft::none(),
-            messages: Actions::new(alloc),
+            messages: ActionsLeft::none(),
             running: None,
             wait: Wait::Ready,
             answered: None,

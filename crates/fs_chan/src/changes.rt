@@ -1,5 +1,5 @@
 //! Each single change of a channel.
-ghost use Rattle.std.specs.Prelude.{◌≡◌, true, OnOk, OnErr, is_none, unwrap_or};
+ghost use Rattle.std.specs.Prelude.{◌≡◌, true, OnOk, OnErr, is_none};
 ghost use Rattle.fs_chan.specs.Changes as spec;
 
 use crate::action::Actions;
@@ -8,7 +8,7 @@ use crate::left::ActionsLeft;
 use crate::moment::moment_after;
 use crate::target::Target3;
 use crate::wait::Wait;
-use fs_text::{Cause, Memory, State, Txt};
+use fs_text::{Cause, Memory, State};
 use fs_vars::Vars;
 
 impl Chan {
@@ -33,19 +33,18 @@ impl Chan {
 
     /// Begins to be routed to a target. What it ran, waited for and was still to run as actions is dropped;
     /// messages stay.
-    pub fn transfer(&mut self, to: Target3)
+    pub fn transfer(&mut self, to: Target3) -> Result<(), Memory>
         requires { spec.IsShortTarget to }
-        ensures to { self.new ≡ spec.transferred to self.old }
+        ensures ok { OnOk result (self.new ≡ spec.transferred to self.old) }
+        ensures err { OnErr result (self.new ≡ self.old) }
         ensures short { spec.HasShortFields self.old.profile → spec.HasShortFields self.new.profile }
     {
-        let (exten, dialplan, context) = to.into_texts();
-        self.profile.destination_number = exten;
-        set_if_named(&mut self.profile.dialplan, dialplan);
-        set_if_named(&mut self.profile.context, context);
+        self.profile.send_to(to)?;
         self.actions.clear();
         self.running = None;
         self.wait = Wait::Ready;
         self.state = State::CsRouting;
+        Ok(())
     }
 
     /// Whether it may be routed once more: it was routed less than 70 times.
@@ -126,14 +125,4 @@ impl Chan {
         self.state = State::CsHangup;
         Ok(())
     }
-}
-
-/// Sets a field of a profile, where a text for it is named.
-fn set_if_named(field: &mut Txt, named: Option<Txt>)
-    ensures { field.new ≡ unwrap_or named field.old }
-{
-    let Some(text) = named else {
-        return;
-    };
-    *field = text;
 }

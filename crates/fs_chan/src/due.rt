@@ -1,3 +1,5 @@
+//! When a channel has something to do.
+
 /// When a channel has something to do by itself.
 #[derive(Clone, Copy, Debug, PartialEq, Eq)]
 pub enum Due {

@@ -1,6 +1,6 @@
 //! How a variable is exported.
 ghost use Rattle.std.specs.Prelude.{◌≡◌, ◌<◌, ◌∷◌, length, IfOk, IfSome, OnOk, OnErr};
-ghost use Rattle.std.specs.Prelude.{if◌then◌else◌};
+ghost use Rattle.std.specs.Prelude.{if◌then◌else◌, unwrap_or};
 ghost use Rattle.fs_chan.specs.Exports as spec;
 
 use fs_text::{Memory, split_at_byte};
@@ -13,7 +13,6 @@ const EXPORTS: &[u8] = b"export_vars";
 /// Sets a variable and puts its name once into `export_vars`, the comma list of those that new legs get.
 ///
 /// Nothing changes where the variable or the list cannot be set. A name that is taken out by its value is listed too.
-#[tactic(auto, unfolding(crate::specs::Exports::exported))]
 pub(crate) fn export(
     alloc: Global,
     vars: &mut Vars,
@@ -23,11 +22,27 @@ pub(crate) fn export(
     ensures ok { OnOk result (vars.new ≡ spec.exported vars.old name.now value.now) }
     ensures err { OnErr result (vars.new ≡ vars.old) }
 {
-    let mut done = vars.copy()?;
-    if done.set(name, value)? && list_export(alloc, &mut done, name)? {
+    if let Some(done) = exported(alloc, vars, name, value)? {
         *vars = done;
     }
     Ok(())
+}
+
+/// A copy of the variables in which one is set and exported, as [`export`] does, or nothing where that changes nothing.
+#[tactic(auto, unfolding(crate::specs::Exports::exported))]
+pub(crate) fn exported(
+    alloc: Global,
+    vars: &Vars,
+    name: &[u8],
+    value: &[u8],
+) -> Result<Option<Vars>, Memory>
+    ensures { IfOk result (λ done. unwrap_or done vars.now ≡ spec.exported vars.now name.now value.now) }
+{
+    let mut done = vars.copy()?;
+    if done.set(name, value)? && list_export(alloc, &mut done, name)? {
+        return Ok(Some(done));
+    }
+    Ok(None)
 }
 
 /// Puts a name into the list of those that are exported, where it is none of them yet, and says whether it is one now.

@@ -1,5 +1,6 @@
 //! The headers that tell of a channel.
 ghost use Rattle.std.specs.Prelude.{◌≡◌, [], ◌∷◌, ◌++◌, IfOk, OnOk};
+ghost use Rattle.fs_text.specs.Headers.{with_values};
 ghost use Rattle.fs_chan.specs.Headers as spec;
 
 use crate::chan::Chan;
@@ -16,7 +17,7 @@ impl Chan {
         ensures { IfOk result (λ headers. headers ≡ spec.channel_headers self.now) }
     {
         let number = decimal(alloc, self.state.number() as u64)?;
-        let profile = &self.profile;
+        let profile = &*self.profile;
         let mut given = Given {
             alloc,
             headers: Headers::new(alloc),
@@ -75,7 +76,7 @@ struct Given {
 impl Given {
     /// Adds a header, unless its value is empty.
     fn add(&mut self, name: &str, value: &[u8]) -> Result<(), Memory>
-        ensures { OnOk result (self.new.headers ≡ self.old.headers ++ spec.with_values ((name.now, value.now) ∷ [])) }
+        ensures { OnOk result (self.new.headers ≡ self.old.headers ++ with_values ((name.now, value.now) ∷ [])) }
     {
         if value.is_empty() {
             return Ok(());

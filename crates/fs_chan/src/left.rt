@@ -1,5 +1,5 @@
-//! The actions that a channel has left, shared between its copies.
-ghost use Rattle.std.specs.Prelude.{◌≡◌, [], drop, IfOk};
+//! Actions that a channel has left, shared between its copies.
+ghost use Rattle.std.specs.Prelude.{◌≡◌, ◌==◌, [], drop, length, IfOk};
 ghost use Rattle.std.specs.Option.{option_copied};
 ghost use Rattle.fs_chan.specs.Work.{first_of};
 
@@ -8,7 +8,7 @@ use fs_text::Memory;
 use std::marker::Model;
 use std::sync::ArcSlice;
 
-/// The actions that a channel has left to run, in order. They never change, and its copies share them.
+/// Actions that a channel has left to run, in order. They never change, and its copies share them.
 ///
 /// A contract sees them as that list.
 #[derive(Drop)]
@@ -45,6 +45,13 @@ impl ActionsLeft {
             all: Some(all),
             done: 0,
         })
+    }
+
+    /// Whether there is none.
+    pub fn is_empty(&self) -> bool
+        ensures { result ≡ (length self.now == 0) }
+    {
+        self.first().is_none()
     }
 
     /// The first one.

@@ -4,9 +4,11 @@ ghost use Rattle.std.specs.Prelude.{◌≡◌, IfOk, OnOk, OnErr};
 ghost use Rattle.fs_vars.specs.Variables.{can_set};
 ghost use Rattle.fs_chan.specs.Exports.{with_set};
 ghost use Rattle.fs_chan.specs.Assignments.{assigned};
+ghost use Rattle.fs_chan.specs.declared.assignment.Assignment.TheVariants.{Export};
 
 use crate::assignment::Assignment;
-use fs_text::Memory;
+use crate::exports::exported;
+use fs_text::{Memory, cut_at};
 use fs_vars::Vars;
 use std::alloc::Global;
 use std::marker::Model;
@@ -78,12 +80,27 @@ impl SharedVars {
         ensures ok { OnOk result (self.new ≡ assigned how argument.now self.old) }
         ensures err { OnErr result (self.new ≡ self.old) }
     {
+        if let Assignment::Export = how {
+            return self.export(argument);
+        }
         if let Some(vars) = Arc::get_mut(&mut self.shared) {
             return how.apply(self.alloc, argument, vars);
         }
         let mut vars = self.shared.copy()?;
         how.apply(self.alloc, argument, &mut vars)?;
         self.put(vars)
+    }
+
+    /// Sets a variable and exports it, in the one copy that this needs.
+    fn export(&mut self, argument: &[u8]) -> Result<(), Memory>
+        ensures ok { OnOk result (self.new ≡ assigned Export argument.now self.old) }
+        ensures err { OnErr result (self.new ≡ self.old) }
+    {
+        let (name, value) = cut_at(b'=', argument);
+        if let Some(vars) = exported(self.alloc, &self.shared, name, value)? {
+            self.put(vars)?;
+        }
+        Ok(())
     }
 }
 

@@ -37,8 +37,9 @@ impl Chan {
         if !self.runs_messages() {
             return;
         }
-        let message = self.messages.take_first();
-        if message.is_none() && self.runs_actions() {
+        if !self.messages.is_empty() {
+            self.messages.pass_first();
+        } else if self.runs_actions() {
             self.actions.pass_first();
         }
     }

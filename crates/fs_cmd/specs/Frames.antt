@@ -2,14 +2,11 @@
 use Rattle.std.specs.Prelude.{ℕ, List, map, ◌++◌, ◌==◌, length, codes, if◌then◌else◌}
 use Rattle.std.specs.List.{concat}
 use Rattle.std.specs.Fmt.{decimal}
+use Rattle.fs_text.specs.Headers.{header_line}
 
 -- the first frame of a connection
 unfoldable pub auth_request : List ℕ
 auth_request = codes "Content-Type: auth/request\n\n"
-
--- the line of a header
-abbrev pub header_line : List ℕ × List ℕ → List ℕ
-header_line header = header.0 ++ codes ": " ++ header.1 ++ codes "\n"
 
 -- the reply to a command, with further headers
 unfoldable pub reply : List ℕ → List (List ℕ × List ℕ) → List ℕ

@@ -1,9 +1,9 @@
 //! The frames that a connection is sent.
 
-ghost use Rattle.std.specs.Prelude.{◌≡◌, ◌++◌, IfOk, OnOk};
+ghost use Rattle.std.specs.Prelude.{◌≡◌, IfOk};
 ghost use Rattle.fs_cmd.specs.Frames as spec;
 
-use fs_text::{Memory, Txt};
+use fs_text::{Memory, Txt, push_header};
 use itoa::Buffer;
 use std::alloc::Global;
 
@@ -31,17 +31,6 @@ pub fn reply(alloc: Global, text: &[u8], more: &[(Txt, Txt)]) -> Result<Txt, Mem
     }
     frame.push(b'\n')?;
     Txt::from_vec(frame)
-}
-
-// Adds the line of a header.
-fn push_header(frame: &mut Vec<u8>, name: &[u8], value: &[u8]) -> Result<(), Memory>
-    ensures { OnOk result (frame.new.items ≡ frame.old.items ++ spec.header_line (name.now, value.now)) }
-{
-    frame.extend_from_slice(name)?;
-    frame.extend_from_slice(b": ")?;
-    frame.extend_from_slice(value)?;
-    frame.push(b'\n')?;
-    Ok(())
 }
 
 /// The frame with the answer of an api command. An empty answer is told in words.

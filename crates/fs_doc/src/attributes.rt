@@ -74,7 +74,7 @@ pub(crate) fn global_of(text: &[u8]) -> Option<(&[u8], &[u8])>
 }
 
 /// Whether a `${` stands in the text.
-pub fn has_variable(text: &[u8]) -> bool
+pub(crate) fn has_variable(text: &[u8]) -> bool
     ensures { result ≡ judged.has_variable text.now }
 {
     let mut left = text;

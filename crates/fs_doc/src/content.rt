@@ -8,6 +8,7 @@ use crate::attributes::{break_of, global_of, many_of};
 use crate::dialplan::{Break, ConditionDef, ContextDef, ExtensionDef, PlanAction, Test};
 use crate::element::{Kind, Level};
 use crate::fault::{DocKind, DocStop};
+use crate::field::Field;
 use crate::given::Given;
 use crate::listed::Listed;
 use crate::settings::{ConfigFile, Settings};
@@ -242,7 +243,7 @@ impl Content {
         ensures { DocGives (λ level. (level, self.new)) result (or_at at (contents.pattern_begun given.now self.old)) }
     {
         self.count_pattern(at, given)?;
-        let field = given.text(alloc, b"field")?;
+        let field = Field::of(given.text(alloc, b"field")?);
         let expression = given.text(alloc, b"expression")?;
         let test = Test::Plain { field, expression };
         self.condition = Some(condition_of(alloc, given, test));
@@ -267,7 +268,7 @@ impl Content {
         ensures { DocGives (λ level. (level, self.new)) result (or_at at (contents.case_begun given.now self.old)) }
     {
         self.count_pattern(at, given)?;
-        let field = given.text(alloc, b"field")?;
+        let field = Field::of(given.text(alloc, b"field")?);
         let expression = given.text(alloc, b"expression")?;
         if let Some(condition) = &mut self.condition {
             condition.add_child(field, expression)?;

@@ -3,6 +3,7 @@
 ghost use Rattle.std.specs.Prelude.{◌≡◌, ◌<◌, OnOk, OnErr};
 ghost use Rattle.fs_doc.specs.Dialplans.{with_extension};
 
+use crate::field::Field;
 use crate::listed::Listed;
 use fs_text::{Memory, Txt};
 
@@ -49,7 +50,7 @@ pub enum Test<P> {
     Always,
     /// The pattern is searched in the field's value.
     Plain {
-        field: Txt,
+        field: Field,
         expression: P,
     },
     /// So many of the children match.
@@ -62,7 +63,7 @@ pub enum Test<P> {
 /// A test among several.
 #[derive(Drop)]
 pub struct Child<P> {
-    pub field: Txt,
+    pub field: Field,
     pub expression: P,
 }
 
@@ -111,7 +112,7 @@ impl ConditionDef<Txt> {
     ghost use Rattle.fs_doc.specs.Dialplans.{with_child, with_action};
 
     /// Adds a child to a condition that tests several.
-    pub(crate) fn add_child(&mut self, field: Txt, expression: Txt) -> Result<(), Memory>
+    pub(crate) fn add_child(&mut self, field: Field, expression: Txt) -> Result<(), Memory>
         ensures { OnOk result (self.new ≡ with_child field expression self.old) }
     {
         if let Test::Many { children, .. } = &mut self.test {

@@ -11,6 +11,7 @@ mod dialplan;
 mod document;
 mod element;
 mod fault;
+mod field;
 mod given;
 mod globals;
 mod listed;
@@ -18,13 +19,13 @@ mod settings;
 mod state;
 mod values;
 
-pub use attributes::has_variable;
 pub use config::Config;
 pub use dialplan::{
     Break, Child, ConditionDef, ContextDef, ExtensionDef, ManyKind, PlanAction, Test,
 };
 pub use document::read_config;
 pub use fault::{DocFault, DocKind};
+pub use field::Field;
 pub use globals::globals_law;
 pub use listed::Listed;
 pub use settings::Settings;

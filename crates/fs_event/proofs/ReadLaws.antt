@@ -16,13 +16,13 @@ use Rattle.std.proofs.lemmas.Str.Parse.{IsNumeralModel, numerals_by_value}
 use Rattle.percent_encoding.specs.Percent.{percent_encode_byte}
 use Rattle.percent_encoding.proofs.PercentLemmas.{IsEscapeByte, All-percent_encode_byte}
 use Rattle.fs_text.specs.Escape.{is_escaped, escape_of_byte, escape}
+use Rattle.fs_text.specs.Headers.{with_values}
 use Rattle.fs_text.specs.Texts.{Text}
 use Rattle.fs_text.specs.Words.{is_byte}
 use Rattle.fs_text.proofs.Cuts.{before_behind, after_behind}
 use Rattle.fs_text.proofs.EscapeLemmas.{percent_decode-escape}
 use Rattle.fs_event.specs.declared.event.Event.{Event}
-use Rattle.fs_event.specs.Headers.{with_values}
-use Rattle.fs_event.specs.Texts.{header_line, line_with_value, length_line, body_length, plain, frame}
+use Rattle.fs_event.specs.Texts.{escaped_line, line_with_value, length_line, body_length, plain, frame}
 use Rattle.fs_event.specs.Reading.{header_of, with_header, read_within, read_text, IsHeader, IsTellable, length_header, body_header}
 use Rattle.fs_event.specs.Reading.{told, framed}
 
@@ -73,13 +73,13 @@ content_is_read header is =
     let value = after_behind (is_byte 58) header.0 58 (32 ∷ escape header.1) is.no_colon refl in
     rw (name, value, percent_decode-escape header.1 is.bytes) refl
 
-line_seam : (header : Text × Text) (more : Text) → header_line header ++ more ≡ content header ++ 10 ∷ more
+line_seam : (header : Text × Text) (more : Text) → escaped_line header ++ more ≡ content header ++ 10 ∷ more
 line_seam header more = simp append_assoc
 
 -- ---- lines
 
 abbrev lines : List (Text × Text) → Text
-lines headers = concat (map header_line headers)
+lines headers = concat (map escaped_line headers)
 
 line_read : (k : ℕ) (line more : Text) → list_any (is_byte 10) line ≡ false → (length line == 0) ≡ false →
     read_within (suc k) (line ++ 10 ∷ more) ≡ with_header (header_of line) (read_within k more)
@@ -96,14 +96,14 @@ lines_read (suc k) (header ∷ headers) body are within =
     let is = All-head IsHeader header headers are in
     let behind = All-tail IsHeader header headers are in
     let more : Text = lines headers ++ 10 ∷ body in
-    ap (read_within (suc (suc k))) (append_assoc (header_line header) (lines headers) (10 ∷ body) ∙ line_seam header more)
+    ap (read_within (suc (suc k))) (append_assoc (escaped_line header) (lines headers) (10 ∷ body) ∙ line_seam header more)
     ∙ line_read (suc k) (content header) more (content_no_lf header is) (content_is_long header)
     ∙ rw (content_is_read header is, lines_read k headers body behind (omega arith)) refl
 
 lines_are_long : (headers : List (Text × Text)) (body : Text) → length headers ≤ length (lines headers ++ body)
 lines_are_long [] body = omega arith
 lines_are_long (header ∷ headers) body =
-    let seam = append_assoc (header_line header) (lines headers) body ∙ line_seam header (lines headers ++ body) in
+    let seam = append_assoc (escaped_line header) (lines headers) body ∙ line_seam header (lines headers ++ body) in
     let size : length (lines (header ∷ headers) ++ body) ≡ length (content header ++ 10 ∷ (lines headers ++ body)) = ap length seam in
     omega (arith, size, length-append (content header) (10 ∷ (lines headers ++ body)), lines_are_long headers body)
 
@@ -135,7 +135,7 @@ digits_are_kept (b ∷ text) all =
 decimal_is_kept : (n : ℕ) → n < 2 ^ 64 → escape (decimal n) ≡ decimal n
 decimal_is_kept n small = digits_are_kept (decimal n) (digits_decimal digits n small)
 
-length_line_is : (text : Text) → length text < 2 ^ 64 → length_line (length text) ≡ header_line (length_header text)
+length_line_is : (text : Text) → length text < 2 ^ 64 → length_line (length text) ≡ escaped_line (length_header text)
 length_line_is text small = rw (decimal_is_kept (length text) small) refl
 
 are_bytes : (text : Text) → list_all (λ b. nat_lt b 256) text ≡ true → All (λ b. b < 256) text
@@ -168,7 +168,8 @@ written (header ∷ headers) = by (length header.1 == 0) refl (written headers)
 
 lines-append : (some more : List (Text × Text)) → lines (some ++ more) ≡ lines some ++ lines more
 lines-append [] more = refl
-lines-append (header ∷ some) more = ap (λ l. header_line header ++ l) (lines-append some more) ∙ sym (append_assoc (header_line header) _ _)
+lines-append (header ∷ some) more =
+    ap (λ l. escaped_line header ++ l) (lines-append some more) ∙ sym (append_assoc (escaped_line header) _ _)
 
 body_line : (body : Text) → length body < 2 ^ 64 → body_length body ≡ lines (body_header body)
 unfolding body_length body_header
@@ -218,8 +219,8 @@ frame_is_lines : (text : Text) → length text < 2 ^ 64 →
 unfolding escape framed
 frame_is_lines text small =
     ap (λ line. line ++ codes "Content-Type: text/event-plain\n\n" ++ text) (length_line_is text small)
-    ∙ append_assoc (header_line (length_header text)) (codes "Content-Type: text/event-plain\n\n") text
-    ∙ sym (append_assoc (header_line (length_header text)) (lines (type_header ∷ [])) (10 ∷ text))
+    ∙ append_assoc (escaped_line (length_header text)) (codes "Content-Type: text/event-plain\n\n") text
+    ∙ sym (append_assoc (escaped_line (length_header text)) (lines (type_header ∷ [])) (10 ∷ text))
 
 pub frame_is_read : (event : Event) → length (plain event) < 2 ^ 64 → read_text (frame event) ≡ framed (plain event)
 unfolding frame framed

@@ -3,10 +3,10 @@ use Rattle.std.specs.Prelude.{◌≡◌, ◌<◌, ◌+◌, ◌^◌, ◌==◌, �
 use Rattle.std.specs.List.{list_any}
 use Rattle.std.specs.Fmt.{decimal}
 use Rattle.percent_encoding.specs.Percent.{percent_decode}
+use Rattle.fs_text.specs.Headers.{with_values}
 use Rattle.fs_text.specs.Texts.{Text}
 use Rattle.fs_text.specs.Words.{is_byte, before_byte, behind_byte}
 use Rattle.fs_event.specs.declared.event.Event.{Event}
-use Rattle.fs_event.specs.Headers.{with_values}
 
 -- headers, and what stands behind them
 abbrev pub Told : Type 0

@@ -3,20 +3,21 @@ use Rattle.std.specs.Prelude.{ℕ, [], map, ◌++◌, ◌==◌, length, codes, i
 use Rattle.std.specs.List.{concat}
 use Rattle.std.specs.Fmt.{decimal}
 use Rattle.fs_text.specs.Escape.{escape}
+use Rattle.fs_text.specs.Headers.{header_line}
 use Rattle.fs_text.specs.Texts.{Text}
 use Rattle.fs_event.specs.declared.event.Event.{Event}
 
 -- the line of a header, with its value escaped
-abbrev pub header_line : Text × Text → Text
-header_line header = header.0 ++ codes ": " ++ escape header.1 ++ codes "\n"
+abbrev pub escaped_line : Text × Text → Text
+escaped_line header = header_line (header.0, escape header.1)
 
 -- a header with an empty value is left out
 unfoldable pub line_with_value : Text × Text → Text
-line_with_value header = if length header.1 == 0 then [] else header_line header
+line_with_value header = if length header.1 == 0 then [] else escaped_line header
 
 -- the line that tells a length
 abbrev pub length_line : ℕ → Text
-length_line len = codes "Content-Length: " ++ decimal len ++ codes "\n"
+length_line len = header_line (codes "Content-Length", decimal len)
 
 -- the length of a body, if there is one
 unfoldable pub body_length : Text → Text

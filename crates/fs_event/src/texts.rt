@@ -4,7 +4,7 @@ ghost use Rattle.std.specs.Prelude.{◌≡◌, ◌++◌, IfOk, OnOk};
 ghost use Rattle.fs_event.specs.Texts as spec;
 
 use crate::event::Event;
-use fs_text::{Memory, Txt, escape};
+use fs_text::{Memory, Txt, escape, push_header};
 use itoa::Buffer;
 use std::alloc::Global;
 
@@ -23,7 +23,7 @@ pub fn plain(alloc: Global, event: &Event) -> Result<Txt, Memory>
     let body = event.body.as_bytes();
     let mut text = Vec::with_capacity(alloc, body.len().saturating_add(HEADERS_ROOM))?;
     for (name, value) in event.headers.pairs() {
-        push_header(alloc, &mut text, name.as_bytes(), value.as_bytes())?;
+        push_escaped(alloc, &mut text, name.as_bytes(), value.as_bytes())?;
     }
     push_body_length(&mut text, body)?;
     text.push(b'\n')?;
@@ -31,20 +31,16 @@ pub fn plain(alloc: Global, event: &Event) -> Result<Txt, Memory>
     Txt::from_vec(text)
 }
 
-// Adds the line of a header, unless its value is empty.
+// Adds the line of a header with its value escaped, unless that is empty.
 #[tactic(auto, unfolding(crate::specs::Texts::line_with_value))]
-fn push_header(alloc: Global, text: &mut Vec<u8>, name: &[u8], value: &[u8]) -> Result<(), Memory>
+fn push_escaped(alloc: Global, text: &mut Vec<u8>, name: &[u8], value: &[u8]) -> Result<(), Memory>
     ensures { OnOk result (text.new.items ≡ text.old.items ++ spec.line_with_value (name.now, value.now)) }
 {
     if value.is_empty() {
         return Ok(());
     }
     let escaped = escape(alloc, value)?;
-    text.extend_from_slice(name)?;
-    text.extend_from_slice(b": ")?;
-    text.extend_from_slice(escaped.as_bytes())?;
-    text.push(b'\n')?;
-    Ok(())
+    push_header(text, name, escaped.as_bytes())
 }
 
 // Adds the length of a body, if there is one.
@@ -63,10 +59,7 @@ fn push_length(text: &mut Vec<u8>, len: usize) -> Result<(), Memory>
     ensures { OnOk result (text.new.items ≡ text.old.items ++ spec.length_line len) }
 {
     let mut digits = Buffer::new();
-    text.extend_from_slice(b"Content-Length: ")?;
-    text.extend_from_slice(digits.format(len).as_bytes())?;
-    text.push(b'\n')?;
-    Ok(())
+    push_header(text, b"Content-Length", digits.format(len).as_bytes())
 }
 
 /// The frame of an event: its plain text, with the length and the type of that in front.

@@ -1,3 +1,5 @@
+//! The lead of a pattern.
+
 ghost use Rattle.std.specs.Prelude.{◌≡◌, is_some, IfOk, IfSome};
 ghost use Rattle.regex.specs.Patterns.{Re, find};
 ghost use Rattle.fs_lead.specs.Leads.{IsLead, IsLeadOf, begins_with_any};

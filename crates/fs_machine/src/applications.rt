@@ -38,7 +38,7 @@ fn argument_in(draft: &Draft<'_>, chan: &Chan, text: &Txt) -> Result<Option<Txt>
 {
     let scope = Scope {
         vars: &*chan.vars,
-        profile: &chan.profile,
+        profile: &*chan.profile,
         globals: draft.globals(),
     };
     match expand(draft.alloc(), &scope, text.as_bytes()) {

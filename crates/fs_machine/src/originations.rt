@@ -7,7 +7,9 @@ ghost use Rattle.fs_state.specs.Switch.{identifier_of, with_next_identifier, fre
 ghost use Rattle.fs_machine.specs.Originations as spec;
 
 use crate::terms::{call_with, deadline_of, is_misnamed, set_all};
-use fs_chan::{Action, Actions, ActionsLeft, Chan, Direction, SharedVars, Target3, Wait};
+use fs_chan::{
+    Action, Actions, ActionsLeft, Chan, Direction, SharedProfile, SharedVars, Target3, Wait,
+};
 use fs_orig::{Caller, Endpoint, LegPlan, OrigLeg, OrigLegs, Route, Winner};
 use fs_places::Boxed;
 use fs_state::Draft;
@@ -217,9 +219,9 @@ fn make_end(draft: &mut Draft<'_>, call: &Call, end: End) -> Result<Txt, Memory>
 fn end_of(alloc: Global, call: &Call, end: End, uuid: Txt) -> Result<Boxed<Chan>, Memory>
     ensures { IfOk result (λ chan. chan ≡ spec.end_of call.now end uuid) }
 {
-    let profile = loopback_profile(alloc, call, end.direction, &uuid)?;
+    let profile = SharedProfile::of(alloc, loopback_profile(alloc, call, end.direction, &uuid)?)?;
     let vars = call.vars.copy()?;
-    let mut chan = Chan::new(alloc, uuid, end.slot, end.direction, profile, vars);
+    let mut chan = Chan::new(uuid, end.slot, end.direction, profile, vars);
     chan.partner = Some(end.partner);
     chan.leg_of = end.leg_of;
     Boxed::of(alloc, chan)
@@ -291,7 +293,7 @@ pub(crate) fn win_by(alloc: Global, chan: &mut Chan, winner: &Winner) -> Result<
             chan.wait = Wait::Ready;
             chan.state = State::CsExecute;
         }
-        Winner::Route(route) => chan.transfer(target_of(route.copy()?)),
+        Winner::Route(route) => chan.transfer(target_of(route.copy()?))?,
     }
     Ok(())
 }

@@ -96,12 +96,13 @@ fn hunt_for(draft: &Draft<'_>, plan: &Dialplan, chan: &Chan) -> Result<Option<Hu
     ensures { IfOk result (λ found. found ≡ spec.found_for chan.now (drafted draft.now)) }
 {
     let vars = &*chan.vars;
+    let profile = &*chan.profile;
     let scope = Scope {
         vars,
-        profile: &chan.profile,
+        profile,
         globals: draft.globals(),
     };
-    let context = chan.profile.context.as_bytes();
+    let context = profile.context.as_bytes();
     match plan.hunt(draft.alloc(), &scope, context, &mut NoGate) {
         Ok(hunt) => Ok(Some(hunt)),
         Err(Refused::TooLong { .. }) => Ok(None),

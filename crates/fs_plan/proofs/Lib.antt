@@ -1,5 +1,4 @@
 mod BuildLemmas
-mod FieldLemmas
 mod GroupLemmas
 mod MatchLemmas
 mod TextLemmas

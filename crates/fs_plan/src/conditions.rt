@@ -9,34 +9,32 @@ use crate::hunt::Hunt;
 use crate::pattern::Pattern;
 use crate::tested::{Count, Tested};
 use fs_chan::Action;
-use fs_doc::{Break, Child, ConditionDef, ManyKind, PlanAction, Test, has_variable};
+use fs_doc::{Break, Child, ConditionDef, Field, ManyKind, PlanAction, Test};
 use fs_ports::Gate;
-use fs_text::Txt;
 use fs_vars::{Profile, Refused};
 use std::alloc::Global;
 
 impl Hunt {
-    /// What a pattern finds in the value of a field. That of the profile is lent, and only what it does not have is
-    /// looked at for `${`.
-    #[tactic(auto, using(crate::proofs::FieldLemmas::own_value), unfolding(crate::specs::Hunting::field_value))]
+    /// What a pattern finds in the value of a field. One that the profile has is lent.
+    #[tactic(auto, unfolding(crate::specs::Hunting::field_value))]
     fn searched(
         &self,
         alloc: Global,
         profile: &Profile,
-        field: &Txt,
+        field: &Field,
         expression: &Pattern,
     ) -> Result<Tested, Refused>
         ensures ok { IfOk result (λ t. spec.field_tested profile.now field.now expression.now self.now ≡ Ok t) }
         ensures err { IfErr result (IsFault (spec.field_tested profile.now field.now expression.now self.now)) }
     {
-        if let Some(value) = profile.get(field.as_bytes()) {
+        if field.has_variable() {
+            let value = self.expanded(alloc, profile, field.text())?;
             return Ok(expression.tested(alloc, value.as_bytes())?);
         }
-        if !has_variable(field.as_bytes()) {
-            return Ok(expression.tested(alloc, b"")?);
+        match profile.get(field.text().as_bytes()) {
+            Some(value) => Ok(expression.tested(alloc, value.as_bytes())?),
+            None => Ok(expression.tested(alloc, b"")?),
         }
-        let value = self.expanded(alloc, profile, field)?;
-        Ok(expression.tested(alloc, value.as_bytes())?)
     }
 
     /// Counts the children that match.

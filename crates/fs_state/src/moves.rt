@@ -119,7 +119,7 @@ impl<'a> Draft<'a> {
             return Ok(());
         };
         let old = chan.state;
-        chan.transfer(to);
+        chan.transfer(to)?;
         self.put_moved(slot, old, chan)
     }
 

@@ -3,6 +3,7 @@ pub mod Cause
 pub mod CoreId
 pub mod Escape
 pub mod EventName
+pub mod Headers
 pub mod Number
 pub mod State
 pub mod Tables

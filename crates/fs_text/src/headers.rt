@@ -1,6 +1,7 @@
-//! Lists of names and values.
+//! Lists of names and values, and the lines that tell them.
 
-ghost use Rattle.std.specs.Prelude.{◌≡◌, [], ◌∷◌, ◌++◌, OnOk, OnErr};
+ghost use Rattle.std.specs.Prelude.{◌≡◌, [], ◌∷◌, ◌++◌, length, take, OnOk, OnErr};
+ghost use Rattle.fs_text.specs.Headers as spec;
 
 use crate::memory::Memory;
 use crate::text::Txt;
@@ -67,4 +68,29 @@ impl From<Headers> for Vec<(Txt, Txt)> {
     fn from(headers: Headers) -> Vec<(Txt, Txt)> {
         headers.pairs
     }
+}
+
+/// Adds the line of a header to a text.
+pub fn push_header(text: &mut Vec<u8>, name: &[u8], value: &[u8]) -> Result<(), Memory>
+    ensures ok { OnOk result (text.new.items ≡ text.old.items ++ spec.header_line (name.now, value.now)) }
+    ensures err { OnErr result (text.new.items ≡ text.old.items) }
+{
+    let len = text.len();
+    let pushed = push_line(text, name, value);
+    if pushed.is_err() {
+        text.truncate(len);
+    }
+    pushed
+}
+
+// Adds the line of a header, or a part of it.
+fn push_line(text: &mut Vec<u8>, name: &[u8], value: &[u8]) -> Result<(), Memory>
+    ensures ok { OnOk result (text.new.items ≡ text.old.items ++ spec.header_line (name.now, value.now)) }
+    ensures err { OnErr result (take (length text.old.items) text.new.items ≡ text.old.items) }
+{
+    text.extend_from_slice(name)?;
+    text.extend_from_slice(b": ")?;
+    text.extend_from_slice(value)?;
+    text.push(b'\n')?;
+    Ok(())
 }

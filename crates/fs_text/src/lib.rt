@@ -18,7 +18,7 @@ pub use causes::Cause;
 pub use core_id::CoreId;
 pub use escapes::{escape, escape_law};
 pub use event_names::EventName;
-pub use headers::Headers;
+pub use headers::{Headers, push_header};
 pub use memory::Memory;
 pub use numbers::{decimal, decimal_law, read_u64};
 pub use search::place_of;

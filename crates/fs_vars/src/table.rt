@@ -1,3 +1,5 @@
+//! The table in which variables stand under their names.
+
 ghost use Rattle.std.specs.Prelude.{◌≡◌, [], IfOk, OnOk, OnErr, option_copied};
 ghost use Rattle.fs_vars.specs.Pairs.{value_of, with_value, without, AreDistinct};
 

@@ -1,3 +1,5 @@
+//! Variables within their limits.
+
 ghost use Rattle.std.specs.Prelude.{◌≡◌, ◌≤◌, true, [], length, if◌then◌else◌, IfOk, OnErr, option_copied};
 ghost use Rattle.fs_vars.specs.Pairs.{value_of, with_value, without, AreDistinct};
 ghost use Rattle.fs_vars.specs.Variables.{can_set, set_to, is_removal, is_within, tally_of};

@@ -1,4 +1,4 @@
-// A state whose entries open numbers and name them.
+//! A state whose entries open numbers and name them.
 ghost use Rattle.std.specs.Prelude.{◌≡◌, []};
 
 use crate::{Ask, Book, Turned};

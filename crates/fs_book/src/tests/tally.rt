@@ -1,4 +1,4 @@
-// A state that counts its entries.
+//! A state that counts its entries.
 ghost use Rattle.std.specs.Prelude.{◌≡◌, []};
 
 use crate::{Ask, Turned};

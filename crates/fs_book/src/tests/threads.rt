@@ -1,4 +1,4 @@
-// Threads enter into one book, and their passes are met.
+//! Threads enter into one book, and their passes are met.
 ghost use Rattle.std.specs.Prelude.{◌≡◌};
 ghost use Rattle.std.specs.Thread.{IsSync};
 ghost use Rattle.fs_book.specs.Passes.{seen, parts, IsPassOf};

@@ -35,4 +35,5 @@ returns c =
       c.as_bytes-9.ensures,
       c.as_bytes-10.ensures,
       c.peer_uuid.ensures,
+      c.deref-profile.ensures,
     ) (added_given [] (spec.all_headers c.args.self.now))

@@ -9,11 +9,13 @@ ghost use Rattle.fs_dial.specs.DialStrings.{dial_of};
 ghost use Rattle.fs_state.specs.Drafts.{drafted};
 ghost use Rattle.fs_state.specs.Switch.{slot_named};
 ghost use Rattle.fs_machine.specs.Api as spec;
+ghost use Rattle.fs_machine.specs.Done.{ComesTo};
 
 use crate::attempts::begin_originate;
 use crate::globals::set_global;
 use crate::jobs::begin_sleep;
-use crate::texts::{api_not_found, failed_text, usage_text};
+use crate::joining::bridge_channels;
+use crate::texts::{api_not_found, failed_text, says, usage_text};
 use fs_api::{Api, usage};
 use fs_chan::Chan;
 use fs_dial::{DialKind, DialString, parse};
@@ -26,7 +28,7 @@ use std::alloc::Global;
 /// Runs an api command of a connection, and gives its answer, unless that is owed.
 pub(crate) fn run_api(draft: &mut Draft<'_>, conn: u32, api: &Api) -> Result<Option<Txt>, Memory>
     ensures base { draft.new.base ≡ draft.old.base }
-    ensures done { IfOk result (spec.ComesTo (spec.done_by conn api.now (drafted draft.old)) (drafted draft.new)) }
+    ensures done { IfOk result (ComesTo (spec.done_by conn api.now (drafted draft.old)) (drafted draft.new)) }
 {
     match api {
         Api::Expand { text } => run_expanded(draft, conn, text),
@@ -39,7 +41,7 @@ pub(crate) fn run_api(draft: &mut Draft<'_>, conn: u32, api: &Api) -> Result<Opt
 fn run_expanded(draft: &mut Draft<'_>, conn: u32, text: &Txt) -> Result<Option<Txt>, Memory>
     ensures base { draft.new.base ≡ draft.old.base }
     ensures done { IfOk result
-        (spec.ComesTo (spec.done_by conn (Expand text.now) (drafted draft.old)) (drafted draft.new)) }
+        (ComesTo (spec.done_by conn (Expand text.now) (drafted draft.old)) (drafted draft.new)) }
 {
     let alloc = draft.alloc();
     match expand_globally(alloc, draft.globals(), text.as_bytes()) {
@@ -70,7 +72,7 @@ fn expand_globally(alloc: Global, globals: &Vars, text: &[u8]) -> Result<Txt, Re
 // Runs an api command that expands no text.
 fn run_plainly(draft: &mut Draft<'_>, conn: u32, api: &Api) -> Result<Option<Txt>, Memory>
     ensures base { draft.new.base ≡ draft.old.base }
-    ensures done { IfOk result (spec.ComesTo (spec.done_plainly conn api.now (drafted draft.old)) (drafted draft.new)) }
+    ensures done { IfOk result (ComesTo (spec.done_plainly conn api.now (drafted draft.old)) (drafted draft.new)) }
 {
     let alloc = draft.alloc();
     match api {
@@ -81,6 +83,7 @@ fn run_plainly(draft: &mut Draft<'_>, conn: u32, api: &Api) -> Result<Option<Txt
         Api::Msleep { milliseconds } => sleep(draft, conn, *milliseconds),
         Api::UuidExists { uuid } => tell_whether(draft, uuid),
         Api::UuidKill { uuid, cause } => kill(draft, uuid, *cause),
+        Api::UuidBridge { uuid, other } => bridge_channels(draft, uuid, other),
         Api::UuidGetvar { uuid, name } => get_variable(draft, uuid, name),
         Api::Originate {
             url,
@@ -107,13 +110,6 @@ fn caller_of(name: &Txt, number: &Txt) -> Result<Caller, Memory>
     })
 }
 
-// Answers with these bytes.
-fn says(alloc: Global, answer: &[u8]) -> Result<Option<Txt>, Memory>
-    ensures { IfOk result (λ said. said ≡ Some answer.now) }
-{
-    Ok(Some(Txt::of(alloc, answer)?))
-}
-
 // ---- channels
 
 // Whether a live channel has an identifier.
@@ -133,7 +129,7 @@ fn tell_whether(draft: &Draft<'_>, uuid: &Txt) -> Result<Option<Txt>, Memory>
 fn kill(draft: &mut Draft<'_>, uuid: &Txt, cause: Cause) -> Result<Option<Txt>, Memory>
     ensures base { draft.new.base ≡ draft.old.base }
     ensures done { IfOk result
-        (spec.ComesTo (spec.killed_as cause uuid.now (drafted draft.old)) (drafted draft.new)) }
+        (ComesTo (spec.killed_as cause uuid.now (drafted draft.old)) (drafted draft.new)) }
 {
     let alloc = draft.alloc();
     let Some(slot) = draft.slot_named(uuid.as_bytes()) else {
@@ -172,7 +168,7 @@ fn chan_named<'a>(draft: &'a Draft<'_>, uuid: &Txt) -> Option<&'a Chan>
 #[tactic(auto, unfolding(crate::specs::Texts::too_many_jobs))]
 fn sleep(draft: &mut Draft<'_>, conn: u32, milliseconds: u64) -> Result<Option<Txt>, Memory>
     ensures base { draft.new.base ≡ draft.old.base }
-    ensures done { IfOk result (spec.ComesTo (spec.msleep_done conn milliseconds (drafted draft.old))
+    ensures done { IfOk result (ComesTo (spec.msleep_done conn milliseconds (drafted draft.old))
         (drafted draft.new)) }
 {
     if draft.is_full_of_jobs() {
@@ -194,7 +190,7 @@ fn originate(
 ) -> Result<Option<Txt>, Memory>
     ensures base { draft.new.base ≡ draft.old.base }
     ensures done { IfOk result
-        (spec.ComesTo (spec.originate_done conn url.now winner.now caller.now timeout (drafted draft.old))
+        (ComesTo (spec.originate_done conn url.now winner.now caller.now timeout (drafted draft.old))
         (drafted draft.new)) }
 {
     let alloc = draft.alloc();
@@ -219,7 +215,7 @@ fn dial_legs(
 ) -> Result<Option<Txt>, Memory>
     ensures base { draft.new.base ≡ draft.old.base }
     ensures done { IfOk result
-        (spec.ComesTo (spec.dialled conn (Ok (dial_of dial.now)) winner.now caller.now timeout (drafted draft.old))
+        (ComesTo (spec.dialled conn (Ok (dial_of dial.now)) winner.now caller.now timeout (drafted draft.old))
         (drafted draft.new)) }
 {
     let alloc = draft.alloc();
@@ -274,7 +270,7 @@ fn push_line(lines: &mut Vec<u8>, name: &[u8], value: &[u8]) -> Result<(), Memor
 fn answer_set(draft: &mut Draft<'_>, name: &Txt, value: &Txt) -> Result<Option<Txt>, Memory>
     ensures base { draft.new.base ≡ draft.old.base }
     ensures done { IfOk result
-        (spec.ComesTo (spec.set_global name.now value.now (drafted draft.old)) (drafted draft.new)) }
+        (ComesTo (spec.set_global name.now value.now (drafted draft.old)) (drafted draft.new)) }
 {
     let alloc = draft.alloc();
     if set_global(draft, name, value)? {

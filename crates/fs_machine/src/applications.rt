@@ -7,6 +7,7 @@ ghost use Rattle.fs_app.specs.Applications.{IsShortApplication};
 ghost use Rattle.fs_machine.specs.Applications as spec;
 
 use crate::channels::{ChanChange, change_chan};
+use crate::dialing::dial_bridge;
 use fs_app::Application;
 use fs_chan::{Action, Assignment, Chan};
 use fs_state::Draft;
@@ -93,6 +94,7 @@ fn apply_effect(draft: &mut Draft<'_>, slot: u16, asked: &Application) -> Result
         Application::Eval => draft.complete(slot),
         Application::Sleep { milliseconds } => sleep(draft, slot, *milliseconds),
         Application::Hangup { cause } => draft.hang_up(slot, *cause),
+        Application::Bridge { dial } => dial_bridge(draft, slot, dial),
         Application::Park => park(draft, slot),
         Application::Transfer { to } => draft.transfer(slot, to.copy()?),
         Application::Unknown => draft.hang_up(slot, Cause::DestinationOutOfOrder),

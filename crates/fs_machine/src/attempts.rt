@@ -1,16 +1,21 @@
-//! Originations that jobs try: how they begin, and what comes of them.
+//! Originations that jobs and channels try: how they begin, and what comes of them.
 ghost use Rattle.std.specs.Prelude.{◌≡◌, ◌<◌, ◌++◌, None, length, slice_get, IfOk, OnOk};
 ghost use Rattle.std.specs.Option.{option_and_then};
 ghost use Rattle.fs_text.specs.declared.causes.Cause.TheVariants.{LoseRace, NoAnswer};
 ghost use Rattle.fs_orig.specs.Legs as orig_legs;
 ghost use Rattle.fs_orig.specs.Verdicts.{next_group};
 ghost use Rattle.fs_state.specs.Drafts.{drafted};
-ghost use Rattle.fs_state.specs.Moves.{for_slot, after_hangup};
-ghost use Rattle.fs_state.specs.Switch.{chan_at};
+ghost use Rattle.fs_state.specs.Hangups.{after_hangup, after_hangups_for};
+ghost use Rattle.fs_state.specs.Moves.{for_slot};
+ghost use Rattle.fs_state.specs.Switch.{chan_at, without_orig};
+ghost use Rattle.fs_machine.specs.declared.attempts.Party.TheVariants as party;
 ghost use Rattle.fs_machine.specs.Attempts as spec;
-ghost use Rattle.fs_machine.specs.Originations.{after_winning, group_made};
+ghost use Rattle.fs_machine.specs.Originations.{after_winning, GroupComesTo};
+ghost use Rattle.fs_machine.specs.Owing.{after_job_end};
 
-use crate::channels::{ChanChange, change_chan};
+use crate::bridging::{dial_group, fail_bridge, win_bridge};
+use crate::channels::{ChanChange, awaited_at, change_chan};
+use crate::hangups::hang_up_for;
 use crate::originations::make_group;
 use crate::owing::{begin_job, end_job};
 use crate::texts::{failed_text, made_text};
@@ -23,14 +28,40 @@ use fs_text::{Cause, Memory};
 use std::alloc::Global;
 
 /// How many seconds an origination has without a timeout.
-const DEFAULT_TIMEOUT: u64 = 60;
+pub(crate) const DEFAULT_TIMEOUT: u64 = 60;
 
-/// An origination that a job tries, and the connection that is owed the reply.
-#[derive(Clone, Copy)]
+/// Who tries an origination.
+pub(crate) enum Party {
+    /// A job, for the connection that is owed the reply: a leg that wins does what it asks.
+    Job {
+        job: u64,
+        conn: u32,
+        winner: Winner,
+        caller: Caller,
+    },
+    /// The channel in a slot, which is joined to the leg that wins.
+    Slot { slot: u16 },
+}
+
+impl Drop for Party {
+    fn drop(self) {
+        match self {
+            Party::Job {
+                job: _,
+                conn: _,
+                winner: _winner,
+                caller: _caller,
+            } => {}
+            Party::Slot { slot: _ } => {}
+        }
+    }
+}
+
+/// An origination, and who tries it.
+#[derive(Drop)]
 pub(crate) struct Attempt {
-    pub(crate) job: u64,
-    pub(crate) conn: u32,
     pub(crate) orig: u64,
+    pub(crate) party: Party,
 }
 
 // ---- the beginning
@@ -50,7 +81,8 @@ pub(crate) fn begin_originate(
 {
     let orig = draft.next_orig();
     let legs = make_group(draft, first_group(&groups), caller, orig)?;
-    begin_orig(draft, groups, legs, timeout.unwrap_or(DEFAULT_TIMEOUT))?;
+    let owner = Owner::Job(draft.next_job());
+    begin_orig(draft, owner, groups, legs, timeout.unwrap_or(DEFAULT_TIMEOUT))?;
     let work = JobWork::Originate {
         orig,
         winner: winner.copy()?,
@@ -59,8 +91,8 @@ pub(crate) fn begin_originate(
     begin_job(draft, conn, work)
 }
 
-// The group that is tried first.
-fn first_group(groups: &LegPlans) -> &[LegPlan]
+/// The group that is tried first.
+pub(crate) fn first_group(groups: &LegPlans) -> &[LegPlan]
     ensures { result.now ≡ spec.first_group groups.now }
 {
     match groups.as_slice().first() {
@@ -69,17 +101,18 @@ fn first_group(groups: &LegPlans) -> &[LegPlan]
     }
 }
 
-// Begins the origination of the next number: these legs of its first group are tried, until a deadline.
-fn begin_orig(
+/// Begins the origination of the next number, which is its owner's: these legs of its first group are tried, until a
+/// deadline.
+pub(crate) fn begin_orig(
     draft: &mut Draft<'_>,
+    owner: Owner,
     groups: LegPlans,
     legs: OrigLegs,
     timeout: u64,
 ) -> Result<(), Memory>
     ensures base { draft.new.base ≡ draft.old.base }
-    ensures ok { OnOk result (drafted draft.new ≡ spec.orig_begun groups legs timeout (drafted draft.old)) }
+    ensures ok { OnOk result (drafted draft.new ≡ spec.orig_begun owner groups legs timeout (drafted draft.old)) }
 {
-    let owner = Owner::Job(draft.next_job());
     let deadline = moment_after(draft.moment(), timeout.saturating_mul(1_000_000));
     let _number = draft.add_orig(Orig::new(owner, groups, legs, deadline))?;
     Ok(())
@@ -88,15 +121,9 @@ fn begin_orig(
 // ---- the verdict
 
 /// Does what the verdict on an origination says.
-pub(crate) fn judge_attempt(
-    draft: &mut Draft<'_>,
-    attempt: Attempt,
-    winner: &Winner,
-    caller: &Caller,
-) -> Result<(), Memory>
+pub(crate) fn judge_attempt(draft: &mut Draft<'_>, attempt: &Attempt) -> Result<(), Memory>
     ensures base { draft.new.base ≡ draft.old.base }
-    ensures ok { OnOk result
-        (drafted draft.new ≡ spec.after_verdict_on attempt winner.now caller.now (drafted draft.old)) }
+    ensures ok { OnOk result (drafted draft.new ≡ spec.after_verdict_on attempt.now (drafted draft.old)) }
 {
     let Some(orig) = draft.orig(attempt.orig) else {
         return Ok(());
@@ -106,7 +133,7 @@ pub(crate) fn judge_attempt(
         Verdict::Won { position } => match leg_at(orig, position as usize)? {
             Some(leg) => {
                 let losers = other_slots(draft.alloc(), orig, position as usize)?;
-                end_race(draft, attempt, winner, &leg, &losers)
+                end_race(draft, attempt, &leg, &losers)
             }
             None => Ok(()),
         },
@@ -115,7 +142,7 @@ pub(crate) fn judge_attempt(
             expire_leg(draft, slot)
         }
         Verdict::NextGroup => match next_group_of(orig)? {
-            Some(group) => try_group(draft, attempt.orig, &group, caller),
+            Some(group) => try_group(draft, attempt, &group),
             None => Ok(()),
         },
         Verdict::Failed(cause) => fail(draft, attempt, cause),
@@ -201,18 +228,17 @@ fn living_slot(leg: &OrigLeg) -> Option<u16>
 // Ends a race: the legs in these slots have lost it, and the other has won, unless it died of that.
 fn end_race(
     draft: &mut Draft<'_>,
-    attempt: Attempt,
-    winner: &Winner,
+    attempt: &Attempt,
     leg: &OrigLeg,
     losers: &[u16],
 ) -> Result<(), Memory>
     ensures base { draft.new.base ≡ draft.old.base }
-    ensures ok { OnOk result (drafted draft.new ≡ spec.after_race attempt winner.now leg.now
-        (spec.after_hangups LoseRace losers.now (drafted draft.old))) }
+    ensures ok { OnOk result (drafted draft.new ≡ spec.after_race attempt.now leg.now
+        (after_hangups_for LoseRace losers.now (drafted draft.old))) }
 {
-    hang_up_all(draft, losers, Cause::LoseRace)?;
+    hang_up_for(draft, losers, Cause::LoseRace)?;
     match death_in(draft, leg.slot.unwrap_or(0)) {
-        None => win_attempt(draft, attempt, winner, leg),
+        None => win(draft, attempt, leg),
         Some(cause) => fail(draft, attempt, cause),
     }
 }
@@ -223,46 +249,6 @@ fn death_in(draft: &Draft<'_>, slot: u16) -> Option<Cause>
 {
     let chan = draft.chan(slot)?;
     if chan.is_live() { None } else { chan.cause }
-}
-
-// Ends an origination that a leg has won.
-fn win_attempt(
-    draft: &mut Draft<'_>,
-    attempt: Attempt,
-    winner: &Winner,
-    leg: &OrigLeg,
-) -> Result<(), Memory>
-    ensures base { draft.new.base ≡ draft.old.base }
-    ensures ok { OnOk result
-        (drafted draft.new ≡ spec.after_race_by None attempt winner.now leg.now (drafted draft.old)) }
-{
-    let answer = made_text(draft.alloc(), leg.uuid.as_bytes())?;
-    win(draft, leg.slot.unwrap_or(0), winner)?;
-    end_attempt(draft, attempt, answer.as_bytes())
-}
-
-// Lets the leg in a slot run its application, or be routed.
-#[tactic(auto, unfolding(crate::specs::Originations::after_winning))]
-fn win(draft: &mut Draft<'_>, slot: u16, winner: &Winner) -> Result<(), Memory>
-    ensures base { draft.new.base ≡ draft.old.base }
-    ensures ok { OnOk result (drafted draft.new ≡ after_winning winner.now slot (drafted draft.old)) }
-{
-    change_chan(draft, slot, ChanChange::Win { winner })
-}
-
-// Makes the legs of the next group of the origination of a number, and tries them.
-fn try_group(
-    draft: &mut Draft<'_>,
-    number: u64,
-    group: &LegGroup,
-    caller: &Caller,
-) -> Result<(), Memory>
-    ensures base { draft.new.base ≡ draft.old.base }
-    ensures ok { OnOk result (drafted draft.new ≡ spec.with_group number
-        (group_made group.now caller.now number (drafted draft.old))) }
-{
-    let legs = make_group(draft, group.as_slice(), caller, number)?;
-    draft.enter_next_group(number, legs)
 }
 
 // Hangs up the leg in a slot, if it is one, that has had its time.
@@ -277,39 +263,135 @@ fn expire_leg(draft: &mut Draft<'_>, slot: Option<u16>) -> Result<(), Memory>
 }
 
 // Ends an origination at its deadline: its legs in these slots are hung up.
-fn expire(draft: &mut Draft<'_>, attempt: Attempt, slots: &[u16]) -> Result<(), Memory>
+fn expire(draft: &mut Draft<'_>, attempt: &Attempt, slots: &[u16]) -> Result<(), Memory>
     ensures base { draft.new.base ≡ draft.old.base }
-    ensures ok { OnOk result (drafted draft.new ≡ spec.after_deadline attempt slots.now (drafted draft.old)) }
+    ensures ok { OnOk result (drafted draft.new ≡ spec.after_deadline attempt.now slots.now (drafted draft.old)) }
 {
-    hang_up_all(draft, slots, Cause::NoAnswer)?;
+    hang_up_for(draft, slots, Cause::NoAnswer)?;
     fail(draft, attempt, Cause::NoAnswer)
 }
 
-// Ends an origination that has failed.
-fn fail(draft: &mut Draft<'_>, attempt: Attempt, cause: Cause) -> Result<(), Memory>
+// ---- the next group
+
+// Makes the legs of the next group of an origination, and tries them.
+fn try_group(draft: &mut Draft<'_>, attempt: &Attempt, group: &LegGroup) -> Result<(), Memory>
     ensures base { draft.new.base ≡ draft.old.base }
-    ensures ok { OnOk result (drafted draft.new ≡ spec.after_failure attempt cause (drafted draft.old)) }
+    ensures ok { OnOk result (drafted draft.new ≡ spec.with_group attempt.now.orig
+        (spec.group_for attempt.now.party group.now attempt.now.orig (drafted draft.old))) }
 {
-    let answer = failed_text(draft.alloc(), cause)?;
-    end_attempt(draft, attempt, answer.as_bytes())
+    let legs = make_group_for(draft, &attempt.party, group.as_slice(), attempt.orig)?;
+    draft.enter_next_group(attempt.orig, legs)
+}
+
+// Makes the legs of a group for who tries the origination of this number.
+fn make_group_for(
+    draft: &mut Draft<'_>,
+    party: &Party,
+    plans: &[LegPlan],
+    orig: u64,
+) -> Result<OrigLegs, Memory>
+    ensures base { draft.new.base ≡ draft.old.base }
+    ensures made { IfOk result
+        (GroupComesTo (spec.group_for party.now plans.now orig (drafted draft.old)) (drafted draft.new)) }
+{
+    match party {
+        Party::Job { caller, .. } => make_group(draft, plans, caller, orig),
+        Party::Slot { slot } => dial_group(draft, *slot, plans, orig),
+    }
+}
+
+// ---- a leg has won
+
+// Ends an origination that a leg has won.
+fn win(draft: &mut Draft<'_>, attempt: &Attempt, leg: &OrigLeg) -> Result<(), Memory>
+    ensures base { draft.new.base ≡ draft.old.base }
+    ensures ok { OnOk result
+        (drafted draft.new ≡ spec.won_for attempt.now.party attempt.now.orig leg.now (drafted draft.old)) }
+{
+    match &attempt.party {
+        Party::Job {
+            job, conn, winner, ..
+        } => {
+            let answer = made_text(draft.alloc(), leg.uuid.as_bytes())?;
+            win_by_job(draft, leg.slot.unwrap_or(0), winner)?;
+            end_originate(draft, attempt.orig, *job, *conn, answer.as_bytes())
+        }
+        Party::Slot { slot } => win_by_slot(draft, attempt.orig, *slot, leg),
+    }
+}
+
+// Lets the leg in a slot run its application, or be routed.
+#[tactic(auto, unfolding(crate::specs::Originations::after_winning))]
+fn win_by_job(draft: &mut Draft<'_>, slot: u16, winner: &Winner) -> Result<(), Memory>
+    ensures base { draft.new.base ≡ draft.old.base }
+    ensures ok { OnOk result (drafted draft.new ≡ after_winning winner.now slot (drafted draft.old)) }
+{
+    change_chan(draft, slot, ChanChange::Win { winner })
+}
+
+// Joins the channel in a slot to the leg, if it still waits for the verdict.
+fn win_by_slot(draft: &mut Draft<'_>, orig: u64, slot: u16, leg: &OrigLeg) -> Result<(), Memory>
+    ensures base { draft.new.base ≡ draft.old.base }
+    ensures ok { OnOk result
+        (drafted draft.new ≡ spec.won_for (party.Slot slot) orig leg.now (drafted draft.old)) }
+{
+    if !awaits(draft, slot, orig) {
+        return Ok(());
+    }
+    draft.drop_orig(orig)?;
+    win_bridge(draft, slot, leg.slot.unwrap_or(0))
+}
+
+// ---- it has failed
+
+// Ends an origination that has failed.
+fn fail(draft: &mut Draft<'_>, attempt: &Attempt, cause: Cause) -> Result<(), Memory>
+    ensures base { draft.new.base ≡ draft.old.base }
+    ensures ok { OnOk result (drafted draft.new ≡ spec.after_failure attempt.now cause (drafted draft.old)) }
+{
+    match &attempt.party {
+        Party::Job { job, conn, .. } => {
+            let answer = failed_text(draft.alloc(), cause)?;
+            end_originate(draft, attempt.orig, *job, *conn, answer.as_bytes())
+        }
+        Party::Slot { slot } => fail_by_slot(draft, attempt.orig, *slot, cause),
+    }
+}
+
+// Lets the channel in a slot fail to bridge, if it still waits for the verdict.
+fn fail_by_slot(draft: &mut Draft<'_>, orig: u64, slot: u16, cause: Cause) -> Result<(), Memory>
+    ensures base { draft.new.base ≡ draft.old.base }
+    ensures ok { OnOk result
+        (drafted draft.new ≡ spec.failed_for (party.Slot slot) orig cause (drafted draft.old)) }
+{
+    if !awaits(draft, slot, orig) {
+        return Ok(());
+    }
+    draft.drop_orig(orig)?;
+    fail_bridge(draft, slot, cause)
+}
+
+// ---- both
+
+// Whether the channel in a slot still waits for the verdict on an origination.
+fn awaits(draft: &Draft<'_>, slot: u16, orig: u64) -> bool
+    ensures { result ≡ spec.awaits slot orig (drafted draft.now) }
+{
+    awaited_at(draft, slot) == Some(orig)
 }
 
 // Ends an origination and its job with an answer.
-fn end_attempt(draft: &mut Draft<'_>, attempt: Attempt, answer: &[u8]) -> Result<(), Memory>
+fn end_originate(
+    draft: &mut Draft<'_>,
+    orig: u64,
+    job: u64,
+    conn: u32,
+    answer: &[u8],
+) -> Result<(), Memory>
     ensures base { draft.new.base ≡ draft.old.base }
-    ensures ok { OnOk result (drafted draft.new ≡ spec.after_attempt attempt answer.now (drafted draft.old)) }
+    ensures ok { OnOk result
+        (drafted draft.new ≡ after_job_end job conn answer.now (without_orig orig (drafted draft.old))) }
 {
-    draft.drop_orig(attempt.orig)?;
-    end_job(draft, attempt.job, attempt.conn, answer)
-}
-
-// Hangs up the channels in these slots, one after another.
-fn hang_up_all(draft: &mut Draft<'_>, slots: &[u16], cause: Cause) -> Result<(), Memory>
-    ensures base { draft.new.base ≡ draft.old.base }
-    ensures ok { OnOk result (drafted draft.new ≡ spec.after_hangups cause slots.now (drafted draft.old)) }
-{
-    for slot in slots {
-        draft.hang_up(*slot, cause)?;
-    }
-    Ok(())
+    draft.drop_orig(orig)?;
+    end_job(draft, job, conn, answer)
 }

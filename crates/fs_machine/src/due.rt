@@ -32,7 +32,11 @@ pub enum DueActor {
 pub(crate) fn slot_due(draft: &Draft<'_>, slot: u16) -> Option<Due>
     ensures { result ≡ spec.slot_due slot (drafted draft.now) }
 {
-    draft.chan(slot)?.due(draft.moment())
+    let chan = draft.chan(slot)?;
+    match chan.awaited() {
+        Some(orig) => orig_due(draft, orig),
+        None => chan.due(draft.moment()),
+    }
 }
 
 /// When the job of a number has something to do.

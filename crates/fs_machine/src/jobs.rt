@@ -3,7 +3,7 @@ ghost use Rattle.std.specs.Prelude.{◌≡◌, OnOk};
 ghost use Rattle.fs_state.specs.Drafts.{drafted};
 ghost use Rattle.fs_machine.specs.Jobs as spec;
 
-use crate::attempts::{Attempt, judge_attempt};
+use crate::attempts::{Attempt, Party, judge_attempt};
 use crate::owing::{begin_job, end_job};
 use fs_chan::moment_after;
 use fs_state::{Draft, JobWork};
@@ -29,14 +29,14 @@ pub(crate) fn do_job(draft: &mut Draft<'_>, number: u64) -> Result<(), Memory>
     };
     let conn = job.conn;
     let work = job.work.copy()?;
-    do_work(draft, number, conn, &work)
+    do_work(draft, number, conn, work)
 }
 
 // Does what a job is there for.
 #[tactic(auto, unfolding(crate::specs::Texts::ok))]
-fn do_work(draft: &mut Draft<'_>, number: u64, conn: u32, work: &JobWork) -> Result<(), Memory>
+fn do_work(draft: &mut Draft<'_>, number: u64, conn: u32, work: JobWork) -> Result<(), Memory>
     ensures base { draft.new.base ≡ draft.old.base }
-    ensures ok { OnOk result (drafted draft.new ≡ spec.after_job_work work.now number conn (drafted draft.old)) }
+    ensures ok { OnOk result (drafted draft.new ≡ spec.after_job_work work number conn (drafted draft.old)) }
 {
     match work {
         JobWork::Sleep { .. } => end_job(draft, number, conn, b"+OK\n"),
@@ -45,12 +45,13 @@ fn do_work(draft: &mut Draft<'_>, number: u64, conn: u32, work: &JobWork) -> Res
             winner,
             caller,
         } => {
-            let attempt = Attempt {
+            let party = Party::Job {
                 job: number,
                 conn,
-                orig: *orig,
+                winner,
+                caller,
             };
-            judge_attempt(draft, attempt, winner, caller)
+            judge_attempt(draft, &Attempt { orig, party })
         }
     }
 }

@@ -1,10 +1,17 @@
 //! The answers of api commands.
 
-ghost use Rattle.std.specs.Prelude.{◌≡◌, IfOk};
+ghost use Rattle.std.specs.Prelude.{◌≡◌, Some, IfOk};
 ghost use Rattle.fs_machine.specs.Texts as texts;
 
 use fs_text::{Cause, Memory, Txt};
 use std::alloc::Global;
+
+/// The answer of these bytes.
+pub(crate) fn says(alloc: Global, answer: &[u8]) -> Result<Option<Txt>, Memory>
+    ensures { IfOk result (λ said. said ≡ Some answer.now) }
+{
+    Ok(Some(Txt::of(alloc, answer)?))
+}
 
 /// How a command is to be written that misses a word.
 #[tactic(auto, unfolding(crate::specs::Texts::usage_text))]

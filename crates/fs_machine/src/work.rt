@@ -3,12 +3,14 @@
 ghost use Rattle.std.specs.Prelude.{◌≡◌, true, IfSome, IfOk, OnOk};
 ghost use Rattle.fs_chan.specs.Changes as changes;
 ghost use Rattle.fs_chan.specs.Changes.{may_route};
+ghost use Rattle.fs_chan.specs.declared.wait.Wait.TheVariants.{Legs};
 ghost use Rattle.fs_state.specs.Drafts.{drafted};
 ghost use Rattle.fs_state.specs.Switch.{chan_at};
 ghost use Rattle.fs_state.specs.Moves.{after_move};
 ghost use Rattle.fs_machine.specs.Work as spec;
 
 use crate::applications::run_next;
+use crate::attempts::{Attempt, Party, judge_attempt};
 use fs_chan::{Actions, Chan, Direction, Wait};
 use fs_places::Boxed;
 use fs_plan::{Dialplan, Hunt};
@@ -37,10 +39,23 @@ pub(crate) fn work(draft: &mut Draft<'_>, plan: &Dialplan, slot: u16) -> Result<
         (State::CsExecute | State::CsPark, Wait::Sleep { .. }) => draft.complete(slot),
         (State::CsExecute | State::CsPark, Wait::Ready | Wait::Parked | Wait::Socket { .. }) =>
             run_next(draft, slot),
+        (State::CsExecute | State::CsPark, Wait::Legs { orig }) => {
+            let orig = *orig;
+            judge_dialed(draft, slot, orig)
+        }
         (State::CsHangup, _) => draft.report(slot),
         (State::CsReporting, _) => draft.destroy(slot),
         _ => Ok(()),
     }
+}
+
+// Does what the verdict on the origination says that the channel in a slot waits for.
+fn judge_dialed(draft: &mut Draft<'_>, slot: u16, orig: u64) -> Result<(), Memory>
+    ensures base { draft.new.base ≡ draft.old.base }
+    ensures ok { OnOk result (drafted draft.new ≡ spec.after_wait (Legs orig) slot (drafted draft.old)) }
+{
+    let party = Party::Slot { slot };
+    judge_attempt(draft, &Attempt { orig, party })
 }
 
 // An inbound channel is routed, an outbound one waits to be answered.

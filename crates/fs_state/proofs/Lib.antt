@@ -3,3 +3,4 @@ pub mod SlotLemmas
 pub mod CountLemmas
 pub mod LegTables
 pub mod GiftLemmas
+pub mod HangupLemmas

@@ -1,5 +1,6 @@
 -- What a draft changes of a switch.
 use Rattle.std.specs.Prelude.{ℕ, Option, unwrap_or}
+use Rattle.fs_bridge.specs.Bridges.{BridgeRows}
 use Rattle.fs_chan.specs.declared.chan.Chan.{Chan}
 use Rattle.fs_places.specs.Sheets.{written}
 use Rattle.fs_places.specs.Overlays.{taken_back}
@@ -39,6 +40,10 @@ chan_in d slot = chan_at (drafted d) slot
 -- the switch as it is to be, with another channel in a slot
 abbrev pub with_chan_in : Drafted → ℕ → Option Chan → Switch
 with_chan_in d slot chan = with_chan slot chan (drafted d)
+
+-- the switch as it is to be, with other bridges
+abbrev pub with_bridges_in : Drafted → BridgeRows → Switch
+with_bridges_in d bridges = record (drafted d) { bridges = bridges }
 
 -- the channel that can be taken back from a slot: what was written last, where that put a channel there
 abbrev pub chan_taken_back : Drafted → ℕ → Option Chan

@@ -1,4 +1,4 @@
-//! Answers, hangups and ends of channels.
+//! Answers and ends of single channels.
 ghost use Rattle.std.specs.Prelude.{◌≡◌, IfOk, OnOk};
 ghost use Rattle.fs_chan.specs.Changes.{hung_up};
 ghost use Rattle.fs_state.specs.Drafts.{drafted};
@@ -7,7 +7,7 @@ ghost use Rattle.fs_state.specs.Moves as spec;
 
 use crate::draft::Draft;
 use crate::event::Event;
-use fs_orig::Orig;
+use fs_orig::{Orig, Owner};
 use fs_text::{Cause, EventName, Memory, State};
 
 impl<'a> Draft<'a> {
@@ -75,26 +75,8 @@ impl<'a> Draft<'a> {
         self.set_orig(number, orig)
     }
 
-    /// The channel in a slot is hung up, and its partner with it, in the order of their slots.
-    pub fn hang_up(&mut self, slot: u16, cause: Cause) -> Result<(), Memory>
-        ensures base { self.new.base ≡ self.old.base }
-        ensures ok { OnOk result (drafted self.new ≡ spec.after_hangup cause slot (drafted self.old)) }
-    {
-        match self.partner(slot) {
-            None => self.hang_one(slot, cause),
-            Some(partner) if slot < partner => {
-                self.hang_one(slot, cause)?;
-                self.hang_one(partner, cause)
-            }
-            Some(partner) => {
-                self.hang_one(partner, cause)?;
-                self.hang_one(slot, cause)
-            }
-        }
-    }
-
-    /// A live channel is hung up, and the leg that it is dies.
-    fn hang_one(&mut self, slot: u16, cause: Cause) -> Result<(), Memory>
+    /// A live channel is hung up, the leg that it is dies, and what it dialed is given up.
+    pub(crate) fn hang_one(&mut self, slot: u16, cause: Cause) -> Result<(), Memory>
         ensures base { self.new.base ≡ self.old.base }
         ensures ok { OnOk result (drafted self.new ≡ spec.after_one_hangup cause slot (drafted self.old)) }
     {
@@ -104,11 +86,12 @@ impl<'a> Draft<'a> {
         if !chan.is_live() {
             return Ok(());
         }
-        let (old, leg_of) = (chan.state, chan.leg_of);
+        let (old, leg_of, awaited) = (chan.state, chan.leg_of, chan.awaited());
         self.set_hung(slot, cause)?;
         self.tell_hangup(cause)?;
         self.tell_state(old, State::CsHangup)?;
-        self.end_leg(slot, leg_of, cause)
+        self.end_leg(slot, leg_of, cause)?;
+        self.give_up_orig(slot, awaited)
     }
 
     /// Hangs the channel in a slot up with a cause.
@@ -150,6 +133,24 @@ impl<'a> Draft<'a> {
         self.set_orig(number, orig)
     }
 
+    /// The origination that the channel in a slot waits for is given up, if it owns that.
+    pub fn give_up_orig(&mut self, slot: u16, awaited: Option<u64>) -> Result<(), Memory>
+        ensures base { self.new.base ≡ self.old.base }
+        ensures ok { OnOk result (drafted self.new ≡ spec.orig_given_up slot awaited (drafted self.old)) }
+    {
+        let Some(number) = awaited else {
+            return Ok(());
+        };
+        let Some(orig) = self.orig(number) else {
+            return Ok(());
+        };
+        if is_owner(slot, orig.owner) {
+            self.drop_orig(number)
+        } else {
+            Ok(())
+        }
+    }
+
     /// The channel in a slot is gone, and the slot is free.
     pub fn destroy(&mut self, slot: u16) -> Result<(), Memory>
         ensures base { self.new.base ≡ self.old.base }
@@ -158,6 +159,16 @@ impl<'a> Draft<'a> {
         self.put_chan(slot, None)?;
         self.tell_of(EventName::ChannelState)?;
         self.tell_of(EventName::ChannelDestroy)
+    }
+}
+
+/// Whether the channel in a slot owns an origination.
+fn is_owner(slot: u16, owner: Owner) -> bool
+    ensures { result ≡ spec.is_owner slot owner }
+{
+    match owner {
+        Owner::Slot(other) => other == slot,
+        Owner::Job(_) => false,
     }
 }
 

@@ -1,5 +1,5 @@
 //! A draft: a switch that is kept, and what is to change of it.
-ghost use Rattle.std.specs.Prelude.{◌≡◌, ◌≤◌, Option, Some, length, slice_get, MatchOption, IfOk, OnOk};
+ghost use Rattle.std.specs.Prelude.{◌≡◌, ◌≢◌, ◌≤◌, Option, Some, None, length, slice_get, MatchOption, IfOk, OnOk};
 ghost use Rattle.std.specs.Option.{option_copied};
 ghost use Rattle.fs_places.specs.Overlays.{now_of};
 ghost use Rattle.fs_places.specs.Places.{IsEmptyFrom};
@@ -8,7 +8,8 @@ ghost use Rattle.fs_places.specs.Rows as rows;
 ghost use Rattle.fs_state.specs.declared.delta.QueueChange.TheVariants as change;
 ghost use Rattle.fs_state.specs.Drawn as numbers;
 ghost use Rattle.fs_state.specs.Switch as spec;
-ghost use Rattle.fs_state.specs.Drafts.{after, drafted, chan_in, with_chan_in, chan_taken_back, Fits};
+ghost use Rattle.fs_bridge.specs.Bridges.{BridgeRows};
+ghost use Rattle.fs_state.specs.Drafts.{after, drafted, chan_in, with_chan_in, chan_taken_back, with_bridges_in, Fits};
 
 use crate::conn::Conn;
 use crate::delta::{Delta, QueueChange};
@@ -17,7 +18,7 @@ use crate::event::{Event, Events};
 use crate::gift::Gifts;
 use crate::job::Job;
 use crate::switch::Core;
-use fs_bridge::Bridges;
+use fs_bridge::{BridgeKind, Bridges, Row};
 use fs_chan::Chan;
 use fs_doc::Config;
 use fs_orig::Orig;
@@ -34,7 +35,7 @@ pub struct Draft<'a> {
     core: &'a Core,
     globals: Option<Boxed<Vars>>,
     channels: Overlay<'a, Boxed<Chan>>,
-    pub(crate) bridges: Option<Bridges>,
+    bridges: Option<Bridges>,
     origs: Overlay<'a, Numbered<Orig>>,
     jobs: Overlay<'a, Numbered<Job>>,
     conns: Overlay<'a, Numbered<Conn>>,
@@ -327,6 +328,64 @@ impl<'a> Draft<'a> {
         match self.chan(slot) {
             Some(chan) => chan.uuid.as_bytes() == uuid,
             None => false,
+        }
+    }
+
+    // ---- bridges
+
+    /// The bridge that a slot is a leg of.
+    pub fn bridge_at(&self, slot: u16) -> Option<Row>
+        ensures { result ≡ spec.bridge_at (drafted self.now) slot }
+    {
+        let core = self.core;
+        match &self.bridges {
+            Some(bridges) => bridges.part_of(slot),
+            None => core.bridges.part_of(slot),
+        }
+    }
+
+    /// Begins a bridge between two slots, whose number is the next.
+    pub(crate) fn add_bridge(
+        &mut self,
+        kind: BridgeKind,
+        caller: u16,
+        answerer: u16,
+    ) -> Result<u64, Memory>
+        requires apart { caller ≢ answerer }
+        requires caller { spec.bridge_at (drafted self.old) caller ≡ None }
+        requires answerer { spec.bridge_at (drafted self.old) answerer ≡ None }
+        ensures base { self.new.base ≡ self.old.base }
+        ensures number { IfOk result (λ number. number ≡ spec.next_bridge_number (drafted self.old)) }
+        ensures ok { OnOk result (drafted self.new ≡ spec.with_bridge caller answerer kind (drafted self.old)) }
+    {
+        let mut bridges = self.own_bridges()?;
+        let number = bridges.join(caller, answerer, kind)?;
+        self.bridges = Some(bridges);
+        Ok(number)
+    }
+
+    /// Ends the bridge of a number.
+    pub(crate) fn drop_bridge(&mut self, number: u64) -> Result<(), Memory>
+        ensures base { self.new.base ≡ self.old.base }
+        ensures ok { OnOk result (drafted self.new ≡ spec.without_bridge number (drafted self.old)) }
+    {
+        let mut bridges = self.own_bridges()?;
+        let _row = bridges.unbridge(number);
+        self.bridges = Some(bridges);
+        Ok(())
+    }
+
+    /// The bridges, to be changed and put there again: those that were put there last are taken back, the kept ones
+    /// copied.
+    fn own_bridges(&mut self) -> Result<Bridges, Memory>
+        ensures base { self.new.base ≡ self.old.base }
+        ensures own { IfOk result (λ own. own ≡ (drafted self.old).bridges) }
+        ensures put { (bridges : BridgeRows) → with_bridges_in self.new bridges ≡ with_bridges_in self.old bridges }
+    {
+        let core = self.core;
+        match self.bridges.take() {
+            Some(bridges) => Ok(bridges),
+            None => core.bridges.copy(),
         }
     }
 

@@ -5,6 +5,7 @@
 #![tactic(auto)]
 
 mod answers;
+mod bridging;
 mod conn;
 mod counts;
 mod delta;
@@ -13,7 +14,9 @@ mod drawn;
 mod event;
 mod gift;
 mod groups;
+mod hangups;
 mod job;
+mod lines;
 mod moves;
 mod queues;
 mod switch;

@@ -25,6 +25,7 @@ fn tell_application(application: &Application, answer: &mut Answer) {
             answer.told(format_args!("Sleep [{milliseconds}]"));
         }
         Application::Hangup { cause } => answer.line(&[b"Hangup ", cause.name().as_bytes()]),
+        Application::Bridge { dial } => answer.named("Bridge", &[dial]),
         Application::Park => answer.named("Park", &[]),
         Application::Transfer { to } => tell_target(to, answer),
         Application::Unknown => answer.named("Unknown", &[]),

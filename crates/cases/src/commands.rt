@@ -29,6 +29,7 @@ fn tell_command(api: &Api, answer: &mut Answer) -> Result<(), Memory> {
         Api::Msleep { milliseconds } => {
             answer.told(format_args!("Msleep [{milliseconds}]"));
         }
+        Api::UuidBridge { uuid, other } => answer.named("UuidBridge", &[uuid, other]),
         Api::UuidExists { uuid } => answer.named("UuidExists", &[uuid]),
         Api::UuidKill { uuid, cause } => {
             answer.named("UuidKill", &[uuid]);

@@ -3,6 +3,7 @@
 use crate::answer::Answer;
 use crate::applications::tell_app;
 use crate::bridges::tell_bridges;
+use crate::bridging::tell_bridging;
 use crate::channels::tell_channel;
 use crate::commands::{tell_api, tell_expanded};
 use crate::dials::{tell_dial, tell_plans, tell_timeout};
@@ -81,6 +82,7 @@ impl<D: Files + Drop> Desk<D> {
             "measure" => tell_run(self.alloc, &self.table, rest, true, answer),
             "play" => tell_play(self.alloc, &self.table, false, answer),
             "count" => tell_play(self.alloc, &self.table, true, answer),
+            "bridging" => tell_bridging(self.alloc, &self.table, answer),
             "contexts" => self.hunts.build(&self.table, rest, answer),
             "reads" => tell_reads(&self.table, rest, answer),
             "writes" => tell_writes(self.alloc, &self.table, rest, answer),

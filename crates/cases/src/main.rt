@@ -5,6 +5,7 @@
 mod answer;
 mod applications;
 mod bridges;
+mod bridging;
 mod channels;
 mod commands;
 mod desk;

@@ -20,17 +20,10 @@ pub(crate) fn tell_play(
     counts: bool,
     answer: &mut Answer,
 ) -> Result<(), Memory> {
-    let mut files = table.files()?;
     let mut link = table.link(ROOM)?;
-    let Ok(config) = read_config(alloc, table.file()) else {
-        answer.line(&[b"no document"]);
+    let Some(mut machine) = machine_of(alloc, table, answer)? else {
         return Ok(());
     };
-    let Ok(plan) = Dialplan::build(alloc, &config, &mut files) else {
-        answer.line(&[b"no dialplan"]);
-        return Ok(());
-    };
-    let mut machine = Machine::new(alloc, config, plan)?;
     let end = play(alloc, &mut machine, &mut link);
     answer.lines(link.written());
     tell_end(&machine, end, answer);
@@ -38,6 +31,24 @@ pub(crate) fn tell_play(
         tell_events(&machine, answer);
     }
     Ok(())
+}
+
+/// The machine of the document that was laid out, if it can be made of it. Otherwise the answer says why not.
+pub(crate) fn machine_of(
+    alloc: Global,
+    table: &Table,
+    answer: &mut Answer,
+) -> Result<Option<Machine>, Memory> {
+    let mut files = table.files()?;
+    let Ok(config) = read_config(alloc, table.file()) else {
+        answer.line(&[b"no document"]);
+        return Ok(None);
+    };
+    let Ok(plan) = Dialplan::build(alloc, &config, &mut files) else {
+        answer.line(&[b"no dialplan"]);
+        return Ok(None);
+    };
+    Ok(Some(Machine::new(alloc, config, plan)?))
 }
 
 fn tell_end(machine: &Machine, end: End, answer: &mut Answer) {

@@ -1,0 +1,97 @@
+//! What happens in the entries of a play in which a bridge begins or ends, or a channel is hung up.
+
+use crate::answer::Answer;
+use crate::plays::machine_of;
+use crate::table::Table;
+use fs_conn::play;
+use fs_machine::{Entry, Machine};
+use fs_state::Event;
+use fs_text::{EventName, Memory};
+use std::alloc::Global;
+
+// The most that is written.
+const ROOM: usize = 1_000_000;
+
+/// Answers `bridging` with the answers of the api commands, and with the events of each entry of the play in which a
+/// bridge begins or ends, or a channel is hung up: `at MOMENT:` and their names, with the number of the bridge or the
+/// cause of the hangup.
+pub(crate) fn tell_bridging(
+    alloc: Global,
+    table: &Table,
+    answer: &mut Answer,
+) -> Result<(), Memory> {
+    let mut link = table.link(ROOM)?;
+    let Some(mut machine) = machine_of(alloc, table, answer)? else {
+        return Ok(());
+    };
+    let _end = play(alloc, &mut machine, &mut link);
+    tell_answers(link.written(), answer);
+    let Some(mut again) = machine_of(alloc, table, answer)? else {
+        return Ok(());
+    };
+    for entry in machine.journal().entries() {
+        tell_entry(&mut again, entry, answer);
+    }
+    Ok(())
+}
+
+// Adds what was written but for the headers of its frames.
+fn tell_answers(written: &[u8], answer: &mut Answer) {
+    for line in written.split(|byte| *byte == b'\n') {
+        let text = without_header(line);
+        if !text.is_empty() {
+            answer.line(&[text]);
+        }
+    }
+}
+
+// What stands in front of a header of a frame: an answer without a line end has the next frame behind it.
+fn without_header(line: &[u8]) -> &[u8] {
+    if line.starts_with(b"Content-Length: ") || line.starts_with(b"Reply-Text: ") {
+        return b"";
+    }
+    match line.split(|byte| *byte == b':').next() {
+        Some(name) => name.strip_suffix(b"Content-Type").unwrap_or(line),
+        None => line,
+    }
+}
+
+// Enters an entry, and adds what happens in it.
+fn tell_entry(machine: &mut Machine, entry: &Entry, answer: &mut Answer) {
+    match machine.prepare(entry) {
+        Ok(change) => {
+            tell_events(change.delta.moment, change.delta.news.as_slice(), answer);
+            let _reply = machine.apply(change);
+        }
+        Err(_) => answer.line(&[b"refused"]),
+    }
+}
+
+// Adds the events of an entry, where they are of that kind.
+fn tell_events(moment: u64, events: &[Event], answer: &mut Answer) {
+    if events.iter().any(|event| tells_of_calls(event.name)) {
+        answer.begin();
+        answer.show(format_args!("at {moment}:"));
+        for event in events {
+            tell_event(event, answer);
+        }
+        answer.end();
+    }
+}
+
+fn tells_of_calls(name: EventName) -> bool {
+    matches!(
+        name,
+        EventName::ChannelBridge | EventName::ChannelUnbridge | EventName::ChannelHangup
+    )
+}
+
+fn tell_event(event: &Event, answer: &mut Answer) {
+    answer.add(&[b" ", event.name.name().as_bytes()]);
+    if event.bridge > 0 {
+        answer.show(format_args!("({})", event.bridge));
+    }
+    if let Some(cause) = event.cause {
+        answer.add(&[b"(", cause.name().as_bytes(), b")"]);
+    }
+}

@@ -1,10 +1,10 @@
 -- The walk goes on: jobs, commands and all acts.
 use Rattle.std.proofs.Common.{◌≡◌, ℕ, ◌*◌, nat_lt, Bool, true, false, if◌then◌else◌, List, [], length, slice_get, Option, None, Some}
-use Rattle.std.proofs.Common.{unwrap_or, option_and_then, Result, Ok, Err, refl}
+use Rattle.std.proofs.Common.{◌++◌, ◌==◌, unwrap_or, option_and_then, Result, Ok, Err, refl, sym, ap, subst, ◌∙◌}
+use Rattle.std.specs.Prelude.{◌&&◌, is_some, is_none, not, ◌||◌}
 use Rattle.std.specs.Str.{bytes_eq}
 use Rattle.fs_text.specs.Texts.{Text}
 use Rattle.fs_text.specs.declared.causes.Cause.{Cause}
-use Rattle.fs_text.specs.declared.causes.Cause.TheVariants.{NoAnswer, LoseRace}
 use Rattle.fs_vars.specs.Variables.{can_set, set_to}
 use Rattle.fs_vars.specs.Expansion.{expanded}
 use Rattle.fs_frame.specs.Block.{line_of}
@@ -21,14 +21,10 @@ use Rattle.fs_orig.specs.declared.caller.Caller.{Caller}
 use Rattle.fs_orig.specs.declared.leg.OrigLeg.{OrigLeg}
 use Rattle.fs_orig.specs.declared.plan.LegPlan.{LegPlan}
 use Rattle.fs_orig.specs.declared.orig.Orig.{Orig}
-use Rattle.fs_orig.specs.declared.verdict.Verdict.{Verdict}
-use Rattle.fs_orig.specs.declared.verdict.Verdict.TheVariants as verdict
 use Rattle.fs_orig.specs.declared.winner.Winner.{Winner}
-use Rattle.fs_orig.specs.Legs.{living_slot, living_slots}
 use Rattle.fs_orig.specs.Plans.{plans_of}
 use Rattle.fs_orig.specs.Timeouts.{braces_timeout}
-use Rattle.fs_orig.specs.Verdicts.{next_group, verdict_of}
-use Rattle.fs_orig.proofs.VerdictLemmas.{winner_lives}
+use Rattle.fs_orig.specs.Verdicts.{next_group}
 use Rattle.fs_state.specs.declared.conn.Phase.{Phase}
 use Rattle.fs_state.specs.declared.conn.Phase.TheVariants as phase
 use Rattle.fs_state.specs.declared.conn.Parting.{Parting}
@@ -36,87 +32,60 @@ use Rattle.fs_state.specs.declared.conn.Parting.TheVariants as parting
 use Rattle.fs_state.specs.declared.job.Job.{Job}
 use Rattle.fs_state.specs.declared.job.JobWork.{JobWork}
 use Rattle.fs_state.specs.declared.job.JobWork.TheVariants as work
-use Rattle.fs_state.specs.Switch.{Switch, chan_at, orig_of, job_of, slot_named, is_full_of_jobs}
-use Rattle.fs_state.specs.Moves.{for_slot, after_hangup}
+use Rattle.fs_bridge.specs.declared.row.BridgeKind.TheVariants.{Joined}
+use Rattle.fs_bridge.specs.Closure.{Members}
+use Rattle.fs_chan.specs.declared.chan.Chan.{Chan}
+use Rattle.fs_text.specs.declared.causes.Cause.TheVariants.{OriginatorCancel}
+use Rattle.fs_text.specs.declared.states.State.TheVariants.{CsExchangeMedia}
+use Rattle.fs_chan.specs.Changes.{in_state}
+use Rattle.fs_state.specs.Switch.{Switch, chan_at, bridge_at, orig_of, job_of, slot_named, is_full_of_jobs}
+use Rattle.fs_state.specs.Moves.{after_move}
+use Rattle.fs_state.specs.Hangups.{after_hangups, after_hangups_for, legs_at, lives_at}
+use Rattle.fs_state.specs.Bridging.{can_join, after_join}
 use Rattle.fs_machine.specs.declared.entry.Act.{Act}
 use Rattle.fs_machine.specs.declared.entry.Act.TheVariants as act
 use Rattle.fs_machine.specs.declared.entry.Closing.{Closing}
 use Rattle.fs_machine.specs.declared.entry.Closing.TheVariants as closing
-use Rattle.fs_machine.specs.declared.attempts.Attempt.{Attempt}
+use Rattle.fs_machine.specs.declared.attempts.Party.TheVariants as party
 use Rattle.fs_machine.specs.Texts.{ok, too_many_jobs}
 use Rattle.fs_machine.specs.Connections.{phase_at, conn_changed, admitted}
-use Rattle.fs_machine.specs.Attempts.{death_of, others, after_race_by, after_winning_at, after_leg_expiry, after_next_group, after_verdict}
-use Rattle.fs_machine.specs.Attempts.{after_verdict_from}
+use Rattle.fs_machine.specs.Attempts.{failed_for, won_for, group_for, with_group}
 use Rattle.fs_machine.specs.Jobs.{sleep_begun, after_job_work, job_done_from, job_done}
-use Rattle.fs_machine.specs.Api.{Done, says, no_answer_yet, kill_done, msleep_done, first_there, dialled, originate_done, done_plainly}
+use Rattle.fs_machine.specs.Done.{Done, says, no_answer_yet}
+use Rattle.fs_machine.specs.Joining.{is_ready, is_answered, in_the_way, after_leaving, both_left, both_in_media, joined_done, bridged_unless, bridge_done_at}
+use Rattle.fs_machine.specs.Joining.{uuid_bridge_done}
+use Rattle.fs_machine.specs.Api.{kill_done, msleep_done, first_there, dialled, originate_done, done_plainly}
 use Rattle.fs_machine.specs.Api.{done_by}
 use Rattle.fs_machine.specs.Commands.{with_reply, after_dismissal, after_password, with_response_of, command_done_in, command_done}
 use Rattle.fs_machine.specs.Step.{after_close, act_done}
-use Rattle.fs_machine.specs.Sound.{HasLeg}
-use Rattle.fs_machine.proofs.Kept.{Fact, KeptByCalls, DoesJob, raced, KeptByJobs, LeavesBy, IsShortWinner, KeptByCommands, KeptByMoves}
+use Rattle.fs_machine.proofs.Kept.{Fact, Stays, KeptByCalls, DoesJob, raced, HasWon, KeptByJobs, KeptByDials, LeavesBy, IsShortWinner}
+use Rattle.fs_machine.proofs.Kept.{KeptByCommands, KeptByMoves}
 use Rattle.fs_machine.proofs.ShortLemmas.{NamesShort, api_short, expanded_short}
 use Rattle.fs_machine.proofs.DialLemmas.{dialled_groups}
-use Rattle.fs_machine.proofs.Walk.{all_hung_kept, worked_kept}
-use Rattle.fs_machine.proofs.RestLemmas.{all_hung_rest, does_same}
+use Rattle.fs_machine.proofs.JoinLemmas.{IsApart, apart_now, apart_hung, apart_left, media_stays, joined_live}
+use Rattle.fs_machine.proofs.StayLemmas.{moved_there}
+use Rattle.fs_machine.proofs.TryWalk.{verdict_kept}
+use Rattle.fs_machine.proofs.Walk.{worked_kept}
+use Rattle.fs_machine.proofs.RestLemmas.{hung_rest, does_same}
 
 -- ---- jobs
 
-module _ (before : Switch) (P : Fact) (calls : KeptByCalls P) (jobs : KeptByJobs before P) where
-  -- a leg that lives wins, or dies as the others lose
-  race_kept : (a : Attempt) (winner : Winner) (caller : Caller) (leg : OrigLeg) (slots : List ℕ) →
-      DoesJob before a.job a.conn (work.Originate a.orig winner caller) → HasLeg before a.orig leg → P (Some 0) before →
-      (died : Option Cause) → death_of (chan_at (raced slots before) (unwrap_or leg.slot 0)) ≡ died →
-      P (Some 0) (after_race_by died a winner leg (raced slots before))
-  race_kept a winner caller leg slots does has h None survives =
-      jobs.wins a winner caller leg slots (does_same does (all_hung_rest LoseRace slots before))
-      (record { has = has; survives = survives }) (all_hung_kept P calls LoseRace slots h)
-  race_kept a winner caller leg slots does has h (Some cause) dies =
-      jobs.failed a winner caller cause (does_same does (all_hung_rest LoseRace slots before)) (all_hung_kept P calls LoseRace slots h)
-
-  expired_kept : (leg : Option OrigLeg) {s : Switch} → P (Some 0) s → P (Some 0) (after_leg_expiry leg s)
-  expired_kept leg {s} h = by (option_and_then living_slot leg)
-    where
-      by : (slot : Option ℕ) → P (Some 0) (for_slot (after_hangup NoAnswer) slot s)
-      by None = h
-      by (Some slot) = calls.hung NoAnswer slot h
-
-  regrouped_kept : (a : Attempt) (caller : Caller) (o : Orig) {s : Switch} → orig_of s a.orig ≡ Some o → P (Some 0) s →
-      P (Some 0) (after_next_group a caller (next_group o) s)
-  regrouped_kept a caller o {s} there h = by (next_group o) refl
-    where
-      by : (next : Option (List LegPlan)) → next_group o ≡ next → P (Some 0) (after_next_group a caller next s)
-      by None is = h
-      by (Some plans) is = jobs.regroups a.orig o plans caller there is h
-
-  judged_kept : (v : Verdict) (a : Attempt) (winner : Winner) (caller : Caller) (o : Orig) → verdict_of before.moment o ≡ v →
-      orig_of before a.orig ≡ Some o → DoesJob before a.job a.conn (work.Originate a.orig winner caller) → P (Some 0) before →
-      P (Some 0) (after_verdict v a winner caller o before)
-  judged_kept (verdict.Won position) a winner caller o is there does h = by (slice_get o.legs position) refl
-    where
-      by : (leg : Option OrigLeg) → slice_get o.legs position ≡ leg → P (Some 0) (after_winning_at a winner position o.legs leg before)
-      by None at = h
-      by (Some leg) at =
-          race_kept a winner caller leg (living_slots (others position o.legs)) does
-          (record { orig = o; there = there; position = position; at = at; lives = winner_lives before.moment position o leg is at }) h
-          (death_of (chan_at (raced (living_slots (others position o.legs)) before) (unwrap_or leg.slot 0))) refl
-  judged_kept (verdict.LegExpired position) a winner caller o is there does h = expired_kept (slice_get o.legs position) h
-  judged_kept verdict.NextGroup a winner caller o is there does h = regrouped_kept a caller o there h
-  judged_kept (verdict.Failed cause) a winner caller o is there does h = jobs.failed a winner caller cause does h
-  judged_kept verdict.Expired a winner caller o is there does h =
-      jobs.failed a winner caller NoAnswer (does_same does (all_hung_rest NoAnswer (living_slots o.legs) before))
-      (all_hung_kept P calls NoAnswer (living_slots o.legs) h)
-  judged_kept (verdict.Wait until) a winner caller o is there does h = h
+module _ (before : Switch) (P : Fact) (calls : KeptByCalls P) (dials : KeptByDials before P) (jobs : KeptByJobs before P) where
+  job_tried_kept : (number conn orig : ℕ) (winner : Winner) (caller : Caller) →
+      DoesJob before number conn (work.Originate orig winner caller) → P (Some 0) before →
+      P (Some 0) (after_verdict_on (record { orig = orig; party = party.Job number conn winner caller }) before)
+  job_tried_kept number conn orig winner caller does h =
+      verdict_kept before P calls (record { orig = orig; party = party.Job number conn winner caller })
+      (λ s. DoesJob s number conn (work.Originate orig winner caller)) (λ named can. does_same can (hung_rest named before))
+      (λ cause s can k. jobs.failed number conn winner caller orig cause can k)
+      (λ leg slots can won k. jobs.wins number conn winner caller orig leg slots can won k)
+      (λ o group is next k. dials.regroups orig o group caller is (record { group = group; next = next; filled = λ some. some }) k)
+      does h
 
   job_works_kept : (what : JobWork) (number conn : ℕ) → DoesJob before number conn what → P (Some 0) before →
       P (Some 0) (after_job_work what number conn before)
   job_works_kept (work.Sleep until) number conn does h = jobs.woken number conn until ok does h
-  job_works_kept (work.Originate orig winner caller) number conn does h = by (orig_of before orig) refl
-    where
-      by : (found : Option Orig) → orig_of before orig ≡ found →
-          P (Some 0) (after_verdict_from (record { job = number; conn = conn; orig = orig }) winner caller found before)
-      by None there = h
-      by (Some o) there =
-          judged_kept (verdict_of before.moment o) (record { job = number; conn = conn; orig = orig }) winner caller o refl there does h
+  job_works_kept (work.Originate orig winner caller) number conn does h = job_tried_kept number conn orig winner caller does h
 
   pub job_kept : (number : ℕ) → P (Some 0) before → P (Some 0) (job_done number before)
   unfolding job_done
@@ -136,7 +105,7 @@ module _ (conn : ℕ) (P : Fact) (calls : KeptByCalls P) (commands : KeptByComma
 
   killed_kept : (cause : Cause) (slot : Option ℕ) {s : Switch} → P None s → P (Some 0) (kill_done cause slot s).state
   killed_kept cause None h = commands.spent h
-  killed_kept cause (Some slot) h = commands.spent (calls.hung cause slot h)
+  killed_kept cause (Some slot) h = commands.spent (calls.hung ((slot, cause) ∷ []) h)
 
   slept_kept : (milliseconds : ℕ) {s : Switch} → P None s → P (Some 0) (msleep_done conn milliseconds s).state
   slept_kept milliseconds {s} h = by (is_full_of_jobs s) refl
@@ -162,6 +131,19 @@ module _ (conn : ℕ) (P : Fact) (calls : KeptByCalls P) (commands : KeptByComma
           P (Some 0) (if full then says too_many_jobs s else dialled conn (dial_string url) winner caller timeout s).state
       by true is = commands.spent h
       by false is = dialled_kept url (dial_string url) refl winner caller timeout short is h
+
+  -- two channels that leave what they were in
+  left_kept : (a b : ℕ) {s : Switch} → IsApart s a → IsApart s b → P (Some 0) s → P (Some 0) (both_left a b s)
+  left_kept a b {s} first second h =
+      let named : Members = map (λ slot. (slot, OriginatorCancel)) (legs_at s a ++ legs_at s b) in
+      let t : Switch = after_hangups named s in
+      calls.leaves b (apart_left b a t (apart_hung b named s second)).bridge (calls.leaves a (apart_hung a named s first).bridge (calls.hung named h))
+
+  media_kept : (slot : ℕ) {s : Switch} → lives_at s slot ≡ true → IsApart s slot → P (Some 0) s →
+      P (Some 0) (after_move (in_state CsExchangeMedia) slot s)
+  media_kept slot {s} live lone h =
+      moved_there (P (Some 0)) (λ event t k. calls.touches.told event k) (in_state CsExchangeMedia) slot s
+      (λ c there. calls.touches.changed slot c (in_state CsExchangeMedia c) there (media_stays slot c s there live lone) h) h
 
   done_plainly_kept : (what : Api) {s : Switch} → NamesShort what → P None s → P (Some 0) (done_plainly conn what s).state
   done_plainly_kept (api.Echo text) short h = commands.spent h
@@ -236,5 +218,5 @@ module _ (before : Switch) (P : Fact) (kept : KeptByMoves before P) where
       kept.calls.more (commanded_kept conn P kept.calls (kept.commands conn) (command_of (line_of block)) h)
   acted_kept (act.Take conn) h = kept.calls.more (kept.visits.taken conn (spent h))
   acted_kept (act.Close conn how) h = kept.calls.more (closed_kept how conn (spent h))
-  acted_kept (act.Work slot) h = worked_kept P kept.calls slot (spent h)
-  acted_kept (act.Job number) h = kept.calls.more (job_kept before P kept.calls kept.jobs number (spent h))
+  acted_kept (act.Work slot) h = worked_kept before P kept.calls kept.dials slot h
+  acted_kept (act.Job number) h = kept.calls.more (job_kept before P kept.calls kept.dials kept.jobs number (spent h))

@@ -1,11 +1,19 @@
 -- What a fact on switches has to bear for every entry to keep it: a case for each move that entries are made of.
-use Rattle.std.proofs.Common.{◌≡◌, ℕ, ◌+◌, false, List, slice_get, Option, None, Some, IsSome, unwrap_or}
+use Rattle.std.proofs.Common.{◌≡◌, ℕ, ◌+◌, Bool, true, false, List, slice_get, Option, None, Some, IsSome, unwrap_or}
+use Rattle.std.specs.Prelude.{is_some}
 use Rattle.fs_text.specs.Texts.{Text}
+use Rattle.fs_text.specs.declared.states.State.{State}
+use Rattle.fs_text.specs.declared.states.State.TheVariants.{CsNew, CsInit, CsConsumeMedia}
 use Rattle.fs_text.specs.declared.causes.Cause.{Cause}
 use Rattle.fs_text.specs.declared.causes.Cause.TheVariants.{LoseRace}
 use Rattle.fs_vars.specs.Variables.{Variables}
+use Rattle.fs_bridge.specs.declared.row.BridgeKind.{BridgeKind}
+use Rattle.fs_bridge.specs.Closure.{Members}
 use Rattle.fs_chan.specs.declared.chan.Chan.{Chan}
+use Rattle.fs_chan.specs.declared.peer.Direction.TheVariants.{Outbound}
 use Rattle.fs_chan.specs.declared.peer.Peer.{Peer}
+use Rattle.fs_chan.specs.declared.wait.Wait.{Wait}
+use Rattle.fs_chan.specs.declared.wait.Wait.TheVariants.{Ready, Legs, Bridged}
 use Rattle.fs_chan.specs.Changes.{is_live, IsShortTarget, HasShortFields}
 use Rattle.fs_orig.specs.declared.caller.Caller.{Caller}
 use Rattle.fs_orig.specs.declared.leg.OrigLeg.{OrigLeg}
@@ -23,15 +31,19 @@ use Rattle.fs_state.specs.declared.conn.Parting.TheVariants as parting
 use Rattle.fs_state.specs.declared.event.Event.{Event}
 use Rattle.fs_state.specs.declared.job.JobWork.{JobWork}
 use Rattle.fs_state.specs.declared.job.JobWork.TheVariants as work
-use Rattle.fs_state.specs.Switch.{Switch, chan_at, with_chan, is_full_of_jobs, job_of, without_conn, with_frame_taken, with_event}
-use Rattle.fs_state.specs.Switch.{orig_of, with_gift}
-use Rattle.fs_state.specs.Moves.{orig_changed, leg_changed, after_hangup}
-use Rattle.fs_machine.specs.declared.attempts.Attempt.{Attempt}
+use Rattle.fs_state.specs.Switch.{Switch, chan_at, with_chan, bridge_at, is_full_of_jobs, job_of, without_conn, with_frame_taken, with_event}
+use Rattle.fs_state.specs.Switch.{next_orig_number, orig_of, without_orig, with_gift}
+use Rattle.fs_state.specs.Moves.{orig_changed, leg_changed}
+use Rattle.fs_state.specs.Hangups.{after_hangups, after_hangups_for}
+use Rattle.fs_state.specs.Bridging.{can_join, joined_as}
+use Rattle.fs_machine.specs.declared.attempts.Party.TheVariants as party
 use Rattle.fs_machine.specs.declared.originations.Call.{Call}
 use Rattle.fs_machine.specs.Connections.{phase_at, conn_changed, admitted, parted}
-use Rattle.fs_machine.specs.Texts.{made_text}
-use Rattle.fs_machine.specs.Originations.{pair_made, is_misnamed, target_of, group_made, after_winning}
-use Rattle.fs_machine.specs.Attempts.{originate_begun, after_hangups, after_attempt, after_failure, death_of, with_group}
+use Rattle.fs_machine.specs.Originations.{pair_made, is_misnamed, target_of, group_made}
+use Rattle.fs_machine.specs.Bridging.{after_bridge_failure, after_bridge_win, group_dialed}
+use Rattle.fs_machine.specs.Attempts.{first_group, originate_begun, awaits, failed_for, won_for, death_of, with_group}
+use Rattle.fs_machine.specs.Dialing.{tried_by_slot}
+use Rattle.fs_machine.specs.Joining.{after_leaving}
 use Rattle.fs_machine.specs.Owing.{after_job_begin, after_job_end}
 use Rattle.fs_machine.specs.Step.{arrived}
 use Rattle.fs_machine.specs.Sound.{HasLeg}
@@ -47,31 +59,68 @@ Fact = Stage → Switch → Type 0
 
 -- ---- moves of channels
 
+-- what holds a channel: the origination that it waits for, or its bridge
+abbrev pub hold_in : Wait → Wait
+hold_in (Legs orig) = Legs orig
+hold_in Bridged = Bridged
+hold_in _ = Ready
+
 -- what others know of a channel
 pub record Links : Type 0 where
   pub uuid : Text
   pub partner : Option ℕ
   pub peer : Option Peer
   pub leg_of : Option ℕ
+  pub hold : Wait
 
 abbrev pub links_of : Chan → Links
-links_of c = record { uuid = c.uuid; partner = c.partner; peer = c.peer; leg_of = c.leg_of }
+links_of c = record { uuid = c.uuid; partner = c.partner; peer = c.peer; leg_of = c.leg_of; hold = hold_in c.wait }
+
+-- a leg of an origination that is not yet decided is in one of these states
+abbrev pub is_idle : State → Bool
+is_idle CsNew = true
+is_idle CsInit = true
+is_idle CsConsumeMedia = true
+is_idle _ = false
+
+-- such a leg is outbound and has nothing to run, and a leg of a bridge is none of these, and waits for the end of the bridge
+pub record IsApt (c : Chan) : Type 0 where
+  pub outbound : is_some c.leg_of ≡ true → c.direction ≡ Outbound
+  pub idle : is_some c.leg_of ≡ true → is_idle c.state ≡ true
+  pub alone : is_some c.peer ≡ true → c.leg_of ≡ None
+  pub held : is_some c.peer ≡ true → hold_in c.wait ≡ Bridged
+
+-- what a bridge leaves as it is of a channel: it lives just if it lived, and its texts stay within their limits
+pub record Remains (old new : Chan) : Type 0 where
+  pub uuid : new.uuid ≡ old.uuid
+  pub partner : new.partner ≡ old.partner
+  pub live : is_live new ≡ is_live old
+  pub short : HasShortFields old.profile → HasShortFields new.profile
 
 -- a channel keeps what others know of it, lives just if it lived, and its texts stay within their limits
 pub record Stays (old new : Chan) : Type 0 where
   pub links : links_of new ≡ links_of old
   pub live : is_live new ≡ is_live old
   pub short : HasShortFields old.profile → HasShortFields new.profile
+  pub apt : IsApt old → IsApt new
 
--- what channels do, and what is done to them; no event tells of a bridge
-pub record KeptByCalls (P : Fact) : Type 0 where
-  pub told : (event : Event) {b : Stage} {s : Switch} → event.bridge ≡ 0 → P b s → P b (with_event event s)
+-- what happens to a channel and leaves it what it is to others
+pub record KeptByTouches (P : Fact) : Type 0 where
+  pub told : (event : Event) {b : Stage} {s : Switch} → P b s → P b (with_event event s)
   pub globals : (globals : Variables) {b : Stage} {s : Switch} → P b s → P b (record s { globals = globals })
   pub changed : (slot : ℕ) (old new : Chan) {b : Stage} {s : Switch} → chan_at s slot ≡ Some old → Stays old new → P b s →
       P b (with_chan slot (Some new) s)
   pub answers : (place slot number : ℕ) {b : Stage} {s : Switch} → P b s →
       P b (orig_changed (leg_changed (λ position. with_answer position place) slot) number s)
-  pub hung : (cause : Cause) (slot : ℕ) {b : Stage} {s : Switch} → P b s → P b (after_hangup cause slot s)
+
+-- what channels do, and what is done to them
+pub record KeptByCalls (P : Fact) : Type 0 where
+  pub touches : KeptByTouches P
+  pub hung : (named : Members) {b : Stage} {s : Switch} → P b s → P b (after_hangups named s)
+  pub joined : (kind : BridgeKind) (caller answerer : ℕ) (c d : Chan) {b : Stage} {s : Switch} → can_join caller answerer s ≡ true →
+      chan_at s caller ≡ Some c → chan_at s answerer ≡ Some d → c.leg_of ≡ None → d.leg_of ≡ None → P b s →
+      P b (joined_as kind caller answerer s)
+  pub leaves : (slot : ℕ) {b : Stage} {s : Switch} → bridge_at s slot ≡ None → P b s → P b (after_leaving slot s)
   pub more : {s : Switch} → P (Some 0) s → P (Some 1) s
   pub gone : (slot : ℕ) (old : Chan) {s : Switch} → chan_at s slot ≡ Some old → is_live old ≡ false → P (Some 0) s →
       P (Some 1) (with_chan slot None s)
@@ -85,7 +134,7 @@ pub record KeptByBirths (P : Fact) : Type 0 where
       IsFree Chan s.channels (a + 1) b →
       P (Some n) s → P (Some n) (pair_made call orig a b s)
 
--- ---- moves of jobs
+-- ---- moves of those who try originations
 
 -- a job of this number does this work for this connection
 pub record DoesJob (s : Switch) (number conn : ℕ) (what : JobWork) : Type 0 where
@@ -93,26 +142,56 @@ pub record DoesJob (s : Switch) (number conn : ℕ) (what : JobWork) : Type 0 wh
 
 -- the legs in these slots have lost the race
 abbrev pub raced : List ℕ → Switch → Switch
-raced slots s = after_hangups LoseRace slots s
+raced slots s = after_hangups_for LoseRace slots s
 
 -- a leg lived when the entry began, and did not die as those in these slots lost
 pub record HasWon (before : Switch) (orig : ℕ) (leg : OrigLeg) (slots : List ℕ) : Type 0 where
   pub has : HasLeg before orig leg
   pub survives : death_of (chan_at (raced slots before) (unwrap_or leg.slot 0)) ≡ None
 
--- the jobs that end, and originations that come to their next group
+-- the legs of a group are made by plans with which it has a leg, if it has one
+pub record ArePlans (o : Orig) (plans : List LegPlan) : Type 0 where
+  pub group : List LegPlan
+  pub next : next_group o ≡ Some group
+  pub filled : IsSome (slice_get group 0) → IsSome (slice_get plans 0)
+
+-- the jobs that end
 pub record KeptByJobs (before : Switch) (P : Fact) : Type 0 where
   pub woken : (number conn until : ℕ) (answer : Text) {s : Switch} → DoesJob s number conn (work.Sleep until) → P (Some 0) s →
       P (Some 0) (after_job_end number conn answer s)
-  pub failed : (a : Attempt) (winner : Winner) (caller : Caller) (cause : Cause) {s : Switch} →
-      DoesJob s a.job a.conn (work.Originate a.orig winner caller) → P (Some 0) s → P (Some 0) (after_failure a cause s)
-  pub wins : (a : Attempt) (winner : Winner) (caller : Caller) (leg : OrigLeg) (slots : List ℕ) →
-      DoesJob (raced slots before) a.job a.conn (work.Originate a.orig winner caller) → HasWon before a.orig leg slots →
-      P (Some 0) (raced slots before) →
-      P (Some 0) (after_attempt a (made_text leg.uuid) (after_winning winner (unwrap_or leg.slot 0) (raced slots before)))
+  pub failed : (job conn : ℕ) (winner : Winner) (caller : Caller) (orig : ℕ) (cause : Cause) {s : Switch} →
+      DoesJob s job conn (work.Originate orig winner caller) → P (Some 0) s →
+      P (Some 0) (failed_for (party.Job job conn winner caller) orig cause s)
+  pub wins : (job conn : ℕ) (winner : Winner) (caller : Caller) (orig : ℕ) (leg : OrigLeg) (slots : List ℕ) →
+      DoesJob (raced slots before) job conn (work.Originate orig winner caller) → HasWon before orig leg slots →
+      P (Some 0) (raced slots before) → P (Some 0) (won_for (party.Job job conn winner caller) orig leg (raced slots before))
+
+-- there is a group, and each has a leg
+pub record AreGroups (groups : List (List LegPlan)) : Type 0 where
+  pub some : IsSome (slice_get groups 0)
+  pub filled : (k : ℕ) (group : List LegPlan) → slice_get groups k ≡ Some group → IsSome (slice_get group 0)
+
+-- a channel that lives and runs something: nothing holds it, and it is no leg of an origination
+pub record IsAtWork (c : Chan) : Type 0 where
+  pub live : is_live c ≡ true
+  pub free : hold_in c.wait ≡ Ready
+  pub busy : is_idle c.state ≡ false
+
+-- the channels that dial, where each draws one number of an origination and waits for what comes of that, and originations that come to
+-- their next group
+pub record KeptByDials (before : Switch) (P : Fact) : Type 0 where
+  pub spent : {s : Switch} → P None s → P (Some 0) s
+  pub dials : (slot : ℕ) (c : Chan) (groups : List (List LegPlan)) (timeout : ℕ) {s : Switch} → chan_at s slot ≡ Some c → IsAtWork c →
+      AreGroups groups → P None s →
+      P (Some 0)
+      (tried_by_slot slot groups timeout (next_orig_number s) (group_dialed (Some c) (first_group groups) (next_orig_number s) s))
   pub regroups : (number : ℕ) (o : Orig) (plans : List LegPlan) (caller : Caller) {s : Switch} → orig_of s number ≡ Some o →
-      next_group o ≡ Some plans → P (Some 0) s →
-      P (Some 0) (with_group number (group_made plans caller number s))
+      ArePlans o plans → P (Some 0) s → P (Some 0) (with_group number (group_made plans caller number s))
+  pub fails : (slot orig : ℕ) (cause : Cause) {s : Switch} → awaits slot orig s ≡ true → P (Some 0) s →
+      P (Some 0) (after_bridge_failure cause slot (without_orig orig s))
+  pub wins : (slot orig : ℕ) (leg : OrigLeg) (slots : List ℕ) → awaits slot orig (raced slots before) ≡ true →
+      HasWon before orig leg slots → P (Some 0) (raced slots before) →
+      P (Some 0) (after_bridge_win slot (unwrap_or leg.slot 0) (without_orig orig (raced slots before)))
 
 -- ---- moves of a connection
 
@@ -126,11 +205,6 @@ LeavesBy parting.EndOfInput = ⊥
 abbrev pub IsShortWinner : Winner → Type 0
 IsShortWinner (App application argument) = Unit {0}
 IsShortWinner (Route to) = IsShortTarget (target_of to)
-
--- there is a group, and each has a leg
-pub record AreGroups (groups : List (List LegPlan)) : Type 0 where
-  pub some : IsSome (slice_get groups 0)
-  pub filled : (k : ℕ) (group : List LegPlan) → slice_get groups k ≡ Some group → IsSome (slice_get group 0)
 
 -- what the commands of a connection do
 pub record KeptByCommands (conn : ℕ) (P : Fact) : Type 0 where
@@ -154,5 +228,6 @@ pub record KeptByVisits (P : Fact) : Type 0 where
 pub record KeptByMoves (before : Switch) (P : Fact) : Type 0 where
   pub calls : KeptByCalls P
   pub jobs : KeptByJobs before P
+  pub dials : KeptByDials before P
   pub commands : (conn : ℕ) → KeptByCommands conn P
   pub visits : KeptByVisits P

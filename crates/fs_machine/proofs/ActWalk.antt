@@ -1,7 +1,7 @@
 -- The walk goes on: jobs, commands and all acts.
 use Rattle.std.proofs.Common.{◌≡◌, ℕ, ◌*◌, nat_lt, Bool, true, false, if◌then◌else◌, List, [], length, slice_get, Option, None, Some}
-use Rattle.std.proofs.Common.{◌++◌, ◌==◌, unwrap_or, option_and_then, Result, Ok, Err, refl, sym, ap, subst, ◌∙◌}
-use Rattle.std.specs.Prelude.{◌&&◌, is_some, is_none, not, ◌||◌}
+use Rattle.std.proofs.Common.{◌++◌, Result, Ok, Err, refl, sym, ap, subst, ◌∙◌}
+use Rattle.std.specs.Prelude.{◌&&◌, map}
 use Rattle.std.specs.Str.{bytes_eq}
 use Rattle.fs_text.specs.Texts.{Text}
 use Rattle.fs_text.specs.declared.causes.Cause.{Cause}
@@ -41,18 +41,18 @@ use Rattle.fs_chan.specs.Changes.{in_state}
 use Rattle.fs_state.specs.Switch.{Switch, chan_at, bridge_at, orig_of, job_of, slot_named, is_full_of_jobs}
 use Rattle.fs_state.specs.Moves.{after_move}
 use Rattle.fs_state.specs.Hangups.{after_hangups, after_hangups_for, legs_at, lives_at}
-use Rattle.fs_state.specs.Bridging.{can_join, after_join}
+use Rattle.fs_state.specs.Bridging.{can_join, joined_as, after_join}
 use Rattle.fs_machine.specs.declared.entry.Act.{Act}
 use Rattle.fs_machine.specs.declared.entry.Act.TheVariants as act
 use Rattle.fs_machine.specs.declared.entry.Closing.{Closing}
 use Rattle.fs_machine.specs.declared.entry.Closing.TheVariants as closing
 use Rattle.fs_machine.specs.declared.attempts.Party.TheVariants as party
-use Rattle.fs_machine.specs.Texts.{ok, too_many_jobs}
+use Rattle.fs_machine.specs.Texts.{ok, too_many_jobs, made_text, no_channel}
 use Rattle.fs_machine.specs.Connections.{phase_at, conn_changed, admitted}
 use Rattle.fs_machine.specs.Attempts.{failed_for, won_for, group_for, with_group}
 use Rattle.fs_machine.specs.Jobs.{sleep_begun, after_job_work, job_done_from, job_done}
 use Rattle.fs_machine.specs.Done.{Done, says, no_answer_yet}
-use Rattle.fs_machine.specs.Joining.{is_ready, is_answered, in_the_way, after_leaving, both_left, both_in_media, joined_done, bridged_unless, bridge_done_at}
+use Rattle.fs_machine.specs.Joining.{in_the_way, after_leaving, both_left, both_in_media, joined_done, bridged_unless, bridge_done_at}
 use Rattle.fs_machine.specs.Joining.{uuid_bridge_done}
 use Rattle.fs_machine.specs.Api.{kill_done, msleep_done, first_there, dialled, originate_done, done_plainly}
 use Rattle.fs_machine.specs.Api.{done_by}
@@ -62,7 +62,8 @@ use Rattle.fs_machine.proofs.Kept.{Fact, Stays, KeptByCalls, DoesJob, raced, Has
 use Rattle.fs_machine.proofs.Kept.{KeptByCommands, KeptByMoves}
 use Rattle.fs_machine.proofs.ShortLemmas.{NamesShort, api_short, expanded_short}
 use Rattle.fs_machine.proofs.DialLemmas.{dialled_groups}
-use Rattle.fs_machine.proofs.JoinLemmas.{IsApart, apart_now, apart_hung, apart_left, media_stays, joined_live}
+use Rattle.fs_machine.proofs.JoinLemmas.{IsApart, apart_now, apart_hung, apart_left, CanMeet, meets_now, join_meets, media_meets}
+use Rattle.fs_machine.proofs.JoinLemmas.{media_stays}
 use Rattle.fs_machine.proofs.StayLemmas.{moved_there}
 use Rattle.fs_machine.proofs.TryWalk.{verdict_kept}
 use Rattle.fs_machine.proofs.Walk.{worked_kept}
@@ -139,11 +140,62 @@ module _ (conn : ℕ) (P : Fact) (calls : KeptByCalls P) (commands : KeptByComma
       let t : Switch = after_hangups named s in
       calls.leaves b (apart_left b a t (apart_hung b named s second)).bridge (calls.leaves a (apart_hung a named s first).bridge (calls.hung named h))
 
-  media_kept : (slot : ℕ) {s : Switch} → lives_at s slot ≡ true → IsApart s slot → P (Some 0) s →
-      P (Some 0) (after_move (in_state CsExchangeMedia) slot s)
-  media_kept slot {s} live lone h =
+  media_kept : (slot : ℕ) {s : Switch} → CanMeet s slot → P (Some 0) s → P (Some 0) (after_move (in_state CsExchangeMedia) slot s)
+  media_kept slot {s} meets h =
       moved_there (P (Some 0)) (λ event t k. calls.touches.told event k) (in_state CsExchangeMedia) slot s
-      (λ c there. calls.touches.changed slot c (in_state CsExchangeMedia c) there (media_stays slot c s there live lone) h) h
+      (λ c there. calls.touches.changed slot c (in_state CsExchangeMedia c) there (media_stays s slot meets c there) h) h
+
+  both_media_kept : (a b : ℕ) {s : Switch} → CanMeet s a → CanMeet s b → P (Some 0) s → P (Some 0) (both_in_media a b s)
+  both_media_kept a b {s} first second h = by (nat_lt a b)
+    where
+      by : (test : Bool) →
+          P (Some 0)
+          (if test then after_move (in_state CsExchangeMedia) b (after_move (in_state CsExchangeMedia) a s)
+          else after_move (in_state CsExchangeMedia) a (after_move (in_state CsExchangeMedia) b s))
+      by true = media_kept b (media_meets b a s second) (media_kept a first h)
+      by false = media_kept a (media_meets a b s first) (media_kept b second h)
+
+  join_kept : (a b : ℕ) {s : Switch} → CanMeet s a → CanMeet s b → P (Some 0) s → P (Some 0) (after_join Joined a b s)
+  join_kept a b {s} first second h = by (can_join a b s) refl
+    where
+      by : (test : Bool) → can_join a b s ≡ test → P (Some 0) (if test then joined_as Joined a b s else s)
+      by true is = calls.joined Joined a b first.chan second.chan is first.there second.there first.lone second.lone h
+      by false is = h
+
+  joined_kept : (a b : ℕ) (other : Text) {s : Switch} → IsApart s a → IsApart s b → P (Some 0) s →
+      P (Some 0) (joined_done a b other s).state
+  joined_kept a b other {s} first second h = by (lives_at s a) refl (lives_at s b) refl
+    where
+      by : (one : Bool) → lives_at s a ≡ one → (two : Bool) → lives_at s b ≡ two →
+          P (Some 0)
+          (if one && two then says (made_text other) (both_in_media a b (after_join Joined a b s)) else says no_channel s).state
+      by true live true alive =
+          let meets : CanMeet s a = meets_now s a live first in
+          let met : CanMeet s b = meets_now s b alive second in
+          both_media_kept a b (join_meets Joined a b a s meets) (join_meets Joined a b b s met) (join_kept a b meets met h)
+      by true live false dead = h
+      by false dead two alive = h
+
+  bridged_kept : (uuid other : Text) {s : Switch} → P None s → P (Some 0) (uuid_bridge_done uuid other s).state
+  unfolding uuid_bridge_done
+  bridged_kept uuid other {s} h = by (slot_named uuid s) (slot_named other s)
+    where
+      way : (a b : ℕ) (found : Option Text) → in_the_way a b s ≡ found → P (Some 0) (bridged_unless found a b other s).state
+      way a b (Some answer) is = commands.spent h
+      way a b None is =
+          let apart = apart_now a b s is in
+          let named : Members = map (λ slot. (slot, OriginatorCancel)) (legs_at s a ++ legs_at s b) in
+          let t : Switch = after_hangups named s in
+          let one = apart_hung a named s apart.0 in
+          let two = apart_hung b named s apart.1 in
+          joined_kept a b other (apart_left a b (after_leaving a t) (apart_left a a t one))
+          (apart_left b b (after_leaving a t) (apart_left b a t two)) (left_kept a b apart.0 apart.1 (commands.spent h))
+
+      by : (first second : Option ℕ) → P (Some 0) (bridge_done_at first second other s).state
+      by (Some a) (Some b) = way a b (in_the_way a b s) refl
+      by (Some a) None = commands.spent h
+      by None (Some b) = commands.spent h
+      by None None = commands.spent h
 
   done_plainly_kept : (what : Api) {s : Switch} → NamesShort what → P None s → P (Some 0) (done_plainly conn what s).state
   done_plainly_kept (api.Echo text) short h = commands.spent h
@@ -155,6 +207,7 @@ module _ (conn : ℕ) (P : Fact) (calls : KeptByCalls P) (commands : KeptByComma
   done_plainly_kept (api.UuidExists uuid) short h = commands.spent h
   done_plainly_kept (api.UuidKill uuid cause) {s} short h = killed_kept cause (slot_named uuid s) h
   done_plainly_kept (api.UuidGetvar uuid name) short h = commands.spent h
+  done_plainly_kept (api.UuidBridge uuid other) short h = bridged_kept uuid other h
   done_plainly_kept (api.Originate url winner cid_name cid_number timeout) short h =
       originated_kept url winner (record { name = cid_name; number = cid_number }) timeout short h
   done_plainly_kept (api.Usage which) short h = commands.spent h

@@ -7,7 +7,7 @@ use Rattle.fs_machine.specs.declared.entry.Act.{Act}
 use Rattle.fs_machine.specs.Originations.{after_winning}
 use Rattle.fs_machine.specs.Step.{act_done}
 use Rattle.fs_machine.proofs.Kept.{Fact, raced, KeptByMoves}
-use Rattle.fs_machine.proofs.RestLemmas.{Rest, rest_of, calls_by_rest, births_by_rest, won_rest}
+use Rattle.fs_machine.proofs.RestLemmas.{Rest, rest_of, calls_by_rest, births_by_rest, dials_by_rest, won_rest}
 use Rattle.fs_machine.proofs.FrontLemmas.{Front, front_of, moves_by_front}
 use Rattle.fs_machine.proofs.ActWalk.{acted_kept}
 
@@ -43,7 +43,8 @@ same_moves s =
     moves_by_front s (Same s) (λ b t u h same. by_front t u same ∙ h)
     (calls_by_rest (Same s) (λ b t u h same. by_rest t u same ∙ h) (λ t h. h))
     (births_by_rest (Same s) (λ b t u h same. by_rest t u same ∙ h) (λ t h. h))
-    (λ a winner caller leg slots does won h.
+    (dials_by_rest s (Same s) (λ b t u h same. by_rest t u same ∙ h) (λ t h. h))
+    (λ job conn winner caller orig leg slots does won h.
     by_rest (raced slots s) (after_winning winner (unwrap_or leg.slot 0) (raced slots s))
     (won_rest winner (unwrap_or leg.slot 0) (raced slots s)) ∙ h)
 

@@ -1,15 +1,32 @@
 -- What happens to connections, jobs and originations leaves channels as they are, and all that channels see.
-use Rattle.std.proofs.Common.{◌≡◌, ℕ, List, Option, None, Some, unwrap_or, refl}
+use Rattle.std.proofs.Common.{◌≡◌, ℕ, Bool, true, false, if◌then◌else◌, List, [], ◌∷◌, Option, None, Some, unwrap_or, option_and_then, ◌⊎◌}
+use Rattle.std.proofs.Common.{inl, inr, refl, sym, ap, subst, ◌∙◌}
+use Rattle.std.specs.Prelude.{codes}
+use Rattle.std.proofs.lemmas.Bool.{cases_eq}
+use Rattle.std.proofs.lemmas.Option.{same_Some}
 use Rattle.fs_text.specs.Texts.{Text}
 use Rattle.fs_vars.specs.Variables.{Variables}
 use Rattle.fs_doc.specs.Reading.{Configuration}
+use Rattle.fs_text.specs.Cause.{cause_name}
+use Rattle.fs_text.specs.declared.causes.Cause.{Cause}
+use Rattle.fs_text.specs.declared.event_names.EventName.TheVariants.{ChannelExecuteComplete}
+use Rattle.fs_bridge.specs.declared.row.BridgeKind.{BridgeKind}
+use Rattle.fs_bridge.specs.declared.row.BridgeKind.TheVariants.{Dial}
+use Rattle.fs_bridge.specs.Bridges.{BridgeRows, joined}
+use Rattle.fs_bridge.specs.Closure.{Members}
 use Rattle.fs_chan.specs.declared.chan.Chan.{Chan}
+use Rattle.fs_chan.specs.Bridging.{awaiting, awaited_by, bridged, in_media, at_leisure, exported_pairs}
+use Rattle.fs_chan.specs.Changes.{is_live, at_rest}
 use Rattle.fs_orig.specs.declared.caller.Caller.{Caller}
 use Rattle.fs_orig.specs.declared.leg.OrigLeg.{OrigLeg}
 use Rattle.fs_orig.specs.declared.plan.LegPlan.{LegPlan}
 use Rattle.fs_orig.specs.declared.orig.Orig.{Orig}
 use Rattle.fs_orig.specs.declared.winner.Winner.{Winner}
-use Rattle.fs_orig.specs.Changes.{at_next_group}
+use Rattle.fs_orig.specs.declared.orig.Owner.TheVariants as owner
+use Rattle.fs_orig.specs.Changes.{with_answer, at_next_group}
+use Rattle.fs_orig.specs.Plans.{all_behind}
+use Rattle.fs_places.specs.Places.{held_in, with_held}
+use Rattle.fs_places.proofs.HeldLemmas.{held_here, held_there, held_within}
 use Rattle.fs_places.specs.declared.numbered.Numbered.{Numbered}
 use Rattle.fs_places.specs.Rows.{with_row}
 use Rattle.fs_state.specs.declared.conn.Conn.{Conn}
@@ -18,22 +35,33 @@ use Rattle.fs_state.specs.declared.event.Event.{Event}
 use Rattle.fs_state.specs.declared.job.JobWork.{JobWork}
 use Rattle.fs_state.specs.declared.job.JobWork.TheVariants.{Sleep, Originate}
 use Rattle.fs_state.specs.Counts.{Tallies}
-use Rattle.fs_state.specs.Switch.{Switch, conn_of, orig_of, next_orig_number, with_new_job, without_job, without_orig}
-use Rattle.fs_state.specs.Moves.{orig_changed_from, orig_changed}
-use Rattle.fs_machine.specs.declared.attempts.Attempt.{Attempt}
+use Rattle.fs_state.specs.Switch.{Switch, chan_at, with_chan, with_bridge, next_bridge_number, conn_of, orig_of, next_orig_number}
+use Rattle.fs_state.specs.Switch.{next_job_number, with_new_job, without_job, without_orig, with_event}
+use Rattle.fs_state.specs.Moves.{plain_event, with_changed_chan, after_move, orig_changed_from, orig_changed, leg_changed, is_owner}
+use Rattle.fs_state.specs.Moves.{given_up_by, orig_given_up, after_answer}
+use Rattle.fs_state.specs.Hangups.{after_hangups}
+use Rattle.fs_state.specs.Bridging.{bridge_event, can_join, peer_of, with_peer_from, with_peer, joined_as, after_join}
 use Rattle.fs_machine.specs.Texts.{made_text, failed_text}
 use Rattle.fs_machine.specs.Connections.{conn_changed_from, conn_changed, admitted, parted, owed_since, not_owed}
 use Rattle.fs_machine.specs.Originations.{MadeGroup, group_made, after_winning}
 use Rattle.fs_machine.specs.Attempts.{first_group, orig_begun, tried_by_job, originate_begun, with_group}
 use Rattle.fs_machine.specs.Owing.{after_job_begin, after_job_end}
-use Rattle.fs_machine.proofs.Kept.{Stage, Fact, KeptByCalls, KeptByBirths, DoesJob, raced, HasWon, KeptByMoves}
-use Rattle.fs_machine.proofs.Walk.{group_made_kept}
+use Rattle.fs_machine.specs.Bridging.{caller_of, group_dialed, goes_on, after_going_on, bridge_failed_from, after_bridge_failure, disposed}
+use Rattle.fs_machine.specs.Bridging.{after_bridge_win}
+use Rattle.fs_machine.specs.Dialing.{tried_by_slot}
+use Rattle.fs_machine.specs.Joining.{after_leaving}
+use Rattle.fs_machine.proofs.Kept.{Stage, Fact, Links, Remains, Stays, KeptByTouches, KeptByCalls, KeptByBirths, DoesJob, KeptByDials, raced}
+use Rattle.fs_machine.proofs.Kept.{HasWon, KeptByMoves}
+use Rattle.fs_machine.proofs.StayLemmas.{moved_there, changed_there, orig_changed_channels}
+use Rattle.fs_machine.proofs.Walk.{answered_kept, disposed_kept, group_made_kept}
+use Rattle.fs_machine.proofs.RestLemmas.{whichever}
 
 -- what is left of a switch without connections, jobs, originations and what they are given
 pub record Front : Type 0 where
   pub config : Configuration
   pub globals : Variables
   pub channels : List (Option Chan)
+  pub bridges : BridgeRows
   pub identifiers : ℕ
   pub moment : ℕ
   pub entries : ℕ
@@ -46,6 +74,7 @@ front_of s = record {
   config = s.config;
   globals = s.globals;
   channels = s.channels;
+  bridges = s.bridges;
   identifiers = s.drawn.identifiers;
   moment = s.moment;
   entries = s.entries;
@@ -80,22 +109,224 @@ owing_front conn work s = conn_changed_front (owed_since s.entries) conn (with_n
 ended_front : (number conn : ℕ) (answer : Text) (s : Switch) → front_of (after_job_end number conn answer s) ≡ front_of s
 ended_front number conn answer s = conn_changed_front not_owed conn (without_job number s)
 
--- a fact that holds wherever the front is the same is kept by all moves, if channels and births keep it, and a leg that wins
-module _ (before : Switch) (P : Fact) (same : (b : Stage) (t u : Switch) → P b t → front_of u ≡ front_of t → P b u) (calls : KeptByCalls P)
-    (births : KeptByBirths P)
-    (wins : (a : Attempt) (winner : Winner) (caller : Caller) (leg : OrigLeg) (slots : List ℕ) →
-    DoesJob (raced slots before) a.job a.conn (Originate a.orig winner caller) → HasWon before a.orig leg slots →
-    P (Some 0) (raced slots before) →
-    P (Some 0) (after_winning winner (unwrap_or leg.slot 0) (raced slots before))) where
+given_up_front : (slot : ℕ) (awaited : Option ℕ) (s : Switch) → front_of (orig_given_up slot awaited s) ≡ front_of s
+given_up_front slot None s = refl
+given_up_front slot (Some number) s = by (orig_of s number)
+  where
+    by : (found : Option Orig) → front_of (given_up_by slot number found s) ≡ front_of s
+    by None = refl
+    by (Some o) = whichever (λ (t : Switch). front_of t ≡ front_of s) (is_owner slot o.owner) (without_orig number s) s refl refl
+
+-- ---- facts that read of a channel what a bridge leaves as it is
+
+-- nothing that would be dead comes to media
+abbrev pub Lively : Switch → ℕ → Type 0
+Lively s slot = (c : Chan) → chan_at s slot ≡ Some c → is_live c ≡ true
+
+-- such a fact has a case for each change that leaves of a channel what a bridge does, and reads no bridges
+pub record KeptByRemains (P : Fact) : Type 0 where
+  pub told : (event : Event) {b : Stage} {s : Switch} → P b s → P b (with_event event s)
+  pub globals : (globals : Variables) {b : Stage} {s : Switch} → P b s → P b (record s { globals = globals })
+  pub bridges : (bridges : BridgeRows) {b : Stage} {s : Switch} → P b s → P b (record s { bridges = bridges })
+  pub remains : (slot : ℕ) (old new : Chan) {b : Stage} {s : Switch} → chan_at s slot ≡ Some old → Remains old new → P b s →
+      P b (with_chan slot (Some new) s)
+  pub hung : (named : Members) {b : Stage} {s : Switch} → P b s → P b (after_hangups named s)
+  pub more : {s : Switch} → P (Some 0) s → P (Some 1) s
+  pub gone : (slot : ℕ) (old : Chan) {s : Switch} → chan_at s slot ≡ Some old → is_live old ≡ false → P (Some 0) s →
+      P (Some 1) (with_chan slot None s)
+
+pub stays_remains : (old new : Chan) → Stays old new → Remains old new
+stays_remains old new stays = record {
+  uuid = ap (λ (l : Links). l.uuid) stays.links;
+  partner = ap (λ (l : Links). l.partner) stays.links;
+  live = stays.live;
+  short = stays.short;
+}
+
+-- a slot stays lively where its channel lives on
+lively_put : (s : Switch) (slot place : ℕ) (old new : Chan) → chan_at s place ≡ Some old → is_live new ≡ is_live old → Lively s slot →
+    Lively (with_chan place (Some new) s) slot
+lively_put s slot place old new there live h c is = by (cases_eq slot place)
+  where
+    by : (slot ≡ place) ⊎ (slot ≡ place → ⊥) → is_live c ≡ true
+    by (inl same) =
+        let here : held_in (with_held s.channels place (Some new)) slot ≡ Some new =
+        ap (held_in (with_held s.channels place (Some new))) same
+        ∙ held_here s.channels place (Some new) (held_within s.channels place old there) in
+        ap is_live (same_Some c new (sym is ∙ here)) ∙ live ∙ h old (ap (held_in s.channels) same ∙ there)
+    by (inr other) = h c (sym (held_there s.channels place slot (Some new) other) ∙ is)
+
+-- what leaves channels alive leaves slots lively
+lively_touches : (slot : ℕ) → KeptByTouches (λ b s. Lively s slot)
+lively_touches slot = record {
+  told = λ event h. h;
+  globals = λ globals h. h;
+  changed = λ place old new {s = s} there stays h. lively_put s slot place old new there stays.live h;
+  answers = λ place leg number {s = s} h. subst (λ (channels : List (Option Chan)). (c : Chan) → held_in channels slot ≡ Some c →
+      is_live c ≡ true)
+      (sym (orig_changed_channels (leg_changed (λ position. with_answer position place) leg) number s)) h;
+}
+
+lively_peer : (slot place other : ℕ) (s : Switch) → Lively s slot → Lively (with_peer place other s) slot
+lively_peer slot place other s h = by (chan_at s other)
+  where
+    by : (found : Option Chan) → Lively (with_peer_from place other found s) slot
+    by None = h
+    by (Some d) =
+        changed_there (λ (t : Switch). Lively t slot) (bridged (peer_of other d)) place s
+        (λ c there. lively_put s slot place c (bridged (peer_of other d) c) there refl h) h
+
+lively_join : (kind : BridgeKind) (a b slot : ℕ) (s : Switch) → Lively s slot → Lively (after_join kind a b s) slot
+lively_join kind a b slot s h = by (can_join a b s)
+  where
+    by : (test : Bool) → Lively (if test then joined_as kind a b s else s) slot
+    by true = lively_peer slot b a (with_peer a b (with_bridge a b kind s)) (lively_peer slot a b (with_bridge a b kind s) h)
+    by false = h
+
+-- such a fact is kept by what channels do, and by those that dial, if it is where a leg that has won comes into media
+module _ (before : Switch) (P : Fact) (same : (b : Stage) (t u : Switch) → P b t → front_of u ≡ front_of t → P b u)
+    (kept : KeptByRemains P) (births : KeptByBirths P)
+    (media : (orig : ℕ) (leg : OrigLeg) (slots : List ℕ) → HasWon before orig leg slots → (u : Switch) →
+    (Lively (raced slots before) (unwrap_or leg.slot 0) → Lively u (unwrap_or leg.slot 0)) → P (Some 0) u →
+    P (Some 0) (after_move in_media (unwrap_or leg.slot 0) u)) where
+  touches : KeptByTouches P
+  touches = record {
+    told = kept.told;
+    globals = kept.globals;
+    changed = λ slot old new there stays h. kept.remains slot old new there (stays_remains old new stays) h;
+    answers = λ place slot number {b = b} {s = s} h.
+        same b s _ h (orig_changed_front (leg_changed (λ position. with_answer position place) slot) number s);
+  }
+
+  changed_remains : (change : Chan → Chan) (slot : ℕ) (b : Stage) (s : Switch) → ((c : Chan) → Remains c (change c)) → P b s →
+      P b (with_changed_chan change slot s)
+  changed_remains change slot b s remains h =
+      changed_there (P b) change slot s (λ c there. kept.remains slot c (change c) there (remains c) h) h
+
+  moved_remains : (change : Chan → Chan) (slot : ℕ) (b : Stage) (s : Switch) →
+      ((c : Chan) → chan_at s slot ≡ Some c → Remains c (change c)) → P b s → P b (after_move change slot s)
+  moved_remains change slot b s remains h =
+      moved_there (P b) (λ event t k. kept.told event k) change slot s
+      (λ c there. kept.remains slot c (change c) there (remains c there) h) h
+
+  -- ---- bridges
+
+  peer_remains : (slot other : ℕ) (b : Stage) (s : Switch) → P b s → P b (with_peer slot other s)
+  peer_remains slot other b s h = by (chan_at s other)
+    where
+      by : (found : Option Chan) → P b (with_peer_from slot other found s)
+      by None = h
+      by (Some d) =
+          changed_remains (bridged (peer_of other d)) slot b s
+          (λ c. record { uuid = refl; partner = refl; live = refl; short = λ short. short }) h
+
+  joined_remains : (kind : BridgeKind) (caller answerer : ℕ) (b : Stage) (s : Switch) → P b s → P b (joined_as kind caller answerer s)
+  joined_remains kind caller answerer b s h =
+      kept.told (bridge_event (next_bridge_number s))
+      (peer_remains answerer caller b (with_peer caller answerer (with_bridge caller answerer kind s))
+      (peer_remains caller answerer b (with_bridge caller answerer kind s) (kept.bridges (joined caller answerer kind s.bridges) h)))
+
+  join_remains : (kind : BridgeKind) (caller answerer : ℕ) (b : Stage) (s : Switch) → P b s → P b (after_join kind caller answerer s)
+  join_remains kind caller answerer b s h = by (can_join caller answerer s)
+    where
+      by : (test : Bool) → P b (if test then joined_as kind caller answerer s else s)
+      by true = joined_remains kind caller answerer b s h
+      by false = h
+
+  left_remains : (slot : ℕ) (b : Stage) (s : Switch) → P b s → P b (after_leaving slot s)
+  left_remains slot b s h =
+      let awaited : Option ℕ = option_and_then awaited_by (chan_at s slot) in
+      changed_remains at_leisure slot b (orig_given_up slot awaited s)
+      (λ c. record { uuid = refl; partner = refl; live = refl; short = λ short. short })
+      (same b s (orig_given_up slot awaited s) h (given_up_front slot awaited s))
+
+  pub calls_by_remains : KeptByCalls P
+  calls_by_remains = record {
+    touches = touches;
+    hung = kept.hung;
+    joined = λ kind caller answerer c d {b = b} {s = s} can there other one two h. joined_remains kind caller answerer b s h;
+    leaves = λ slot {b = b} {s = s} apart h. left_remains slot b s h;
+    more = kept.more;
+    gone = kept.gone;
+  }
+
+  -- ---- channels that dial
+
+  failed_remains : (cause : Cause) (slot : ℕ) (s : Switch) → P (Some 0) s → P (Some 0) (after_bridge_failure cause slot s)
+  unfolding after_bridge_failure
+  failed_remains cause slot s h = by (chan_at s slot)
+    where
+      told : P (Some 0) (disposed (cause_name cause) slot s)
+      told = disposed_kept P touches (cause_name cause) slot h
+
+      on : (onward : Bool) → P (Some 0) (after_going_on onward cause slot (disposed (cause_name cause) slot s))
+      on true =
+          kept.told (plain_event ChannelExecuteComplete)
+          (moved_remains at_rest slot (Some 0) (disposed (cause_name cause) slot s)
+          (λ c there. record { uuid = refl; partner = refl; live = refl; short = λ short. short }) told)
+      on false = kept.hung ((slot, cause) ∷ []) told
+
+      by : (found : Option Chan) → P (Some 0) (bridge_failed_from found cause slot s)
+      by None = h
+      by (Some c) = on (goes_on cause c.vars)
+
+  won_remains : (slot leg : ℕ) (s : Switch) →
+      ((u : Switch) → (Lively s leg → Lively u leg) → P (Some 0) u → P (Some 0) (after_move in_media leg u)) → P (Some 0) s →
+      P (Some 0) (after_bridge_win slot leg s)
+  unfolding after_bridge_win
+  won_remains slot leg s comes h =
+      let t : Switch = after_answer slot s in
+      let u : Switch = disposed (codes "SUCCESS") slot t in
+      comes (after_join Dial slot leg u)
+      (λ live. lively_join Dial slot leg leg u
+      (disposed_kept (λ b v. Lively v leg) (lively_touches leg) (codes "SUCCESS") slot {b = None} {s = t}
+      (answered_kept (λ b v. Lively v leg) (lively_touches leg) slot {b = None} {s = s} live)))
+      (join_remains Dial slot leg (Some 0) u
+      (disposed_kept P touches (codes "SUCCESS") slot {b = Some 0} {s = t} (answered_kept P touches slot {b = Some 0} {s = s} h)))
+
+  dialed_remains : (slot : ℕ) (c : Chan) (groups : List (List LegPlan)) (timeout : ℕ) (s : Switch) → P None s →
+      P (Some 0)
+      (tried_by_slot slot groups timeout (next_orig_number s) (group_dialed (Some c) (first_group groups) (next_orig_number s) s))
+  dialed_remains slot c groups timeout s h =
+      let number : ℕ = next_orig_number s in
+      let plans : List LegPlan = all_behind (exported_pairs c.vars) (first_group groups) in
+      let made : MadeGroup = group_made plans (caller_of c) number s in
+      let begun : Switch = orig_begun (owner.Slot slot) groups made.legs timeout made.state in
+      moved_remains (awaiting number) slot (Some 0) begun
+      (λ d there. record { uuid = refl; partner = refl; live = refl; short = λ short. short })
+      (same (Some 0) made.state begun (group_made_kept P births plans (caller_of c) number {n = 0} {s = s} (births.spent h)) refl)
+
+  regroups_same : (number : ℕ) (made : MadeGroup) → P (Some 0) made.state → P (Some 0) (with_group number made)
+  regroups_same number made h = same (Some 0) made.state _ h (orig_changed_front (at_next_group made.legs) number made.state)
+
+  pub dials_by_remains : KeptByDials before P
+  dials_by_remains = record {
+    spent = births.spent;
+    dials = λ slot c groups timeout {s = s} there works are h. dialed_remains slot c groups timeout s h;
+    regroups = λ number o plans caller {s = s} there next h. regroups_same number (group_made plans caller number s)
+        (group_made_kept P births plans caller number {n = 0} {s = s} h);
+    fails = λ slot orig cause {s = s} waits h. failed_remains cause slot (without_orig orig s) (same (Some 0) s (without_orig orig s) h refl);
+    wins = λ slot orig leg slots waits won h.
+        won_remains slot (unwrap_or leg.slot 0) (without_orig orig (raced slots before)) (media orig leg slots won)
+        (same (Some 0) (raced slots before) (without_orig orig (raced slots before)) h refl);
+  }
+
+-- ---- what happens to connections and jobs
+
+-- a fact that reads neither these nor originations is kept by all moves, if what channels do keeps it, and a leg that wins
+module _ (before : Switch) (P : Fact) (same : (b : Stage) (t u : Switch) → P b t → front_of u ≡ front_of t → P b u)
+    (calls : KeptByCalls P) (births : KeptByBirths P) (dials : KeptByDials before P)
+    (wins : (job conn : ℕ) (winner : Winner) (caller : Caller) (orig : ℕ) (leg : OrigLeg) (slots : List ℕ) →
+    DoesJob (raced slots before) job conn (Originate orig winner caller) → HasWon before orig leg slots →
+    P (Some 0) (raced slots before) → P (Some 0) (after_winning winner (unwrap_or leg.slot 0) (raced slots before))) where
   changed_same : (change : Conn → Conn) (conn n : ℕ) (s : Switch) → P (Some n) s → P (Some n) (conn_changed change conn s)
   changed_same change conn n s h = same (Some n) s _ h (conn_changed_front change conn s)
 
   ended_same : (number conn : ℕ) (answer : Text) (s : Switch) → P (Some 0) s → P (Some 0) (after_job_end number conn answer s)
   ended_same number conn answer s h = same (Some 0) s _ h (ended_front number conn answer s)
 
-  over_same : (a : Attempt) (answer : Text) (s : Switch) → P (Some 0) s →
-      P (Some 0) (after_job_end a.job a.conn answer (without_orig a.orig s))
-  over_same a answer s h = ended_same a.job a.conn answer (without_orig a.orig s) (same (Some 0) s _ h refl)
+  over_same : (job conn orig : ℕ) (answer : Text) (s : Switch) → P (Some 0) s → P (Some 0) (after_job_end job conn answer (without_orig orig s))
+  over_same job conn orig answer s h = ended_same job conn answer (without_orig orig s) (same (Some 0) s _ h refl)
 
   sleeps_same : (conn until : ℕ) (s : Switch) → P None s → P (Some 0) (after_job_begin conn (Sleep until) s)
   sleeps_same conn until s h = same (Some 0) s _ (births.spent h) (owing_front conn (Sleep until) s)
@@ -103,7 +334,7 @@ module _ (before : Switch) (P : Fact) (same : (b : Stage) (t u : Switch) → P b
   tried_same : (conn : ℕ) (groups : List (List LegPlan)) (winner : Winner) (caller : Caller) (timeout orig : ℕ) (made : MadeGroup) →
       P (Some 0) made.state → P (Some 0) (tried_by_job conn groups winner caller timeout orig made)
   tried_same conn groups winner caller timeout orig made h =
-      same (Some 0) made.state _ h (owing_front conn (Originate orig winner caller) (orig_begun groups made.legs timeout made.state))
+      same (Some 0) made.state _ h (owing_front conn (Originate orig winner caller) (orig_begun (owner.Job (next_job_number made.state)) groups made.legs timeout made.state))
 
   originates_same : (conn : ℕ) (groups : List (List LegPlan)) (winner : Winner) (caller : Caller) (timeout : Option ℕ) (s : Switch) →
       P None s → P (Some 0) (originate_begun conn groups winner caller timeout s)
@@ -112,21 +343,17 @@ module _ (before : Switch) (P : Fact) (same : (b : Stage) (t u : Switch) → P b
       (group_made (first_group groups) caller (next_orig_number s) s)
       (group_made_kept P births (first_group groups) caller (next_orig_number s) {n = 0} {s = s} (births.spent h))
 
-  regroups_same : (number : ℕ) (made : MadeGroup) → P (Some 0) made.state → P (Some 0) (with_group number made)
-  regroups_same number made h = same (Some 0) made.state _ h (orig_changed_front (at_next_group made.legs) number made.state)
-
   pub moves_by_front : KeptByMoves before P
   moves_by_front = record {
     calls = calls;
     jobs = record {
       woken = λ number conn until answer {s = s} does h. ended_same number conn answer s h;
-      failed = λ a winner caller cause {s = s} does h. over_same a (failed_text cause) s h;
-      wins = λ a winner caller leg slots does won h.
-          over_same a (made_text leg.uuid) (after_winning winner (unwrap_or leg.slot 0) (raced slots before))
-          (wins a winner caller leg slots does won h);
-      regroups = λ number o plans caller {s = s} there next h. regroups_same number (group_made plans caller number s)
-          (group_made_kept P births plans caller number {n = 0} {s = s} h);
+      failed = λ job conn winner caller orig cause {s = s} does h. over_same job conn orig (failed_text cause) s h;
+      wins = λ job conn winner caller orig leg slots does won h.
+          over_same job conn orig (made_text leg.uuid) (after_winning winner (unwrap_or leg.slot 0) (raced slots before))
+          (wins job conn winner caller orig leg slots does won h);
     };
+    dials = dials;
     commands = λ conn. record {
       spent = births.spent;
       gave = λ frame h. same _ _ _ h refl;

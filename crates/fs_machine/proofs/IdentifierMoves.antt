@@ -2,22 +2,26 @@
 use Rattle.std.proofs.Common.{◌≡◌, ℕ, ◌+◌, ◌<◌, false, List, length, Option, None, Some, unwrap_or, refl, sym, ap, subst, ◌∙◌, arith}
 use Rattle.std.proofs.Common.{length-set}
 use Rattle.fs_text.specs.Texts.{Text}
-use Rattle.fs_text.specs.declared.causes.Cause.{Cause}
+use Rattle.fs_bridge.specs.Closure.{Members}
 use Rattle.fs_chan.specs.declared.chan.Chan.{Chan}
-use Rattle.fs_chan.specs.Changes.{hung_up}
+use Rattle.fs_chan.specs.Bridging.{unbridged, in_media}
+use Rattle.fs_chan.specs.Changes.{at_rest, parked, hung_up}
 use Rattle.fs_orig.specs.declared.winner.Winner.{Winner}
 use Rattle.fs_orig.specs.declared.winner.Winner.TheVariants.{App, Route}
-use Rattle.fs_orig.specs.Changes.{with_answer}
 use Rattle.fs_places.specs.Places.{held_in}
 use Rattle.fs_places.proofs.HeldLemmas.{IsFree, held_there}
 use Rattle.fs_state.specs.Switch.{Switch, chan_at, with_chan, with_next_identifier, identifier_of}
-use Rattle.fs_state.specs.Moves.{after_move_from, orig_changed, leg_changed, after_hangup}
+use Rattle.fs_state.specs.Moves.{after_move_from, after_move, orig_changed}
+use Rattle.fs_state.specs.Hangups.{after_hangups}
 use Rattle.fs_machine.specs.declared.originations.Call.{Call}
 use Rattle.fs_machine.specs.declared.originations.End.{End}
 use Rattle.fs_machine.specs.Originations.{end_of, end_made, named_end_made, leg_end, far_end, pair_made, is_misnamed, won_by, after_winning}
-use Rattle.fs_machine.proofs.Kept.{Stage, Fact, Links, raced, KeptByMoves}
-use Rattle.fs_machine.proofs.Walk.{state_told_kept, hung_kept}
-use Rattle.fs_machine.proofs.FrontLemmas.{Front, front_of, orig_changed_front, moves_by_front}
+use Rattle.fs_machine.proofs.Kept.{Stage, Fact, KeptByBirths, raced, KeptByMoves}
+use Rattle.fs_machine.proofs.StayLemmas.{state_told_kept, moved_there}
+use Rattle.fs_machine.proofs.ClosureLemmas.{hangs_up}
+use Rattle.fs_machine.proofs.HangLemmas.{Falls, Cut, Unbridged, Rests, Parks, hangups_kept}
+use Rattle.fs_machine.proofs.FrontLemmas.{Front, front_of, orig_changed_front, KeptByRemains, calls_by_remains, dials_by_remains}
+use Rattle.fs_machine.proofs.FrontLemmas.{moves_by_front}
 use Rattle.fs_machine.proofs.SeenLemmas.{Seen, seen, put, Numbers, numbers_then, numbers_quietly, numbers_more, numbers_same, numbers_gone}
 use Rattle.fs_machine.proofs.SeenLemmas.{numbers_new, numbers_named}
 use Rattle.fs_machine.proofs.NameLemmas.{name_foreign, name_unheld, leg_chan, with_leg, leg_channels}
@@ -70,12 +74,19 @@ module _ (x : Seen) where
       seen_in : Front → Seen
       seen_in f = record { channels = f.channels; identifiers = f.identifiers; config = f.config }
 
-  hung_numbers : (more : ℕ) (cause : Cause) (slot : ℕ) (s : Switch) → Numbers more x (seen s) →
-      Numbers more x (seen (after_hangup cause slot s))
-  hung_numbers more cause slot s h =
-      hung_kept (λ (t : Switch). Numbers more x (seen t)) (λ event t plain k. k)
-      (λ why place c t is k. put_numbers more place c (hung_up why c) t is refl k)
-      (λ change number t k. front_numbers more t (orig_changed change number t) (orig_changed_front change number t) k) cause slot s h
+  falls_numbers : (hangs : ℕ → Bool) (more slot : ℕ) (old new : Chan) (s : Switch) → chan_at s slot ≡ Some old →
+      Falls hangs slot old new → Numbers more x (seen s) → Numbers more x (seen (with_chan slot (Some new) s))
+  falls_numbers hangs more slot old new s there (Cut cause hung) h = put_numbers more slot old (hung_up cause old) s there refl h
+  falls_numbers hangs more slot old new s there (Unbridged cause) h = put_numbers more slot old (unbridged cause old) s there refl h
+  falls_numbers hangs more slot old new s there (Rests outlives) h = put_numbers more slot old (at_rest old) s there refl h
+  falls_numbers hangs more slot old new s there (Parks outlives) h = put_numbers more slot old (parked old) s there refl h
+
+  hung_numbers : (more : ℕ) (named : Members) (s : Switch) → Numbers more x (seen s) → Numbers more x (seen (after_hangups named s))
+  hung_numbers more named s h =
+      hangups_kept named s (λ (t : Switch). Numbers more x (seen t)) (λ event t k. k)
+      (λ place old new t there falls k. falls_numbers (λ at. hangs_up at named s) more place old new t there falls k) (λ number t k. k)
+      (λ change number t k. front_numbers more t (orig_changed change number t) (orig_changed_front change number t) k)
+      (λ number t k. k) h
 
   won_numbers : (winner : Winner) (slot : ℕ) (s : Switch) → Numbers 0 x (seen s) → Numbers 0 x (seen (after_winning winner slot s))
   unfolding after_winning
@@ -88,29 +99,42 @@ module _ (x : Seen) where
       by : (found : Option Chan) → chan_at s slot ≡ found → Numbers 0 x (seen (after_move_from (won_by winner) slot found s))
       by None is = h
       by (Some c) is =
-          state_told_kept (λ (t : Switch). Numbers 0 x (seen t)) (λ event t plain k. k) c.state
+          state_told_kept (λ (t : Switch). Numbers 0 x (seen t)) (λ event t k. k) c.state
           (won_by winner c).state {s = with_chan slot (Some (won_by winner c)) s}
           (put_numbers 0 slot c (won_by winner c) s is (same_uuid winner c) h)
 
+  media_numbers : (slot : ℕ) (s : Switch) → Numbers 0 x (seen s) → Numbers 0 x (seen (after_move in_media slot s))
+  media_numbers slot s h =
+      moved_there (λ (t : Switch). Numbers 0 x (seen t)) (λ event t k. k) in_media slot s
+      (λ c there. put_numbers 0 slot c (in_media c) s there refl h) h
+
+  same_numbers : (b : Stage) (t u : Switch) → Numbers (freed_by b) x (seen t) → front_of u ≡ front_of t → Numbers (freed_by b) x (seen u)
+  same_numbers b t u h same = front_numbers (freed_by b) t u same h
+
+  remains_numbers : KeptByRemains (NumbersFrom x)
+  remains_numbers = record {
+    told = λ event h. h;
+    globals = λ globals h. h;
+    bridges = λ bridges h. h;
+    remains = λ slot old new {b = b} {s = s} there remains h. put_numbers (freed_by b) slot old new s there remains.uuid h;
+    hung = λ named {b = b} {s = s} h. hung_numbers (freed_by b) named s h;
+    more = λ {s = s} h. numbers_more x (seen s) h;
+    gone = λ slot old {s = s} there dead h. numbers_then x (seen s) (put slot None (seen s)) h (numbers_gone (seen s) slot old there);
+  }
+
+  births_numbers : KeptByBirths (NumbersFrom x)
+  births_numbers = record {
+    spent = λ h. h;
+    pair = λ call orig a b {n = n} {s = s} short named first second h.
+        numbers_quietly n x (seen s) (seen (pair_made call orig a b s)) h (pair_numbers call orig a b s named first second);
+  }
+
   pub numbers_moves : (before : Switch) → KeptByMoves before (NumbersFrom x)
   numbers_moves before =
-      moves_by_front before (NumbersFrom x) (λ b t u h same. front_numbers (freed_by b) t u same h)
-      (record {
-        told = λ event plain h. h;
-        globals = λ globals h. h;
-        changed =
-            λ slot old new {b = b} {s = s} there stays h. put_numbers (freed_by b) slot old new s there
-            (ap (λ (l : Links). l.uuid) stays.links) h;
-        answers = λ place slot number {b = b} {s = s} h.
-            front_numbers (freed_by b) s (orig_changed (leg_changed (λ position. with_answer position place) slot) number s)
-            (orig_changed_front (leg_changed (λ position. with_answer position place) slot) number s) h;
-        hung = λ cause slot {b = b} {s = s} h. hung_numbers (freed_by b) cause slot s h;
-        more = λ {s = s} h. numbers_more x (seen s) h;
-        gone = λ slot old {s = s} there dead h. numbers_then x (seen s) (put slot None (seen s)) h (numbers_gone (seen s) slot old there);
-      })
-      (record {
-        spent = λ h. h;
-        pair = λ call orig a b {n = n} {s = s} short named first second h.
-            numbers_quietly n x (seen s) (seen (pair_made call orig a b s)) h (pair_numbers call orig a b s named first second);
-      })
-      (λ a winner caller leg slots does won h. won_numbers winner (unwrap_or leg.slot 0) (raced slots before) h)
+      moves_by_front before (NumbersFrom x) same_numbers
+      (calls_by_remains before (NumbersFrom x) same_numbers remains_numbers births_numbers
+      (λ orig leg slots won u live h. media_numbers (unwrap_or leg.slot 0) u h))
+      births_numbers
+      (dials_by_remains before (NumbersFrom x) same_numbers remains_numbers births_numbers
+      (λ orig leg slots won u live h. media_numbers (unwrap_or leg.slot 0) u h))
+      (λ job conn winner caller orig leg slots does won h. won_numbers winner (unwrap_or leg.slot 0) (raced slots before) h)

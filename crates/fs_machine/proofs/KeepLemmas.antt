@@ -8,6 +8,7 @@ use Rattle.fs_frame.specs.Block.{line_of}
 use Rattle.fs_cmd.specs.Commands.{Command, command_of}
 use Rattle.fs_orig.specs.declared.caller.Caller.{Caller}
 use Rattle.fs_orig.specs.declared.leg.OrigLeg.{OrigLeg}
+use Rattle.fs_orig.specs.declared.orig.Owner.TheVariants as owner
 use Rattle.fs_orig.specs.declared.plan.LegPlan.{LegPlan}
 use Rattle.fs_orig.specs.declared.winner.Winner.{Winner}
 use Rattle.fs_places.specs.declared.numbered.Numbered.{Numbered}
@@ -22,23 +23,22 @@ use Rattle.fs_state.specs.declared.conn.Parting.{Parting}
 use Rattle.fs_state.specs.declared.conn.Parting.TheVariants as parting
 use Rattle.fs_state.specs.declared.job.JobWork.{JobWork}
 use Rattle.fs_state.specs.declared.job.JobWork.TheVariants.{Sleep, Originate}
-use Rattle.fs_state.specs.Switch.{Switch, conn_of, next_orig_number, is_full_of_jobs, with_new_job, without_job, without_orig, with_gift}
+use Rattle.fs_state.specs.Switch.{Switch, conn_of, next_orig_number, next_job_number, is_full_of_jobs, with_new_job, without_job, without_orig, with_gift}
 use Rattle.fs_machine.specs.declared.entry.Act.{Act}
 use Rattle.fs_machine.specs.declared.entry.Act.TheVariants as act
 use Rattle.fs_machine.specs.declared.entry.Closing.TheVariants as closing
-use Rattle.fs_machine.specs.declared.attempts.Attempt.{Attempt}
 use Rattle.fs_machine.specs.Texts.{made_text, failed_text}
 use Rattle.fs_machine.specs.Connections.{conn_changed_from, conn_changed, admitted, parted, owed_since, not_owed, phase_of, phase_at}
 use Rattle.fs_machine.specs.Questions.{parting_of, owed_of}
 use Rattle.fs_machine.specs.Originations.{MadeGroup, group_made, after_winning}
-use Rattle.fs_machine.specs.Attempts.{first_group, orig_begun, tried_by_job, originate_begun, with_group}
+use Rattle.fs_machine.specs.Attempts.{first_group, orig_begun, tried_by_job, originate_begun}
 use Rattle.fs_machine.specs.Jobs.{job_done}
 use Rattle.fs_machine.specs.Owing.{after_job_begin, after_job_end}
 use Rattle.fs_machine.specs.Commands.{command_done}
 use Rattle.fs_machine.specs.Work.{after_work}
 use Rattle.fs_machine.specs.Step.{is_closed, act_done}
-use Rattle.fs_machine.proofs.Kept.{Fact, KeptByCalls, raced, KeptByJobs, LeavesBy, KeptByCommands}
-use Rattle.fs_machine.proofs.RestLemmas.{Rest, rest_of, calls_by_rest, group_made_rest, regrouped_rest, worked_rest, won_rest}
+use Rattle.fs_machine.proofs.Kept.{Fact, KeptByCalls, raced, KeptByJobs, KeptByDials, LeavesBy, KeptByCommands}
+use Rattle.fs_machine.proofs.RestLemmas.{Rest, rest_of, calls_by_rest, dials_by_rest, group_made_rest, worked_rest, won_rest}
 use Rattle.fs_machine.proofs.ActWalk.{job_kept, commanded_kept}
 
 -- the connections of a switch, with what waits for them and what numbers them
@@ -227,7 +227,7 @@ begun_keeps : (conn : ℕ) (groups : List (List LegPlan)) (winner : Winner) (cal
     (s : Switch) → sockets_of made.state ≡ sockets_of s →
     Keeps (Some conn) false s (tried_by_job conn groups winner caller timeout orig made)
 begun_keeps conn groups winner caller timeout orig made s same =
-    let begun : Switch = orig_begun groups made.legs timeout made.state in
+    let begun : Switch = orig_begun (owner.Job (next_job_number made.state)) groups made.legs timeout made.state in
     keeps_trans s begun (tried_by_job conn groups winner caller timeout orig made) (keeps_same s begun same)
     (owing_keeps conn (Originate orig winner caller) begun)
 
@@ -242,34 +242,30 @@ calls_keep who s = calls_by_rest (KeepsFrom who s) (λ b t u h same. keeps_on s 
 
 -- the jobs that end
 module _ (s : Switch) where
-  over_keeps : (a : Attempt) (answer : Text) (t u : Switch) → sockets_of u ≡ sockets_of t → Keeps None false s t →
-      Keeps None false s (after_job_end a.job a.conn answer (without_orig a.orig u))
-  over_keeps a answer t u same h =
-      keeps_trans s (without_orig a.orig u) (after_job_end a.job a.conn answer (without_orig a.orig u))
-      (keeps_on s t (without_orig a.orig u) h same)
-      (ended_keeps a.job a.conn answer (without_orig a.orig u))
+  over_keeps : (job conn orig : ℕ) (answer : Text) (t u : Switch) → sockets_of u ≡ sockets_of t → Keeps None false s t →
+      Keeps None false s (after_job_end job conn answer (without_orig orig u))
+  over_keeps job conn orig answer t u same h =
+      keeps_trans s (without_orig orig u) (after_job_end job conn answer (without_orig orig u))
+      (keeps_on s t (without_orig orig u) h same)
+      (ended_keeps job conn answer (without_orig orig u))
 
-  wins_keep : (a : Attempt) (winner : Winner) (leg : OrigLeg) (t : Switch) → Keeps None false s t →
-      Keeps None false s (after_job_end a.job a.conn (made_text leg.uuid)
-      (without_orig a.orig (after_winning winner (unwrap_or leg.slot 0) t)))
-  wins_keep a winner leg t h =
+  wins_keep : (job conn orig : ℕ) (winner : Winner) (leg : OrigLeg) (t : Switch) → Keeps None false s t →
+      Keeps None false s (after_job_end job conn (made_text leg.uuid)
+      (without_orig orig (after_winning winner (unwrap_or leg.slot 0) t)))
+  wins_keep job conn orig winner leg t h =
       let u : Switch = after_winning winner (unwrap_or leg.slot 0) t in
-      over_keeps a (made_text leg.uuid) t u (sockets_same t u (won_rest winner (unwrap_or leg.slot 0) t)) h
-
-  regroups_keep : (number : ℕ) (plans : List LegPlan) (caller : Caller) (t : Switch) → Keeps None false s t →
-      Keeps None false s (with_group number (group_made plans caller number t))
-  regroups_keep number plans caller t h =
-      let u : Switch = with_group number (group_made plans caller number t) in
-      keeps_on s t u h (sockets_same t u (regrouped_rest number plans caller t))
+      over_keeps job conn orig (made_text leg.uuid) t u (sockets_same t u (won_rest winner (unwrap_or leg.slot 0) t)) h
 
   jobs_keep : KeptByJobs s (KeepsFrom None s)
   jobs_keep = record {
     woken = λ number conn until answer {s = t} does h. keeps_trans s t (after_job_end number conn answer t) h
         (ended_keeps number conn answer t);
-    failed = λ a winner caller cause {s = t} does h. over_keeps a (failed_text cause) t t refl h;
-    wins = λ a winner caller leg slots does won h. wins_keep a winner leg (raced slots s) h;
-    regroups = λ number o plans caller {s = t} there next h. regroups_keep number plans caller t h;
+    failed = λ job conn winner caller orig cause {s = t} does h. over_keeps job conn orig (failed_text cause) t t refl h;
+    wins = λ job conn winner caller orig leg slots does won h. wins_keep job conn orig winner leg (raced slots s) h;
   }
+
+  dials_keep : KeptByDials s (KeepsFrom None s)
+  dials_keep = dials_by_rest s (KeepsFrom None s) (λ b t u h same. keeps_on s t u h (sockets_same t u same)) (λ t h. h)
 
 -- the commands of a connection
 module _ (conn : ℕ) (s : Switch) where
@@ -316,7 +312,7 @@ work_keeps : (slot : ℕ) (s : Switch) → Keeps None false s (after_work slot s
 work_keeps slot s = keeps_same s (after_work slot s) (sockets_same s (after_work slot s) (worked_rest slot s))
 
 job_done_keeps : (number : ℕ) (s : Switch) → Keeps None false s (job_done number s)
-job_done_keeps number s = job_kept s (KeepsFrom None s) (calls_keep None s) (jobs_keep s) number (keeps_refl s)
+job_done_keeps number s = job_kept s (KeepsFrom None s) (calls_keep None s) (dials_keep s) (jobs_keep s) number (keeps_refl s)
 
 commanded_keeps : (conn : ℕ) (command : Command) (s : Switch) → Keeps (Some conn) false s (command_done conn command s)
 commanded_keeps conn command s =

@@ -2,6 +2,7 @@
 use Rattle.std.proofs.Common.{◌≡◌, ℕ, List, Option, None, Some, unwrap_or, refl, sym, ap, subst}
 use Rattle.fs_text.specs.Texts.{Text}
 use Rattle.fs_orig.specs.declared.caller.Caller.{Caller}
+use Rattle.fs_orig.specs.declared.orig.Owner.TheVariants as owner
 use Rattle.fs_orig.specs.declared.plan.LegPlan.{LegPlan}
 use Rattle.fs_orig.specs.declared.winner.Winner.{Winner}
 use Rattle.fs_places.specs.declared.numbered.Numbered.{Numbered}
@@ -18,11 +19,11 @@ use Rattle.fs_state.specs.Switch.{Switch, next_orig_number, next_job_number, wit
 use Rattle.fs_machine.specs.Texts.{made_text, failed_text}
 use Rattle.fs_machine.specs.Connections.{conn_changed, admitted, parted, owed_since, not_owed}
 use Rattle.fs_machine.specs.Originations.{MadeGroup, group_made, after_winning}
-use Rattle.fs_machine.specs.Attempts.{first_group, orig_begun, originate_begun, with_group}
+use Rattle.fs_machine.specs.Attempts.{first_group, orig_begun, originate_begun}
 use Rattle.fs_machine.specs.Owing.{after_job_begin, after_job_end}
 use Rattle.fs_machine.proofs.Kept.{Fact, DoesJob, raced, IsShortWinner, KeptByMoves}
 use Rattle.fs_machine.proofs.FrontLemmas.{conn_unread}
-use Rattle.fs_machine.proofs.RestLemmas.{Rest, rest_of, calls_by_rest, group_made_rest, regrouped_rest, won_rest}
+use Rattle.fs_machine.proofs.RestLemmas.{Rest, rest_of, calls_by_rest, dials_by_rest, group_made_rest, won_rest}
 
 -- the winner that work has is routed by short texts
 abbrev pub IsShortWork : JobWork → Type 0
@@ -77,7 +78,8 @@ originates_winners : (conn : ℕ) (groups : List (List LegPlan)) (winner : Winne
     WinnersAreShort (originate_begun conn groups winner caller timeout s).jobs
 originates_winners conn groups winner caller timeout s short h =
     let made : MadeGroup = group_made (first_group groups) caller (next_orig_number s) s in
-    owing_winners conn (Originate (next_orig_number s) winner caller) (orig_begun groups made.legs (unwrap_or timeout 60) made.state) short
+    owing_winners conn (Originate (next_orig_number s) winner caller) (orig_begun (owner.Job (next_job_number made.state)) groups made.legs (unwrap_or timeout 60) made.state)
+    short
     (rest_winners s made.state (group_made_rest (first_group groups) caller (next_orig_number s) s) h)
 
 pub winners_moves : (before : Switch) → KeptByMoves before Winners
@@ -85,15 +87,14 @@ winners_moves before = record {
   calls = calls_by_rest Winners (λ b t u h same. rest_winners t u same h) (λ t h. h);
   jobs = record {
     woken = λ number conn until answer {s = s} does h. ended_winners number conn answer s h;
-    failed = λ a winner caller cause {s = s} does h. ended_winners a.job a.conn (failed_text cause) (without_orig a.orig s) h;
-    wins = λ a winner caller leg slots does won h.
+    failed = λ job conn winner caller orig cause {s = s} does h. ended_winners job conn (failed_text cause) (without_orig orig s) h;
+    wins = λ job conn winner caller orig leg slots does won h.
         let t : Switch = raced slots before in
         let u : Switch = after_winning winner (unwrap_or leg.slot 0) t in
-        ended_winners a.job a.conn (made_text leg.uuid) (without_orig a.orig u)
+        ended_winners job conn (made_text leg.uuid) (without_orig orig u)
         (rest_winners t u (won_rest winner (unwrap_or leg.slot 0) t) h);
-    regroups = λ number o plans caller {s = s} there next h.
-        rest_winners s (with_group number (group_made plans caller number s)) (regrouped_rest number plans caller s) h;
   };
+  dials = dials_by_rest before Winners (λ b t u h same. rest_winners t u same h) (λ t h. h);
   commands = λ conn. record {
     spent = λ h. h;
     gave = λ frame h. h;

@@ -1,15 +1,21 @@
 -- What holds of the channels, and of the legs of originations, in every switch that a run comes to.
 use Rattle.std.specs.Prelude.{◌≡◌, ◌≢◌, ℕ, true, Some, slice_get}
 use Rattle.fs_text.specs.declared.causes.Cause.{Cause}
+use Rattle.fs_bridge.specs.declared.row.Row.{Row}
+use Rattle.fs_bridge.specs.Closure.{peer_in}
+use Rattle.fs_bridge.specs.Hangups.{IsOneOf}
 use Rattle.fs_chan.specs.declared.chan.Chan.{Chan}
+use Rattle.fs_chan.specs.declared.peer.Peer.{Peer}
+use Rattle.fs_chan.specs.Bridging.{awaited_by}
 use Rattle.fs_chan.specs.Changes.{is_live, HasShortFields}
 use Rattle.fs_orig.specs.declared.leg.OrigLeg.{OrigLeg}
 use Rattle.fs_orig.specs.declared.orig.Orig.{Orig}
+use Rattle.fs_orig.specs.declared.orig.Owner.TheVariants as owner
 use Rattle.fs_orig.specs.declared.verdict.Verdict.TheVariants.{Failed}
 use Rattle.fs_orig.specs.Legs.{lives}
 use Rattle.fs_orig.specs.Meaning.{IsWithCauses, IsLastToDie}
 use Rattle.fs_orig.specs.Verdicts.{verdict_of}
-use Rattle.fs_state.specs.Switch.{Switch, chan_at, orig_of}
+use Rattle.fs_state.specs.Switch.{Switch, chan_at, bridge_at, orig_of}
 use Rattle.fs_machine.specs.Owed.{AreOwed}
 
 -- a live channel stands in a slot, and the one in another slot is its loopback partner
@@ -69,6 +75,48 @@ pub record FailuresAreTold (s : Switch) : Type 0 where
   pub causes : (number : ℕ) (o : Orig) → orig_of s number ≡ Some o → IsWithCauses o.legs
   pub last : (number now : ℕ) (o : Orig) (cause : Cause) → orig_of s number ≡ Some o → verdict_of now o ≡ Failed cause →
       IsLastToDie o.legs cause
+
+-- a live channel stands in a slot, and names the one in another slot as its peer, by its identifier
+pub record HasPeer (s : Switch) (slot other : ℕ) : Type 0 where
+  pub chan : Chan
+  pub there : chan_at s slot ≡ Some chan
+  pub live : is_live chan ≡ true
+  pub peer : Chan
+  pub peer_there : chan_at s other ≡ Some peer
+  pub names : chan.peer ≡ Some (record { slot = other; uuid = peer.uuid })
+
+-- a channel that names a peer is a leg of the bridge with it
+pub record IsLegWith (s : Switch) (slot : ℕ) (peer : Peer) : Type 0 where
+  pub row : Row
+  pub part : bridge_at s slot ≡ Some row
+  pub other : peer.slot ≡ peer_in row slot
+
+-- The two legs of a bridge differ, are part of no other one, are live channels and name each other, and whoever names a peer is a leg of a
+-- bridge with it.
+pub record RowsAgree (s : Switch) : Type 0 where
+  pub apart : (row : Row) → IsOneOf row s.bridges.rows → row.caller ≢ row.answerer
+  pub caller : (row : Row) → IsOneOf row s.bridges.rows → bridge_at s row.caller ≡ Some row
+  pub answerer : (row : Row) → IsOneOf row s.bridges.rows → bridge_at s row.answerer ≡ Some row
+  pub legs : (slot : ℕ) (row : Row) → bridge_at s slot ≡ Some row → HasPeer s slot (peer_in row slot)
+  pub back : (slot : ℕ) (c : Chan) (peer : Peer) → chan_at s slot ≡ Some c → c.peer ≡ Some peer → IsLegWith s slot peer
+
+-- a live channel stands in a slot, and waits for the verdict on an origination
+pub record Awaits (s : Switch) (slot number : ℕ) : Type 0 where
+  pub chan : Chan
+  pub there : chan_at s slot ≡ Some chan
+  pub live : is_live chan ≡ true
+  pub waits : awaited_by chan ≡ Some number
+
+-- the origination of a number is that of the channel in a slot
+pub record IsOwnedBy (s : Switch) (slot number : ℕ) : Type 0 where
+  pub orig : Orig
+  pub there : orig_of s number ≡ Some orig
+  pub owned : orig.owner ≡ owner.Slot slot
+
+-- the channel that owns an origination waits for it, and a channel owns what it waits for
+pub record OwnersWait (s : Switch) : Type 0 where
+  pub wait : (slot number : ℕ) → IsOwnedBy s slot number → Awaits s slot number
+  pub own : (slot number : ℕ) (c : Chan) → chan_at s slot ≡ Some c → awaited_by c ≡ Some number → IsOwnedBy s slot number
 
 -- what holds of the state of every machine
 pub record IsSound (s : Switch) : Type 0 where

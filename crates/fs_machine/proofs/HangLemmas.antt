@@ -1,0 +1,139 @@
+-- What a hangup comes to, step by step: a fact is kept that bears each single step.
+use Rattle.std.proofs.Common.{◌≡◌, ℕ, Bool, true, false, if◌then◌else◌, List, [], ◌∷◌, Option, None, Some, ◌⊎◌, inl, inr, refl}
+use Rattle.std.specs.List.{find}
+use Rattle.fs_text.specs.declared.states.State.TheVariants.{CsHangup}
+use Rattle.fs_text.specs.declared.causes.Cause.{Cause}
+use Rattle.fs_text.specs.declared.event_names.EventName.TheVariants.{ChannelExecuteComplete}
+use Rattle.fs_bridge.specs.declared.after.After.{After}
+use Rattle.fs_bridge.specs.declared.after.After.TheVariants.{GoOn, Hangup, Park}
+use Rattle.fs_bridge.specs.declared.row.Row.{Row}
+use Rattle.fs_bridge.specs.Closure.{Member, Members, Ends, closure_of}
+use Rattle.fs_bridge.specs.Hangups.{IsOneOf}
+use Rattle.fs_bridge.proofs.SettledLemmas.{one_stands}
+use Rattle.fs_chan.specs.declared.chan.Chan.{Chan}
+use Rattle.fs_chan.specs.Bridging.{awaited_by, unbridged}
+use Rattle.fs_chan.specs.Changes.{is_live, at_rest, parked, hung_up}
+use Rattle.fs_orig.specs.declared.orig.Orig.{Orig}
+use Rattle.fs_orig.specs.Changes.{with_death}
+use Rattle.fs_state.specs.declared.event.Event.{Event}
+use Rattle.fs_state.specs.Switch.{Switch, chan_at, with_chan, without_bridge, orig_of, without_orig, with_event}
+use Rattle.fs_state.specs.Moves.{plain_event, with_state_events, with_changed_chan, after_move, after_completion, orig_changed, leg_changed}
+use Rattle.fs_state.specs.Moves.{is_owner, its_leg_changed, hangup_event, given_up_by, orig_given_up, after_hangup_from, after_one_hangup}
+use Rattle.fs_state.specs.Hangups.{world_of, Ended, after_end, after_ends, unbridge_event, is_leg_of, with_end_told, untold_by, after_member}
+use Rattle.fs_state.specs.Hangups.{after_members, after_survival, after_survivals, after_closure, living_of, after_hangups}
+use Rattle.fs_machine.proofs.ClosureLemmas.{members_for, hangs_up, survivors_stay}
+use Rattle.fs_machine.proofs.StayLemmas.{state_told_kept, differing_kept, moved_there, changed_there}
+
+-- what a channel becomes by a hangup: it is hung up, its bridge has ended, or it outlives its bridge
+pub data Falls (hangs : ℕ → Bool) (slot : ℕ) (c : Chan) : Chan → Type 0 where
+  Cut : (cause : Cause) → hangs slot ≡ true → Falls hangs slot c (hung_up cause c)
+  Unbridged : (cause : Cause) → Falls hangs slot c (unbridged cause c)
+  Rests : hangs slot ≡ false → Falls hangs slot c (at_rest c)
+  Parks : hangs slot ≡ false → Falls hangs slot c (parked c)
+
+-- an origination is given up, where what it dialed is
+module _ (P : Switch → Type 0) (gives_up : (number : ℕ) (s : Switch) → P s → P (without_orig number s)) where
+  whether : (test : Bool) (s t : Switch) → P s → P t → P (if test then s else t)
+  whether true s t first second = first
+  whether false s t first second = second
+
+  pub given_up_kept : (slot : ℕ) (awaited : Option ℕ) (s : Switch) → P s → P (orig_given_up slot awaited s)
+  given_up_kept slot None s h = h
+  given_up_kept slot (Some number) s h = by (orig_of s number)
+    where
+      by : (found : Option Orig) → P (given_up_by slot number found s)
+      by None = h
+      by (Some o) = whether (is_owner slot o.owner) (without_orig number s) s (gives_up number s h) h
+
+module _ (hangs : ℕ → Bool) (P : Switch → Type 0) (told : (event : Event) (s : Switch) → P s → P (with_event event s))
+    (falls : (slot : ℕ) (old new : Chan) (s : Switch) → chan_at s slot ≡ Some old → Falls hangs slot old new → P s →
+    P (with_chan slot (Some new) s))
+    (ends : (number : ℕ) (s : Switch) → P s → P (without_bridge number s))
+    (legs : (change : Orig → Orig) (number : ℕ) (s : Switch) → P s → P (orig_changed change number s))
+    (gives_up : (number : ℕ) (s : Switch) → P s → P (without_orig number s)) where
+  -- ---- bridges that end
+
+  unbridged_kept : (cause : Cause) (slot : ℕ) (s : Switch) → P s → P (with_changed_chan (unbridged cause) slot s)
+  unbridged_kept cause slot s h =
+      changed_there P (unbridged cause) slot s (λ c is. falls slot c (unbridged cause c) s is (Unbridged cause) h) h
+
+  end_kept : (row : Row) (cause : Cause) (s : Switch) → P s → P (after_end row cause s)
+  end_kept row cause s h =
+      unbridged_kept cause row.answerer (with_changed_chan (unbridged cause) row.caller (without_bridge row.number s))
+      (unbridged_kept cause row.caller (without_bridge row.number s) (ends row.number s h))
+
+  ends_kept : (ended : List Ended) (s : Switch) → P s → P (after_ends ended s)
+  ends_kept [] s h = h
+  ends_kept (e ∷ ended) s h = ends_kept ended (after_end e.0 e.1 s) (end_kept e.0 e.1 s h)
+
+  -- ---- who is hung up
+
+  its_leg_kept : (change : ℕ → Orig → Orig) (slot : ℕ) (leg_of : Option ℕ) (s : Switch) → P s → P (its_leg_changed change slot leg_of s)
+  its_leg_kept change slot None s h = h
+  its_leg_kept change slot (Some number) s h = legs (leg_changed change slot) number s h
+
+  one_hung_kept : (cause : Cause) (slot : ℕ) (s : Switch) → hangs slot ≡ true → P s → P (after_one_hangup cause slot s)
+  one_hung_kept cause slot s hung h = by (chan_at s slot) refl
+    where
+      by : (found : Option Chan) → chan_at s slot ≡ found → P (after_hangup_from cause slot found s)
+      by None is = h
+      by (Some c) is =
+          differing_kept P told (is_live c)
+          (given_up_kept P gives_up slot (awaited_by c)
+          (its_leg_changed (λ position. with_death position s.entries cause) slot c.leg_of
+          (with_state_events c.state CsHangup (with_event (hangup_event cause) (with_chan slot (Some (hung_up cause c)) s))))
+          (its_leg_kept (λ position. with_death position s.entries cause) slot c.leg_of
+          (with_state_events c.state CsHangup (with_event (hangup_event cause) (with_chan slot (Some (hung_up cause c)) s)))
+          (state_told_kept P told c.state CsHangup
+          (told (hangup_event cause) (with_chan slot (Some (hung_up cause c)) s)
+          (falls slot c (hung_up cause c) s is (Cut cause hung) h))))) h
+
+  end_told_kept : (found : Option Ended) (s : Switch) → P s → P (with_end_told found s)
+  end_told_kept None s h = h
+  end_told_kept (Some e) s h = told (unbridge_event e.0) s h
+
+  members_kept : (untold : List Ended) (members : Members) (s : Switch) → ((m : Member) → IsOneOf m members → hangs m.0 ≡ true) → P s →
+      P (after_members untold members s)
+  members_kept untold [] s all h = h
+  members_kept untold (m ∷ members) s all h =
+      members_kept (untold_by m.0 untold) members (after_member untold m s) (λ other one. all other (inr one))
+      (one_hung_kept m.1 m.0 (with_end_told (find (is_leg_of m.0) untold) s) (all m (inl refl))
+      (end_told_kept (find (is_leg_of m.0) untold) s h))
+
+  -- ---- who outlives a bridge
+
+  survival_kept : (what : After) (slot : ℕ) (s : Switch) → hangs slot ≡ false → P s → P (after_survival what slot s)
+  survival_kept GoOn slot s outlives h =
+      told (plain_event ChannelExecuteComplete) (after_move at_rest slot s)
+      (moved_there P told at_rest slot s (λ c is. falls slot c (at_rest c) s is (Rests outlives) h) h)
+  survival_kept Park slot s outlives h = moved_there P told parked slot s (λ c is. falls slot c (parked c) s is (Parks outlives) h) h
+  survival_kept (Hangup cause) slot s outlives h = h
+
+  survivals_kept : (survivors : List (ℕ × After)) (s : Switch) → ((one : ℕ × After) → IsOneOf one survivors → hangs one.0 ≡ false) → P s →
+      P (after_survivals survivors s)
+  survivals_kept [] s none h = h
+  survivals_kept (one ∷ survivors) s none h =
+      survivals_kept survivors (after_survival one.1 one.0 s) (λ other is. none other (inr is))
+      (survival_kept one.1 one.0 s (none one (inl refl)) h)
+
+  -- ---- all of it
+
+  pub closure_kept : (e : Ends) (s : Switch) → ((m : Member) → IsOneOf m e.members → hangs m.0 ≡ true) →
+      ((one : ℕ × After) → IsOneOf one e.survivors → hangs one.0 ≡ false) → P s → P (after_closure e s)
+  closure_kept e s all none h =
+      survivals_kept e.survivors (after_members e.ended e.members (after_ends e.ended s)) none
+      (members_kept e.ended e.members (after_ends e.ended s) all (ends_kept e.ended s h))
+
+-- those who hang up are members, and those who outlive a bridge are none
+module _ (named : Members) (before : Switch) (P : Switch → Type 0) (told : (event : Event) (s : Switch) → P s → P (with_event event s))
+    (falls : (slot : ℕ) (old new : Chan) (s : Switch) → chan_at s slot ≡ Some old →
+    Falls (λ at. hangs_up at named before) slot old new → P s → P (with_chan slot (Some new) s))
+    (ends : (number : ℕ) (s : Switch) → P s → P (without_bridge number s))
+    (legs : (change : Orig → Orig) (number : ℕ) (s : Switch) → P s → P (orig_changed change number s))
+    (gives_up : (number : ℕ) (s : Switch) → P s → P (without_orig number s)) where
+  pub hangups_kept : P before → P (after_hangups named before)
+  unfolding after_hangups
+  hangups_kept h =
+      closure_kept (λ at. hangs_up at named before) P told falls ends legs gives_up
+      (closure_of (world_of before) (living_of before named)) before (λ m one. one_stands m (members_for named before) one)
+      (λ one is. survivors_stay named before one is) h

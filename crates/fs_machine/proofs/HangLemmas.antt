@@ -62,7 +62,7 @@ module _ (hangs : ℕ → Bool) (P : Switch → Type 0) (told : (event : Event) 
       unbridged_kept cause row.answerer (with_changed_chan (unbridged cause) row.caller (without_bridge row.number s))
       (unbridged_kept cause row.caller (without_bridge row.number s) (ends row.number s h))
 
-  ends_kept : (ended : List Ended) (s : Switch) → P s → P (after_ends ended s)
+  pub ends_kept : (ended : List Ended) (s : Switch) → P s → P (after_ends ended s)
   ends_kept [] s h = h
   ends_kept (e ∷ ended) s h = ends_kept ended (after_end e.0 e.1 s) (end_kept e.0 e.1 s h)
 
@@ -92,7 +92,7 @@ module _ (hangs : ℕ → Bool) (P : Switch → Type 0) (told : (event : Event) 
   end_told_kept None s h = h
   end_told_kept (Some e) s h = told (unbridge_event e.0) s h
 
-  members_kept : (untold : List Ended) (members : Members) (s : Switch) → ((m : Member) → IsOneOf m members → hangs m.0 ≡ true) → P s →
+  pub members_kept : (untold : List Ended) (members : Members) (s : Switch) → ((m : Member) → IsOneOf m members → hangs m.0 ≡ true) → P s →
       P (after_members untold members s)
   members_kept untold [] s all h = h
   members_kept untold (m ∷ members) s all h =
@@ -109,7 +109,7 @@ module _ (hangs : ℕ → Bool) (P : Switch → Type 0) (told : (event : Event) 
   survival_kept Park slot s outlives h = moved_there P told parked slot s (λ c is. falls slot c (parked c) s is (Parks outlives) h) h
   survival_kept (Hangup cause) slot s outlives h = h
 
-  survivals_kept : (survivors : List (ℕ × After)) (s : Switch) → ((one : ℕ × After) → IsOneOf one survivors → hangs one.0 ≡ false) → P s →
+  pub survivals_kept : (survivors : List (ℕ × After)) (s : Switch) → ((one : ℕ × After) → IsOneOf one survivors → hangs one.0 ≡ false) → P s →
       P (after_survivals survivors s)
   survivals_kept [] s none h = h
   survivals_kept (one ∷ survivors) s none h =

@@ -1,27 +1,252 @@
 -- Each act keeps the agreement of loopback partners.
-use Rattle.std.proofs.Common.{◌≡◌, ℕ, ◌+◌, Bool, true, false, cond, nat_lt, [], ◌∷◌, Option, None, Some, option_and_then, unwrap_or, refl}
-use Rattle.std.proofs.Common.{sym, ap, subst, ◌∙◌, arith}
+use Rattle.std.proofs.Common.{◌≡◌, ℕ, ◌+◌, ◌==◌, Bool, true, false, List, [], ◌∷◌, Option, None, Some, option_and_then, unwrap_or, ◌⊎◌, inl}
+use Rattle.std.proofs.Common.{inr, refl, sym, ap, subst, ◌∙◌, arith, true≢false}
+use Rattle.std.specs.List.{find}
+use Rattle.std.proofs.lemmas.Bool.{cases_eq, eqb-true, or_cases, false≢true}
+use Rattle.std.proofs.lemmas.Option.{none-some}
 use Rattle.fs_text.specs.declared.causes.Cause.{Cause}
+use Rattle.fs_bridge.specs.declared.after.After.{After}
+use Rattle.fs_bridge.specs.Closure.{Members, Ends, closure_of}
+use Rattle.fs_bridge.specs.Orders.{has_slot}
 use Rattle.fs_chan.specs.declared.chan.Chan.{Chan}
-use Rattle.fs_chan.specs.Changes.{is_live}
+use Rattle.fs_chan.specs.Bridging.{unbridged, in_media}
+use Rattle.fs_chan.specs.Changes.{is_live, at_rest, parked, hung_up}
+use Rattle.fs_orig.specs.declared.orig.Orig.{Orig}
 use Rattle.fs_orig.specs.declared.winner.Winner.{Winner}
 use Rattle.fs_orig.specs.declared.winner.Winner.TheVariants.{App, Route}
-use Rattle.fs_orig.specs.Changes.{with_answer}
-use Rattle.fs_places.proofs.HeldLemmas.{IsFree, held_within}
-use Rattle.fs_state.specs.Switch.{Switch, chan_at, with_chan}
-use Rattle.fs_state.specs.Moves.{after_move_from, orig_changed, leg_changed, partner_of, partner_at, after_one_hangup, after_hangup_with}
-use Rattle.fs_state.specs.Moves.{after_hangup}
+use Rattle.fs_places.specs.Places.{held_in, with_held}
+use Rattle.fs_places.proofs.HeldLemmas.{IsFree, held_here, held_there, held_within}
+use Rattle.fs_state.specs.Switch.{Switch, chan_at, with_chan, without_bridge, without_orig, with_event}
+use Rattle.fs_state.specs.Moves.{after_move_from, after_move, orig_changed, partner_of, after_one_hangup}
+use Rattle.fs_state.specs.Hangups.{world_of, living_of, Ended, after_ends, is_leg_of, with_end_told, untold_by, after_member, after_members}
+use Rattle.fs_state.specs.Hangups.{after_survivals, after_hangups}
 use Rattle.fs_machine.specs.declared.originations.Call.{Call}
 use Rattle.fs_machine.specs.Originations.{pair_made, won_by, after_winning}
-use Rattle.fs_machine.proofs.Kept.{Fact, Links, raced, KeptByMoves}
-use Rattle.fs_machine.proofs.Walk.{new_lives, execute_lives, routing_lives, state_told_kept}
+use Rattle.fs_machine.proofs.Kept.{Stage, Fact, KeptByBirths, raced, KeptByMoves}
+use Rattle.fs_machine.proofs.StayLemmas.{new_lives, execute_lives, routing_lives, park_lives, exchange_lives, state_told_kept, moved_there}
+use Rattle.fs_machine.proofs.StayLemmas.{orig_changed_channels}
+use Rattle.fs_machine.proofs.ClosureLemmas.{NoneAtZero, hangs_up, members_lived, partner_hangs_up}
+use Rattle.fs_machine.proofs.HangLemmas.{Falls, Cut, Unbridged, Rests, Parks, ends_kept, members_kept, survivals_kept, hangups_kept}
 use Rattle.fs_machine.proofs.NameLemmas.{leg_chan, far_chan, pair_channels}
-use Rattle.fs_machine.proofs.FrontLemmas.{Front, front_of, orig_changed_front, moves_by_front}
-use Rattle.fs_machine.proofs.PartnerLemmas.{one_closed, two_closed}
-use Rattle.fs_machine.proofs.TieLemmas.{lives_as, named_in, Ties, ties_put, ties_gone, ties_joined, cut_off_ties}
+use Rattle.fs_machine.proofs.FrontLemmas.{Front, front_of, KeptByRemains, calls_by_remains, dials_by_remains, moves_by_front}
+use Rattle.fs_machine.proofs.TieLemmas.{lives_as, lives_in, HungAs, hung_by, named_in, Ties, ties_put, ties_gone, ties_joined}
+
+-- ---- who hangs up, and who does not
+
+-- a slot names the partner that it named, and lives if it lived
+record Spared (s t : Switch) (slot : ℕ) : Type 0 where
+  names : named_in partner_of t.channels slot ≡ named_in partner_of s.channels slot
+  live : lives_in s.channels slot ≡ true → lives_in t.channels slot ≡ true
+
+spared_put : (s t : Switch) (slot place : ℕ) (old new : Chan) → chan_at t place ≡ Some old →
+    (slot ≡ place → (new.partner ≡ old.partner) × (is_live old ≡ true → is_live new ≡ true)) → Spared s t slot →
+    Spared s (with_chan place (Some new) t) slot
+spared_put s t slot place old new there keeps h = by (cases_eq slot place)
+  where
+    here : slot ≡ place → chan_at t slot ≡ Some old
+    here same = ap (held_in t.channels) same ∙ there
+
+    now : slot ≡ place → held_in (with_held t.channels place (Some new)) slot ≡ Some new
+    now same =
+        ap (held_in (with_held t.channels place (Some new))) same
+        ∙ held_here t.channels place (Some new) (held_within t.channels place old there)
+
+    by : (slot ≡ place) ⊎ (slot ≡ place → ⊥) → Spared s (with_chan place (Some new) t) slot
+    by (inl same) = record {
+      names = ap (option_and_then partner_of) (now same) ∙ (keeps same).0 ∙ (sym (ap (option_and_then partner_of) (here same)) ∙ h.names);
+      live = λ lived. ap lives_as (now same) ∙ (keeps same).1 (sym (ap lives_as (here same)) ∙ h.live lived);
+    }
+    by (inr other) = record {
+      names = ap (option_and_then partner_of) (held_there t.channels place slot (Some new) other) ∙ h.names;
+      live = λ lived. ap lives_as (held_there t.channels place slot (Some new) other) ∙ h.live lived;
+    }
+
+spared_falls : (hangs : ℕ → Bool) (s t : Switch) (slot place : ℕ) (old new : Chan) → hangs slot ≡ false → chan_at t place ≡ Some old →
+    Falls hangs place old new → Spared s t slot → Spared s (with_chan place (Some new) t) slot
+spared_falls hangs s t slot place old new stays there (Cut cause hung) h =
+    spared_put s t slot place old (hung_up cause old) there (λ same. absurd (true≢false (sym hung ∙ (ap hangs (sym same) ∙ stays)))) h
+spared_falls hangs s t slot place old new stays there (Unbridged cause) h =
+    spared_put s t slot place old (unbridged cause old) there (λ same. (refl, λ live. live)) h
+spared_falls hangs s t slot place old new stays there (Rests outlives) h =
+    spared_put s t slot place old (at_rest old) there (λ same. (refl, λ live. live)) h
+spared_falls hangs s t slot place old new stays there (Parks outlives) h =
+    spared_put s t slot place old (parked old) there (λ same. (refl, λ live. park_lives)) h
+
+spared_changed : (change : Orig → Orig) (number : ℕ) (s t : Switch) (slot : ℕ) → Spared s t slot → Spared s (orig_changed change number t) slot
+spared_changed change number s t slot h = record {
+  names = ap (λ (channels : List (Option Chan)). named_in partner_of channels slot) (orig_changed_channels change number t) ∙ h.names;
+  live = λ lived. ap (λ (channels : List (Option Chan)). lives_in channels slot) (orig_changed_channels change number t) ∙ h.live lived;
+}
+
+spared_told : (s t : Switch) (slot : ℕ) (u : Switch) → u.channels ≡ t.channels → Spared s t slot → Spared s u slot
+spared_told s t slot u same h = record {
+  names = ap (λ (channels : List (Option Chan)). named_in partner_of channels slot) same ∙ h.names;
+  live = λ lived. ap (λ (channels : List (Option Chan)). lives_in channels slot) same ∙ h.live lived;
+}
+
+-- whoever does not hang up is spared
+spared : (named : Members) (s : Switch) (slot : ℕ) → hangs_up slot named s ≡ false → Spared s (after_hangups named s) slot
+spared named s slot stays =
+    hangups_kept named s (λ (t : Switch). Spared s t slot) (λ event t k. spared_told s t slot (with_event event t) refl k)
+    (λ place old new t there falls k. spared_falls (λ at. hangs_up at named s) s t slot place old new stays there falls k)
+    (λ number t k. spared_told s t slot (without_bridge number t) refl k)
+    (λ change number t k. spared_changed change number s t slot k)
+    (λ number t k. spared_told s t slot (without_orig number t) refl k) (record { names = refl; live = λ lived. lived })
+
+-- ---- who hangs up
+
+-- it names none
+abbrev NamesNone : ℕ → Switch → Type 0
+NamesNone slot t = named_in partner_of t.channels slot ≡ None
+
+none_falls : (hangs : ℕ → Bool) (t : Switch) (slot place : ℕ) (old new : Chan) → chan_at t place ≡ Some old → Falls hangs place old new →
+    NamesNone slot t → NamesNone slot (with_chan place (Some new) t)
+none_falls hangs t slot place old new there falls h = by (cases_eq slot place)
+  where
+    kept : (x : Chan) → Falls hangs place old x → old.partner ≡ None → x.partner ≡ None
+    kept x (Cut cause hung) none = refl
+    kept x (Unbridged cause) none = none
+    kept x (Rests outlives) none = none
+    kept x (Parks outlives) none = none
+
+    by : (slot ≡ place) ⊎ (slot ≡ place → ⊥) → NamesNone slot (with_chan place (Some new) t)
+    by (inl same) =
+        ap (option_and_then partner_of)
+        (ap (held_in (with_held t.channels place (Some new))) same
+        ∙ held_here t.channels place (Some new) (held_within t.channels place old there))
+        ∙ kept new falls (sym (ap (option_and_then partner_of) (ap (held_in t.channels) same ∙ there)) ∙ h)
+    by (inr other) = ap (option_and_then partner_of) (held_there t.channels place slot (Some new) other) ∙ h
+
+none_changed : (change : Orig → Orig) (number slot : ℕ) (t : Switch) → NamesNone slot t → NamesNone slot (orig_changed change number t)
+none_changed change number slot t h =
+    ap (λ (channels : List (Option Chan)). named_in partner_of channels slot) (orig_changed_channels change number t) ∙ h
+
+none_members : (untold : List Ended) (members : Members) (slot : ℕ) (t : Switch) → NamesNone slot t →
+    NamesNone slot (after_members untold members t)
+none_members untold members slot t h =
+    members_kept (λ at. true) (NamesNone slot) (λ event u k. k)
+    (λ place old new u there falls k. none_falls (λ at. true) u slot place old new there falls k) (λ number u k. k)
+    (λ change number u k. none_changed change number slot u k) (λ number u k. k) untold members t (λ m one. refl) h
+
+none_survivals : (survivors : List (ℕ × After)) (slot : ℕ) (t : Switch) → NamesNone slot t → NamesNone slot (after_survivals survivors t)
+none_survivals survivors slot t h =
+    survivals_kept (λ at. false) (NamesNone slot) (λ event u k. k)
+    (λ place old new u there falls k. none_falls (λ at. false) u slot place old new there falls k) (λ number u k. k)
+    (λ change number u k. none_changed change number slot u k) (λ number u k. k) survivors t (λ one is. refl) h
+
+hung_here : (cause : Cause) (slot : ℕ) (t : Switch) → lives_in t.channels slot ≡ true → NamesNone slot (after_one_hangup cause slot t)
+hung_here cause slot t live = by (hung_by cause slot t)
+  where
+    by : HungAs cause slot t (after_one_hangup cause slot t).channels → NamesNone slot (after_one_hangup cause slot t)
+    by (inl dead) = absurd (true≢false (sym live ∙ dead.0))
+    by (inr found) =
+        ap (λ (channels : List (Option Chan)). named_in partner_of channels slot) found.2
+        ∙ ap (option_and_then partner_of)
+        (held_here t.channels slot (Some (hung_up cause found.0)) (held_within t.channels slot found.0 found.1))
+
+hung_elsewhere : (cause : Cause) (slot other : ℕ) (t : Switch) → (other ≡ slot → ⊥) →
+    lives_in (after_one_hangup cause slot t).channels other ≡ lives_in t.channels other
+hung_elsewhere cause slot other t apart = by (hung_by cause slot t)
+  where
+    by : HungAs cause slot t (after_one_hangup cause slot t).channels →
+        lives_in (after_one_hangup cause slot t).channels other ≡ lives_in t.channels other
+    by (inl dead) = ap (λ (channels : List (Option Chan)). lives_in channels other) dead.1
+    by (inr found) =
+        ap (λ (channels : List (Option Chan)). lives_in channels other) found.2
+        ∙ ap lives_as (held_there t.channels slot other (Some (hung_up cause found.0)) apart)
+
+end_told_channels : (found : Option Ended) (t : Switch) → (with_end_told found t).channels ≡ t.channels
+end_told_channels None t = refl
+end_told_channels (Some e) t = refl
+
+-- its turn comes
+cut_in : (untold : List Ended) (members : Members) (slot : ℕ) (t : Switch) → has_slot slot members ≡ true →
+    lives_in t.channels slot ≡ true → NamesNone slot (after_members untold members t)
+cut_in untold [] slot t is live = absurd (false≢true is)
+cut_in untold (m ∷ members) slot t is live = by (cases_eq slot m.0)
+  where
+    u : Switch
+    u = with_end_told (find (is_leg_of m.0) untold) t
+
+    alive : lives_in u.channels slot ≡ true
+    alive =
+        ap (λ (channels : List (Option Chan)). lives_in channels slot) (end_told_channels (find (is_leg_of m.0) untold) t) ∙ live
+
+    later : (slot ≡ m.0 → ⊥) → has_slot slot members ≡ true
+    later other =
+        elim (or_cases (m.0 == slot) (has_slot slot members) is) [
+          | inl here ↦ absurd (other (sym (eqb-true m.0 slot here)))
+          | inr there ↦ there
+        ]
+
+    by : (slot ≡ m.0) ⊎ (slot ≡ m.0 → ⊥) → NamesNone slot (after_members untold (m ∷ members) t)
+    by (inl same) =
+        none_members (untold_by m.0 untold) members slot (after_member untold m t)
+        (subst (λ (at : ℕ). NamesNone at (after_one_hangup m.1 m.0 u)) (sym same)
+        (hung_here m.1 m.0 u (ap (lives_in u.channels) (sym same) ∙ alive)))
+    by (inr other) =
+        cut_in (untold_by m.0 untold) members slot (after_member untold m t) (later other) (hung_elsewhere m.1 m.0 slot u other ∙ alive)
+
+ends_spared : (ended : List Ended) (s : Switch) (slot : ℕ) → Spared s (after_ends ended s) slot
+ends_spared ended s slot =
+    ends_kept (λ at. false) (λ (t : Switch). Spared s t slot) (λ event t k. spared_told s t slot (with_event event t) refl k)
+    (λ place old new t there falls k. spared_falls (λ at. false) s t slot place old new refl there falls k)
+    (λ number t k. spared_told s t slot (without_bridge number t) refl k)
+    (λ change number t k. spared_changed change number s t slot k)
+    (λ number t k. spared_told s t slot (without_orig number t) refl k) ended s (record { names = refl; live = λ lived. lived })
+
+-- whoever hangs up names none
+cut : (named : Members) (s : Switch) (slot : ℕ) → hangs_up slot named s ≡ true → NamesNone slot (after_hangups named s)
+unfolding after_hangups
+cut named s slot is =
+    let e : Ends = closure_of (world_of s) (living_of s named) in
+    none_survivals e.survivors slot (after_members e.ended e.members (after_ends e.ended s))
+    (cut_in e.ended e.members slot (after_ends e.ended s) is ((ends_spared e.ended s slot).live (members_lived named s slot is)))
+
+-- ---- partners agree, and nothing stands in slot 0
+
+pub record ArePaired (s : Switch) : Type 0 where
+  pub ties : Ties partner_of s.channels
+  pub zero : NoneAtZero s
 
 abbrev pub Partners : Fact
-Partners b s = Ties partner_of s.channels
+Partners b s = ArePaired s
+
+hung_ties : (named : Members) (s : Switch) → ArePaired s → Ties partner_of (after_hangups named s).channels
+hung_ties named s h = record {
+  back = λ a b e. let was = before a b e (hangs_up a named s) refl in back a b was (hangs_up b named s) refl;
+  live = λ a b e. let was = before a b e (hangs_up a named s) refl in (spared named s a was.1).live (h.ties.live a b was.0);
+}
+  where
+    t : Switch
+    t = after_hangups named s
+
+    before : (a b : ℕ) → named_in partner_of t.channels a ≡ Some b → (test : Bool) → hangs_up a named s ≡ test →
+        (named_in partner_of s.channels a ≡ Some b) × (hangs_up a named s ≡ false)
+    before a b e true is = absurd (none-some b (sym (cut named s a is) ∙ e))
+    before a b e false is = (sym (spared named s a is).names ∙ e, is)
+
+    back : (a b : ℕ) → (named_in partner_of s.channels a ≡ Some b) × (hangs_up a named s ≡ false) → (test : Bool) →
+        hangs_up b named s ≡ test → named_in partner_of t.channels b ≡ Some a
+    back a b was true is =
+        absurd
+        (true≢false
+        (sym (partner_hangs_up named s b a h.zero (h.ties.back a b was.0) (h.ties.live a b was.0) is) ∙ was.1))
+    back a b was false is = (spared named s b is).names ∙ h.ties.back a b was.0
+
+zero_put : (s : Switch) (place : ℕ) (new : Option Chan) → (place ≡ 0 → ⊥) → NoneAtZero s → NoneAtZero (with_chan place new s)
+zero_put s place new apart zero = held_there s.channels place 0 new (λ same. apart (sym same)) ∙ zero
+
+-- a slot in which something stands is not that
+not_zero : (s : Switch) (place : ℕ) (c : Chan) → chan_at s place ≡ Some c → NoneAtZero s → place ≡ 0 → ⊥
+not_zero s place c there zero same = none-some c (sym zero ∙ (ap (chan_at s) (sym same) ∙ there))
+
+hung_zero : (named : Members) (s : Switch) → NoneAtZero s → NoneAtZero (after_hangups named s)
+hung_zero named s zero =
+    hangups_kept named s NoneAtZero (λ event t k. k)
+    (λ place old new t there falls k. zero_put t place (Some new) (not_zero t place old there k) k) (λ number t k. k)
+    (λ change number t k. ap (λ (channels : List (Option Chan)). held_in channels 0) (orig_changed_channels change number t) ∙ k)
+    (λ number t k. k) zero
 
 -- a channel is changed that names the same partner, and lives if it lived
 put_partners : (slot : ℕ) (old new : Chan) (s : Switch) → chan_at s slot ≡ Some old → new.partner ≡ old.partner →
@@ -30,23 +255,6 @@ put_partners : (slot : ℕ) (old new : Chan) (s : Switch) → chan_at s slot ≡
 put_partners slot old new s there same live h =
     ties_put partner_of s.channels slot (Some new) (held_within s.channels slot old there)
     (same ∙ sym (ap (option_and_then partner_of) there)) (λ e. live (sym (ap lives_as there) ∙ e)) h
-
-hung_partners : (cause : Cause) (slot : ℕ) (s : Switch) → Ties partner_of s.channels → Ties partner_of (after_hangup cause slot s).channels
-hung_partners cause slot s h = by (partner_at s slot) refl
-  where
-    in_order : (partner : ℕ) → partner_at s slot ≡ Some partner → (b : Bool) →
-        Ties partner_of (cond b (after_one_hangup cause partner (after_one_hangup cause slot s))
-        (after_one_hangup cause slot (after_one_hangup cause partner s))).channels
-    in_order partner is true =
-        cut_off_ties partner_of (λ why c. refl) cause (slot ∷ partner ∷ []) s
-        (two_closed slot partner (named_in partner_of s.channels) is (h.back slot partner is)) h
-    in_order partner is false =
-        cut_off_ties partner_of (λ why c. refl) cause (partner ∷ slot ∷ []) s
-        (two_closed partner slot (named_in partner_of s.channels) (h.back slot partner is) is) h
-
-    by : (found : Option ℕ) → partner_at s slot ≡ found → Ties partner_of (after_hangup_with cause slot found s).channels
-    by None is = cut_off_ties partner_of (λ why c. refl) cause (slot ∷ []) s (one_closed slot (named_in partner_of s.channels) is) h
-    by (Some partner) is = in_order partner is (nat_lt slot partner)
 
 -- the two ends of a pair name each other
 pair_partners : (call : Call) (orig a b : ℕ) (s : Switch) → IsFree Chan s.channels 1 a → IsFree Chan s.channels (a + 1) b →
@@ -69,31 +277,69 @@ won_partners winner slot s h = by (chan_at s slot) refl
     by : (found : Option Chan) → chan_at s slot ≡ found → Ties partner_of (after_move_from (won_by winner) slot found s).channels
     by None is = h
     by (Some c) is =
-        state_told_kept (λ (t : Switch). Ties partner_of t.channels) (λ event t plain k. k) c.state
+        state_told_kept (λ (t : Switch). Ties partner_of t.channels) (λ event t k. k) c.state
         (won_by winner c).state {s = with_chan slot (Some (won_by winner c)) s} (put winner c is)
 
-same_partners : (f g : Front) → g ≡ f → Ties partner_of f.channels → Ties partner_of g.channels
-same_partners f g same h = subst (λ (x : Front). Ties partner_of x.channels) (sym same) h
+same_partners : (b : Stage) (t u : Switch) → ArePaired t → front_of u ≡ front_of t → ArePaired u
+same_partners b t u h same = record {
+  ties = subst (λ (f : Front). Ties partner_of f.channels) (sym same) h.ties;
+  zero = ap (λ (f : Front). held_in f.channels 0) same ∙ h.zero;
+}
+
+media_partners : (slot : ℕ) (s : Switch) → ArePaired s → ArePaired (after_move in_media slot s)
+media_partners slot s h =
+    moved_there ArePaired (λ event t k. record { ties = k.ties; zero = k.zero }) in_media slot s
+    (λ c there. record {
+      ties = put_partners slot c (in_media c) s there refl (λ live. exchange_lives) h.ties;
+      zero = zero_put s slot (Some (in_media c)) (not_zero s slot c there h.zero) h.zero;
+    }) h
+
+remains_partners : KeptByRemains Partners
+remains_partners = record {
+  told = λ event h. record { ties = h.ties; zero = h.zero };
+  globals = λ globals h. record { ties = h.ties; zero = h.zero };
+  bridges = λ bridges h. record { ties = h.ties; zero = h.zero };
+  remains = λ slot old new {s = s} there remains h. record {
+    ties = put_partners slot old new s there remains.partner (λ live. remains.live ∙ live) h.ties;
+    zero = zero_put s slot (Some new) (not_zero s slot old there h.zero) h.zero;
+  };
+  hung = λ named {s = s} h. record { ties = hung_ties named s h; zero = hung_zero named s h.zero };
+  more = λ h. h;
+  gone = λ slot old {s = s} there dead h. record {
+    ties = ties_gone partner_of s.channels slot old there dead h.ties;
+    zero = zero_put s slot None (not_zero s slot old there h.zero) h.zero;
+  };
+}
+
+births_partners : KeptByBirths Partners
+births_partners = record {
+  spent = λ h. h;
+  pair = λ call orig a b {s = s} short named first second h. record {
+    ties = pair_partners call orig a b s first second h.ties;
+    zero =
+        ap (λ (channels : List (Option Chan)). held_in channels 0) (pair_channels call orig a b s)
+        ∙ held_there (with_held s.channels a (Some (leg_chan call orig a b s))) b 0 (Some (far_chan call orig a b s))
+        (λ same. omega (arith, second.behind, same))
+        ∙ held_there s.channels a 0 (Some (leg_chan call orig a b s)) (λ same. omega (arith, first.behind, same))
+        ∙ h.zero;
+  };
+}
+
+won_zero : (winner : Winner) (slot : ℕ) (s : Switch) → NoneAtZero s → NoneAtZero (after_winning winner slot s)
+unfolding after_winning
+won_zero winner slot s zero =
+    moved_there NoneAtZero (λ event t k. k) (won_by winner) slot s
+    (λ c there. zero_put s slot (Some (won_by winner c)) (not_zero s slot c there zero) zero) zero
 
 pub partners_moves : (before : Switch) → KeptByMoves before Partners
 partners_moves before =
-    moves_by_front before Partners (λ b t u h same. same_partners (front_of t) (front_of u) same h)
-    (record {
-      told = λ event plain h. h;
-      globals = λ globals h. h;
-      changed =
-          λ slot old new {s = s} there stays h. put_partners slot old new s there (ap (λ (l : Links). l.partner) stays.links)
-          (λ lived. stays.live ∙ lived) h;
-      answers =
-          λ place slot number {s = s} h. same_partners (front_of s)
-          (front_of (orig_changed (leg_changed (λ position. with_answer position place) slot) number s))
-          (orig_changed_front (leg_changed (λ position. with_answer position place) slot) number s) h;
-      hung = λ cause slot {s = s} h. hung_partners cause slot s h;
-      more = λ h. h;
-      gone = λ slot old {s = s} there dead h. ties_gone partner_of s.channels slot old there dead h;
+    moves_by_front before Partners same_partners
+    (calls_by_remains before Partners same_partners remains_partners births_partners
+    (λ orig leg slots won u live h. media_partners (unwrap_or leg.slot 0) u h))
+    births_partners
+    (dials_by_remains before Partners same_partners remains_partners births_partners
+    (λ orig leg slots won u live h. media_partners (unwrap_or leg.slot 0) u h))
+    (λ job conn winner caller orig leg slots does won h. record {
+      ties = won_partners winner (unwrap_or leg.slot 0) (raced slots before) h.ties;
+      zero = won_zero winner (unwrap_or leg.slot 0) (raced slots before) h.zero;
     })
-    (record {
-      spent = λ h. h;
-      pair = λ call orig a b {s = s} short named first second h. pair_partners call orig a b s first second h;
-    })
-    (λ a winner caller leg slots does won h. won_partners winner (unwrap_or leg.slot 0) (raced slots before) h)

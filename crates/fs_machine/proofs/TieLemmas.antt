@@ -4,21 +4,21 @@ use Rattle.std.proofs.Common.{inr, refl, sym, ap, subst, ◌∙◌, length-set}
 use Rattle.fs_text.specs.declared.states.State.TheVariants.{CsHangup}
 use Rattle.fs_text.specs.declared.causes.Cause.{Cause}
 use Rattle.fs_chan.specs.declared.chan.Chan.{Chan}
+use Rattle.fs_chan.specs.Bridging.{awaited_by}
 use Rattle.fs_chan.specs.Changes.{is_live, hung_up}
 use Rattle.fs_orig.specs.declared.orig.Orig.{Orig}
 use Rattle.fs_orig.specs.Changes.{with_death}
 use Rattle.fs_places.specs.Places.{held_in, with_held}
 use Rattle.fs_places.proofs.HeldLemmas.{held_here, held_there, held_within, at_each}
 use Rattle.fs_state.specs.Switch.{Switch, chan_at, with_chan, with_event}
-use Rattle.fs_state.specs.Moves.{with_state_events, leg_changed, its_leg_changed, hangup_event, after_hangup_from, after_one_hangup}
-use Rattle.fs_machine.proofs.PartnerLemmas.{LiveNamers, Agree, lone, agree_kept, Cuts, live_cut, CutsAll, AreClosed, none_cut, one_more_cut}
-use Rattle.fs_machine.proofs.PartnerLemmas.{all_cut, joined}
-use Rattle.fs_machine.proofs.Walk.{state_told_kept}
-use Rattle.fs_machine.proofs.FrontLemmas.{Front, orig_changed_front}
+use Rattle.fs_state.specs.Hangups.{lives}
+use Rattle.fs_state.specs.Moves.{with_state_events, its_leg_changed, hangup_event, orig_given_up, after_hangup_from, after_one_hangup}
+use Rattle.fs_machine.proofs.PartnerLemmas.{Agree, lone, agree_kept, joined}
+use Rattle.fs_machine.proofs.StayLemmas.{state_told_kept, its_leg_channels}
+use Rattle.fs_machine.proofs.HangLemmas.{given_up_kept}
 
 abbrev pub lives_as : Option Chan → Bool
-lives_as None = false
-lives_as (Some c) = is_live c
+lives_as found = lives found
 
 abbrev pub lives_in : List (Option Chan) → ℕ → Bool
 lives_in channels slot = lives_as (held_in channels slot)
@@ -41,43 +41,38 @@ wrote places a b first second apart within_a within_b = record {
 -- ---- what a hangup makes of the channels
 
 -- nothing, where none lives in the slot
-abbrev HungAs : Cause → ℕ → Switch → List (Option Chan) → Type 0
+abbrev pub HungAs : Cause → ℕ → Switch → List (Option Chan) → Type 0
 HungAs cause slot s new =
     ((lives_in s.channels slot ≡ false) × (new ≡ s.channels)) ⊎ ((c : Chan) × (chan_at s slot ≡ Some c) × (new ≡ with_held s.channels slot
     (Some (hung_up cause c))))
 
-its_leg_channels : (change : ℕ → Orig → Orig) (slot : ℕ) (leg_of : Option ℕ) (s : Switch) →
-    (its_leg_changed change slot leg_of s).channels ≡ s.channels
-its_leg_channels change slot None s = refl
-its_leg_channels change slot (Some number) s = ap (λ (f : Front). f.channels) (orig_changed_front (leg_changed change slot) number s)
+given_up_channels : (slot : ℕ) (awaited : Option ℕ) (s : Switch) → (orig_given_up slot awaited s).channels ≡ s.channels
+given_up_channels slot awaited s = given_up_kept (λ (t : Switch). t.channels ≡ s.channels) (λ number t h. h) slot awaited s refl
 
-hung_by : (cause : Cause) (slot : ℕ) (s : Switch) → HungAs cause slot s (after_one_hangup cause slot s).channels
+pub hung_by : (cause : Cause) (slot : ℕ) (s : Switch) → HungAs cause slot s (after_one_hangup cause slot s).channels
 hung_by cause slot s = by (chan_at s slot) refl
   where
     of : (c : Chan) → chan_at s slot ≡ Some c → (b : Bool) → is_live c ≡ b →
         HungAs cause slot s
-        (cond b (its_leg_changed (λ position. with_death position s.entries cause) slot c.leg_of
-        (with_state_events c.state CsHangup (with_event (hangup_event cause) (with_chan slot (Some (hung_up cause c)) s)))) s).channels
+        (cond b (orig_given_up slot (awaited_by c) (its_leg_changed (λ position. with_death position s.entries cause) slot c.leg_of
+        (with_state_events c.state CsHangup (with_event (hangup_event cause) (with_chan slot (Some (hung_up cause c)) s))))) s).channels
     of c is true live =
         let cut : Switch = with_event (hangup_event cause) (with_chan slot (Some (hung_up cause c)) s) in
         inr
         ((
           c,
           is,
-          its_leg_channels (λ position. with_death position s.entries cause) slot c.leg_of (with_state_events c.state CsHangup cut)
+          given_up_channels slot (awaited_by c)
+              (its_leg_changed (λ position. with_death position s.entries cause) slot c.leg_of (with_state_events c.state CsHangup cut))
+              ∙ its_leg_channels (λ position. with_death position s.entries cause) slot c.leg_of (with_state_events c.state CsHangup cut)
               ∙ state_told_kept (λ (t : Switch). t.channels ≡ with_held s.channels slot (Some (hung_up cause c)))
-              (λ event t plain h. h) c.state CsHangup {s = cut} refl,
+              (λ event t h. h) c.state CsHangup {s = cut} refl,
         ))
     of c is false dead = inl ((ap lives_as is ∙ dead, refl))
 
     by : (found : Option Chan) → chan_at s slot ≡ found → HungAs cause slot s (after_hangup_from cause slot found s).channels
     by None is = inl ((ap lives_as is, refl))
     by (Some c) is = of c is (is_live c) refl
-
--- slots are hung up, one after another
-abbrev pub cut_off : Cause → List ℕ → Switch → Switch
-cut_off cause [] s = s
-cut_off cause (slot ∷ slots) s = cut_off cause slots (after_one_hangup cause slot s)
 
 -- ---- names
 
@@ -120,61 +115,3 @@ module _ (names : Chan → Option ℕ) where
       (ap (option_and_then names) w.at_a ∙ names_a) (ap (option_and_then names) w.at_b ∙ names_b) (ap lives_as w.at_a ∙ live_a)
       (ap lives_as w.at_b ∙ live_b)
       (λ q not_a not_b. ap (option_and_then names) (w.elsewhere q not_a not_b)) (λ q not_a not_b. ap lives_as (w.elsewhere q not_a not_b))
-
-  -- one that names none any more
-  put_cuts : (channels : List (Option Chan)) (slot : ℕ) (old new : Chan) → held_in channels slot ≡ Some old → names new ≡ None →
-      Cuts slot (named_in channels) (named_in (with_held channels slot (Some new))) (lives_in channels)
-      (lives_in (with_held channels slot (Some new)))
-  put_cuts channels slot old new there none = record {
-    here = ap (option_and_then names) (held_here channels slot (Some new) (held_within channels slot old there)) ∙ none;
-    partners = λ q other. ap (option_and_then names) (held_there channels slot q (Some new) other);
-    lives = λ q other. ap lives_as (held_there channels slot q (Some new) other);
-  }
-
-  -- ---- hangups, which clear what a channel names
-
-  module _ (clears : (cause : Cause) (c : Chan) → names (hung_up cause c) ≡ None) where
-    one_cuts : (cause : Cause) (slot : ℕ) (s : Switch) → LiveNamers (named_in s.channels) (lives_in s.channels) →
-        Cuts slot (named_in s.channels) (named_in (after_one_hangup cause slot s).channels) (lives_in s.channels)
-        (lives_in (after_one_hangup cause slot s).channels)
-    one_cuts cause slot s live = by (hung_by cause slot s)
-      where
-        already : lives_in s.channels slot ≡ false →
-            Cuts slot (named_in s.channels) (named_in s.channels) (lives_in s.channels) (lives_in s.channels)
-        already dead = record {
-          here = lone (named_in s.channels) (lives_in s.channels) slot live dead;
-          partners = λ q other. refl;
-          lives = λ q other. refl;
-        }
-
-        by : HungAs cause slot s (after_one_hangup cause slot s).channels →
-            Cuts slot (named_in s.channels) (named_in (after_one_hangup cause slot s).channels) (lives_in s.channels)
-            (lives_in (after_one_hangup cause slot s).channels)
-        by (inl was) =
-            subst (λ (channels : List (Option Chan)). Cuts slot (named_in s.channels) (named_in channels) (lives_in s.channels)
-            (lives_in channels)) (sym was.1) (already was.0)
-        by (inr found) =
-            subst (λ (channels : List (Option Chan)). Cuts slot (named_in s.channels) (named_in channels) (lives_in s.channels)
-            (lives_in channels)) (sym found.2)
-            (put_cuts s.channels slot found.0 (hung_up cause found.0) found.1 (clears cause found.0))
-
-    all_cuts : (cause : Cause) (slots : List ℕ) (s : Switch) → LiveNamers (named_in s.channels) (lives_in s.channels) →
-        CutsAll slots (named_in s.channels) (named_in (cut_off cause slots s).channels) (lives_in s.channels)
-        (lives_in (cut_off cause slots s).channels)
-    all_cuts cause [] s live = none_cut (named_in s.channels) (lives_in s.channels)
-    all_cuts cause (slot ∷ slots) s live =
-        let t : Switch = after_one_hangup cause slot s in
-        let u : Switch = cut_off cause slots t in
-        let first : Cuts slot (named_in s.channels) (named_in t.channels) (lives_in s.channels) (lives_in t.channels) =
-        one_cuts cause slot s live in
-        one_more_cut slot slots (named_in s.channels) (named_in t.channels) (named_in u.channels) (lives_in s.channels)
-        (lives_in t.channels) (lives_in u.channels) first
-        (all_cuts cause slots t
-        (live_cut slot (named_in s.channels) (named_in t.channels) (lives_in s.channels) (lives_in t.channels) first live))
-
-    -- all that name each other are hung up together
-    pub cut_off_ties : (cause : Cause) (slots : List ℕ) (s : Switch) → AreClosed slots (named_in s.channels) → Ties s.channels →
-        Ties (cut_off cause slots s).channels
-    cut_off_ties cause slots s closed h =
-        all_cut slots (named_in s.channels) (named_in (cut_off cause slots s).channels) (lives_in s.channels)
-        (lives_in (cut_off cause slots s).channels) closed (all_cuts cause slots s h.live) h

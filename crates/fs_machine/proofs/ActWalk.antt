@@ -1,5 +1,5 @@
 -- The walk goes on: jobs, commands and all acts.
-use Rattle.std.proofs.Common.{◌≡◌, ℕ, ◌*◌, nat_lt, Bool, true, false, if◌then◌else◌, List, [], length, slice_get, Option, None, Some}
+use Rattle.std.proofs.Common.{◌≡◌, ℕ, ◌*◌, nat_lt, Bool, true, false, if◌then◌else◌, List, [], ◌∷◌, length, slice_get, Option, None, Some}
 use Rattle.std.proofs.Common.{◌++◌, Result, Ok, Err, refl, sym, ap, subst, ◌∙◌}
 use Rattle.std.specs.Prelude.{◌&&◌, map}
 use Rattle.std.specs.Str.{bytes_eq}
@@ -49,7 +49,7 @@ use Rattle.fs_machine.specs.declared.entry.Closing.TheVariants as closing
 use Rattle.fs_machine.specs.declared.attempts.Party.TheVariants as party
 use Rattle.fs_machine.specs.Texts.{ok, too_many_jobs, made_text, no_channel}
 use Rattle.fs_machine.specs.Connections.{phase_at, conn_changed, admitted}
-use Rattle.fs_machine.specs.Attempts.{failed_for, won_for, group_for, with_group}
+use Rattle.fs_machine.specs.Attempts.{failed_for, won_for, group_for, with_group, after_verdict_on}
 use Rattle.fs_machine.specs.Jobs.{sleep_begun, after_job_work, job_done_from, job_done}
 use Rattle.fs_machine.specs.Done.{Done, says, no_answer_yet}
 use Rattle.fs_machine.specs.Joining.{in_the_way, after_leaving, both_left, both_in_media, joined_done, bridged_unless, bridge_done_at}
@@ -202,7 +202,7 @@ module _ (conn : ℕ) (P : Fact) (calls : KeptByCalls P) (commands : KeptByComma
   done_plainly_kept (api.Expand text) short h = commands.spent h
   done_plainly_kept (api.GlobalGetvar name) short h = commands.spent h
   done_plainly_kept (api.GlobalSetvar name value) {s} short h =
-      done_either (can_set s.globals name value) _ _ (calls.globals (set_to s.globals name value) (commands.spent h)) (commands.spent h)
+      done_either (can_set s.globals name value) _ _ (calls.touches.globals (set_to s.globals name value) (commands.spent h)) (commands.spent h)
   done_plainly_kept (api.Msleep milliseconds) short h = slept_kept milliseconds h
   done_plainly_kept (api.UuidExists uuid) short h = commands.spent h
   done_plainly_kept (api.UuidKill uuid cause) {s} short h = killed_kept cause (slot_named uuid s) h

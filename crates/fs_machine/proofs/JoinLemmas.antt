@@ -57,13 +57,14 @@ apart_put s slot place old new there keeps h = record { bridge = h.bridge; lone 
 
 none_found : (test keep : Row → Bool) (rows : List Row) → find test rows ≡ None → find test (filter keep rows) ≡ None
 none_found test keep [] none = none
-none_found test keep (row ∷ rows) none = by (test row) refl (keep row) none
+none_found test keep (row ∷ rows) none = by (λ rest. none_found test keep rows rest) (test row) refl (keep row) none
   where
-    by : (is : Bool) → test row ≡ is → (kept : Bool) → (if is then Some row else find test rows) ≡ None →
+    by : (find test rows ≡ None → find test (filter keep rows) ≡ None) → (is : Bool) → test row ≡ is → (kept : Bool) →
+        (if is then Some row else find test rows) ≡ None →
         find test (if kept then row ∷ filter keep rows else filter keep rows) ≡ None
-    by true is kept e = absurd (none-some row (sym e))
-    by false is true e = ap (λ found. if found then Some row else find test (filter keep rows)) is ∙ none_found test keep rows e
-    by false is false e = none_found test keep rows e
+    by later true is kept e = absurd (none-some row (sym e))
+    by later false is true e = ap (λ found. if found then Some row else find test (filter keep rows)) is ∙ later e
+    by later false is false e = later e
 
 apart_ends : (number slot : ℕ) (s : Switch) → IsApart s slot → IsApart (without_bridge number s) slot
 apart_ends number slot s h =

@@ -5,6 +5,11 @@ pub mod DueLemmas
 pub mod Kept
 pub mod DialLemmas
 pub mod ShortLemmas
+pub mod StayLemmas
+pub mod ClosureLemmas
+pub mod HangLemmas
+pub mod JoinLemmas
+pub mod TryWalk
 pub mod Walk
 pub mod RestLemmas
 pub mod FrontLemmas

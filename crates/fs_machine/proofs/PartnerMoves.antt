@@ -163,7 +163,8 @@ end_told_channels (Some e) t = refl
 cut_in : (untold : List Ended) (members : Members) (slot : ℕ) (t : Switch) → has_slot slot members ≡ true →
     lives_in t.channels slot ≡ true → NamesNone slot (after_members untold members t)
 cut_in untold [] slot t is live = absurd (false≢true is)
-cut_in untold (m ∷ members) slot t is live = by (cases_eq slot m.0)
+cut_in untold (m ∷ members) slot t is live =
+    by (λ u there alive. cut_in (untold_by m.0 untold) members slot u there alive) (cases_eq slot m.0)
   where
     u : Switch
     u = with_end_told (find (is_leg_of m.0) untold) t
@@ -179,13 +180,14 @@ cut_in untold (m ∷ members) slot t is live = by (cases_eq slot m.0)
           | inr there ↦ there
         ]
 
-    by : (slot ≡ m.0) ⊎ (slot ≡ m.0 → ⊥) → NamesNone slot (after_members untold (m ∷ members) t)
-    by (inl same) =
+    by : ((v : Switch) → has_slot slot members ≡ true → lives_in v.channels slot ≡ true →
+        NamesNone slot (after_members (untold_by m.0 untold) members v)) →
+        (slot ≡ m.0) ⊎ (slot ≡ m.0 → ⊥) → NamesNone slot (after_members untold (m ∷ members) t)
+    by more (inl same) =
         none_members (untold_by m.0 untold) members slot (after_member untold m t)
         (subst (λ (at : ℕ). NamesNone at (after_one_hangup m.1 m.0 u)) (sym same)
         (hung_here m.1 m.0 u (ap (lives_in u.channels) (sym same) ∙ alive)))
-    by (inr other) =
-        cut_in (untold_by m.0 untold) members slot (after_member untold m t) (later other) (hung_elsewhere m.1 m.0 slot u other ∙ alive)
+    by more (inr other) = more (after_member untold m t) (later other) (hung_elsewhere m.1 m.0 slot u other ∙ alive)
 
 ends_spared : (ended : List Ended) (s : Switch) (slot : ℕ) → Spared s (after_ends ended s) slot
 ends_spared ended s slot =

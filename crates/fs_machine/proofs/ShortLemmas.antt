@@ -100,24 +100,26 @@ routing_short exten dialplan context =
     (λ none. tt)
 
 -- whichever name it has
-app_short : (answers evals sleeps hangs_up parks transfers : Bool) (argument : Text) →
+app_short : (answers evals sleeps hangs_up bridges parks transfers : Bool) (argument : Text) →
     apps.IsShortApplication
     (if answers then app.Answer
     else (if evals then app.Eval
     else (if sleeps then apps.sleep_application argument
     else (if hangs_up then apps.hangup_application argument
+    else (if bridges then app.Bridge argument
     else (if parks then app.Park
     else (if transfers then apps.transfer_application (without_spaces argument)
-    else app.Unknown))))))
-app_short true evals sleeps hangs_up parks transfers argument = tt
-app_short false true sleeps hangs_up parks transfers argument = tt
-app_short false false true hangs_up parks transfers argument = tt
-app_short false false false true parks transfers argument = tt
-app_short false false false false true transfers argument = tt
-app_short false false false false false true argument =
+    else app.Unknown)))))))
+app_short true evals sleeps hangs_up bridges parks transfers argument = tt
+app_short false true sleeps hangs_up bridges parks transfers argument = tt
+app_short false false true hangs_up bridges parks transfers argument = tt
+app_short false false false true bridges parks transfers argument = tt
+app_short false false false false true parks transfers argument = tt
+app_short false false false false false true transfers argument = tt
+app_short false false false false false false true argument =
     let text = without_spaces argument in
     routing_short (word_of text) (word_of (behind_word text)) (word_of (behind_word (behind_word text)))
-app_short false false false false false false argument = tt
+app_short false false false false false false false argument = tt
 
 assigned_short : (assignment : Option Assignment) (argument : Text) (other : Application) →
     apps.IsShortApplication other → apps.IsShortApplication (apps.assigned_or assignment argument other)
@@ -126,7 +128,7 @@ assigned_short None argument other short = short
 
 pub application_short : (name argument : Text) → apps.IsShortApplication (application_of name argument)
 unfolding application_of
-application_short name argument = assigned_short (assignment_named name) argument _ (app_short _ _ _ _ _ _ argument)
+application_short name argument = assigned_short (assignment_named name) argument _ (app_short _ _ _ _ _ _ _ argument)
 
 -- ---- the winner that a command names
 
@@ -198,37 +200,44 @@ reading_short : (arguments : Text) → NamesShort (readings.uuid_getvar_of argum
 reading_short arguments =
     needs_short which.UuidGetvar (λ name. api.UuidGetvar (word_of arguments) (word_of name)) (behind_word arguments) (λ name. tt)
 
+joining_short : (arguments : Text) → NamesShort (readings.uuid_bridge_of arguments)
+joining_short arguments =
+    needs_short which.UuidBridge (λ other. api.UuidBridge (word_of arguments) (word_of other)) (behind_word arguments) (λ other. tt)
+
 -- whichever name it has
-command_short : (echoes expands gets sets sleeps tries exists reads kills : Bool) (name arguments : Text) → NamesShort
+command_short : (echoes expands gets sets sleeps tries bridges exists reads kills : Bool) (name arguments : Text) → NamesShort
     (if echoes then api.Echo arguments
     else (if expands then readings.needs which.Expand api.Expand arguments
     else (if gets then readings.global_getvar_of arguments
     else (if sets then readings.needs which.GlobalSetvar readings.global_setvar_of arguments
     else (if sleeps then readings.msleep_of arguments
     else (if tries then originates.originate_of arguments
+    else (if bridges then readings.needs which.UuidBridge readings.uuid_bridge_of arguments
     else (if exists then readings.needs which.UuidExists readings.uuid_exists_of arguments
     else (if reads then readings.needs which.UuidGetvar readings.uuid_getvar_of arguments
     else (if kills then readings.needs which.UuidKill readings.uuid_kill_of arguments
-    else api.Unknown name)))))))))
-command_short true expands gets sets sleeps tries exists reads kills name arguments = tt
-command_short false true gets sets sleeps tries exists reads kills name arguments =
+    else api.Unknown name))))))))))
+command_short true expands gets sets sleeps tries bridges exists reads kills name arguments = tt
+command_short false true gets sets sleeps tries bridges exists reads kills name arguments =
     needs_short which.Expand api.Expand arguments (λ text. tt)
-command_short false false true sets sleeps tries exists reads kills name arguments = getting_short arguments
-command_short false false false true sleeps tries exists reads kills name arguments =
+command_short false false true sets sleeps tries bridges exists reads kills name arguments = getting_short arguments
+command_short false false false true sleeps tries bridges exists reads kills name arguments =
     needs_short which.GlobalSetvar readings.global_setvar_of arguments (λ text. tt)
-command_short false false false false true tries exists reads kills name arguments = sleeping_short (read_u64 (word_of arguments))
-command_short false false false false false true exists reads kills name arguments = originate_short arguments
-command_short false false false false false false true reads kills name arguments =
+command_short false false false false true tries bridges exists reads kills name arguments = sleeping_short (read_u64 (word_of arguments))
+command_short false false false false false true bridges exists reads kills name arguments = originate_short arguments
+command_short false false false false false false true exists reads kills name arguments =
+    needs_short which.UuidBridge readings.uuid_bridge_of arguments joining_short
+command_short false false false false false false false true reads kills name arguments =
     needs_short which.UuidExists readings.uuid_exists_of arguments (λ text. tt)
-command_short false false false false false false false true kills name arguments =
+command_short false false false false false false false false true kills name arguments =
     needs_short which.UuidGetvar readings.uuid_getvar_of arguments reading_short
-command_short false false false false false false false false true name arguments =
+command_short false false false false false false false false false true name arguments =
     needs_short which.UuidKill readings.uuid_kill_of arguments (λ text. tt)
-command_short false false false false false false false false false name arguments = tt
+command_short false false false false false false false false false false name arguments = tt
 
 named_short : (name arguments : Text) → NamesShort (api_named name arguments)
 unfolding api_named
-named_short name arguments = command_short _ _ _ _ _ _ _ _ _ name arguments
+named_short name arguments = command_short _ _ _ _ _ _ _ _ _ _ name arguments
 
 pub api_short : (text : Text) → NamesShort (api_of text)
 api_short text = named_short (word_of (without_spaces text)) (behind_word (without_spaces text))

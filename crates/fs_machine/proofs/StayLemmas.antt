@@ -220,7 +220,7 @@ module _ (P : Switch → Type 0) (told_kept : (event : Event) (s : Switch) → P
   come_told_kept CsPark h = told_kept (plain_event ChannelPark) _ h
   come_told_kept _ h = h
 
-  differing_kept : (b : Bool) {s t : Switch} → P s → P t → P (if b then s else t)
+  pub differing_kept : (b : Bool) {s t : Switch} → P s → P t → P (if b then s else t)
   differing_kept true first second = first
   differing_kept false first second = second
 

@@ -11,7 +11,8 @@ use Rattle.fs_state.specs.declared.conn.Parting.{Parting}
 use Rattle.fs_state.specs.declared.conn.Parting.TheVariants as parting
 use Rattle.fs_state.specs.Switch.{Switch, with_gift}
 use Rattle.fs_machine.specs.Connections.{phase_at, conn_changed, admitted, parted}
-use Rattle.fs_machine.specs.Api.{Done, done_by}
+use Rattle.fs_machine.specs.Done.{Done}
+use Rattle.fs_machine.specs.Api.{done_by}
 
 -- a reply
 abbrev pub with_reply : ℕ → Text → Switch → Switch

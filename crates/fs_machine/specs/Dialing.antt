@@ -1,6 +1,6 @@
 -- How a channel begins to dial a bridge.
-use Rattle.std.specs.Prelude.{ℕ, List, Option, None, Some, Result, Ok, Err, option_or, unwrap_or, codes}
-use Rattle.std.specs.Option.{option_and_then}
+use Rattle.std.specs.Prelude.{ℕ, List, Option, None, Some, Result, Ok, Err, unwrap_or, codes}
+use Rattle.std.specs.Option.{option_and_then, option_or}
 use Rattle.fs_text.specs.Texts.{Text}
 use Rattle.fs_text.specs.declared.causes.Cause.TheVariants.{InvalidNumberFormat}
 use Rattle.fs_vars.specs.Pairs.{value_of}

@@ -21,7 +21,8 @@ use crate::owing::{begin_job, end_job};
 use crate::texts::{failed_text, made_text};
 use fs_chan::moment_after;
 use fs_orig::{
-    Caller, LegGroup, LegPlan, LegPlans, Orig, OrigLeg, OrigLegs, Owner, Verdict, Winner, judge,
+    Caller, LegGroup, LegPlan, LegPlans, Orig, OrigLeg, OrigLegs, Owner, Verdict, Winner,
+    add_living_slots, judge, living_slots,
 };
 use fs_state::{Draft, JobWork};
 use fs_text::{Cause, Memory};
@@ -40,7 +41,9 @@ pub(crate) enum Party {
         caller: Caller,
     },
     /// The channel in a slot, which is joined to the leg that wins.
-    Slot { slot: u16 },
+    Slot {
+        slot: u16,
+    },
 }
 
 impl Drop for Party {
@@ -82,7 +85,13 @@ pub(crate) fn begin_originate(
     let orig = draft.next_orig();
     let legs = make_group(draft, first_group(&groups), caller, orig)?;
     let owner = Owner::Job(draft.next_job());
-    begin_orig(draft, owner, groups, legs, timeout.unwrap_or(DEFAULT_TIMEOUT))?;
+    begin_orig(
+        draft,
+        owner,
+        groups,
+        legs,
+        timeout.unwrap_or(DEFAULT_TIMEOUT),
+    )?;
     let work = JobWork::Originate {
         orig,
         winner: winner.copy()?,
@@ -147,7 +156,7 @@ pub(crate) fn judge_attempt(draft: &mut Draft<'_>, attempt: &Attempt) -> Result<
         },
         Verdict::Failed(cause) => fail(draft, attempt, cause),
         Verdict::Expired => {
-            let slots = living_slots(draft.alloc(), orig)?;
+            let slots = living_slots(draft.alloc(), orig.legs.as_slice())?;
             expire(draft, attempt, &slots)
         }
     }
@@ -169,7 +178,7 @@ fn leg_at(orig: &Orig, position: usize) -> Result<Option<OrigLeg>, Memory>
 fn living_slot_at(orig: &Orig, position: usize) -> Option<u16>
     ensures { result ≡ option_and_then orig_legs.living_slot (slice_get orig.now.legs position) }
 {
-    living_slot(orig.legs.as_slice().get(position)?)
+    orig.legs.as_slice().get(position)?.living_slot()
 }
 
 // The group that is tried after the current one.
@@ -182,15 +191,6 @@ fn next_group_of(orig: &Orig) -> Result<Option<LegGroup>, Memory>
     }
 }
 
-// The slots of the legs that live.
-fn living_slots(alloc: Global, orig: &Orig) -> Result<Vec<u16>, Memory>
-    ensures { IfOk result (λ slots. slots.items ≡ orig_legs.living_slots orig.now.legs) }
-{
-    let mut slots = Vec::new(alloc);
-    add_living(&mut slots, orig.legs.as_slice())?;
-    Ok(slots)
-}
-
 // The slots of the legs that live, without the leg at a position.
 fn other_slots(alloc: Global, orig: &Orig, position: usize) -> Result<Vec<u16>, Memory>
     requires { position < length orig.now.legs }
@@ -198,29 +198,9 @@ fn other_slots(alloc: Global, orig: &Orig, position: usize) -> Result<Vec<u16>, 
 {
     let legs = orig.legs.as_slice();
     let mut slots = Vec::new(alloc);
-    add_living(&mut slots, &legs[..position])?;
-    add_living(&mut slots, &legs[position + 1..])?;
+    add_living_slots(&mut slots, &legs[..position])?;
+    add_living_slots(&mut slots, &legs[position + 1..])?;
     Ok(slots)
-}
-
-// Adds the slots of the legs that live.
-#[tactic(auto, using(fs_orig::proofs::LegLemmas::living_there, fs_orig::proofs::LegLemmas::living_elsewhere, fs_orig::proofs::LegLemmas::living_done))]
-fn add_living(slots: &mut Vec<u16>, legs: &[OrigLeg]) -> Result<(), Memory>
-    ensures { OnOk result (slots.new.items ≡ slots.old.items ++ orig_legs.living_slots legs.now) }
-{
-    for leg in legs {
-        if let Some(slot) = living_slot(leg) {
-            slots.push(slot)?;
-        }
-    }
-    Ok(())
-}
-
-// The slot of a leg, if it lives.
-fn living_slot(leg: &OrigLeg) -> Option<u16>
-    ensures { result ≡ orig_legs.living_slot leg.now }
-{
-    if leg.lives() { leg.slot } else { None }
 }
 
 // ---- what comes of it
@@ -310,7 +290,10 @@ fn win(draft: &mut Draft<'_>, attempt: &Attempt, leg: &OrigLeg) -> Result<(), Me
 {
     match &attempt.party {
         Party::Job {
-            job, conn, winner, ..
+            job,
+            conn,
+            winner,
+            ..
         } => {
             let answer = made_text(draft.alloc(), leg.uuid.as_bytes())?;
             win_by_job(draft, leg.slot.unwrap_or(0), winner)?;

@@ -3,7 +3,7 @@
 ghost use Rattle.std.specs.Prelude.{◌≡◌, ◌++◌, None, IfOk, OnOk};
 ghost use Rattle.std.specs.Option.{option_copied};
 ghost use Rattle.fs_state.specs.Drafts.{drafted};
-ghost use Rattle.fs_state.specs.Hangups.{legs_at, lives_at};
+ghost use Rattle.fs_state.specs.Hangups.{legs_at};
 ghost use Rattle.fs_state.specs.Moves.{with_changed_chan};
 ghost use Rattle.fs_state.specs.Switch.{chan_at};
 ghost use Rattle.fs_chan.specs.Bridging.{at_leisure};
@@ -152,23 +152,13 @@ fn join_both(draft: &mut Draft<'_>, a: u16, b: u16, other: &Txt) -> Result<Optio
         (ComesTo (spec.joined_done a b other.now (drafted draft.old)) (drafted draft.new)) }
 {
     let alloc = draft.alloc();
-    if !(lives_at(draft, a) && lives_at(draft, b)) {
+    if !(draft.lives(a) && draft.lives(b)) {
         return says(alloc, b"-ERR No such channel!\n");
     }
     let answer = made_text(alloc, other.as_bytes())?;
     draft.join(BridgeKind::Joined, a, b)?;
     bring_into_media(draft, a, b)?;
     Ok(Some(answer))
-}
-
-// Whether there is a live channel in a slot.
-fn lives_at(draft: &Draft<'_>, slot: u16) -> bool
-    ensures { result ≡ lives_at (drafted draft.now) slot }
-{
-    match draft.chan(slot) {
-        Some(chan) => chan.is_live(),
-        None => false,
-    }
 }
 
 // Brings two channels into the media of their bridge, in the order of their slots.

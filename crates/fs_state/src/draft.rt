@@ -360,7 +360,7 @@ impl<'a> Draft<'a> {
     {
         let mut bridges = self.own_bridges()?;
         let number = bridges.join(caller, answerer, kind)?;
-        self.bridges = Some(bridges);
+        self.put_bridges(bridges);
         Ok(number)
     }
 
@@ -371,7 +371,7 @@ impl<'a> Draft<'a> {
     {
         let mut bridges = self.own_bridges()?;
         let _row = bridges.unbridge(number);
-        self.bridges = Some(bridges);
+        self.put_bridges(bridges);
         Ok(())
     }
 
@@ -387,6 +387,14 @@ impl<'a> Draft<'a> {
             Some(bridges) => Ok(bridges),
             None => core.bridges.copy(),
         }
+    }
+
+    /// There are other bridges.
+    fn put_bridges(&mut self, bridges: Bridges)
+        ensures base { self.new.base ≡ self.old.base }
+        ensures put { drafted self.new ≡ with_bridges_in self.old bridges }
+    {
+        self.bridges = Some(bridges);
     }
 
     // ---- originations

@@ -10,7 +10,7 @@ use Rattle.fs_text.specs.declared.memory.Memory.{Memory}
 use Rattle.fs_orig.specs.declared.winner.Winner.{Winner}
 use Rattle.fs_orig.specs.Timeouts.{IsTimeout, seconds_within}
 use Rattle.fs_api.specs.declared.api.Api.{Api}
-use Rattle.fs_api.specs.declared.api.Api.TheVariants.{Expand, UuidGetvar}
+use Rattle.fs_api.specs.declared.api.Api.TheVariants.{Expand, UuidGetvar, UuidBridge}
 use Rattle.fs_api.specs.declared.usages.Which.{Which}
 use Rattle.fs_api.specs.declared.usages.Which.TheVariants as which
 use Rattle.fs_text.specs.Words.{word_of, behind_word}
@@ -18,7 +18,7 @@ use Rattle.fs_text.specs.Texts.{Text}
 use Rattle.fs_api.specs.Words.{behind_quoted, quoted_word}
 use Rattle.fs_api.specs.Originates.{plain_word, originate_with, originate_to, originate_of}
 use Rattle.fs_api.specs.Readings.{needs, global_setvar_of, global_getvar_of, msleep_for, uuid_exists_of, uuid_kill_of, uuid_getvar_of}
-use Rattle.fs_api.specs.Readings.{api_named}
+use Rattle.fs_api.specs.Readings.{uuid_bridge_of, api_named}
 use Rattle.fs_api.specs.Ranges.{IsInRange}
 
 -- what holds of both parts of a choice holds of the choice
@@ -69,6 +69,10 @@ reading_in_range : (arguments : Text) → IsInRange (uuid_getvar_of arguments)
 reading_in_range arguments =
     needs_in_range which.UuidGetvar (λ name. UuidGetvar (word_of arguments) (word_of name)) (behind_word arguments) (λ _. tt)
 
+joining_in_range : (arguments : Text) → IsInRange (uuid_bridge_of arguments)
+joining_in_range arguments =
+    needs_in_range which.UuidBridge (λ other. UuidBridge (word_of arguments) (word_of other)) (behind_word arguments) (λ _. tt)
+
 named_in_range : (name arguments : Text) → IsInRange (api_named name arguments)
 unfolding api_named
 named_in_range name arguments =
@@ -79,12 +83,14 @@ named_in_range name arguments =
     (λ _. tt))
     (λ _. either IsInRange (bytes_eq name (codes "msleep")) _ _ (λ _. sleeping_in_range (read_u64 (word_of arguments)))
     (λ _. either IsInRange (bytes_eq name (codes "originate")) _ _ (λ _. originate_in_range arguments)
+    (λ _. either IsInRange (bytes_eq name (codes "uuid_bridge")) _ _
+    (λ _. needs_in_range which.UuidBridge uuid_bridge_of arguments joining_in_range)
     (λ _. either IsInRange (bytes_eq name (codes "uuid_exists")) _ _ (λ _. needs_in_range which.UuidExists uuid_exists_of arguments
     (λ _. tt))
     (λ _. either IsInRange (bytes_eq name (codes "uuid_getvar")) _ _
     (λ _. needs_in_range which.UuidGetvar uuid_getvar_of arguments reading_in_range)
     (λ _. either IsInRange (bytes_eq name (codes "uuid_kill")) _ _ (λ _. needs_in_range which.UuidKill uuid_kill_of arguments (λ _. tt))
-    (λ _. tt)))))))))
+    (λ _. tt))))))))))
 
 -- what is read of a name and its arguments, once it is read
 pub IfOk-in_range : (name arguments : Text) (result : Result Api Memory) → IfOk result (λ api. api ≡ api_named name arguments) →

@@ -119,10 +119,10 @@ fn msleep_of(arguments: &[u8]) -> Api
 }
 
 fn uuid_bridge_of(alloc: Global, arguments: &[u8]) -> Result<Api, Memory>
-    ensures { IfOk result (λ api. api ≡ spec.uuid_bridge_of arguments.now) }
+    ensures { IfOk result (λ api. api ≡ spec.needs which.UuidBridge spec.uuid_bridge_of arguments.now) }
 {
     let (word, behind) = cut_word(arguments);
-    if behind.is_empty() {
+    if arguments.is_empty() || behind.is_empty() {
         return Ok(Api::Usage(Which::UuidBridge));
     }
     let (other, _) = cut_word(behind);

@@ -6,7 +6,7 @@ use Rattle.fs_text.specs.Texts.{Text}
 use Rattle.fs_text.specs.Number.{read_u64}
 use Rattle.fs_text.specs.Cause.{cause_name, cause_number}
 use Rattle.fs_text.specs.declared.causes.Cause.{Cause}
-use Rattle.fs_text.specs.declared.causes.Cause.TheVariants.{NoAnswer, NoUserResponse, OriginatorCancel}
+use Rattle.fs_text.specs.declared.causes.Cause.TheVariants.{NoAnswer, NoUserResponse, OriginatorCancel, NormalTemporaryFailure}
 use Rattle.fs_vars.specs.Pairs.{value_of}
 use Rattle.fs_vars.specs.Variables.{Variables}
 use Rattle.fs_bridge.specs.declared.row.BridgeKind.TheVariants.{Dial}
@@ -19,7 +19,7 @@ use Rattle.fs_orig.specs.declared.plan.LegPlan.{LegPlan}
 use Rattle.fs_orig.specs.Legs.{is_at}
 use Rattle.fs_orig.specs.Plans.{all_behind}
 use Rattle.fs_state.specs.Switch.{Switch, chan_at}
-use Rattle.fs_state.specs.Bridging.{after_join}
+use Rattle.fs_state.specs.Bridging.{can_join, joined_as}
 use Rattle.fs_state.specs.Hangups.{after_hangup}
 use Rattle.fs_state.specs.Moves.{with_changed_chan, after_move, after_answer, after_completion}
 use Rattle.fs_machine.specs.Originations.{MadeGroup, group_made}
@@ -79,7 +79,12 @@ after_bridge_failure cause slot s = bridge_failed_from (chan_at s slot) cause sl
 
 -- ---- a bridge that is won
 
+-- the channel in a slot is joined to a leg; where they cannot be joined the bridge has failed
+abbrev pub joined_or_failed : ℕ → ℕ → Switch → Switch
+joined_or_failed slot leg s =
+    if can_join slot leg s then after_move in_media leg (joined_as Dial slot leg s)
+    else after_bridge_failure NormalTemporaryFailure slot s
+
 -- the channel in a slot is joined to the leg that has won: it is answered first, where it was not
 unfoldable pub after_bridge_win : ℕ → ℕ → Switch → Switch
-after_bridge_win slot leg s =
-    after_move in_media leg (after_join Dial slot leg (disposed (codes "SUCCESS") slot (after_answer slot s)))
+after_bridge_win slot leg s = joined_or_failed slot leg (disposed (codes "SUCCESS") slot (after_answer slot s))

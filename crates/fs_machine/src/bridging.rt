@@ -152,6 +152,17 @@ pub(crate) fn win_bridge(draft: &mut Draft<'_>, slot: u16, leg: u16) -> Result<(
 {
     draft.answer(slot)?;
     dispose(draft, slot, b"SUCCESS")?;
+    join_or_fail(draft, slot, leg)
+}
+
+// Joins the channel in a slot to a leg; where they cannot be joined the bridge has failed.
+fn join_or_fail(draft: &mut Draft<'_>, slot: u16, leg: u16) -> Result<(), Memory>
+    ensures base { draft.new.base ≡ draft.old.base }
+    ensures ok { OnOk result (drafted draft.new ≡ spec.joined_or_failed slot leg (drafted draft.old)) }
+{
+    if !draft.can_join(slot, leg) {
+        return fail_bridge(draft, slot, Cause::NormalTemporaryFailure);
+    }
     draft.join(BridgeKind::Dial, slot, leg)?;
     change_chan(draft, leg, ChanChange::EnterMedia)
 }

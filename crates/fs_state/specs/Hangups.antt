@@ -111,10 +111,14 @@ after_members untold (m ∷ members) s = after_members (untold_by m.0 untold) me
 -- ---- who outlives a bridge
 
 -- it goes on, or parks; whoever hangs up is told of among the others
+abbrev pub after_outliving : After → ℕ → Switch → Switch
+after_outliving GoOn slot s = after_completion slot s
+after_outliving Park slot s = after_move parked slot s
+after_outliving (Hangup cause) slot s = s
+
+-- it does that if it lives
 abbrev pub after_survival : After → ℕ → Switch → Switch
-after_survival GoOn slot s = after_completion slot s
-after_survival Park slot s = after_move parked slot s
-after_survival (Hangup cause) slot s = s
+after_survival after slot s = if lives_at s slot then after_outliving after slot s else s
 
 abbrev pub after_survivals : List (ℕ × After) → Switch → Switch
 after_survivals survivors s = fold (λ t one. after_survival one.1 one.0 t) s survivors

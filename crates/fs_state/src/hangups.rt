@@ -153,10 +153,22 @@ impl<'a> Draft<'a> {
         Ok(())
     }
 
-    /// The channel in a slot goes on, or parks; one that hangs up is told of among the others.
+    /// The channel in a slot, if it lives, does what it does that outlives its bridge.
     fn outlive(&mut self, slot: u16, after: After) -> Result<(), Memory>
         ensures base { self.new.base ≡ self.old.base }
         ensures ok { OnOk result (drafted self.new ≡ spec.after_survival after slot (drafted self.old)) }
+    {
+        if self.lives(slot) {
+            self.go_on_or_park(slot, after)
+        } else {
+            Ok(())
+        }
+    }
+
+    /// The channel in a slot goes on, or parks; one that hangs up is told of among the others.
+    fn go_on_or_park(&mut self, slot: u16, after: After) -> Result<(), Memory>
+        ensures base { self.new.base ≡ self.old.base }
+        ensures ok { OnOk result (drafted self.new ≡ spec.after_outliving after slot (drafted self.old)) }
     {
         match after {
             After::GoOn => self.complete(slot),

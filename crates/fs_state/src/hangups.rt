@@ -1,6 +1,7 @@
 //! Hangups, with all whom they drag along.
 ghost use Rattle.std.specs.Prelude.{◌≡◌, IfOk, OnOk};
 ghost use Rattle.std.specs.List.{find};
+ghost use Rattle.fs_bridge.specs.Closure.{closure_of};
 ghost use Rattle.fs_chan.specs.Bridging.{unbridged};
 ghost use Rattle.fs_state.specs.Drafts.{drafted};
 ghost use Rattle.fs_state.specs.Moves.{with_changed_chan};
@@ -13,11 +14,16 @@ use fs_text::{Cause, EventName, Memory};
 
 impl<'a> Draft<'a> {
     /// The channel in a slot is hung up, if it lives, with all whom that drags along.
+    #[tactic(auto, unfolding(crate::specs::Hangups::after_hangups))]
     pub fn hang_up(&mut self, slot: u16, cause: Cause) -> Result<(), Memory>
         ensures base { self.new.base ≡ self.old.base }
         ensures ok { OnOk result (drafted self.new ≡ spec.after_hangup cause slot (drafted self.old)) }
     {
-        self.hang_up_all(&[(slot, cause)])
+        if self.lives(slot) {
+            self.hang_up_living(&[(slot, cause)])
+        } else {
+            Ok(())
+        }
     }
 
     /// The channels in some slots, those of them that live, are hung up of these causes, with all whom that drags along.
@@ -30,7 +36,16 @@ impl<'a> Draft<'a> {
         ensures ok { OnOk result (drafted self.new ≡ spec.after_hangups named.now (drafted self.old)) }
     {
         let living = self.living_of(named)?;
-        let closure = closure_of_hangup(self.alloc(), &*self, &living)?;
+        self.hang_up_living(&living)
+    }
+
+    /// Channels that live are hung up of these causes, with all whom that drags along.
+    fn hang_up_living(&mut self, living: &[(u16, Cause)]) -> Result<(), Memory>
+        ensures base { self.new.base ≡ self.old.base }
+        ensures ok { OnOk result (drafted self.new ≡
+            spec.after_closure (closure_of (spec.world_of (drafted self.old)) living.now) (drafted self.old)) }
+    {
+        let closure = closure_of_hangup(self.alloc(), &*self, living)?;
         self.close(&closure)
     }
 

@@ -1,18 +1,14 @@
 -- Rounds of a hangup, one member after another.
-use Rattle.std.proofs.Common.{◌≡◌, ℕ, zero, suc, ◌+◌, ◌-◌, ◌<◌, ◌≤◌, eqb}
-use Rattle.std.proofs.Common.{List, [], ◌∷◌, ◌++◌, length, take, get_or, map, filter, filter_map}
-use Rattle.std.proofs.Common.{fold, flat_map, Option, None, Some, option_to_list, slice_get, refl, ap, sym, ◌∙◌, arith, Any, true}
+use Rattle.std.proofs.Common.{◌≡◌, ℕ, zero, suc, ◌+◌, ◌-◌, ◌<◌, ◌≤◌}
+use Rattle.std.proofs.Common.{List, [], ◌∷◌, ◌++◌, length, take, get_or, filter, filter_map}
+use Rattle.std.proofs.Common.{fold, flat_map, Option, None, Some, option_to_list, refl, ap, sym, ◌∙◌, arith}
 use Rattle.std.specs.List.{cons_option}
-use Rattle.std.proofs.lemmas.List.{take_more, map_more, append-nil}
+use Rattle.std.proofs.lemmas.List.{take_more, append-nil}
 use Rattle.std.proofs.lemmas.List.Sums.{fold-append}
 use Rattle.std.proofs.lemmas.List.Elements.{filter-append, filter_map-append}
-use Rattle.std.proofs.lemmas.List.Folds.{Any-from_list_any}
 use Rattle.std.proofs.lemmas.Grind.{flat_map-append}
-use Rattle.std.proofs.lemmas.Map.Steps.{length-le_from_distinct_below}
-use Rattle.std.proofs.lemmas.Bool.{eqb-true}
-use Rattle.std.proofs.lemmas.Option.{slice_get_within, get_or_from_slice_get}
 use Rattle.std.proofs.Math.Nat.{suc-ne-zero}
-use Rattle.fs_bridge.specs.Worlds.{World, AreLines}
+use Rattle.fs_bridge.specs.Worlds.{World}
 use Rattle.fs_bridge.specs.Orders.{placed, in_order}
 use Rattle.fs_bridge.specs.Closure.{Member, Members, drags, may_join, round_after, with_rounds}
 

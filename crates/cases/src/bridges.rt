@@ -57,8 +57,8 @@ fn tell_joined(
     Ok(())
 }
 
-// The slot of a number; 0 where it is none.
-fn slot_of(word: &str) -> u16 {
+/// The slot of a number; 0 where it is none.
+pub(crate) fn slot_of(word: &str) -> u16 {
     match read_u64(word.as_bytes()) {
         Some(number) if number <= 65_535 => number as u16,
         _ => 0,

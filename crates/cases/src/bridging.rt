@@ -4,7 +4,7 @@ use crate::answer::Answer;
 use crate::plays::machine_of;
 use crate::table::Table;
 use fs_conn::play;
-use fs_machine::{Entry, Machine};
+use fs_machine::{Entry, Machine, Reply};
 use fs_state::Event;
 use fs_text::{EventName, Memory};
 use std::alloc::Global;
@@ -30,13 +30,13 @@ pub(crate) fn tell_bridging(
         return Ok(());
     };
     for entry in machine.journal().entries() {
-        tell_entry(&mut again, entry, answer);
+        let _reply = tell_entry(&mut again, entry, answer);
     }
     Ok(())
 }
 
-// Adds what was written but for the headers of its frames.
-fn tell_answers(written: &[u8], answer: &mut Answer) {
+/// Adds what was written but for the headers of its frames.
+pub(crate) fn tell_answers(written: &[u8], answer: &mut Answer) {
     for line in written.split(|byte| *byte == b'\n') {
         let text = without_header(line);
         if !text.is_empty() {
@@ -56,14 +56,21 @@ fn without_header(line: &[u8]) -> &[u8] {
     }
 }
 
-// Enters an entry, and adds what happens in it.
-fn tell_entry(machine: &mut Machine, entry: &Entry, answer: &mut Answer) {
+/// Makes an entry, and adds what happens in it, or why it is refused.
+pub(crate) fn tell_entry(
+    machine: &mut Machine,
+    entry: &Entry,
+    answer: &mut Answer,
+) -> Option<Reply> {
     match machine.prepare(entry) {
         Ok(change) => {
             tell_events(change.delta.moment, change.delta.news.as_slice(), answer);
-            let _reply = machine.apply(change);
+            Some(machine.apply(change))
         }
-        Err(_) => answer.line(&[b"refused"]),
+        Err(refusal) => {
+            answer.told(format_args!("{refusal:?}"));
+            None
+        }
     }
 }
 

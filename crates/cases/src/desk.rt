@@ -9,6 +9,7 @@ use crate::commands::{tell_api, tell_expanded};
 use crate::dials::{tell_dial, tell_plans, tell_timeout};
 use crate::disk::{tell_build, tell_load};
 use crate::documents::{attributes, tell_config};
+use crate::entries::tell_entries;
 use crate::events::tell_event;
 use crate::frames::Frames;
 use crate::hunts::Hunts;
@@ -83,6 +84,7 @@ impl<D: Files + Drop> Desk<D> {
             "play" => tell_play(self.alloc, &self.table, false, answer),
             "count" => tell_play(self.alloc, &self.table, true, answer),
             "bridging" => tell_bridging(self.alloc, &self.table, answer),
+            "entries" => tell_entries(self.alloc, &self.table, rest, answer),
             "contexts" => self.hunts.build(&self.table, rest, answer),
             "reads" => tell_reads(&self.table, rest, answer),
             "writes" => tell_writes(self.alloc, &self.table, rest, answer),

@@ -12,6 +12,7 @@ mod desk;
 mod dials;
 mod disk;
 mod documents;
+mod entries;
 mod events;
 mod frames;
 mod hunts;

@@ -9,6 +9,7 @@ use Rattle.fs_vars.specs.Variables.{Variables}
 use Rattle.fs_doc.specs.Reading.{Configuration}
 use Rattle.fs_text.specs.Cause.{cause_name}
 use Rattle.fs_text.specs.declared.causes.Cause.{Cause}
+use Rattle.fs_text.specs.declared.causes.Cause.TheVariants.{NormalTemporaryFailure}
 use Rattle.fs_text.specs.declared.event_names.EventName.TheVariants.{ChannelExecuteComplete}
 use Rattle.fs_bridge.specs.declared.row.BridgeKind.{BridgeKind}
 use Rattle.fs_bridge.specs.declared.row.BridgeKind.TheVariants.{Dial}
@@ -39,8 +40,8 @@ use Rattle.fs_state.specs.Switch.{Switch, chan_at, with_chan, with_bridge, next_
 use Rattle.fs_state.specs.Switch.{next_job_number, with_new_job, without_job, without_orig, with_event}
 use Rattle.fs_state.specs.Moves.{plain_event, with_changed_chan, after_move, orig_changed_from, orig_changed, leg_changed, is_owner}
 use Rattle.fs_state.specs.Moves.{given_up_by, orig_given_up, after_answer}
-use Rattle.fs_state.specs.Hangups.{after_hangups}
-use Rattle.fs_state.specs.Bridging.{bridge_event, can_join, peer_of, with_peer_from, with_peer, joined_as, after_join}
+use Rattle.fs_state.specs.Hangups.{lives, lives_at, after_hangups}
+use Rattle.fs_state.specs.Bridging.{bridge_event, peer_of, with_peer_from, with_peer, joined_as}
 use Rattle.fs_machine.specs.Texts.{made_text, failed_text}
 use Rattle.fs_machine.specs.Connections.{conn_changed_from, conn_changed, admitted, parted, owed_since, not_owed}
 use Rattle.fs_machine.specs.Originations.{MadeGroup, group_made, after_winning}
@@ -55,6 +56,7 @@ use Rattle.fs_machine.proofs.Kept.{HasWon, KeptByMoves}
 use Rattle.fs_machine.proofs.StayLemmas.{moved_there, changed_there, orig_changed_channels}
 use Rattle.fs_machine.proofs.Walk.{answered_kept, disposed_kept, group_made_kept}
 use Rattle.fs_machine.proofs.RestLemmas.{whichever}
+use Rattle.fs_machine.proofs.WonLemmas.{answerer_lives, bridge_won_kept}
 
 -- what is left of a switch without connections, jobs, originations and what they are given
 pub record Front : Type 0 where
@@ -156,17 +158,6 @@ lively_put s slot place old new there live h c is = by (cases_eq slot place)
         ap is_live (same_Some c new (sym is ∙ here)) ∙ live ∙ h old (ap (held_in s.channels) same ∙ there)
     by (inr other) = h c (sym (held_there s.channels place slot (Some new) other) ∙ is)
 
--- what leaves channels alive leaves slots lively
-lively_touches : (slot : ℕ) → KeptByTouches (λ b s. Lively s slot)
-lively_touches slot = record {
-  told = λ event h. h;
-  globals = λ globals h. h;
-  changed = λ place old new {s = s} there stays h. lively_put s slot place old new there stays.live h;
-  answers = λ place leg number {s = s} h. subst (λ (channels : List (Option Chan)). (c : Chan) → held_in channels slot ≡ Some c →
-      is_live c ≡ true)
-      (sym (orig_changed_channels (leg_changed (λ position. with_answer position place) leg) number s)) h;
-}
-
 lively_peer : (slot place other : ℕ) (s : Switch) → Lively s slot → Lively (with_peer place other s) slot
 lively_peer slot place other s h = by (chan_at s other)
   where
@@ -176,19 +167,17 @@ lively_peer slot place other s h = by (chan_at s other)
         changed_there (λ (t : Switch). Lively t slot) (bridged (peer_of other d)) place s
         (λ c there. lively_put s slot place c (bridged (peer_of other d) c) there refl h) h
 
-lively_join : (kind : BridgeKind) (a b slot : ℕ) (s : Switch) → Lively s slot → Lively (after_join kind a b s) slot
-lively_join kind a b slot s h = by (can_join a b s)
-  where
-    by : (test : Bool) → Lively (if test then joined_as kind a b s else s) slot
-    by true = lively_peer slot b a (with_peer a b (with_bridge a b kind s)) (lively_peer slot a b (with_bridge a b kind s) h)
-    by false = h
+lively_join : (kind : BridgeKind) (a b slot : ℕ) (s : Switch) → Lively s slot → Lively (joined_as kind a b s) slot
+lively_join kind a b slot s h = lively_peer slot b a (with_peer a b (with_bridge a b kind s)) (lively_peer slot a b (with_bridge a b kind s) h)
+
+-- a slot is, where its channel lives
+lively_now : (s : Switch) (slot : ℕ) → lives_at s slot ≡ true → Lively s slot
+lively_now s slot live c is = sym (ap lives is) ∙ live
 
 -- such a fact is kept by what channels do, and by those that dial, if it is where a leg that has won comes into media
 module _ (before : Switch) (P : Fact) (same : (b : Stage) (t u : Switch) → P b t → front_of u ≡ front_of t → P b u)
     (kept : KeptByRemains P) (births : KeptByBirths P)
-    (media : (orig : ℕ) (leg : OrigLeg) (slots : List ℕ) → HasWon before orig leg slots → (u : Switch) →
-    (Lively (raced slots before) (unwrap_or leg.slot 0) → Lively u (unwrap_or leg.slot 0)) → P (Some 0) u →
-    P (Some 0) (after_move in_media (unwrap_or leg.slot 0) u)) where
+    (media : (slot : ℕ) (u : Switch) → Lively u slot → P (Some 0) u → P (Some 0) (after_move in_media slot u)) where
   touches : KeptByTouches P
   touches = record {
     told = kept.told;
@@ -225,13 +214,6 @@ module _ (before : Switch) (P : Fact) (same : (b : Stage) (t u : Switch) → P b
       kept.told (bridge_event (next_bridge_number s))
       (peer_remains answerer caller b (with_peer caller answerer (with_bridge caller answerer kind s))
       (peer_remains caller answerer b (with_bridge caller answerer kind s) (kept.bridges (joined caller answerer kind s.bridges) h)))
-
-  join_remains : (kind : BridgeKind) (caller answerer : ℕ) (b : Stage) (s : Switch) → P b s → P b (after_join kind caller answerer s)
-  join_remains kind caller answerer b s h = by (can_join caller answerer s)
-    where
-      by : (test : Bool) → P b (if test then joined_as kind caller answerer s else s)
-      by true = joined_remains kind caller answerer b s h
-      by false = h
 
   left_remains : (slot : ℕ) (b : Stage) (s : Switch) → P b s → P b (after_leaving slot s)
   left_remains slot b s h =
@@ -270,19 +252,20 @@ module _ (before : Switch) (P : Fact) (same : (b : Stage) (t u : Switch) → P b
       by None = h
       by (Some c) = on (goes_on cause c.vars)
 
-  won_remains : (slot leg : ℕ) (s : Switch) →
-      ((u : Switch) → (Lively s leg → Lively u leg) → P (Some 0) u → P (Some 0) (after_move in_media leg u)) → P (Some 0) s →
-      P (Some 0) (after_bridge_win slot leg s)
-  unfolding after_bridge_win
-  won_remains slot leg s comes h =
-      let t : Switch = after_answer slot s in
-      let u : Switch = disposed (codes "SUCCESS") slot t in
-      comes (after_join Dial slot leg u)
-      (λ live. lively_join Dial slot leg leg u
-      (disposed_kept (λ b v. Lively v leg) (lively_touches leg) (codes "SUCCESS") slot {b = None} {s = t}
-      (answered_kept (λ b v. Lively v leg) (lively_touches leg) slot {b = None} {s = s} live)))
-      (join_remains Dial slot leg (Some 0) u
-      (disposed_kept P touches (codes "SUCCESS") slot {b = Some 0} {s = t} (answered_kept P touches slot {b = Some 0} {s = s} h)))
+  at_one : KeptByTouches (λ b s. P (Some 0) s)
+  at_one = record {
+    told = λ event h. touches.told event h;
+    globals = λ globals h. touches.globals globals h;
+    changed = λ slot old new there stays h. touches.changed slot old new there stays h;
+    answers = λ place slot number h. touches.answers place slot number h;
+  }
+
+  won_remains : (slot leg : ℕ) (s : Switch) → P (Some 0) s → P (Some 0) (after_bridge_win slot leg s)
+  won_remains slot leg s h =
+      bridge_won_kept (P (Some 0)) (P (Some 0)) at_one slot leg
+      (λ u can k. media leg (joined_as Dial slot leg u)
+      (lively_join Dial slot leg leg u (lively_now u leg (answerer_lives slot leg u can))) (joined_remains Dial slot leg (Some 0) u k))
+      (λ u k. failed_remains NormalTemporaryFailure slot u k) s h
 
   dialed_remains : (slot : ℕ) (c : Chan) (groups : List (List LegPlan)) (timeout : ℕ) (s : Switch) → P None s →
       P (Some 0)
@@ -307,7 +290,7 @@ module _ (before : Switch) (P : Fact) (same : (b : Stage) (t u : Switch) → P b
         (group_made_kept P births plans caller number {n = 0} {s = s} h);
     fails = λ slot orig cause {s = s} waits h. failed_remains cause slot (without_orig orig s) (same (Some 0) s (without_orig orig s) h refl);
     wins = λ slot orig leg slots waits won h.
-        won_remains slot (unwrap_or leg.slot 0) (without_orig orig (raced slots before)) (media orig leg slots won)
+        won_remains slot (unwrap_or leg.slot 0) (without_orig orig (raced slots before))
         (same (Some 0) (raced slots before) (without_orig orig (raced slots before)) h refl);
   }
 

@@ -1,5 +1,5 @@
 -- What a hangup comes to, step by step: a fact is kept that bears each single step.
-use Rattle.std.proofs.Common.{◌≡◌, ℕ, Bool, true, false, if◌then◌else◌, List, [], ◌∷◌, Option, None, Some, ◌⊎◌, inl, inr, refl}
+use Rattle.std.proofs.Common.{◌≡◌, ℕ, Bool, true, false, if◌then◌else◌, List, [], ◌∷◌, Option, None, Some, ◌⊎◌, inl, inr, refl, sym, ap, ◌∙◌}
 use Rattle.std.specs.List.{find}
 use Rattle.fs_text.specs.declared.states.State.TheVariants.{CsHangup}
 use Rattle.fs_text.specs.declared.causes.Cause.{Cause}
@@ -19,17 +19,32 @@ use Rattle.fs_state.specs.declared.event.Event.{Event}
 use Rattle.fs_state.specs.Switch.{Switch, chan_at, with_chan, without_bridge, orig_of, without_orig, with_event}
 use Rattle.fs_state.specs.Moves.{plain_event, with_state_events, with_changed_chan, after_move, after_completion, orig_changed, leg_changed}
 use Rattle.fs_state.specs.Moves.{is_owner, its_leg_changed, hangup_event, given_up_by, orig_given_up, after_hangup_from, after_one_hangup}
-use Rattle.fs_state.specs.Hangups.{world_of, Ended, after_end, after_ends, unbridge_event, is_leg_of, with_end_told, untold_by, after_member}
-use Rattle.fs_state.specs.Hangups.{after_members, after_survival, after_survivals, after_closure, living_of, after_hangups}
+use Rattle.fs_state.specs.Hangups.{lives, lives_at, world_of, Ended, after_end, after_ends, unbridge_event, is_leg_of, with_end_told, untold_by, after_member}
+use Rattle.fs_state.specs.Hangups.{after_members, after_outliving, after_survival, after_survivals, after_closure, living_of, after_hangups}
 use Rattle.fs_machine.proofs.ClosureLemmas.{members_for, hangs_up, survivors_stay}
 use Rattle.fs_machine.proofs.StayLemmas.{state_told_kept, differing_kept, moved_there, changed_there}
+
+-- the living leg of a slot dies
+abbrev pub dies : Cause → ℕ → ℕ → Orig → Orig
+dies cause place slot = leg_changed (λ position. with_death position place cause) slot
 
 -- what a channel becomes by a hangup: it is hung up, its bridge has ended, or it outlives its bridge
 pub data Falls (hangs : ℕ → Bool) (slot : ℕ) (c : Chan) : Chan → Type 0 where
   Cut : (cause : Cause) → hangs slot ≡ true → Falls hangs slot c (hung_up cause c)
   Unbridged : (cause : Cause) → Falls hangs slot c (unbridged cause c)
-  Rests : hangs slot ≡ false → Falls hangs slot c (at_rest c)
-  Parks : hangs slot ≡ false → Falls hangs slot c (parked c)
+  Rests : hangs slot ≡ false → is_live c ≡ true → Falls hangs slot c (at_rest c)
+  Parks : hangs slot ≡ false → is_live c ≡ true → Falls hangs slot c (parked c)
+
+-- what it becomes where it is not hung up
+pub data Settles (hangs : ℕ → Bool) (slot : ℕ) (c : Chan) : Chan → Type 0 where
+  Freed : (cause : Cause) → Settles hangs slot c (unbridged cause c)
+  Resumes : hangs slot ≡ false → is_live c ≡ true → Settles hangs slot c (at_rest c)
+  Halts : hangs slot ≡ false → is_live c ≡ true → Settles hangs slot c (parked c)
+
+settles_falls : (hangs : ℕ → Bool) (slot : ℕ) (old new : Chan) → Settles hangs slot old new → Falls hangs slot old new
+settles_falls hangs slot old new (Freed cause) = Unbridged cause
+settles_falls hangs slot old new (Resumes outlives live) = Rests outlives live
+settles_falls hangs slot old new (Halts outlives live) = Parks outlives live
 
 -- an origination is given up, where what it dialed is
 module _ (P : Switch → Type 0) (gives_up : (number : ℕ) (s : Switch) → P s → P (without_orig number s)) where
@@ -45,32 +60,103 @@ module _ (P : Switch → Type 0) (gives_up : (number : ℕ) (s : Switch) → P s
       by None = h
       by (Some o) = whether (is_owner slot o.owner) (without_orig number s) s (gives_up number s h) h
 
+-- ---- a fact that bears one hangup
+
 module _ (hangs : ℕ → Bool) (P : Switch → Type 0) (told : (event : Event) (s : Switch) → P s → P (with_event event s))
-    (falls : (slot : ℕ) (old new : Chan) (s : Switch) → chan_at s slot ≡ Some old → Falls hangs slot old new → P s →
+    (settles : (slot : ℕ) (old new : Chan) (s : Switch) → chan_at s slot ≡ Some old → Settles hangs slot old new → P s →
     P (with_chan slot (Some new) s))
     (ends : (number : ℕ) (s : Switch) → P s → P (without_bridge number s))
-    (legs : (change : Orig → Orig) (number : ℕ) (s : Switch) → P s → P (orig_changed change number s))
-    (gives_up : (number : ℕ) (s : Switch) → P s → P (without_orig number s)) where
+    (one_hung : (cause : Cause) (slot : ℕ) (s : Switch) → hangs slot ≡ true → P s → P (after_one_hangup cause slot s)) where
   -- ---- bridges that end
 
   unbridged_kept : (cause : Cause) (slot : ℕ) (s : Switch) → P s → P (with_changed_chan (unbridged cause) slot s)
   unbridged_kept cause slot s h =
-      changed_there P (unbridged cause) slot s (λ c is. falls slot c (unbridged cause c) s is (Unbridged cause) h) h
+      changed_there P (unbridged cause) slot s (λ c is. settles slot c (unbridged cause c) s is (Freed cause) h) h
 
   end_kept : (row : Row) (cause : Cause) (s : Switch) → P s → P (after_end row cause s)
   end_kept row cause s h =
       unbridged_kept cause row.answerer (with_changed_chan (unbridged cause) row.caller (without_bridge row.number s))
       (unbridged_kept cause row.caller (without_bridge row.number s) (ends row.number s h))
 
-  pub ends_kept : (ended : List Ended) (s : Switch) → P s → P (after_ends ended s)
-  ends_kept [] s h = h
-  ends_kept (e ∷ ended) s h = ends_kept ended (after_end e.0 e.1 s) (end_kept e.0 e.1 s h)
+  pub ends_kept_by : (ended : List Ended) (s : Switch) → P s → P (after_ends ended s)
+  ends_kept_by [] s h = h
+  ends_kept_by (e ∷ ended) s h = ends_kept_by ended (after_end e.0 e.1 s) (end_kept e.0 e.1 s h)
 
   -- ---- who is hung up
 
-  its_leg_kept : (change : ℕ → Orig → Orig) (slot : ℕ) (leg_of : Option ℕ) (s : Switch) → P s → P (its_leg_changed change slot leg_of s)
-  its_leg_kept change slot None s h = h
-  its_leg_kept change slot (Some number) s h = legs (leg_changed change slot) number s h
+  end_told_kept : (found : Option Ended) (s : Switch) → P s → P (with_end_told found s)
+  end_told_kept None s h = h
+  end_told_kept (Some e) s h = told (unbridge_event e.0) s h
+
+  pub members_kept_by : (untold : List Ended) (members : Members) (s : Switch) →
+      ((m : Member) → IsOneOf m members → hangs m.0 ≡ true) → P s → P (after_members untold members s)
+  members_kept_by untold [] s all h = h
+  members_kept_by untold (m ∷ members) s all h =
+      members_kept_by (untold_by m.0 untold) members (after_member untold m s) (λ other one. all other (inr one))
+      (one_hung m.1 m.0 (with_end_told (find (is_leg_of m.0) untold) s) (all m (inl refl))
+      (end_told_kept (find (is_leg_of m.0) untold) s h))
+
+  -- ---- who outlives a bridge
+
+  outliving_kept : (what : After) (slot : ℕ) (s : Switch) → hangs slot ≡ false → lives_at s slot ≡ true → P s →
+      P (after_outliving what slot s)
+  outliving_kept GoOn slot s outlives live h =
+      told (plain_event ChannelExecuteComplete) (after_move at_rest slot s)
+      (moved_there P told at_rest slot s
+      (λ c is. settles slot c (at_rest c) s is (Resumes outlives (sym (ap lives is) ∙ live)) h) h)
+  outliving_kept Park slot s outlives live h =
+      moved_there P told parked slot s (λ c is. settles slot c (parked c) s is (Halts outlives (sym (ap lives is) ∙ live)) h) h
+  outliving_kept (Hangup cause) slot s outlives live h = h
+
+  survival_kept : (what : After) (slot : ℕ) (s : Switch) → hangs slot ≡ false → P s → P (after_survival what slot s)
+  survival_kept what slot s outlives h = by (lives_at s slot) refl
+    where
+      by : (live : Bool) → lives_at s slot ≡ live → P (if live then after_outliving what slot s else s)
+      by true live = outliving_kept what slot s outlives live h
+      by false dead = h
+
+  pub survivals_kept_by : (survivors : List (ℕ × After)) (s : Switch) →
+      ((one : ℕ × After) → IsOneOf one survivors → hangs one.0 ≡ false) → P s → P (after_survivals survivors s)
+  survivals_kept_by [] s none h = h
+  survivals_kept_by (one ∷ survivors) s none h =
+      survivals_kept_by survivors (after_survival one.1 one.0 s) (λ other is. none other (inr is))
+      (survival_kept one.1 one.0 s (none one (inl refl)) h)
+
+  -- ---- all of it
+
+  pub closure_kept_by : (e : Ends) (s : Switch) → ((m : Member) → IsOneOf m e.members → hangs m.0 ≡ true) →
+      ((one : ℕ × After) → IsOneOf one e.survivors → hangs one.0 ≡ false) → P s → P (after_closure e s)
+  closure_kept_by e s all none h =
+      survivals_kept_by e.survivors (after_members e.ended e.members (after_ends e.ended s)) none
+      (members_kept_by e.ended e.members (after_ends e.ended s) all (ends_kept_by e.ended s h))
+
+-- those who hang up are members, and those who outlive a bridge are none
+module _ (named : Members) (before : Switch) (P : Switch → Type 0) (told : (event : Event) (s : Switch) → P s → P (with_event event s))
+    (settles : (slot : ℕ) (old new : Chan) (s : Switch) → chan_at s slot ≡ Some old →
+    Settles (λ at. hangs_up at named before) slot old new → P s → P (with_chan slot (Some new) s))
+    (ends : (number : ℕ) (s : Switch) → P s → P (without_bridge number s))
+    (one_hung : (cause : Cause) (slot : ℕ) (s : Switch) → hangs_up slot named before ≡ true → P s →
+    P (after_one_hangup cause slot s)) where
+  pub hangups_kept_by : P before → P (after_hangups named before)
+  unfolding after_hangups
+  hangups_kept_by h =
+      closure_kept_by (λ at. hangs_up at named before) P told settles ends one_hung
+      (closure_of (world_of before) (living_of before named)) before (λ m one. one_stands m (members_for named before) one)
+      (λ one is. survivors_stay named before one is) h
+
+-- ---- a fact that bears each step of a hangup
+
+module _ (hangs : ℕ → Bool) (P : Switch → Type 0) (told : (event : Event) (s : Switch) → P s → P (with_event event s))
+    (falls : (slot : ℕ) (old new : Chan) (s : Switch) → chan_at s slot ≡ Some old → Falls hangs slot old new → P s →
+    P (with_chan slot (Some new) s))
+    (ends : (number : ℕ) (s : Switch) → P s → P (without_bridge number s))
+    (legs : (cause : Cause) (place slot number : ℕ) (s : Switch) → P s →
+    P (orig_changed (dies cause place slot) number s))
+    (gives_up : (number : ℕ) (s : Switch) → P s → P (without_orig number s)) where
+  its_leg_kept : (cause : Cause) (place slot : ℕ) (leg_of : Option ℕ) (s : Switch) → P s →
+      P (its_leg_changed (λ position. with_death position place cause) slot leg_of s)
+  its_leg_kept cause place slot None s h = h
+  its_leg_kept cause place slot (Some number) s h = legs cause place slot number s h
 
   one_hung_kept : (cause : Cause) (slot : ℕ) (s : Switch) → hangs slot ≡ true → P s → P (after_one_hangup cause slot s)
   one_hung_kept cause slot s hung h = by (chan_at s slot) refl
@@ -82,54 +168,37 @@ module _ (hangs : ℕ → Bool) (P : Switch → Type 0) (told : (event : Event) 
           (given_up_kept P gives_up slot (awaited_by c)
           (its_leg_changed (λ position. with_death position s.entries cause) slot c.leg_of
           (with_state_events c.state CsHangup (with_event (hangup_event cause) (with_chan slot (Some (hung_up cause c)) s))))
-          (its_leg_kept (λ position. with_death position s.entries cause) slot c.leg_of
+          (its_leg_kept cause s.entries slot c.leg_of
           (with_state_events c.state CsHangup (with_event (hangup_event cause) (with_chan slot (Some (hung_up cause c)) s)))
           (state_told_kept P told c.state CsHangup
           (told (hangup_event cause) (with_chan slot (Some (hung_up cause c)) s)
           (falls slot c (hung_up cause c) s is (Cut cause hung) h))))) h
 
-  end_told_kept : (found : Option Ended) (s : Switch) → P s → P (with_end_told found s)
-  end_told_kept None s h = h
-  end_told_kept (Some e) s h = told (unbridge_event e.0) s h
+  settles_kept : (slot : ℕ) (old new : Chan) (s : Switch) → chan_at s slot ≡ Some old → Settles hangs slot old new → P s →
+      P (with_chan slot (Some new) s)
+  settles_kept slot old new s there how h = falls slot old new s there (settles_falls hangs slot old new how) h
 
   pub members_kept : (untold : List Ended) (members : Members) (s : Switch) → ((m : Member) → IsOneOf m members → hangs m.0 ≡ true) → P s →
       P (after_members untold members s)
-  members_kept untold [] s all h = h
-  members_kept untold (m ∷ members) s all h =
-      members_kept (untold_by m.0 untold) members (after_member untold m s) (λ other one. all other (inr one))
-      (one_hung_kept m.1 m.0 (with_end_told (find (is_leg_of m.0) untold) s) (all m (inl refl))
-      (end_told_kept (find (is_leg_of m.0) untold) s h))
-
-  -- ---- who outlives a bridge
-
-  survival_kept : (what : After) (slot : ℕ) (s : Switch) → hangs slot ≡ false → P s → P (after_survival what slot s)
-  survival_kept GoOn slot s outlives h =
-      told (plain_event ChannelExecuteComplete) (after_move at_rest slot s)
-      (moved_there P told at_rest slot s (λ c is. falls slot c (at_rest c) s is (Rests outlives) h) h)
-  survival_kept Park slot s outlives h = moved_there P told parked slot s (λ c is. falls slot c (parked c) s is (Parks outlives) h) h
-  survival_kept (Hangup cause) slot s outlives h = h
+  members_kept = members_kept_by hangs P told settles_kept ends one_hung_kept
 
   pub survivals_kept : (survivors : List (ℕ × After)) (s : Switch) → ((one : ℕ × After) → IsOneOf one survivors → hangs one.0 ≡ false) → P s →
       P (after_survivals survivors s)
-  survivals_kept [] s none h = h
-  survivals_kept (one ∷ survivors) s none h =
-      survivals_kept survivors (after_survival one.1 one.0 s) (λ other is. none other (inr is))
-      (survival_kept one.1 one.0 s (none one (inl refl)) h)
+  survivals_kept = survivals_kept_by hangs P told settles_kept ends one_hung_kept
 
-  -- ---- all of it
+  pub ends_kept : (ended : List Ended) (s : Switch) → P s → P (after_ends ended s)
+  ends_kept = ends_kept_by hangs P told settles_kept ends one_hung_kept
 
   pub closure_kept : (e : Ends) (s : Switch) → ((m : Member) → IsOneOf m e.members → hangs m.0 ≡ true) →
       ((one : ℕ × After) → IsOneOf one e.survivors → hangs one.0 ≡ false) → P s → P (after_closure e s)
-  closure_kept e s all none h =
-      survivals_kept e.survivors (after_members e.ended e.members (after_ends e.ended s)) none
-      (members_kept e.ended e.members (after_ends e.ended s) all (ends_kept e.ended s h))
+  closure_kept = closure_kept_by hangs P told settles_kept ends one_hung_kept
 
--- those who hang up are members, and those who outlive a bridge are none
 module _ (named : Members) (before : Switch) (P : Switch → Type 0) (told : (event : Event) (s : Switch) → P s → P (with_event event s))
     (falls : (slot : ℕ) (old new : Chan) (s : Switch) → chan_at s slot ≡ Some old →
     Falls (λ at. hangs_up at named before) slot old new → P s → P (with_chan slot (Some new) s))
     (ends : (number : ℕ) (s : Switch) → P s → P (without_bridge number s))
-    (legs : (change : Orig → Orig) (number : ℕ) (s : Switch) → P s → P (orig_changed change number s))
+    (legs : (cause : Cause) (place slot number : ℕ) (s : Switch) → P s →
+    P (orig_changed (dies cause place slot) number s))
     (gives_up : (number : ℕ) (s : Switch) → P s → P (without_orig number s)) where
   pub hangups_kept : P before → P (after_hangups named before)
   unfolding after_hangups

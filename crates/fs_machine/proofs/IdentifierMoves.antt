@@ -19,7 +19,7 @@ use Rattle.fs_machine.specs.Originations.{end_of, end_made, named_end_made, leg_
 use Rattle.fs_machine.proofs.Kept.{Stage, Fact, KeptByBirths, raced, KeptByMoves}
 use Rattle.fs_machine.proofs.StayLemmas.{state_told_kept, moved_there}
 use Rattle.fs_machine.proofs.ClosureLemmas.{hangs_up}
-use Rattle.fs_machine.proofs.HangLemmas.{Falls, Cut, Unbridged, Rests, Parks, hangups_kept}
+use Rattle.fs_machine.proofs.HangLemmas.{dies, Falls, Cut, Unbridged, Rests, Parks, hangups_kept}
 use Rattle.fs_machine.proofs.FrontLemmas.{Front, front_of, orig_changed_front, KeptByRemains, calls_by_remains, dials_by_remains}
 use Rattle.fs_machine.proofs.FrontLemmas.{moves_by_front}
 use Rattle.fs_machine.proofs.SeenLemmas.{Seen, seen, put, Numbers, numbers_then, numbers_quietly, numbers_more, numbers_same, numbers_gone}
@@ -78,14 +78,15 @@ module _ (x : Seen) where
       Falls hangs slot old new → Numbers more x (seen s) → Numbers more x (seen (with_chan slot (Some new) s))
   falls_numbers hangs more slot old new s there (Cut cause hung) h = put_numbers more slot old (hung_up cause old) s there refl h
   falls_numbers hangs more slot old new s there (Unbridged cause) h = put_numbers more slot old (unbridged cause old) s there refl h
-  falls_numbers hangs more slot old new s there (Rests outlives) h = put_numbers more slot old (at_rest old) s there refl h
-  falls_numbers hangs more slot old new s there (Parks outlives) h = put_numbers more slot old (parked old) s there refl h
+  falls_numbers hangs more slot old new s there (Rests outlives live) h = put_numbers more slot old (at_rest old) s there refl h
+  falls_numbers hangs more slot old new s there (Parks outlives live) h = put_numbers more slot old (parked old) s there refl h
 
   hung_numbers : (more : ℕ) (named : Members) (s : Switch) → Numbers more x (seen s) → Numbers more x (seen (after_hangups named s))
   hung_numbers more named s h =
       hangups_kept named s (λ (t : Switch). Numbers more x (seen t)) (λ event t k. k)
       (λ place old new t there falls k. falls_numbers (λ at. hangs_up at named s) more place old new t there falls k) (λ number t k. k)
-      (λ change number t k. front_numbers more t (orig_changed change number t) (orig_changed_front change number t) k)
+      (λ cause place leg number t k. front_numbers more t (orig_changed (dies cause place leg) number t)
+      (orig_changed_front (dies cause place leg) number t) k)
       (λ number t k. k) h
 
   won_numbers : (winner : Winner) (slot : ℕ) (s : Switch) → Numbers 0 x (seen s) → Numbers 0 x (seen (after_winning winner slot s))
@@ -133,8 +134,8 @@ module _ (x : Seen) where
   numbers_moves before =
       moves_by_front before (NumbersFrom x) same_numbers
       (calls_by_remains before (NumbersFrom x) same_numbers remains_numbers births_numbers
-      (λ orig leg slots won u live h. media_numbers (unwrap_or leg.slot 0) u h))
+      (λ at u live h. media_numbers at u h))
       births_numbers
       (dials_by_remains before (NumbersFrom x) same_numbers remains_numbers births_numbers
-      (λ orig leg slots won u live h. media_numbers (unwrap_or leg.slot 0) u h))
+      (λ at u live h. media_numbers at u h))
       (λ job conn winner caller orig leg slots does won h. won_numbers winner (unwrap_or leg.slot 0) (raced slots before) h)

@@ -27,7 +27,7 @@ use Rattle.fs_machine.proofs.ShortLemmas.{left_holds, right_holds}
 use Rattle.fs_machine.proofs.Kept.{Stays}
 use Rattle.fs_machine.proofs.StayLemmas.{exchange_lives, moved_there, changed_there}
 use Rattle.fs_machine.proofs.ClosureLemmas.{hangs_up}
-use Rattle.fs_machine.proofs.HangLemmas.{Falls, Cut, Unbridged, Rests, Parks, given_up_kept, hangups_kept}
+use Rattle.fs_machine.proofs.HangLemmas.{dies, Falls, Cut, Unbridged, Rests, Parks, given_up_kept, hangups_kept}
 
 -- ---- what is apart from others
 
@@ -40,8 +40,8 @@ pub record IsApart (s : Switch) (slot : ℕ) : Type 0 where
 falls_lone : (hangs : ℕ → Bool) (slot : ℕ) (old new : Chan) → Falls hangs slot old new → old.leg_of ≡ None → new.leg_of ≡ None
 falls_lone hangs slot old new (Cut cause hung) lone = refl
 falls_lone hangs slot old new (Unbridged cause) lone = lone
-falls_lone hangs slot old new (Rests outlives) lone = lone
-falls_lone hangs slot old new (Parks outlives) lone = lone
+falls_lone hangs slot old new (Rests outlives live) lone = lone
+falls_lone hangs slot old new (Parks outlives live) lone = lone
 
 apart_put : (s : Switch) (slot place : ℕ) (old new : Chan) → chan_at s place ≡ Some old → (old.leg_of ≡ None → new.leg_of ≡ None) →
     IsApart s slot → IsApart (with_chan place (Some new) s) slot
@@ -81,7 +81,7 @@ pub apart_hung : (slot : ℕ) (named : Members) (s : Switch) → IsApart s slot 
 apart_hung slot named s h =
     hangups_kept named s (λ (t : Switch). IsApart t slot) (λ event t k. record { bridge = k.bridge; lone = k.lone })
     (λ place old new t there falls k. apart_put t slot place old new there (falls_lone (λ at. hangs_up at named s) place old new falls) k)
-    (λ number t k. apart_ends number slot t k) (λ change number t k. apart_changed change number slot t k)
+    (λ number t k. apart_ends number slot t k) (λ cause place leg number t k. apart_changed (dies cause place leg) number slot t k)
     (λ number t k. record { bridge = k.bridge; lone = k.lone }) h
 
 given_up_apart : (slot place : ℕ) (awaited : Option ℕ) (s : Switch) → IsApart s slot → IsApart (orig_given_up place awaited s) slot

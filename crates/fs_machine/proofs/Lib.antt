@@ -11,6 +11,7 @@ pub mod HangLemmas
 pub mod JoinLemmas
 pub mod TryWalk
 pub mod Walk
+pub mod WonLemmas
 pub mod RestLemmas
 pub mod FrontLemmas
 pub mod ActWalk

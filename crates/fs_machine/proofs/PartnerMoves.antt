@@ -26,7 +26,7 @@ use Rattle.fs_machine.proofs.Kept.{Stage, Fact, KeptByBirths, raced, KeptByMoves
 use Rattle.fs_machine.proofs.StayLemmas.{new_lives, execute_lives, routing_lives, park_lives, exchange_lives, state_told_kept, moved_there}
 use Rattle.fs_machine.proofs.StayLemmas.{orig_changed_channels}
 use Rattle.fs_machine.proofs.ClosureLemmas.{NoneAtZero, hangs_up, members_lived, partner_hangs_up}
-use Rattle.fs_machine.proofs.HangLemmas.{Falls, Cut, Unbridged, Rests, Parks, ends_kept, members_kept, survivals_kept, hangups_kept}
+use Rattle.fs_machine.proofs.HangLemmas.{dies, Falls, Cut, Unbridged, Rests, Parks, ends_kept, members_kept, survivals_kept, hangups_kept}
 use Rattle.fs_machine.proofs.NameLemmas.{leg_chan, far_chan, pair_channels}
 use Rattle.fs_machine.proofs.FrontLemmas.{Front, front_of, KeptByRemains, calls_by_remains, dials_by_remains, moves_by_front}
 use Rattle.fs_machine.proofs.TieLemmas.{lives_as, lives_in, HungAs, hung_by, named_in, Ties, ties_put, ties_gone, ties_joined}
@@ -67,9 +67,9 @@ spared_falls hangs s t slot place old new stays there (Cut cause hung) h =
     spared_put s t slot place old (hung_up cause old) there (λ same. absurd (true≢false (sym hung ∙ (ap hangs (sym same) ∙ stays)))) h
 spared_falls hangs s t slot place old new stays there (Unbridged cause) h =
     spared_put s t slot place old (unbridged cause old) there (λ same. (refl, λ live. live)) h
-spared_falls hangs s t slot place old new stays there (Rests outlives) h =
+spared_falls hangs s t slot place old new stays there (Rests outlives lived) h =
     spared_put s t slot place old (at_rest old) there (λ same. (refl, λ live. live)) h
-spared_falls hangs s t slot place old new stays there (Parks outlives) h =
+spared_falls hangs s t slot place old new stays there (Parks outlives lived) h =
     spared_put s t slot place old (parked old) there (λ same. (refl, λ live. park_lives)) h
 
 spared_changed : (change : Orig → Orig) (number : ℕ) (s t : Switch) (slot : ℕ) → Spared s t slot → Spared s (orig_changed change number t) slot
@@ -90,7 +90,7 @@ spared named s slot stays =
     hangups_kept named s (λ (t : Switch). Spared s t slot) (λ event t k. spared_told s t slot (with_event event t) refl k)
     (λ place old new t there falls k. spared_falls (λ at. hangs_up at named s) s t slot place old new stays there falls k)
     (λ number t k. spared_told s t slot (without_bridge number t) refl k)
-    (λ change number t k. spared_changed change number s t slot k)
+    (λ cause place leg number t k. spared_changed (dies cause place leg) number s t slot k)
     (λ number t k. spared_told s t slot (without_orig number t) refl k) (record { names = refl; live = λ lived. lived })
 
 -- ---- who hangs up
@@ -106,8 +106,8 @@ none_falls hangs t slot place old new there falls h = by (cases_eq slot place)
     kept : (x : Chan) → Falls hangs place old x → old.partner ≡ None → x.partner ≡ None
     kept x (Cut cause hung) none = refl
     kept x (Unbridged cause) none = none
-    kept x (Rests outlives) none = none
-    kept x (Parks outlives) none = none
+    kept x (Rests outlives lived) none = none
+    kept x (Parks outlives lived) none = none
 
     by : (slot ≡ place) ⊎ (slot ≡ place → ⊥) → NamesNone slot (with_chan place (Some new) t)
     by (inl same) =
@@ -126,13 +126,13 @@ none_members : (untold : List Ended) (members : Members) (slot : ℕ) (t : Switc
 none_members untold members slot t h =
     members_kept (λ at. true) (NamesNone slot) (λ event u k. k)
     (λ place old new u there falls k. none_falls (λ at. true) u slot place old new there falls k) (λ number u k. k)
-    (λ change number u k. none_changed change number slot u k) (λ number u k. k) untold members t (λ m one. refl) h
+    (λ cause place leg number u k. none_changed (dies cause place leg) number slot u k) (λ number u k. k) untold members t (λ m one. refl) h
 
 none_survivals : (survivors : List (ℕ × After)) (slot : ℕ) (t : Switch) → NamesNone slot t → NamesNone slot (after_survivals survivors t)
 none_survivals survivors slot t h =
     survivals_kept (λ at. false) (NamesNone slot) (λ event u k. k)
     (λ place old new u there falls k. none_falls (λ at. false) u slot place old new there falls k) (λ number u k. k)
-    (λ change number u k. none_changed change number slot u k) (λ number u k. k) survivors t (λ one is. refl) h
+    (λ cause place leg number u k. none_changed (dies cause place leg) number slot u k) (λ number u k. k) survivors t (λ one is. refl) h
 
 hung_here : (cause : Cause) (slot : ℕ) (t : Switch) → lives_in t.channels slot ≡ true → NamesNone slot (after_one_hangup cause slot t)
 hung_here cause slot t live = by (hung_by cause slot t)
@@ -194,7 +194,7 @@ ends_spared ended s slot =
     ends_kept (λ at. false) (λ (t : Switch). Spared s t slot) (λ event t k. spared_told s t slot (with_event event t) refl k)
     (λ place old new t there falls k. spared_falls (λ at. false) s t slot place old new refl there falls k)
     (λ number t k. spared_told s t slot (without_bridge number t) refl k)
-    (λ change number t k. spared_changed change number s t slot k)
+    (λ cause place leg number t k. spared_changed (dies cause place leg) number s t slot k)
     (λ number t k. spared_told s t slot (without_orig number t) refl k) ended s (record { names = refl; live = λ lived. lived })
 
 -- whoever hangs up names none
@@ -247,7 +247,9 @@ hung_zero : (named : Members) (s : Switch) → NoneAtZero s → NoneAtZero (afte
 hung_zero named s zero =
     hangups_kept named s NoneAtZero (λ event t k. k)
     (λ place old new t there falls k. zero_put t place (Some new) (not_zero t place old there k) k) (λ number t k. k)
-    (λ change number t k. ap (λ (channels : List (Option Chan)). held_in channels 0) (orig_changed_channels change number t) ∙ k)
+    (λ cause place leg number t k. ap (λ (channels : List (Option Chan)). held_in channels 0)
+    (orig_changed_channels (dies cause place leg) number t)
+    ∙ k)
     (λ number t k. k) zero
 
 -- a channel is changed that names the same partner, and lives if it lived
@@ -337,10 +339,10 @@ pub partners_moves : (before : Switch) → KeptByMoves before Partners
 partners_moves before =
     moves_by_front before Partners same_partners
     (calls_by_remains before Partners same_partners remains_partners births_partners
-    (λ orig leg slots won u live h. media_partners (unwrap_or leg.slot 0) u h))
+    (λ at u live h. media_partners at u h))
     births_partners
     (dials_by_remains before Partners same_partners remains_partners births_partners
-    (λ orig leg slots won u live h. media_partners (unwrap_or leg.slot 0) u h))
+    (λ at u live h. media_partners at u h))
     (λ job conn winner caller orig leg slots does won h. record {
       ties = won_partners winner (unwrap_or leg.slot 0) (raced slots before) h.ties;
       zero = won_zero winner (unwrap_or leg.slot 0) (raced slots before) h.zero;

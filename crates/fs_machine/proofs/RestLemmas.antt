@@ -4,6 +4,7 @@ use Rattle.std.specs.Prelude.{codes}
 use Rattle.std.specs.Option.{option_and_then}
 use Rattle.fs_text.specs.Cause.{cause_name}
 use Rattle.fs_text.specs.declared.causes.Cause.{Cause}
+use Rattle.fs_text.specs.declared.causes.Cause.TheVariants.{NormalTemporaryFailure}
 use Rattle.fs_text.specs.declared.event_names.EventName.TheVariants.{ChannelExecuteComplete}
 use Rattle.fs_doc.specs.Reading.{Configuration}
 use Rattle.fs_bridge.specs.declared.row.BridgeKind.{BridgeKind}
@@ -33,7 +34,7 @@ use Rattle.fs_state.specs.Switch.{Switch, chan_at, with_chan, with_bridge, orig_
 use Rattle.fs_state.specs.Moves.{plain_event, after_move, with_changed_chan, after_completion, orig_changed_from, orig_changed, leg_changed}
 use Rattle.fs_state.specs.Moves.{after_answer, orig_given_up}
 use Rattle.fs_state.specs.Hangups.{after_hangups, after_hangup}
-use Rattle.fs_state.specs.Bridging.{can_join, peer_of, with_peer_from, with_peer, joined_as, after_join}
+use Rattle.fs_state.specs.Bridging.{can_join, peer_of, with_peer_from, with_peer, joined_as}
 use Rattle.fs_machine.specs.declared.originations.Call.{Call}
 use Rattle.fs_machine.specs.Originations.{leg_end, pair_made, MadeGroup, group_made, won_by, after_winning}
 use Rattle.fs_machine.specs.Attempts.{first_group, orig_begun, with_group}
@@ -45,7 +46,7 @@ use Rattle.fs_machine.specs.Work.{after_work}
 use Rattle.fs_machine.proofs.Kept.{Stage, Fact, KeptByTouches, KeptByCalls, KeptByBirths, DoesJob, KeptByDials, raced}
 use Rattle.fs_machine.proofs.NameLemmas.{leg_by}
 use Rattle.fs_machine.proofs.StayLemmas.{moved_there, changed_there}
-use Rattle.fs_machine.proofs.HangLemmas.{hangups_kept, given_up_kept}
+use Rattle.fs_machine.proofs.HangLemmas.{dies, hangups_kept, given_up_kept}
 use Rattle.fs_machine.proofs.Walk.{answered_kept, disposed_kept, worked_kept, group_made_kept}
 
 -- what is left of a switch without channels, bridges, originations, globals, news, and the numbers that these draw
@@ -103,7 +104,7 @@ changed_rest change slot s = changed_there (λ (t : Switch). rest_of t ≡ rest_
 pub hung_rest : (named : Members) (s : Switch) → rest_of (after_hangups named s) ≡ rest_of s
 hung_rest named s =
     hangups_kept named s (λ (t : Switch). rest_of t ≡ rest_of s) (λ event t h. h) (λ slot old new t is falls h. h) (λ number t h. h)
-    (λ change number t h. orig_changed_rest change number t ∙ h) (λ number t h. h) refl
+    (λ cause place leg number t h. orig_changed_rest (dies cause place leg) number t ∙ h) (λ number t h. h) refl
 
 given_up_rest : (slot : ℕ) (awaited : Option ℕ) (s : Switch) → rest_of (orig_given_up slot awaited s) ≡ rest_of s
 given_up_rest slot awaited s = given_up_kept (λ (t : Switch). rest_of t ≡ rest_of s) (λ number t h. h) slot awaited s refl
@@ -124,13 +125,6 @@ joined_rest : (kind : BridgeKind) (caller answerer : ℕ) (s : Switch) → rest_
 joined_rest kind caller answerer s =
     let t : Switch = with_bridge caller answerer kind s in
     peer_rest answerer caller (with_peer caller answerer t) ∙ peer_rest caller answerer t
-
-join_rest : (kind : BridgeKind) (caller answerer : ℕ) (s : Switch) → rest_of (after_join kind caller answerer s) ≡ rest_of s
-join_rest kind caller answerer s = by (can_join caller answerer s)
-  where
-    by : (test : Bool) → rest_of (if test then joined_as kind caller answerer s else s) ≡ rest_of s
-    by true = joined_rest kind caller answerer s
-    by false = refl
 
 -- ---- facts on the rest
 
@@ -192,7 +186,10 @@ unfolding after_bridge_win
 bridge_win_rest slot leg s =
     let t : Switch = after_answer slot s in
     let u : Switch = disposed (codes "SUCCESS") slot t in
-    moved_rest in_media leg (after_join Dial slot leg u) ∙ join_rest Dial slot leg u ∙ disposed_rest (codes "SUCCESS") slot t
+    whichever (λ (v : Switch). rest_of v ≡ rest_of u) (can_join slot leg u) (after_move in_media leg (joined_as Dial slot leg u))
+    (after_bridge_failure NormalTemporaryFailure slot u) (moved_rest in_media leg (joined_as Dial slot leg u) ∙ joined_rest Dial slot leg u)
+    (failure_rest NormalTemporaryFailure slot u)
+    ∙ disposed_rest (codes "SUCCESS") slot t
     ∙ answered_rest slot s
 
 -- ---- the legs of a group are made

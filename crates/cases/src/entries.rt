@@ -11,7 +11,8 @@ use fs_text::{Memory, Txt};
 use std::alloc::Global;
 
 /// Answers `entries STEPS`, with `;` between them: `arrive`, `say CONNECTION LINE`, `take CONNECTION`, `job NUMBER`,
-/// and `work SLOTS` with an entry for each slot. It tells what `bridging` tells, refusals, and the frames that are taken.
+/// and `work SLOTS` with an entry for each slot. It tells what `bridging` tells, refusals, and the frames that are
+/// taken.
 pub(crate) fn tell_entries(
     alloc: Global,
     table: &Table,

@@ -16,28 +16,6 @@ use Rattle.fs_bridge.specs.Worlds.{World, AreLines}
 use Rattle.fs_bridge.specs.Orders.{placed, in_order}
 use Rattle.fs_bridge.specs.Closure.{Member, Members, drags, may_join, round_after, with_rounds}
 
--- ---- legs
-
--- one more leg
-pub leg_next : {X Y : Type 0} (f : X → Y) (legs : List X) (k : ℕ) (leg : X) → slice_get legs k ≡ Some leg →
-    map f (take (k + 1) legs) ≡ map f (take k legs) ++ f leg ∷ []
-leg_next f legs k leg is =
-    map_more f legs k leg (slice_get_within legs k leg is)
-    ∙ ap (λ next. map f (take k legs) ++ f next ∷ []) (get_or_from_slice_get legs k leg leg is)
-
-leg_within : (w : World) (slot leg : ℕ) → AreLines w → Any (λ other. eqb leg other ≡ true) (w.legs slot) → leg < w.slots + 1
-leg_within w slot leg lines among =
-    let last : get_or (w.legs slot) among.0 among.1 ≤ w.slots = (lines.legs slot among.0 among.1 among.2).last in
-    let there : get_or (w.legs slot) among.0 among.1 ≡ among.1 = among.3 in
-    let same : leg ≡ among.1 = eqb-true leg among.1 among.4 in
-    omega arith
-
--- no more legs than slots, and one
-pub few_legs : (w : World) (slot : ℕ) → AreLines w → length (w.legs slot) ≤ w.slots + 1
-few_legs w slot lines =
-    length-le_from_distinct_below (w.legs slot) (w.slots + 1) (lines.differ slot)
-    (λ leg among. leg_within w slot leg lines (Any-from_list_any (eqb leg) (w.legs slot) among))
-
 -- ---- a round
 
 option_alone : {X : Type 0} (o : Option X) → cons_option o [] ≡ option_to_list o

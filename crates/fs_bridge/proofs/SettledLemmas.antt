@@ -1,7 +1,7 @@
 -- Whoever lives and is dragged by one who hangs up, hangs up.
 use Rattle.std.proofs.Common.{◌≡◌, ℕ, zero, suc, ◌+◌, ◌<◌, ◌≤◌, Bool, true, false, ◌||◌, ◌&&◌, not, cond, eqb, [], ◌∷◌, ◌++◌, map, length}
 use Rattle.std.proofs.Common.{get_or, filter, flat_map, ◌⊎◌, inl, inr, refl, ap, sym, subst, ◌∙◌, arith, Any}
-use Rattle.std.specs.Prelude.{◌==◌}
+use Rattle.std.specs.Prelude.{◌==◌, All}
 use Rattle.std.specs.List.{list_any, IsDistinct, AllByRecursion}
 use Rattle.std.proofs.Math.Nat.{suc-ne-zero}
 use Rattle.std.proofs.lemmas.List.{length-append, length-map}
@@ -10,10 +10,10 @@ use Rattle.std.proofs.lemmas.Bool.{eqb-true, true≢false, false_from_ne_true, o
 use Rattle.std.proofs.lemmas.Cmp.{nat_eq_equiv}
 use Rattle.std.proofs.lemmas.Map.Keys.{IsDistinct-cons}
 use Rattle.std.proofs.lemmas.Map.Steps.{length-le_from_distinct_below}
-use Rattle.fs_bridge.specs.Worlds.{World, AreLines}
+use Rattle.fs_bridge.specs.Worlds.{World, IsSlot}
 use Rattle.fs_bridge.specs.Orders.{has_slot, in_order}
 use Rattle.fs_bridge.specs.Closure.{Member, Members, AreNamed, drags, may_join, round_after, with_rounds, members_of}
-use Rattle.fs_bridge.specs.Hangups.{IsOneOf, EachDraggedHangsUp}
+use Rattle.fs_bridge.specs.Hangups.{IsOneOf, IsDragged, EachDraggedHangsUp}
 use Rattle.fs_bridge.proofs.DragLemmas.{one_parts, one_front, one_back}
 use Rattle.fs_bridge.proofs.OnceLemmas.{count_in, count_cons, has_order, order_once, more_once}
 
@@ -145,6 +145,10 @@ next_settles w members round h = record {
 
 -- ---- there are enough rounds
 
+-- whoever lives is in a slot that there is
+abbrev pub AreSlots : World → Type 0
+AreSlots w = (slot : ℕ) → w.live slot ≡ true → IsSlot w slot
+
 apart_head : (slot : ℕ) (m : Member) (n count : ℕ) (here : Bool) → (m.0 == slot) ≡ here → count ≡ cond here 1 0 + n → count ≡ 0 →
     ((slot == m.0) ≡ false) × (n ≡ 0)
 apart_head slot m n count true is sum none = absurd (suc-ne-zero n (omega (arith, sum, none)))
@@ -184,23 +188,23 @@ not_zero : (slot : ℕ) → 1 ≤ slot → eqb 0 slot ≡ false
 not_zero slot first =
     false_from_ne_true (eqb 0 slot) (λ is. let same = eqb-true 0 slot is in suc-ne-zero 0 (omega (arith, same, first)))
 
-no_zero : (w : World) (ms : Members) → AreLines w → ((slot : ℕ) → has_slot slot ms ≡ true → w.live slot ≡ true) →
+no_zero : (w : World) (ms : Members) → AreSlots w → ((slot : ℕ) → has_slot slot ms ≡ true → w.live slot ≡ true) →
     AllByRecursion (λ other. eqb 0 other ≡ false) (map (λ m. m.0) ms)
 no_zero w [] lines lives = tt
 no_zero w (m ∷ ms) lines lives = (
-  not_zero m.0 (lines.live m.0 (lives m.0 (or_left (m.0 == m.0) (has_slot m.0 ms) (nat_eq_equiv.refl m.0)))).first,
+  not_zero m.0 (lines m.0 (lives m.0 (or_left (m.0 == m.0) (has_slot m.0 ms) (nat_eq_equiv.refl m.0)))).first,
   no_zero w ms lines (λ slot is. lives slot (or_right (m.0 == slot) (has_slot slot ms) is)),
 )
 
-within : (w : World) (ms : Members) (slot : ℕ) → AreLines w → ((slot : ℕ) → has_slot slot ms ≡ true → w.live slot ≡ true) →
+within : (w : World) (ms : Members) (slot : ℕ) → AreSlots w → ((slot : ℕ) → has_slot slot ms ≡ true → w.live slot ≡ true) →
     list_any (eqb slot) (0 ∷ map (λ m. m.0) ms) ≡ true → slot < w.slots + 1
 within w ms slot lines lives is =
     elim (or_cases (eqb slot 0) (list_any (eqb slot) (map (λ m. m.0) ms)) is) [
       | inl here ↦ let none = eqb-true slot 0 here in omega (arith, none)
-      | inr there ↦ let last = (lines.live slot (lives slot (slot_has slot ms there))).last in omega (arith, last)
+      | inr there ↦ let last = (lines slot (lives slot (slot_has slot ms there))).last in omega (arith, last)
     ]
 
-few_members : (w : World) (ms : Members) → AreLines w → ((slot : ℕ) → has_slot slot ms ≡ true → w.live slot ≡ true) →
+few_members : (w : World) (ms : Members) → AreSlots w → ((slot : ℕ) → has_slot slot ms ≡ true → w.live slot ≡ true) →
     ((slot : ℕ) → count_in slot ms ≤ 1) → length ms ≤ w.slots
 few_members w ms lines lives once =
     let few = length-le_from_distinct_below (0 ∷ map (λ m. m.0) ms) (w.slots + 1)
@@ -233,13 +237,13 @@ next_enough : (w : World) (more : ℕ) (members round : Members) → Enough w (s
 next_enough w more members round (inl empty) = inl (empty_next w members round empty)
 next_enough w more members round (inr enough) = enough_case w more members (round_after w members round) enough
 
-last_empty : (w : World) (members round : Members) → AreLines w → Settles w members round → Enough w zero members round → length round ≡ 0
+last_empty : (w : World) (members round : Members) → AreSlots w → Settles w members round → Enough w zero members round → length round ≡ 0
 last_empty w members round lines h (inl empty) = empty
 last_empty w members round lines h (inr enough) =
     let few = few_members w members lines h.lives h.once in
     absurd (suc-ne-zero (w.slots) (omega (arith, few, enough)))
 
-rounds_settle : (w : World) (more : ℕ) (members round : Members) → AreLines w → Settles w members round → Enough w more members round →
+rounds_settle : (w : World) (more : ℕ) (members round : Members) → AreSlots w → Settles w members round → Enough w more members round →
     (by : Member) → IsOneOf by (with_rounds w more members round) → Settled w (with_rounds w more members round) by
 rounds_settle w zero members round lines h enough by is =
     elim (h.each by is) [
@@ -265,13 +269,17 @@ one_stands m (d ∷ ms) (inr is) = or_right (d.0 == m.0) (has_slot m.0 ms) (one_
 
 -- ---- those who are named
 
-named_at : (w : World) (named : Members) (slot : ℕ) → AreNamed w named → Any (λ m. (m.0 == slot) ≡ true) named → w.live slot ≡ true
+-- they live
+abbrev pub AreLive : World → Members → Type 0
+AreLive w named = All (λ m. w.live m.0 ≡ true) named
+
+named_at : (w : World) (named : Members) (slot : ℕ) → AreLive w named → Any (λ m. (m.0 == slot) ≡ true) named → w.live slot ≡ true
 named_at w named slot are among =
     let there : get_or named among.0 among.1 ≡ among.1 = among.3 in
     let same : among.1.0 ≡ slot = eqb-true among.1.0 slot among.4 in
-    ap (λ s. w.live s) (sym same) ∙ ap (λ m. w.live m.0) (sym there) ∙ are.live among.0 among.1 among.2
+    ap (λ s. w.live s) (sym same) ∙ ap (λ m. w.live m.0) (sym there) ∙ are among.0 among.1 among.2
 
-named_lives : (w : World) (named : Members) (slot : ℕ) → AreNamed w named → has_slot slot (in_order named) ≡ true → w.live slot ≡ true
+named_lives : (w : World) (named : Members) (slot : ℕ) → AreLive w named → has_slot slot (in_order named) ≡ true → w.live slot ≡ true
 named_lives w named slot are is =
     named_at w named slot are (Any-from_list_any (λ (m : Member). m.0 == slot) named (sym (has_order slot [] named) ∙ is))
 
@@ -279,21 +287,30 @@ first_enough : (w : World) (round : Members) → Enough w w.slots round round
 first_enough w [] = inl refl
 first_enough w (m ∷ round) = inr (omega arith)
 
-named_settle : (w : World) (named : Members) → AreNamed w named → Settles w (in_order named) (in_order named)
+named_settle : (w : World) (named : Members) → AreLive w named → Settles w (in_order named) (in_order named)
 named_settle w named are = record {
   each = λ by is. inl is;
   lives = λ slot is. named_lives w named slot are is;
   once = λ slot. order_once slot [] named (omega arith);
 }
 
-pub each_dragged_hangs_up : EachDraggedHangsUp
+-- whoever lives and is dragged by one who hangs up hangs up, where those who are named live
+pub dragged_hang_up : (w : World) (named : Members) (m : Member) → AreSlots w → AreLive w named → IsDragged w (members_of w named) m →
+    w.live m.0 ≡ true → has_slot m.0 (members_of w named) ≡ true
 unfolding members_of
-each_dragged_hangs_up w named m lines are dragged lives =
-    rounds_settle w w.slots (in_order named) (in_order named) lines (named_settle w named are) (first_enough w (in_order named))
+dragged_hang_up w named m slots are dragged lives =
+    rounds_settle w w.slots (in_order named) (in_order named) slots (named_settle w named are) (first_enough w (in_order named))
     dragged.by dragged.member m dragged.dragged lives
 
 -- whoever hangs up lived
-pub members_live : (w : World) (named : Members) (slot : ℕ) → AreNamed w named → has_slot slot (members_of w named) ≡ true →
+pub all_members_live : (w : World) (named : Members) (slot : ℕ) → AreLive w named → has_slot slot (members_of w named) ≡ true →
     w.live slot ≡ true
 unfolding members_of
-members_live w named slot are is = rounds_live w w.slots (in_order named) (in_order named) slot (named_settle w named are) is
+all_members_live w named slot are is = rounds_live w w.slots (in_order named) (in_order named) slot (named_settle w named are) is
+
+pub each_dragged_hangs_up : EachDraggedHangsUp
+each_dragged_hangs_up w named m lines are dragged lives = dragged_hang_up w named m lines.live are.live dragged lives
+
+pub members_live : (w : World) (named : Members) (slot : ℕ) → AreNamed w named → has_slot slot (members_of w named) ≡ true →
+    w.live slot ≡ true
+members_live w named slot are is = all_members_live w named slot are.live is

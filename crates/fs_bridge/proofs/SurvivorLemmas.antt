@@ -91,7 +91,7 @@ rounds_are_members w named m =
 
 -- ---- who outlives a bridge
 
-record IsTold {X Y : Type 0} (h : X → Option Y) (y : Y) (xs : List X) : Type 0 where
+pub record IsTold {X Y : Type 0} (h : X → Option Y) (y : Y) (xs : List X) : Type 0 where
   pub by : X
   pub one : IsOneOf by xs
   pub told : h by ≡ Some y
@@ -102,7 +102,7 @@ told_case h y x xs None is rest one = let r = rest one in record { by = r.by; on
 told_case h y x xs (Some z) is rest (inl same) = record { by = x; one = inl refl; told = is ∙ ap (λ v. Some v) (sym same) }
 told_case h y x xs (Some z) is rest (inr one) = let r = rest one in record { by = r.by; one = inr r.one; told = r.told }
 
-one_told : {X Y : Type 0} (h : X → Option Y) (y : Y) (xs : List X) → IsOneOf y (filter_map h xs) → IsTold h y xs
+pub one_told : {X Y : Type 0} (h : X → Option Y) (y : Y) (xs : List X) → IsOneOf y (filter_map h xs) → IsTold h y xs
 one_told h y [] is = absurd is
 one_told h y (x ∷ xs) is = told_case h y x xs (h x) refl (one_told h y xs) is
 
@@ -112,7 +112,7 @@ no_member members left s true is told = absurd (none-some s told)
 no_member members left s false is told =
     let same : left ≡ s = same_Some left s told in (same, ap (λ l. has_slot l.0 members) (sym same) ∙ is)
 
-left_case : (members : Members) (s : ℕ × After) (o : Option (ℕ × After)) →
+pub left_case : (members : Members) (s : ℕ × After) (o : Option (ℕ × After)) →
     option_and_then (λ left. if has_slot left.0 members then None else Some left) o ≡ Some s → (o ≡ Some s) × (has_slot s.0 members ≡ false)
 left_case members s None told = absurd (none-some s told)
 left_case members s (Some left) told =

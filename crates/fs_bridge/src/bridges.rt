@@ -49,6 +49,16 @@ impl Bridges {
         }
     }
 
+    /// The same bridges once more.
+    pub fn copy(&self) -> Result<Bridges, Memory>
+        ensures { IfOk result (λ copy. copy ≡ self.now) }
+    {
+        Ok(Bridges {
+            rows: self.rows.clone()?,
+            drawn: self.drawn,
+        })
+    }
+
     /// What holds of all bridges that stand. It does nothing, and stands for its contract.
     pub fn sound(&self)
         ensures { IsSound self.now }

@@ -1,9 +1,8 @@
 //! What a hangup drags along, and what it comes to.
 
-ghost use Rattle.std.specs.Prelude.{◌≡◌, ◌++◌, fold, filter, option_to_list, option_and_then, IfOk, OnOk};
+ghost use Rattle.std.specs.Prelude.{◌≡◌, ◌++◌, fold, filter, map, option_to_list, option_and_then, IfOk, OnOk};
 ghost use Rattle.fs_bridge.specs.Closure as spec;
 ghost use Rattle.fs_bridge.specs.Orders.{placed, in_order};
-ghost use Rattle.fs_bridge.specs.Worlds.{AreLines};
 
 use crate::after::{After, after_kind};
 use crate::lines::Lines;
@@ -52,7 +51,7 @@ impl Closure {
     }
 }
 
-/// What it comes to that some channels, which live and are each named once, hang up of these causes.
+/// What it comes to that some channels hang up of these causes.
 ///
 /// In each round hang up those whom the channels of the round before drag along: a loopback partner for the same cause,
 /// the living legs of an origination, and the other leg of a bridge, where it does not outlive that.
@@ -61,8 +60,6 @@ pub fn closure_of_hangup<L: Lines>(
     world: &L,
     first: &[(u16, Cause)],
 ) -> Result<Closure, Memory>
-    requires lines { AreLines (L.world world.now) }
-    requires named { spec.AreNamed (L.world world.now) first.now }
     ensures { IfOk result (λ closure. closure ≡ spec.closure_of (L.world world.now) first.now) }
 {
     let rounds = members_of(alloc, world, first)?;
@@ -83,7 +80,6 @@ fn members_of<L: Lines>(
     world: &L,
     named: &[(u16, Cause)],
 ) -> Result<Vec<(u16, Cause)>, Memory>
-    requires { AreLines (L.world world.now) }
     ensures { IfOk result (λ members. members.items ≡ spec.members_of (L.world world.now) named.now) }
 {
     let mut round = by_slots(alloc, named)?;
@@ -106,7 +102,6 @@ fn next_round<L: Lines>(
     members: &[(u16, Cause)],
     round: &[(u16, Cause)],
 ) -> Result<Vec<(u16, Cause)>, Memory>
-    requires { AreLines (L.world world.now) }
     ensures { IfOk result (λ next. next.items ≡ spec.round_after (L.world world.now) members.now round.now) }
 {
     let mut next = Vec::new(alloc);
@@ -148,7 +143,6 @@ fn dragged<L: Lines>(
     world: &L,
     member: (u16, Cause),
 ) -> Result<Vec<(u16, Cause)>, Memory>
-    requires { AreLines (L.world world.now) }
     ensures { IfOk result (λ dragged. dragged.items ≡ spec.drags (L.world world.now) member) }
 {
     let mut dragged = Vec::new(alloc);
@@ -178,15 +172,18 @@ fn partner_of<L: Lines>(world: &L, member: (u16, Cause)) -> Option<(u16, Cause)>
 
 /// Puts the living legs of the origination that a slot owns behind all others.
 fn add_legs<L: Lines>(members: &mut Vec<(u16, Cause)>, world: &L, slot: u16) -> Result<(), Memory>
-    requires { AreLines (L.world world.now) }
     ensures ok { OnOk result (members.new.items ≡ members.old.items ++ spec.cancelled_legs (L.world world.now) slot) }
 {
-    let most = u32::from(world.slots()) + 1;
-    for k in 0..most {
-        match world.leg(slot, k) {
-            Some(leg) => members.push((leg, Cause::OriginatorCancel))?,
-            None => return Ok(()),
-        }
+    let legs = world.legs(slot)?;
+    cancel(members, &legs)
+}
+
+/// Puts legs whose origination is given up behind all others.
+fn cancel(members: &mut Vec<(u16, Cause)>, legs: &[u16]) -> Result<(), Memory>
+    ensures ok { OnOk result (members.new.items ≡ members.old.items ++ map spec.cancelled legs.now) }
+{
+    for leg in legs {
+        members.push((*leg, Cause::OriginatorCancel))?;
     }
     Ok(())
 }

@@ -1,10 +1,11 @@
 //! What a hangup asks of a switch.
 
-ghost use Rattle.std.specs.Prelude.{◌≡◌, slice_get};
+ghost use Rattle.std.specs.Prelude.{◌≡◌, IfOk};
 ghost use Rattle.std.specs.Option.{option_copied};
 ghost use Rattle.fs_bridge.specs.Worlds.{World};
 
 use crate::row::Row;
+use fs_text::Memory;
 use fs_vars::Vars;
 
 /// The channels of a switch, by their slots: what is to be known of them when some hang up.
@@ -28,9 +29,9 @@ pub trait Lines {
     fn partner(&self, slot: u16) -> Option<u16>
         ensures { result ≡ (world self.now).partner slot };
 
-    /// A living leg of the origination that it owns, counted from 0 in order of positions.
-    fn leg(&self, slot: u16, k: u32) -> Option<u16>
-        ensures { result ≡ slice_get ((world self.now).legs slot) k };
+    /// The living legs of the origination that it owns, in order of their positions.
+    fn legs(&self, slot: u16) -> Result<Vec<u16>, Memory>
+        ensures { IfOk result (λ legs. legs.items ≡ (world self.now).legs slot) };
 
     /// The bridge that it is part of.
     fn row(&self, slot: u16) -> Option<Row>

@@ -4,3 +4,4 @@ pub mod Assignments
 pub mod Changes
 pub mod Work
 pub mod Headers
+pub mod Bridging

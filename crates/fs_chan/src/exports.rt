@@ -59,7 +59,7 @@ fn list_export(alloc: Global, vars: &mut Vars, name: &[u8]) -> Result<bool, Memo
 }
 
 /// The comma list of the names that are exported.
-fn exports(vars: &Vars) -> &[u8]
+pub(crate) fn exports(vars: &Vars) -> &[u8]
     ensures { result.now ≡ spec.exports vars.now }
 {
     match vars.get(EXPORTS) {
@@ -87,7 +87,7 @@ fn is_listed(name: &[u8], list: &[u8]) -> bool
 
 /// The first name of a comma list, and the list behind its comma, if there is one.
 #[tactic(auto, using(crate::proofs::NameLemmas::one_name, crate::proofs::NameLemmas::first_name))]
-fn split_at_comma(list: &[u8]) -> (&[u8], Option<&[u8]>)
+pub(crate) fn split_at_comma(list: &[u8]) -> (&[u8], Option<&[u8]>)
     ensures names { spec.names_of list.now ≡ result.0.now ∷ spec.names_behind result.1 }
     ensures shorter { IfSome result.1 (λ rest. length rest.now < length list.now) }
 {

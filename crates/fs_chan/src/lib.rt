@@ -3,6 +3,7 @@
 
 mod action;
 mod assignment;
+mod bridging;
 mod chan;
 mod changes;
 mod due;

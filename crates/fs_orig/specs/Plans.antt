@@ -24,3 +24,11 @@ leg_plan braces leg = leg_behind (plain_pairs braces) leg
 -- the groups, leg by leg
 abbrev pub plans_of : Dial → List (List LegPlan)
 plans_of dial = map (λ legs. map (leg_plan dial.pairs) legs) dial.groups
+
+-- a leg with these pairs before its own
+abbrev pub plan_behind : List (Text × Text) → LegPlan → LegPlan
+plan_behind pairs plan = record plan { pairs = pairs ++ plan.pairs }
+
+-- legs, each with these before its own
+abbrev pub all_behind : List (Text × Text) → List LegPlan → List LegPlan
+all_behind pairs plans = map (plan_behind pairs) plans

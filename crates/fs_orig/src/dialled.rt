@@ -1,4 +1,4 @@
-//! The plans of the legs of a dial string.
+//! The plans of the legs of a dial string, and legs behind pairs that all of them get.
 
 ghost use Rattle.std.specs.Prelude.{◌≡◌, ◌++◌, map, IfOk};
 ghost use Rattle.fs_dial.specs.DialStrings.{dial_of};
@@ -24,6 +24,32 @@ impl LegPlans {
         }
         Ok(plans)
     }
+}
+
+impl LegGroup {
+    /// Copies of legs, each with these pairs before its own.
+    pub fn behind(alloc: Global, pairs: &Headers, plans: &[LegPlan]) -> Result<LegGroup, Memory>
+        ensures { IfOk result (λ group. group ≡ spec.all_behind pairs.now plans.now) }
+    {
+        let mut group = LegGroup::new(alloc);
+        for plan in plans {
+            group.push(plan_behind(alloc, pairs, plan)?)?;
+        }
+        Ok(group)
+    }
+}
+
+/// A copy of a leg, with these pairs before its own.
+fn plan_behind(alloc: Global, before: &Headers, plan: &LegPlan) -> Result<LegPlan, Memory>
+    ensures { IfOk result (λ copied. copied ≡ spec.plan_behind before.now plan.now) }
+{
+    let mut pairs = Headers::new(alloc);
+    add_copies(&mut pairs, before)?;
+    add_copies(&mut pairs, &plan.pairs)?;
+    Ok(LegPlan {
+        endpoint: plan.endpoint.copy()?,
+        pairs,
+    })
 }
 
 /// The plans of the legs of a group, each with these pairs before its own.

@@ -3,6 +3,7 @@ use Rattle.std.proofs.Common.{◌≡◌, ℕ, ◌+◌, ◌-◌, ◌^◌, ◌<◌
 use Rattle.std.proofs.Common.{Option, None, Some, refl, sym, ap, subst, ◌∙◌, arith}
 use Rattle.std.specs.List.{slice_set}
 use Rattle.std.proofs.lemmas.List.{get_or-set_same, get_or-set_other, length-set, length-append, length-drop}
+use Rattle.std.proofs.lemmas.List.Elements.{All-replicate, All-set}
 use Rattle.std.proofs.lemmas.List.Sums.{sum_by-cons}
 use Rattle.std.proofs.lemmas.Bool.{eqb-true}
 use Rattle.std.proofs.lemmas.Bool.Decides.{nat_tests}
@@ -13,7 +14,7 @@ use Rattle.fs_places.specs.Rows.{place_of}
 use Rattle.fs_state.specs.declared.conn.Conn.{Conn}
 use Rattle.fs_state.specs.declared.gift.Gift.{Gift}
 use Rattle.fs_state.specs.Queues.{Frames, queue_at, with_queue, behind_first, with_gift_delivered, requeued, with_frames_at, frames_given}
-use Rattle.fs_state.specs.Queues.{HaveRoom}
+use Rattle.fs_state.specs.Queues.{HaveRoom, AreWithin, no_queues, without_first_frame, without_frames, with_frames}
 
 -- less fits where more does
 pub room_less : (queues : List Frames) (n m : ℕ) → n ≤ m → HaveRoom queues m → HaveRoom queues n
@@ -96,3 +97,20 @@ room_requeued (Taken place) queues n h =
     room_with place (drop 1 (queue_at queues place)) queues n 0 (omega (arith, length-drop 1 (queue_at queues place)))
     (room_less queues (0 + n) n (omega arith) h)
 room_requeued (Cleared place) queues n h = room_with place [] queues n 0 (omega arith) (room_less queues (0 + n) n (omega arith) h)
+
+-- ---- how many frames a queue has at most
+
+pub within_none : (count : ℕ) → AreWithin (no_queues count) 0
+within_none count = record { each = All-replicate (λ queue. length queue ≤ 0) count [] (omega arith) }
+
+-- with another queue at a place, where it has no more than so many either
+pub within_with : (place : ℕ) (queue : Frames) (queues : List Frames) (most : ℕ) → length queue ≤ most → AreWithin queues most →
+    AreWithin (with_queue place queue queues) most
+within_with place queue queues most within h = record { each = All-set (λ q. length q ≤ most) queues place queue within h.each }
+
+pub within_more : (queues : List Frames) (most more : ℕ) → most ≤ more → AreWithin queues most → AreWithin queues more
+within_more queues most more less h = record { each = λ k d within. omega (arith, less, h.each k d within) }
+
+-- so queues have room for as many as are wanting to 2^63
+pub room_within : (queues : List Frames) (most count : ℕ) → AreWithin queues most → count + most < 2 ^ 63 → HaveRoom queues count
+room_within queues most count h less = record { each = λ k d within. omega (arith, less, h.each k d within) }

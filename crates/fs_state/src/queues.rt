@@ -16,14 +16,19 @@ use std::marker::Model;
 #[derive(Drop)]
 pub struct Queues {
     queues: Vec<LinkedList<Txt>>,
+    // No queue has more frames than this.
+    most: usize,
 }
 
 impl Model for Queues {
     ghost use Rattle.std.specs.Prelude.{ℕ, List};
+    ghost use Rattle.fs_state.specs.Queues.{AreWithin};
 
     ghost Value = { List (List (List ℕ)) };
 
     ghost view = { λ q. q.queues.items };
+
+    ghost invariant = { λ q. AreWithin q.queues.items q.most };
 }
 
 /// More frames than this does no queue have.
@@ -39,7 +44,7 @@ impl Queues {
         for _place in 0..count {
             queues.push(LinkedList::new(alloc))?;
         }
-        Ok(Queues { queues })
+        Ok(Queues { queues, most: 0 })
     }
 
     /// How many frames wait at a place.
@@ -86,16 +91,17 @@ impl Queues {
         ensures { self.new ≡ spec.with_frames place frames self.old }
     {
         let mut frames = frames;
+        self.most = self.most.saturating_add(frames.len());
         if let Some(queue) = self.queues.get_mut(place) {
             queue.append(&mut frames).unwrap();
         }
     }
 
-    /// Whether each queue may grow by so many frames.
+    /// Whether each queue may grow by so many frames, as far as it is known from how many were ever put there.
     pub fn have_room(&self, count: usize) -> bool
         ensures { result ≡ true → spec.HaveRoom self.now count }
     {
-        self.queues.iter().all(|queue| count < LIMIT - queue.len())
+        count < LIMIT.saturating_sub(self.most)
     }
 
     /// Puts what is given behind the frames of the connections that are there, without memory; the rest is dropped.

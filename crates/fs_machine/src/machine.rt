@@ -17,7 +17,6 @@ use crate::refusal::Refusal;
 use crate::refused::refused_act;
 use crate::reply::Reply;
 use fs_doc::Config;
-use fs_places::Boxed;
 use fs_plan::Dialplan;
 use fs_state::{Core, Delta, Draft};
 use fs_text::Memory;
@@ -50,7 +49,7 @@ impl Drop for Machine {
 /// What an entry is to change, once it was prepared.
 pub struct Change {
     pub entry: Entry,
-    pub delta: Boxed<Delta>,
+    pub delta: Delta,
     pub reply: Reply,
 }
 
@@ -66,7 +65,7 @@ impl Drop for Change {
 
 impl Change {
     /// The entry, what it changes, and the reply to it.
-    fn into_parts(self) -> (Entry, Boxed<Delta>, Reply)
+    fn into_parts(self) -> (Entry, Delta, Reply)
         ensures { result ≡ (self.entry, self.delta, self.reply) }
     {
         let Change {
@@ -143,9 +142,8 @@ impl Machine {
         ensures prepared { IfOk result (spec.Changes (spec.state_of self.old) asked.entry.now) }
         ensures room { IfOk result (λ change. 1 ≤ self.new.spare) }
     {
-        let change = plan(&self.core, &self.plan, asked)?;
         self.journal.make_room()?;
-        Ok(change)
+        plan(&self.core, &self.plan, asked)
     }
 
     /// Does what was prepared. It takes no memory.

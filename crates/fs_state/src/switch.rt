@@ -126,11 +126,11 @@ impl Core {
 
     /// Does what an entry changes, at its cost. It takes no memory.
     #[tactic(auto, using(fs_places::proofs::PlaceLemmas::written_length))]
-    pub fn apply(&mut self, delta: Boxed<Delta>, cost: u64)
+    pub fn apply(&mut self, delta: Delta, cost: u64)
         requires { Fits self.old delta }
         ensures { self.new ≡ spec.after_entry cost (after self.old delta) }
     {
-        let (news, given) = delta.into_inner().write_into(self);
+        let (news, given) = delta.write_into(self);
         self.queues.deliver(&self.conns, given);
         self.counts.count_all(news.as_slice());
         self.entries = self.entries.saturating_add(1);

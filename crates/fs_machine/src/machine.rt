@@ -18,7 +18,7 @@ use crate::refused::refused_act;
 use crate::reply::Reply;
 use fs_doc::Config;
 use fs_plan::Dialplan;
-use fs_state::{Core, Delta, Draft};
+use fs_state::{Core, Delta, Draft, Seen};
 use fs_text::Memory;
 use std::alloc::Global;
 use std::marker::Model;
@@ -192,20 +192,18 @@ fn plan(core: &Core, plan: &Dialplan, asked: &Entry) -> Result<Change, Refusal>
         let cost = core.cost();
         return Err(Refusal::JournalFull { cost, limit });
     }
+    if let Some(refusal) = refused_act(&Seen::of(core, asked.moment), &asked.act) {
+        return Err(refusal);
+    }
     let mut draft = Draft::new(core);
     draft.advance(asked.moment);
-    match refused_act(&draft, &asked.act) {
-        Some(refusal) => Err(refusal),
-        None => {
-            let (entry, reply) = enter(&mut draft, plan, asked)?;
-            let delta = draft.finish()?;
-            Ok(Change {
-                entry,
-                delta,
-                reply,
-            })
-        }
-    }
+    let (entry, reply) = enter(&mut draft, plan, asked)?;
+    let delta = draft.finish()?;
+    Ok(Change {
+        entry,
+        delta,
+        reply,
+    })
 }
 
 // Does an entry that is not refused to a draft, and copies it.

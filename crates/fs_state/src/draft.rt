@@ -505,7 +505,7 @@ impl<'a> Draft<'a> {
 
     // ---- the end
 
-    /// What is to change. It is refused, as for want of memory, where a queue would have 2^63 frames.
+    /// What is to change. It is refused, as for want of memory, where queues might come to have 2^63 frames.
     #[tactic(auto, using(crate::proofs::QueueLemmas::room_counted, crate::proofs::QueueLemmas::room_requeued))]
     pub fn finish(self) -> Result<Delta, Memory>
         ensures delta { IfOk result (λ delta. after self.entry.base delta ≡ drafted self.entry) }

@@ -36,7 +36,7 @@ const LIMIT: usize = 1 << 63;
 
 impl Queues {
     /// So many queues, in which nothing waits.
-    #[tactic(auto, unfolding(crate::specs::Queues::no_queues))]
+    #[tactic(auto, unfolding(crate::specs::Queues::no_queues), using(crate::proofs::QueueLemmas::within_none))]
     pub fn new(alloc: Global, count: usize) -> Result<Queues, Memory>
         ensures { IfOk result (λ queues. queues ≡ spec.no_queues count) }
     {
@@ -68,6 +68,7 @@ impl Queues {
     }
 
     /// Takes the first frame of a place out, if there is one.
+    #[tactic(auto, using(crate::proofs::QueueLemmas::within_taken))]
     pub fn take_first(&mut self, place: usize)
         ensures { self.new ≡ spec.without_first_frame place self.old }
     {
@@ -77,6 +78,7 @@ impl Queues {
     }
 
     /// Takes all frames of a place out.
+    #[tactic(auto, using(crate::proofs::QueueLemmas::within_cleared))]
     pub fn clear(&mut self, place: usize)
         ensures { self.new ≡ spec.without_frames place self.old }
     {
@@ -86,6 +88,7 @@ impl Queues {
     }
 
     /// Puts frames behind all others of a place, without memory.
+    #[tactic(auto, using(crate::proofs::QueueLemmas::within_given))]
     pub fn append(&mut self, place: usize, frames: LinkedList<Txt>)
         requires { spec.HaveRoom self.old (length frames) }
         ensures { self.new ≡ spec.with_frames place frames self.old }
@@ -98,6 +101,7 @@ impl Queues {
     }
 
     /// Whether each queue may grow by so many frames, as far as it is known from how many were ever put there.
+    #[tactic(auto, using(crate::proofs::QueueLemmas::room_within))]
     pub fn have_room(&self, count: usize) -> bool
         ensures { result ≡ true → spec.HaveRoom self.now count }
     {

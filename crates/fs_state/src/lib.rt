@@ -16,6 +16,7 @@ mod groups;
 mod job;
 mod moves;
 mod queues;
+mod seen;
 mod switch;
 
 pub use conn::{Conn, Parting, Phase};
@@ -27,4 +28,5 @@ pub use event::{Event, Events};
 pub use gift::{Gift, Gifts};
 pub use job::{Job, JobWork};
 pub use queues::Queues;
+pub use seen::Seen;
 pub use switch::Core;

@@ -1,2 +1,3 @@
 pub mod CloseLemmas
+pub mod EchoLemmas
 pub mod RangeLemmas

@@ -64,6 +64,11 @@ api_named name arguments =
 abbrev pub api_of : Text → Api
 api_of text = api_named (word_of (without_spaces text)) (behind_word (without_spaces text))
 
+-- the arguments of a text that is the command `echo`
+abbrev pub echoed : Text → Option Text
+echoed text =
+    if bytes_eq (word_of (without_spaces text)) (codes "echo") then Some (behind_word (without_spaces text)) else None
+
 -- a command, where `expand` is none
 abbrev pub without_expand : Api → Api
 without_expand (Expand text) = Unknown (codes "expand")

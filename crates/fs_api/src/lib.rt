@@ -8,4 +8,5 @@ mod usages;
 mod words;
 
 pub use api::Api;
+pub use reading::echoed;
 pub use usages::{Which, usage};

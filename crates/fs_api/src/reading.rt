@@ -1,6 +1,6 @@
 //! How the text of an api command is read.
 
-ghost use Rattle.std.specs.Prelude.{◌≡◌, IfOk};
+ghost use Rattle.std.specs.Prelude.{◌≡◌, IfOk, option_map};
 ghost use Rattle.fs_api.specs.Ranges.{IsInRange};
 ghost use Rattle.fs_api.specs.Readings as spec;
 ghost use Rattle.fs_api.specs.declared.api.Api.TheVariants as variant;
@@ -40,6 +40,18 @@ impl Api {
             }
             _ => Ok(api),
         }
+    }
+}
+
+/// What a text is answered that is the command `echo`: its arguments, without a copy of them.
+pub fn echoed(text: &[u8]) -> Option<&[u8]>
+    ensures { option_map (λ t. t.now) result ≡ spec.echoed text.now }
+{
+    let (name, arguments) = cut_word(without_spaces(text));
+    if name == b"echo".as_slice() {
+        Some(arguments)
+    } else {
+        None
     }
 }
 

@@ -1,6 +1,7 @@
 //! The frames that a connection is sent.
 
-ghost use Rattle.std.specs.Prelude.{◌≡◌, IfOk};
+ghost use Rattle.std.specs.Prelude.{◌≡◌, ◌++◌, length, codes, IfOk};
+ghost use Rattle.std.specs.Fmt.{decimal};
 ghost use Rattle.fs_cmd.specs.Frames as spec;
 
 use fs_text::{Memory, Txt, push_header};
@@ -39,30 +40,43 @@ pub fn api_reply(alloc: Global, answer: &[u8]) -> Result<Txt, Memory>
     ensures { IfOk result (λ t. t ≡ spec.api_reply answer.now) }
 {
     match answer {
-        [] => with_body(alloc, b"api/response", b"-ERR no reply\n"),
-        answer => with_body(alloc, b"api/response", answer),
+        [] => response(alloc, b"-ERR no reply\n"),
+        answer => response(alloc, answer),
     }
 }
 
+// The frame with an answer that has been told.
+#[tactic(auto, unfolding(crate::specs::Frames::with_body))]
+fn response(alloc: Global, answer: &[u8]) -> Result<Txt, Memory>
+    ensures { IfOk result (λ t. t ≡ spec.with_body (codes "api/response") answer.now) }
+{
+    behind_head(
+        alloc,
+        b"Content-Type: api/response\nContent-Length: ",
+        answer,
+    )
+}
+
 /// The last frame of a connection that the switch ends.
-#[tactic(auto, unfolding(crate::specs::Frames::notice))]
+#[tactic(auto, unfolding(crate::specs::Frames::notice, crate::specs::Frames::with_body))]
 pub fn notice(alloc: Global) -> Result<Txt, Memory>
     ensures { IfOk result (λ t. t ≡ spec.notice) }
 {
     let farewell = b"Disconnected, goodbye.\nSee you at ClueCon! http://www.cluecon.com/\n";
-    with_body(alloc, b"text/disconnect-notice", farewell)
+    behind_head(
+        alloc,
+        b"Content-Type: text/disconnect-notice\nContent-Length: ",
+        farewell,
+    )
 }
 
-// A frame of this type with a body.
-#[tactic(auto, unfolding(crate::specs::Frames::with_body))]
-fn with_body(alloc: Global, content_type: &[u8], body: &[u8]) -> Result<Txt, Memory>
-    ensures { IfOk result (λ t. t ≡ spec.with_body content_type.now body.now) }
+// A body behind a head that is to end with its length.
+fn behind_head(alloc: Global, head: &[u8], body: &[u8]) -> Result<Txt, Memory>
+    ensures { IfOk result (λ t. t ≡ head.now ++ decimal (length body.now) ++ codes "\n\n" ++ body.now) }
 {
     let mut digits = Buffer::new();
     let mut frame = Vec::with_capacity(alloc, body.len().saturating_add(HEADER_ROOM))?;
-    frame.extend_from_slice(b"Content-Type: ")?;
-    frame.extend_from_slice(content_type)?;
-    frame.extend_from_slice(b"\nContent-Length: ")?;
+    frame.extend_from_slice(head)?;
     frame.extend_from_slice(digits.format(body.len()).as_bytes())?;
     frame.extend_from_slice(b"\n\n")?;
     frame.extend_from_slice(body)?;

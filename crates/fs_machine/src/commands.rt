@@ -1,6 +1,6 @@
 //! What the commands of the event socket do.
 
-ghost use Rattle.std.specs.Prelude.{◌≡◌, OnOk};
+ghost use Rattle.std.specs.Prelude.{◌≡◌, Some, OnOk};
 ghost use Rattle.std.specs.Str.{bytes_eq};
 ghost use Rattle.fs_cmd.specs.Commands.{read_of};
 ghost use Rattle.fs_cmd.specs.Frames.{not_found};
@@ -11,7 +11,7 @@ ghost use Rattle.fs_machine.specs.Commands as spec;
 
 use crate::api::run_api;
 use crate::connections::{admit, part, phase_at};
-use fs_api::Api;
+use fs_api::{Api, echoed};
 use fs_cmd::{Command, api_reply, notice, reply};
 use fs_state::{Draft, Parting, Phase};
 use fs_text::Memory;
@@ -90,11 +90,21 @@ fn respond(draft: &mut Draft<'_>, conn: u32, text: &[u8]) -> Result<(), Memory>
     ensures ok { OnOk result
         (drafted draft.new ≡ spec.with_response conn (done_by conn (api_of text.now) (drafted draft.old))) }
 {
-    let alloc = draft.alloc();
-    let api = Api::of(alloc, text)?;
-    let Some(answer) = run_api(draft, conn, &api)? else {
-        return Ok(());
-    };
-    let frame = api_reply(alloc, answer.as_bytes())?;
+    if let Some(answer) = echoed(text) {
+        return give_answer(draft, conn, answer);
+    }
+    let api = Api::of(draft.alloc(), text)?;
+    match run_api(draft, conn, &api)? {
+        Some(answer) => give_answer(draft, conn, answer.as_bytes()),
+        None => Ok(()),
+    }
+}
+
+// Answers an api command.
+fn give_answer(draft: &mut Draft<'_>, conn: u32, answer: &[u8]) -> Result<(), Memory>
+    ensures base { draft.new.base ≡ draft.old.base }
+    ensures ok { OnOk result (drafted draft.new ≡ spec.with_response_of conn (Some answer.now) (drafted draft.old)) }
+{
+    let frame = api_reply(draft.alloc(), answer)?;
     draft.give(conn, frame)
 }

@@ -5,13 +5,12 @@ ghost use Rattle.std.specs.Option.{option_copied};
 ghost use Rattle.fs_chan.specs.Work as chan;
 ghost use Rattle.fs_places.specs.Places.{held_in};
 ghost use Rattle.fs_places.specs.Least as least;
-ghost use Rattle.fs_state.specs.Drafts.{drafted};
 ghost use Rattle.fs_state.specs.Switch.{orig_of};
 ghost use Rattle.fs_machine.specs.Due as spec;
 
 use fs_chan::Due;
 use fs_places::Numbered;
-use fs_state::{Draft, Job, JobWork};
+use fs_state::{Job, JobWork, Seen};
 
 /// Who has something to do by itself.
 #[derive(Clone, Copy, Debug, PartialEq, Eq)]
@@ -29,39 +28,39 @@ pub enum DueActor {
 // ---- one channel, one job
 
 /// When the channel in a slot has something to do.
-pub(crate) fn slot_due(draft: &Draft<'_>, slot: u16) -> Option<Due>
-    ensures { result ≡ spec.slot_due slot (drafted draft.now) }
+pub(crate) fn slot_due(seen: &Seen<'_>, slot: u16) -> Option<Due>
+    ensures { result ≡ spec.slot_due slot seen.now }
 {
-    let chan = draft.chan(slot)?;
+    let chan = seen.chan(slot)?;
     match chan.awaited() {
-        Some(orig) => orig_due(draft, orig),
-        None => chan.due(draft.moment()),
+        Some(orig) => orig_due(seen, orig),
+        None => chan.due(seen.moment()),
     }
 }
 
 /// When the job of a number has something to do.
-pub(crate) fn job_due(draft: &Draft<'_>, number: u64) -> Option<Due>
-    ensures { result ≡ spec.job_due number (drafted draft.now) }
+pub(crate) fn job_due(seen: &Seen<'_>, number: u64) -> Option<Due>
+    ensures { result ≡ spec.job_due number seen.now }
 {
-    work_due(draft, &draft.job(number)?.work)
+    work_due(seen, &seen.job(number)?.work)
 }
 
 // When a job of this work has something to do.
-fn work_due(draft: &Draft<'_>, work: &JobWork) -> Option<Due>
-    ensures { result ≡ spec.work_due (drafted draft.now) work.now }
+fn work_due(seen: &Seen<'_>, work: &JobWork) -> Option<Due>
+    ensures { result ≡ spec.work_due seen.now work.now }
 {
     match work {
-        JobWork::Sleep { until } => Some(due_at(draft.moment(), *until)),
-        JobWork::Originate { orig, .. } => orig_due(draft, *orig),
+        JobWork::Sleep { until } => Some(due_at(seen.moment(), *until)),
+        JobWork::Originate { orig, .. } => orig_due(seen, *orig),
     }
 }
 
 // When there is something to do about the origination of a number.
-fn orig_due(draft: &Draft<'_>, number: u64) -> Option<Due>
-    ensures { result ≡ spec.orig_due (drafted draft.now).moment (orig_of (drafted draft.now) number) }
+fn orig_due(seen: &Seen<'_>, number: u64) -> Option<Due>
+    ensures { result ≡ spec.orig_due seen.now.moment (orig_of seen.now number) }
 {
-    let orig = draft.orig(number)?;
-    let now = draft.moment();
+    let orig = seen.orig(number)?;
+    let now = seen.moment();
     Some(due_at(now, orig.due(now)))
 }
 
@@ -79,33 +78,33 @@ fn due_at(now: u64, until: u64) -> Due
 // ---- all of them
 
 /// The least slot, or else the least job, that has something to do, or the next moment at which one has.
-pub(crate) fn due_among_all(draft: &Draft<'_>) -> DueActor
-    ensures { result ≡ spec.due_among_all (drafted draft.now) }
+pub(crate) fn due_among_all(seen: &Seen<'_>) -> DueActor
+    ensures { result ≡ spec.due_among_all seen.now }
 {
-    if let Some(slot) = due_slot(draft) {
+    if let Some(slot) = due_slot(seen) {
         return DueActor::Slot(slot);
     }
-    if let Some(job) = due_job(draft) {
+    if let Some(job) = due_job(seen) {
         return DueActor::Job(job);
     }
-    later_or_never(lesser(first_chan_moment(draft), first_job_moment(draft)))
+    later_or_never(lesser(first_chan_moment(seen), first_job_moment(seen)))
 }
 
 /// The same of jobs alone.
-pub(crate) fn due_among_jobs(draft: &Draft<'_>) -> DueActor
-    ensures { result ≡ spec.due_among_jobs (drafted draft.now) }
+pub(crate) fn due_among_jobs(seen: &Seen<'_>) -> DueActor
+    ensures { result ≡ spec.due_among_jobs seen.now }
 {
-    match due_job(draft) {
+    match due_job(seen) {
         Some(job) => DueActor::Job(job),
-        None => later_or_never(first_job_moment(draft)),
+        None => later_or_never(first_job_moment(seen)),
     }
 }
 
 /// The same of one slot alone.
-pub(crate) fn due_in_slot(draft: &Draft<'_>, slot: u16) -> DueActor
-    ensures { result ≡ spec.due_as slot (spec.slot_due slot (drafted draft.now)) }
+pub(crate) fn due_in_slot(seen: &Seen<'_>, slot: u16) -> DueActor
+    ensures { result ≡ spec.due_as slot (spec.slot_due slot seen.now) }
 {
-    match slot_due(draft, slot) {
+    match slot_due(seen, slot) {
         None => DueActor::Never,
         Some(Due::Now) => DueActor::Slot(slot),
         Some(Due::At(moment)) => DueActor::Later(moment),
@@ -114,11 +113,11 @@ pub(crate) fn due_in_slot(draft: &Draft<'_>, slot: u16) -> DueActor
 
 // The least slot that has something to do.
 #[tactic(auto, using(fs_places::proofs::PlaceLemmas::first_here, fs_places::proofs::PlaceLemmas::first_behind, fs_places::proofs::PlaceLemmas::first_empty))]
-fn due_slot(draft: &Draft<'_>) -> Option<u16>
-    ensures { result ≡ spec.due_slot (drafted draft.now) }
+fn due_slot(seen: &Seen<'_>) -> Option<u16>
+    ensures { result ≡ spec.due_slot seen.now }
 {
-    for slot in 0..draft.filled_slots() {
-        if is_now(slot_due(draft, slot)) {
+    for slot in 0..seen.filled_slots() {
+        if is_now(slot_due(seen, slot)) {
             return Some(slot);
         }
     }
@@ -127,46 +126,46 @@ fn due_slot(draft: &Draft<'_>) -> Option<u16>
 
 // The least number of a job that has something to do.
 #[tactic(auto, using(fs_places::proofs::LeastLemmas::least_next, fs_places::proofs::LeastLemmas::least_empty))]
-fn due_job(draft: &Draft<'_>) -> Option<u64>
-    ensures { result ≡ spec.due_job (drafted draft.now) }
+fn due_job(seen: &Seen<'_>) -> Option<u64>
+    ensures { result ≡ spec.due_job seen.now }
 {
     let mut least = None;
-    for place in 0..draft.filled_jobs() {
-        least = lesser(least, due_number(draft, place));
+    for place in 0..seen.filled_jobs() {
+        least = lesser(least, due_number(seen, place));
     }
     least
 }
 
 // The first moment at which a channel will have something to do.
 #[tactic(auto, using(fs_places::proofs::LeastLemmas::least_next, fs_places::proofs::LeastLemmas::least_empty))]
-fn first_chan_moment(draft: &Draft<'_>) -> Option<u64>
-    ensures { result ≡ spec.first_chan_moment (drafted draft.now) }
+fn first_chan_moment(seen: &Seen<'_>) -> Option<u64>
+    ensures { result ≡ spec.first_chan_moment seen.now }
 {
     let mut first = None;
-    for slot in 0..draft.filled_slots() {
-        first = lesser(first, later_of(slot_due(draft, slot)));
+    for slot in 0..seen.filled_slots() {
+        first = lesser(first, later_of(slot_due(seen, slot)));
     }
     first
 }
 
 // The first moment at which a job will have something to do.
 #[tactic(auto, using(fs_places::proofs::LeastLemmas::least_next, fs_places::proofs::LeastLemmas::least_empty))]
-fn first_job_moment(draft: &Draft<'_>) -> Option<u64>
-    ensures { result ≡ spec.first_job_moment (drafted draft.now) }
+fn first_job_moment(seen: &Seen<'_>) -> Option<u64>
+    ensures { result ≡ spec.first_job_moment seen.now }
 {
     let mut first = None;
-    for place in 0..draft.filled_jobs() {
-        first = lesser(first, later_of(row_due(draft, draft.job_at(place))));
+    for place in 0..seen.filled_jobs() {
+        first = lesser(first, later_of(row_due(seen, seen.job_at(place))));
     }
     first
 }
 
 // The number of the job at a place of the table, where it has something to do.
-fn due_number(draft: &Draft<'_>, place: usize) -> Option<u64>
-    ensures { result ≡ spec.due_number (drafted draft.now) (held_in (drafted draft.now).jobs place) }
+fn due_number(seen: &Seen<'_>, place: usize) -> Option<u64>
+    ensures { result ≡ spec.due_number seen.now (held_in seen.now.jobs place) }
 {
-    let row = draft.job_at(place)?;
-    if is_now(row_due(draft, Some(row))) {
+    let row = seen.job_at(place)?;
+    if is_now(row_due(seen, Some(row))) {
         Some(row.number)
     } else {
         None
@@ -174,10 +173,10 @@ fn due_number(draft: &Draft<'_>, place: usize) -> Option<u64>
 }
 
 // When a job of the table has something to do.
-fn row_due(draft: &Draft<'_>, row: Option<&Numbered<Job>>) -> Option<Due>
-    ensures { result ≡ spec.row_due (drafted draft.now) (option_copied row.entry) }
+fn row_due(seen: &Seen<'_>, row: Option<&Numbered<Job>>) -> Option<Due>
+    ensures { result ≡ spec.row_due seen.now (option_copied row.entry) }
 {
-    work_due(draft, &row?.held.work)
+    work_due(seen, &row?.held.work)
 }
 
 fn is_now(due: Option<Due>) -> bool

@@ -17,9 +17,8 @@ use crate::refusal::Refusal;
 use crate::refused::refused_act;
 use crate::reply::Reply;
 use fs_doc::Config;
-use fs_places::Boxed;
 use fs_plan::Dialplan;
-use fs_state::{Core, Delta, Draft};
+use fs_state::{Core, Delta, Draft, Seen};
 use fs_text::Memory;
 use std::alloc::Global;
 use std::marker::Model;
@@ -50,7 +49,7 @@ impl Drop for Machine {
 /// What an entry is to change, once it was prepared.
 pub struct Change {
     pub entry: Entry,
-    pub delta: Boxed<Delta>,
+    pub delta: Delta,
     pub reply: Reply,
 }
 
@@ -66,7 +65,7 @@ impl Drop for Change {
 
 impl Change {
     /// The entry, what it changes, and the reply to it.
-    fn into_parts(self) -> (Entry, Boxed<Delta>, Reply)
+    fn into_parts(self) -> (Entry, Delta, Reply)
         ensures { result ≡ (self.entry, self.delta, self.reply) }
     {
         let Change {
@@ -143,9 +142,8 @@ impl Machine {
         ensures prepared { IfOk result (spec.Changes (spec.state_of self.old) asked.entry.now) }
         ensures room { IfOk result (λ change. 1 ≤ self.new.spare) }
     {
-        let change = plan(&self.core, &self.plan, asked)?;
         self.journal.make_room()?;
-        Ok(change)
+        plan(&self.core, &self.plan, asked)
     }
 
     /// Does what was prepared. It takes no memory.
@@ -194,20 +192,18 @@ fn plan(core: &Core, plan: &Dialplan, asked: &Entry) -> Result<Change, Refusal>
         let cost = core.cost();
         return Err(Refusal::JournalFull { cost, limit });
     }
+    if let Some(refusal) = refused_act(&Seen::of(core, asked.moment), &asked.act) {
+        return Err(refusal);
+    }
     let mut draft = Draft::new(core);
     draft.advance(asked.moment);
-    match refused_act(&draft, &asked.act) {
-        Some(refusal) => Err(refusal),
-        None => {
-            let (entry, reply) = enter(&mut draft, plan, asked)?;
-            let delta = draft.finish()?;
-            Ok(Change {
-                entry,
-                delta,
-                reply,
-            })
-        }
-    }
+    let (entry, reply) = enter(&mut draft, plan, asked)?;
+    let delta = draft.finish()?;
+    Ok(Change {
+        entry,
+        delta,
+        reply,
+    })
 }
 
 // Does an entry that is not refused to a draft, and copies it.

@@ -15,7 +15,7 @@ use crate::connections::phase_of;
 use crate::due::{DueActor, due_among_all, due_among_jobs, due_in_slot};
 use crate::machine::Machine;
 use crate::refused::reads;
-use fs_state::{Core, Counts, Draft, Parting, Phase};
+use fs_state::{Core, Counts, Draft, Parting, Phase, Seen};
 
 impl Machine {
     /// The least slot, or else the least job, that has something to do by itself at a moment, or the next moment at
@@ -47,12 +47,10 @@ impl Machine {
     }
 
     /// The state as it stands at a moment.
-    fn seen_at(&self, now: u64) -> Draft<'_>
-        ensures { drafted result ≡ at_moment now (state_of self.now) }
+    fn seen_at(&self, now: u64) -> Seen<'_>
+        ensures { result ≡ at_moment now (state_of self.now) }
     {
-        let mut seen = Draft::new(&self.core);
-        seen.advance(now);
-        seen
+        Seen::of(&self.core, now)
     }
 
     /// Whether a slot holds a channel.

@@ -1,92 +1,101 @@
 //! Which acts are refused.
 
 ghost use Rattle.std.specs.Prelude.{◌≡◌};
-ghost use Rattle.fs_state.specs.declared.delta.QueueChange.TheVariants.{Unchanged};
-ghost use Rattle.fs_state.specs.Drafts.{drafted};
 ghost use Rattle.fs_machine.specs.declared.entry.Act.TheVariants as act;
+ghost use Rattle.fs_machine.specs.Connections as connections;
+ghost use Rattle.fs_machine.specs.Questions as questions;
 ghost use Rattle.fs_machine.specs.Step as spec;
 
-use crate::connections::phase_at;
+use crate::connections::phase_of;
 use crate::due::{job_due, slot_due};
 use crate::entry::{Act, Closing};
-use crate::questions::owed_to;
 use crate::refusal::Refusal;
 use fs_chan::Due;
-use fs_state::{Draft, Phase};
+use fs_state::{Phase, Seen};
 
 /// Why an act is refused, if it is, where the journal is not full.
-pub(crate) fn refused_act(draft: &Draft<'_>, act: &Act) -> Option<Refusal>
-    requires { draft.now.delta.queue ≡ Unchanged }
-    ensures { result ≡ spec.refused_act act.now (drafted draft.now) }
+pub(crate) fn refused_act(seen: &Seen<'_>, act: &Act) -> Option<Refusal>
+    ensures { result ≡ spec.refused_act act.now seen.now }
 {
     match act {
-        Act::Arrive => refused_arrival(draft),
-        Act::Command { conn, .. } => refused_command(draft, *conn),
-        Act::Take { conn } => refused_take(draft, *conn),
-        Act::Close { conn, how } => refused_close(draft, *conn, *how),
-        Act::Work { slot } => not_due(slot_due(draft, *slot)),
-        Act::Job { job } => not_due(job_due(draft, *job)),
+        Act::Arrive => refused_arrival(seen),
+        Act::Command { conn, .. } => refused_command(seen, *conn),
+        Act::Take { conn } => refused_take(seen, *conn),
+        Act::Close { conn, how } => refused_close(seen, *conn, *how),
+        Act::Work { slot } => not_due(slot_due(seen, *slot)),
+        Act::Job { job } => not_due(job_due(seen, *job)),
     }
 }
 
-fn refused_arrival(draft: &Draft<'_>) -> Option<Refusal>
-    ensures { result ≡ spec.refused_act act.Arrive (drafted draft.now) }
+fn refused_arrival(seen: &Seen<'_>) -> Option<Refusal>
+    ensures { result ≡ spec.refused_act act.Arrive seen.now }
 {
-    if draft.is_full() {
-        let live = draft.conn_places().min(usize::from(u16::MAX)) as u16;
+    if seen.is_full() {
+        let live = seen.conn_places().min(usize::from(u16::MAX)) as u16;
         return Some(Refusal::TooMany { live });
     }
     None
 }
 
-fn refused_command(draft: &Draft<'_>, conn: u32) -> Option<Refusal>
-    ensures { result ≡ spec.refused_command conn (drafted draft.now) }
+fn refused_command(seen: &Seen<'_>, conn: u32) -> Option<Refusal>
+    ensures { result ≡ spec.refused_command conn seen.now }
 {
-    if !reads(phase_at(draft, conn)) {
+    if !reads(phase_seen(seen, conn)) {
         return Some(Refusal::Gone);
     }
-    let since = owed_to(draft, conn)?;
+    let since = owed_since(seen, conn)?;
     Some(Refusal::Busy { since })
 }
 
-fn refused_take(draft: &Draft<'_>, conn: u32) -> Option<Refusal>
-    requires { draft.now.delta.queue ≡ Unchanged }
-    ensures { result ≡ spec.refused_act (act.Take conn) (drafted draft.now) }
+fn refused_take(seen: &Seen<'_>, conn: u32) -> Option<Refusal>
+    ensures { result ≡ spec.refused_act (act.Take conn) seen.now }
 {
-    if phase_at(draft, conn) == Phase::Closed {
+    if phase_seen(seen, conn) == Phase::Closed {
         return Some(Refusal::Gone);
     }
-    if draft.waiting(conn) == 0 {
+    if seen.waiting(conn) == 0 {
         return Some(Refusal::Empty);
     }
     None
 }
 
-fn refused_close(draft: &Draft<'_>, conn: u32, how: Closing) -> Option<Refusal>
-    requires { draft.now.delta.queue ≡ Unchanged }
-    ensures { result ≡ spec.refused_close conn how (drafted draft.now) }
+fn refused_close(seen: &Seen<'_>, conn: u32, how: Closing) -> Option<Refusal>
+    ensures { result ≡ spec.refused_close conn how seen.now }
 {
-    let phase = phase_at(draft, conn);
+    let phase = phase_seen(seen, conn);
     match how {
         Closing::EndOfInput if reads(phase) => None,
         Closing::EndOfInput => Some(Refusal::Gone),
         Closing::Sent | Closing::Failed if phase == Phase::Closed => Some(Refusal::Gone),
         Closing::Failed => None,
-        Closing::Sent => unsent(draft, conn),
+        Closing::Sent => unsent(seen, conn),
     }
 }
 
 // That a connection is still to be sent something, or may give commands, if so.
-fn unsent(draft: &Draft<'_>, conn: u32) -> Option<Refusal>
-    requires { draft.now.delta.queue ≡ Unchanged }
-    ensures { result ≡ spec.refused_unsent conn (drafted draft.now) }
+fn unsent(seen: &Seen<'_>, conn: u32) -> Option<Refusal>
+    ensures { result ≡ spec.refused_unsent conn seen.now }
 {
-    let queued = draft.waiting(conn) as u64;
-    let owed = owed_to(draft, conn).is_some();
-    if phase_at(draft, conn) == Phase::Ending && queued == 0 && !owed {
+    let queued = seen.waiting(conn) as u64;
+    let owed = owed_since(seen, conn).is_some();
+    if phase_seen(seen, conn) == Phase::Ending && queued == 0 && !owed {
         return None;
     }
     Some(Refusal::Unsent { queued, owed })
+}
+
+// Where the connection of a number stands.
+fn phase_seen(seen: &Seen<'_>, conn: u32) -> Phase
+    ensures { result ≡ connections.phase_at seen.now conn }
+{
+    phase_of(seen.conn(conn))
+}
+
+// The place of the command to which a connection is still owed the reply.
+fn owed_since(seen: &Seen<'_>, conn: u32) -> Option<u64>
+    ensures { result ≡ questions.owed_to seen.now conn }
+{
+    seen.conn(conn)?.owed
 }
 
 // That there is nothing to do yet, if so.

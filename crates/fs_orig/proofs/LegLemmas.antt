@@ -34,3 +34,6 @@ living_elsewhere legs place default within e =
 
 pub living_done : (legs : List OrigLeg) (place : ℕ) → length legs ≤ place → living_slots (drop place legs) ≡ []
 living_done legs place past = at_drop_all living_slots legs place past
+
+-- the slots of those that live, a leg after another
+pub ruleset living_rules = (living_there, living_elsewhere, living_done)

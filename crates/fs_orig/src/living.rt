@@ -17,7 +17,7 @@ pub fn living_slots(alloc: Global, legs: &[OrigLeg]) -> Result<Vec<u16>, Memory>
 }
 
 /// Puts the slots of the legs that live behind all others.
-#[tactic(auto, using(crate::proofs::LegLemmas::living_there, crate::proofs::LegLemmas::living_elsewhere, crate::proofs::LegLemmas::living_done))]
+#[tactic(auto, using(crate::proofs::LegLemmas::living_rules))]
 pub fn add_living_slots(slots: &mut Vec<u16>, legs: &[OrigLeg]) -> Result<(), Memory>
     ensures { OnOk result (slots.new.items ≡ slots.old.items ++ spec.living_slots legs.now) }
 {

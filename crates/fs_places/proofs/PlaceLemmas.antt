@@ -120,3 +120,6 @@ first_down test places (suc left) at past fails empty =
 pub first_empty : {T : Type 0} → (test : Option T → Bool) (places : List (Option T)) (from : ℕ) → test None ≡ false →
     IsEmptyFrom from places → first_place test (drop from places) from ≡ None
 first_empty test places from fails empty = first_down test places (length places) from (omega arith) fails empty
+
+-- the first place, where no more are filled from some place on
+pub ruleset filled_rules = (first_here, first_behind, first_empty)

@@ -1,5 +1,5 @@
 -- The frames that wait for connections.
-use Rattle.std.specs.Prelude.{ℕ, ◌+◌, ◌<◌, ◌^◌, List, [], ◌∷◌, ◌++◌, length, drop, replicate, sum_by, get_or, Option, None, Some}
+use Rattle.std.specs.Prelude.{ℕ, ◌+◌, ◌<◌, ◌≤◌, ◌^◌, List, [], ◌∷◌, ◌++◌, length, drop, replicate, sum_by, get_or, Option, None, Some}
 use Rattle.std.specs.List.{slice_get, slice_set, All}
 use Rattle.fs_text.specs.Texts.{Text}
 use Rattle.fs_places.specs.declared.numbered.Numbered.{Numbered}
@@ -73,3 +73,7 @@ frames_given gifts = sum_by (λ gift. length gift.frames) gifts
 -- each queue may grow by so many frames, as far as lengths go
 pub record HaveRoom (queues : List Frames) (count : ℕ) : Type 0 where
   pub each : All (λ queue. length queue + count < 2 ^ 63) queues
+
+-- no queue has more frames than so many
+pub record AreWithin (queues : List Frames) (most : ℕ) : Type 0 where
+  pub each : All (λ queue. length queue ≤ most) queues

@@ -577,9 +577,9 @@ impl<'a> Draft<'a> {
 
     // ---- the end
 
-    /// What is to change. It is refused, as for want of memory, where a queue would have 2^63 frames.
+    /// What is to change. It is refused, as for want of memory, where queues might come to have 2^63 frames.
     #[tactic(auto, using(crate::proofs::QueueLemmas::room_counted, crate::proofs::QueueLemmas::room_requeued))]
-    pub fn finish(self) -> Result<Boxed<Delta>, Memory>
+    pub fn finish(self) -> Result<Delta, Memory>
         ensures delta { IfOk result (λ delta. after self.entry.base delta ≡ drafted self.entry) }
         ensures fits { IfOk result (λ delta. Fits self.entry.base delta) }
     {
@@ -601,7 +601,7 @@ impl<'a> Draft<'a> {
             news,
             given,
         } = self;
-        let delta = Delta {
+        Ok(Delta {
             globals,
             channels: channels.into_sheet(),
             bridges,
@@ -613,7 +613,6 @@ impl<'a> Draft<'a> {
             moment,
             news,
             given,
-        };
-        Boxed::of(core.alloc, delta)
+        })
     }
 }

@@ -19,6 +19,7 @@ mod job;
 mod lines;
 mod moves;
 mod queues;
+mod seen;
 mod switch;
 
 pub use conn::{Conn, Parting, Phase};
@@ -30,4 +31,5 @@ pub use event::{Event, Events};
 pub use gift::{Gift, Gifts};
 pub use job::{Job, JobWork};
 pub use queues::Queues;
+pub use seen::Seen;
 pub use switch::Core;

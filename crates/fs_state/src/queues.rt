@@ -16,14 +16,19 @@ use std::marker::Model;
 #[derive(Drop)]
 pub struct Queues {
     queues: Vec<LinkedList<Txt>>,
+    // No queue has more frames than this.
+    most: usize,
 }
 
 impl Model for Queues {
     ghost use Rattle.std.specs.Prelude.{ℕ, List};
+    ghost use Rattle.fs_state.specs.Queues.{AreWithin};
 
     ghost Value = { List (List (List ℕ)) };
 
     ghost view = { λ q. q.queues.items };
+
+    ghost invariant = { λ q. AreWithin q.queues.items q.most };
 }
 
 /// More frames than this does no queue have.
@@ -31,7 +36,7 @@ const LIMIT: usize = 1 << 63;
 
 impl Queues {
     /// So many queues, in which nothing waits.
-    #[tactic(auto, unfolding(crate::specs::Queues::no_queues))]
+    #[tactic(auto, unfolding(crate::specs::Queues::no_queues), using(crate::proofs::QueueLemmas::within_none))]
     pub fn new(alloc: Global, count: usize) -> Result<Queues, Memory>
         ensures { IfOk result (λ queues. queues ≡ spec.no_queues count) }
     {
@@ -39,7 +44,7 @@ impl Queues {
         for _place in 0..count {
             queues.push(LinkedList::new(alloc))?;
         }
-        Ok(Queues { queues })
+        Ok(Queues { queues, most: 0 })
     }
 
     /// How many frames wait at a place.
@@ -63,6 +68,7 @@ impl Queues {
     }
 
     /// Takes the first frame of a place out, if there is one.
+    #[tactic(auto, using(crate::proofs::QueueLemmas::within_taken))]
     pub fn take_first(&mut self, place: usize)
         ensures { self.new ≡ spec.without_first_frame place self.old }
     {
@@ -72,6 +78,7 @@ impl Queues {
     }
 
     /// Takes all frames of a place out.
+    #[tactic(auto, using(crate::proofs::QueueLemmas::within_cleared))]
     pub fn clear(&mut self, place: usize)
         ensures { self.new ≡ spec.without_frames place self.old }
     {
@@ -81,21 +88,24 @@ impl Queues {
     }
 
     /// Puts frames behind all others of a place, without memory.
+    #[tactic(auto, using(crate::proofs::QueueLemmas::within_given))]
     pub fn append(&mut self, place: usize, frames: LinkedList<Txt>)
         requires { spec.HaveRoom self.old (length frames) }
         ensures { self.new ≡ spec.with_frames place frames self.old }
     {
         let mut frames = frames;
+        self.most = self.most.saturating_add(frames.len());
         if let Some(queue) = self.queues.get_mut(place) {
             queue.append(&mut frames).unwrap();
         }
     }
 
-    /// Whether each queue may grow by so many frames.
+    /// Whether each queue may grow by so many frames, as far as it is known from how many were ever put there.
+    #[tactic(auto, using(crate::proofs::QueueLemmas::room_within))]
     pub fn have_room(&self, count: usize) -> bool
         ensures { result ≡ true → spec.HaveRoom self.now count }
     {
-        self.queues.iter().all(|queue| count < LIMIT - queue.len())
+        count < LIMIT.saturating_sub(self.most)
     }
 
     /// Puts what is given behind the frames of the connections that are there, without memory; the rest is dropped.

@@ -1,7 +1,7 @@
 //! The state of a switch between two entries.
-ghost use Rattle.std.specs.Prelude.{◌≡◌, length, IfOk, unwrap_or};
+ghost use Rattle.std.specs.Prelude.{◌≡◌, ◌≤◌, length, IfOk, unwrap_or};
 ghost use Rattle.std.specs.Option.{option_copied};
-ghost use Rattle.fs_places.specs.Places.{no_places};
+ghost use Rattle.fs_places.specs.Places.{no_places, IsEmptyFrom};
 ghost use Rattle.fs_state.specs.Queues.{no_queues, requeued};
 ghost use Rattle.fs_state.specs.Switch as spec;
 ghost use Rattle.fs_state.specs.Drafts.{after, Fits};
@@ -131,11 +131,11 @@ impl Core {
 
     /// Does what an entry changes, at its cost. It takes no memory.
     #[tactic(auto, using(fs_places::proofs::PlaceLemmas::written_length))]
-    pub fn apply(&mut self, delta: Boxed<Delta>, cost: u64)
+    pub fn apply(&mut self, delta: Delta, cost: u64)
         requires { Fits self.old delta }
         ensures { self.new ≡ spec.after_entry cost (after self.old delta) }
     {
-        let (news, given) = delta.into_inner().write_into(self);
+        let (news, given) = delta.write_into(self);
         self.queues.deliver(&self.conns, given);
         self.counts.count_all(news.as_slice());
         self.entries = self.entries.saturating_add(1);
@@ -182,6 +182,50 @@ impl Core {
         ensures { option_copied result ≡ spec.chan_at self.now slot }
     {
         Some(self.channels.get(usize::from(slot))?)
+    }
+
+    /// How many slots are filled, at most: from this one on there is no channel.
+    pub fn filled_slots(&self) -> u16
+        ensures within { result ≤ length self.now.channels }
+        ensures empty { IsEmptyFrom result self.now.channels }
+    {
+        self.channels.filled() as u16
+    }
+
+    /// The origination of a number.
+    pub fn orig(&self, number: u64) -> Option<&Orig>
+        ensures { option_copied result ≡ spec.orig_of self.now number }
+    {
+        self.origs.row(number)
+    }
+
+    /// The job of a number.
+    pub fn job(&self, number: u64) -> Option<&Job>
+        ensures { option_copied result ≡ spec.job_of self.now number }
+    {
+        self.jobs.row(number)
+    }
+
+    /// What stands at a place for a job; past the last one stands nothing.
+    pub fn job_at(&self, place: usize) -> Option<&Numbered<Job>>
+        ensures { option_copied result ≡ spec.job_at self.now place }
+    {
+        self.jobs.get(place)
+    }
+
+    /// How many places for jobs are filled, at most: from this one on there is no job.
+    pub fn filled_jobs(&self) -> usize
+        ensures within { result ≤ length self.now.jobs }
+        ensures empty { IsEmptyFrom result self.now.jobs }
+    {
+        self.jobs.filled()
+    }
+
+    /// How many connections there may be.
+    pub fn conn_places(&self) -> usize
+        ensures { result ≡ length self.now.conns }
+    {
+        self.conns.len()
     }
 
     /// The connection of a number.

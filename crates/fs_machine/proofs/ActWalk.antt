@@ -1,6 +1,7 @@
 -- The walk goes on: jobs, commands and all acts.
 use Rattle.std.proofs.Common.{◌≡◌, ℕ, ◌*◌, nat_lt, Bool, true, false, if◌then◌else◌, List, [], length, slice_get, Option, None, Some}
 use Rattle.std.proofs.Common.{unwrap_or, option_and_then, Result, Ok, Err, refl}
+use Rattle.std.specs.Option.{option_or}
 use Rattle.std.specs.Str.{bytes_eq}
 use Rattle.fs_text.specs.Texts.{Text}
 use Rattle.fs_text.specs.declared.causes.Cause.{Cause}
@@ -48,7 +49,7 @@ use Rattle.fs_machine.specs.Connections.{phase_at, conn_changed, admitted}
 use Rattle.fs_machine.specs.Attempts.{death_of, others, after_race_by, after_winning_at, after_leg_expiry, after_next_group, after_verdict}
 use Rattle.fs_machine.specs.Attempts.{after_verdict_from}
 use Rattle.fs_machine.specs.Jobs.{sleep_begun, after_job_work, job_done_from, job_done}
-use Rattle.fs_machine.specs.Api.{Done, says, no_answer_yet, kill_done, msleep_done, first_there, dialled, originate_done, done_plainly}
+use Rattle.fs_machine.specs.Api.{Done, says, no_answer_yet, kill_done, msleep_done, dialled, originate_done, done_plainly}
 use Rattle.fs_machine.specs.Api.{done_by}
 use Rattle.fs_machine.specs.Commands.{with_reply, after_dismissal, after_password, with_response_of, command_done_in, command_done}
 use Rattle.fs_machine.specs.Step.{after_close, act_done}
@@ -151,7 +152,7 @@ module _ (conn : ℕ) (P : Fact) (calls : KeptByCalls P) (commands : KeptByComma
       P (Some 0) (dialled conn read winner caller timeout s).state
   dialled_kept url (Err fault) is winner caller timeout short room h = commands.spent h
   dialled_kept url (Ok dial) is winner caller timeout short room h =
-      commands.originates (plans_of dial) winner caller (first_there timeout (braces_timeout dial)) (dialled_groups url dial is) short room
+      commands.originates (plans_of dial) winner caller (option_or timeout (braces_timeout dial)) (dialled_groups url dial is) short room
       h
 
   originated_kept : (url : Text) (winner : Winner) (caller : Caller) (timeout : Option ℕ) {s : Switch} → IsShortWinner winner → P None s →

@@ -4,7 +4,7 @@ ghost use Rattle.std.specs.Option.{option_and_then};
 ghost use Rattle.fs_text.specs.declared.causes.Cause.TheVariants.{LoseRace, NoAnswer};
 ghost use Rattle.fs_orig.specs.Legs as orig_legs;
 ghost use Rattle.fs_orig.specs.Verdicts.{next_group};
-ghost use Rattle.fs_state.specs.Drafts.{drafted};
+ghost use Rattle.fs_state.specs.Drafts.{drafted, Brings};
 ghost use Rattle.fs_state.specs.Moves.{for_slot, after_hangup};
 ghost use Rattle.fs_state.specs.Switch.{chan_at};
 ghost use Rattle.fs_machine.specs.Attempts as spec;
@@ -16,7 +16,8 @@ use crate::owing::{begin_job, end_job};
 use crate::texts::{failed_text, made_text};
 use fs_chan::moment_after;
 use fs_orig::{
-    Caller, LegGroup, LegPlan, LegPlans, Orig, OrigLeg, OrigLegs, Owner, Verdict, Winner, judge,
+    Caller, LegGroup, LegPlan, LegPlans, Orig, OrigLeg, OrigLegs, Owner, Verdict, Winner,
+    add_living_slots, judge, living_slots,
 };
 use fs_state::{Draft, JobWork};
 use fs_text::{Cause, Memory};
@@ -44,9 +45,8 @@ pub(crate) fn begin_originate(
     caller: &Caller,
     timeout: Option<u64>,
 ) -> Result<(), Memory>
-    ensures base { draft.new.base ≡ draft.old.base }
-    ensures ok { OnOk result
-        (drafted draft.new ≡ spec.originate_begun conn groups winner.now caller.now timeout (drafted draft.old)) }
+    ensures { Brings result draft.old draft.new
+        (spec.originate_begun conn groups winner.now caller.now timeout (drafted draft.old)) }
 {
     let orig = draft.next_orig();
     let legs = make_group(draft, first_group(&groups), caller, orig)?;
@@ -76,8 +76,7 @@ fn begin_orig(
     legs: OrigLegs,
     timeout: u64,
 ) -> Result<(), Memory>
-    ensures base { draft.new.base ≡ draft.old.base }
-    ensures ok { OnOk result (drafted draft.new ≡ spec.orig_begun groups legs timeout (drafted draft.old)) }
+    ensures { Brings result draft.old draft.new (spec.orig_begun groups legs timeout (drafted draft.old)) }
 {
     let owner = Owner::Job(draft.next_job());
     let deadline = moment_after(draft.moment(), timeout.saturating_mul(1_000_000));
@@ -94,9 +93,8 @@ pub(crate) fn judge_attempt(
     winner: &Winner,
     caller: &Caller,
 ) -> Result<(), Memory>
-    ensures base { draft.new.base ≡ draft.old.base }
-    ensures ok { OnOk result
-        (drafted draft.new ≡ spec.after_verdict_on attempt winner.now caller.now (drafted draft.old)) }
+    ensures { Brings result draft.old draft.new
+        (spec.after_verdict_on attempt winner.now caller.now (drafted draft.old)) }
 {
     let Some(orig) = draft.orig(attempt.orig) else {
         return Ok(());
@@ -120,7 +118,7 @@ pub(crate) fn judge_attempt(
         },
         Verdict::Failed(cause) => fail(draft, attempt, cause),
         Verdict::Expired => {
-            let slots = living_slots(draft.alloc(), orig)?;
+            let slots = living_slots(draft.alloc(), orig.legs.as_slice())?;
             expire(draft, attempt, &slots)
         }
     }
@@ -142,7 +140,7 @@ fn leg_at(orig: &Orig, position: usize) -> Result<Option<OrigLeg>, Memory>
 fn living_slot_at(orig: &Orig, position: usize) -> Option<u16>
     ensures { result ≡ option_and_then orig_legs.living_slot (slice_get orig.now.legs position) }
 {
-    living_slot(orig.legs.as_slice().get(position)?)
+    orig.legs.as_slice().get(position)?.living_slot()
 }
 
 // The group that is tried after the current one.
@@ -155,15 +153,6 @@ fn next_group_of(orig: &Orig) -> Result<Option<LegGroup>, Memory>
     }
 }
 
-// The slots of the legs that live.
-fn living_slots(alloc: Global, orig: &Orig) -> Result<Vec<u16>, Memory>
-    ensures { IfOk result (λ slots. slots.items ≡ orig_legs.living_slots orig.now.legs) }
-{
-    let mut slots = Vec::new(alloc);
-    add_living(&mut slots, orig.legs.as_slice())?;
-    Ok(slots)
-}
-
 // The slots of the legs that live, without the leg at a position.
 fn other_slots(alloc: Global, orig: &Orig, position: usize) -> Result<Vec<u16>, Memory>
     requires { position < length orig.now.legs }
@@ -171,29 +160,9 @@ fn other_slots(alloc: Global, orig: &Orig, position: usize) -> Result<Vec<u16>, 
 {
     let legs = orig.legs.as_slice();
     let mut slots = Vec::new(alloc);
-    add_living(&mut slots, &legs[..position])?;
-    add_living(&mut slots, &legs[position + 1..])?;
+    add_living_slots(&mut slots, &legs[..position])?;
+    add_living_slots(&mut slots, &legs[position + 1..])?;
     Ok(slots)
-}
-
-// Adds the slots of the legs that live.
-#[tactic(auto, using(fs_orig::proofs::LegLemmas::living_there, fs_orig::proofs::LegLemmas::living_elsewhere, fs_orig::proofs::LegLemmas::living_done))]
-fn add_living(slots: &mut Vec<u16>, legs: &[OrigLeg]) -> Result<(), Memory>
-    ensures { OnOk result (slots.new.items ≡ slots.old.items ++ orig_legs.living_slots legs.now) }
-{
-    for leg in legs {
-        if let Some(slot) = living_slot(leg) {
-            slots.push(slot)?;
-        }
-    }
-    Ok(())
-}
-
-// The slot of a leg, if it lives.
-fn living_slot(leg: &OrigLeg) -> Option<u16>
-    ensures { result ≡ orig_legs.living_slot leg.now }
-{
-    if leg.lives() { leg.slot } else { None }
 }
 
 // ---- what comes of it
@@ -206,9 +175,8 @@ fn end_race(
     leg: &OrigLeg,
     losers: &[u16],
 ) -> Result<(), Memory>
-    ensures base { draft.new.base ≡ draft.old.base }
-    ensures ok { OnOk result (drafted draft.new ≡ spec.after_race attempt winner.now leg.now
-        (spec.after_hangups LoseRace losers.now (drafted draft.old))) }
+    ensures { Brings result draft.old draft.new
+        (spec.after_race attempt winner.now leg.now (spec.after_hangups LoseRace losers.now (drafted draft.old))) }
 {
     hang_up_all(draft, losers, Cause::LoseRace)?;
     match death_in(draft, leg.slot.unwrap_or(0)) {
@@ -232,9 +200,8 @@ fn win_attempt(
     winner: &Winner,
     leg: &OrigLeg,
 ) -> Result<(), Memory>
-    ensures base { draft.new.base ≡ draft.old.base }
-    ensures ok { OnOk result
-        (drafted draft.new ≡ spec.after_race_by None attempt winner.now leg.now (drafted draft.old)) }
+    ensures { Brings result draft.old draft.new
+        (spec.after_race_by None attempt winner.now leg.now (drafted draft.old)) }
 {
     let answer = made_text(draft.alloc(), leg.uuid.as_bytes())?;
     win(draft, leg.slot.unwrap_or(0), winner)?;
@@ -244,8 +211,7 @@ fn win_attempt(
 // Lets the leg in a slot run its application, or be routed.
 #[tactic(auto, unfolding(crate::specs::Originations::after_winning))]
 fn win(draft: &mut Draft<'_>, slot: u16, winner: &Winner) -> Result<(), Memory>
-    ensures base { draft.new.base ≡ draft.old.base }
-    ensures ok { OnOk result (drafted draft.new ≡ after_winning winner.now slot (drafted draft.old)) }
+    ensures { Brings result draft.old draft.new (after_winning winner.now slot (drafted draft.old)) }
 {
     change_chan(draft, slot, ChanChange::Win { winner })
 }
@@ -257,9 +223,8 @@ fn try_group(
     group: &LegGroup,
     caller: &Caller,
 ) -> Result<(), Memory>
-    ensures base { draft.new.base ≡ draft.old.base }
-    ensures ok { OnOk result (drafted draft.new ≡ spec.with_group number
-        (group_made group.now caller.now number (drafted draft.old))) }
+    ensures { Brings result draft.old draft.new
+        (spec.with_group number (group_made group.now caller.now number (drafted draft.old))) }
 {
     let legs = make_group(draft, group.as_slice(), caller, number)?;
     draft.enter_next_group(number, legs)
@@ -267,8 +232,7 @@ fn try_group(
 
 // Hangs up the leg in a slot, if it is one, that has had its time.
 fn expire_leg(draft: &mut Draft<'_>, slot: Option<u16>) -> Result<(), Memory>
-    ensures base { draft.new.base ≡ draft.old.base }
-    ensures ok { OnOk result (drafted draft.new ≡ for_slot (after_hangup NoAnswer) slot (drafted draft.old)) }
+    ensures { Brings result draft.old draft.new (for_slot (after_hangup NoAnswer) slot (drafted draft.old)) }
 {
     match slot {
         Some(slot) => draft.hang_up(slot, Cause::NoAnswer),
@@ -278,8 +242,7 @@ fn expire_leg(draft: &mut Draft<'_>, slot: Option<u16>) -> Result<(), Memory>
 
 // Ends an origination at its deadline: its legs in these slots are hung up.
 fn expire(draft: &mut Draft<'_>, attempt: Attempt, slots: &[u16]) -> Result<(), Memory>
-    ensures base { draft.new.base ≡ draft.old.base }
-    ensures ok { OnOk result (drafted draft.new ≡ spec.after_deadline attempt slots.now (drafted draft.old)) }
+    ensures { Brings result draft.old draft.new (spec.after_deadline attempt slots.now (drafted draft.old)) }
 {
     hang_up_all(draft, slots, Cause::NoAnswer)?;
     fail(draft, attempt, Cause::NoAnswer)
@@ -287,8 +250,7 @@ fn expire(draft: &mut Draft<'_>, attempt: Attempt, slots: &[u16]) -> Result<(), 
 
 // Ends an origination that has failed.
 fn fail(draft: &mut Draft<'_>, attempt: Attempt, cause: Cause) -> Result<(), Memory>
-    ensures base { draft.new.base ≡ draft.old.base }
-    ensures ok { OnOk result (drafted draft.new ≡ spec.after_failure attempt cause (drafted draft.old)) }
+    ensures { Brings result draft.old draft.new (spec.after_failure attempt cause (drafted draft.old)) }
 {
     let answer = failed_text(draft.alloc(), cause)?;
     end_attempt(draft, attempt, answer.as_bytes())
@@ -296,8 +258,7 @@ fn fail(draft: &mut Draft<'_>, attempt: Attempt, cause: Cause) -> Result<(), Mem
 
 // Ends an origination and its job with an answer.
 fn end_attempt(draft: &mut Draft<'_>, attempt: Attempt, answer: &[u8]) -> Result<(), Memory>
-    ensures base { draft.new.base ≡ draft.old.base }
-    ensures ok { OnOk result (drafted draft.new ≡ spec.after_attempt attempt answer.now (drafted draft.old)) }
+    ensures { Brings result draft.old draft.new (spec.after_attempt attempt answer.now (drafted draft.old)) }
 {
     draft.drop_orig(attempt.orig)?;
     end_job(draft, attempt.job, attempt.conn, answer)
@@ -305,8 +266,7 @@ fn end_attempt(draft: &mut Draft<'_>, attempt: Attempt, answer: &[u8]) -> Result
 
 // Hangs up the channels in these slots, one after another.
 fn hang_up_all(draft: &mut Draft<'_>, slots: &[u16], cause: Cause) -> Result<(), Memory>
-    ensures base { draft.new.base ≡ draft.old.base }
-    ensures ok { OnOk result (drafted draft.new ≡ spec.after_hangups cause slots.now (drafted draft.old)) }
+    ensures { Brings result draft.old draft.new (spec.after_hangups cause slots.now (drafted draft.old)) }
 {
     for slot in slots {
         draft.hang_up(*slot, cause)?;

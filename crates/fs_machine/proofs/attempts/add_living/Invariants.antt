@@ -1,6 +1,0 @@
-use Rattle.std.proofs.Common.{◌≡◌, ◌++◌, drop}
-use Rattle.fs_orig.specs.Legs.{living_slots}
-use Rattle.fs_machine.proofs.attempts.add_living.Given as goal
-
-abbrev pub invariant-loop-leg : goal.invariant-loop-leg
-invariant-loop-leg l = l.slots.items ++ living_slots (drop l.leg-index l.legs) ≡ l.fn.slots.items ++ living_slots l.legs

@@ -2,6 +2,7 @@
 use Rattle.std.proofs.Common.{◌≡◌, ℕ, ◌*◌, nat_lt, Bool, true, false, if◌then◌else◌, List, [], ◌∷◌, length, slice_get, Option, None, Some}
 use Rattle.std.proofs.Common.{◌++◌, Result, Ok, Err, refl, sym, ap, subst, ◌∙◌}
 use Rattle.std.specs.Prelude.{◌&&◌, map}
+use Rattle.std.specs.Option.{option_or}
 use Rattle.std.specs.Str.{bytes_eq}
 use Rattle.fs_text.specs.Texts.{Text}
 use Rattle.fs_text.specs.declared.causes.Cause.{Cause}
@@ -54,7 +55,7 @@ use Rattle.fs_machine.specs.Jobs.{sleep_begun, after_job_work, job_done_from, jo
 use Rattle.fs_machine.specs.Done.{Done, says, no_answer_yet}
 use Rattle.fs_machine.specs.Joining.{in_the_way, after_leaving, both_left, both_in_media, joined_done, bridged_unless, bridge_done_at}
 use Rattle.fs_machine.specs.Joining.{uuid_bridge_done}
-use Rattle.fs_machine.specs.Api.{kill_done, msleep_done, first_there, dialled, originate_done, done_plainly}
+use Rattle.fs_machine.specs.Api.{kill_done, msleep_done, dialled, originate_done, done_plainly}
 use Rattle.fs_machine.specs.Api.{done_by}
 use Rattle.fs_machine.specs.Commands.{with_reply, after_dismissal, after_password, with_response_of, command_done_in, command_done}
 use Rattle.fs_machine.specs.Step.{after_close, act_done}
@@ -121,7 +122,7 @@ module _ (conn : ℕ) (P : Fact) (calls : KeptByCalls P) (commands : KeptByComma
       P (Some 0) (dialled conn read winner caller timeout s).state
   dialled_kept url (Err fault) is winner caller timeout short room h = commands.spent h
   dialled_kept url (Ok dial) is winner caller timeout short room h =
-      commands.originates (plans_of dial) winner caller (first_there timeout (braces_timeout dial)) (dialled_groups url dial is) short room
+      commands.originates (plans_of dial) winner caller (option_or timeout (braces_timeout dial)) (dialled_groups url dial is) short room
       h
 
   originated_kept : (url : Text) (winner : Winner) (caller : Caller) (timeout : Option ℕ) {s : Switch} → IsShortWinner winner → P None s →

@@ -30,3 +30,6 @@ set_refused pairs place default vars within cannot =
 pub set_done : (pairs : List (Text × Text)) (place : ℕ) (vars : Variables) → length pairs ≤ place →
     set_all (drop place pairs) vars ≡ Some vars
 set_done pairs place vars past = at_drop_all (λ left. set_all left vars) pairs place past
+
+-- all of them, a pair after another
+pub ruleset set_rules = (set_next, set_refused, set_done)

@@ -2,7 +2,7 @@
 use Rattle.std.specs.Prelude.{ℕ, nat_lt, [], ◌++◌, length, map, Bool, Option, None, Some, is_some, unwrap_or, Result, Ok, Err, codes}
 use Rattle.std.specs.Prelude.{if◌then◌else◌}
 use Rattle.std.specs.List.{concat}
-use Rattle.std.specs.Option.{option_and_then}
+use Rattle.std.specs.Option.{option_and_then, option_or}
 use Rattle.fs_text.specs.Texts.{Text}
 use Rattle.fs_text.specs.declared.causes.Cause.{Cause}
 use Rattle.fs_text.specs.declared.causes.Cause.TheVariants.{InvalidNumberFormat}
@@ -76,16 +76,11 @@ chan_named uuid s = option_and_then (chan_at s) (slot_named uuid s)
 abbrev pub msleep_done : ℕ → ℕ → Switch → Done
 msleep_done conn milliseconds s = if is_full_of_jobs s then says too_many_jobs s else no_answer_yet (sleep_begun conn milliseconds s)
 
--- a number, or else another
-abbrev pub first_there : Option ℕ → Option ℕ → Option ℕ
-first_there None other = other
-first_there (Some n) other = Some n
-
 -- the legs of a dial string are tried, unless it has a fault; a timeout that was given comes before that of the braces
 abbrev pub dialled : ℕ → Result Dial DialFault → Winner → Caller → Option ℕ → Switch → Done
 dialled conn (Err fault) winner caller timeout s = says (failed_text InvalidNumberFormat) s
 dialled conn (Ok dial) winner caller timeout s =
-    no_answer_yet (originate_begun conn (plans_of dial) winner caller (first_there timeout (braces_timeout dial)) s)
+    no_answer_yet (originate_begun conn (plans_of dial) winner caller (option_or timeout (braces_timeout dial)) s)
 
 abbrev pub originate_done : ℕ → Text → Winner → Caller → Option ℕ → Switch → Done
 originate_done conn url winner caller timeout s =

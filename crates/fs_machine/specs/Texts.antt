@@ -28,16 +28,16 @@ no_channel = codes "-ERR No such channel!\n"
 
 -- ---- why two channels are not joined
 
-unfoldable pub same_channel : List ℕ
+abbrev pub same_channel : List ℕ
 same_channel = codes "-ERR Same channel!\n"
 
-unfoldable pub not_ready : List ℕ
+abbrev pub not_ready : List ℕ
 not_ready = codes "-ERR Channel not ready!\n"
 
-unfoldable pub not_answered : List ℕ
+abbrev pub not_answered : List ℕ
 not_answered = codes "-ERR Channel not answered!\n"
 
-unfoldable pub already_bridged : List ℕ
+abbrev pub already_bridged : List ℕ
 already_bridged = codes "-ERR Channel already bridged!\n"
 
 -- ---- variables, jobs and originations

@@ -1,8 +1,8 @@
 //! What each act of an entry does to a draft.
 
-ghost use Rattle.std.specs.Prelude.{◌≡◌, IfOk, OnOk};
+ghost use Rattle.std.specs.Prelude.{◌≡◌, IfOk};
 ghost use Rattle.fs_state.specs.declared.delta.QueueChange.TheVariants.{Unchanged};
-ghost use Rattle.fs_state.specs.Drafts.{drafted};
+ghost use Rattle.fs_state.specs.Drafts.{drafted, Brings};
 ghost use Rattle.fs_machine.specs.Step as spec;
 
 use crate::commands::do_command;
@@ -81,8 +81,7 @@ fn take(draft: &mut Draft<'_>, conn: u32) -> Result<Reply, Memory>
 // Ends a connection.
 fn close(draft: &mut Draft<'_>, conn: u32, how: Closing) -> Result<(), Memory>
     requires { draft.old.delta.queue ≡ Unchanged }
-    ensures base { draft.new.base ≡ draft.old.base }
-    ensures ok { OnOk result (drafted draft.new ≡ spec.after_close how conn (drafted draft.old)) }
+    ensures { Brings result draft.old draft.new (spec.after_close how conn (drafted draft.old)) }
 {
     match how {
         Closing::EndOfInput => part(draft, conn, Parting::EndOfInput),

@@ -1,7 +1,7 @@
 //! What applications do, and how a channel runs what is next.
 
-ghost use Rattle.std.specs.Prelude.{◌≡◌, IfOk, OnOk};
-ghost use Rattle.fs_state.specs.Drafts.{drafted};
+ghost use Rattle.std.specs.Prelude.{◌≡◌, IfOk};
+ghost use Rattle.fs_state.specs.Drafts.{drafted, Brings};
 ghost use Rattle.fs_state.specs.Moves.{after_answer, after_completion};
 ghost use Rattle.fs_app.specs.Applications.{IsShortApplication};
 ghost use Rattle.fs_machine.specs.Applications as spec;
@@ -17,8 +17,7 @@ use fs_vars::{Refused, Scope, expand};
 /// Runs what a channel is to run next, which is used up; a channel that has nothing to run is hung up.
 #[tactic(auto, unfolding(crate::specs::Applications::after_running))]
 pub(crate) fn run_next(draft: &mut Draft<'_>, slot: u16) -> Result<(), Memory>
-    ensures base { draft.new.base ≡ draft.old.base }
-    ensures ok { OnOk result (drafted draft.new ≡ spec.after_running slot (drafted draft.old)) }
+    ensures { Brings result draft.old draft.new (spec.after_running slot (drafted draft.old)) }
 {
     let Some(chan) = draft.chan(slot) else {
         return Ok(());
@@ -56,9 +55,7 @@ fn execute_within(
     application: Txt,
     argument: Option<Txt>,
 ) -> Result<(), Memory>
-    ensures base { draft.new.base ≡ draft.old.base }
-    ensures ok { OnOk result
-        (drafted draft.new ≡ spec.executed_within application argument slot (drafted draft.old)) }
+    ensures { Brings result draft.old draft.new (spec.executed_within application argument slot (drafted draft.old)) }
 {
     match argument {
         Some(argument) => execute(draft, slot, application, argument),
@@ -68,8 +65,7 @@ fn execute_within(
 
 // Begins an application, and applies its effect.
 fn execute(draft: &mut Draft<'_>, slot: u16, application: Txt, argument: Txt) -> Result<(), Memory>
-    ensures base { draft.new.base ≡ draft.old.base }
-    ensures ok { OnOk result (drafted draft.new ≡ spec.after_execution application argument slot (drafted draft.old)) }
+    ensures { Brings result draft.old draft.new (spec.after_execution application argument slot (drafted draft.old)) }
 {
     let asked = Application::of(draft.alloc(), application.as_bytes(), argument.as_bytes())?;
     draft.run_on(
@@ -85,8 +81,7 @@ fn execute(draft: &mut Draft<'_>, slot: u16, application: Txt, argument: Txt) ->
 // Applies the effect of an application in a slot.
 fn apply_effect(draft: &mut Draft<'_>, slot: u16, asked: &Application) -> Result<(), Memory>
     requires { IsShortApplication asked.now }
-    ensures base { draft.new.base ≡ draft.old.base }
-    ensures ok { OnOk result (drafted draft.new ≡ spec.after_effect asked.now slot (drafted draft.old)) }
+    ensures { Brings result draft.old draft.new (spec.after_effect asked.now slot (drafted draft.old)) }
 {
     match asked {
         Application::Answer => answer(draft, slot),
@@ -103,8 +98,7 @@ fn apply_effect(draft: &mut Draft<'_>, slot: u16, asked: &Application) -> Result
 
 // Answers a channel, which goes on at once.
 fn answer(draft: &mut Draft<'_>, slot: u16) -> Result<(), Memory>
-    ensures base { draft.new.base ≡ draft.old.base }
-    ensures ok { OnOk result (drafted draft.new ≡ after_completion slot (after_answer slot (drafted draft.old))) }
+    ensures { Brings result draft.old draft.new (after_completion slot (after_answer slot (drafted draft.old))) }
 {
     draft.answer(slot)?;
     draft.complete(slot)
@@ -112,9 +106,8 @@ fn answer(draft: &mut Draft<'_>, slot: u16) -> Result<(), Memory>
 
 // Sets a global, or sets a variable or takes it out, where no limit is passed; the channel goes on at once.
 fn assign(draft: &mut Draft<'_>, slot: u16, how: Assignment, argument: &Txt) -> Result<(), Memory>
-    ensures base { draft.new.base ≡ draft.old.base }
-    ensures ok { OnOk result (drafted draft.new
-        ≡ after_completion slot (spec.after_assignment how argument.now slot (drafted draft.old))) }
+    ensures { Brings result draft.old draft.new
+        (after_completion slot (spec.after_assignment how argument.now slot (drafted draft.old))) }
 {
     match how {
         Assignment::SetGlobal => {
@@ -129,8 +122,7 @@ fn assign(draft: &mut Draft<'_>, slot: u16, how: Assignment, argument: &Txt) -> 
 
 // Lets a channel sleep, unless the time is none.
 fn sleep(draft: &mut Draft<'_>, slot: u16, milliseconds: u64) -> Result<(), Memory>
-    ensures base { draft.new.base ≡ draft.old.base }
-    ensures ok { OnOk result (drafted draft.new ≡ spec.after_sleep milliseconds slot (drafted draft.old)) }
+    ensures { Brings result draft.old draft.new (spec.after_sleep milliseconds slot (drafted draft.old)) }
 {
     if milliseconds == 0 {
         return draft.complete(slot);
@@ -141,8 +133,7 @@ fn sleep(draft: &mut Draft<'_>, slot: u16, milliseconds: u64) -> Result<(), Memo
 
 // Parks a channel, unless it is parked.
 fn park(draft: &mut Draft<'_>, slot: u16) -> Result<(), Memory>
-    ensures base { draft.new.base ≡ draft.old.base }
-    ensures ok { OnOk result (drafted draft.new ≡ spec.after_park slot (drafted draft.old)) }
+    ensures { Brings result draft.old draft.new (spec.after_park slot (drafted draft.old)) }
 {
     match state_at(draft, slot) {
         None => Ok(()),

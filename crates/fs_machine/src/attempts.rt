@@ -1,10 +1,10 @@
 //! Originations that jobs and channels try: how they begin, and what comes of them.
-ghost use Rattle.std.specs.Prelude.{◌≡◌, ◌<◌, ◌++◌, None, length, slice_get, IfOk, OnOk};
+ghost use Rattle.std.specs.Prelude.{◌≡◌, ◌<◌, ◌++◌, None, length, slice_get, IfOk};
 ghost use Rattle.std.specs.Option.{option_and_then};
 ghost use Rattle.fs_text.specs.declared.causes.Cause.TheVariants.{LoseRace, NoAnswer};
 ghost use Rattle.fs_orig.specs.Legs as orig_legs;
 ghost use Rattle.fs_orig.specs.Verdicts.{next_group};
-ghost use Rattle.fs_state.specs.Drafts.{drafted};
+ghost use Rattle.fs_state.specs.Drafts.{drafted, Brings};
 ghost use Rattle.fs_state.specs.Hangups.{after_hangup, after_hangups_for};
 ghost use Rattle.fs_state.specs.Moves.{for_slot};
 ghost use Rattle.fs_state.specs.Switch.{chan_at, without_orig};
@@ -78,9 +78,8 @@ pub(crate) fn begin_originate(
     caller: &Caller,
     timeout: Option<u64>,
 ) -> Result<(), Memory>
-    ensures base { draft.new.base ≡ draft.old.base }
-    ensures ok { OnOk result
-        (drafted draft.new ≡ spec.originate_begun conn groups winner.now caller.now timeout (drafted draft.old)) }
+    ensures { Brings result draft.old draft.new
+        (spec.originate_begun conn groups winner.now caller.now timeout (drafted draft.old)) }
 {
     let orig = draft.next_orig();
     let legs = make_group(draft, first_group(&groups), caller, orig)?;
@@ -119,8 +118,7 @@ pub(crate) fn begin_orig(
     legs: OrigLegs,
     timeout: u64,
 ) -> Result<(), Memory>
-    ensures base { draft.new.base ≡ draft.old.base }
-    ensures ok { OnOk result (drafted draft.new ≡ spec.orig_begun owner groups legs timeout (drafted draft.old)) }
+    ensures { Brings result draft.old draft.new (spec.orig_begun owner groups legs timeout (drafted draft.old)) }
 {
     let deadline = moment_after(draft.moment(), timeout.saturating_mul(1_000_000));
     let _number = draft.add_orig(Orig::new(owner, groups, legs, deadline))?;
@@ -131,8 +129,7 @@ pub(crate) fn begin_orig(
 
 /// Does what the verdict on an origination says.
 pub(crate) fn judge_attempt(draft: &mut Draft<'_>, attempt: &Attempt) -> Result<(), Memory>
-    ensures base { draft.new.base ≡ draft.old.base }
-    ensures ok { OnOk result (drafted draft.new ≡ spec.after_verdict_on attempt.now (drafted draft.old)) }
+    ensures { Brings result draft.old draft.new (spec.after_verdict_on attempt.now (drafted draft.old)) }
 {
     let Some(orig) = draft.orig(attempt.orig) else {
         return Ok(());
@@ -212,9 +209,8 @@ fn end_race(
     leg: &OrigLeg,
     losers: &[u16],
 ) -> Result<(), Memory>
-    ensures base { draft.new.base ≡ draft.old.base }
-    ensures ok { OnOk result (drafted draft.new ≡ spec.after_race attempt.now leg.now
-        (after_hangups_for LoseRace losers.now (drafted draft.old))) }
+    ensures { Brings result draft.old draft.new
+        (spec.after_race attempt.now leg.now (after_hangups_for LoseRace losers.now (drafted draft.old))) }
 {
     hang_up_for(draft, losers, Cause::LoseRace)?;
     match death_in(draft, leg.slot.unwrap_or(0)) {
@@ -233,8 +229,7 @@ fn death_in(draft: &Draft<'_>, slot: u16) -> Option<Cause>
 
 // Hangs up the leg in a slot, if it is one, that has had its time.
 fn expire_leg(draft: &mut Draft<'_>, slot: Option<u16>) -> Result<(), Memory>
-    ensures base { draft.new.base ≡ draft.old.base }
-    ensures ok { OnOk result (drafted draft.new ≡ for_slot (after_hangup NoAnswer) slot (drafted draft.old)) }
+    ensures { Brings result draft.old draft.new (for_slot (after_hangup NoAnswer) slot (drafted draft.old)) }
 {
     match slot {
         Some(slot) => draft.hang_up(slot, Cause::NoAnswer),
@@ -244,8 +239,7 @@ fn expire_leg(draft: &mut Draft<'_>, slot: Option<u16>) -> Result<(), Memory>
 
 // Ends an origination at its deadline: its legs in these slots are hung up.
 fn expire(draft: &mut Draft<'_>, attempt: &Attempt, slots: &[u16]) -> Result<(), Memory>
-    ensures base { draft.new.base ≡ draft.old.base }
-    ensures ok { OnOk result (drafted draft.new ≡ spec.after_deadline attempt.now slots.now (drafted draft.old)) }
+    ensures { Brings result draft.old draft.new (spec.after_deadline attempt.now slots.now (drafted draft.old)) }
 {
     hang_up_for(draft, slots, Cause::NoAnswer)?;
     fail(draft, attempt, Cause::NoAnswer)
@@ -255,8 +249,8 @@ fn expire(draft: &mut Draft<'_>, attempt: &Attempt, slots: &[u16]) -> Result<(),
 
 // Makes the legs of the next group of an origination, and tries them.
 fn try_group(draft: &mut Draft<'_>, attempt: &Attempt, group: &LegGroup) -> Result<(), Memory>
-    ensures base { draft.new.base ≡ draft.old.base }
-    ensures ok { OnOk result (drafted draft.new ≡ spec.with_group attempt.now.orig
+    ensures { Brings result draft.old draft.new
+        (spec.with_group attempt.now.orig
         (spec.group_for attempt.now.party group.now attempt.now.orig (drafted draft.old))) }
 {
     let legs = make_group_for(draft, &attempt.party, group.as_slice(), attempt.orig)?;
@@ -284,9 +278,8 @@ fn make_group_for(
 
 // Ends an origination that a leg has won.
 fn win(draft: &mut Draft<'_>, attempt: &Attempt, leg: &OrigLeg) -> Result<(), Memory>
-    ensures base { draft.new.base ≡ draft.old.base }
-    ensures ok { OnOk result
-        (drafted draft.new ≡ spec.won_for attempt.now.party attempt.now.orig leg.now (drafted draft.old)) }
+    ensures { Brings result draft.old draft.new
+        (spec.won_for attempt.now.party attempt.now.orig leg.now (drafted draft.old)) }
 {
     match &attempt.party {
         Party::Job {
@@ -306,17 +299,14 @@ fn win(draft: &mut Draft<'_>, attempt: &Attempt, leg: &OrigLeg) -> Result<(), Me
 // Lets the leg in a slot run its application, or be routed.
 #[tactic(auto, unfolding(crate::specs::Originations::after_winning))]
 fn win_by_job(draft: &mut Draft<'_>, slot: u16, winner: &Winner) -> Result<(), Memory>
-    ensures base { draft.new.base ≡ draft.old.base }
-    ensures ok { OnOk result (drafted draft.new ≡ after_winning winner.now slot (drafted draft.old)) }
+    ensures { Brings result draft.old draft.new (after_winning winner.now slot (drafted draft.old)) }
 {
     change_chan(draft, slot, ChanChange::Win { winner })
 }
 
 // Joins the channel in a slot to the leg, if it still waits for the verdict.
 fn win_by_slot(draft: &mut Draft<'_>, orig: u64, slot: u16, leg: &OrigLeg) -> Result<(), Memory>
-    ensures base { draft.new.base ≡ draft.old.base }
-    ensures ok { OnOk result
-        (drafted draft.new ≡ spec.won_for (party.Slot slot) orig leg.now (drafted draft.old)) }
+    ensures { Brings result draft.old draft.new (spec.won_for (party.Slot slot) orig leg.now (drafted draft.old)) }
 {
     if !awaits(draft, slot, orig) {
         return Ok(());
@@ -329,8 +319,7 @@ fn win_by_slot(draft: &mut Draft<'_>, orig: u64, slot: u16, leg: &OrigLeg) -> Re
 
 // Ends an origination that has failed.
 fn fail(draft: &mut Draft<'_>, attempt: &Attempt, cause: Cause) -> Result<(), Memory>
-    ensures base { draft.new.base ≡ draft.old.base }
-    ensures ok { OnOk result (drafted draft.new ≡ spec.after_failure attempt.now cause (drafted draft.old)) }
+    ensures { Brings result draft.old draft.new (spec.after_failure attempt.now cause (drafted draft.old)) }
 {
     match &attempt.party {
         Party::Job { job, conn, .. } => {
@@ -343,9 +332,7 @@ fn fail(draft: &mut Draft<'_>, attempt: &Attempt, cause: Cause) -> Result<(), Me
 
 // Lets the channel in a slot fail to bridge, if it still waits for the verdict.
 fn fail_by_slot(draft: &mut Draft<'_>, orig: u64, slot: u16, cause: Cause) -> Result<(), Memory>
-    ensures base { draft.new.base ≡ draft.old.base }
-    ensures ok { OnOk result
-        (drafted draft.new ≡ spec.failed_for (party.Slot slot) orig cause (drafted draft.old)) }
+    ensures { Brings result draft.old draft.new (spec.failed_for (party.Slot slot) orig cause (drafted draft.old)) }
 {
     if !awaits(draft, slot, orig) {
         return Ok(());
@@ -371,9 +358,8 @@ fn end_originate(
     conn: u32,
     answer: &[u8],
 ) -> Result<(), Memory>
-    ensures base { draft.new.base ≡ draft.old.base }
-    ensures ok { OnOk result
-        (drafted draft.new ≡ after_job_end job conn answer.now (without_orig orig (drafted draft.old))) }
+    ensures { Brings result draft.old draft.new
+        (after_job_end job conn answer.now (without_orig orig (drafted draft.old))) }
 {
     draft.drop_orig(orig)?;
     end_job(draft, job, conn, answer)

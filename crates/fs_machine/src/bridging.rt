@@ -1,10 +1,10 @@
 //! Bridges that channels dial: how the legs are made for one, and what it does once a leg has won or all have failed.
 
-ghost use Rattle.std.specs.Prelude.{◌≡◌, IfOk, OnOk};
+ghost use Rattle.std.specs.Prelude.{◌≡◌, IfOk};
 ghost use Rattle.std.specs.List.{list_any};
 ghost use Rattle.std.specs.Option.{option_copied};
 ghost use Rattle.fs_chan.specs.Exports.{names_of};
-ghost use Rattle.fs_state.specs.Drafts.{drafted};
+ghost use Rattle.fs_state.specs.Drafts.{drafted, Brings};
 ghost use Rattle.fs_state.specs.Switch.{chan_at};
 ghost use Rattle.fs_machine.specs.Bridging as spec;
 ghost use Rattle.fs_machine.specs.Originations.{GroupComesTo};
@@ -58,8 +58,7 @@ fn caller_of(chan: &Chan) -> Result<Caller, Memory>
 /// Tells the channel in a slot that its bridge has failed: it goes on, or hangs up with the cause.
 #[tactic(auto, unfolding(crate::specs::Bridging::after_bridge_failure))]
 pub(crate) fn fail_bridge(draft: &mut Draft<'_>, slot: u16, cause: Cause) -> Result<(), Memory>
-    ensures base { draft.new.base ≡ draft.old.base }
-    ensures ok { OnOk result (drafted draft.new ≡ spec.after_bridge_failure cause slot (drafted draft.old)) }
+    ensures { Brings result draft.old draft.new (spec.after_bridge_failure cause slot (drafted draft.old)) }
 {
     let Some(chan) = draft.chan(slot) else {
         return Ok(());
@@ -76,8 +75,7 @@ fn go_on_or_hang_up(
     onward: bool,
     cause: Cause,
 ) -> Result<(), Memory>
-    ensures base { draft.new.base ≡ draft.old.base }
-    ensures ok { OnOk result (drafted draft.new ≡ spec.after_going_on onward cause slot (drafted draft.old)) }
+    ensures { Brings result draft.old draft.new (spec.after_going_on onward cause slot (drafted draft.old)) }
 {
     if onward {
         draft.complete(slot)
@@ -88,8 +86,7 @@ fn go_on_or_hang_up(
 
 // Tells the channel in a slot what came of its origination.
 fn dispose(draft: &mut Draft<'_>, slot: u16, text: &[u8]) -> Result<(), Memory>
-    ensures base { draft.new.base ≡ draft.old.base }
-    ensures ok { OnOk result (drafted draft.new ≡ spec.disposed text.now slot (drafted draft.old)) }
+    ensures { Brings result draft.old draft.new (spec.disposed text.now slot (drafted draft.old)) }
 {
     let Some(mut chan) = draft.own_chan(slot)? else {
         return Ok(());
@@ -147,8 +144,7 @@ fn says_cause(cause: Cause, word: &[u8]) -> bool
 /// Joins the channel in a slot to the leg that has won; it is answered first, where it was not.
 #[tactic(auto, unfolding(crate::specs::Bridging::after_bridge_win))]
 pub(crate) fn win_bridge(draft: &mut Draft<'_>, slot: u16, leg: u16) -> Result<(), Memory>
-    ensures base { draft.new.base ≡ draft.old.base }
-    ensures ok { OnOk result (drafted draft.new ≡ spec.after_bridge_win slot leg (drafted draft.old)) }
+    ensures { Brings result draft.old draft.new (spec.after_bridge_win slot leg (drafted draft.old)) }
 {
     draft.answer(slot)?;
     dispose(draft, slot, b"SUCCESS")?;
@@ -157,8 +153,7 @@ pub(crate) fn win_bridge(draft: &mut Draft<'_>, slot: u16, leg: u16) -> Result<(
 
 // Joins the channel in a slot to a leg; where they cannot be joined the bridge has failed.
 fn join_or_fail(draft: &mut Draft<'_>, slot: u16, leg: u16) -> Result<(), Memory>
-    ensures base { draft.new.base ≡ draft.old.base }
-    ensures ok { OnOk result (drafted draft.new ≡ spec.joined_or_failed slot leg (drafted draft.old)) }
+    ensures { Brings result draft.old draft.new (spec.joined_or_failed slot leg (drafted draft.old)) }
 {
     if !draft.can_join(slot, leg) {
         return fail_bridge(draft, slot, Cause::NormalTemporaryFailure);

@@ -3,7 +3,7 @@
 ghost use Rattle.std.specs.Prelude.{◌≡◌, OnOk};
 ghost use Rattle.std.specs.Option.{option_and_then};
 ghost use Rattle.fs_chan.specs.Bridging.{awaited_by};
-ghost use Rattle.fs_state.specs.Drafts.{drafted};
+ghost use Rattle.fs_state.specs.Drafts.{drafted, Brings};
 ghost use Rattle.fs_state.specs.Moves.{after_move};
 ghost use Rattle.fs_state.specs.Switch.{chan_at};
 ghost use Rattle.fs_machine.specs.Channels as spec;
@@ -38,8 +38,7 @@ pub(crate) fn change_chan(
     slot: u16,
     change: ChanChange<'_>,
 ) -> Result<(), Memory>
-    ensures base { draft.new.base ≡ draft.old.base }
-    ensures ok { OnOk result (drafted draft.new ≡ after_move (spec.changed_by change.entry) slot (drafted draft.old)) }
+    ensures { Brings result draft.old draft.new (after_move (spec.changed_by change.entry) slot (drafted draft.old)) }
 {
     let Some(mut chan) = draft.own_chan(slot)? else {
         return Ok(());

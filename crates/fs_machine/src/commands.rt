@@ -1,11 +1,11 @@
 //! What the commands of the event socket do.
 
-ghost use Rattle.std.specs.Prelude.{◌≡◌, Some, OnOk};
+ghost use Rattle.std.specs.Prelude.{◌≡◌, Some};
 ghost use Rattle.std.specs.Str.{bytes_eq};
 ghost use Rattle.fs_cmd.specs.Commands.{read_of};
 ghost use Rattle.fs_cmd.specs.Frames.{not_found};
 ghost use Rattle.fs_api.specs.Readings.{api_of};
-ghost use Rattle.fs_state.specs.Drafts.{drafted};
+ghost use Rattle.fs_state.specs.Drafts.{drafted, Brings};
 ghost use Rattle.fs_machine.specs.Api.{done_by};
 ghost use Rattle.fs_machine.specs.Commands as spec;
 
@@ -23,8 +23,7 @@ pub(crate) fn do_command(
     conn: u32,
     command: Command<'_>,
 ) -> Result<(), Memory>
-    ensures base { draft.new.base ≡ draft.old.base }
-    ensures ok { OnOk result (drafted draft.new ≡ spec.command_done conn (read_of command.entry) (drafted draft.old)) }
+    ensures { Brings result draft.old draft.new (spec.command_done conn (read_of command.entry) (drafted draft.old)) }
 {
     match (phase_at(draft, conn), command) {
         (Phase::Ending | Phase::Closed, _) => Ok(()),
@@ -38,16 +37,14 @@ pub(crate) fn do_command(
 // Replies that there is no such command.
 #[tactic(auto, unfolding(fs_cmd::specs::Frames::not_found))]
 fn refuse(draft: &mut Draft<'_>, conn: u32) -> Result<(), Memory>
-    ensures base { draft.new.base ≡ draft.old.base }
-    ensures ok { OnOk result (drafted draft.new ≡ spec.with_reply conn not_found (drafted draft.old)) }
+    ensures { Brings result draft.old draft.new (spec.with_reply conn not_found (drafted draft.old)) }
 {
     give_reply(draft, conn, b"-ERR command not found")
 }
 
 // Replies to a command.
 fn give_reply(draft: &mut Draft<'_>, conn: u32, text: &[u8]) -> Result<(), Memory>
-    ensures base { draft.new.base ≡ draft.old.base }
-    ensures ok { OnOk result (drafted draft.new ≡ spec.with_reply conn text.now (drafted draft.old)) }
+    ensures { Brings result draft.old draft.new (spec.with_reply conn text.now (drafted draft.old)) }
 {
     let frame = reply(draft.alloc(), text, &[])?;
     draft.give(conn, frame)
@@ -55,8 +52,7 @@ fn give_reply(draft: &mut Draft<'_>, conn: u32, text: &[u8]) -> Result<(), Memor
 
 // Begins the end of a connection, with a last reply and the notice.
 fn begin_ending(draft: &mut Draft<'_>, conn: u32, why: Parting, text: &[u8]) -> Result<(), Memory>
-    ensures base { draft.new.base ≡ draft.old.base }
-    ensures ok { OnOk result (drafted draft.new ≡ spec.after_dismissal conn why text.now (drafted draft.old)) }
+    ensures { Brings result draft.old draft.new (spec.after_dismissal conn why text.now (drafted draft.old)) }
 {
     part(draft, conn, why)?;
     give_reply(draft, conn, text)?;
@@ -67,8 +63,7 @@ fn begin_ending(draft: &mut Draft<'_>, conn: u32, why: Parting, text: &[u8]) -> 
 // Judges the password that is offered.
 #[tactic(auto, unfolding(fs_cmd::specs::Frames::accepted, fs_cmd::specs::Frames::invalid))]
 fn authenticate(draft: &mut Draft<'_>, conn: u32, given: &[u8]) -> Result<(), Memory>
-    ensures base { draft.new.base ≡ draft.old.base }
-    ensures ok { OnOk result (drafted draft.new ≡ spec.after_password conn given.now (drafted draft.old)) }
+    ensures { Brings result draft.old draft.new (spec.after_password conn given.now (drafted draft.old)) }
 {
     if !is_password(draft, given) {
         return begin_ending(draft, conn, Parting::AuthRefused, b"-ERR invalid");
@@ -86,9 +81,8 @@ fn is_password(draft: &Draft<'_>, given: &[u8]) -> bool
 
 // Runs an api command, and answers it, unless the answer is owed.
 fn respond(draft: &mut Draft<'_>, conn: u32, text: &[u8]) -> Result<(), Memory>
-    ensures base { draft.new.base ≡ draft.old.base }
-    ensures ok { OnOk result
-        (drafted draft.new ≡ spec.with_response conn (done_by conn (api_of text.now) (drafted draft.old))) }
+    ensures { Brings result draft.old draft.new
+        (spec.with_response conn (done_by conn (api_of text.now) (drafted draft.old))) }
 {
     if let Some(answer) = echoed(text) {
         return give_answer(draft, conn, answer);
@@ -102,8 +96,7 @@ fn respond(draft: &mut Draft<'_>, conn: u32, text: &[u8]) -> Result<(), Memory>
 
 // Answers an api command.
 fn give_answer(draft: &mut Draft<'_>, conn: u32, answer: &[u8]) -> Result<(), Memory>
-    ensures base { draft.new.base ≡ draft.old.base }
-    ensures ok { OnOk result (drafted draft.new ≡ spec.with_response_of conn (Some answer.now) (drafted draft.old)) }
+    ensures { Brings result draft.old draft.new (spec.with_response_of conn (Some answer.now) (drafted draft.old)) }
 {
     let frame = api_reply(draft.alloc(), answer)?;
     draft.give(conn, frame)

@@ -1,8 +1,8 @@
 //! Connections, and how they change.
 
-ghost use Rattle.std.specs.Prelude.{◌≡◌, OnOk};
+ghost use Rattle.std.specs.Prelude.{◌≡◌};
 ghost use Rattle.std.specs.Option.{option_copied};
-ghost use Rattle.fs_state.specs.Drafts.{drafted};
+ghost use Rattle.fs_state.specs.Drafts.{drafted, Brings};
 ghost use Rattle.fs_machine.specs.Connections as spec;
 
 use fs_state::{Conn, Draft, Parting, Phase};
@@ -27,8 +27,7 @@ pub(crate) fn phase_at(draft: &Draft<'_>, conn: u32) -> Phase
 
 /// Takes no further command of a connection, if it is there.
 pub(crate) fn part(draft: &mut Draft<'_>, conn: u32, why: Parting) -> Result<(), Memory>
-    ensures base { draft.new.base ≡ draft.old.base }
-    ensures ok { OnOk result (drafted draft.new ≡ spec.conn_changed (spec.parted why) conn (drafted draft.old)) }
+    ensures { Brings result draft.old draft.new (spec.conn_changed (spec.parted why) conn (drafted draft.old)) }
 {
     let Some(there) = draft.conn(conn) else {
         return Ok(());
@@ -43,8 +42,7 @@ pub(crate) fn part(draft: &mut Draft<'_>, conn: u32, why: Parting) -> Result<(),
 
 /// Lets a connection give all commands, if it is there.
 pub(crate) fn admit(draft: &mut Draft<'_>, conn: u32) -> Result<(), Memory>
-    ensures base { draft.new.base ≡ draft.old.base }
-    ensures ok { OnOk result (drafted draft.new ≡ spec.conn_changed spec.admitted conn (drafted draft.old)) }
+    ensures { Brings result draft.old draft.new (spec.conn_changed spec.admitted conn (drafted draft.old)) }
 {
     let Some(there) = draft.conn(conn) else {
         return Ok(());
@@ -58,8 +56,7 @@ pub(crate) fn admit(draft: &mut Draft<'_>, conn: u32) -> Result<(), Memory>
 
 /// Notes that a connection is owed the reply to the command at a place, if it is there.
 pub(crate) fn owe(draft: &mut Draft<'_>, conn: u32, place: u64) -> Result<(), Memory>
-    ensures base { draft.new.base ≡ draft.old.base }
-    ensures ok { OnOk result (drafted draft.new ≡ spec.conn_changed (spec.owed_since place) conn (drafted draft.old)) }
+    ensures { Brings result draft.old draft.new (spec.conn_changed (spec.owed_since place) conn (drafted draft.old)) }
 {
     let Some(there) = draft.conn(conn) else {
         return Ok(());
@@ -73,8 +70,7 @@ pub(crate) fn owe(draft: &mut Draft<'_>, conn: u32, place: u64) -> Result<(), Me
 
 /// Notes that a connection is owed no reply any more, if it is there.
 pub(crate) fn settle(draft: &mut Draft<'_>, conn: u32) -> Result<(), Memory>
-    ensures base { draft.new.base ≡ draft.old.base }
-    ensures ok { OnOk result (drafted draft.new ≡ spec.conn_changed spec.not_owed conn (drafted draft.old)) }
+    ensures { Brings result draft.old draft.new (spec.conn_changed spec.not_owed conn (drafted draft.old)) }
 {
     let Some(there) = draft.conn(conn) else {
         return Ok(());

@@ -1,8 +1,8 @@
 //! How a channel begins to dial a bridge.
 
-ghost use Rattle.std.specs.Prelude.{◌≡◌, Ok, IfOk, OnOk};
+ghost use Rattle.std.specs.Prelude.{◌≡◌, Ok, IfOk};
 ghost use Rattle.fs_dial.specs.DialStrings.{dial_of};
-ghost use Rattle.fs_state.specs.Drafts.{drafted};
+ghost use Rattle.fs_state.specs.Drafts.{drafted, Brings};
 ghost use Rattle.fs_machine.specs.Dialing as spec;
 
 use crate::attempts::{DEFAULT_TIMEOUT, begin_orig, first_group};
@@ -18,8 +18,7 @@ use std::alloc::Global;
 /// Lets the channel in a slot dial the legs of a dial string; a fault in it is a failed bridge.
 #[tactic(auto, unfolding(crate::specs::Dialing::after_dialing))]
 pub(crate) fn dial_bridge(draft: &mut Draft<'_>, slot: u16, text: &Txt) -> Result<(), Memory>
-    ensures base { draft.new.base ≡ draft.old.base }
-    ensures ok { OnOk result (drafted draft.new ≡ spec.after_dialing text.now slot (drafted draft.old)) }
+    ensures { Brings result draft.old draft.new (spec.after_dialing text.now slot (drafted draft.old)) }
 {
     match parse(draft.alloc(), text.as_bytes()) {
         Ok(dial) => dial_legs(draft, slot, &dial),
@@ -30,9 +29,7 @@ pub(crate) fn dial_bridge(draft: &mut Draft<'_>, slot: u16, text: &Txt) -> Resul
 
 // Tries the legs of a dial string that has no fault; the channel owns the origination, and waits for the verdict.
 fn dial_legs(draft: &mut Draft<'_>, slot: u16, dial: &DialString<'_>) -> Result<(), Memory>
-    ensures base { draft.new.base ≡ draft.old.base }
-    ensures ok { OnOk result
-        (drafted draft.new ≡ spec.bridge_dialed (Ok (dial_of dial.now)) slot (drafted draft.old)) }
+    ensures { Brings result draft.old draft.new (spec.bridge_dialed (Ok (dial_of dial.now)) slot (drafted draft.old)) }
 {
     let alloc = draft.alloc();
     let Some(chan) = draft.chan(slot) else {

@@ -112,7 +112,7 @@ pub(crate) fn due_in_slot(seen: &Seen<'_>, slot: u16) -> DueActor
 }
 
 // The least slot that has something to do.
-#[tactic(auto, using(fs_places::proofs::PlaceLemmas::first_here, fs_places::proofs::PlaceLemmas::first_behind, fs_places::proofs::PlaceLemmas::first_empty))]
+#[tactic(auto, using(fs_places::proofs::PlaceLemmas::filled_rules))]
 fn due_slot(seen: &Seen<'_>) -> Option<u16>
     ensures { result ≡ spec.due_slot seen.now }
 {

@@ -1,7 +1,7 @@
 //! Hangups of several channels for one cause.
 
-ghost use Rattle.std.specs.Prelude.{◌≡◌, map, IfOk, OnOk};
-ghost use Rattle.fs_state.specs.Drafts.{drafted};
+ghost use Rattle.std.specs.Prelude.{◌≡◌, map, IfOk};
+ghost use Rattle.fs_state.specs.Drafts.{drafted, Brings};
 ghost use Rattle.fs_state.specs.Hangups.{after_hangups_for};
 
 use fs_state::Draft;
@@ -10,8 +10,7 @@ use std::alloc::Global;
 
 /// Hangs up the channels in these slots with a cause, and all whom that drags along.
 pub(crate) fn hang_up_for(draft: &mut Draft<'_>, slots: &[u16], cause: Cause) -> Result<(), Memory>
-    ensures base { draft.new.base ≡ draft.old.base }
-    ensures ok { OnOk result (drafted draft.new ≡ after_hangups_for cause slots.now (drafted draft.old)) }
+    ensures { Brings result draft.old draft.new (after_hangups_for cause slots.now (drafted draft.old)) }
 {
     let named = all_for(draft.alloc(), slots, cause)?;
     draft.hang_up_all(&named)

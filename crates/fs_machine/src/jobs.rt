@@ -1,6 +1,5 @@
 //! What jobs do: a sleep that is over is answered, and an origination is judged.
-ghost use Rattle.std.specs.Prelude.{◌≡◌, OnOk};
-ghost use Rattle.fs_state.specs.Drafts.{drafted};
+ghost use Rattle.fs_state.specs.Drafts.{drafted, Brings};
 ghost use Rattle.fs_machine.specs.Jobs as spec;
 
 use crate::attempts::{Attempt, Party, judge_attempt};
@@ -11,8 +10,7 @@ use fs_text::Memory;
 
 /// Lets a connection wait so many milliseconds for its reply.
 pub(crate) fn begin_sleep(draft: &mut Draft<'_>, conn: u32, milliseconds: u64) -> Result<(), Memory>
-    ensures base { draft.new.base ≡ draft.old.base }
-    ensures ok { OnOk result (drafted draft.new ≡ spec.sleep_begun conn milliseconds (drafted draft.old)) }
+    ensures { Brings result draft.old draft.new (spec.sleep_begun conn milliseconds (drafted draft.old)) }
 {
     let until = moment_after(draft.moment(), milliseconds.saturating_mul(1_000));
     begin_job(draft, conn, JobWork::Sleep { until })
@@ -21,8 +19,7 @@ pub(crate) fn begin_sleep(draft: &mut Draft<'_>, conn: u32, milliseconds: u64) -
 /// Does what a job has to do.
 #[tactic(auto, unfolding(crate::specs::Jobs::job_done))]
 pub(crate) fn do_job(draft: &mut Draft<'_>, number: u64) -> Result<(), Memory>
-    ensures base { draft.new.base ≡ draft.old.base }
-    ensures ok { OnOk result (drafted draft.new ≡ spec.job_done number (drafted draft.old)) }
+    ensures { Brings result draft.old draft.new (spec.job_done number (drafted draft.old)) }
 {
     let Some(job) = draft.job(number) else {
         return Ok(());
@@ -35,8 +32,7 @@ pub(crate) fn do_job(draft: &mut Draft<'_>, number: u64) -> Result<(), Memory>
 // Does what a job is there for.
 #[tactic(auto, unfolding(crate::specs::Texts::ok))]
 fn do_work(draft: &mut Draft<'_>, number: u64, conn: u32, work: JobWork) -> Result<(), Memory>
-    ensures base { draft.new.base ≡ draft.old.base }
-    ensures ok { OnOk result (drafted draft.new ≡ spec.after_job_work work number conn (drafted draft.old)) }
+    ensures { Brings result draft.old draft.new (spec.after_job_work work number conn (drafted draft.old)) }
 {
     match work {
         JobWork::Sleep { .. } => end_job(draft, number, conn, b"+OK\n"),

@@ -1,8 +1,8 @@
 //! How a command joins two channels.
 
-ghost use Rattle.std.specs.Prelude.{◌≡◌, ◌++◌, None, IfOk, OnOk};
+ghost use Rattle.std.specs.Prelude.{◌≡◌, ◌++◌, None, IfOk};
 ghost use Rattle.std.specs.Option.{option_copied};
-ghost use Rattle.fs_state.specs.Drafts.{drafted};
+ghost use Rattle.fs_state.specs.Drafts.{drafted, Brings};
 ghost use Rattle.fs_state.specs.Hangups.{legs_at};
 ghost use Rattle.fs_state.specs.Moves.{with_changed_chan};
 ghost use Rattle.fs_state.specs.Switch.{chan_at};
@@ -54,7 +54,6 @@ fn bridge_slots(draft: &mut Draft<'_>, a: u16, b: u16, other: &Txt) -> Result<Op
 // ---- what stands in the way
 
 // Why the channels in two slots cannot be joined.
-#[tactic(auto, unfolding(crate::specs::Texts::same_channel, crate::specs::Texts::not_ready, crate::specs::Texts::not_answered, crate::specs::Texts::already_bridged))]
 fn in_the_way(draft: &Draft<'_>, a: u16, b: u16) -> Option<&'static [u8]>
     ensures { option_copied result ≡ spec.in_the_way a b (drafted draft.now) }
 {
@@ -101,8 +100,7 @@ fn is_answered(draft: &Draft<'_>, slot: u16) -> bool
 
 // Lets two channels leave what they were in; the legs that they dialed are hung up first.
 fn leave_both(draft: &mut Draft<'_>, a: u16, b: u16) -> Result<(), Memory>
-    ensures base { draft.new.base ≡ draft.old.base }
-    ensures ok { OnOk result (drafted draft.new ≡ spec.both_left a b (drafted draft.old)) }
+    ensures { Brings result draft.old draft.new (spec.both_left a b (drafted draft.old)) }
 {
     let legs = legs_of_both(draft, a, b)?;
     hang_up_for(draft, &legs, Cause::OriginatorCancel)?;
@@ -122,8 +120,7 @@ fn legs_of_both(draft: &Draft<'_>, a: u16, b: u16) -> Result<Vec<u16>, Memory>
 
 // Gives up what the channel in a slot dialed; it runs and waits for nothing.
 fn leave(draft: &mut Draft<'_>, slot: u16) -> Result<(), Memory>
-    ensures base { draft.new.base ≡ draft.old.base }
-    ensures ok { OnOk result (drafted draft.new ≡ spec.after_leaving slot (drafted draft.old)) }
+    ensures { Brings result draft.old draft.new (spec.after_leaving slot (drafted draft.old)) }
 {
     let awaited = awaited_at(draft, slot);
     draft.give_up_orig(slot, awaited)?;
@@ -132,8 +129,7 @@ fn leave(draft: &mut Draft<'_>, slot: u16) -> Result<(), Memory>
 
 // The channel in a slot runs and waits for nothing.
 fn set_at_leisure(draft: &mut Draft<'_>, slot: u16) -> Result<(), Memory>
-    ensures base { draft.new.base ≡ draft.old.base }
-    ensures ok { OnOk result (drafted draft.new ≡ with_changed_chan at_leisure slot (drafted draft.old)) }
+    ensures { Brings result draft.old draft.new (with_changed_chan at_leisure slot (drafted draft.old)) }
 {
     let Some(mut chan) = draft.own_chan(slot)? else {
         return Ok(());
@@ -163,8 +159,7 @@ fn join_both(draft: &mut Draft<'_>, a: u16, b: u16, other: &Txt) -> Result<Optio
 
 // Brings two channels into the media of their bridge, in the order of their slots.
 fn bring_into_media(draft: &mut Draft<'_>, a: u16, b: u16) -> Result<(), Memory>
-    ensures base { draft.new.base ≡ draft.old.base }
-    ensures ok { OnOk result (drafted draft.new ≡ spec.both_in_media a b (drafted draft.old)) }
+    ensures { Brings result draft.old draft.new (spec.both_in_media a b (drafted draft.old)) }
 {
     if a < b {
         draft.enter(a, State::CsExchangeMedia)?;

@@ -2,7 +2,7 @@
 
 ghost use Rattle.std.specs.Prelude.{◌≡◌, ◌+◌, [], ◌∷◌, Some, IfOk, OnOk};
 ghost use Rattle.fs_chan.specs.Changes.{IsShortTarget};
-ghost use Rattle.fs_state.specs.Drafts.{drafted};
+ghost use Rattle.fs_state.specs.Drafts.{drafted, Brings};
 ghost use Rattle.fs_state.specs.Switch.{identifier_of, with_next_identifier, free_slot};
 ghost use Rattle.fs_machine.specs.Originations as spec;
 
@@ -189,10 +189,9 @@ fn make_pair(
 
 // Makes the channel at the end that is the leg, and gives its identifier.
 fn make_named_end(draft: &mut Draft<'_>, call: &Call, end: End) -> Result<Txt, Memory>
-    ensures base { draft.new.base ≡ draft.old.base }
     ensures uuid { IfOk result (λ uuid. uuid ≡ spec.leg_uuid call.now.uuid (drafted draft.old)) }
-    ensures made { OnOk result
-        (drafted draft.new ≡ spec.named_end_made call.now.uuid call.now end (drafted draft.old)) }
+    ensures made { Brings result draft.old draft.new
+        (spec.named_end_made call.now.uuid call.now end (drafted draft.old)) }
 {
     let Some(name) = &call.uuid else {
         return make_end(draft, call, end);
@@ -205,9 +204,8 @@ fn make_named_end(draft: &mut Draft<'_>, call: &Call, end: End) -> Result<Txt, M
 
 // Makes the channel at one end under the next identifier, and gives that.
 fn make_end(draft: &mut Draft<'_>, call: &Call, end: End) -> Result<Txt, Memory>
-    ensures base { draft.new.base ≡ draft.old.base }
     ensures uuid { IfOk result (λ uuid. uuid ≡ identifier_of (with_next_identifier (drafted draft.old))) }
-    ensures made { OnOk result (drafted draft.new ≡ spec.end_made call.now end (drafted draft.old)) }
+    ensures made { Brings result draft.old draft.new (spec.end_made call.now end (drafted draft.old)) }
 {
     let uuid = draft.draw_identifier()?;
     let chan = end_of(draft.alloc(), call, end, uuid.copy()?)?;

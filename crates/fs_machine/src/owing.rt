@@ -1,6 +1,5 @@
 //! Replies that are owed: a job begins with one, and ends as it is given.
-ghost use Rattle.std.specs.Prelude.{◌≡◌, OnOk};
-ghost use Rattle.fs_state.specs.Drafts.{drafted};
+ghost use Rattle.fs_state.specs.Drafts.{drafted, Brings};
 ghost use Rattle.fs_machine.specs.Owing as spec;
 
 use crate::connections::{owe, settle};
@@ -10,8 +9,7 @@ use fs_text::Memory;
 
 /// Begins a job, and owes the reply to the command in hand until it ends.
 pub(crate) fn begin_job(draft: &mut Draft<'_>, conn: u32, work: JobWork) -> Result<(), Memory>
-    ensures base { draft.new.base ≡ draft.old.base }
-    ensures ok { OnOk result (drafted draft.new ≡ spec.after_job_begin conn work (drafted draft.old)) }
+    ensures { Brings result draft.old draft.new (spec.after_job_begin conn work (drafted draft.old)) }
 {
     let place = draft.place();
     let _number = draft.add_job(Job { conn, work })?;
@@ -25,8 +23,7 @@ pub(crate) fn end_job(
     conn: u32,
     answer: &[u8],
 ) -> Result<(), Memory>
-    ensures base { draft.new.base ≡ draft.old.base }
-    ensures ok { OnOk result (drafted draft.new ≡ spec.after_job_end number conn answer.now (drafted draft.old)) }
+    ensures { Brings result draft.old draft.new (spec.after_job_end number conn answer.now (drafted draft.old)) }
 {
     draft.drop_job(number)?;
     settle(draft, conn)?;

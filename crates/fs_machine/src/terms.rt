@@ -17,7 +17,7 @@ use std::alloc::Global;
 const LONGEST_NAME: usize = 64;
 
 /// The variables that pairs come to, set one after another, unless one is refused.
-#[tactic(auto, using(crate::proofs::TermLemmas::set_next, crate::proofs::TermLemmas::set_refused, crate::proofs::TermLemmas::set_done))]
+#[tactic(auto, using(crate::proofs::TermLemmas::set_rules))]
 pub(crate) fn set_all(alloc: Global, pairs: &Headers) -> Result<Option<Vars>, Memory>
     ensures { IfOk result (λ vars. vars ≡ spec.set_all pairs.now spec.no_variables) }
 {

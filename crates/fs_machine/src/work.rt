@@ -1,10 +1,10 @@
 //! What a channel does by itself, state by state.
 
-ghost use Rattle.std.specs.Prelude.{◌≡◌, true, IfSome, IfOk, OnOk};
+ghost use Rattle.std.specs.Prelude.{◌≡◌, true, IfSome, IfOk};
 ghost use Rattle.fs_chan.specs.Changes as changes;
 ghost use Rattle.fs_chan.specs.Changes.{may_route};
 ghost use Rattle.fs_chan.specs.declared.wait.Wait.TheVariants.{Legs};
-ghost use Rattle.fs_state.specs.Drafts.{drafted};
+ghost use Rattle.fs_state.specs.Drafts.{drafted, Brings};
 ghost use Rattle.fs_state.specs.Switch.{chan_at};
 ghost use Rattle.fs_state.specs.Moves.{after_move};
 ghost use Rattle.fs_machine.specs.Work as spec;
@@ -23,8 +23,7 @@ use fs_vars::{Refused, Scope, Vars};
 #[tactic(auto, unfolding(crate::specs::Work::after_work))]
 pub(crate) fn work(draft: &mut Draft<'_>, plan: &Dialplan, slot: u16) -> Result<(), Memory>
     requires plan { plan.now ≡ draft.old.base.config.contexts }
-    ensures base { draft.new.base ≡ draft.old.base }
-    ensures ok { OnOk result (drafted draft.new ≡ spec.after_work slot (drafted draft.old)) }
+    ensures { Brings result draft.old draft.new (spec.after_work slot (drafted draft.old)) }
 {
     let Some(chan) = draft.chan(slot) else {
         return Ok(());
@@ -51,8 +50,7 @@ pub(crate) fn work(draft: &mut Draft<'_>, plan: &Dialplan, slot: u16) -> Result<
 
 // Does what the verdict on the origination says that the channel in a slot waits for.
 fn judge_dialed(draft: &mut Draft<'_>, slot: u16, orig: u64) -> Result<(), Memory>
-    ensures base { draft.new.base ≡ draft.old.base }
-    ensures ok { OnOk result (drafted draft.new ≡ spec.after_wait (Legs orig) slot (drafted draft.old)) }
+    ensures { Brings result draft.old draft.new (spec.after_wait (Legs orig) slot (drafted draft.old)) }
 {
     let party = Party::Slot { slot };
     judge_attempt(draft, &Attempt { orig, party })
@@ -71,8 +69,7 @@ fn first_state(direction: Direction) -> State
 // Routes a channel, unless it was routed too often.
 fn route(draft: &mut Draft<'_>, plan: &Dialplan, slot: u16) -> Result<(), Memory>
     requires plan { plan.now ≡ draft.old.base.config.contexts }
-    ensures base { draft.new.base ≡ draft.old.base }
-    ensures ok { OnOk result (drafted draft.new ≡ spec.after_routing slot (drafted draft.old)) }
+    ensures { Brings result draft.old draft.new (spec.after_routing slot (drafted draft.old)) }
 {
     let Some(chan) = draft.chan(slot) else {
         return Ok(());
@@ -128,8 +125,7 @@ fn hunt_for(draft: &Draft<'_>, plan: &Dialplan, chan: &Chan) -> Result<Option<Hu
 // Takes over what the hunt gave: the actions are to be run; without any, or in another dialplan, there is no route.
 fn take_hunt(draft: &mut Draft<'_>, slot: u16, xml: bool, hunt: Hunt) -> Result<(), Memory>
     requires may { IfSome (chan_at (drafted draft.old) slot) (λ c. may_route c ≡ true) }
-    ensures base { draft.new.base ≡ draft.old.base }
-    ensures ok { OnOk result (drafted draft.new ≡ spec.after_hunt xml hunt slot (drafted draft.old)) }
+    ensures { Brings result draft.old draft.new (spec.after_hunt xml hunt slot (drafted draft.old)) }
 {
     let (actions, vars, globals) = hunt.into_parts();
     draft.set_globals(globals)?;
@@ -148,8 +144,7 @@ fn take_actions(
     actions: Actions,
 ) -> Result<(), Memory>
     requires may { IfSome (chan_at (drafted draft.old) slot) (λ c. may_route c ≡ true) }
-    ensures base { draft.new.base ≡ draft.old.base }
-    ensures ok { OnOk result (drafted draft.new ≡ after_move (changes.routed vars actions) slot (drafted draft.old)) }
+    ensures { Brings result draft.old draft.new (after_move (changes.routed vars actions) slot (drafted draft.old)) }
 {
     let Some(chan) = draft.own_chan(slot)? else {
         return Ok(());
@@ -161,8 +156,7 @@ fn take_actions(
 
 // Gives the channel in a slot these variables.
 fn take_variables(draft: &mut Draft<'_>, slot: u16, vars: Vars) -> Result<(), Memory>
-    ensures base { draft.new.base ≡ draft.old.base }
-    ensures ok { OnOk result (drafted draft.new ≡ after_move (spec.with_variables vars) slot (drafted draft.old)) }
+    ensures { Brings result draft.old draft.new (after_move (spec.with_variables vars) slot (drafted draft.old)) }
 {
     let Some(mut chan) = draft.own_chan(slot)? else {
         return Ok(());

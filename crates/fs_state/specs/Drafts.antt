@@ -1,5 +1,5 @@
 -- What a draft changes of a switch.
-use Rattle.std.specs.Prelude.{ℕ, Option, unwrap_or}
+use Rattle.std.specs.Prelude.{◌≡◌, ℕ, Option, Result, unwrap_or, OnOk}
 use Rattle.fs_bridge.specs.Bridges.{BridgeRows}
 use Rattle.fs_chan.specs.declared.chan.Chan.{Chan}
 use Rattle.fs_places.specs.Sheets.{written}
@@ -32,6 +32,10 @@ pub record Drafted : Type 0 where
 -- the switch as it is to be
 abbrev pub drafted : Drafted → Switch
 drafted d = after d.base d.delta
+
+-- a call brings a draft to a switch, unless it is refused; what the draft stands over stays
+abbrev pub Brings : {T E : Type 0} → Result T E → Drafted → Drafted → Switch → Type 0
+Brings result old new s = (new.base ≡ old.base) × OnOk result (drafted new ≡ s)
 
 -- the channel in a slot, as it is to be
 abbrev pub chan_in : Drafted → ℕ → Option Chan

@@ -1,7 +1,7 @@
 //! Answers and ends of single channels.
-ghost use Rattle.std.specs.Prelude.{◌≡◌, IfOk, OnOk};
+ghost use Rattle.std.specs.Prelude.{◌≡◌, IfOk};
 ghost use Rattle.fs_chan.specs.Changes.{hung_up};
-ghost use Rattle.fs_state.specs.Drafts.{drafted};
+ghost use Rattle.fs_state.specs.Drafts.{drafted, Brings};
 ghost use Rattle.fs_state.specs.Switch.{with_event};
 ghost use Rattle.fs_state.specs.Moves as spec;
 
@@ -20,8 +20,7 @@ impl<'a> Draft<'a> {
 
     /// The channel in a slot is answered by the entry in hand, where it was not, and so is its partner.
     pub fn answer(&mut self, slot: u16) -> Result<(), Memory>
-        ensures base { self.new.base ≡ self.old.base }
-        ensures ok { OnOk result (drafted self.new ≡ spec.after_answer slot (drafted self.old)) }
+        ensures { Brings result self.old self.new (spec.after_answer slot (drafted self.old)) }
     {
         let partner = self.partner(slot);
         self.answer_one(slot)?;
@@ -33,8 +32,7 @@ impl<'a> Draft<'a> {
 
     /// A channel is answered, where it was not, and so is the leg that it is.
     fn answer_one(&mut self, slot: u16) -> Result<(), Memory>
-        ensures base { self.new.base ≡ self.old.base }
-        ensures ok { OnOk result (drafted self.new ≡ spec.after_one_answer slot (drafted self.old)) }
+        ensures { Brings result self.old self.new (spec.after_one_answer slot (drafted self.old)) }
     {
         let Some(chan) = self.chan(slot) else {
             return Ok(());
@@ -50,8 +48,7 @@ impl<'a> Draft<'a> {
 
     /// Answers the channel in a slot by the entry in hand.
     fn set_answered(&mut self, slot: u16) -> Result<(), Memory>
-        ensures base { self.new.base ≡ self.old.base }
-        ensures ok { OnOk result (drafted self.new ≡ spec.answer_set slot (drafted self.old)) }
+        ensures { Brings result self.old self.new (spec.answer_set slot (drafted self.old)) }
     {
         let Some(mut chan) = self.own_chan(slot)? else {
             return Ok(());
@@ -62,8 +59,7 @@ impl<'a> Draft<'a> {
 
     /// The living leg in a slot is answered, of the origination of this number.
     fn answer_leg(&mut self, slot: u16, leg_of: Option<u64>) -> Result<(), Memory>
-        ensures base { self.new.base ≡ self.old.base }
-        ensures ok { OnOk result (drafted self.new ≡ spec.leg_answered slot leg_of (drafted self.old)) }
+        ensures { Brings result self.old self.new (spec.leg_answered slot leg_of (drafted self.old)) }
     {
         let Some(number) = leg_of else {
             return Ok(());
@@ -77,8 +73,7 @@ impl<'a> Draft<'a> {
 
     /// A live channel is hung up, the leg that it is dies, and what it dialed is given up.
     pub(crate) fn hang_one(&mut self, slot: u16, cause: Cause) -> Result<(), Memory>
-        ensures base { self.new.base ≡ self.old.base }
-        ensures ok { OnOk result (drafted self.new ≡ spec.after_one_hangup cause slot (drafted self.old)) }
+        ensures { Brings result self.old self.new (spec.after_one_hangup cause slot (drafted self.old)) }
     {
         let Some(chan) = self.chan(slot) else {
             return Ok(());
@@ -96,8 +91,7 @@ impl<'a> Draft<'a> {
 
     /// Hangs the channel in a slot up with a cause.
     fn set_hung(&mut self, slot: u16, cause: Cause) -> Result<(), Memory>
-        ensures base { self.new.base ≡ self.old.base }
-        ensures ok { OnOk result (drafted self.new ≡ spec.with_changed_chan (hung_up cause) slot (drafted self.old)) }
+        ensures { Brings result self.old self.new (spec.with_changed_chan (hung_up cause) slot (drafted self.old)) }
     {
         let Some(mut chan) = self.own_chan(slot)? else {
             return Ok(());
@@ -108,8 +102,7 @@ impl<'a> Draft<'a> {
 
     /// A channel was hung up with a cause.
     fn tell_hangup(&mut self, cause: Cause) -> Result<(), Memory>
-        ensures base { self.new.base ≡ self.old.base }
-        ensures ok { OnOk result (drafted self.new ≡ with_event (spec.hangup_event cause) (drafted self.old)) }
+        ensures { Brings result self.old self.new (with_event (spec.hangup_event cause) (drafted self.old)) }
     {
         self.tell(Event {
             name: EventName::ChannelHangup,
@@ -120,8 +113,7 @@ impl<'a> Draft<'a> {
 
     /// The living leg in a slot dies, of the origination of this number.
     fn end_leg(&mut self, slot: u16, leg_of: Option<u64>, cause: Cause) -> Result<(), Memory>
-        ensures base { self.new.base ≡ self.old.base }
-        ensures ok { OnOk result (drafted self.new ≡ spec.leg_ended cause slot leg_of (drafted self.old)) }
+        ensures { Brings result self.old self.new (spec.leg_ended cause slot leg_of (drafted self.old)) }
     {
         let Some(number) = leg_of else {
             return Ok(());
@@ -135,8 +127,7 @@ impl<'a> Draft<'a> {
 
     /// The origination that the channel in a slot waits for is given up, if it owns that.
     pub fn give_up_orig(&mut self, slot: u16, awaited: Option<u64>) -> Result<(), Memory>
-        ensures base { self.new.base ≡ self.old.base }
-        ensures ok { OnOk result (drafted self.new ≡ spec.orig_given_up slot awaited (drafted self.old)) }
+        ensures { Brings result self.old self.new (spec.orig_given_up slot awaited (drafted self.old)) }
     {
         let Some(number) = awaited else {
             return Ok(());
@@ -153,8 +144,7 @@ impl<'a> Draft<'a> {
 
     /// The channel in a slot is gone, and the slot is free.
     pub fn destroy(&mut self, slot: u16) -> Result<(), Memory>
-        ensures base { self.new.base ≡ self.old.base }
-        ensures ok { OnOk result (drafted self.new ≡ spec.after_destroy slot (drafted self.old)) }
+        ensures { Brings result self.old self.new (spec.after_destroy slot (drafted self.old)) }
     {
         self.put_chan(slot, None)?;
         self.tell_of(EventName::ChannelState)?;

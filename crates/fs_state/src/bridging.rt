@@ -1,7 +1,7 @@
 //! How two channels are joined by a bridge.
-ghost use Rattle.std.specs.Prelude.{◌≡◌, true, option_map, IfOk, OnOk};
+ghost use Rattle.std.specs.Prelude.{◌≡◌, true, option_map, IfOk};
 ghost use Rattle.fs_chan.specs.Bridging.{bridged};
-ghost use Rattle.fs_state.specs.Drafts.{drafted, chan_in};
+ghost use Rattle.fs_state.specs.Drafts.{drafted, Brings, chan_in};
 ghost use Rattle.fs_state.specs.Moves.{with_changed_chan};
 ghost use Rattle.fs_state.specs.Bridging as spec;
 
@@ -14,8 +14,7 @@ use fs_text::{EventName, Memory};
 impl<'a> Draft<'a> {
     /// Two channels are joined by a bridge, the first as caller, where they can be.
     pub fn join(&mut self, kind: BridgeKind, caller: u16, answerer: u16) -> Result<(), Memory>
-        ensures base { self.new.base ≡ self.old.base }
-        ensures ok { OnOk result (drafted self.new ≡ spec.after_join kind caller answerer (drafted self.old)) }
+        ensures { Brings result self.old self.new (spec.after_join kind caller answerer (drafted self.old)) }
     {
         if self.can_join(caller, answerer) {
             self.join_as(kind, caller, answerer)
@@ -36,8 +35,7 @@ impl<'a> Draft<'a> {
     /// Two channels are joined: there is a bridge, and each names the other.
     fn join_as(&mut self, kind: BridgeKind, caller: u16, answerer: u16) -> Result<(), Memory>
         requires { spec.can_join caller answerer (drafted self.old) ≡ true }
-        ensures base { self.new.base ≡ self.old.base }
-        ensures ok { OnOk result (drafted self.new ≡ spec.joined_as kind caller answerer (drafted self.old)) }
+        ensures { Brings result self.old self.new (spec.joined_as kind caller answerer (drafted self.old)) }
     {
         let number = self.add_bridge(kind, caller, answerer)?;
         self.set_peer(caller, answerer)?;
@@ -51,8 +49,7 @@ impl<'a> Draft<'a> {
 
     /// The channel in a slot gets the one in another as its peer, if that is there.
     fn set_peer(&mut self, slot: u16, other: u16) -> Result<(), Memory>
-        ensures base { self.new.base ≡ self.old.base }
-        ensures ok { OnOk result (drafted self.new ≡ spec.with_peer slot other (drafted self.old)) }
+        ensures { Brings result self.old self.new (spec.with_peer slot other (drafted self.old)) }
     {
         match self.peer_of(other)? {
             Some(peer) => self.set_bridged(slot, peer),
@@ -73,8 +70,7 @@ impl<'a> Draft<'a> {
 
     /// The channel in a slot gets a peer.
     fn set_bridged(&mut self, slot: u16, peer: Peer) -> Result<(), Memory>
-        ensures base { self.new.base ≡ self.old.base }
-        ensures ok { OnOk result (drafted self.new ≡ with_changed_chan (bridged peer) slot (drafted self.old)) }
+        ensures { Brings result self.old self.new (with_changed_chan (bridged peer) slot (drafted self.old)) }
     {
         let Some(mut chan) = self.own_chan(slot)? else {
             return Ok(());

@@ -1,5 +1,5 @@
 //! A draft: a switch that is kept, and what is to change of it.
-ghost use Rattle.std.specs.Prelude.{◌≡◌, ◌≢◌, ◌≤◌, Option, Some, None, length, slice_get, MatchOption, IfOk, OnOk};
+ghost use Rattle.std.specs.Prelude.{◌≡◌, ◌≢◌, ◌≤◌, Option, Some, None, length, slice_get, MatchOption, IfOk};
 ghost use Rattle.std.specs.Option.{option_copied};
 ghost use Rattle.fs_places.specs.Overlays.{now_of};
 ghost use Rattle.fs_places.specs.Places.{IsEmptyFrom};
@@ -9,7 +9,8 @@ ghost use Rattle.fs_state.specs.declared.delta.QueueChange.TheVariants as change
 ghost use Rattle.fs_state.specs.Drawn as numbers;
 ghost use Rattle.fs_state.specs.Switch as spec;
 ghost use Rattle.fs_bridge.specs.Bridges.{BridgeRows};
-ghost use Rattle.fs_state.specs.Drafts.{after, drafted, chan_in, with_chan_in, chan_taken_back, with_bridges_in, Fits};
+ghost use Rattle.fs_state.specs.Drafts.{Brings, after, drafted, chan_in, with_chan_in, chan_taken_back};
+ghost use Rattle.fs_state.specs.Drafts.{with_bridges_in, Fits};
 
 use crate::conn::Conn;
 use crate::delta::{Delta, QueueChange};
@@ -167,16 +168,14 @@ impl<'a> Draft<'a> {
 
     /// Something happens.
     pub fn tell(&mut self, event: Event) -> Result<(), Memory>
-        ensures base { self.new.base ≡ self.old.base }
-        ensures ok { OnOk result (drafted self.new ≡ spec.with_event event (drafted self.old)) }
+        ensures { Brings result self.old self.new (spec.with_event event (drafted self.old)) }
     {
         self.news.push(event)
     }
 
     /// A frame is given to the connection of a number.
     pub fn give(&mut self, conn: u32, frame: Txt) -> Result<(), Memory>
-        ensures base { self.new.base ≡ self.old.base }
-        ensures ok { OnOk result (drafted self.new ≡ spec.with_gift conn frame (drafted self.old)) }
+        ensures { Brings result self.old self.new (spec.with_gift conn frame (drafted self.old)) }
     {
         self.given.push(conn, frame)
     }
@@ -199,9 +198,8 @@ impl<'a> Draft<'a> {
 
     /// Draws an identifier of the switch, whose number is the next.
     pub fn draw_identifier(&mut self) -> Result<Txt, Memory>
-        ensures base { self.new.base ≡ self.old.base }
         ensures identifier { IfOk result (λ text. text ≡ spec.identifier_of (drafted self.new)) }
-        ensures ok { OnOk result (drafted self.new ≡ spec.with_next_identifier (drafted self.old)) }
+        ensures draft { Brings result self.old self.new (spec.with_next_identifier (drafted self.old)) }
     {
         self.drawn = self.drawn.with_identifier();
         let core = self.core;
@@ -224,8 +222,7 @@ impl<'a> Draft<'a> {
 
     /// There are other globals.
     pub fn set_globals(&mut self, globals: Vars) -> Result<(), Memory>
-        ensures base { self.new.base ≡ self.old.base }
-        ensures ok { OnOk result (drafted self.new ≡ record (drafted self.old) { globals = globals }) }
+        ensures { Brings result self.old self.new (record (drafted self.old) { globals = globals }) }
     {
         self.globals = Some(Boxed::of(self.alloc(), globals)?);
         Ok(())
@@ -242,8 +239,7 @@ impl<'a> Draft<'a> {
 
     /// Puts a channel into a slot, or empties it.
     pub fn put_chan(&mut self, slot: u16, chan: Option<Boxed<Chan>>) -> Result<(), Memory>
-        ensures base { self.new.base ≡ self.old.base }
-        ensures ok { OnOk result (drafted self.new ≡ spec.with_chan slot chan (drafted self.old)) }
+        ensures { Brings result self.old self.new (spec.with_chan slot chan (drafted self.old)) }
     {
         self.channels.put(usize::from(slot), chan)
     }
@@ -309,7 +305,7 @@ impl<'a> Draft<'a> {
     }
 
     /// Whether the channel in some slot has this identifier, live or not.
-    #[tactic(auto, using(fs_places::proofs::PlaceLemmas::first_here, fs_places::proofs::PlaceLemmas::first_behind, fs_places::proofs::PlaceLemmas::first_empty))]
+    #[tactic(auto, using(fs_places::proofs::PlaceLemmas::filled_rules))]
     pub fn is_held(&self, uuid: &[u8]) -> bool
         ensures { result ≡ spec.is_held uuid.now (drafted self.now) }
     {
@@ -354,9 +350,8 @@ impl<'a> Draft<'a> {
         requires apart { caller ≢ answerer }
         requires caller { spec.bridge_at (drafted self.old) caller ≡ None }
         requires answerer { spec.bridge_at (drafted self.old) answerer ≡ None }
-        ensures base { self.new.base ≡ self.old.base }
         ensures number { IfOk result (λ number. number ≡ spec.next_bridge_number (drafted self.old)) }
-        ensures ok { OnOk result (drafted self.new ≡ spec.with_bridge caller answerer kind (drafted self.old)) }
+        ensures draft { Brings result self.old self.new (spec.with_bridge caller answerer kind (drafted self.old)) }
     {
         let mut bridges = self.own_bridges()?;
         let number = bridges.join(caller, answerer, kind)?;
@@ -366,8 +361,7 @@ impl<'a> Draft<'a> {
 
     /// Ends the bridge of a number.
     pub(crate) fn drop_bridge(&mut self, number: u64) -> Result<(), Memory>
-        ensures base { self.new.base ≡ self.old.base }
-        ensures ok { OnOk result (drafted self.new ≡ spec.without_bridge number (drafted self.old)) }
+        ensures { Brings result self.old self.new (spec.without_bridge number (drafted self.old)) }
     {
         let mut bridges = self.own_bridges()?;
         let _row = bridges.unbridge(number);
@@ -408,17 +402,15 @@ impl<'a> Draft<'a> {
 
     /// Puts an origination in the place of the one of this number.
     pub fn set_orig(&mut self, number: u64, orig: Orig) -> Result<(), Memory>
-        ensures base { self.new.base ≡ self.old.base }
-        ensures ok { OnOk result (drafted self.new ≡ spec.with_orig number orig (drafted self.old)) }
+        ensures { Brings result self.old self.new (spec.with_orig number orig (drafted self.old)) }
     {
         self.origs.set_row(number, orig)
     }
 
     /// Begins an origination, whose number is the next.
     pub fn add_orig(&mut self, orig: Orig) -> Result<u64, Memory>
-        ensures base { self.new.base ≡ self.old.base }
         ensures number { IfOk result (λ number. number ≡ spec.next_orig_number (drafted self.old)) }
-        ensures ok { OnOk result (drafted self.new ≡ spec.with_new_orig orig (drafted self.old)) }
+        ensures draft { Brings result self.old self.new (spec.with_new_orig orig (drafted self.old)) }
     {
         self.drawn = self.drawn.with_orig();
         let number = self.drawn.origs;
@@ -428,8 +420,7 @@ impl<'a> Draft<'a> {
 
     /// Ends the origination of a number.
     pub fn drop_orig(&mut self, number: u64) -> Result<(), Memory>
-        ensures base { self.new.base ≡ self.old.base }
-        ensures ok { OnOk result (drafted self.new ≡ spec.without_orig number (drafted self.old)) }
+        ensures { Brings result self.old self.new (spec.without_orig number (drafted self.old)) }
     {
         self.origs.drop_row(number)
     }
@@ -445,9 +436,8 @@ impl<'a> Draft<'a> {
 
     /// Begins a job, whose number is the next.
     pub fn add_job(&mut self, job: Job) -> Result<u64, Memory>
-        ensures base { self.new.base ≡ self.old.base }
         ensures number { IfOk result (λ number. number ≡ spec.next_job_number (drafted self.old)) }
-        ensures ok { OnOk result (drafted self.new ≡ spec.with_new_job job (drafted self.old)) }
+        ensures draft { Brings result self.old self.new (spec.with_new_job job (drafted self.old)) }
     {
         self.drawn = self.drawn.with_job();
         let number = self.drawn.jobs;
@@ -457,8 +447,7 @@ impl<'a> Draft<'a> {
 
     /// Ends the job of a number.
     pub fn drop_job(&mut self, number: u64) -> Result<(), Memory>
-        ensures base { self.new.base ≡ self.old.base }
-        ensures ok { OnOk result (drafted self.new ≡ spec.without_job number (drafted self.old)) }
+        ensures { Brings result self.old self.new (spec.without_job number (drafted self.old)) }
     {
         self.jobs.drop_row(number)
     }
@@ -496,17 +485,15 @@ impl<'a> Draft<'a> {
 
     /// Puts a connection in the place of the one of this number.
     pub fn set_conn(&mut self, number: u32, conn: Conn) -> Result<(), Memory>
-        ensures base { self.new.base ≡ self.old.base }
-        ensures ok { OnOk result (drafted self.new ≡ spec.with_conn number conn (drafted self.old)) }
+        ensures { Brings result self.old self.new (spec.with_conn number conn (drafted self.old)) }
     {
         self.conns.set_row(u64::from(number), conn)
     }
 
     /// Opens a connection, whose number is the next.
     pub fn add_conn(&mut self, conn: Conn) -> Result<u32, Memory>
-        ensures base { self.new.base ≡ self.old.base }
         ensures number { IfOk result (λ number. number ≡ (numbers.with_conn (drafted self.old).drawn).conns) }
-        ensures ok { OnOk result (drafted self.new ≡ spec.with_new_conn conn (drafted self.old)) }
+        ensures draft { Brings result self.old self.new (spec.with_new_conn conn (drafted self.old)) }
     {
         self.drawn = self.drawn.with_conn();
         let number = self.drawn.conns;
@@ -566,8 +553,7 @@ impl<'a> Draft<'a> {
     /// The connection of a number is gone, and with it the frames that wait for it.
     pub fn drop_conn(&mut self, number: u32) -> Result<(), Memory>
         requires { self.old.delta.queue ≡ change.Unchanged }
-        ensures base { self.new.base ≡ self.old.base }
-        ensures ok { OnOk result (drafted self.new ≡ spec.without_conn number (drafted self.old)) }
+        ensures { Brings result self.old self.new (spec.without_conn number (drafted self.old)) }
     {
         if let Some(place) = self.conns.place_of(u64::from(number)) {
             self.queue = QueueChange::Cleared { place };

@@ -1,8 +1,8 @@
 //! The groups that an origination tries.
 
-ghost use Rattle.std.specs.Prelude.{◌≡◌, IfOk, OnOk};
+ghost use Rattle.std.specs.Prelude.{◌≡◌, IfOk};
 ghost use Rattle.fs_orig.specs.Changes.{at_next_group};
-ghost use Rattle.fs_state.specs.Drafts.{drafted};
+ghost use Rattle.fs_state.specs.Drafts.{drafted, Brings};
 ghost use Rattle.fs_state.specs.Moves as spec;
 
 use crate::draft::Draft;
@@ -12,8 +12,7 @@ use fs_text::Memory;
 impl<'a> Draft<'a> {
     /// The origination of a number goes on to its next group, of which these legs were made, where it may.
     pub fn enter_next_group(&mut self, number: u64, legs: OrigLegs) -> Result<(), Memory>
-        ensures base { self.new.base ≡ self.old.base }
-        ensures ok { OnOk result (drafted self.new ≡ spec.orig_changed (at_next_group legs) number (drafted self.old)) }
+        ensures { Brings result self.old self.new (spec.orig_changed (at_next_group legs) number (drafted self.old)) }
     {
         let Some(orig) = self.orig(number) else {
             return Ok(());

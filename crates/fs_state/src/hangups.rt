@@ -1,9 +1,9 @@
 //! Hangups, with all whom they drag along.
-ghost use Rattle.std.specs.Prelude.{◌≡◌, IfOk, OnOk};
+ghost use Rattle.std.specs.Prelude.{◌≡◌, IfOk};
 ghost use Rattle.std.specs.List.{find};
 ghost use Rattle.fs_bridge.specs.Closure.{closure_of};
 ghost use Rattle.fs_chan.specs.Bridging.{unbridged};
-ghost use Rattle.fs_state.specs.Drafts.{drafted};
+ghost use Rattle.fs_state.specs.Drafts.{drafted, Brings};
 ghost use Rattle.fs_state.specs.Moves.{with_changed_chan};
 ghost use Rattle.fs_state.specs.Hangups as spec;
 
@@ -16,8 +16,7 @@ impl<'a> Draft<'a> {
     /// The channel in a slot is hung up, if it lives, with all whom that drags along.
     #[tactic(auto, unfolding(crate::specs::Hangups::after_hangups))]
     pub fn hang_up(&mut self, slot: u16, cause: Cause) -> Result<(), Memory>
-        ensures base { self.new.base ≡ self.old.base }
-        ensures ok { OnOk result (drafted self.new ≡ spec.after_hangup cause slot (drafted self.old)) }
+        ensures { Brings result self.old self.new (spec.after_hangup cause slot (drafted self.old)) }
     {
         if self.lives(slot) {
             self.hang_up_living(&[(slot, cause)])
@@ -26,14 +25,14 @@ impl<'a> Draft<'a> {
         }
     }
 
-    /// The channels in some slots, those of them that live, are hung up of these causes, with all whom that drags along.
+    /// The channels in some slots, those of them that live, are hung up of these causes, with all whom that drags
+    /// along.
     ///
     /// First their bridges end, then they are hung up in order of slots, and then those go on or park who outlive a
     /// bridge.
     #[tactic(auto, unfolding(crate::specs::Hangups::after_hangups))]
     pub fn hang_up_all(&mut self, named: &[(u16, Cause)]) -> Result<(), Memory>
-        ensures base { self.new.base ≡ self.old.base }
-        ensures ok { OnOk result (drafted self.new ≡ spec.after_hangups named.now (drafted self.old)) }
+        ensures { Brings result self.old self.new (spec.after_hangups named.now (drafted self.old)) }
     {
         let living = self.living_of(named)?;
         self.hang_up_living(&living)
@@ -41,9 +40,8 @@ impl<'a> Draft<'a> {
 
     /// Channels that live are hung up of these causes, with all whom that drags along.
     fn hang_up_living(&mut self, living: &[(u16, Cause)]) -> Result<(), Memory>
-        ensures base { self.new.base ≡ self.old.base }
-        ensures ok { OnOk result (drafted self.new ≡
-            spec.after_closure (closure_of (spec.world_of (drafted self.old)) living.now) (drafted self.old)) }
+        ensures { Brings result self.old self.new
+            (spec.after_closure (closure_of (spec.world_of (drafted self.old)) living.now) (drafted self.old)) }
     {
         let closure = closure_of_hangup(self.alloc(), &*self, living)?;
         self.close(&closure)
@@ -64,8 +62,7 @@ impl<'a> Draft<'a> {
 
     /// Bridges end, channels are hung up, and others outlive their bridges.
     fn close(&mut self, closure: &Closure) -> Result<(), Memory>
-        ensures base { self.new.base ≡ self.old.base }
-        ensures ok { OnOk result (drafted self.new ≡ spec.after_closure closure.now (drafted self.old)) }
+        ensures { Brings result self.old self.new (spec.after_closure closure.now (drafted self.old)) }
     {
         self.end_bridges(closure.ended())?;
         self.hang_up_members(closure.ended(), closure.members())?;
@@ -76,8 +73,7 @@ impl<'a> Draft<'a> {
 
     /// Some bridges end, each of its cause.
     fn end_bridges(&mut self, ended: &[(Row, Cause)]) -> Result<(), Memory>
-        ensures base { self.new.base ≡ self.old.base }
-        ensures ok { OnOk result (drafted self.new ≡ spec.after_ends ended.now (drafted self.old)) }
+        ensures { Brings result self.old self.new (spec.after_ends ended.now (drafted self.old)) }
     {
         for end in ended {
             self.end_bridge(end.0, end.1)?;
@@ -87,8 +83,7 @@ impl<'a> Draft<'a> {
 
     /// Both legs of a bridge know of what it ended, and it stands no more.
     fn end_bridge(&mut self, row: Row, cause: Cause) -> Result<(), Memory>
-        ensures base { self.new.base ≡ self.old.base }
-        ensures ok { OnOk result (drafted self.new ≡ spec.after_end row cause (drafted self.old)) }
+        ensures { Brings result self.old self.new (spec.after_end row cause (drafted self.old)) }
     {
         self.drop_bridge(row.number)?;
         self.set_unbridged(row.caller, cause)?;
@@ -97,8 +92,7 @@ impl<'a> Draft<'a> {
 
     /// The bridge of the channel in a slot has ended of a cause.
     fn set_unbridged(&mut self, slot: u16, cause: Cause) -> Result<(), Memory>
-        ensures base { self.new.base ≡ self.old.base }
-        ensures ok { OnOk result (drafted self.new ≡ with_changed_chan (unbridged cause) slot (drafted self.old)) }
+        ensures { Brings result self.old self.new (with_changed_chan (unbridged cause) slot (drafted self.old)) }
     {
         let Some(mut chan) = self.own_chan(slot)? else {
             return Ok(());
@@ -116,8 +110,7 @@ impl<'a> Draft<'a> {
         ended: &[(Row, Cause)],
         members: &[(u16, Cause)],
     ) -> Result<(), Memory>
-        ensures base { self.new.base ≡ self.old.base }
-        ensures ok { OnOk result (drafted self.new ≡ spec.after_members ended.now members.now (drafted self.old)) }
+        ensures { Brings result self.old self.new (spec.after_members ended.now members.now (drafted self.old)) }
     {
         let mut untold = Vec::from_slice(self.alloc(), ended)?;
         for member in members {
@@ -133,8 +126,7 @@ impl<'a> Draft<'a> {
         untold: &[(Row, Cause)],
         member: (u16, Cause),
     ) -> Result<(), Memory>
-        ensures base { self.new.base ≡ self.old.base }
-        ensures ok { OnOk result (drafted self.new ≡ spec.after_member untold.now member (drafted self.old)) }
+        ensures { Brings result self.old self.new (spec.after_member untold.now member (drafted self.old)) }
     {
         self.tell_end(first_end(untold, member.0))?;
         self.hang_one(member.0, member.1)
@@ -142,8 +134,7 @@ impl<'a> Draft<'a> {
 
     /// The end of a bridge is told, if there is one.
     fn tell_end(&mut self, end: Option<(Row, Cause)>) -> Result<(), Memory>
-        ensures base { self.new.base ≡ self.old.base }
-        ensures ok { OnOk result (drafted self.new ≡ spec.with_end_told end (drafted self.old)) }
+        ensures { Brings result self.old self.new (spec.with_end_told end (drafted self.old)) }
     {
         match end {
             Some(end) => self.tell(Event {
@@ -159,8 +150,7 @@ impl<'a> Draft<'a> {
 
     /// Each of these goes on, or parks.
     fn outlive_all(&mut self, survivors: &[(u16, After)]) -> Result<(), Memory>
-        ensures base { self.new.base ≡ self.old.base }
-        ensures ok { OnOk result (drafted self.new ≡ spec.after_survivals survivors.now (drafted self.old)) }
+        ensures { Brings result self.old self.new (spec.after_survivals survivors.now (drafted self.old)) }
     {
         for survivor in survivors {
             self.outlive(survivor.0, survivor.1)?;
@@ -170,8 +160,7 @@ impl<'a> Draft<'a> {
 
     /// The channel in a slot, if it lives, does what it does that outlives its bridge.
     fn outlive(&mut self, slot: u16, after: After) -> Result<(), Memory>
-        ensures base { self.new.base ≡ self.old.base }
-        ensures ok { OnOk result (drafted self.new ≡ spec.after_survival after slot (drafted self.old)) }
+        ensures { Brings result self.old self.new (spec.after_survival after slot (drafted self.old)) }
     {
         if self.lives(slot) {
             self.go_on_or_park(slot, after)
@@ -182,8 +171,7 @@ impl<'a> Draft<'a> {
 
     /// The channel in a slot goes on, or parks; one that hangs up is told of among the others.
     fn go_on_or_park(&mut self, slot: u16, after: After) -> Result<(), Memory>
-        ensures base { self.new.base ≡ self.old.base }
-        ensures ok { OnOk result (drafted self.new ≡ spec.after_outliving after slot (drafted self.old)) }
+        ensures { Brings result self.old self.new (spec.after_outliving after slot (drafted self.old)) }
     {
         match after {
             After::GoOn => self.complete(slot),

@@ -25,8 +25,8 @@ impl<'a> Draft<'a> {
 
     /// The origination that the channel in a slot waits for.
     pub fn awaited_orig(&self, slot: u16) -> Option<&Orig>
-        ensures { option_copied result ≡
-            option_and_then (orig_of (drafted self.now)) (option_and_then awaited_by (chan_at (drafted self.now) slot)) }
+        ensures { option_copied result ≡ option_and_then (orig_of (drafted self.now))
+            (option_and_then awaited_by (chan_at (drafted self.now) slot)) }
     {
         let number = self.chan(slot)?.awaited()?;
         self.orig(number)

@@ -1,8 +1,8 @@
 //! What happens to channels.
-ghost use Rattle.std.specs.Prelude.{◌≡◌, Option, Some, None, Ok, IfOk, OnOk};
+ghost use Rattle.std.specs.Prelude.{◌≡◌, Option, Some, None, Ok, IfOk};
 ghost use Rattle.fs_chan.specs.declared.chan.Chan.{Chan};
 ghost use Rattle.fs_chan.specs.Changes as chan;
-ghost use Rattle.fs_state.specs.Drafts.{drafted, chan_in, with_chan_in};
+ghost use Rattle.fs_state.specs.Drafts.{drafted, Brings, chan_in, with_chan_in};
 ghost use Rattle.fs_state.specs.Switch.{with_event};
 ghost use Rattle.fs_state.specs.Moves as spec;
 
@@ -15,8 +15,7 @@ use fs_text::{Cause, EventName, Memory, State};
 impl<'a> Draft<'a> {
     /// Something happens that tells of no bridge and of no cause.
     pub fn tell_of(&mut self, name: EventName) -> Result<(), Memory>
-        ensures base { self.new.base ≡ self.old.base }
-        ensures ok { OnOk result (drafted self.new ≡ with_event (spec.plain_event name) (drafted self.old)) }
+        ensures { Brings result self.old self.new (with_event (spec.plain_event name) (drafted self.old)) }
     {
         self.tell(Event {
             name,
@@ -29,8 +28,7 @@ impl<'a> Draft<'a> {
 
     /// A channel went from one state to another.
     pub fn tell_state(&mut self, old: State, new: State) -> Result<(), Memory>
-        ensures base { self.new.base ≡ self.old.base }
-        ensures ok { OnOk result (drafted self.new ≡ spec.with_state_events old new (drafted self.old)) }
+        ensures { Brings result self.old self.new (spec.with_state_events old new (drafted self.old)) }
     {
         if old.number() == new.number() {
             return Ok(());
@@ -42,8 +40,7 @@ impl<'a> Draft<'a> {
 
     /// A channel left a state.
     fn tell_left(&mut self, old: State) -> Result<(), Memory>
-        ensures base { self.new.base ≡ self.old.base }
-        ensures ok { OnOk result (drafted self.new ≡ spec.with_leaving_event old (drafted self.old)) }
+        ensures { Brings result self.old self.new (spec.with_leaving_event old (drafted self.old)) }
     {
         match old {
             State::CsPark => self.tell_of(EventName::ChannelUnpark),
@@ -53,8 +50,7 @@ impl<'a> Draft<'a> {
 
     /// A channel came to a state.
     fn tell_come(&mut self, new: State) -> Result<(), Memory>
-        ensures base { self.new.base ≡ self.old.base }
-        ensures ok { OnOk result (drafted self.new ≡ spec.with_coming_event new (drafted self.old)) }
+        ensures { Brings result self.old self.new (spec.with_coming_event new (drafted self.old)) }
     {
         match new {
             State::CsPark => self.tell_of(EventName::ChannelPark),
@@ -88,8 +84,7 @@ impl<'a> Draft<'a> {
 
     /// Puts a channel into a slot that came there from a state, and tells of that.
     pub fn put_moved(&mut self, slot: u16, old: State, chan: Boxed<Chan>) -> Result<(), Memory>
-        ensures base { self.new.base ≡ self.old.base }
-        ensures ok { OnOk result (drafted self.new ≡ spec.put_moved slot old chan (drafted self.old)) }
+        ensures { Brings result self.old self.new (spec.put_moved slot old chan (drafted self.old)) }
     {
         let new = chan.state;
         self.put_chan(slot, Some(chan))?;
@@ -98,8 +93,7 @@ impl<'a> Draft<'a> {
 
     /// The channel in a slot comes into a state.
     pub fn enter(&mut self, slot: u16, state: State) -> Result<(), Memory>
-        ensures base { self.new.base ≡ self.old.base }
-        ensures ok { OnOk result (drafted self.new ≡ spec.after_move (chan.in_state state) slot (drafted self.old)) }
+        ensures { Brings result self.old self.new (spec.after_move (chan.in_state state) slot (drafted self.old)) }
     {
         let Some(mut chan) = self.own_chan(slot)? else {
             return Ok(());
@@ -112,8 +106,7 @@ impl<'a> Draft<'a> {
     /// The channel in a slot is to be routed to a target.
     pub fn transfer(&mut self, slot: u16, to: Target3) -> Result<(), Memory>
         requires { chan.IsShortTarget to }
-        ensures base { self.new.base ≡ self.old.base }
-        ensures ok { OnOk result (drafted self.new ≡ spec.after_move (chan.transferred to) slot (drafted self.old)) }
+        ensures { Brings result self.old self.new (spec.after_move (chan.transferred to) slot (drafted self.old)) }
     {
         let Some(mut chan) = self.own_chan(slot)? else {
             return Ok(());
@@ -125,8 +118,7 @@ impl<'a> Draft<'a> {
 
     /// The channel in a slot comes to CS_PARK and rests there.
     pub fn park(&mut self, slot: u16) -> Result<(), Memory>
-        ensures base { self.new.base ≡ self.old.base }
-        ensures ok { OnOk result (drafted self.new ≡ spec.after_move chan.parked slot (drafted self.old)) }
+        ensures { Brings result self.old self.new (spec.after_move chan.parked slot (drafted self.old)) }
     {
         let Some(mut chan) = self.own_chan(slot)? else {
             return Ok(());
@@ -138,8 +130,7 @@ impl<'a> Draft<'a> {
 
     /// The channel in a slot goes on once what it waited for is over.
     pub fn go_on(&mut self, slot: u16) -> Result<(), Memory>
-        ensures base { self.new.base ≡ self.old.base }
-        ensures ok { OnOk result (drafted self.new ≡ spec.after_move chan.at_rest slot (drafted self.old)) }
+        ensures { Brings result self.old self.new (spec.after_move chan.at_rest slot (drafted self.old)) }
     {
         let Some(mut chan) = self.own_chan(slot)? else {
             return Ok(());
@@ -151,8 +142,7 @@ impl<'a> Draft<'a> {
 
     /// A channel begins.
     pub fn begin(&mut self, slot: u16) -> Result<(), Memory>
-        ensures base { self.new.base ≡ self.old.base }
-        ensures ok { OnOk result (drafted self.new ≡ spec.after_begin slot (drafted self.old)) }
+        ensures { Brings result self.old self.new (spec.after_begin slot (drafted self.old)) }
     {
         self.tell_of(EventName::ChannelCreate)?;
         self.enter(slot, State::CsInit)
@@ -162,8 +152,7 @@ impl<'a> Draft<'a> {
 
     /// An application begins on the channel in a slot.
     pub fn run_on(&mut self, slot: u16, action: Action) -> Result<(), Memory>
-        ensures base { self.new.base ≡ self.old.base }
-        ensures ok { OnOk result (drafted self.new ≡ spec.run_on action slot (drafted self.old)) }
+        ensures { Brings result self.old self.new (spec.run_on action slot (drafted self.old)) }
     {
         self.set_running(slot, action)?;
         self.tell_of(EventName::ChannelExecute)
@@ -171,9 +160,7 @@ impl<'a> Draft<'a> {
 
     /// The channel in a slot has begun an application.
     fn set_running(&mut self, slot: u16, action: Action) -> Result<(), Memory>
-        ensures base { self.new.base ≡ self.old.base }
-        ensures ok { OnOk result
-            (drafted self.new ≡ spec.after_move (spec.with_running action) slot (drafted self.old)) }
+        ensures { Brings result self.old self.new (spec.after_move (spec.with_running action) slot (drafted self.old)) }
     {
         let Some(mut chan) = self.own_chan(slot)? else {
             return Ok(());
@@ -185,8 +172,7 @@ impl<'a> Draft<'a> {
 
     /// The running application of the channel in a slot is over.
     pub fn complete(&mut self, slot: u16) -> Result<(), Memory>
-        ensures base { self.new.base ≡ self.old.base }
-        ensures ok { OnOk result (drafted self.new ≡ spec.after_completion slot (drafted self.old)) }
+        ensures { Brings result self.old self.new (spec.after_completion slot (drafted self.old)) }
     {
         self.go_on(slot)?;
         self.tell_of(EventName::ChannelExecuteComplete)
@@ -196,8 +182,7 @@ impl<'a> Draft<'a> {
 
     /// The end of the call of the channel in a slot is told.
     pub fn report(&mut self, slot: u16) -> Result<(), Memory>
-        ensures base { self.new.base ≡ self.old.base }
-        ensures ok { OnOk result (drafted self.new ≡ spec.after_report slot (drafted self.old)) }
+        ensures { Brings result self.old self.new (spec.after_report slot (drafted self.old)) }
     {
         self.tell_of(EventName::ChannelHangupComplete)?;
         self.enter(slot, State::CsReporting)

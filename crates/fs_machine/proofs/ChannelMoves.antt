@@ -1,11 +1,14 @@
 -- Each act keeps a partner for each live channel, and the texts of all channels within their limits.
-use Rattle.std.proofs.Common.{◌≡◌, ℕ, ◌≤◌, true, false, List, length, Option, None, Some, IsSome, unwrap_or, refl, sym, ap, subst, ◌∙◌}
+use Rattle.std.proofs.Common.{◌≡◌, ℕ, ◌≤◌, Bool, true, false, List, length, Option, None, Some, IsSome, unwrap_or, refl, sym, ap, subst, ◌∙◌}
 use Rattle.std.proofs.Common.{true≢false}
 use Rattle.std.proofs.lemmas.Option.{same_Some}
 use Rattle.fs_text.specs.Texts.{Text}
 use Rattle.fs_text.specs.declared.causes.Cause.{Cause}
 use Rattle.fs_text.specs.declared.causes.Cause.TheVariants.{LoseRace}
+use Rattle.std.specs.Prelude.{map}
+use Rattle.fs_bridge.specs.Closure.{Members}
 use Rattle.fs_chan.specs.declared.chan.Chan.{Chan}
+use Rattle.fs_chan.specs.Bridging.{in_media}
 use Rattle.fs_chan.specs.Changes.{is_live, hung_up, HasShortFields}
 use Rattle.fs_orig.specs.declared.caller.Caller.{Caller}
 use Rattle.fs_orig.specs.declared.leg.OrigLeg.{OrigLeg}
@@ -17,19 +20,22 @@ use Rattle.fs_places.specs.Places.{held_in, with_held}
 use Rattle.fs_places.proofs.RowLemmas.{each_put}
 use Rattle.fs_state.specs.declared.job.JobWork.TheVariants.{Originate}
 use Rattle.fs_state.specs.Switch.{Switch, chan_at, with_chan, with_next_identifier, identifier_of}
-use Rattle.fs_state.specs.Moves.{after_move_from, orig_changed, leg_changed, after_hangup}
-use Rattle.fs_state.proofs.LegTables.{seated}
-use Rattle.fs_machine.specs.declared.attempts.Attempt.{Attempt}
+use Rattle.fs_state.specs.Moves.{after_move_from, after_move, orig_changed}
+use Rattle.fs_state.specs.Hangups.{after_hangups}
 use Rattle.fs_machine.specs.declared.originations.Call.{Call}
 use Rattle.fs_machine.specs.declared.originations.End.{End}
 use Rattle.fs_machine.specs.Originations.{target_of, end_of, leg_end, far_end, pair_made, leg_uuid, is_misnamed, won_by, after_winning}
-use Rattle.fs_machine.proofs.Kept.{Fact, Links, Stays, DoesJob, raced, HasWon, IsShortWinner, KeptByMoves}
+use Rattle.fs_machine.proofs.Kept.{Stage, Fact, Remains, DoesJob, raced, IsShortWinner, KeptByBirths, KeptByMoves}
 use Rattle.fs_machine.proofs.ShortLemmas.{sent_short, uuid_short, profile_short}
+use Rattle.fs_machine.proofs.StayLemmas.{hangup_dead, state_told_kept, moved_there}
+use Rattle.fs_machine.proofs.ClosureLemmas.{hangs_up}
+use Rattle.fs_machine.proofs.HangLemmas.{dies, Falls, Cut, Unbridged, Rests, Parks, hangups_kept}
 use Rattle.fs_machine.proofs.NameLemmas.{leg_uuid_short, leg_chan, far_chan, with_leg, pair_channels}
-use Rattle.fs_machine.proofs.Walk.{hangup_dead, state_told_kept, hung_kept}
-use Rattle.fs_machine.proofs.FrontLemmas.{Front, front_of, orig_changed_front, moves_by_front}
-use Rattle.fs_machine.proofs.RestLemmas.{all_hung_rest}
-use Rattle.fs_machine.proofs.LegMoves.{roles_of, IsLegOf, LegsStand, winning_leg}
+use Rattle.fs_machine.proofs.FrontLemmas.{Front, front_of, orig_changed_front, Lively, KeptByRemains, calls_by_remains, dials_by_remains}
+use Rattle.fs_machine.proofs.FrontLemmas.{moves_by_front}
+use Rattle.fs_machine.proofs.RestLemmas.{hung_rest}
+use Rattle.fs_machine.proofs.LegLemmas.{roles_of, LegsStand}
+use Rattle.fs_machine.proofs.LegHangups.{winner_lively}
 use Rattle.fs_machine.proofs.WinnerMoves.{WinnersAreShort, winner_of_job, rest_winners}
 
 -- a channel has a partner while it lives, and texts that keep their limits
@@ -56,19 +62,38 @@ put_fit slot new s fit h = each_put FitsIn s.channels slot (Some new) h fit
 same_fit : (f g : Front) → g ≡ f → AllFit f.channels → AllFit g.channels
 same_fit f g same h = subst (λ (x : Front). AllFit x.channels) (sym same) h
 
-stays_fit : (old new : Chan) → Stays old new → IsFit old → IsFit new
-stays_fit old new stays fit = record {
-  partner = λ live. subst IsSome (sym (ap (λ (l : Links). l.partner) stays.links)) (fit.partner (sym stays.live ∙ live));
-  short = stays.short fit.short;
+remains_fit : (old new : Chan) → Remains old new → IsFit old → IsFit new
+remains_fit old new remains fit = record {
+  partner = λ live. subst IsSome (sym remains.partner) (fit.partner (sym remains.live ∙ live));
+  short = remains.short fit.short;
 }
 
-hung_fit : (cause : Cause) (slot : ℕ) (s : Switch) → AllFit s.channels → AllFit (after_hangup cause slot s).channels
-hung_fit cause slot s h =
-    hung_kept (λ (t : Switch). AllFit t.channels) (λ event t plain k. k)
-    (λ why place c t is k. put_fit place (hung_up why c) t
-    (record { partner = λ live. absurd (true≢false (sym live ∙ hangup_dead)); short = (fit_there t place c is k).short }) k)
-    (λ change number t k. same_fit (front_of t) (front_of (orig_changed change number t)) (orig_changed_front change number t) k) cause slot
-    s h
+-- ---- hangups and bridges
+
+falls_fit : (hangs : ℕ → Bool) (slot : ℕ) (old new : Chan) → Falls hangs slot old new → IsFit old → IsFit new
+falls_fit hangs slot old new (Cut cause hung) fit = record {
+  partner = λ live. absurd (true≢false (sym live ∙ hangup_dead));
+  short = fit.short;
+}
+falls_fit hangs slot old new (Unbridged cause) fit = record { partner = λ live. fit.partner live; short = fit.short }
+falls_fit hangs slot old new (Rests outlives lived) fit = record { partner = λ live. fit.partner live; short = fit.short }
+falls_fit hangs slot old new (Parks outlives lived) fit = record { partner = λ live. fit.partner lived; short = fit.short }
+
+hung_fit : (named : Members) (s : Switch) → AllFit s.channels → AllFit (after_hangups named s).channels
+hung_fit named s h =
+    hangups_kept named s (λ (t : Switch). AllFit t.channels) (λ event t k. k)
+    (λ slot old new t there falls k. put_fit slot new t
+    (falls_fit (λ at. hangs_up at named s) slot old new falls (fit_there t slot old there k)) k)
+    (λ number t k. k)
+    (λ cause place leg number t k. same_fit (front_of t) (front_of (orig_changed (dies cause place leg) number t))
+    (orig_changed_front (dies cause place leg) number t) k) (λ number t k. k) h
+
+-- whoever is in media lived before
+media_fit : (slot : ℕ) (s : Switch) → Lively s slot → AllFit s.channels → AllFit (after_move in_media slot s).channels
+media_fit slot s lively h =
+    moved_there (λ (t : Switch). AllFit t.channels) (λ event t k. k) in_media slot s
+    (λ c there. put_fit slot (in_media c) s
+    (record { partner = λ live. (fit_there s slot c there h).partner (lively c there); short = (fit_there s slot c there h).short }) h) h
 
 -- ---- two channels are made
 
@@ -104,37 +129,46 @@ won_at_fit winner slot s short live h = by (chan_at s slot) refl
     by : (found : Option Chan) → chan_at s slot ≡ found → AllFit (after_move_from (won_by winner) slot found s).channels
     by None is = h
     by (Some c) is =
-        state_told_kept (λ (t : Switch). AllFit t.channels) (λ event t plain k. k) c.state
+        state_told_kept (λ (t : Switch). AllFit t.channels) (λ event t k. k) c.state
         (won_by winner c).state {s = with_chan slot (Some (won_by winner c)) s}
         (put_fit slot (won_by winner c) s (won_by_fit winner c short (live c is) (fit_there s slot c is h)) h)
 
-wins_fit : (a : Attempt) (winner : Winner) (caller : Caller) (leg : OrigLeg) (slots : List ℕ) (s : Switch) →
-    DoesJob (raced slots s) a.job a.conn (Originate a.orig winner caller) → HasWon s a.orig leg slots → LegsStand (roles_of s) →
+wins_fit : (job conn : ℕ) (winner : Winner) (caller : Caller) (orig : ℕ) (leg : OrigLeg) (slots : List ℕ) (s : Switch) →
+    DoesJob (raced slots s) job conn (Originate orig winner caller) → Lively (raced slots s) (unwrap_or leg.slot 0) →
     WinnersAreShort s.jobs → AllFit (raced slots s).channels →
     AllFit (after_winning winner (unwrap_or leg.slot 0) (raced slots s)).channels
-wins_fit a winner caller leg slots s does won stand short h =
+wins_fit job conn winner caller orig leg slots s does lively short h =
     let t : Switch = raced slots s in
-    let stands : IsLegOf t.channels (seated a.orig leg.slot) = winning_leg s a.orig leg slots won stand in
-    let same : unwrap_or leg.slot 0 ≡ stands.at = ap (λ (slot : Option ℕ). unwrap_or slot 0) stands.is in
+    let named : Members = map (λ slot. (slot, LoseRace)) slots in
     won_at_fit winner (unwrap_or leg.slot 0) t
-    (winner_of_job t a.job a.conn a.orig winner caller does (rest_winners s t (all_hung_rest LoseRace slots s) short))
-    (λ c is. ap is_live (same_Some c stands.chan (sym is ∙ (ap (chan_at t) same ∙ stands.there))) ∙ stands.live) h
+    (winner_of_job t job conn orig winner caller does (rest_winners s t (hung_rest named s) short)) lively h
 
 -- ---- every move
 
+remains_moves : KeptByRemains Fit
+remains_moves = record {
+  told = λ event h. h;
+  globals = λ globals h. h;
+  bridges = λ bridges h. h;
+  remains = λ slot old new {s = s} there remains h. put_fit slot new s (remains_fit old new remains (fit_there s slot old there h)) h;
+  hung = λ named {s = s} h. hung_fit named s h;
+  more = λ h. h;
+  gone = λ slot old {s = s} there dead h. each_put FitsIn s.channels slot None h tt;
+}
+
+births_fit : KeptByBirths Fit
+births_fit = record {
+  spent = λ h. h;
+  pair = λ call orig a b {s = s} short named first second h. pair_fit call orig a b s short named h;
+}
+
+fit_same : (b : Stage) (t u : Switch) → Fit b t → front_of u ≡ front_of t → Fit b u
+fit_same b t u h same = same_fit (front_of t) (front_of u) same h
+
 pub fit_moves : (before : Switch) → LegsStand (roles_of before) → WinnersAreShort before.jobs → KeptByMoves before Fit
 fit_moves before stand winners =
-    moves_by_front before Fit (λ b t u h same. same_fit (front_of t) (front_of u) same h)
-    (record {
-      told = λ event plain h. h;
-      globals = λ globals h. h;
-      changed = λ slot old new {s = s} there stays h. put_fit slot new s (stays_fit old new stays (fit_there s slot old there h)) h;
-      answers = λ place slot number {s = s} h.
-          same_fit (front_of s) (front_of (orig_changed (leg_changed (λ position. with_answer position place) slot) number s))
-          (orig_changed_front (leg_changed (λ position. with_answer position place) slot) number s) h;
-      hung = λ cause slot {s = s} h. hung_fit cause slot s h;
-      more = λ h. h;
-      gone = λ slot old {s = s} there dead h. each_put FitsIn s.channels slot None h tt;
-    })
-    (record { spent = λ h. h; pair = λ call orig a b {s = s} short named first second h. pair_fit call orig a b s short named h })
-    (λ a winner caller leg slots does won h. wins_fit a winner caller leg slots before does won stand winners h)
+    moves_by_front before Fit fit_same
+    (calls_by_remains before Fit fit_same remains_moves births_fit (λ slot u lively h. media_fit slot u lively h)) births_fit
+    (dials_by_remains before Fit fit_same remains_moves births_fit (λ slot u lively h. media_fit slot u lively h))
+    (λ job conn winner caller orig leg slots does won h. wins_fit job conn winner caller orig leg slots before does
+    (winner_lively before orig leg slots won stand) winners h)

@@ -7,7 +7,8 @@ use Rattle.std.proofs.lemmas.Option.{none-some, same_Some}
 use Rattle.fs_chan.specs.declared.chan.Chan.{Chan}
 use Rattle.fs_chan.specs.declared.due.Due.{Due}
 use Rattle.fs_chan.specs.declared.due.Due.TheVariants.{Now, At}
-use Rattle.fs_chan.specs.Work.{due_at, due_of}
+use Rattle.fs_chan.specs.Bridging.{awaited_by}
+use Rattle.fs_chan.specs.Work.{due_at}
 use Rattle.fs_chan.proofs.WorkLemmas.{has_come, due_now, has_come_at, never_later}
 use Rattle.fs_doc.specs.Reading.{Configuration}
 use Rattle.fs_orig.specs.declared.orig.Orig.{Orig}
@@ -28,7 +29,7 @@ use Rattle.fs_machine.specs.declared.due.DueActor.{DueActor}
 use Rattle.fs_machine.specs.declared.due.DueActor.TheVariants as actor
 use Rattle.fs_machine.specs.declared.entry.Entry.{Entry}
 use Rattle.fs_machine.specs.declared.entry.Act.TheVariants.{Work, Job as Works}
-use Rattle.fs_machine.specs.Due.{slot_due, orig_due, work_due, job_due, is_now, later_of, is_due, due_slot, chan_moment, row_moment}
+use Rattle.fs_machine.specs.Due.{slot_due, orig_due, due_by, work_due, job_due, is_now, later_of, is_due, due_slot, chan_moment, row_moment}
 use Rattle.fs_machine.specs.Due.{number_where, due_number, due_job, first_chan_moment, first_job_moment, actor_or, later_or_never}
 use Rattle.fs_machine.specs.Due.{due_among_all, next_due}
 use Rattle.fs_machine.specs.Step.{not_due, refused_act}
@@ -160,10 +161,18 @@ work_comes : (s : Switch) (now moment : ℕ) (work : JobWork) → work_due (reco
 work_comes s now moment (Sleep until) is = ap Some (has_come_at now until moment (same_Some (due_at now until) (At moment) is))
 work_comes s now moment (Originate orig winner caller) is = orig_comes now moment (orig_of s orig) is
 
+-- what the channel waits for, or the verdict on what it dialed
+waits_come : (s : Switch) (now moment : ℕ) (c : Chan) (awaited : Option ℕ) →
+    due_by (record s { moment = now }) c awaited ≡ Some (At moment) → due_by (record s { moment = moment }) c awaited ≡ Some Now
+waits_come s now moment c None is = has_come now moment c is
+waits_come s now moment c (Some orig) is = orig_comes now moment (orig_of s orig) is
+
 chan_comes : (s : Switch) (now moment : ℕ) (held : Option Chan) → chan_moment (record s { moment = now }) held ≡ Some moment →
     is_due (record s { moment = moment }) held ≡ true
 chan_comes s now moment None is = absurd (none-some moment is)
-chan_comes s now moment (Some c) is = ap is_now (has_come now moment c (later_at (due_of now c) moment is))
+chan_comes s now moment (Some c) is =
+    ap is_now
+    (waits_come s now moment c (awaited_by c) (later_at (due_by (record s { moment = now }) c (awaited_by c)) moment is))
 
 row_comes : (s : Switch) (now moment : ℕ) (held : Option (Numbered Job)) → row_moment (record s { moment = now }) held ≡ Some moment →
     (number : ℕ) × (due_number (record s { moment = moment }) held ≡ Some number)

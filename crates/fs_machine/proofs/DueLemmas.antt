@@ -3,7 +3,7 @@ use Rattle.std.proofs.Common.{◌≡◌, ℕ, ◌<◌, max, Option, None, Some, 
 use Rattle.fs_chan.specs.declared.chan.Chan.{Chan}
 use Rattle.fs_chan.specs.declared.due.Due.{Due}
 use Rattle.fs_chan.specs.declared.due.Due.TheVariants.{Now, At}
-use Rattle.fs_chan.specs.Work.{due_of}
+use Rattle.fs_chan.specs.Bridging.{awaited_by}
 use Rattle.fs_chan.proofs.WorkLemmas.{is_to_come, to_come_at}
 use Rattle.fs_orig.specs.declared.orig.Orig.{Orig}
 use Rattle.fs_orig.specs.Verdicts as verdicts
@@ -15,7 +15,7 @@ use Rattle.fs_state.specs.declared.job.JobWork.{JobWork}
 use Rattle.fs_state.specs.declared.job.JobWork.TheVariants.{Sleep, Originate}
 use Rattle.fs_state.specs.Switch.{Switch, orig_of, at_moment}
 use Rattle.fs_machine.specs.declared.due.DueActor.TheVariants as actor
-use Rattle.fs_machine.specs.Due.{orig_due, work_due, later_of, chan_moment, row_moment, due_slot, due_job, first_chan_moment}
+use Rattle.fs_machine.specs.Due.{orig_due, due_by, work_due, later_of, chan_moment, row_moment, due_slot, due_job, first_chan_moment}
 use Rattle.fs_machine.specs.Due.{first_job_moment, later_or_never, due_among_all}
 
 later_at : (due : Option Due) (n : ℕ) → later_of due ≡ Some n → due ≡ Some (At n)
@@ -23,13 +23,18 @@ later_at None n h = absurd (cc)
 later_at (Some Now) n h = absurd (cc)
 later_at (Some (At moment)) n h = cc
 
-chan_after : (s : Switch) (chan : Option Chan) → IsAfter s.moment (chan_moment s chan)
-chan_after s None n h = absurd (cc)
-chan_after s (Some c) n h = is_to_come s.moment n c (later_at (due_of s.moment c) n h)
-
 orig_after : (now : ℕ) (orig : Option Orig) (n : ℕ) → orig_due now orig ≡ Some (At n) → now < n
 orig_after now None n h = absurd (cc)
 orig_after now (Some o) n h = to_come_at now (verdicts.due_moment_of now o) n (cc)
+
+-- by what the channel waits for, or by the verdict on what it dialed
+waits_after : (s : Switch) (c : Chan) (awaited : Option ℕ) (n : ℕ) → due_by s c awaited ≡ Some (At n) → s.moment < n
+waits_after s c None n h = is_to_come s.moment n c h
+waits_after s c (Some orig) n h = orig_after s.moment (orig_of s orig) n h
+
+chan_after : (s : Switch) (chan : Option Chan) → IsAfter s.moment (chan_moment s chan)
+chan_after s None n h = absurd (cc)
+chan_after s (Some c) n h = waits_after s c (awaited_by c) n (later_at (due_by s c (awaited_by c)) n h)
 
 work_after : (s : Switch) (work : JobWork) (n : ℕ) → work_due s work ≡ Some (At n) → s.moment < n
 work_after s (Sleep until) n h = to_come_at s.moment until n (cc)

@@ -38,6 +38,9 @@ pub mod TermLemmas
 pub mod TieLemmas
 pub mod PartnerMoves
 pub mod IdentifierMoves
+pub mod LegLemmas
+pub mod LegBirths
+pub mod LegHangups
 pub mod LegMoves
 pub mod WinnerMoves
 pub mod CauseMoves

@@ -1,0 +1,242 @@
+-- The legs of originations are live channels that name them; a leg dies where its channel is hung up.
+use Rattle.std.proofs.Common.{◌≡◌, ℕ, Bool, true, false, if◌then◌else◌, List, Option, None, Some, ◌⊎◌, inl, inr, refl, sym, ap, subst, ◌∙◌}
+use Rattle.std.proofs.Common.{true≢false}
+use Rattle.std.proofs.lemmas.Bool.{cases_eq, both_ways}
+use Rattle.std.proofs.lemmas.Option.{none-some, same_Some}
+use Rattle.fs_text.specs.declared.states.State.TheVariants.{CsHangup}
+use Rattle.fs_text.specs.declared.causes.Cause.{Cause}
+use Rattle.fs_chan.specs.declared.chan.Chan.{Chan}
+use Rattle.fs_chan.specs.Changes.{is_live, hung_up}
+use Rattle.fs_orig.specs.declared.orig.Orig.{Orig}
+use Rattle.fs_orig.specs.Changes.{with_leg_answer, with_leg_death, with_answer, with_death}
+use Rattle.fs_places.specs.Places.{held_in, with_held}
+use Rattle.fs_places.specs.Rows.{has_number, row_of, with_row, without_row}
+use Rattle.fs_places.proofs.HeldLemmas.{held_here, held_there, held_within}
+use Rattle.fs_places.proofs.RowLemmas.{AreDistinct, AreWithin, row_gone, none_stands, distinct_same, numbers-with_row, distinct-without_row}
+use Rattle.fs_places.proofs.RowLemmas.{within-without_row}
+use Rattle.fs_state.specs.Switch.{Switch, chan_at, with_chan, orig_of, with_orig, without_orig, with_event}
+use Rattle.fs_state.specs.Moves.{with_state_events, orig_changed_from, orig_changed, leg_changed, its_leg_changed, hangup_event}
+use Rattle.fs_state.specs.Moves.{after_hangup_from, after_one_hangup, orig_given_up}
+use Rattle.fs_state.proofs.LegTables.{Origs, Seat, seated, seat_at, in_slot, Fewer, seat_number, answer_spares, death_spares}
+use Rattle.fs_state.proofs.LegTables.{touched_spares, changed_fewer, without_fewer, death_leaves_none}
+use Rattle.fs_chan.specs.Bridging.{awaited_by}
+use Rattle.fs_machine.proofs.StayLemmas.{state_told_kept}
+use Rattle.fs_machine.proofs.HangLemmas.{given_up_kept}
+
+abbrev pub Channels : Type 0
+Channels = List (Option Chan)
+
+pub within_same : (origs : Origs) (number : ℕ) (o : Orig) (bound : ℕ) → AreWithin bound origs → AreWithin bound (with_row origs number o)
+within_same origs number o bound within n place stands = within n place (sym (numbers-with_row origs number o n place) ∙ stands)
+
+-- ---- legs and channels
+
+-- the part of a switch that tells of legs
+pub record Roles : Type 0 where
+  pub channels : Channels
+  pub origs : Origs
+  pub drawn : ℕ
+
+abbrev pub roles_of : Switch → Roles
+roles_of s = record { channels = s.channels; origs = s.origs; drawn = s.drawn.origs }
+
+-- the slot is there, and its channel lives and names the origination
+pub record IsLegOf (channels : Channels) (seat : Seat) : Type 0 where
+  pub at : ℕ
+  pub is : seat.slot ≡ Some at
+  pub chan : Chan
+  pub there : held_in channels at ≡ Some chan
+  pub live : is_live chan ≡ true
+  pub names : chan.leg_of ≡ Some seat.number
+
+-- Originations have numbers of their own that were drawn, each living leg is a live channel that names its origination, and no two legs of
+-- one
+-- are in one slot.
+pub record LegsStand (r : Roles) : Type 0 where
+  pub distinct : AreDistinct r.origs
+  pub within : AreWithin r.drawn r.origs
+  pub stand : (place position : ℕ) (seat : Seat) → seat_at r.origs place position ≡ Some seat → IsLegOf r.channels seat
+  pub apart : (place p q : ℕ) (seat : Seat) → seat_at r.origs place p ≡ Some seat → seat_at r.origs place q ≡ Some seat → p ≡ q
+
+-- a leg stands where its channel is there still
+abbrev pub leg_still : (channels new : Channels) (seat : Seat) (leg : IsLegOf channels seat) → held_in new leg.at ≡ Some leg.chan →
+    IsLegOf new seat
+leg_still channels new seat leg there =
+    record { at = leg.at; is = leg.is; chan = leg.chan; there = there; live = leg.live; names = leg.names }
+
+-- a leg stands where nothing was written
+pub leg_elsewhere : (channels : Channels) (slot : ℕ) (new : Option Chan) (seat : Seat) → (leg : IsLegOf channels seat) → (leg.at ≡ slot → ⊥) →
+    IsLegOf (with_held channels slot new) seat
+leg_elsewhere channels slot new seat leg other =
+    leg_still channels (with_held channels slot new) seat leg (held_there channels slot leg.at new other ∙ leg.there)
+
+-- there are as many legs or fewer, and each stands
+pub legs_fewer : (r : Roles) (channels : Channels) (origs : Origs) → AreDistinct origs → AreWithin r.drawn origs → Fewer r.origs origs →
+    ((place position : ℕ) (seat : Seat) → seat_at origs place position ≡ Some seat → IsLegOf r.channels seat → IsLegOf channels seat) →
+    LegsStand r →
+    LegsStand (record { channels = channels; origs = origs; drawn = r.drawn })
+legs_fewer r channels origs distinct within fewer stand h = record {
+  distinct = distinct;
+  within = within;
+  stand = λ place position seat has. stand place position seat has (h.stand place position seat (fewer place position seat has));
+  apart = λ place p q seat first second. h.apart place p q seat (fewer place p seat first) (fewer place q seat second);
+}
+
+-- the channel of a slot gives place to anything, where no leg that is left lives in this slot and is the channel's
+pub legs_cut : (r : Roles) (origs : Origs) (slot : ℕ) (old : Chan) (new : Option Chan) → held_in r.channels slot ≡ Some old →
+    AreDistinct origs → AreWithin r.drawn origs → Fewer r.origs origs →
+    ((place position number : ℕ) → seat_at origs place position ≡ Some (in_slot number slot) → old.leg_of ≡ Some number → ⊥) → LegsStand r →
+    LegsStand (record { channels = with_held r.channels slot new; origs = origs; drawn = r.drawn })
+legs_cut r origs slot old new there distinct within fewer none =
+    legs_fewer r (with_held r.channels slot new) origs distinct within fewer
+    (λ place position seat has leg. leg_elsewhere r.channels slot new seat leg (λ same. here place position seat has leg same))
+  where
+    here : (place position : ℕ) (seat : Seat) → seat_at origs place position ≡ Some seat → (leg : IsLegOf r.channels seat) → leg.at ≡ slot →
+        ⊥
+    here place position seat has leg same =
+        let is : old ≡ leg.chan = same_Some old leg.chan (sym there ∙ (ap (held_in r.channels) (sym same) ∙ leg.there)) in
+        let sits : seat ≡ in_slot seat.number slot = ap (λ (which : Option ℕ). seated seat.number which) (leg.is ∙ ap Some same) in
+        none place position seat.number (has ∙ ap Some sits) (ap (λ (c : Chan). c.leg_of) is ∙ leg.names)
+
+-- the channels change, and each leg stands still
+pub legs_follow : (r : Roles) (channels : Channels) → ((seat : Seat) → IsLegOf r.channels seat → IsLegOf channels seat) → LegsStand r →
+    LegsStand (record r { channels = channels })
+legs_follow r channels follow h =
+    legs_fewer r channels r.origs h.distinct h.within (λ place position seat has. has) (λ place position seat has. follow seat) h
+
+-- the channel of a slot is the leg that it was
+pub put_follows : (channels : Channels) (slot : ℕ) (old new : Chan) → held_in channels slot ≡ Some old → new.leg_of ≡ old.leg_of →
+    is_live new ≡ is_live old →
+    (seat : Seat) → IsLegOf channels seat → IsLegOf (with_held channels slot (Some new)) seat
+put_follows channels slot old new there same live seat leg = by (cases_eq leg.at slot)
+  where
+    by : (leg.at ≡ slot) ⊎ (leg.at ≡ slot → ⊥) → IsLegOf (with_held channels slot (Some new)) seat
+    by (inl here) =
+        let is : old ≡ leg.chan = same_Some old leg.chan (sym there ∙ (ap (held_in channels) (sym here) ∙ leg.there)) in
+        record {
+          at = slot;
+          is = leg.is ∙ ap Some here;
+          chan = new;
+          there = held_here channels slot (Some new) (held_within channels slot old there);
+          live = live ∙ (ap is_live is ∙ leg.live);
+          names = same ∙ (ap (λ (c : Chan). c.leg_of) is ∙ leg.names);
+        }
+    by (inr other) = leg_elsewhere channels slot (Some new) seat leg other
+
+-- something comes where nothing was, or where no live channel was
+pub free_follows : (channels : Channels) (slot : ℕ) (new : Option Chan) → ((c : Chan) → held_in channels slot ≡ Some c → is_live c ≡ false) →
+    (seat : Seat) → IsLegOf channels seat → IsLegOf (with_held channels slot new) seat
+free_follows channels slot new dead seat leg =
+    leg_elsewhere channels slot new seat leg
+    (λ same. true≢false (sym leg.live ∙ dead leg.chan (ap (held_in channels) (sym same) ∙ leg.there)))
+
+-- the channel of a slot is changed, and is the leg that it was
+pub put_legs : (slot : ℕ) (old new : Chan) (s : Switch) → chan_at s slot ≡ Some old → new.leg_of ≡ old.leg_of →
+    is_live new ≡ is_live old → LegsStand (roles_of s) → LegsStand (roles_of (with_chan slot (Some new) s))
+put_legs slot old new s there same live h =
+    legs_follow (roles_of s) (with_held s.channels slot (Some new)) (put_follows s.channels slot old new there same live) h
+
+-- ---- an origination ends
+
+pub without_legs : (number : ℕ) (s : Switch) → LegsStand (roles_of s) → LegsStand (roles_of (without_orig number s))
+without_legs number s h =
+    legs_fewer (roles_of s) s.channels (without_row s.origs number) (distinct-without_row s.origs number h.distinct)
+    (within-without_row s.origs number s.drawn.origs h.within)
+    (without_fewer s.origs number) (λ place position seat has leg. leg) h
+
+pub given_up_legs : (slot : ℕ) (awaited : Option ℕ) (s : Switch) → LegsStand (roles_of s) →
+    LegsStand (roles_of (orig_given_up slot awaited s))
+given_up_legs slot awaited s h =
+    given_up_kept (λ (t : Switch). LegsStand (roles_of t)) (λ number t k. without_legs number t k) slot awaited s h
+
+-- ---- a channel is hung up, and the leg that it is dies
+
+cut_roles : (cause : Cause) (slot : ℕ) (c : Chan) (s : Switch) →
+    roles_of (with_state_events c.state CsHangup (with_event (hangup_event cause) (with_chan slot (Some (hung_up cause c)) s))) ≡ record
+    (roles_of s) { channels = with_held s.channels slot (Some (hung_up cause c)) }
+cut_roles cause slot c s =
+    let cut : Switch = with_event (hangup_event cause) (with_chan slot (Some (hung_up cause c)) s) in
+    state_told_kept (λ (t : Switch). roles_of t ≡ record (roles_of s) { channels = with_held s.channels slot (Some (hung_up cause c)) })
+    (λ event t h. h) c.state CsHangup {s = cut} refl
+
+-- so each leg stands behind a hangup
+module _ (cause : Cause) (slot : ℕ) (c : Chan) (s : Switch) (there : chan_at s slot ≡ Some c) (h : LegsStand (roles_of s)) where
+  after_death : (origs : Origs) → AreDistinct origs → AreWithin s.drawn.origs origs → Fewer s.origs origs →
+      ((place position number : ℕ) → seat_at origs place position ≡ Some (in_slot number slot) → c.leg_of ≡ Some number → ⊥) →
+      (t : Switch) → roles_of t ≡ record (roles_of s) { channels = with_held s.channels slot (Some (hung_up cause c)); origs = origs } →
+      LegsStand (roles_of t)
+  after_death origs distinct within fewer none t same =
+      subst LegsStand (sym same) (legs_cut (roles_of s) origs slot c (Some (hung_up cause c)) there distinct within fewer none h)
+
+  no_death : ((place position number : ℕ) → seat_at s.origs place position ≡ Some (in_slot number slot) → c.leg_of ≡ Some number → ⊥) →
+      (t : Switch) → roles_of t ≡ record (roles_of s) { channels = with_held s.channels slot (Some (hung_up cause c)) } →
+      LegsStand (roles_of t)
+  no_death none t same = after_death s.origs h.distinct h.within (λ place position seat has. has) none t same
+
+  its_death : (place : ℕ) (leg_of : Option ℕ) → c.leg_of ≡ leg_of → (t : Switch) →
+      roles_of t ≡ record (roles_of s) { channels = with_held s.channels slot (Some (hung_up cause c)) } →
+      LegsStand (roles_of (its_leg_changed (λ p. with_death p place cause) slot leg_of t))
+  its_death place None is t same = no_death (λ at position number has its. none-some number (sym is ∙ its)) t same
+  its_death place (Some number) is t same = by (orig_of t number) refl
+    where
+      -- the number is the origination's
+      its : (n : ℕ) → c.leg_of ≡ Some n → n ≡ number
+      its n e = same_Some n number (sym e ∙ is)
+
+      known : (found : Option Orig) → orig_of t number ≡ found → orig_of s number ≡ found
+      known found is = ap (λ (r : Roles). row_of r.origs number) (sym same) ∙ is
+
+      by : (found : Option Orig) → orig_of t number ≡ found →
+          LegsStand (roles_of (orig_changed_from (leg_changed (λ p. with_death p place cause) slot) number found t))
+      by None none =
+          no_death
+          (λ at position n has e. both_ways (has_number n (held_in s.origs at))
+          (none_stands s.origs n (row_gone s.origs n (ap (row_of s.origs) (its n e) ∙ known None none)) at)
+          (seat_number position (held_in s.origs at) (in_slot n slot) has)) t same
+      by (Some o) found =
+          let dead : Orig = leg_changed (λ p. with_death p place cause) slot o in
+          let origs : Origs = with_row s.origs number dead in
+          after_death origs (distinct_same s.origs origs (numbers-with_row s.origs number dead) h.distinct)
+          (within_same s.origs number dead s.drawn.origs h.within)
+          (changed_fewer s.origs number o dead (known (Some o) found)
+          (touched_spares (with_leg_death place cause) (death_spares place cause) slot number o))
+          (λ at position n has e. death_leaves_none s.origs number o slot place cause h.distinct (known (Some o) found) h.apart at position
+          (has ∙ ap (λ (m : ℕ). Some (in_slot m slot)) (its n e)))
+          (with_orig number dead t) (ap (λ (r : Roles). record r { origs = with_row r.origs number dead }) same)
+
+pub one_hung_legs : (cause : Cause) (slot : ℕ) (s : Switch) → LegsStand (roles_of s) → LegsStand (roles_of (after_one_hangup cause slot s))
+one_hung_legs cause slot s h = by (chan_at s slot) refl
+  where
+    of : (c : Chan) → chan_at s slot ≡ Some c → (test : Bool) →
+        LegsStand (roles_of (if test then orig_given_up slot (awaited_by c)
+        (its_leg_changed (λ position. with_death position s.entries cause) slot c.leg_of
+        (with_state_events c.state CsHangup (with_event (hangup_event cause) (with_chan slot (Some (hung_up cause c)) s)))) else s))
+    of c is true =
+        given_up_legs slot (awaited_by c)
+        (its_leg_changed (λ position. with_death position s.entries cause) slot c.leg_of
+        (with_state_events c.state CsHangup (with_event (hangup_event cause) (with_chan slot (Some (hung_up cause c)) s))))
+        (its_death cause slot c s is h s.entries c.leg_of refl
+        (with_state_events c.state CsHangup (with_event (hangup_event cause) (with_chan slot (Some (hung_up cause c)) s)))
+        (cut_roles cause slot c s))
+    of c is false = h
+
+    by : (found : Option Chan) → chan_at s slot ≡ found → LegsStand (roles_of (after_hangup_from cause slot found s))
+    by None is = h
+    by (Some c) is = of c is (is_live c)
+
+-- ---- a leg is answered
+
+pub answered_legs : (place slot number : ℕ) (s : Switch) → LegsStand (roles_of s) →
+    LegsStand (roles_of (orig_changed (leg_changed (λ position. with_answer position place) slot) number s))
+answered_legs place slot number s h = by (orig_of s number) refl
+  where
+    by : (found : Option Orig) → orig_of s number ≡ found →
+        LegsStand (roles_of (orig_changed_from (leg_changed (λ position. with_answer position place) slot) number found s))
+    by None is = h
+    by (Some o) is =
+        let new : Orig = leg_changed (λ position. with_answer position place) slot o in
+        let origs : Origs = with_row s.origs number new in
+        legs_fewer (roles_of s) s.channels origs (distinct_same s.origs origs (numbers-with_row s.origs number new) h.distinct)
+        (within_same s.origs number new s.drawn.origs h.within)
+        (changed_fewer s.origs number o new is (touched_spares (with_leg_answer place) (answer_spares place) slot number o))
+        (λ at position seat has leg. leg) h

@@ -4,12 +4,11 @@ use Rattle.std.proofs.Common.{IsSome, option_and_then, unwrap_or, ◌⊎◌, inl
 use Rattle.std.specs.List.{slice_set}
 use Rattle.std.proofs.lemmas.Bool.{cases_eq}
 use Rattle.fs_text.specs.Texts.{Text}
-use Rattle.fs_text.specs.declared.states.State.TheVariants.{CsHangup}
 use Rattle.fs_text.specs.declared.causes.Cause.{Cause}
 use Rattle.fs_text.specs.declared.causes.Cause.TheVariants.{NormalTemporaryFailure, SwitchCongestion}
 use Rattle.fs_vars.specs.Variables.{Variables}
 use Rattle.fs_chan.specs.declared.chan.Chan.{Chan}
-use Rattle.fs_chan.specs.Changes.{is_live, hung_up}
+use Rattle.fs_chan.specs.Changes.{at_rest}
 use Rattle.fs_chan.specs.Moments.{moment_after}
 use Rattle.fs_orig.specs.declared.caller.Caller.{Caller}
 use Rattle.fs_orig.specs.declared.endpoint.Endpoint.{Endpoint}
@@ -20,11 +19,10 @@ use Rattle.fs_orig.specs.declared.orig.Owner.TheVariants as owner
 use Rattle.fs_orig.specs.declared.plan.LegPlan.{LegPlan}
 use Rattle.fs_orig.specs.declared.winner.Winner.{Winner}
 use Rattle.fs_orig.specs.Legs.{lives, position_in}
-use Rattle.fs_orig.specs.Changes.{rings, with_leg_answer, with_leg_death, with_leg, with_changed_leg, with_answer, with_death, new_orig}
-use Rattle.fs_orig.specs.Changes.{may_enter_next, at_next_group}
+use Rattle.fs_orig.specs.Changes.{rings, with_leg_answer, with_leg_death, with_leg, with_changed_leg, with_answer, new_orig, may_enter_next}
+use Rattle.fs_orig.specs.Changes.{at_next_group}
 use Rattle.fs_orig.specs.Endpoints.{endpoint_of}
 use Rattle.fs_orig.specs.Meaning.{IsWithCauses}
-use Rattle.fs_orig.specs.Verdicts.{next_group}
 use Rattle.fs_places.specs.declared.numbered.Numbered.{Numbered}
 use Rattle.fs_places.specs.Places.{held_in, least_free}
 use Rattle.fs_places.specs.Rows.{place_of, row_of}
@@ -33,23 +31,39 @@ use Rattle.fs_state.specs.declared.conn.Conn.{Conn}
 use Rattle.fs_state.specs.declared.conn.Parting.TheVariants as parting
 use Rattle.fs_state.specs.declared.job.JobWork.{JobWork}
 use Rattle.fs_state.specs.declared.job.JobWork.TheVariants.{Sleep, Originate}
-use Rattle.fs_state.specs.Switch.{Switch, chan_at, with_chan, orig_of, next_orig_number, next_job_number, with_new_job, without_job}
-use Rattle.fs_state.specs.Switch.{without_orig, with_event}
-use Rattle.fs_state.specs.Moves.{with_state_events, after_move_from, orig_changed_from, orig_changed, leg_changed_at, leg_changed}
-use Rattle.fs_state.specs.Moves.{its_leg_changed, hangup_event, after_hangup_from, after_one_hangup}
+use Rattle.fs_state.specs.Switch.{Switch, chan_at, orig_of, next_orig_number, next_job_number, with_new_job, without_job}
+use Rattle.fs_state.specs.Switch.{without_orig, with_bridge}
+use Rattle.fs_state.specs.Moves.{orig_changed_from, orig_changed, leg_changed_at, leg_changed, after_move, orig_given_up}
 use Rattle.fs_state.proofs.LegTables.{Origs, row_there, set_here, set_there}
 use Rattle.fs_machine.specs.declared.originations.Call.{Call}
 use Rattle.fs_machine.specs.Texts.{made_text, failed_text}
 use Rattle.fs_machine.specs.Connections.{conn_changed, admitted, parted, owed_since, not_owed}
 use Rattle.fs_machine.specs.Originations.{set_all, no_variables, own_uuid, call_with, is_misnamed, seconds, made_dead, is_congested}
 use Rattle.fs_machine.specs.Originations.{made_in, free_pair, loopback_made, made_with, made_of, leg_made, MadeGroup, group_made, won_by}
-use Rattle.fs_machine.specs.Originations.{after_winning}
+use Rattle.fs_machine.specs.Originations.{after_winning, leg_end}
 use Rattle.fs_machine.specs.Attempts.{first_group, orig_begun, originate_begun, with_group}
 use Rattle.fs_machine.specs.Owing.{after_job_begin, after_job_end}
-use Rattle.fs_machine.proofs.Kept.{Fact, KeptByBirths, raced, AreGroups, KeptByMoves}
-use Rattle.fs_machine.proofs.Walk.{state_told_kept, pair_hung_kept, group_made_kept}
+use Rattle.fs_machine.proofs.Kept.{Fact, KeptByBirths, raced, AreGroups, KeptByMoves, KeptByTouches, KeptByJobs, KeptByDials, ArePlans}
+use Rattle.fs_machine.proofs.Walk.{group_made_kept, behind_filled, disposed_kept}
 use Rattle.fs_machine.proofs.FrontLemmas.{conn_unread}
-use Rattle.fs_machine.proofs.LegMoves.{Roles, pair_roles}
+use Rattle.std.specs.Option.{option_and_then}
+use Rattle.fs_text.specs.Cause.{cause_name}
+use Rattle.fs_bridge.specs.declared.row.BridgeKind.{BridgeKind}
+use Rattle.fs_bridge.specs.declared.row.BridgeKind.TheVariants.{Dial}
+use Rattle.fs_bridge.specs.Closure.{Members}
+use Rattle.fs_chan.specs.Bridging.{exported_pairs, awaiting, awaited_by, bridged, in_media, at_leisure}
+use Rattle.fs_orig.specs.declared.orig.Owner.{Owner}
+use Rattle.fs_orig.specs.Plans.{all_behind}
+use Rattle.fs_state.specs.Hangups.{after_hangups}
+use Rattle.fs_state.specs.Bridging.{peer_of, with_peer_from, with_peer, joined_as}
+use Rattle.fs_machine.specs.Bridging.{caller_of, group_dialed, goes_on, after_going_on, bridge_failed_from, after_bridge_failure, disposed}
+use Rattle.fs_machine.specs.Bridging.{after_bridge_win}
+use Rattle.fs_machine.specs.Dialing.{tried_by_slot}
+use Rattle.fs_machine.specs.Joining.{after_leaving}
+use Rattle.fs_machine.proofs.NameLemmas.{leg_by}
+use Rattle.fs_machine.proofs.StayLemmas.{moved_there, changed_there}
+use Rattle.fs_machine.proofs.HangLemmas.{dies, given_up_kept, hangups_kept}
+use Rattle.fs_machine.proofs.WonLemmas.{bridge_won_kept}
 
 -- it has a cause, if it died
 abbrev pub HasCause : Option OrigLeg → Type 0
@@ -154,28 +168,75 @@ answers_told place slot number s h =
     changed_told (leg_changed (λ position. with_answer position place) slot)
     (touched_told (with_leg_answer place) (answer_keeps place) slot) number s h
 
-one_hung_told : (cause : Cause) (slot : ℕ) (s : Switch) → AllTold s.origs → AllTold (after_one_hangup cause slot s).origs
-one_hung_told cause slot s h = by (chan_at s slot)
+dies_told : (cause : Cause) (place slot number : ℕ) (s : Switch) → AllTold s.origs → AllTold (orig_changed (dies cause place slot) number s).origs
+dies_told cause place slot number s h =
+    changed_told (dies cause place slot) (touched_told (with_leg_death place cause) (death_keeps place cause) slot) number s h
+
+without_told : (number : ℕ) (s : Switch) → AllTold s.origs → AllTold (without_orig number s).origs
+without_told number s h = each_put_at ToldIn s.origs None (place_of s.origs number) h tt
+
+-- ---- what channels do
+
+touches_told : KeptByTouches Told
+touches_told = record {
+  told = λ event h. h;
+  globals = λ globals h. h;
+  changed = λ slot old new there stays h. h;
+  answers = λ place slot number {s = s} h. answers_told place slot number s h;
+}
+
+moved_told : (change : Chan → Chan) (slot : ℕ) (s : Switch) → AllTold s.origs → AllTold (after_move change slot s).origs
+moved_told change slot s h = moved_there (λ (t : Switch). AllTold t.origs) (λ event t k. k) change slot s (λ c is. h) h
+
+hung_told : (named : Members) (s : Switch) → AllTold s.origs → AllTold (after_hangups named s).origs
+hung_told named s h =
+    hangups_kept named s (λ (t : Switch). AllTold t.origs) (λ event t k. k) (λ slot old new t is falls k. k) (λ number t k. k) dies_told
+    without_told h
+
+peer_told : (slot other : ℕ) (s : Switch) → AllTold s.origs → AllTold (with_peer slot other s).origs
+peer_told slot other s h = by (chan_at s other)
   where
-    dies : (leg_of : Option ℕ) (t : Switch) → AllTold t.origs →
-        AllTold (its_leg_changed (λ position. with_death position s.entries cause) slot leg_of t).origs
-    dies None t k = k
-    dies (Some number) t k =
-        changed_told (leg_changed (λ position. with_death position s.entries cause) slot)
-        (touched_told (with_leg_death s.entries cause) (death_keeps s.entries cause) slot) number t k
-
-    of : (c : Chan) (test : Bool) →
-        AllTold (if test then its_leg_changed (λ position. with_death position s.entries cause) slot c.leg_of
-        (with_state_events c.state CsHangup (with_event (hangup_event cause) (with_chan slot (Some (hung_up cause c)) s))) else s).origs
-    of c true =
-        let cut : Switch = with_event (hangup_event cause) (with_chan slot (Some (hung_up cause c)) s) in
-        dies c.leg_of (with_state_events c.state CsHangup cut)
-        (state_told_kept (λ (t : Switch). AllTold t.origs) (λ event t plain k. k) c.state CsHangup {s = cut} h)
-    of c false = h
-
-    by : (found : Option Chan) → AllTold (after_hangup_from cause slot found s).origs
+    by : (found : Option Chan) → AllTold (with_peer_from slot other found s).origs
     by None = h
-    by (Some c) = of c (is_live c)
+    by (Some c) = changed_there (λ (t : Switch). AllTold t.origs) (bridged (peer_of other c)) slot s (λ d is. h) h
+
+joined_told : (kind : BridgeKind) (caller answerer : ℕ) (s : Switch) → AllTold s.origs → AllTold (joined_as kind caller answerer s).origs
+joined_told kind caller answerer s h =
+    let t : Switch = with_bridge caller answerer kind s in
+    peer_told answerer caller (with_peer caller answerer t) (peer_told caller answerer t h)
+
+left_told : (slot : ℕ) (s : Switch) → AllTold s.origs → AllTold (after_leaving slot s).origs
+left_told slot s h =
+    let awaited : Option ℕ = option_and_then awaited_by (chan_at s slot) in
+    let given_up : AllTold (orig_given_up slot awaited s).origs =
+    given_up_kept (λ (t : Switch). AllTold t.origs) without_told slot awaited s h in
+    changed_there (λ (t : Switch). AllTold t.origs) at_leisure slot (orig_given_up slot awaited s) (λ c is. given_up) given_up
+
+-- ---- what comes of a bridge that is dialed
+
+failed_told : (cause : Cause) (slot : ℕ) (s : Switch) → AllTold s.origs → AllTold (after_bridge_failure cause slot s).origs
+unfolding after_bridge_failure
+failed_told cause slot s h = by (chan_at s slot)
+  where
+    t : Switch
+    t = disposed (cause_name cause) slot s
+
+    told : AllTold t.origs
+    told = disposed_kept Told touches_told (cause_name cause) slot {b = None} {s = s} h
+
+    on : (onward : Bool) → AllTold (after_going_on onward cause slot t).origs
+    on true = moved_told at_rest slot t told
+    on false = hung_told ((slot, cause) ∷ []) t told
+
+    by : (found : Option Chan) → AllTold (bridge_failed_from found cause slot s).origs
+    by None = h
+    by (Some c) = on (goes_on cause c.vars)
+
+bridge_won_told : (slot leg : ℕ) (s : Switch) → AllTold s.origs → AllTold (after_bridge_win slot leg s).origs
+bridge_won_told slot leg s h =
+    bridge_won_kept (λ (t : Switch). AllTold t.origs) (λ (t : Switch). AllTold t.origs) touches_told slot leg
+    (λ u can k. moved_told in_media leg (joined_as Dial slot leg u) (joined_told Dial slot leg u k))
+    (λ u k. failed_told NormalTemporaryFailure slot u k) s h
 
 -- ---- legs are made
 
@@ -220,7 +281,7 @@ told_births : KeptByBirths Told
 told_births = record {
   spent = λ h. h;
   pair = λ call orig a b {s = s} short named first second h.
-      subst AllTold (sym (ap (λ (r : Roles). r.origs) (pair_roles call orig a b s))) h;
+      leg_by (λ t. AllTold t.origs) call.uuid call (leg_end orig a b) s h (λ own. h);
 }
 
 -- the group that is tried first has a leg
@@ -242,79 +303,105 @@ owing_told conn what s h = conn_told (owed_since s.entries) conn (with_new_job (
 ended_told : (number conn : ℕ) (answer : Text) (s : Switch) → AllTold s.origs → AllTold (after_job_end number conn answer s).origs
 ended_told number conn answer s h = conn_told not_owed conn (without_job number s) h
 
-without_told : (number : ℕ) (s : Switch) → AllTold s.origs → AllTold (without_orig number s).origs
-without_told number s h = each_put_at ToldIn s.origs None (place_of s.origs number) h tt
-
 won_told : (winner : Winner) (slot : ℕ) (s : Switch) → AllTold s.origs → AllTold (after_winning winner slot s).origs
 unfolding after_winning
-won_told winner slot s h = by (chan_at s slot)
-  where
-    by : (found : Option Chan) → AllTold (after_move_from (won_by winner) slot found s).origs
-    by None = h
-    by (Some c) =
-        state_told_kept (λ (t : Switch). AllTold t.origs) (λ event t plain k. k) c.state (won_by winner c).state
-        {s = with_chan slot (Some (won_by winner c)) s} h
+won_told winner slot s h = moved_told (won_by winner) slot s h
 
 -- ---- every move
+
+-- one begins with the legs of its first group
+begun_told : (by : Owner) (groups : List (List LegPlan)) (plans : List LegPlan) (caller : Caller) (timeout : ℕ) (s : Switch) →
+    AreGroups groups → IsSome (slice_get plans 0) → AllTold s.origs →
+    AllTold
+    (orig_begun by groups (group_made plans caller (next_orig_number s) s).legs timeout
+    (group_made plans caller (next_orig_number s) s).state).origs
+begun_told by groups plans caller timeout s are some h =
+    let made : MadeGroup = group_made plans caller (next_orig_number s) s in
+    let o : Orig = new_orig by groups made.legs (moment_after made.state.moment (seconds timeout)) in
+    each_put_at ToldIn made.state.origs (Some (record { number = next_orig_number made.state; held = o })) (least_free made.state.origs 0)
+    (group_made_kept Told told_births plans caller (next_orig_number s) {n = 0} {s = s} h)
+    (record {
+      leg = group_has_leg plans caller (next_orig_number s) s some;
+      causes = group_has_causes plans caller (next_orig_number s) s;
+      filled = are.filled;
+    })
 
 originates_told : (conn : ℕ) (groups : List (List LegPlan)) (winner : Winner) (caller : Caller) (timeout : Option ℕ) (s : Switch) →
     AreGroups groups → AllTold s.origs → AllTold (originate_begun conn groups winner caller timeout s).origs
 originates_told conn groups winner caller timeout s are h =
     let plans : List LegPlan = first_group groups in
     let made : MadeGroup = group_made plans caller (next_orig_number s) s in
-    let o : Orig =
-    new_orig (owner.Job (next_job_number made.state)) groups made.legs
-    (moment_after made.state.moment (seconds (unwrap_or timeout 60))) in
-    owing_told conn (Originate (next_orig_number s) winner caller) (orig_begun groups made.legs (unwrap_or timeout 60) made.state)
-    (each_put_at ToldIn made.state.origs (Some (record { number = next_orig_number made.state; held = o })) (least_free made.state.origs 0)
-    (group_made_kept Told told_births plans caller (next_orig_number s) {n = 0} {s = s} h)
-    (record {
-      leg = group_has_leg plans caller (next_orig_number s) s (first_filled groups are);
-      causes = group_has_causes plans caller (next_orig_number s) s;
-      filled = are.filled;
-    }))
+    owing_told conn (Originate (next_orig_number s) winner caller)
+    (orig_begun (owner.Job (next_job_number made.state)) groups made.legs (unwrap_or timeout 60) made.state)
+    (begun_told (owner.Job (next_job_number made.state)) groups plans caller (unwrap_or timeout 60) s are (first_filled groups are) h)
+
+-- a channel dials them, each with what it exports
+dials_told : (slot : ℕ) (c : Chan) (groups : List (List LegPlan)) (timeout : ℕ) (s : Switch) → AreGroups groups → AllTold s.origs →
+    AllTold
+    (tried_by_slot slot groups timeout (next_orig_number s) (group_dialed (Some c) (first_group groups) (next_orig_number s) s)).origs
+dials_told slot c groups timeout s are h =
+    let plans : List LegPlan = all_behind (exported_pairs c.vars) (first_group groups) in
+    let made : MadeGroup = group_made plans (caller_of c) (next_orig_number s) s in
+    moved_told (awaiting (next_orig_number s)) slot (orig_begun (owner.Slot slot) groups made.legs timeout made.state)
+    (begun_told (owner.Slot slot) groups plans (caller_of c) timeout s are
+    (behind_filled (exported_pairs c.vars) (first_group groups) (first_filled groups are)) h)
 
 regroups_told : (number : ℕ) (o : Orig) (plans : List LegPlan) (caller : Caller) (s : Switch) → orig_of s number ≡ Some o →
-    next_group o ≡ Some plans → AllTold s.origs → AllTold (with_group number (group_made plans caller number s)).origs
-regroups_told number o plans caller s there next h =
+    ArePlans o plans → AllTold s.origs → AllTold (with_group number (group_made plans caller number s)).origs
+regroups_told number o plans caller s there are h =
     changed_told (at_next_group made.legs) enters number made.state
     (group_made_kept Told told_births plans caller number {n = 0} {s = s} h)
   where
     made : MadeGroup
     made = group_made plans caller number s
 
+    some : IsSome (slice_get plans 0)
+    some = are.filled ((told_there s.origs number o there h).filled (o.current + 1) are.group are.next)
+
     enters : (x : Orig) → IsTold x → IsTold (at_next_group made.legs x)
     enters x told = by (may_enter_next x)
       where
         by : (test : Bool) → IsTold (if test then record x { current = x.current + 1; legs = made.legs } else x)
         by true = record {
-          leg = group_has_leg plans caller number s ((told_there s.origs number o there h).filled (o.current + 1) plans next);
+          leg = group_has_leg plans caller number s some;
           causes = group_has_causes plans caller number s;
           filled = told.filled;
         }
         by false = told
 
+told_jobs : (before : Switch) → KeptByJobs before Told
+told_jobs before = record {
+  woken = λ number conn until answer {s = s} does h. ended_told number conn answer s h;
+  failed = λ job conn winner caller orig cause {s = s} does h.
+      ended_told job conn (failed_text cause) (without_orig orig s) (without_told orig s h);
+  wins = λ job conn winner caller orig leg slots does won h.
+      let t : Switch = after_winning winner (unwrap_or leg.slot 0) (raced slots before) in
+      ended_told job conn (made_text leg.uuid) (without_orig orig t)
+      (without_told orig t (won_told winner (unwrap_or leg.slot 0) (raced slots before) h));
+}
+
+told_dials : (before : Switch) → KeptByDials before Told
+told_dials before = record {
+  spent = λ h. h;
+  dials = λ slot c groups timeout {s = s} there works are h. dials_told slot c groups timeout s are h;
+  regroups = λ number o plans caller {s = s} there are h. regroups_told number o plans caller s there are h;
+  fails = λ slot orig cause {s = s} waits h. failed_told cause slot (without_orig orig s) (without_told orig s h);
+  wins = λ slot orig leg slots waits won h.
+      bridge_won_told slot (unwrap_or leg.slot 0) (without_orig orig (raced slots before)) (without_told orig (raced slots before) h);
+}
+
 pub told_moves : (before : Switch) → KeptByMoves before Told
 told_moves before = record {
   calls = record {
-    told = λ event plain h. h;
-    globals = λ globals h. h;
-    changed = λ slot old new there stays h. h;
-    answers = λ place slot number {s = s} h. answers_told place slot number s h;
-    hung = λ cause slot {s = s} h. pair_hung_kept (λ (t : Switch). AllTold t.origs) one_hung_told cause slot s h;
+    touches = touches_told;
+    hung = λ named {s = s} h. hung_told named s h;
+    joined = λ kind caller answerer c d {s = s} can there other one two h. joined_told kind caller answerer s h;
+    leaves = λ slot {s = s} lone h. left_told slot s h;
     more = λ h. h;
     gone = λ slot old there dead h. h;
   };
-  jobs = record {
-    woken = λ number conn until answer {s = s} does h. ended_told number conn answer s h;
-    failed = λ a winner caller cause {s = s} does h. ended_told a.job a.conn (failed_text cause) (without_orig a.orig s)
-        (without_told a.orig s h);
-    wins = λ a winner caller leg slots does won h.
-        let t : Switch = after_winning winner (unwrap_or leg.slot 0) (raced slots before) in
-        ended_told a.job a.conn (made_text leg.uuid) (without_orig a.orig t)
-        (without_told a.orig t (won_told winner (unwrap_or leg.slot 0) (raced slots before) h));
-    regroups = λ number o plans caller {s = s} there next h. regroups_told number o plans caller s there next h;
-  };
+  jobs = told_jobs before;
+  dials = told_dials before;
   commands = λ conn. record {
     spent = λ h. h;
     gave = λ frame h. h;

@@ -139,7 +139,7 @@ transfers_stays : (to : Target3) (c : Chan) → IsShortTarget to → IsAtWork c 
 transfers_stays to c short works = work_stays c (transferred to c) works refl routing_lives (sent_short to c.profile short)
 
 -- plans have a leg where those have that they are made of
-behind_filled : (pairs : List (Text × Text)) (group : List LegPlan) → IsSome (slice_get group 0) →
+pub behind_filled : (pairs : List (Text × Text)) (group : List LegPlan) → IsSome (slice_get group 0) →
     IsSome (slice_get (all_behind pairs group) 0)
 behind_filled pairs [] some = some
 behind_filled pairs (plan ∷ plans) some = refl

@@ -63,7 +63,7 @@ use Rattle.fs_machine.proofs.Kept.{Fact, Stays, KeptByCalls, DoesJob, raced, Has
 use Rattle.fs_machine.proofs.Kept.{KeptByCommands, KeptByMoves}
 use Rattle.fs_machine.proofs.ShortLemmas.{NamesShort, api_short, expanded_short}
 use Rattle.fs_machine.proofs.DialLemmas.{dialled_groups}
-use Rattle.fs_machine.proofs.JoinLemmas.{IsApart, apart_now, apart_hung, apart_left, CanMeet, meets_now, join_meets, media_meets}
+use Rattle.fs_machine.proofs.JoinLemmas.{IsApart, apart_now, apart_hung, apart_left, DialsNone, left_dials, left_dials_still, CanMeet, meets_now, join_meets, media_meets}
 use Rattle.fs_machine.proofs.JoinLemmas.{media_stays}
 use Rattle.fs_machine.proofs.StayLemmas.{moved_there}
 use Rattle.fs_machine.proofs.TryWalk.{verdict_kept}
@@ -160,19 +160,20 @@ module _ (conn : ℕ) (P : Fact) (calls : KeptByCalls P) (commands : KeptByComma
   join_kept a b {s} first second h = by (can_join a b s) refl
     where
       by : (test : Bool) → can_join a b s ≡ test → P (Some 0) (if test then joined_as Joined a b s else s)
-      by true is = calls.joined Joined a b first.chan second.chan is first.there second.there first.lone second.lone h
+      by true is = calls.joined Joined a b first.chan second.chan is first.there second.there first.lone second.lone first.free
+          second.free h
       by false is = h
 
-  joined_kept : (a b : ℕ) (other : Text) {s : Switch} → IsApart s a → IsApart s b → P (Some 0) s →
-      P (Some 0) (joined_done a b other s).state
-  joined_kept a b other {s} first second h = by (lives_at s a) refl (lives_at s b) refl
+  joined_kept : (a b : ℕ) (other : Text) {s : Switch} → IsApart s a → IsApart s b → DialsNone s a → DialsNone s b →
+      P (Some 0) s → P (Some 0) (joined_done a b other s).state
+  joined_kept a b other {s} first second one_dials two_dials h = by (lives_at s a) refl (lives_at s b) refl
     where
       by : (one : Bool) → lives_at s a ≡ one → (two : Bool) → lives_at s b ≡ two →
           P (Some 0)
           (if one && two then says (made_text other) (both_in_media a b (after_join Joined a b s)) else says no_channel s).state
       by true live true alive =
-          let meets : CanMeet s a = meets_now s a live first in
-          let met : CanMeet s b = meets_now s b alive second in
+          let meets : CanMeet s a = meets_now s a live first one_dials in
+          let met : CanMeet s b = meets_now s b alive second two_dials in
           both_media_kept a b (join_meets Joined a b a s meets) (join_meets Joined a b b s met) (join_kept a b meets met h)
       by true live false dead = h
       by false dead two alive = h
@@ -190,7 +191,8 @@ module _ (conn : ℕ) (P : Fact) (calls : KeptByCalls P) (commands : KeptByComma
           let one = apart_hung a named s apart.0 in
           let two = apart_hung b named s apart.1 in
           joined_kept a b other (apart_left a b (after_leaving a t) (apart_left a a t one))
-          (apart_left b b (after_leaving a t) (apart_left b a t two)) (left_kept a b apart.0 apart.1 (commands.spent h))
+          (apart_left b b (after_leaving a t) (apart_left b a t two))
+          (left_dials_still a b (after_leaving a t) (left_dials a t)) (left_dials b (after_leaving a t)) (left_kept a b apart.0 apart.1 (commands.spent h))
 
       by : (first second : Option ℕ) → P (Some 0) (bridge_done_at first second other s).state
       by (Some a) (Some b) = way a b (in_the_way a b s) refl

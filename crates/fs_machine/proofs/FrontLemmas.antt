@@ -226,7 +226,7 @@ module _ (before : Switch) (P : Fact) (same : (b : Stage) (t u : Switch) → P b
   calls_by_remains = record {
     touches = touches;
     hung = kept.hung;
-    joined = λ kind caller answerer c d {b = b} {s = s} can there other one two h. joined_remains kind caller answerer b s h;
+    joined = λ kind caller answerer c d {b = b} {s = s} can there other one two first second h. joined_remains kind caller answerer b s h;
     leaves = λ slot {b = b} {s = s} apart h. left_remains slot b s h;
     more = kept.more;
     gone = kept.gone;

@@ -6,19 +6,20 @@ use Rattle.std.proofs.lemmas.Bool.{cases_eq, false≢true}
 use Rattle.std.proofs.lemmas.Option.{none-some, same_Some}
 use Rattle.fs_text.specs.Texts.{Text}
 use Rattle.fs_text.specs.declared.causes.Cause.{Cause}
-use Rattle.fs_text.specs.declared.states.State.TheVariants.{CsExchangeMedia}
+use Rattle.fs_text.specs.declared.states.State.{State}
+use Rattle.fs_text.specs.declared.states.State.TheVariants.{CsPark, CsExchangeMedia}
 use Rattle.fs_bridge.specs.declared.row.Row.{Row}
 use Rattle.fs_bridge.specs.declared.row.BridgeKind.{BridgeKind}
 use Rattle.fs_bridge.specs.Bridges.{has_leg, has_number}
 use Rattle.fs_bridge.specs.Closure.{Members}
 use Rattle.fs_chan.specs.declared.chan.Chan.{Chan}
-use Rattle.fs_chan.specs.Bridging.{awaited_by, bridged, at_leisure}
-use Rattle.fs_chan.specs.Changes.{is_live, in_state}
+use Rattle.fs_chan.specs.Bridging.{awaited_in, awaited_by, bridged, at_leisure}
+use Rattle.fs_chan.specs.Changes.{is_live, in_state, wait_at_rest}
 use Rattle.fs_orig.specs.declared.orig.Orig.{Orig}
 use Rattle.fs_places.specs.Places.{held_in, with_held}
 use Rattle.fs_places.proofs.HeldLemmas.{held_here, held_there, held_within}
 use Rattle.fs_state.specs.Switch.{Switch, chan_at, with_chan, bridge_at, with_bridge, without_bridge, orig_of, without_orig}
-use Rattle.fs_state.specs.Moves.{with_changed_chan, after_move, orig_changed_from, orig_changed, given_up_by, orig_given_up, is_owner}
+use Rattle.fs_state.specs.Moves.{with_changed_chan_from, with_changed_chan, after_move, orig_changed_from, orig_changed, given_up_by, orig_given_up, is_owner}
 use Rattle.fs_state.specs.Hangups.{after_hangups, lives, lives_at}
 use Rattle.fs_state.specs.Bridging.{can_join, peer_of, with_peer_from, with_peer, joined_as, after_join}
 use Rattle.fs_machine.specs.Joining.{is_early, is_ready, is_answered, in_the_way, after_leaving}
@@ -95,6 +96,56 @@ apart_left slot place s h =
     changed_there (λ (u : Switch). IsApart u slot) at_leisure place t
     (λ c there. apart_put t slot place c (at_leisure c) there (λ none. none) k) k
 
+-- ---- what waits for no legs
+
+-- the channel in a slot dials nothing
+abbrev pub DialsNone : Switch → ℕ → Type 0
+DialsNone s slot = (c : Chan) → chan_at s slot ≡ Some c → awaited_by c ≡ None
+
+-- at rest a channel waits for no legs
+pub rest_dials : (socket : Option ℕ) (state : State) → awaited_in (wait_at_rest socket state) ≡ None
+rest_dials (Some conn) state = refl
+rest_dials None CsPark = refl
+rest_dials None _ = refl
+
+-- whoever has left does not
+pub left_dials : (slot : ℕ) (s : Switch) → DialsNone (after_leaving slot s) slot
+left_dials slot s = by (chan_at t slot) refl
+  where
+    t : Switch
+    t = orig_given_up slot (option_and_then awaited_by (chan_at s slot)) s
+
+    by : (found : Option Chan) → chan_at t slot ≡ found → DialsNone (with_changed_chan_from at_leisure slot found t) slot
+    by None is c there = absurd (none-some c (sym is ∙ there))
+    by (Some d) is c there =
+        let here : held_in (with_held t.channels slot (Some (at_leisure d))) slot ≡ Some (at_leisure d) =
+        held_here t.channels slot (Some (at_leisure d)) (held_within t.channels slot d is) in
+        ap awaited_by (same_Some c (at_leisure d) (sym there ∙ here)) ∙ rest_dials d.socket d.state
+
+-- a channel that dials nothing stays so, where the one that is changed does
+pub dials_put : (s : Switch) (slot place : ℕ) (old new : Chan) → chan_at s place ≡ Some old →
+    (awaited_by old ≡ None → awaited_by new ≡ None) → DialsNone s slot → DialsNone (with_chan place (Some new) s) slot
+dials_put s slot place old new there keeps h c is = by (cases_eq slot place)
+  where
+    by : (slot ≡ place) ⊎ (slot ≡ place → ⊥) → awaited_by c ≡ None
+    by (inl same) =
+        let here : held_in (with_held s.channels place (Some new)) slot ≡ Some new =
+        ap (held_in (with_held s.channels place (Some new))) same
+        ∙ held_here s.channels place (Some new) (held_within s.channels place old there) in
+        ap awaited_by (same_Some c new (sym is ∙ here)) ∙ keeps (h old (ap (held_in s.channels) same ∙ there))
+    by (inr other) = h c (sym (held_there s.channels place slot (Some new) other) ∙ is)
+
+given_up_dials : (slot place : ℕ) (awaited : Option ℕ) (s : Switch) → DialsNone s slot → DialsNone (orig_given_up place awaited s) slot
+given_up_dials slot place awaited s h = given_up_kept (λ (t : Switch). DialsNone t slot) (λ number t k. k) place awaited s h
+
+-- and where another one leaves
+pub left_dials_still : (slot place : ℕ) (s : Switch) → DialsNone s slot → DialsNone (after_leaving place s) slot
+left_dials_still slot place s h =
+    let t : Switch = orig_given_up place (option_and_then awaited_by (chan_at s place)) s in
+    let k : DialsNone t slot = given_up_dials slot place (option_and_then awaited_by (chan_at s place)) s h in
+    changed_there (λ (u : Switch). DialsNone u slot) at_leisure place t
+    (λ c there. dials_put t slot place c (at_leisure c) there (λ none. rest_dials c.socket c.state) k) k
+
 -- ---- nothing stands in the way
 
 record AreClear (ready bridged : Bool) : Type 0 where
@@ -136,23 +187,25 @@ apart_now a b s is =
 
 -- ---- two that meet
 
--- a live channel that is no leg of an origination
+-- a live channel that is no leg of an origination, and waits for no legs
 pub record CanMeet (s : Switch) (slot : ℕ) : Type 0 where
   pub chan : Chan
   pub there : chan_at s slot ≡ Some chan
   pub live : is_live chan ≡ true
   pub lone : chan.leg_of ≡ None
+  pub free : awaited_by chan ≡ None
 
-pub meets_now : (s : Switch) (slot : ℕ) → lives_at s slot ≡ true → IsApart s slot → CanMeet s slot
-meets_now s slot live apart = by (chan_at s slot) refl live
+pub meets_now : (s : Switch) (slot : ℕ) → lives_at s slot ≡ true → IsApart s slot → DialsNone s slot → CanMeet s slot
+meets_now s slot live apart dials = by (chan_at s slot) refl live
   where
     by : (found : Option Chan) → chan_at s slot ≡ found → lives found ≡ true → CanMeet s slot
     by None is live = absurd (false≢true live)
-    by (Some c) is live = record { chan = c; there = is; live = live; lone = apart.lone c is }
+    by (Some c) is live = record { chan = c; there = is; live = live; lone = apart.lone c is; free = dials c is }
 
 meet_put : (s : Switch) (slot place : ℕ) (old new : Chan) → chan_at s place ≡ Some old → (is_live old ≡ true → is_live new ≡ true) →
-    (old.leg_of ≡ None → new.leg_of ≡ None) → CanMeet s slot → CanMeet (with_chan place (Some new) s) slot
-meet_put s slot place old new there lives lone h = by (cases_eq slot place)
+    (old.leg_of ≡ None → new.leg_of ≡ None) → (awaited_by old ≡ None → awaited_by new ≡ None) → CanMeet s slot →
+    CanMeet (with_chan place (Some new) s) slot
+meet_put s slot place old new there lives lone free h = by (cases_eq slot place)
   where
     by : (slot ≡ place) ⊎ (slot ≡ place → ⊥) → CanMeet (with_chan place (Some new) s) slot
     by (inl same) =
@@ -163,9 +216,16 @@ meet_put s slot place old new there lives lone h = by (cases_eq slot place)
               ∙ held_here s.channels place (Some new) (held_within s.channels place old there);
           live = lives (ap is_live (sym is) ∙ h.live);
           lone = lone (ap (λ (d : Chan). d.leg_of) (sym is) ∙ h.lone);
+          free = free (ap awaited_by (sym is) ∙ h.free);
         }
     by (inr other) =
-        record { chan = h.chan; there = held_there s.channels place slot (Some new) other ∙ h.there; live = h.live; lone = h.lone }
+        record {
+          chan = h.chan;
+          there = held_there s.channels place slot (Some new) other ∙ h.there;
+          live = h.live;
+          lone = h.lone;
+          free = h.free;
+        }
 
 peer_meets : (slot place other : ℕ) (s : Switch) → CanMeet s slot → CanMeet (with_peer place other s) slot
 peer_meets slot place other s h = by (chan_at s other)
@@ -174,15 +234,15 @@ peer_meets slot place other s h = by (chan_at s other)
     by None = h
     by (Some d) =
         changed_there (λ (t : Switch). CanMeet t slot) (bridged (peer_of other d)) place s
-        (λ c there. meet_put s slot place c (bridged (peer_of other d) c) there (λ live. live) (λ lone. lone) h) h
+        (λ c there. meet_put s slot place c (bridged (peer_of other d) c) there (λ live. live) (λ lone. lone) (λ free. refl) h) h
 
 joined_meets : (kind : BridgeKind) (a b slot : ℕ) (s : Switch) → CanMeet s slot → CanMeet (joined_as kind a b s) slot
 joined_meets kind a b slot s h =
     let t : Switch = with_bridge a b kind s in
     let k : CanMeet (with_peer b a (with_peer a b t)) slot =
     peer_meets slot b a (with_peer a b t)
-    (peer_meets slot a b t (record { chan = h.chan; there = h.there; live = h.live; lone = h.lone })) in
-    record { chan = k.chan; there = k.there; live = k.live; lone = k.lone }
+    (peer_meets slot a b t (record { chan = h.chan; there = h.there; live = h.live; lone = h.lone; free = h.free })) in
+    record { chan = k.chan; there = k.there; live = k.live; lone = k.lone; free = k.free }
 
 pub join_meets : (kind : BridgeKind) (a b slot : ℕ) (s : Switch) → CanMeet s slot → CanMeet (after_join kind a b s) slot
 join_meets kind a b slot s h = by (can_join a b s)
@@ -194,8 +254,8 @@ join_meets kind a b slot s h = by (can_join a b s)
 pub media_meets : (slot place : ℕ) (s : Switch) → CanMeet s slot → CanMeet (after_move (in_state CsExchangeMedia) place s) slot
 media_meets slot place s h =
     moved_there (λ (t : Switch). CanMeet t slot)
-    (λ event t k. record { chan = k.chan; there = k.there; live = k.live; lone = k.lone }) (in_state CsExchangeMedia) place s
-    (λ c there. meet_put s slot place c (in_state CsExchangeMedia c) there (λ live. exchange_lives) (λ lone. lone) h) h
+    (λ event t k. record { chan = k.chan; there = k.there; live = k.live; lone = k.lone; free = k.free }) (in_state CsExchangeMedia) place s
+    (λ c there. meet_put s slot place c (in_state CsExchangeMedia c) there (λ live. exchange_lives) (λ lone. lone) (λ free. free) h) h
 
 -- one that can meet another comes into media
 pub media_stays : (s : Switch) (slot : ℕ) → CanMeet s slot → (c : Chan) → chan_at s slot ≡ Some c → Stays c (in_state CsExchangeMedia c)

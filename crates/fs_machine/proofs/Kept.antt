@@ -14,6 +14,7 @@ use Rattle.fs_chan.specs.declared.peer.Direction.TheVariants.{Outbound}
 use Rattle.fs_chan.specs.declared.peer.Peer.{Peer}
 use Rattle.fs_chan.specs.declared.wait.Wait.{Wait}
 use Rattle.fs_chan.specs.declared.wait.Wait.TheVariants.{Ready, Legs, Bridged}
+use Rattle.fs_chan.specs.Bridging.{awaited_by}
 use Rattle.fs_chan.specs.Changes.{is_live, IsShortTarget, HasShortFields}
 use Rattle.fs_orig.specs.declared.caller.Caller.{Caller}
 use Rattle.fs_orig.specs.declared.leg.OrigLeg.{OrigLeg}
@@ -118,8 +119,8 @@ pub record KeptByCalls (P : Fact) : Type 0 where
   pub touches : KeptByTouches P
   pub hung : (named : Members) {b : Stage} {s : Switch} → P b s → P b (after_hangups named s)
   pub joined : (kind : BridgeKind) (caller answerer : ℕ) (c d : Chan) {b : Stage} {s : Switch} → can_join caller answerer s ≡ true →
-      chan_at s caller ≡ Some c → chan_at s answerer ≡ Some d → c.leg_of ≡ None → d.leg_of ≡ None → P b s →
-      P b (joined_as kind caller answerer s)
+      chan_at s caller ≡ Some c → chan_at s answerer ≡ Some d → c.leg_of ≡ None → d.leg_of ≡ None →
+      awaited_by c ≡ None → awaited_by d ≡ None → P b s → P b (joined_as kind caller answerer s)
   pub leaves : (slot : ℕ) {b : Stage} {s : Switch} → bridge_at s slot ≡ None → P b s → P b (after_leaving slot s)
   pub more : {s : Switch} → P (Some 0) s → P (Some 1) s
   pub gone : (slot : ℕ) (old : Chan) {s : Switch} → chan_at s slot ≡ Some old → is_live old ≡ false → P (Some 0) s →

@@ -144,7 +144,7 @@ module _ (P : Fact) (same : (b : Stage) (t u : Switch) → P b t → rest_of u �
   calls_by_rest = record {
     touches = touches_by_rest;
     hung = λ named {b = b} {s = s} h. same b s _ h (hung_rest named s);
-    joined = λ kind caller answerer c d {b = b} {s = s} can there other one two h.
+    joined = λ kind caller answerer c d {b = b} {s = s} can there other one two first second h.
         same b s _ h (joined_rest kind caller answerer s);
     leaves = λ slot {b = b} {s = s} apart h. same b s _ h (left_rest slot s);
     more = λ {s = s} h. more s h;

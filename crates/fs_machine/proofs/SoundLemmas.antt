@@ -35,10 +35,12 @@ use Rattle.fs_machine.proofs.FramesLaws.{config_step}
 use Rattle.fs_machine.proofs.ActWalk.{acted_kept}
 use Rattle.fs_machine.proofs.OwedBooks.{books_of}
 use Rattle.fs_machine.proofs.OwedLaws.{Holds, holds_empty, holds_step}
-use Rattle.fs_machine.proofs.PartnerMoves.{Partners, partners_moves}
+use Rattle.fs_machine.proofs.PartnerMoves.{ArePaired, Partners, partners_moves}
 use Rattle.fs_machine.proofs.SeenLemmas.{seen, uuid_of, uuid_in, Named, Numbers, numbers_stay}
 use Rattle.fs_machine.proofs.IdentifierMoves.{NumbersFrom, numbers_moves}
-use Rattle.fs_machine.proofs.LegMoves.{roles_of, LegsStand, Legs, legs_are_channels, legs_moves}
+use Rattle.fs_machine.proofs.LegLemmas.{roles_of, LegsStand}
+use Rattle.fs_machine.proofs.LegHangups.{legs_are_channels}
+use Rattle.fs_machine.proofs.LegMoves.{Legs, legs_moves}
 use Rattle.fs_machine.proofs.CauseMoves.{ToldIn, AllTold, Told, told_there, with_causes, told_moves}
 use Rattle.fs_machine.proofs.WinnerMoves.{ShortIn, WinnersAreShort, Winners, winners_moves}
 use Rattle.fs_machine.proofs.ChannelMoves.{FitsIn, AllFit, Fit, fit_there, fit_moves}
@@ -58,11 +60,21 @@ nothing_named config = record {
         ap (option_and_then partner_of) (nothing_held Chan (config.settings.max_sessions + 1) a) in
         cc
 
-step_agrees : (s : Switch) (entry : Entry) → Ties partner_of s.channels → Ties partner_of (step s entry).state.channels
-unfolding step
-step_agrees s entry h = acted_kept (at_moment entry.moment s) Partners (partners_moves (at_moment entry.moment s)) entry.act h
+nothing_paired : (config : Configuration) → ArePaired (empty config)
+nothing_paired config = record {
+  ties = nothing_named config;
+  zero = nothing_held Chan (config.settings.max_sessions + 1) 0;
+}
 
-run_agrees : (s : Switch) (entries : List Entry) → Ties partner_of s.channels → Ties partner_of (run_from s entries).channels
+step_agrees : (s : Switch) (entry : Entry) → ArePaired s → ArePaired (step s entry).state
+unfolding step
+step_agrees s entry h =
+    let now : Switch = at_moment entry.moment s in
+    let acted : ArePaired (act_done entry.act now).state =
+    acted_kept now Partners (partners_moves now) entry.act (record { ties = h.ties; zero = h.zero }) in
+    record { ties = acted.ties; zero = acted.zero }
+
+run_agrees : (s : Switch) (entries : List Entry) → ArePaired s → ArePaired (run_from s entries)
 run_agrees s [] h = h
 run_agrees s (entry ∷ entries) h = run_agrees (step s entry).state entries (step_agrees s entry h)
 
@@ -82,7 +94,8 @@ named_back s h = record { back = λ slot other has. by_chan slot other has }
         there_as slot other (chan_at s other) refl back (h.live other slot back)
 
 pub partners_agree : (config : Configuration) (entries : List Entry) → PartnersAgree (run_from (empty config) entries)
-partners_agree config entries = named_back (run_from (empty config) entries) (run_agrees (empty config) entries (nothing_named config))
+partners_agree config entries = 
+    named_back (run_from (empty config) entries) (run_agrees (empty config) entries (nothing_paired config)).ties
 
 -- ---- legs, winners and channels
 

@@ -145,7 +145,8 @@ spared_births slot c = record {
 -- those that live stand in slots that were free, each in one of its own
 pub record GroupStands (number : ℕ) (legs : List OrigLeg) (before after : Channels) : Type 0 where
   pub new : (position : ℕ) (seat : Seat) → seat_of number (slice_get legs position) ≡ Some seat → IsNewLeg before after seat
-  pub apart : (p q : ℕ) (seat : Seat) → seat_of number (slice_get legs p) ≡ Some seat → seat_of number (slice_get legs q) ≡ Some seat → p ≡ q
+  pub apart : (p q : ℕ) (seat : Seat) → seat_of number (slice_get legs p) ≡ Some seat →
+      seat_of number (slice_get legs q) ≡ Some seat → p ≡ q
 
 no_group : (number : ℕ) (channels : Channels) → GroupStands number [] channels channels
 no_group number channels = record {

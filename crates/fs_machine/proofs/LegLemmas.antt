@@ -65,8 +65,8 @@ leg_still channels new seat leg there =
     record { at = leg.at; is = leg.is; chan = leg.chan; there = there; live = leg.live; names = leg.names }
 
 -- a leg stands where nothing was written
-pub leg_elsewhere : (channels : Channels) (slot : ℕ) (new : Option Chan) (seat : Seat) → (leg : IsLegOf channels seat) → (leg.at ≡ slot → ⊥) →
-    IsLegOf (with_held channels slot new) seat
+pub leg_elsewhere : (channels : Channels) (slot : ℕ) (new : Option Chan) (seat : Seat) → (leg : IsLegOf channels seat) →
+    (leg.at ≡ slot → ⊥) → IsLegOf (with_held channels slot new) seat
 leg_elsewhere channels slot new seat leg other =
     leg_still channels (with_held channels slot new) seat leg (held_there channels slot leg.at new other ∙ leg.there)
 
@@ -124,8 +124,8 @@ put_follows channels slot old new there same live seat leg = by (cases_eq leg.at
     by (inr other) = leg_elsewhere channels slot (Some new) seat leg other
 
 -- something comes where nothing was, or where no live channel was
-pub free_follows : (channels : Channels) (slot : ℕ) (new : Option Chan) → ((c : Chan) → held_in channels slot ≡ Some c → is_live c ≡ false) →
-    (seat : Seat) → IsLegOf channels seat → IsLegOf (with_held channels slot new) seat
+pub free_follows : (channels : Channels) (slot : ℕ) (new : Option Chan) →
+    ((c : Chan) → held_in channels slot ≡ Some c → is_live c ≡ false) → (seat : Seat) → IsLegOf channels seat → IsLegOf (with_held channels slot new) seat
 free_follows channels slot new dead seat leg =
     leg_elsewhere channels slot new seat leg
     (λ same. true≢false (sym leg.live ∙ dead leg.chan (ap (held_in channels) (sym same) ∙ leg.there)))

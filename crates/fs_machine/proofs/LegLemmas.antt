@@ -50,8 +50,7 @@ pub record IsLegOf (channels : Channels) (seat : Seat) : Type 0 where
   pub names : chan.leg_of ≡ Some seat.number
 
 -- Originations have numbers of their own that were drawn, each living leg is a live channel that names its origination, and no two legs of
--- one
--- are in one slot.
+-- one are in one slot.
 pub record LegsStand (r : Roles) : Type 0 where
   pub distinct : AreDistinct r.origs
   pub within : AreWithin r.drawn r.origs
@@ -125,7 +124,8 @@ put_follows channels slot old new there same live seat leg = by (cases_eq leg.at
 
 -- something comes where nothing was, or where no live channel was
 pub free_follows : (channels : Channels) (slot : ℕ) (new : Option Chan) →
-    ((c : Chan) → held_in channels slot ≡ Some c → is_live c ≡ false) → (seat : Seat) → IsLegOf channels seat → IsLegOf (with_held channels slot new) seat
+    ((c : Chan) → held_in channels slot ≡ Some c → is_live c ≡ false) →
+    (seat : Seat) → IsLegOf channels seat → IsLegOf (with_held channels slot new) seat
 free_follows channels slot new dead seat leg =
     leg_elsewhere channels slot new seat leg
     (λ same. true≢false (sym leg.live ∙ dead leg.chan (ap (held_in channels) (sym same) ∙ leg.there)))

@@ -388,7 +388,7 @@ legs_calls : KeptByCalls Legs
 legs_calls = record {
   touches = legs_touches;
   hung = λ named {s = s} h. hung_stand named s h;
-  joined = λ kind caller answerer c d {s = s} can one two lone alone h. joined_legs kind caller answerer s h;
+  joined = λ kind caller answerer c d {s = s} can one two lone alone first second h. joined_legs kind caller answerer s h;
   leaves = λ slot {s = s} apart h. left_legs slot s h;
   more = λ h. h;
   gone = λ slot old {s = s} there dead h few.

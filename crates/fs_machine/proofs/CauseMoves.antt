@@ -395,7 +395,7 @@ told_moves before = record {
   calls = record {
     touches = touches_told;
     hung = λ named {s = s} h. hung_told named s h;
-    joined = λ kind caller answerer c d {s = s} can there other one two h. joined_told kind caller answerer s h;
+    joined = λ kind caller answerer c d {s = s} can there other one two first second h. joined_told kind caller answerer s h;
     leaves = λ slot {s = s} lone h. left_told slot s h;
     more = λ h. h;
     gone = λ slot old there dead h. h;

@@ -94,7 +94,7 @@ named_back s h = record { back = λ slot other has. by_chan slot other has }
         there_as slot other (chan_at s other) refl back (h.live other slot back)
 
 pub partners_agree : (config : Configuration) (entries : List Entry) → PartnersAgree (run_from (empty config) entries)
-partners_agree config entries = 
+partners_agree config entries =
     named_back (run_from (empty config) entries) (run_agrees (empty config) entries (nothing_paired config)).ties
 
 -- ---- legs, winners and channels

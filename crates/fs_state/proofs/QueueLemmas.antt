@@ -105,6 +105,7 @@ room_requeued (Cleared place) queues n h = room_with place [] queues n 0 (omega 
 -- ---- how many frames a queue has at most
 
 pub within_none : (count : ℕ) → AreWithin (no_queues count) 0
+unfolding no_queues
 within_none count = record { each = All-replicate (λ queue. length queue ≤ 0) count [] (omega arith) }
 
 pub within_taken : (place : ℕ) (queues : List Frames) (most : ℕ) → AreWithin queues most →

@@ -3,8 +3,8 @@ use Rattle.std.proofs.Common.{◌≡◌, ℕ, zero, suc, ◌+◌, ◌<◌, ◌^�
 use Rattle.std.proofs.Common.{Some, option_map, option_and_then, ◌⊎◌, inl, inr, refl, sym, ap, subst, ◌∙◌, arith, true≢false}
 use Rattle.std.proofs.lemmas.Bool.{both_ways}
 use Rattle.std.proofs.lemmas.Option.{none-some, same_Some}
-use Rattle.fs_text.specs.Texts.{Text}
 use Rattle.fs_text.specs.declared.causes.Cause.TheVariants.{NormalTemporaryFailure, SwitchCongestion}
+use Rattle.fs_text.specs.Texts.{Text}
 use Rattle.fs_vars.specs.Variables.{Variables}
 use Rattle.fs_chan.specs.declared.chan.Chan.{Chan}
 use Rattle.fs_orig.specs.declared.caller.Caller.{Caller}

@@ -4,20 +4,20 @@ use Rattle.std.proofs.Common.{sym, ap, subst, ◌∙◌, true≢false, map}
 use Rattle.std.proofs.lemmas.Bool.{cases_eq, false≢true}
 use Rattle.std.proofs.lemmas.Option.{same_Some}
 use Rattle.fs_text.specs.declared.causes.Cause.TheVariants.{LoseRace}
+use Rattle.fs_bridge.specs.Closure.{Members}
 use Rattle.fs_chan.specs.declared.chan.Chan.{Chan}
 use Rattle.fs_chan.specs.Changes.{is_live, hung_up, at_rest, parked}
+use Rattle.fs_chan.specs.Bridging.{unbridged}
 use Rattle.fs_orig.specs.declared.leg.OrigLeg.{OrigLeg}
 use Rattle.fs_places.specs.Places.{held_in, with_held}
 use Rattle.fs_places.specs.Rows.{place_of}
 use Rattle.fs_places.proofs.HeldLemmas.{held_here, held_there, held_within}
 use Rattle.fs_state.specs.Switch.{Switch, chan_at, with_chan}
+use Rattle.fs_state.specs.Hangups.{after_hangups}
 use Rattle.fs_state.proofs.LegTables.{seated, seat_if, seat_of, seat_in, seat_at, row_there}
 use Rattle.fs_machine.specs.Attempts.{death_of}
 use Rattle.fs_machine.specs.Sound.{HasLeg, LegsAreChannels}
 use Rattle.fs_machine.proofs.FrontLemmas.{Lively}
-use Rattle.fs_bridge.specs.Closure.{Members}
-use Rattle.fs_chan.specs.Bridging.{unbridged}
-use Rattle.fs_state.specs.Hangups.{after_hangups}
 use Rattle.fs_machine.proofs.Kept.{raced, HasWon}
 use Rattle.fs_machine.proofs.StayLemmas.{hangup_dead, park_lives, orig_changed_channels}
 use Rattle.fs_machine.proofs.ClosureLemmas.{hangs_up}

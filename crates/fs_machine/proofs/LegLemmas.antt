@@ -7,6 +7,7 @@ use Rattle.fs_text.specs.declared.states.State.TheVariants.{CsHangup}
 use Rattle.fs_text.specs.declared.causes.Cause.{Cause}
 use Rattle.fs_chan.specs.declared.chan.Chan.{Chan}
 use Rattle.fs_chan.specs.Changes.{is_live, hung_up}
+use Rattle.fs_chan.specs.Bridging.{awaited_by}
 use Rattle.fs_orig.specs.declared.orig.Orig.{Orig}
 use Rattle.fs_orig.specs.Changes.{with_leg_answer, with_leg_death, with_answer, with_death}
 use Rattle.fs_places.specs.Places.{held_in, with_held}
@@ -19,7 +20,6 @@ use Rattle.fs_state.specs.Moves.{with_state_events, orig_changed_from, orig_chan
 use Rattle.fs_state.specs.Moves.{after_hangup_from, after_one_hangup, orig_given_up}
 use Rattle.fs_state.proofs.LegTables.{Origs, Seat, seated, seat_at, in_slot, Fewer, seat_number, answer_spares, death_spares}
 use Rattle.fs_state.proofs.LegTables.{touched_spares, changed_fewer, without_fewer, death_leaves_none}
-use Rattle.fs_chan.specs.Bridging.{awaited_by}
 use Rattle.fs_machine.proofs.StayLemmas.{state_told_kept}
 use Rattle.fs_machine.proofs.HangLemmas.{given_up_kept}
 

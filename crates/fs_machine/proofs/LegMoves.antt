@@ -3,17 +3,25 @@ use Rattle.std.proofs.Common.{◌≡◌, ℕ, ◌+◌, ◌-◌, ◌<◌, ◌^◌
 use Rattle.std.proofs.Common.{unwrap_or, ◌⊎◌, inl, inr, refl, sym, ap, subst, ◌∙◌, arith, map}
 use Rattle.std.proofs.lemmas.Bool.{cases_eq, both_ways}
 use Rattle.std.proofs.lemmas.Option.{same_Some}
-use Rattle.fs_text.specs.Texts.{Text}
 use Rattle.fs_text.specs.declared.causes.Cause.{Cause}
 use Rattle.fs_text.specs.declared.causes.Cause.TheVariants.{LoseRace, NormalTemporaryFailure}
+use Rattle.fs_text.specs.Texts.{Text}
+use Rattle.fs_text.specs.Cause.{cause_name}
+use Rattle.fs_bridge.specs.declared.row.BridgeKind.{BridgeKind}
+use Rattle.fs_bridge.specs.declared.row.BridgeKind.TheVariants.{Dial}
+use Rattle.fs_bridge.specs.Closure.{Members}
 use Rattle.fs_chan.specs.declared.chan.Chan.{Chan}
 use Rattle.fs_chan.specs.Changes.{is_live, at_rest}
+use Rattle.fs_chan.specs.Bridging.{awaiting, awaited_by, bridged, in_media, at_leisure, exported_pairs}
 use Rattle.fs_orig.specs.declared.caller.Caller.{Caller}
 use Rattle.fs_orig.specs.declared.leg.OrigLeg.{OrigLeg}
 use Rattle.fs_orig.specs.declared.orig.Orig.{Orig}
 use Rattle.fs_orig.specs.declared.plan.LegPlan.{LegPlan}
 use Rattle.fs_orig.specs.declared.winner.Winner.{Winner}
+use Rattle.fs_orig.specs.declared.orig.Owner.TheVariants as owner
+use Rattle.fs_orig.specs.declared.orig.Owner.{Owner}
 use Rattle.fs_orig.specs.Changes.{with_answer, at_next_group}
+use Rattle.fs_orig.specs.Plans.{all_behind}
 use Rattle.fs_places.specs.Places.{held_in, with_held}
 use Rattle.fs_places.specs.Rows.{has_number, without_row}
 use Rattle.fs_places.proofs.HeldLemmas.{held_here, held_there, held_within}
@@ -26,26 +34,19 @@ use Rattle.fs_state.specs.Switch.{Switch, chan_at, with_chan, next_orig_number, 
 use Rattle.fs_state.specs.Switch.{with_bridge, next_job_number}
 use Rattle.fs_state.specs.Moves.{after_move_from, orig_changed_from, orig_changed, leg_changed, with_changed_chan, after_move}
 use Rattle.fs_state.specs.Moves.{orig_given_up}
+use Rattle.fs_state.specs.Hangups.{after_hangups}
+use Rattle.fs_state.specs.Bridging.{peer_of, with_peer_from, with_peer, joined_as}
 use Rattle.fs_state.proofs.LegTables.{seated, seat_at, in_slot, seat_number, without_fewer}
 use Rattle.fs_machine.specs.Texts.{made_text, failed_text}
 use Rattle.fs_machine.specs.Connections.{conn_changed, admitted, parted, owed_since, not_owed}
 use Rattle.fs_machine.specs.Originations.{MadeGroup, group_made, won_by, after_winning}
 use Rattle.fs_machine.specs.Attempts.{first_group, orig_begun, tried_by_job, originate_begun, with_group}
 use Rattle.fs_machine.specs.Owing.{after_job_begin, after_job_end}
-use Rattle.fs_machine.proofs.FrontLemmas.{conn_unread}
-use Rattle.fs_text.specs.Cause.{cause_name}
-use Rattle.fs_bridge.specs.declared.row.BridgeKind.{BridgeKind}
-use Rattle.fs_bridge.specs.declared.row.BridgeKind.TheVariants.{Dial}
-use Rattle.fs_bridge.specs.Closure.{Members}
-use Rattle.fs_chan.specs.Bridging.{awaiting, awaited_by, bridged, in_media, at_leisure, exported_pairs}
-use Rattle.fs_orig.specs.declared.orig.Owner.TheVariants as owner
-use Rattle.fs_orig.specs.Plans.{all_behind}
-use Rattle.fs_state.specs.Hangups.{after_hangups}
-use Rattle.fs_state.specs.Bridging.{peer_of, with_peer_from, with_peer, joined_as}
 use Rattle.fs_machine.specs.Bridging.{caller_of, group_dialed, goes_on, after_going_on, bridge_failed_from, after_bridge_failure}
 use Rattle.fs_machine.specs.Bridging.{after_bridge_win, disposed}
 use Rattle.fs_machine.specs.Dialing.{tried_by_slot}
 use Rattle.fs_machine.specs.Joining.{after_leaving}
+use Rattle.fs_machine.proofs.FrontLemmas.{conn_unread}
 use Rattle.fs_machine.proofs.Kept.{Fact, Links, KeptByTouches, KeptByCalls, KeptByBirths, KeptByDials, raced, KeptByMoves}
 use Rattle.fs_machine.proofs.StayLemmas.{state_told_kept, moved_there, changed_there, orig_changed_channels}
 use Rattle.fs_machine.proofs.HangLemmas.{dies, given_up_kept, hangups_kept}
@@ -55,7 +56,6 @@ use Rattle.fs_machine.proofs.LegLemmas.{without_legs, given_up_legs, answered_le
 use Rattle.fs_machine.proofs.LegBirths.{pair_roles, pair_legs, GroupStands, group_stands, new_orig_legs, regrouped_legs}
 use Rattle.fs_machine.proofs.LegHangups.{hung_legs, winning_leg}
 use Rattle.fs_machine.proofs.WonLemmas.{bridge_won_kept}
-use Rattle.fs_orig.specs.declared.orig.Owner.{Owner}
 
 -- ---- what draws no number of an origination
 

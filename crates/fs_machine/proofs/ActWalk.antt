@@ -1,6 +1,6 @@
 -- The walk goes on: jobs, commands and all acts.
-use Rattle.std.proofs.Common.{◌≡◌, ℕ, ◌*◌, nat_lt, Bool, true, false, if◌then◌else◌, List, [], ◌∷◌, length, slice_get, Option, None, Some}
-use Rattle.std.proofs.Common.{◌++◌, Result, Ok, Err, refl, sym, ap, subst, ◌∙◌}
+use Rattle.std.proofs.Common.{◌≡◌, ℕ, ◌*◌, nat_lt, Bool, true, false, if◌then◌else◌, [], ◌∷◌, length, Option, None, Some}
+use Rattle.std.proofs.Common.{◌++◌, Result, Ok, Err, refl}
 use Rattle.std.specs.Prelude.{◌&&◌, map}
 use Rattle.std.specs.Option.{option_or}
 use Rattle.std.specs.Str.{bytes_eq}
@@ -19,13 +19,9 @@ use Rattle.fs_chan.specs.Moments.{moment_after}
 use Rattle.fs_dial.specs.declared.fault.DialFault.{DialFault}
 use Rattle.fs_dial.specs.DialStrings.{Dial, dial_string}
 use Rattle.fs_orig.specs.declared.caller.Caller.{Caller}
-use Rattle.fs_orig.specs.declared.leg.OrigLeg.{OrigLeg}
-use Rattle.fs_orig.specs.declared.plan.LegPlan.{LegPlan}
-use Rattle.fs_orig.specs.declared.orig.Orig.{Orig}
 use Rattle.fs_orig.specs.declared.winner.Winner.{Winner}
 use Rattle.fs_orig.specs.Plans.{plans_of}
 use Rattle.fs_orig.specs.Timeouts.{braces_timeout}
-use Rattle.fs_orig.specs.Verdicts.{next_group}
 use Rattle.fs_state.specs.declared.conn.Phase.{Phase}
 use Rattle.fs_state.specs.declared.conn.Phase.TheVariants as phase
 use Rattle.fs_state.specs.declared.conn.Parting.{Parting}
@@ -35,13 +31,12 @@ use Rattle.fs_state.specs.declared.job.JobWork.{JobWork}
 use Rattle.fs_state.specs.declared.job.JobWork.TheVariants as work
 use Rattle.fs_bridge.specs.declared.row.BridgeKind.TheVariants.{Joined}
 use Rattle.fs_bridge.specs.Closure.{Members}
-use Rattle.fs_chan.specs.declared.chan.Chan.{Chan}
 use Rattle.fs_text.specs.declared.causes.Cause.TheVariants.{OriginatorCancel}
 use Rattle.fs_text.specs.declared.states.State.TheVariants.{CsExchangeMedia}
 use Rattle.fs_chan.specs.Changes.{in_state}
-use Rattle.fs_state.specs.Switch.{Switch, chan_at, bridge_at, orig_of, job_of, slot_named, is_full_of_jobs}
+use Rattle.fs_state.specs.Switch.{Switch, job_of, slot_named, is_full_of_jobs}
 use Rattle.fs_state.specs.Moves.{after_move}
-use Rattle.fs_state.specs.Hangups.{after_hangups, after_hangups_for, legs_at, lives_at}
+use Rattle.fs_state.specs.Hangups.{after_hangups, legs_at, lives_at}
 use Rattle.fs_state.specs.Bridging.{can_join, joined_as, after_join}
 use Rattle.fs_machine.specs.declared.entry.Act.{Act}
 use Rattle.fs_machine.specs.declared.entry.Act.TheVariants as act
@@ -50,7 +45,7 @@ use Rattle.fs_machine.specs.declared.entry.Closing.TheVariants as closing
 use Rattle.fs_machine.specs.declared.attempts.Party.TheVariants as party
 use Rattle.fs_machine.specs.Texts.{ok, too_many_jobs, made_text, no_channel}
 use Rattle.fs_machine.specs.Connections.{phase_at, conn_changed, admitted}
-use Rattle.fs_machine.specs.Attempts.{failed_for, won_for, group_for, with_group, after_verdict_on}
+use Rattle.fs_machine.specs.Attempts.{after_verdict_on}
 use Rattle.fs_machine.specs.Jobs.{sleep_begun, after_job_work, job_done_from, job_done}
 use Rattle.fs_machine.specs.Done.{Done, says, no_answer_yet}
 use Rattle.fs_machine.specs.Joining.{in_the_way, after_leaving, both_left, both_in_media, joined_done, bridged_unless, bridge_done_at}
@@ -59,7 +54,7 @@ use Rattle.fs_machine.specs.Api.{kill_done, msleep_done, dialled, originate_done
 use Rattle.fs_machine.specs.Api.{done_by}
 use Rattle.fs_machine.specs.Commands.{with_reply, after_dismissal, after_password, with_response_of, command_done_in, command_done}
 use Rattle.fs_machine.specs.Step.{after_close, act_done}
-use Rattle.fs_machine.proofs.Kept.{Fact, Stays, KeptByCalls, DoesJob, raced, HasWon, KeptByJobs, KeptByDials, LeavesBy, IsShortWinner}
+use Rattle.fs_machine.proofs.Kept.{Fact, KeptByCalls, DoesJob, KeptByJobs, KeptByDials, LeavesBy, IsShortWinner}
 use Rattle.fs_machine.proofs.Kept.{KeptByCommands, KeptByMoves}
 use Rattle.fs_machine.proofs.ShortLemmas.{NamesShort, api_short, expanded_short}
 use Rattle.fs_machine.proofs.DialLemmas.{dialled_groups}

@@ -1,13 +1,11 @@
 -- Who is hung up together: a loopback channel and its other end, and nobody who is not live.
-use Rattle.std.proofs.Common.{◌≡◌, ℕ, ◌==◌, ◌-◌, ◌≤◌, ◌<◌, Bool, true, false, if◌then◌else◌, List, [], ◌∷◌, ◌++◌, length, map, Option, None, Some}
-use Rattle.std.proofs.Common.{option_and_then, option_map, option_to_list, filter_map, ◌⊎◌, inl, inr, refl, sym, ap, subst, ◌∙◌, arith, true≢false}
+use Rattle.std.proofs.Common.{◌≡◌, ℕ, ◌==◌, ◌<◌, Bool, true, false, [], ◌∷◌, ◌++◌, length, Option, None, Some}
+use Rattle.std.proofs.Common.{option_map, option_to_list, filter_map, inl, inr, refl, sym, ap, subst, ◌∙◌, arith}
 use Rattle.std.proofs.lemmas.Bool.{eqb-true, or_cases, false≢true}
-use Rattle.std.proofs.lemmas.Cmp.{nat_eq_equiv}
 use Rattle.std.proofs.lemmas.List.Elements.{filter_passes}
-use Rattle.fs_text.specs.declared.causes.Cause.{Cause}
-use Rattle.fs_bridge.specs.Closure.{Member, Members, by_partner, by_origination, by_peer, drags, left_by, survivor_of, members_of, closure_of}
+use Rattle.fs_bridge.specs.Closure.{Member, Members, by_partner, by_origination, by_peer, left_by, survivor_of, members_of, closure_of}
 use Rattle.fs_bridge.specs.Hangups.{IsOneOf}
-use Rattle.fs_bridge.specs.Orders.{has_slot, in_order}
+use Rattle.fs_bridge.specs.Orders.{has_slot}
 use Rattle.fs_bridge.specs.Worlds.{World, IsSlot}
 use Rattle.fs_bridge.specs.declared.after.After.{After}
 use Rattle.fs_bridge.proofs.DragLemmas.{one_front, one_in_order}
@@ -15,7 +13,6 @@ use Rattle.fs_bridge.proofs.OnceLemmas.{has_order}
 use Rattle.fs_bridge.proofs.SurvivorLemmas.{IsTold, one_told, left_case}
 use Rattle.fs_bridge.proofs.SettledLemmas.{AreSlots, dragged_hang_up, all_members_live}
 use Rattle.fs_chan.specs.declared.chan.Chan.{Chan}
-use Rattle.fs_places.specs.Places.{held_in}
 use Rattle.fs_places.proofs.HeldLemmas.{held_within}
 use Rattle.fs_state.specs.Switch.{Switch, chan_at}
 use Rattle.fs_state.specs.Hangups.{lives, lives_at, world_of, living_of}

@@ -1,7 +1,6 @@
 -- What happens to connections, jobs and originations leaves channels as they are, and all that channels see.
-use Rattle.std.proofs.Common.{◌≡◌, ℕ, Bool, true, false, if◌then◌else◌, List, [], ◌∷◌, Option, None, Some, unwrap_or, option_and_then, ◌⊎◌}
-use Rattle.std.proofs.Common.{inl, inr, refl, sym, ap, subst, ◌∙◌}
-use Rattle.std.specs.Prelude.{codes}
+use Rattle.std.proofs.Common.{◌≡◌, ℕ, Bool, true, false, List, [], ◌∷◌, Option, None, Some, unwrap_or, option_and_then, ◌⊎◌}
+use Rattle.std.proofs.Common.{inl, inr, refl, sym, ap, ◌∙◌}
 use Rattle.std.proofs.lemmas.Bool.{cases_eq}
 use Rattle.std.proofs.lemmas.Option.{same_Some}
 use Rattle.fs_text.specs.Texts.{Text}
@@ -39,7 +38,7 @@ use Rattle.fs_state.specs.Counts.{Tallies}
 use Rattle.fs_state.specs.Switch.{Switch, chan_at, with_chan, with_bridge, next_bridge_number, conn_of, orig_of, next_orig_number}
 use Rattle.fs_state.specs.Switch.{next_job_number, with_new_job, without_job, without_orig, with_event}
 use Rattle.fs_state.specs.Moves.{plain_event, with_changed_chan, after_move, orig_changed_from, orig_changed, leg_changed, is_owner}
-use Rattle.fs_state.specs.Moves.{given_up_by, orig_given_up, after_answer}
+use Rattle.fs_state.specs.Moves.{given_up_by, orig_given_up}
 use Rattle.fs_state.specs.Hangups.{lives, lives_at, after_hangups}
 use Rattle.fs_state.specs.Bridging.{bridge_event, peer_of, with_peer_from, with_peer, joined_as}
 use Rattle.fs_machine.specs.Texts.{made_text, failed_text}
@@ -53,8 +52,8 @@ use Rattle.fs_machine.specs.Dialing.{tried_by_slot}
 use Rattle.fs_machine.specs.Joining.{after_leaving}
 use Rattle.fs_machine.proofs.Kept.{Stage, Fact, Links, Remains, Stays, KeptByTouches, KeptByCalls, KeptByBirths, DoesJob, KeptByDials, raced}
 use Rattle.fs_machine.proofs.Kept.{HasWon, KeptByMoves}
-use Rattle.fs_machine.proofs.StayLemmas.{moved_there, changed_there, orig_changed_channels}
-use Rattle.fs_machine.proofs.Walk.{answered_kept, disposed_kept, group_made_kept}
+use Rattle.fs_machine.proofs.StayLemmas.{moved_there, changed_there}
+use Rattle.fs_machine.proofs.Walk.{disposed_kept, group_made_kept}
 use Rattle.fs_machine.proofs.RestLemmas.{whichever}
 use Rattle.fs_machine.proofs.WonLemmas.{answerer_lives, bridge_won_kept}
 

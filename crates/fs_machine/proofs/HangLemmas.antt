@@ -1,5 +1,5 @@
 -- What a hangup comes to, step by step: a fact is kept that bears each single step.
-use Rattle.std.proofs.Common.{◌≡◌, ℕ, Bool, true, false, if◌then◌else◌, List, [], ◌∷◌, Option, None, Some, ◌⊎◌, inl, inr, refl, sym, ap, ◌∙◌}
+use Rattle.std.proofs.Common.{◌≡◌, ℕ, Bool, true, false, if◌then◌else◌, List, [], ◌∷◌, Option, None, Some, inl, inr, refl, sym, ap, ◌∙◌}
 use Rattle.std.specs.List.{find}
 use Rattle.fs_text.specs.declared.states.State.TheVariants.{CsHangup}
 use Rattle.fs_text.specs.declared.causes.Cause.{Cause}
@@ -17,7 +17,7 @@ use Rattle.fs_orig.specs.declared.orig.Orig.{Orig}
 use Rattle.fs_orig.specs.Changes.{with_death}
 use Rattle.fs_state.specs.declared.event.Event.{Event}
 use Rattle.fs_state.specs.Switch.{Switch, chan_at, with_chan, without_bridge, orig_of, without_orig, with_event}
-use Rattle.fs_state.specs.Moves.{plain_event, with_state_events, with_changed_chan, after_move, after_completion, orig_changed, leg_changed}
+use Rattle.fs_state.specs.Moves.{plain_event, with_state_events, with_changed_chan, after_move, orig_changed, leg_changed}
 use Rattle.fs_state.specs.Moves.{is_owner, its_leg_changed, hangup_event, given_up_by, orig_given_up, after_hangup_from, after_one_hangup}
 use Rattle.fs_state.specs.Hangups.{lives, lives_at, world_of, Ended, after_end, after_ends, unbridge_event, is_leg_of, with_end_told, untold_by, after_member}
 use Rattle.fs_state.specs.Hangups.{after_members, after_outliving, after_survival, after_survivals, after_closure, living_of, after_hangups}

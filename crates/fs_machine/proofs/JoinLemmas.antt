@@ -1,11 +1,10 @@
 -- Two channels that are to be joined by a command: nothing stands in the way, they leave what they were in, and come into media.
 use Rattle.std.proofs.Common.{◌≡◌, ℕ, ◌==◌, Bool, true, false, not, ◌&&◌, ◌||◌, if◌then◌else◌, List, [], ◌∷◌, filter, Option, None, Some}
-use Rattle.std.proofs.Common.{is_none, is_some, option_and_then, ◌⊎◌, inl, inr, refl, sym, ap, subst, ◌∙◌, true≢false}
+use Rattle.std.proofs.Common.{is_none, is_some, option_and_then, ◌⊎◌, inl, inr, refl, sym, ap, ◌∙◌, true≢false}
 use Rattle.std.specs.List.{find}
 use Rattle.std.proofs.lemmas.Bool.{cases_eq, false≢true}
 use Rattle.std.proofs.lemmas.Option.{none-some, same_Some}
 use Rattle.fs_text.specs.Texts.{Text}
-use Rattle.fs_text.specs.declared.causes.Cause.{Cause}
 use Rattle.fs_text.specs.declared.states.State.{State}
 use Rattle.fs_text.specs.declared.states.State.TheVariants.{CsPark, CsExchangeMedia}
 use Rattle.fs_bridge.specs.declared.row.Row.{Row}
@@ -18,8 +17,8 @@ use Rattle.fs_chan.specs.Changes.{is_live, in_state, wait_at_rest}
 use Rattle.fs_orig.specs.declared.orig.Orig.{Orig}
 use Rattle.fs_places.specs.Places.{held_in, with_held}
 use Rattle.fs_places.proofs.HeldLemmas.{held_here, held_there, held_within}
-use Rattle.fs_state.specs.Switch.{Switch, chan_at, with_chan, bridge_at, with_bridge, without_bridge, orig_of, without_orig}
-use Rattle.fs_state.specs.Moves.{with_changed_chan_from, with_changed_chan, after_move, orig_changed_from, orig_changed, given_up_by, orig_given_up, is_owner}
+use Rattle.fs_state.specs.Switch.{Switch, chan_at, with_chan, bridge_at, with_bridge, without_bridge, orig_of}
+use Rattle.fs_state.specs.Moves.{with_changed_chan_from, after_move, orig_changed_from, orig_changed, orig_given_up}
 use Rattle.fs_state.specs.Hangups.{after_hangups, lives, lives_at}
 use Rattle.fs_state.specs.Bridging.{can_join, peer_of, with_peer_from, with_peer, joined_as, after_join}
 use Rattle.fs_machine.specs.Joining.{is_early, is_ready, is_answered, in_the_way, after_leaving}

@@ -1,6 +1,6 @@
 -- What channels do that others do not see, and what is told of it.
 use Rattle.std.proofs.Common.{◌≡◌, ℕ, ◌==◌, nat_lt, Bool, true, false, if◌then◌else◌, List, [], ◌∷◌, Option, None, Some, ◌⊎◌, inl, inr}
-use Rattle.std.proofs.Common.{option_and_then, is_none, refl, sym, ap, subst, ◌∙◌, true≢false}
+use Rattle.std.proofs.Common.{is_none, refl, sym, ap, subst, ◌∙◌, true≢false}
 use Rattle.std.specs.Prelude.{is_some}
 use Rattle.std.proofs.lemmas.Bool.{cases_eq}
 use Rattle.fs_text.specs.declared.states.State.{State}
@@ -13,7 +13,7 @@ use Rattle.fs_chan.specs.declared.chan.Chan.{Chan}
 use Rattle.fs_chan.specs.declared.peer.Direction.{Direction}
 use Rattle.fs_chan.specs.declared.peer.Direction.TheVariants.{Inbound, Outbound}
 use Rattle.fs_chan.specs.declared.wait.Wait.{Wait}
-use Rattle.fs_chan.specs.declared.wait.Wait.TheVariants.{Ready, Sleep, Parked, Socket, Bridged}
+use Rattle.fs_chan.specs.declared.wait.Wait.TheVariants.{Ready, Bridged}
 use Rattle.fs_chan.specs.Changes.{is_live, with_answer_place, wait_at_rest, HasShortFields}
 use Rattle.fs_chan.specs.Bridging.{with_disposition}
 use Rattle.fs_chan.specs.Work as chan

@@ -1,11 +1,9 @@
 -- The one walk through what channels do: a fact that bears each of their moves is kept by all that they do.
-use Rattle.std.proofs.Common.{◌≡◌, ℕ, ◌+◌, ◌==◌, nat_lt, Bool, true, false, if◌then◌else◌, List, [], ◌∷◌, length, Option, None, Some}
+use Rattle.std.proofs.Common.{◌≡◌, ℕ, ◌+◌, ◌==◌, Bool, true, false, if◌then◌else◌, List, [], ◌∷◌, length, Option, None, Some}
 use Rattle.std.proofs.Common.{option_map, option_and_then, is_none, Result, Ok, Err, IsSome, slice_get, unwrap_or, refl, sym, ap, subst, ◌∙◌}
 use Rattle.std.proofs.Common.{true≢false}
-use Rattle.std.specs.Prelude.{is_some}
 use Rattle.fs_text.specs.declared.states.State.{State}
 use Rattle.fs_text.specs.declared.states.State.TheVariants.{CsNew, CsInit, CsRouting, CsExecute, CsPark, CsHangup, CsReporting}
-use Rattle.fs_text.specs.State.{state_number}
 use Rattle.fs_text.specs.Texts.{Text}
 use Rattle.fs_text.specs.Cause.{cause_name}
 use Rattle.fs_text.specs.declared.causes.Cause.{Cause}
@@ -44,12 +42,10 @@ use Rattle.fs_orig.specs.Endpoints as endpoints
 use Rattle.fs_orig.specs.Endpoints.{endpoint_of}
 use Rattle.fs_orig.specs.Plans.{all_behind, plans_of}
 use Rattle.fs_orig.specs.Verdicts.{next_group}
-use Rattle.fs_places.specs.Places.{held_in}
 use Rattle.fs_places.proofs.HeldLemmas.{free_place}
 use Rattle.fs_plan.specs.declared.hunt.Hunt.{Hunt}
-use Rattle.fs_state.specs.declared.event.Event.{Event}
-use Rattle.fs_state.specs.Switch.{Switch, chan_at, with_chan, free_slot, orig_of, without_orig, with_event}
-use Rattle.fs_state.specs.Moves.{plain_event, with_state_events, after_move_from, after_move, with_changed_chan, after_begin, with_running}
+use Rattle.fs_state.specs.Switch.{Switch, chan_at, free_slot, orig_of, without_orig}
+use Rattle.fs_state.specs.Moves.{plain_event, after_move, with_changed_chan, with_running}
 use Rattle.fs_state.specs.Moves.{run_on, after_completion, its_leg_changed, after_answer_from, after_one_answer, partner_at, for_slot}
 use Rattle.fs_state.specs.Moves.{after_answer, after_report, after_destroy}
 use Rattle.fs_state.specs.Hangups.{after_hangup}
@@ -66,10 +62,10 @@ use Rattle.fs_machine.specs.Originations.{Made, made_dead, made_in, with_second,
 use Rattle.fs_machine.specs.Originations.{no_variables, own_uuid, call_with, is_misnamed, made_with, made_of, leg_made, group_made}
 use Rattle.fs_machine.proofs.DialLemmas.{dialled_groups}
 use Rattle.fs_machine.proofs.ShortLemmas.{sent_short, application_short, endpoint_short}
-use Rattle.fs_machine.proofs.Kept.{Stage, Fact, hold_in, is_idle, IsApt, Stays, KeptByTouches, KeptByCalls, KeptByBirths, ArePlans, IsAtWork, KeptByDials, raced, HasWon}
-use Rattle.fs_machine.proofs.StayLemmas.{Lives, new_lives, init_lives, routing_lives, execute_lives, park_lives, first_lives, reporting_dead, live_by}
-use Rattle.fs_machine.proofs.StayLemmas.{work_stays, rest_links, AllQuiet, quiet_stays, quiet_works, after_next_quiet, running_quiet}
-use Rattle.fs_machine.proofs.StayLemmas.{variables_quiet, assignment_quiet, answer_quiet, disposition_quiet, WorksAt, is_at_work, state_told_kept}
+use Rattle.fs_machine.proofs.Kept.{Stage, Fact, hold_in, is_idle, Stays, KeptByTouches, KeptByCalls, KeptByBirths, IsAtWork, KeptByDials, raced, HasWon}
+use Rattle.fs_machine.proofs.StayLemmas.{new_lives, init_lives, routing_lives, execute_lives, park_lives, first_lives, reporting_dead, live_by}
+use Rattle.fs_machine.proofs.StayLemmas.{work_stays, rest_links, AllQuiet, quiet_stays, after_next_quiet, running_quiet}
+use Rattle.fs_machine.proofs.StayLemmas.{variables_quiet, assignment_quiet, answer_quiet, disposition_quiet, WorksAt, is_at_work}
 use Rattle.fs_machine.proofs.StayLemmas.{moved_there, changed_there, moved_works, changed_works, answered_works, hangup_dead}
 use Rattle.fs_machine.proofs.TryWalk.{verdict_kept}
 

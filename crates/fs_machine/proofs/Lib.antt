@@ -25,6 +25,8 @@ pub mod ConcernLemmas
 pub mod HereLemmas
 pub mod EventLemmas
 pub mod RefusalLemmas
+pub mod OwedTables
+pub mod OwedLosses
 pub mod OwedBooks
 pub mod OwedLemmas
 pub mod OwedJobs

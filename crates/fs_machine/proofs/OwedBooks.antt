@@ -1,9 +1,9 @@
 -- What is known of connections, of the jobs that owe them replies, and of the originations that these try.
-use Rattle.std.proofs.Common.{◌≡◌, ◌≢◌, ℕ, ◌+◌, ◌*◌, ◌^◌, ◌<◌, ◌≤◌, List, length, Option, None, Some, ap}
+use Rattle.std.proofs.Common.{◌≡◌, ◌≢◌, ℕ, ◌+◌, ◌*◌, ◌^◌, ◌<◌, ◌≤◌, List, length, Option, None, Some, ap, ◌∙◌}
 use Rattle.std.specs.List.{sum_by}
 use Rattle.fs_places.specs.declared.numbered.Numbered.{Numbered}
 use Rattle.fs_places.specs.Places.{held_in}
-use Rattle.fs_places.proofs.TableLemmas.{numbers_in, one_if, taken_in}
+use Rattle.fs_places.proofs.TableLemmas.{one_if, taken_in}
 use Rattle.fs_places.proofs.NumberLemmas.{Numbers}
 use Rattle.fs_state.specs.declared.conn.Conn.{Conn}
 use Rattle.fs_state.specs.declared.job.Job.{Job}
@@ -12,6 +12,8 @@ use Rattle.fs_state.specs.declared.job.JobWork.TheVariants.{Sleep, Originate}
 use Rattle.fs_state.specs.Switch.{Switch}
 use Rattle.fs_machine.specs.Owed.{Parts}
 use Rattle.fs_machine.proofs.RestLemmas.{Rest, rest_of}
+use Rattle.fs_machine.proofs.OwedTables.{by_job, by_slot, owned_in}
+use Rattle.fs_machine.proofs.OwedLosses.{Loses}
 
 abbrev pub Conns : Type 0
 Conns = List (Option (Numbered Conn))
@@ -19,7 +21,7 @@ Conns = List (Option (Numbered Conn))
 abbrev pub Jobs : Type 0
 Jobs = List (Option (Numbered Job))
 
--- what of a switch the replies that are owed depend on; of originations that is their numbers alone
+-- what of a switch the replies that are owed depend on; of originations that is the numbers of those that jobs own
 pub record Books : Type 0 where
   pub conns : Conns
   pub jobs : Jobs
@@ -30,33 +32,35 @@ pub record Books : Type 0 where
   pub cost : ℕ
   pub limit : ℕ
 
-abbrev pub books_of : Switch → Books
-books_of s = record {
-  conns = s.conns;
-  jobs = s.jobs;
-  origs = numbers_in s.origs;
-  conns_drawn = s.drawn.conns;
-  jobs_drawn = s.drawn.jobs;
-  origs_drawn = s.drawn.origs;
-  cost = s.cost;
-  limit = s.config.settings.journal_limit;
+abbrev pub books_with : Rest → List (Option ℕ) → ℕ → Books
+books_with r origs drawn = record {
+  conns = r.conns;
+  jobs = r.jobs;
+  origs = origs;
+  conns_drawn = r.conns_drawn;
+  jobs_drawn = r.jobs_drawn;
+  origs_drawn = drawn;
+  cost = r.cost;
+  limit = r.config.settings.journal_limit;
 }
 
--- the rest of a switch tells them
-pub books_same : (s t : Switch) → rest_of t ≡ rest_of s → books_of t ≡ books_of s
-books_same s t same = ap books_in same
-  where
-    books_in : Rest → Books
-    books_in r = record {
-      conns = r.conns;
-      jobs = r.jobs;
-      origs = r.origs;
-      conns_drawn = r.conns_drawn;
-      jobs_drawn = r.jobs_drawn;
-      origs_drawn = r.origs_drawn;
-      cost = r.cost;
-      limit = r.config.settings.journal_limit;
-    }
+abbrev pub books_of : Switch → Books
+books_of s = books_with (rest_of s) (owned_in by_job s.origs) s.drawn.origs
+
+-- they tell of the rest, and of what jobs own
+pub books_same : (s t : Switch) → rest_of t ≡ rest_of s → owned_in by_job t.origs ≡ owned_in by_job s.origs →
+    books_of t ≡ books_with (rest_of s) (owned_in by_job s.origs) t.drawn.origs
+books_same s t rest jobs =
+    ap (λ (r : Rest). books_with r (owned_in by_job t.origs) t.drawn.origs) rest
+    ∙ ap (λ (origs : List (Option ℕ)). books_with (rest_of s) origs t.drawn.origs) jobs
+
+pub books_lose : (s t : Switch) → Loses s t → books_of t ≡ books_of s
+books_lose s t h =
+    books_same s t h.rest h.jobs ∙ ap (λ (drawn : ℕ). books_with (rest_of s) (owned_in by_job s.origs) drawn) h.drawn
+
+-- no more originations are owned by slots than there are slots
+abbrev pub SlotsAreFew : Switch → Type 0
+SlotsAreFew s = taken_in (owned_in by_slot s.origs) ≤ 256
 
 -- ---- connections
 
@@ -104,8 +108,8 @@ trying_in jobs = sum_by tries jobs
 abbrev pub HasNumber : List (Option ℕ) → ℕ → Type 0
 HasNumber origs number = (p : ℕ) × (held_in origs p ≡ Some number)
 
--- what a job tries is there, is tried by no other job, and has a number that was drawn; there is no more than is tried, so there is always
--- a place for one more
+-- what a job tries is there and is owned by a job, is tried by no other job, and has a number that was drawn; jobs own no more than is tried,
+-- so there is always a place for one more
 pub record Tries (jobs : Jobs) (origs : List (Option ℕ)) (drawn : ℕ) : Type 0 where
   pub there : (q : ℕ) (job : Numbered Job) (number : ℕ) → held_in jobs q ≡ Some job → tried_by job.held.work ≡ Some number →
       HasNumber origs number

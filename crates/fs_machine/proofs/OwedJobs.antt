@@ -1,7 +1,7 @@
 -- Changes of connections, and jobs that begin and end, in a switch.
 use Rattle.std.proofs.Common.{◌≡◌, ◌≢◌, ℕ, ◌+◌, ◌-◌, ◌^◌, ◌<◌, ◌≤◌, min, List, length, Option, None, Some, unwrap_or, refl, sym, ap, subst}
-use Rattle.std.proofs.Common.{◌∙◌, arith}
-use Rattle.std.proofs.lemmas.List.{length-map}
+use Rattle.std.proofs.Common.{◌∙◌, arith, []}
+use Rattle.std.proofs.lemmas.List.{length-map, length-set}
 use Rattle.fs_text.specs.Texts.{Text}
 use Rattle.fs_chan.specs.Moments.{moment_after}
 use Rattle.fs_orig.specs.declared.caller.Caller.{Caller}
@@ -14,9 +14,8 @@ use Rattle.fs_places.specs.declared.numbered.Numbered.{Numbered}
 use Rattle.fs_places.specs.Places.{held_in, with_held, least_free}
 use Rattle.fs_places.specs.Rows.{place_of, row_of, with_held_at, with_new_row, without_row}
 use Rattle.fs_places.proofs.RowLemmas.{free_least}
-use Rattle.fs_places.proofs.TableLemmas.{something_there, IsRow, HasRow, row_found, no_row, row_written, row_removed, row_added, numbers_in}
-use Rattle.fs_places.proofs.TableLemmas.{numbers_held, number_at, number_there, row_of_number, numbers_removed, numbers_added, taken_in}
-use Rattle.fs_places.proofs.TableLemmas.{full_taken, taken_numbers}
+use Rattle.fs_places.proofs.TableLemmas.{something_there, IsRow, HasRow, row_found, no_row, row_written, row_removed, row_added, taken_in}
+use Rattle.fs_places.proofs.TableLemmas.{full_taken, row_of_held}
 use Rattle.fs_state.specs.declared.conn.Conn.{Conn}
 use Rattle.fs_state.specs.declared.job.Job.{Job}
 use Rattle.fs_state.specs.declared.job.JobWork.{JobWork}
@@ -30,11 +29,18 @@ use Rattle.fs_machine.specs.Owing.{after_job_begin, after_job_end}
 use Rattle.fs_machine.specs.Step.{new_conn, arrived}
 use Rattle.fs_machine.specs.Owed.{Parts}
 use Rattle.fs_machine.proofs.OwedBooks.{Conns, Jobs, Books, books_of, books_same, PartEach, Linked, HasNumber, tried_by, trying_in, Tries}
-use Rattle.fs_machine.proofs.OwedBooks.{Sound, Near, Goes, Few}
+use Rattle.fs_machine.proofs.OwedBooks.{Sound, Near, Goes, Few, tries, books_with, books_lose, SlotsAreFew}
 use Rattle.fs_machine.proofs.Kept.{DoesJob}
-use Rattle.fs_machine.proofs.RestLemmas.{group_made_rest}
+use Rattle.fs_machine.proofs.RestLemmas.{rest_of}
 use Rattle.fs_machine.proofs.OwedLemmas.{linked_changed, linked_gone, linked_come, linked_more, linked_begun, linked_ended, linked_dropped}
-use Rattle.fs_machine.proofs.OwedLemmas.{tries_slept, tries_begun, tries_woken, tries_ended, trying_most}
+use Rattle.fs_machine.proofs.OwedLemmas.{tries_slept, tries_begun, tries_woken, tries_ended, trying_most, trying_begun}
+use Rattle.std.proofs.lemmas.Option.{none-some, same_Some}
+use Rattle.fs_orig.specs.declared.orig.Owner.{Owner}
+use Rattle.fs_orig.specs.declared.winner.Winner.TheVariants.{App}
+use Rattle.fs_places.proofs.NumberLemmas.{Numbers}
+use Rattle.fs_state.proofs.LegTables.{Origs}
+use Rattle.fs_machine.proofs.OwedTables.{by_job, by_slot, owned_at, owned_in, owned_held, owned_added, owned_removed, taken_apart}
+use Rattle.fs_machine.proofs.OwedLosses.{Loses, group_loses}
 
 -- ---- nothing of it changes
 
@@ -139,7 +145,7 @@ job_for number conn work = record { number = number; held = record { conn = conn
 goes_owing : (b : Books) (u : Switch) (conn : ℕ) (work : JobWork) (c : Conn) (q : ℕ) → conn_of u conn ≡ Some c → c.owed ≡ None →
     least_free u.jobs 0 ≡ Some q →
     u.drawn.jobs < 2 ^ 30 → u.drawn.jobs ≡ b.jobs_drawn → Linked u.conns u.jobs u.drawn.conns u.drawn.jobs →
-    Tries (with_held u.jobs q (Some (job_for (next_job_number u) conn work))) (numbers_in u.origs) u.drawn.origs → Near b (books_of u) →
+    Tries (with_held u.jobs q (Some (job_for (next_job_number u) conn work))) (owned_in by_job u.origs) u.drawn.origs → Near b (books_of u) →
     Goes b (books_of (after_job_begin conn work u))
 goes_owing b u conn work c q is none is_free few same_jobs linked tries near =
     let found = row_found u.conns conn c is in
@@ -180,46 +186,59 @@ pub goes_sleep : (s : Switch) (conn until : ℕ) (c : Conn) (q : ℕ) → conn_o
 goes_sleep s conn until c q is none is_free few h =
     let free = free_least s.jobs q is_free in
     goes_owing (books_of s) s conn (Sleep until) c q is none is_free few.jobs refl h.linked
-    (tries_slept s.jobs (numbers_in s.origs) s.drawn.origs q (job_for (next_job_number s) conn (Sleep until)) free.1 free.0 refl h.tries)
+    (tries_slept s.jobs (owned_in by_job s.origs) s.drawn.origs q (job_for (next_job_number s) conn (Sleep until)) free.1 free.0 refl h.tries)
     (near_self (books_of s))
 
 -- ---- an origination begins
 
--- a place for one more is always free
-orig_place : (jobs : Jobs) (origs : List (Option (Numbered Orig))) (drawn : ℕ) → Tries jobs (numbers_in origs) drawn →
-    least_free origs 0 ≢ None
-orig_place jobs origs drawn h none =
+-- where a place for a job is free, fewer jobs try something than there are places
+trying_fewer : (jobs : Jobs) (q : ℕ) → least_free jobs 0 ≡ Some q → trying_in jobs + 1 ≤ length jobs
+trying_fewer jobs q is_free =
+    let free = free_least jobs q is_free in
+    let job : Numbered Job = job_for 0 0 (Originate 0 (App [] []) (record { name = []; number = [] })) in
+    let more : trying_in (with_held jobs q (Some job)) ≡ trying_in jobs + tries (Some job) = trying_begun jobs q job free.1 free.0 in
+    let one : tries (Some job) ≡ 1 = refl in
+    let most : trying_in (with_held jobs q (Some job)) ≤ length (with_held jobs q (Some job)) = trying_most (with_held jobs q (Some job)) in
+    let same : length (with_held jobs q (Some job)) ≡ length jobs = length-set jobs q (Some job) in
+    omega (arith, more, one, most, same)
+
+-- a place for one more is free: 1,023 jobs at most try one, and 256 slots own one
+orig_place : (jobs : Jobs) (origs : Origs) (drawn q : ℕ) → Tries jobs (owned_in by_job origs) drawn →
+    taken_in (owned_in by_slot origs) ≤ 256 → least_free jobs 0 ≡ Some q → least_free origs 0 ≢ None
+orig_place jobs origs drawn q h slots is_free none =
     let all : taken_in origs ≡ length origs = full_taken origs none in
-    let same : taken_in (numbers_in origs) ≡ taken_in origs = taken_numbers origs in
-    let fewer : taken_in (numbers_in origs) ≤ trying_in jobs = h.fewer in
-    let most : trying_in jobs ≤ length jobs = trying_most jobs in
+    let apart : taken_in origs ≡ taken_in (owned_in by_job origs) + taken_in (owned_in by_slot origs) = taken_apart origs in
+    let fewer : taken_in (owned_in by_job origs) ≤ trying_in jobs = h.fewer in
+    let most : trying_in jobs + 1 ≤ length jobs = trying_fewer jobs q is_free in
     let job_places : length jobs ≡ 1024 = h.job_places in
-    let orig_places : length (numbers_in origs) ≡ 1280 = h.orig_places in
-    let lengths : length (numbers_in origs) ≡ length origs = length-map origs number_at in
-    omega (arith, all, same, fewer, most, job_places, orig_places, lengths)
+    let orig_places : length (owned_in by_job origs) ≡ 1280 = h.orig_places in
+    let lengths : length (owned_in by_job origs) ≡ length origs = length-map origs (owned_at by_job) in
+    omega (arith, all, apart, fewer, slots, most, job_places, orig_places, lengths)
 
 -- at that place it is there, and the job that tries it
-begun_at : (b : Books) (t : Switch) (conn orig : ℕ) (winner : Winner) (caller : Caller) (o : Orig) (c : Conn) (q p : ℕ) →
+begun_at : (b : Books) (t : Switch) (conn orig job : ℕ) (winner : Winner) (caller : Caller) (o : Orig) (c : Conn) (q p : ℕ) →
     conn_of t conn ≡ Some c → c.owed ≡ None → least_free t.jobs 0 ≡ Some q →
     least_free t.origs 0 ≡ Some p → t.drawn.jobs < 2 ^ 30 → orig ≡ t.drawn.origs + 1 → next_orig_number t ≡ t.drawn.origs + 1 →
-    Sound (books_of t) → b ≡ books_of t →
+    o.owner ≡ owner.Job job → Sound (books_of t) → b ≡ books_of t →
     Goes b (books_of (after_job_begin conn (Originate orig winner caller) (with_new_orig o t)))
-begun_at b t conn orig winner caller o c q p is none is_free is_orig_free few is_next next h same =
+begun_at b t conn orig owning winner caller o c q p is none is_free is_orig_free few is_next next owns h same =
     let free = free_least t.jobs q is_free in
     let orig_free = free_least t.origs p is_orig_free in
     let job : Numbered Job = job_for (next_job_number t) conn (Originate orig winner caller) in
-    let lengths : length (numbers_in t.origs) ≡ length t.origs = length-map t.origs number_at in
-    let number_within : p < length (numbers_in t.origs) = subst (λ (n : ℕ). p < n) (sym lengths) orig_free.1 in
-    let tried : Tries (with_held t.jobs q (Some job)) (with_held (numbers_in t.origs) p (Some (t.drawn.origs + 1))) (t.drawn.origs + 1) =
-    tries_begun t.jobs (numbers_in t.origs) t.drawn.origs q p job free.1 free.0 number_within
-    (numbers_held t.origs p ∙ ap number_at orig_free.0) (ap Some is_next) h.tries in
-    let tried_next : Tries (with_held t.jobs q (Some job)) (with_held (numbers_in t.origs) p (Some (next_orig_number t)))
+    let lengths : length (owned_in by_job t.origs) ≡ length t.origs = length-map t.origs (owned_at by_job) in
+    let number_within : p < length (owned_in by_job t.origs) = subst (λ (n : ℕ). p < n) (sym lengths) orig_free.1 in
+    let tried : Tries (with_held t.jobs q (Some job)) (with_held (owned_in by_job t.origs) p (Some (t.drawn.origs + 1)))
+    (t.drawn.origs + 1) =
+    tries_begun t.jobs (owned_in by_job t.origs) t.drawn.origs q p job free.1 free.0 number_within
+    (owned_held by_job t.origs p ∙ ap (owned_at by_job) orig_free.0) (ap Some is_next) h.tries in
+    let tried_next : Tries (with_held t.jobs q (Some job)) (with_held (owned_in by_job t.origs) p (Some (next_orig_number t)))
     (next_orig_number t) =
-    subst (λ (n : ℕ). Tries (with_held t.jobs q (Some job)) (with_held (numbers_in t.origs) p (Some n)) n) (sym next) tried in
-    let tried_there : Tries (with_held t.jobs q (Some job)) (numbers_in (with_new_row t.origs (next_orig_number t) o)) (next_orig_number t)
-    =
+    subst (λ (n : ℕ). Tries (with_held t.jobs q (Some job)) (with_held (owned_in by_job t.origs) p (Some n)) n) (sym next) tried in
+    let tried_there : Tries (with_held t.jobs q (Some job)) (owned_in by_job (with_new_row t.origs (next_orig_number t) o))
+    (next_orig_number t) =
     subst (λ (origs : List (Option ℕ)). Tries (with_held t.jobs q (Some job)) origs (next_orig_number t))
-    (sym (numbers_added t.origs (next_orig_number t) p o is_orig_free)) tried_next in
+    (sym (owned_added by_job t.origs (next_orig_number t) p o is_orig_free
+    ∙ ap (λ (by : Owner). with_held (owned_in by_job t.origs) p (by_job by (next_orig_number t))) owns)) tried_next in
     let near_t : Near (books_of t) (books_of (with_new_orig o t)) =
     record { conns = omega arith; jobs = omega arith; origs = omega (arith, next); cost = refl; limit = refl } in
     goes_owing b (with_new_orig o t) conn (Originate orig winner caller) c q is none is_free few
@@ -229,9 +248,9 @@ begun_at b t conn orig winner caller o c q p is none is_free is_orig_free few is
 -- originate, once the legs of its first group were made
 goes_tried : (s : Switch) (made : MadeGroup) (conn : ℕ) (groups : List (List LegPlan)) (winner : Winner) (caller : Caller) (timeout : ℕ)
     (c : Conn) (q : ℕ) → books_of made.state ≡ books_of s →
-    conn_of s conn ≡ Some c → c.owed ≡ None → least_free s.jobs 0 ≡ Some q → Few (books_of s) → Sound (books_of s) →
+    conn_of s conn ≡ Some c → c.owed ≡ None → least_free s.jobs 0 ≡ Some q → Few (books_of s) → SlotsAreFew made.state → Sound (books_of s) →
     Goes (books_of s) (books_of (tried_by_job conn groups winner caller timeout (next_orig_number s) made))
-goes_tried s made conn groups winner caller timeout c q same is none is_free few h = by (least_free made.state.origs 0) refl
+goes_tried s made conn groups winner caller timeout c q same is none is_free few slots h = by (least_free made.state.origs 0) refl
   where
     drawn : made.state.drawn.origs ≡ s.drawn.origs
     drawn = ap (λ (b : Books). b.origs_drawn) same
@@ -247,30 +266,62 @@ goes_tried s made conn groups winner caller timeout c q same is none is_free few
 
     by : (found : Option ℕ) → least_free made.state.origs 0 ≡ found →
         Goes (books_of s) (books_of (tried_by_job conn groups winner caller timeout (next_orig_number s) made))
-    by None is_none = absurd (orig_place made.state.jobs made.state.origs made.state.drawn.origs sound.tries is_none)
+    by None is_none =
+        absurd
+        (orig_place made.state.jobs made.state.origs made.state.drawn.origs q sound.tries slots
+        (ap (λ (b : Books). least_free b.jobs 0) same ∙ is_free) is_none)
     by (Some p) is_orig_free =
-        begun_at (books_of s) made.state conn (next_orig_number s) winner caller
+        begun_at (books_of s) made.state conn (next_orig_number s) (next_job_number made.state) winner caller
         (new_orig (owner.Job (next_job_number made.state)) groups made.legs (moment_after made.state.moment (seconds timeout)))
         c q p
         (ap (λ (b : Books). row_of b.conns conn) same ∙ is) none
         (ap (λ (b : Books). least_free b.jobs 0) same ∙ is_free) is_orig_free few_jobs
-        (omega (arith, few_origs, drawn)) (omega (arith, few_origs, drawn)) sound (sym same)
+        (omega (arith, few_origs, drawn)) (omega (arith, few_origs, drawn)) refl sound (sym same)
 
 -- originate
 pub goes_originate : (s : Switch) (conn : ℕ) (groups : List (List LegPlan)) (winner : Winner) (caller : Caller) (timeout : Option ℕ)
-    (c : Conn) (q : ℕ) → conn_of s conn ≡ Some c → c.owed ≡ None → least_free s.jobs 0 ≡ Some q → Few (books_of s) →
+    (c : Conn) (q : ℕ) → conn_of s conn ≡ Some c → c.owed ≡ None → least_free s.jobs 0 ≡ Some q → Few (books_of s) → SlotsAreFew s →
     Sound (books_of s) → Goes (books_of s) (books_of (originate_begun conn groups winner caller timeout s))
-goes_originate s conn groups winner caller timeout c q is none is_free few h =
+goes_originate s conn groups winner caller timeout c q is none is_free few slots h =
     let made : MadeGroup = group_made (first_group groups) caller (next_orig_number s) s in
-    goes_tried s made conn groups winner caller (unwrap_or timeout 60) c q
-    (books_same s made.state (group_made_rest (first_group groups) caller (next_orig_number s) s)) is none is_free few h
+    let loses : Loses s made.state = group_loses (first_group groups) caller (next_orig_number s) s in
+    let less : taken_in (owned_in by_slot made.state.origs) ≤ taken_in (owned_in by_slot s.origs) = loses.slots in
+    goes_tried s made conn groups winner caller (unwrap_or timeout 60) c q (books_lose s made.state loses) is none is_free few
+    (omega (arith, less, slots)) h
+
+-- ---- a channel dials
+
+-- more numbers were drawn
+tries_more : (jobs : Jobs) (origs : List (Option ℕ)) (drawn more : ℕ) → drawn ≤ more → Tries jobs origs drawn → Tries jobs origs more
+tries_more jobs origs drawn more less h = record {
+  there = h.there;
+  alone = h.alone;
+  within = λ p number is. let most : number ≤ drawn = h.within p number is in omega (arith, most, less);
+  fewer = h.fewer;
+  job_places = h.job_places;
+  orig_places = h.orig_places;
+}
+
+-- an origination comes that no job owns
+pub goes_drawn : (s t : Switch) → rest_of t ≡ rest_of s → owned_in by_job t.origs ≡ owned_in by_job s.origs →
+    t.drawn.origs ≡ s.drawn.origs + 1 → Sound (books_of s) → Goes (books_of s) (books_of t)
+goes_drawn s t rest jobs drawn h =
+    let mid : Books = books_with (rest_of s) (owned_in by_job s.origs) t.drawn.origs in
+    let goes : Goes (books_of s) mid = record {
+      sound = record {
+        linked = h.linked;
+        tries = tries_more s.jobs (owned_in by_job s.origs) s.drawn.origs t.drawn.origs (omega (arith, drawn)) h.tries;
+      };
+      near = record { conns = omega arith; jobs = omega arith; origs = omega (arith, drawn); cost = refl; limit = refl };
+    } in
+    subst (λ (x : Books). Goes (books_of s) x) (sym (books_same s t rest jobs)) goes
 
 -- ---- a job ends
 
 -- it ends, and its connection, if it is there, is owed nothing any more
 goes_ended : (b : Books) (u : Switch) (number conn : ℕ) (answer : Text) (q : ℕ) (row : Numbered Job) → IsRow u.jobs number q row →
     row.held.conn ≡ conn →
-    Linked u.conns u.jobs u.drawn.conns u.drawn.jobs → Tries (with_held u.jobs q None) (numbers_in u.origs) u.drawn.origs →
+    Linked u.conns u.jobs u.drawn.conns u.drawn.jobs → Tries (with_held u.jobs q None) (owned_in by_job u.origs) u.drawn.origs →
     Near b (books_of u) → Goes b (books_of (after_job_end number conn answer u))
 goes_ended b u number conn answer q row stands for linked tries near = by (conn_of u conn) refl
   where
@@ -311,32 +362,44 @@ pub goes_woken : (b : Books) (s : Switch) (number conn until : ℕ) (answer : Te
 goes_woken b s number conn until answer does h =
     let found = row_found s.jobs number (record { conn = conn; work = Sleep until }) does.there in
     goes_ended b s number conn answer found.0 found.1 found.2 (ap (λ (y : Job). y.conn) found.3) h.sound.linked
-    (tries_woken s.jobs (numbers_in s.origs) s.drawn.origs found.0 found.1 found.2.there
+    (tries_woken s.jobs (owned_in by_job s.origs) s.drawn.origs found.0 found.1 found.2.there
     (ap (λ (y : Job). tried_by y.work) found.3) h.sound.tries) h.near
 
--- a job ends with the row of the origination that it tried
-tries_without : (jobs : Jobs) (origs : List (Option (Numbered Orig))) (drawn q number : ℕ) (job : Numbered Job) →
-    held_in jobs q ≡ Some job → tried_by job.held.work ≡ Some number →
-    Tries jobs (numbers_in origs) drawn → Tries (with_held jobs q None) (numbers_in (without_row origs number)) drawn
-tries_without jobs origs drawn q number job stands tried h = by (h.there q job number stands tried)
+-- the row of the origination that it tried, which is the only one of its number
+job_row : (origs : Origs) (drawn p number : ℕ) → Numbers origs drawn → held_in (owned_in by_job origs) p ≡ Some number →
+    place_of origs number ≡ Some p
+job_row origs drawn p number numbers told = by (held_in origs p) refl (sym (owned_held by_job origs p) ∙ told)
   where
-    at : HasRow origs number → Tries (with_held jobs q None) (numbers_in (without_row origs number)) drawn
-    at row =
-        subst (λ (numbers : List (Option ℕ)). Tries (with_held jobs q None) numbers drawn)
-        (sym (numbers_removed origs number row.0 row.2.at))
-        (tries_ended jobs (numbers_in origs) drawn q row.0 number job stands tried (number_there origs number row.0 row.1 row.2) h)
+    numbered : (by : Owner) (other : ℕ) → by_job by other ≡ Some number → other ≡ number
+    numbered (owner.Job job) other is = same_Some other number is
+    numbered (owner.Slot slot) other is = absurd (none-some number is)
 
-    by : HasNumber (numbers_in origs) number → Tries (with_held jobs q None) (numbers_in (without_row origs number)) drawn
-    by had = at (row_of_number origs number had.0 had.1)
+    by : (held : Option (Numbered Orig)) → held_in origs p ≡ held → owned_at by_job held ≡ Some number → place_of origs number ≡ Some p
+    by None is told = absurd (none-some number told)
+    by (Some row) is told =
+        let same : row.number ≡ number = numbered row.held.owner row.number told in
+        let found : HasRow origs row.number = row_of_held origs p row is in
+        let place : found.0 ≡ p = numbers.apart found.0 p found.1 row found.2.there is found.2.numbered in
+        ap (place_of origs) (sym same) ∙ (found.2.at ∙ ap Some place)
+
+-- a job ends with the row of the origination that it tried
+tries_without : (jobs : Jobs) (origs : Origs) (drawn q number : ℕ) (job : Numbered Job) → Numbers origs drawn →
+    held_in jobs q ≡ Some job → tried_by job.held.work ≡ Some number →
+    Tries jobs (owned_in by_job origs) drawn → Tries (with_held jobs q None) (owned_in by_job (without_row origs number)) drawn
+tries_without jobs origs drawn q number job numbers stands tried h =
+    let had : HasNumber (owned_in by_job origs) number = h.there q job number stands tried in
+    subst (λ (numbers : List (Option ℕ)). Tries (with_held jobs q None) numbers drawn)
+    (sym (owned_removed by_job origs number had.0 (job_row origs drawn had.0 number numbers had.1)))
+    (tries_ended jobs (owned_in by_job origs) drawn q had.0 number job stands tried had.1 h)
 
 -- a job ends with the origination that it tried
 pub goes_over : (b : Books) (s : Switch) (number conn orig : ℕ) (winner : Winner) (caller : Caller) (answer : Text) →
-    DoesJob s number conn (Originate orig winner caller) → Goes b (books_of s) →
+    Numbers s.origs s.drawn.origs → DoesJob s number conn (Originate orig winner caller) → Goes b (books_of s) →
     Goes b (books_of (after_job_end number conn answer (without_orig orig s)))
-goes_over b s number conn orig winner caller answer does h =
+goes_over b s number conn orig winner caller answer numbers does h =
     let found = row_found s.jobs number (record { conn = conn; work = Originate orig winner caller }) does.there in
-    let fits : Tries (with_held s.jobs found.0 None) (numbers_in (without_row s.origs orig)) s.drawn.origs =
-    tries_without s.jobs s.origs s.drawn.origs found.0 orig found.1 found.2.there
+    let fits : Tries (with_held s.jobs found.0 None) (owned_in by_job (without_row s.origs orig)) s.drawn.origs =
+    tries_without s.jobs s.origs s.drawn.origs found.0 orig found.1 numbers found.2.there
     (ap (λ (y : Job). tried_by y.work) found.3) h.sound.tries in
     goes_ended b (without_orig orig s) number conn answer found.0 found.1 found.2 (ap (λ (y : Job). y.conn) found.3) h.sound.linked fits
     (record { conns = h.near.conns; jobs = h.near.jobs; origs = h.near.origs; cost = h.near.cost; limit = h.near.limit })

@@ -276,7 +276,7 @@ linked_dropped conns jobs drawn jobs_drawn q job stands gone h = record {
 -- ---- originations that are tried
 
 -- how many are tried where a job begins, and where it ends
-trying_begun : (jobs : Jobs) (q : ℕ) (job : Numbered Job) → q < length jobs → held_in jobs q ≡ None →
+pub trying_begun : (jobs : Jobs) (q : ℕ) (job : Numbered Job) → q < length jobs → held_in jobs q ≡ None →
     trying_in (with_held jobs q (Some job)) ≡ trying_in jobs + tries (Some job)
 trying_begun jobs q job within free =
     let sums : trying_in (with_held jobs q (Some job)) + tries (held_in jobs q) ≡ trying_in jobs + tries (Some job) =

@@ -1,0 +1,141 @@
+-- The originations that jobs own, and those that slots own, as tables of numbers, and how these go through changes of originations.
+use Rattle.std.proofs.Common.{◌≡◌, ℕ, zero, suc, ◌+◌, true, List, [], ◌∷◌, map, Option, None, Some, refl, sym, ap, ◌∙◌, arith}
+use Rattle.std.specs.List.{slice_set}
+use Rattle.std.proofs.lemmas.Bool.{false≢true}
+use Rattle.std.proofs.lemmas.List.{set-get_or, map-set}
+use Rattle.std.proofs.lemmas.List.Sums.{sum_by-cons}
+use Rattle.fs_orig.specs.declared.orig.Orig.{Orig}
+use Rattle.fs_orig.specs.declared.orig.Owner.{Owner}
+use Rattle.fs_orig.specs.declared.orig.Owner.TheVariants as owner
+use Rattle.fs_places.specs.declared.numbered.Numbered.{Numbered}
+use Rattle.fs_places.specs.Places.{held_in, with_held, least_free}
+use Rattle.fs_places.specs.Rows.{has_number, place_of, row_of, with_held_at, with_row, without_row, with_new_row}
+use Rattle.fs_places.proofs.RowLemmas.{held_of, row_at, place_stands, free_least}
+use Rattle.fs_places.proofs.TableLemmas.{something_there, row_found, row_written, row_removed, row_added}
+use Rattle.fs_places.proofs.TableLemmas.{one_if, taken_in}
+use Rattle.fs_state.proofs.LegTables.{Origs}
+
+-- what is told of the owner of an origination
+abbrev pub Tells : Type 0
+Tells = Owner → ℕ → Option ℕ
+
+-- the number, if a job owns it
+abbrev pub by_job : Tells
+by_job (owner.Job job) number = Some number
+by_job (owner.Slot slot) number = None
+
+-- the slot that owns it, if one does
+abbrev pub by_slot : Tells
+by_slot (owner.Job job) number = None
+by_slot (owner.Slot slot) number = Some slot
+
+abbrev pub owned_at : Tells → Option (Numbered Orig) → Option ℕ
+owned_at of None = None
+owned_at of (Some row) = of row.held.owner row.number
+
+abbrev pub owned_in : Tells → Origs → List (Option ℕ)
+owned_in of origs = map (owned_at of) origs
+
+pub owned_held : (of : Tells) (origs : Origs) (place : ℕ) → held_in (owned_in of origs) place ≡ owned_at of (held_in origs place)
+owned_held of [] place = refl
+owned_held of (held ∷ more) zero = refl
+owned_held of (held ∷ more) (suc place) = owned_held of more place
+
+-- what is told of the origination of a number, with its place
+pub record IsOwnedAt (of : Tells) (origs : Origs) (number : ℕ) (o : Orig) : Type 0 where
+  pub place : ℕ
+  pub at : place_of origs number ≡ Some place
+  pub told : held_in (owned_in of origs) place ≡ of o.owner number
+
+pub owned_there : (of : Tells) (origs : Origs) (number : ℕ) (o : Orig) → row_of origs number ≡ Some o → IsOwnedAt of origs number o
+owned_there of origs number o is =
+    let found = row_found origs number o is in
+    record {
+      place = found.0;
+      at = found.2.at;
+      told = owned_held of origs found.0
+          ∙ (ap (owned_at of) found.2.there ∙ (ap (λ (y : Orig). of y.owner found.1.number) found.3 ∙ ap (of o.owner) found.2.numbered));
+    }
+
+-- what stands there is written again
+written_again : (of : Tells) (origs : Origs) (place : ℕ) (told : Option ℕ) → told ≡ held_in (owned_in of origs) place →
+    slice_set (owned_in of origs) place told ≡ owned_in of origs
+written_again of origs place told same =
+    ap (λ (held : Option ℕ). slice_set (owned_in of origs) place held) same ∙ set-get_or (owned_in of origs) place None
+
+-- an origination is changed that keeps its owner
+pub owned_changed : (of : Tells) (origs : Origs) (number : ℕ) (o x : Orig) → row_of origs number ≡ Some o → x.owner ≡ o.owner →
+    owned_in of (with_row origs number x) ≡ owned_in of origs
+owned_changed of origs number o x is same =
+    let there : IsOwnedAt of origs number o = owned_there of origs number o is in
+    ap (owned_in of) (row_written origs number there.place x there.at)
+    ∙ (map-set (owned_at of) origs there.place (Some (record { number = number; held = x }))
+    ∙ written_again of origs there.place (of x.owner number) (ap (λ (by : Owner). of by number) same ∙ sym there.told))
+
+-- one is gone
+pub owned_removed : (of : Tells) (origs : Origs) (number place : ℕ) → place_of origs number ≡ Some place →
+    owned_in of (without_row origs number) ≡ with_held (owned_in of origs) place None
+owned_removed of origs number place at = ap (owned_in of) (row_removed origs number place at) ∙ map-set (owned_at of) origs place None
+
+-- one comes
+pub owned_added : (of : Tells) (origs : Origs) (number place : ℕ) (x : Orig) → least_free origs 0 ≡ Some place →
+    owned_in of (with_new_row origs number x) ≡ with_held (owned_in of origs) place (of x.owner number)
+owned_added of origs number place x at =
+    ap (owned_in of) (row_added origs number place x at)
+    ∙ map-set (owned_at of) origs place (Some (record { number = number; held = x }))
+
+-- one is gone of whose owner nothing is told
+pub untold_removed : (of : Tells) (origs : Origs) (number : ℕ) (o : Orig) → row_of origs number ≡ Some o → of o.owner number ≡ None →
+    owned_in of (without_row origs number) ≡ owned_in of origs
+untold_removed of origs number o is none =
+    let there : IsOwnedAt of origs number o = owned_there of origs number o is in
+    owned_removed of origs number there.place there.at ∙ written_again of origs there.place None (sym (there.told ∙ none))
+
+-- one is gone that was not there
+no_thing : (number : ℕ) (held : Option (Numbered Orig)) → has_number number held ≡ true → held_of held ≡ None → ⊥
+no_thing number None has none = false≢true has
+no_thing number (Some row) has none = something_there row.held none
+
+pub none_removed : (of : Tells) (origs : Origs) (number : ℕ) → row_of origs number ≡ None →
+    owned_in of (without_row origs number) ≡ owned_in of origs
+none_removed of origs number none = by (place_of origs number) refl
+  where
+    by : (found : Option ℕ) → place_of origs number ≡ found →
+        owned_in of (with_held_at {T = Numbered Orig} origs None found) ≡ owned_in of origs
+    by None is = refl
+    by (Some place) is =
+        absurd (no_thing number (held_in origs place) (place_stands origs number place is) (sym (row_at origs number place is) ∙ none))
+
+-- one comes of whose owner nothing is told
+pub untold_added : (of : Tells) (origs : Origs) (number : ℕ) (x : Orig) → of x.owner number ≡ None →
+    owned_in of (with_new_row origs number x) ≡ owned_in of origs
+untold_added of origs number x none = by (least_free origs 0) refl
+  where
+    by : (found : Option ℕ) → least_free origs 0 ≡ found →
+        owned_in of (with_held_at {T = Numbered Orig} origs (Some (record { number = number; held = x })) found) ≡ owned_in of origs
+    by None is = refl
+    by (Some place) is =
+        map-set (owned_at of) origs place (Some (record { number = number; held = x }))
+        ∙ written_again of origs place (of x.owner number)
+        (none ∙ sym (owned_held of origs place ∙ ap (owned_at of) (free_least origs place is).0))
+
+-- each origination is owned by a job or by a slot
+pub taken_apart : (origs : Origs) → taken_in origs ≡ taken_in (owned_in by_job origs) + taken_in (owned_in by_slot origs)
+taken_apart [] = refl
+taken_apart (held ∷ more) =
+    let rest : taken_in more ≡ taken_in (owned_in by_job more) + taken_in (owned_in by_slot more) = taken_apart more in
+    let all : taken_in (held ∷ more) ≡ one_if held + taken_in more = sum_by-cons one_if held more in
+    let jobs : taken_in (owned_in by_job (held ∷ more)) ≡ one_if (owned_at by_job held) + taken_in (owned_in by_job more) =
+    sum_by-cons one_if (owned_at by_job held) (owned_in by_job more) in
+    let slots : taken_in (owned_in by_slot (held ∷ more)) ≡ one_if (owned_at by_slot held) + taken_in (owned_in by_slot more) =
+    sum_by-cons one_if (owned_at by_slot held) (owned_in by_slot more) in
+    let one : one_if held ≡ one_if (owned_at by_job held) + one_if (owned_at by_slot held) = either held in
+    omega (arith, rest, all, jobs, slots, one)
+  where
+    whose : (by : Owner) (number : ℕ) → 1 ≡ one_if (by_job by number) + one_if (by_slot by number)
+    whose (owner.Job job) number = refl
+    whose (owner.Slot slot) number = refl
+
+    either : (x : Option (Numbered Orig)) → one_if x ≡ one_if (owned_at by_job x) + one_if (owned_at by_slot x)
+    either None = refl
+    either (Some row) = whose row.held.owner row.number

@@ -9,6 +9,7 @@ use Rattle.fs_api.specs.Readings.{api_of, api_named, echoed}
 -- a text with these arguments is that command
 echo_at : (name arguments answer : Text) (is : Bool) → bytes_eq name (codes "echo") ≡ is →
     (if is then Some arguments else None) ≡ Some answer → api_named name arguments ≡ Echo answer
+unfolding api_named
 echo_at name arguments answer true e h = cc
 echo_at name arguments answer false e h = absurd (cc)
 

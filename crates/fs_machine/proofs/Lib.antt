@@ -50,3 +50,5 @@ pub mod ChannelMoves
 pub mod SoundLemmas
 pub mod SoundLaws
 pub mod CountLemmas
+pub mod SlotCounts
+pub mod BondLaws

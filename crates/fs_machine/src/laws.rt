@@ -32,13 +32,14 @@ pub fn hands_out_what_it_gives()
         ≡ handed_to conn config (until_sent entries moment conn) }
 {}
 
-/// Each reply that is owed has one job that owes it, and that job has a next moment. So somebody has something to do,
-/// now or at some moment, while a reply is owed. Numbers are drawn by counters that stand still at their last one; a
-/// journal of at most 2^30 ends long before.
+/// Where the configuration keeps its limits, each reply that is owed has one job that owes it, and that job has a next
+/// moment. So somebody has something to do, now or at some moment, while a reply is owed. Numbers are drawn by counters
+/// that stand still at their last one; the journal ends long before. There is a place for the origination of each job
+/// and of each channel.
 pub fn owes_to_its_jobs()
-    ensures owed { (config : Configuration) (entries : List Entry) → IsLimited config → IsRun config entries
+    ensures owed { (config : Configuration) (entries : List Entry) → IsWithin config → IsRun config entries
         → AreOwed (state_after config entries) }
-    ensures goes_on { (config : Configuration) (entries : List Entry) → IsLimited config → IsRun config entries
+    ensures goes_on { (config : Configuration) (entries : List Entry) → IsWithin config → IsRun config entries
         → (conn now : ℕ) → owes (state_after config entries) conn ≡ true
         → next_due now (state_after config entries) ≢ actor.Never }
 {}

@@ -47,6 +47,9 @@ pub mod LegMoves
 pub mod WinnerMoves
 pub mod CauseMoves
 pub mod ChannelMoves
+pub mod BondRows
+pub mod BondLemmas
+pub mod BondTables
 pub mod SoundLemmas
 pub mod SoundLaws
 pub mod CountLemmas

@@ -1,5 +1,6 @@
 -- What entries do keeps the facts on connections, on jobs and on originations.
-use Rattle.std.proofs.Common.{◌≡◌, ℕ, true, false, not, List, Option, None, Some, is_none, unwrap_or, refl, sym, ap, subst, ◌∙◌}
+use Rattle.std.proofs.Common.{◌≡◌, ℕ, true, false, not, List, Option, None, Some, is_none, unwrap_or, refl, sym, ap, subst, ◌∙◌, ◌≤◌, ◌<◌}
+use Rattle.std.proofs.Common.{◌^◌, ◌+◌, arith}
 use Rattle.std.specs.Option.{option_and_then}
 use Rattle.std.proofs.lemmas.Bool.{false≢true, not-false}
 use Rattle.fs_text.specs.Texts.{Text}
@@ -11,36 +12,50 @@ use Rattle.fs_orig.specs.declared.plan.LegPlan.{LegPlan}
 use Rattle.fs_orig.specs.declared.winner.Winner.{Winner}
 use Rattle.fs_places.specs.Places.{least_free}
 use Rattle.fs_places.specs.Rows.{row_of}
-use Rattle.fs_places.proofs.TableLemmas.{something_there}
+use Rattle.fs_places.proofs.TableLemmas.{something_there, taken_in}
 use Rattle.fs_state.specs.declared.conn.Conn.{Conn}
 use Rattle.fs_state.specs.declared.conn.Phase.{Phase}
 use Rattle.fs_state.specs.declared.conn.Phase.TheVariants as phase
 use Rattle.fs_state.specs.declared.conn.Parting.{Parting}
 use Rattle.fs_state.specs.declared.conn.Parting.TheVariants as parting
 use Rattle.fs_state.specs.declared.job.JobWork.TheVariants as work
-use Rattle.fs_state.specs.Switch.{Switch, conn_of, is_full_of_jobs, without_orig, with_gift}
+use Rattle.fs_state.specs.Switch.{Switch, conn_of, is_full_of_jobs, without_orig, with_gift, next_orig_number}
 use Rattle.fs_machine.specs.declared.entry.Act.{Act}
 use Rattle.fs_machine.specs.declared.entry.Act.TheVariants as act
 use Rattle.fs_machine.specs.declared.entry.Closing.{Closing}
 use Rattle.fs_machine.specs.declared.entry.Closing.TheVariants as closing
-use Rattle.fs_machine.specs.declared.attempts.Attempt.{Attempt}
 use Rattle.fs_machine.specs.declared.refusal.Refusal.TheVariants as refusal
 use Rattle.fs_machine.specs.Texts.{made_text, failed_text}
 use Rattle.fs_machine.specs.Connections.{phase_of, phase_at, conn_changed, admitted, parted}
 use Rattle.fs_machine.specs.Questions.{owed_of, owed_to}
-use Rattle.fs_machine.specs.Originations.{group_made, after_winning}
-use Rattle.fs_machine.specs.Attempts.{originate_begun, with_group}
+use Rattle.fs_machine.specs.Originations.{group_made, after_winning, seconds, MadeGroup}
+use Rattle.fs_machine.specs.Attempts.{originate_begun, with_group, first_group, orig_begun, awaits}
 use Rattle.fs_machine.specs.Owing.{after_job_begin, after_job_end}
 use Rattle.fs_machine.specs.Step.{reads, busy, refused_act, after_close, act_done}
 use Rattle.fs_machine.specs.Owed.{PartsIn}
-use Rattle.fs_machine.proofs.Kept.{Stage, Fact, KeptByCalls, DoesJob, raced, KeptByJobs, KeptByCommands}
+use Rattle.fs_machine.proofs.Kept.{Stage, Fact, KeptByCalls, DoesJob, raced, KeptByJobs, KeptByCommands, KeptByTouches, KeptByDials}
+use Rattle.fs_machine.proofs.Kept.{KeptByMoves}
 use Rattle.fs_machine.proofs.Walk.{worked_kept}
-use Rattle.fs_machine.proofs.RestLemmas.{rest_of, calls_by_rest, does_same, won_rest, regrouped_rest}
+use Rattle.fs_machine.proofs.RestLemmas.{does_same, won_rest}
 use Rattle.fs_machine.proofs.OrderLemmas.{none_refused}
 use Rattle.fs_machine.proofs.ActWalk.{job_kept, commanded_kept}
-use Rattle.fs_machine.proofs.OwedBooks.{Books, books_of, books_same, Sound, Goes, Few}
+use Rattle.fs_machine.proofs.OwedBooks.{Books, books_of, Sound, Goes, Few, SlotsAreFew, books_lose}
 use Rattle.fs_machine.proofs.OwedJobs.{near_self, parts_of, goes_conn, goes_gone, goes_arrived, goes_sleep, goes_originate, goes_woken}
-use Rattle.fs_machine.proofs.OwedJobs.{goes_over}
+use Rattle.fs_machine.proofs.OwedJobs.{goes_over, goes_drawn}
+use Rattle.fs_text.specs.declared.causes.Cause.{Cause}
+use Rattle.fs_chan.specs.declared.chan.Chan.{Chan}
+use Rattle.fs_chan.specs.Bridging.{exported_pairs, awaiting}
+use Rattle.fs_chan.specs.Moments.{moment_after}
+use Rattle.fs_orig.specs.declared.orig.Owner.TheVariants as owner
+use Rattle.fs_orig.specs.Changes.{new_orig}
+use Rattle.fs_orig.specs.Plans.{all_behind}
+use Rattle.fs_places.proofs.NumberLemmas.{Numbers}
+use Rattle.fs_state.specs.Moves.{after_move}
+use Rattle.fs_machine.specs.Bridging.{caller_of, group_dialed, after_bridge_failure, after_bridge_win}
+use Rattle.fs_machine.specs.Dialing.{tried_by_slot}
+use Rattle.fs_machine.proofs.OwedTables.{by_job, by_slot, owned_in, untold_added}
+use Rattle.fs_machine.proofs.OwedLosses.{Loses, moved_loses, winning_loses, calls_by_losses, failure_loses, bridge_won_loses, group_loses}
+use Rattle.fs_machine.proofs.OwedLosses.{regrouped_loses, OwnsAwaited, awaited_loses, winning_numbers}
 
 -- ---- refusals
 
@@ -62,40 +77,30 @@ may_owe s conn reading none = by (conn_of s conn) refl
 
 -- ---- every move
 
--- at first the books are what they were; once something has begun they are as they must be, near what they were
+-- at first the books are what they were, and slots own few originations; once something has begun they are as they must be, near what
+-- they were
 abbrev GoesFrom : Books → Fact
-GoesFrom b None t = books_of t ≡ b
+GoesFrom b None t = (books_of t ≡ b) × SlotsAreFew t
 GoesFrom b (Some n) t = Goes b (books_of t)
 
-goes_same : (b : Books) (stage : Stage) (t u : Switch) → GoesFrom b stage t → rest_of u ≡ rest_of t → GoesFrom b stage u
-goes_same b None t u h same = books_same t u same ∙ h
-goes_same b (Some n) t u h same = subst (λ (x : Books). Goes b x) (sym (books_same t u same)) h
+goes_loses : (b : Books) (stage : Stage) (t u : Switch) → GoesFrom b stage t → Loses t u → GoesFrom b stage u
+goes_loses b None t u h loses =
+    let few : taken_in (owned_in by_slot t.origs) ≤ 256 = h.1 in
+    let less : taken_in (owned_in by_slot u.origs) ≤ taken_in (owned_in by_slot t.origs) = loses.slots in
+    (books_lose t u loses ∙ h.0, omega (arith, few, less))
+goes_loses b (Some n) t u h loses = subst (λ (x : Books). Goes b x) (sym (books_lose t u loses)) h
 
 calls_go : (b : Books) → KeptByCalls (GoesFrom b)
-calls_go b = calls_by_rest (GoesFrom b) (goes_same b) (λ t h. h)
+calls_go b = calls_by_losses (GoesFrom b) (goes_loses b) (λ t h. h)
 
 goes_spent : (b : Books) → Sound b → (t : Switch) → books_of t ≡ b → Goes b (books_of t)
 goes_spent b sound t same = subst (λ (x : Books). Goes b x) (sym same) (record { sound = sound; near = near_self b })
 
--- the jobs that end
-wins_go : (b : Books) (s : Switch) (a : Attempt) (winner : Winner) (caller : Caller) (leg : OrigLeg) →
-    DoesJob s a.job a.conn (work.Originate a.orig winner caller) → Goes b (books_of s) →
-    Goes b (books_of (after_job_end a.job a.conn (made_text leg.uuid) (without_orig a.orig
-    (after_winning winner (unwrap_or leg.slot 0) s))))
-wins_go b s a winner caller leg does h =
-    let slot : ℕ = unwrap_or leg.slot 0 in
-    goes_over b (after_winning winner slot s) a.job a.conn a.orig winner caller (made_text leg.uuid)
-    (does_same does (won_rest winner slot s))
-    (goes_same b (Some 0) s (after_winning winner slot s) h (won_rest winner slot s))
-
-jobs_go : (b : Books) (before : Switch) → KeptByJobs before (GoesFrom b)
-jobs_go b before = record {
-  woken = λ number conn until answer {s = s} does h. goes_woken b s number conn until answer does h;
-  failed = λ a winner caller cause {s = s} does h. goes_over b s a.job a.conn a.orig winner caller (failed_text cause) does h;
-  wins = λ a winner caller leg slots does won h. wins_go b (raced slots before) a winner caller leg does h;
-  regroups = λ number o plans caller {s = s} there next h.
-      goes_same b (Some 0) s (with_group number (group_made plans caller number s)) h (regrouped_rest number plans caller s);
-}
+-- what goes from a switch of these books goes from them
+goes_from : (b : Books) → Few b → Sound b → (s t : Switch) → books_of s ≡ b →
+    (Few (books_of s) → Sound (books_of s) → Goes (books_of s) (books_of t)) → Goes b (books_of t)
+goes_from b few sound s t same goes =
+    subst (λ (x : Books). Goes x (books_of t)) same (goes (subst Few (sym same) few) (subst Sound (sym same) sound))
 
 -- the commands of a connection that is there and is owed nothing, where few numbers were drawn
 module _ (b : Books) (conn : ℕ) (c : Conn) (there : row_of b.conns conn ≡ Some c) (none : c.owed ≡ None) (few : Few b)
@@ -118,7 +123,7 @@ module _ (b : Books) (conn : ℕ) (c : Conn) (there : row_of b.conns conn ≡ So
 
   -- what goes from a switch of these books goes from them
   from : (s t : Switch) → books_of s ≡ b → (Few (books_of s) → Sound (books_of s) → Goes (books_of s) (books_of t)) → Goes b (books_of t)
-  from s t same goes = subst (λ (x : Books). Goes x (books_of t)) same (goes (subst Few (sym same) few) (subst Sound (sym same) sound))
+  from = goes_from b few sound
 
   sleeps_go : (until : ℕ) (s : Switch) → is_full_of_jobs s ≡ false → books_of s ≡ b →
       Goes b (books_of (after_job_begin conn (work.Sleep until) s))
@@ -128,11 +133,13 @@ module _ (b : Books) (conn : ℕ) (c : Conn) (there : row_of b.conns conn ≡ So
       (goes_sleep s conn until c place.0 (ap (λ (x : Books). row_of x.conns conn) same ∙ there) none place.1)
 
   originates_go : (groups : List (List LegPlan)) (winner : Winner) (caller : Caller) (timeout : Option ℕ) (s : Switch) →
-      is_full_of_jobs s ≡ false → books_of s ≡ b → Goes b (books_of (originate_begun conn groups winner caller timeout s))
-  originates_go groups winner caller timeout s room same =
+      is_full_of_jobs s ≡ false → books_of s ≡ b → SlotsAreFew s →
+      Goes b (books_of (originate_begun conn groups winner caller timeout s))
+  originates_go groups winner caller timeout s room same slots =
       let place = a_place s room in
       from s (originate_begun conn groups winner caller timeout s) same
-      (goes_originate s conn groups winner caller timeout c place.0 (ap (λ (x : Books). row_of x.conns conn) same ∙ there) none place.1)
+      (λ few sound. goes_originate s conn groups winner caller timeout c place.0 (ap (λ (x : Books). row_of x.conns conn) same ∙ there) none
+      place.1 few slots sound)
 
   gave_goes : (frame : Text) (stage : Stage) (s : Switch) → GoesFrom b stage s → GoesFrom b stage (with_gift conn frame s)
   gave_goes frame None s h = h
@@ -140,12 +147,124 @@ module _ (b : Books) (conn : ℕ) (c : Conn) (there : row_of b.conns conn ≡ So
 
   commands_go : KeptByCommands conn (GoesFrom b)
   commands_go = record {
-    spent = λ {s = s} h. goes_spent b sound s h;
+    spent = λ {s = s} h. goes_spent b sound s h.0;
     gave = λ frame {b = stage} {s = s} h. gave_goes frame stage s h;
     admitted = λ {s = s} new h. admitted_goes s new h;
     parted = λ why {s = s} leaves h. parted_goes why s h;
-    sleeps = λ until {s = s} room h. sleeps_go until s room h;
-    originates = λ groups winner caller timeout {s = s} are short room h. originates_go groups winner caller timeout s room h;
+    sleeps = λ until {s = s} room h. sleeps_go until s room h.0;
+    originates = λ groups winner caller timeout {s = s} are short room h. originates_go groups winner caller timeout s room h.0 h.1;
+  }
+
+-- ---- jobs, and channels that dial
+
+-- beside a fact that tells whose originations there are
+abbrev Beside : Books → Fact → Fact
+Beside b Q stage t = GoesFrom b stage t × Q stage t
+
+module _ (before : Switch) (Q : Fact) (kept : KeptByMoves before Q) (owns : (b : Stage) (t : Switch) → Q b t → OwnsAwaited t)
+    (numbers : (b : Stage) (t : Switch) → Q b t → Numbers t.origs t.drawn.origs) (b : Books) (few : Few b) (sound : Sound b) where
+  both_touched : KeptByTouches (Beside b Q)
+  both_touched = record {
+    told = λ event h. ((calls_go b).touches.told event h.0, kept.calls.touches.told event h.1);
+    globals = λ globals h. ((calls_go b).touches.globals globals h.0, kept.calls.touches.globals globals h.1);
+    changed = λ slot old new there stays h.
+        ((calls_go b).touches.changed slot old new there stays h.0, kept.calls.touches.changed slot old new there stays h.1);
+    answers = λ place slot number h.
+        ((calls_go b).touches.answers place slot number h.0, kept.calls.touches.answers place slot number h.1);
+  }
+
+  both_called : KeptByCalls (Beside b Q)
+  both_called = record {
+    touches = both_touched;
+    hung = λ named h. ((calls_go b).hung named h.0, kept.calls.hung named h.1);
+    joined = λ kind caller answerer c d can there other one two idle spare h. (
+      (calls_go b).joined kind caller answerer c d can there other one two idle spare h.0,
+      kept.calls.joined kind caller answerer c d can there other one two idle spare h.1,
+    );
+    leaves = λ slot lone h. ((calls_go b).leaves slot lone h.0, kept.calls.leaves slot lone h.1);
+    more = λ {s = s} h. ((calls_go b).more {s = s} h.0, kept.calls.more h.1);
+    gone = λ slot old {s = s} there dead h.
+        ((calls_go b).gone slot old {s = s} there dead h.0, kept.calls.gone slot old there dead h.1);
+  }
+
+  -- a job has ended with the origination that it tried
+  wins_go : (s : Switch) (job conn orig : ℕ) (winner : Winner) (caller : Caller) (leg : OrigLeg) → Numbers s.origs s.drawn.origs →
+      DoesJob s job conn (work.Originate orig winner caller) → Goes b (books_of s) →
+      Goes b (books_of (after_job_end job conn (made_text leg.uuid) (without_orig orig (after_winning winner (unwrap_or leg.slot 0) s))))
+  wins_go s job conn orig winner caller leg numbered does h =
+      let slot : ℕ = unwrap_or leg.slot 0 in
+      let t : Switch = after_winning winner slot s in
+      goes_over b t job conn orig winner caller (made_text leg.uuid) (winning_numbers winner slot s numbered)
+      (does_same does (won_rest winner slot s)) (goes_loses b (Some 0) s t h (winning_loses winner slot s))
+
+  jobs_go : KeptByJobs before (Beside b Q)
+  jobs_go = record {
+    woken = λ number conn until answer {s = s} does h.
+        (goes_woken b s number conn until answer does h.0, kept.jobs.woken number conn until answer does h.1);
+    failed = λ job conn winner caller orig cause {s = s} does h. (
+      goes_over b s job conn orig winner caller (failed_text cause) (numbers (Some 0) s h.1) does h.0,
+      kept.jobs.failed job conn winner caller orig cause does h.1,
+    );
+    wins = λ job conn winner caller orig leg slots does won h. (
+      wins_go (raced slots before) job conn orig winner caller leg (numbers (Some 0) (raced slots before) h.1) does h.0,
+      kept.jobs.wins job conn winner caller orig leg slots does won h.1,
+    );
+  }
+
+  -- a channel begins to dial
+  dialed_goes : (slot : ℕ) (c : Chan) (groups : List (List LegPlan)) (timeout : ℕ) (s : Switch) → Few (books_of s) → Sound (books_of s) →
+      Goes (books_of s)
+      (books_of
+      (tried_by_slot slot groups timeout (next_orig_number s) (group_dialed (Some c) (first_group groups) (next_orig_number s) s)))
+  dialed_goes slot c groups timeout s few sound =
+      let made : MadeGroup = group_dialed (Some c) (first_group groups) (next_orig_number s) s in
+      let loses : Loses s made.state =
+      group_loses (all_behind (exported_pairs c.vars) (first_group groups)) (caller_of c) (next_orig_number s) s in
+      let begun : Switch = orig_begun (owner.Slot slot) groups made.legs timeout made.state in
+      let waits : Switch = after_move (awaiting (next_orig_number s)) slot begun in
+      let moved : Loses begun waits = moved_loses (awaiting (next_orig_number s)) slot begun in
+      let few_origs : s.drawn.origs < 2 ^ 30 = few.origs in
+      let drawn : made.state.drawn.origs ≡ s.drawn.origs = loses.drawn in
+      let next : next_orig_number made.state ≡ s.drawn.origs + 1 = omega (arith, few_origs, drawn) in
+      goes_drawn s waits (moved.rest ∙ loses.rest)
+      (moved.jobs
+      ∙ (untold_added by_job made.state.origs (next_orig_number made.state)
+      (new_orig (owner.Slot slot) groups made.legs (moment_after made.state.moment (seconds timeout))) refl ∙ loses.jobs))
+      (moved.drawn ∙ next) sound
+
+  -- what it waited for is gone, and it has failed, or a leg has won
+  failed_goes : (slot orig : ℕ) (cause : Cause) (s : Switch) → awaits slot orig s ≡ true → Q (Some 0) s → Goes b (books_of s) →
+      Goes b (books_of (after_bridge_failure cause slot (without_orig orig s)))
+  failed_goes slot orig cause s waits q h =
+      goes_loses b (Some 0) (without_orig orig s) (after_bridge_failure cause slot (without_orig orig s))
+      (goes_loses b (Some 0) s (without_orig orig s) h (awaited_loses s slot orig (owns (Some 0) s q) waits))
+      (failure_loses cause slot (without_orig orig s))
+
+  won_goes : (slot orig leg : ℕ) (s : Switch) → awaits slot orig s ≡ true → Q (Some 0) s → Goes b (books_of s) →
+      Goes b (books_of (after_bridge_win slot leg (without_orig orig s)))
+  won_goes slot orig leg s waits q h =
+      goes_loses b (Some 0) (without_orig orig s) (after_bridge_win slot leg (without_orig orig s))
+      (goes_loses b (Some 0) s (without_orig orig s) h (awaited_loses s slot orig (owns (Some 0) s q) waits))
+      (bridge_won_loses slot leg (without_orig orig s))
+
+  dials_go : KeptByDials before (Beside b Q)
+  dials_go = record {
+    spent = λ {s = s} h. (goes_spent b sound s h.0.0, kept.dials.spent h.1);
+    dials = λ slot c groups timeout {s = s} there works are h. (
+      goes_from b few sound s
+          (tried_by_slot slot groups timeout (next_orig_number s) (group_dialed (Some c) (first_group groups) (next_orig_number s) s)) h.0.0
+          (dialed_goes slot c groups timeout s),
+      kept.dials.dials slot c groups timeout there works are h.1,
+    );
+    regroups = λ number o plans caller {s = s} there are h. (
+      goes_loses b (Some 0) s (with_group number (group_made plans caller number s)) h.0 (regrouped_loses number plans caller s),
+      kept.dials.regroups number o plans caller there are h.1,
+    );
+    fails = λ slot orig cause {s = s} waits h. (failed_goes slot orig cause s waits h.1 h.0, kept.dials.fails slot orig cause waits h.1);
+    wins = λ slot orig leg slots waits won h. (
+      won_goes slot orig (unwrap_or leg.slot 0) (raced slots before) waits h.1 h.0,
+      kept.dials.wins slot orig leg slots waits won h.1,
+    );
   }
 
 -- ---- acts
@@ -157,17 +276,23 @@ closed_goes closing.EndOfInput conn s h =
 closed_goes closing.Sent conn s h = goes_gone (books_of s) conn s h
 closed_goes closing.Failed conn s h = goes_gone (books_of s) conn s h
 
-pub goes_acted : (what : Act) (s : Switch) → refused_act what s ≡ None → Few (books_of s) → Sound (books_of s) →
-    Goes (books_of s) (books_of (act_done what s).state)
-goes_acted act.Arrive s accepts few h = goes_arrived s few h
-goes_acted (act.Command conn block) s accepts few h =
+-- each act, beside such a fact
+pub goes_acted : (what : Act) (s : Switch) (Q : Fact) → KeptByMoves s Q → ((b : Stage) (t : Switch) → Q b t → OwnsAwaited t) →
+    ((b : Stage) (t : Switch) → Q b t → Numbers t.origs t.drawn.origs) → refused_act what s ≡ None → Few (books_of s) →
+    Sound (books_of s) → SlotsAreFew s → Q None s → Goes (books_of s) (books_of (act_done what s).state)
+goes_acted act.Arrive s Q kept owns numbers accepts few h slots q = goes_arrived s few h
+goes_acted (act.Command conn block) s Q kept owns numbers accepts few h slots q =
     let passed = none_refused (not (reads (phase_at s conn))) refusal.Gone (busy (owed_to s conn)) accepts in
     let giver = may_owe s conn (not-false (reads (phase_at s conn)) passed.0) (not_busy (owed_to s conn) passed.1) in
     commanded_kept conn (GoesFrom (books_of s)) (calls_go (books_of s))
-    (commands_go (books_of s) conn giver.0 giver.1.there giver.1.none few h) (command_of (line_of block)) {s = s} refl
-goes_acted (act.Take conn) s accepts few h = goes_spent (books_of s) h s refl
-goes_acted (act.Close conn how) s accepts few h = closed_goes how conn s (goes_spent (books_of s) h s refl)
-goes_acted (act.Work slot) s accepts few h =
-    worked_kept (GoesFrom (books_of s)) (calls_go (books_of s)) slot {s = s} (goes_spent (books_of s) h s refl)
-goes_acted (act.Job number) s accepts few h =
-    job_kept s (GoesFrom (books_of s)) (calls_go (books_of s)) (jobs_go (books_of s) s) number (goes_spent (books_of s) h s refl)
+    (commands_go (books_of s) conn giver.0 giver.1.there giver.1.none few h) (command_of (line_of block)) {s = s} (refl, slots)
+goes_acted (act.Take conn) s Q kept owns numbers accepts few h slots q = goes_spent (books_of s) h s refl
+goes_acted (act.Close conn how) s Q kept owns numbers accepts few h slots q =
+    closed_goes how conn s (goes_spent (books_of s) h s refl)
+goes_acted (act.Work slot) s Q kept owns numbers accepts few h slots q =
+    (worked_kept s (Beside (books_of s) Q) (both_called s Q kept owns numbers (books_of s) few h)
+    (dials_go s Q kept owns numbers (books_of s) few h) slot ((refl, slots), q)).0
+goes_acted (act.Job number) s Q kept owns numbers accepts few h slots q =
+    (job_kept s (Beside (books_of s) Q) (both_called s Q kept owns numbers (books_of s) few h)
+    (dials_go s Q kept owns numbers (books_of s) few h) (jobs_go s Q kept owns numbers (books_of s) few h) number
+    (goes_spent (books_of s) h s refl, kept.dials.spent q)).0

@@ -23,6 +23,7 @@ use Rattle.fs_orig.specs.Legs.{is_at, position_in}
 use Rattle.fs_orig.specs.Changes.{with_answer, with_death, may_enter_next, at_next_group}
 use Rattle.fs_places.specs.Places.{with_held}
 use Rattle.fs_places.proofs.TableLemmas.{taken_in, taken_less}
+use Rattle.fs_places.proofs.NumberLemmas.{Numbers}
 use Rattle.fs_state.specs.declared.event.Event.{Event}
 use Rattle.fs_state.specs.Switch.{Switch, chan_at, with_chan, with_bridge, without_bridge, orig_of, without_orig, with_event}
 use Rattle.fs_text.specs.declared.event_names.EventName.TheVariants.{ChannelExecuteComplete}
@@ -241,6 +242,13 @@ pub winning_loses : (winner : Winner) (slot : ℕ) (s : Switch) → Loses s (aft
 unfolding after_winning
 winning_loses winner slot s = moved_loses (won_by winner) slot s
 
+-- and it leaves the table of originations as it is
+pub winning_numbers : (winner : Winner) (slot : ℕ) (s : Switch) → Numbers s.origs s.drawn.origs →
+    Numbers (after_winning winner slot s).origs (after_winning winner slot s).drawn.origs
+unfolding after_winning
+winning_numbers winner slot s h =
+    moved_there (λ (t : Switch). Numbers t.origs t.drawn.origs) (λ event t k. k) (won_by winner) slot s (λ c is. h) h
+
 -- a fact that bears such losses is kept by what happens to channels
 pub calls_by_losses : (P : Fact) → ((b : Stage) (t u : Switch) → P b t → Loses t u → P b u) →
     ((t : Switch) → P (Some 0) t → P (Some 1) t) → KeptByCalls P
@@ -256,7 +264,7 @@ calls_by_losses P loses more = record {
         (changed_loses (leg_changed (λ position. with_answer position place) slot) (answer_keeps place slot) number s);
   };
   hung = λ named {b = b} {s = s} h. loses b s (after_hangups named s) h (hung_loses named s);
-  joined = λ kind caller answerer c d {b = b} {s = s} can there other one two h.
+  joined = λ kind caller answerer c d {b = b} {s = s} can there other one two idle spare h.
       loses b s (joined_as kind caller answerer s) h (joined_loses kind caller answerer s);
   leaves = λ slot {b = b} {s = s} lone h. loses b s (after_leaving slot s) h (left_loses slot s);
   more = λ {s = s} h. more s h;

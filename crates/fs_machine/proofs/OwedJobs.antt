@@ -34,12 +34,12 @@ use Rattle.fs_machine.proofs.Kept.{DoesJob}
 use Rattle.fs_machine.proofs.RestLemmas.{rest_of}
 use Rattle.fs_machine.proofs.OwedLemmas.{linked_changed, linked_gone, linked_come, linked_more, linked_begun, linked_ended, linked_dropped}
 use Rattle.fs_machine.proofs.OwedLemmas.{tries_slept, tries_begun, tries_woken, tries_ended, trying_most, trying_begun}
-use Rattle.std.proofs.lemmas.Option.{none-some, same_Some}
 use Rattle.fs_orig.specs.declared.orig.Owner.{Owner}
 use Rattle.fs_orig.specs.declared.winner.Winner.TheVariants.{App}
 use Rattle.fs_places.proofs.NumberLemmas.{Numbers}
 use Rattle.fs_state.proofs.LegTables.{Origs}
-use Rattle.fs_machine.proofs.OwedTables.{by_job, by_slot, owned_at, owned_in, owned_held, owned_added, owned_removed, taken_apart}
+use Rattle.fs_machine.proofs.OwedTables.{job_there, by_job, by_slot, owned_at, owned_in, owned_held, owned_added, owned_removed}
+use Rattle.fs_machine.proofs.OwedTables.{taken_apart}
 use Rattle.fs_machine.proofs.OwedLosses.{Loses, group_loses}
 
 -- ---- nothing of it changes
@@ -368,19 +368,11 @@ goes_woken b s number conn until answer does h =
 -- the row of the origination that it tried, which is the only one of its number
 job_row : (origs : Origs) (drawn p number : ℕ) → Numbers origs drawn → held_in (owned_in by_job origs) p ≡ Some number →
     place_of origs number ≡ Some p
-job_row origs drawn p number numbers told = by (held_in origs p) refl (sym (owned_held by_job origs p) ∙ told)
-  where
-    numbered : (by : Owner) (other : ℕ) → by_job by other ≡ Some number → other ≡ number
-    numbered (owner.Job job) other is = same_Some other number is
-    numbered (owner.Slot slot) other is = absurd (none-some number is)
-
-    by : (held : Option (Numbered Orig)) → held_in origs p ≡ held → owned_at by_job held ≡ Some number → place_of origs number ≡ Some p
-    by None is told = absurd (none-some number told)
-    by (Some row) is told =
-        let same : row.number ≡ number = numbered row.held.owner row.number told in
-        let found : HasRow origs row.number = row_of_held origs p row is in
-        let place : found.0 ≡ p = numbers.apart found.0 p found.1 row found.2.there is found.2.numbered in
-        ap (place_of origs) (sym same) ∙ (found.2.at ∙ ap Some place)
+job_row origs drawn p number numbers told =
+    let there = job_there origs p number told in
+    let found : HasRow origs there.0.number = row_of_held origs p there.0 there.1 in
+    let place : found.0 ≡ p = numbers.apart found.0 p found.1 there.0 found.2.there there.1 found.2.numbered in
+    ap (place_of origs) (sym there.2) ∙ (found.2.at ∙ ap Some place)
 
 -- a job ends with the row of the origination that it tried
 tries_without : (jobs : Jobs) (origs : Origs) (drawn q number : ℕ) (job : Numbered Job) → Numbers origs drawn →

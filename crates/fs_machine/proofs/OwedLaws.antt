@@ -1,6 +1,6 @@
--- Behind every run each reply that is owed has one job that owes it, and somebody has something to do.
-use Rattle.std.proofs.Common.{◌≡◌, ◌≢◌, ℕ, ◌+◌, ◌-◌, ◌*◌, ◌^◌, ◌≤◌, min, true, List, ◌∷◌, Option, None, Some, is_some, refl, sym, ap, ◌∙◌}
-use Rattle.std.proofs.Common.{arith, [], if◌then◌else◌}
+-- Behind every entry each reply that is owed has one job that owes it, and somebody has something to do.
+use Rattle.std.proofs.Common.{◌≡◌, ◌≢◌, ℕ, ◌+◌, ◌-◌, ◌*◌, ◌^◌, ◌≤◌, min, true, Option, None, Some, is_some, refl, sym, ap, ◌∙◌, arith}
+use Rattle.std.proofs.Common.{if◌then◌else◌, ◌<◌}
 use Rattle.std.specs.Option.{option_and_then}
 use Rattle.std.proofs.lemmas.Bool.{ltb-false}
 use Rattle.std.proofs.lemmas.List.{length-map}
@@ -11,11 +11,11 @@ use Rattle.fs_doc.specs.Reading.{Configuration}
 use Rattle.fs_orig.specs.declared.orig.Orig.{Orig}
 use Rattle.fs_places.specs.declared.numbered.Numbered.{Numbered}
 use Rattle.fs_places.specs.Places.{held_in, no_places}
-use Rattle.fs_places.proofs.TableLemmas.{something_there, one_there, none_held, HasRow, row_is, row_found, row_of_held, row_of_number}
-use Rattle.fs_places.proofs.TableLemmas.{number_at, numbers_in, taken_in, one_if, taken_numbers, none_taken}
+use Rattle.fs_places.proofs.TableLemmas.{something_there, one_there, none_held, HasRow, row_is, row_found, row_of_held, taken_in, one_if}
+use Rattle.fs_places.proofs.TableLemmas.{none_taken}
 use Rattle.fs_places.specs.Least.{lesser}
 use Rattle.fs_places.proofs.LeastLemmas.{lesser_never, least_never}
-use Rattle.fs_places.proofs.NumberLemmas.{no_number, none_numbered}
+use Rattle.fs_places.proofs.NumberLemmas.{none_numbered, Numbers}
 use Rattle.fs_state.specs.declared.conn.Conn.{Conn}
 use Rattle.fs_state.specs.declared.job.Job.{Job}
 use Rattle.fs_state.specs.declared.job.JobWork.{JobWork}
@@ -29,15 +29,17 @@ use Rattle.fs_machine.specs.Questions.{owed_of, owed_to, owes}
 use Rattle.fs_machine.specs.Due.{orig_due, work_due, job_due, is_now, later_of, row_moment, due_number, due_slot, due_job}
 use Rattle.fs_machine.specs.Due.{first_chan_moment, first_job_moment, actor_or, later_or_never, due_among_all, next_due}
 use Rattle.fs_machine.specs.Step.{act_done, step, refusal_of}
-use Rattle.fs_machine.specs.Runs.{run_from, IsRunFrom}
 use Rattle.fs_machine.specs.Owed.{HasOneJob, AreOwed}
-use Rattle.fs_machine.proofs.OwedBooks.{Books, books_of, tried_by, HasJob, HasNumber, trying_in, Sound, Goes, Few, Paid}
+use Rattle.fs_machine.proofs.OwedBooks.{Books, books_of, tried_by, HasJob, HasNumber, trying_in, Sound, Goes, Few, Paid, SlotsAreFew}
 use Rattle.fs_machine.proofs.FrameLemmas.{some_cost}
 use Rattle.fs_machine.proofs.OwedJobs.{parts_of}
 use Rattle.fs_machine.proofs.OrderLemmas.{not_full, not_refused}
 use Rattle.fs_machine.proofs.OwedActs.{goes_acted}
+use Rattle.fs_machine.proofs.Kept.{Stage, Fact, KeptByMoves}
+use Rattle.fs_machine.proofs.OwedTables.{by_job, by_slot, owned_at, owned_in, taken_apart, job_has_row, none_owned}
+use Rattle.fs_machine.proofs.OwedLosses.{OwnsAwaited}
 
--- ---- runs
+-- ---- entries
 
 -- all facts on a state that a run comes to
 pub record Holds (b : Books) : Type 0 where
@@ -61,26 +63,29 @@ holds_empty config small = record {
     tries = record {
       there = λ q job number is t. absurd (none_held 1024 q job is);
       alone = λ q r a c number is_a is_c ta tc. absurd (none_held 1024 q a is_a);
-      within = λ p number is. absurd (no_number Orig 1280 p number is);
+      within = λ p number is. absurd (none_owned by_job 1280 p number is);
       fewer = fewer;
       job_places = no_places_length (Numbered Job) 1024;
-      orig_places = length-map (no_places {T = Numbered Orig} 1280) number_at ∙ no_places_length (Numbered Orig) 1280;
+      orig_places = length-map (no_places {T = Numbered Orig} 1280) (owned_at by_job) ∙ no_places_length (Numbered Orig) 1280;
     };
   };
   paid = record { conns = omega arith; jobs = omega arith; origs = omega arith; limit = small };
 }
   where
-    fewer : taken_in (numbers_in (no_places {T = Numbered Orig} 1280)) ≤ trying_in (no_places {T = Numbered Job} 1024)
+    fewer : taken_in (owned_in by_job (no_places {T = Numbered Orig} 1280)) ≤ trying_in (no_places {T = Numbered Job} 1024)
     fewer =
-        let same : taken_in (numbers_in (no_places {T = Numbered Orig} 1280)) ≡ taken_in (no_places {T = Numbered Orig} 1280) =
-        taken_numbers (no_places {T = Numbered Orig} 1280) in
+        let apart : taken_in (no_places {T = Numbered Orig} 1280) ≡ taken_in (owned_in by_job (no_places {T = Numbered Orig} 1280))
+        + taken_in (owned_in by_slot (no_places {T = Numbered Orig} 1280)) = taken_apart (no_places {T = Numbered Orig} 1280) in
         let none : taken_in (no_places {T = Numbered Orig} 1280) ≡ 0 = none_taken {T = Numbered Orig} one_if 1280 refl in
-        omega (arith, same, none)
+        omega (arith, apart, none)
 
--- an entry that is not refused keeps them
-pub holds_step : (s : Switch) (entry : Entry) → refusal_of s entry ≡ None → Holds (books_of s) → Holds (books_of (step s entry).state)
+-- where few numbers were drawn, the next entry comes to all that it must, beside a fact that tells whose originations there are
+pub holds_step : (s : Switch) (entry : Entry) (Q : Fact) → KeptByMoves (at_moment entry.moment s) Q →
+    ((b : Stage) (t : Switch) → Q b t → OwnsAwaited t) → ((b : Stage) (t : Switch) → Q b t → Numbers t.origs t.drawn.origs) →
+    refusal_of s entry ≡ None → SlotsAreFew s → Q None (at_moment entry.moment s) → Holds (books_of s) →
+    Holds (books_of (step s entry).state)
 unfolding step
-holds_step s entry accepts h =
+holds_step s entry Q kept owns numbers accepts slots q h =
     let room : s.cost + 65600 ≤ s.config.settings.journal_limit =
     ltb-false s.config.settings.journal_limit (s.cost + 65600) (not_full s entry accepts) in
     let small : s.config.settings.journal_limit ≤ 1073741824 = h.paid.limit in
@@ -93,7 +98,7 @@ holds_step s entry accepts h =
       origs = omega (arith, room, small, paid_origs);
     } in
     let goes : Goes (books_of s) (books_of (act_done entry.act (at_moment entry.moment s)).state) =
-    goes_acted entry.act (at_moment entry.moment s) (not_refused s entry accepts) few h.sound in
+    goes_acted entry.act (at_moment entry.moment s) Q kept owns numbers (not_refused s entry accepts) few h.sound slots q in
     after (act_done entry.act (at_moment entry.moment s)).state goes room small paid_conns paid_jobs paid_origs (some_cost entry.act)
   where
     after : (t : Switch) → Goes (books_of s) (books_of t) → s.cost + 65600 ≤ s.config.settings.journal_limit →
@@ -116,9 +121,14 @@ holds_step s entry accepts h =
           };
         }
 
-pub holds_run : (entries : List Entry) (s : Switch) → IsRunFrom s entries → Holds (books_of s) → Holds (books_of (run_from s entries))
-holds_run [] s run h = h
-holds_run (entry ∷ entries) s run h = holds_run entries (step s entry).state run.1 (holds_step s entry run.0 h)
+-- where an entry is not refused, few originations were drawn
+pub few_drawn : (s : Switch) (entry : Entry) → refusal_of s entry ≡ None → Holds (books_of s) → s.drawn.origs < 2 ^ 30
+few_drawn s entry accepts h =
+    let room : s.cost + 65600 ≤ s.config.settings.journal_limit =
+    ltb-false s.config.settings.journal_limit (s.cost + 65600) (not_full s entry accepts) in
+    let small : s.config.settings.journal_limit ≤ 1073741824 = h.paid.limit in
+    let paid : 64 * s.drawn.origs ≤ s.cost = h.paid.origs in
+    omega (arith, room, small, paid)
 
 -- ---- what is owed
 
@@ -127,12 +137,12 @@ orig_is_due now x None is none = none-some x is
 orig_is_due now x (Some o) is none = cc none
 
 -- work has a next moment, if its origination is there
-work_is_due : (s : Switch) (work : JobWork) → ((number : ℕ) → tried_by work ≡ Some number → HasNumber (numbers_in s.origs) number) →
-    work_due s work ≢ None
+work_is_due : (s : Switch) (work : JobWork) →
+    ((number : ℕ) → tried_by work ≡ Some number → HasNumber (owned_in by_job s.origs) number) → work_due s work ≢ None
 work_is_due s (Sleep until) there none = cc none
 work_is_due s (Originate orig winner caller) there none =
     let had = there orig refl in
-    let row : HasRow s.origs orig = row_of_number s.origs orig had.0 had.1 in
+    let row : HasRow s.origs orig = job_has_row s.origs had.0 orig had.1 in
     orig_is_due s.moment row.1.held (orig_of s orig) (row_is s.origs orig row.0 row.1 row.2) none
 
 -- each job is the one of its number
@@ -150,7 +160,7 @@ job_is_due s q job h is none =
     work_is_due s job.held.work (λ number t. h.tries.there q job number is t)
     (sym (ap (λ (held : Option Job). option_and_then (λ (j : Job). work_due s j.work) held) (job_is_known s q job h is)) ∙ none)
 
-are_owed : (s : Switch) → Sound (books_of s) → AreOwed s
+pub are_owed : (s : Switch) → Sound (books_of s) → AreOwed s
 are_owed s h = record { owed = λ conn since is. owed conn since is; parted = λ conn c is. parts_of s conn c h.linked.parts is }
   where
     owed : (conn since : ℕ) → owed_to s conn ≡ Some since → HasOneJob s conn
@@ -174,12 +184,6 @@ are_owed s h = record { owed = λ conn since is. owed conn since is; parted = λ
                 due = job_is_due s had.0 had.1 h had.2;
               },
             )
-
-pub run_is_owed : (config : Configuration) (entries : List Entry) → config.settings.journal_limit ≤ 1073741824 →
-    IsRunFrom (empty config) entries → AreOwed (run_from (empty config) entries)
-run_is_owed config entries small run =
-    let h : Holds (books_of (run_from (empty config) entries)) = holds_run entries (empty config) run (holds_empty config small) in
-    are_owed (run_from (empty config) entries) h.sound
 
 -- ---- who has something to do
 
@@ -244,9 +248,3 @@ goes_on s conn now h owed never = by (owed_to s conn) refl owed
         let job : HasOneJob s conn = h.owed conn since is in
         let works = job_at_work s job.1.number job.2.due in
         works.3 (due_at_moment s now works.1.held.work (never_due (at_moment now s) works.0 works.1 works.2 never))
-
-pub run_goes_on : (config : Configuration) (entries : List Entry) → config.settings.journal_limit ≤ 1073741824 →
-    IsRunFrom (empty config) entries → (conn now : ℕ) →
-    owes (run_from (empty config) entries) conn ≡ true → next_due now (run_from (empty config) entries) ≢ actor.Never
-run_goes_on config entries small run conn now owed =
-    goes_on (run_from (empty config) entries) conn now (run_is_owed config entries small run) owed

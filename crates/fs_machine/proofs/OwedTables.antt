@@ -1,18 +1,20 @@
 -- The originations that jobs own, and those that slots own, as tables of numbers, and how these go through changes of originations.
-use Rattle.std.proofs.Common.{◌≡◌, ℕ, zero, suc, ◌+◌, true, List, [], ◌∷◌, map, Option, None, Some, refl, sym, ap, ◌∙◌, arith}
+use Rattle.std.proofs.Common.{◌≡◌, ℕ, zero, suc, ◌+◌, true, List, [], ◌∷◌, map, Option, None, Some, refl, sym, ap, subst, ◌∙◌, arith}
 use Rattle.std.specs.List.{slice_set}
 use Rattle.std.proofs.lemmas.Bool.{false≢true}
+use Rattle.std.proofs.lemmas.Option.{none-some, same_Some}
+use Rattle.fs_places.specs.Places.{no_places, held_in, with_held, least_free}
+use Rattle.fs_places.proofs.HeldLemmas.{nothing_held}
+use Rattle.fs_places.proofs.TableLemmas.{HasRow, row_of_held, something_there, row_found, row_written, row_removed, row_added, one_if}
+use Rattle.fs_places.proofs.TableLemmas.{taken_in}
 use Rattle.std.proofs.lemmas.List.{set-get_or, map-set}
 use Rattle.std.proofs.lemmas.List.Sums.{sum_by-cons}
 use Rattle.fs_orig.specs.declared.orig.Orig.{Orig}
 use Rattle.fs_orig.specs.declared.orig.Owner.{Owner}
 use Rattle.fs_orig.specs.declared.orig.Owner.TheVariants as owner
 use Rattle.fs_places.specs.declared.numbered.Numbered.{Numbered}
-use Rattle.fs_places.specs.Places.{held_in, with_held, least_free}
 use Rattle.fs_places.specs.Rows.{has_number, place_of, row_of, with_held_at, with_row, without_row, with_new_row}
 use Rattle.fs_places.proofs.RowLemmas.{held_of, row_at, place_stands, free_least}
-use Rattle.fs_places.proofs.TableLemmas.{something_there, row_found, row_written, row_removed, row_added}
-use Rattle.fs_places.proofs.TableLemmas.{one_if, taken_in}
 use Rattle.fs_state.proofs.LegTables.{Origs}
 
 -- what is told of the owner of an origination
@@ -139,3 +141,29 @@ taken_apart (held ∷ more) =
     either : (x : Option (Numbered Orig)) → one_if x ≡ one_if (owned_at by_job x) + one_if (owned_at by_slot x)
     either None = refl
     either (Some row) = whose row.held.owner row.number
+
+-- what a job owns stands there
+pub job_there : (origs : Origs) (place number : ℕ) → held_in (owned_in by_job origs) place ≡ Some number →
+    (row : Numbered Orig) × (held_in origs place ≡ Some row) × (row.number ≡ number)
+job_there origs place number told = by (held_in origs place) refl (sym (owned_held by_job origs place) ∙ told)
+  where
+    numbered : (by : Owner) (other : ℕ) → by_job by other ≡ Some number → other ≡ number
+    numbered (owner.Job job) other is = same_Some other number is
+    numbered (owner.Slot slot) other is = absurd (none-some number is)
+
+    by : (held : Option (Numbered Orig)) → held_in origs place ≡ held → owned_at by_job held ≡ Some number →
+        (row : Numbered Orig) × (held_in origs place ≡ Some row) × (row.number ≡ number)
+    by None is told = absurd (none-some number told)
+    by (Some row) is told = (row, is, numbered row.held.owner row.number told)
+
+-- so there is an origination of its number
+pub job_has_row : (origs : Origs) (place number : ℕ) → held_in (owned_in by_job origs) place ≡ Some number → HasRow origs number
+job_has_row origs place number told =
+    let there = job_there origs place number told in
+    subst (λ (n : ℕ). HasRow origs n) there.2 (row_of_held origs place there.0 there.1)
+
+-- in an empty table nobody owns any
+pub none_owned : (of : Tells) (count place number : ℕ) → held_in (owned_in of (no_places {T = Numbered Orig} count)) place ≡ Some number → ⊥
+none_owned of count place number told =
+    none-some number
+    (sym (owned_held of (no_places {T = Numbered Orig} count) place ∙ ap (owned_at of) (nothing_held (Numbered Orig) count place)) ∙ told)

@@ -50,6 +50,7 @@ pub mod ChannelMoves
 pub mod BondRows
 pub mod BondLemmas
 pub mod BondTables
+pub mod BondHangups
 pub mod SoundLemmas
 pub mod SoundLaws
 pub mod CountLemmas

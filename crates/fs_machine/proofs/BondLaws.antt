@@ -1,14 +1,21 @@
 -- The rows of bridges agree with the channels, as the definition has it.
 use Rattle.std.proofs.Common.{◌≡◌, ◌≢◌, ℕ, zero, suc, ◌+◌, ◌≤◌, ◌<◌, ◌==◌, Bool, true, false, ◌||◌, if◌then◌else◌, List, [], ◌∷◌, length, Option, None}
-use Rattle.std.proofs.Common.{Some, All, count_by, ◌⊎◌, inl, inr, refl, sym, ap, subst, ◌∙◌, arith}
+use Rattle.std.proofs.Common.{is_some, Some, All, count_by, ◌⊎◌, inl, inr, refl, sym, ap, subst, ◌∙◌, arith}
 use Rattle.std.specs.List.{find}
-use Rattle.std.proofs.lemmas.Cmp.{nat_eq_equiv}
-use Rattle.std.proofs.lemmas.Option.{none-some}
+use Rattle.std.proofs.lemmas.Bool.{false≢true}
+use Rattle.std.proofs.lemmas.Option.{none-some, same_Some}
 use Rattle.fs_bridge.specs.declared.row.Row.{Row}
 use Rattle.fs_bridge.specs.Bridges.{BridgeRows, has_leg, part_of}
 use Rattle.fs_bridge.specs.Hangups.{IsOneOf}
 use Rattle.fs_bridge.specs.Laws.{IsRow, IsSound}
+use Rattle.fs_bridge.specs.Closure.{peer_in}
 use Rattle.fs_bridge.proofs.RowLemmas.{one_if, count_front, none_found}
+use Rattle.fs_chan.specs.declared.chan.Chan.{Chan}
+use Rattle.fs_chan.specs.declared.peer.Peer.{Peer}
+use Rattle.fs_state.specs.Switch.{Switch, chan_at, bridge_at}
+use Rattle.fs_machine.specs.Sound.{IsLegWith, RowsAgree}
+use Rattle.fs_machine.proofs.BondRows.{caller_leg, answerer_leg}
+use Rattle.fs_machine.proofs.BondTables.{NamesPeer, Bonds}
 
 -- ---- rows are found by their legs
 
@@ -31,16 +38,6 @@ only_found test (first ∷ rows) row one is has = by (λ fewer there. only_found
         let fewer : one_if false + count_by test rows ≤ 1 = subst (λ b. one_if b + count_by test rows ≤ 1) e counted in
         later (omega (arith, fewer)) there
 
-caller_leg : (row : Row) → has_leg row.caller row ≡ true
-caller_leg row = ap (λ b. b || (row.answerer == row.caller)) (nat_eq_equiv.refl row.caller)
-
-answerer_leg : (row : Row) → has_leg row.answerer row ≡ true
-answerer_leg row = by (row.caller == row.answerer) (nat_eq_equiv.refl row.answerer)
-  where
-    by : (b : Bool) → (row.answerer == row.answerer) ≡ true → (b || (row.answerer == row.answerer)) ≡ true
-    by true is = refl
-    by false is = is
-
 -- what holds of all rows holds of one
 one_holds : (P : Row → Type 0) (rows : List Row) (row : Row) → All P rows → IsOneOf row rows → P row
 one_holds P [] row all is = absurd is
@@ -57,3 +54,37 @@ module _ (bridges : BridgeRows) (row : Row) (sound : IsSound bridges) (is : IsOn
 
   pub answerer_part : part_of row.answerer bridges ≡ Some row
   answerer_part = only_found (has_leg row.answerer) bridges.rows row (sound.one row.answerer) is (answerer_leg row)
+
+-- ---- all of it
+
+-- whoever names a peer is a leg of the bridge with it
+leg_with : (s : Switch) → Bonds s → (slot : ℕ) (c : Chan) (peer : Peer) → chan_at s slot ≡ Some c → c.peer ≡ Some peer → IsLegWith s slot peer
+leg_with s h slot c peer there names = by (bridge_at s slot) refl (h.back slot c there (ap is_some names))
+  where
+    by : (found : Option Row) → bridge_at s slot ≡ found → is_some found ≡ true → IsLegWith s slot peer
+    by None part some = absurd (false≢true some)
+    by (Some row) part some =
+        let leg : NamesPeer s.channels slot (peer_in row slot) = h.legs slot row part in
+        let same : c ≡ leg.chan = same_Some c leg.chan (sym there ∙ leg.there) in
+        let named : peer ≡ record { slot = peer_in row slot; uuid = leg.peer.uuid } =
+        same_Some peer (record { slot = peer_in row slot; uuid = leg.peer.uuid })
+        (sym names ∙ (ap (λ (d : Chan). d.peer) same ∙ leg.names)) in
+        record { row = row; part = part; other = ap (λ (p : Peer). p.slot) named }
+
+pub rows_agree : (s : Switch) → Bonds s → RowsAgree s
+rows_agree s h = record {
+  apart = λ row is. row_apart s.bridges row h.rows.sound is;
+  caller = λ row is. caller_part s.bridges row h.rows.sound is;
+  answerer = λ row is. answerer_part s.bridges row h.rows.sound is;
+  legs = λ slot row part.
+      let leg : NamesPeer s.channels slot (peer_in row slot) = h.legs slot row part in
+      record {
+        chan = leg.chan;
+        there = leg.there;
+        live = leg.live;
+        peer = leg.peer;
+        peer_there = leg.peer_there;
+        names = leg.names;
+      };
+  back = leg_with s h;
+}

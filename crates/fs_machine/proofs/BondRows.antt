@@ -46,10 +46,10 @@ is_leg row slot is =
       | inr e ↦ inr (sym (eqb-true row.answerer slot e))
     ]
 
-caller_leg : (row : Row) → has_leg row.caller row ≡ true
+pub caller_leg : (row : Row) → has_leg row.caller row ≡ true
 caller_leg row = ap (λ b. b || (row.answerer == row.caller)) (nat_eq_equiv.refl row.caller)
 
-answerer_leg : (row : Row) → has_leg row.answerer row ≡ true
+pub answerer_leg : (row : Row) → has_leg row.answerer row ≡ true
 answerer_leg row = by (row.caller == row.answerer) (nat_eq_equiv.refl row.answerer)
   where
     by : (b : Bool) → (row.answerer == row.answerer) ≡ true → (b || (row.answerer == row.answerer)) ≡ true

@@ -151,7 +151,7 @@ given_up_legs slot awaited s h =
 
 -- ---- a channel is hung up, and the leg that it is dies
 
-cut_roles : (cause : Cause) (slot : ℕ) (c : Chan) (s : Switch) →
+pub cut_roles : (cause : Cause) (slot : ℕ) (c : Chan) (s : Switch) →
     roles_of (with_state_events c.state CsHangup (with_event (hangup_event cause) (with_chan slot (Some (hung_up cause c)) s))) ≡ record
     (roles_of s) { channels = with_held s.channels slot (Some (hung_up cause c)) }
 cut_roles cause slot c s =

@@ -44,6 +44,7 @@ pub mod LegLemmas
 pub mod LegBirths
 pub mod LegHangups
 pub mod LegMoves
+pub mod OwnerLemmas
 pub mod WinnerMoves
 pub mod CauseMoves
 pub mod ChannelMoves

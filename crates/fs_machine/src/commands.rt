@@ -80,6 +80,7 @@ fn is_password(draft: &Draft<'_>, given: &[u8]) -> bool
 }
 
 // Runs an api command, and answers it, unless the answer is owed.
+#[tactic(auto, using(fs_api::proofs::EchoLemmas::echoes))]
 fn respond(draft: &mut Draft<'_>, conn: u32, text: &[u8]) -> Result<(), Memory>
     ensures { Brings result draft.old draft.new
         (spec.with_response conn (done_by conn (api_of text.now) (drafted draft.old))) }

@@ -50,7 +50,7 @@ abbrev pub hangs_up : ℕ → Members → Switch → Bool
 hangs_up slot named s = has_slot slot (members_for named s)
 
 -- in order they are the same
-same_members : (named : Members) (s : Switch) (slot : ℕ) →
+pub same_members : (named : Members) (s : Switch) (slot : ℕ) →
     hangs_up slot named s ≡ has_slot slot (members_of (world_of s) (living_of s named))
 same_members named s slot = has_order slot [] (members_of (world_of s) (living_of s named))
 

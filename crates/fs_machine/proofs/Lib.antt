@@ -57,3 +57,4 @@ pub mod SoundLaws
 pub mod CountLemmas
 pub mod SlotCounts
 pub mod BondLaws
+pub mod CutLemmas

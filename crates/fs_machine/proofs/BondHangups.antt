@@ -33,7 +33,7 @@ use Rattle.fs_state.specs.Hangups.{world_of, living_of, lives_at, has_peer, Ende
 use Rattle.fs_state.specs.Hangups.{after_member, after_members, after_outliving, after_survival, after_survivals, after_closure, after_hangups}
 use Rattle.fs_machine.proofs.Kept.{hold_in, is_idle, IsApt}
 use Rattle.fs_machine.proofs.StayLemmas.{differing_kept, state_told_kept, changed_there, moved_there}
-use Rattle.fs_machine.proofs.JoinLemmas.{DialsNone}
+use Rattle.fs_machine.proofs.JoinLemmas.{DialsNone, rest_dials}
 use Rattle.fs_machine.proofs.LegLemmas.{Channels}
 use Rattle.fs_machine.proofs.BondRows.{IsLeg, RowsFit, leg_part, peer_leg, still_part, stays_part, unbridged_fit}
 use Rattle.fs_machine.proofs.BondLemmas.{HasEnded, member_ended, Outlives, survivor_outlives, end_stands}
@@ -125,10 +125,12 @@ none_open open_at rest channels bridges place none split whole h = record {
           | inr left ↦ inl left
         ]
 
-peerless_apt : (c d : Chan) → d.peer ≡ None → d.leg_of ≡ c.leg_of → d.direction ≡ c.direction → d.state ≡ c.state → IsApt c → IsApt d
-peerless_apt c d none leg direction state apt = record {
+pub peerless_apt : (c d : Chan) → d.peer ≡ None → d.leg_of ≡ c.leg_of → d.direction ≡ c.direction → d.state ≡ c.state →
+    (awaited_by c ≡ None → awaited_by d ≡ None) → IsApt c → IsApt d
+peerless_apt c d none leg direction state dials apt = record {
   outbound = λ some. direction ∙ apt.outbound (ap is_some (sym leg) ∙ some);
   idle = λ some. ap is_idle state ∙ apt.idle (ap is_some (sym leg) ∙ some);
+  free = λ some. dials (apt.free (ap is_some (sym leg) ∙ some));
   alone = λ some. absurd (false≢true (sym (ap is_some none) ∙ some));
   held = λ some. absurd (false≢true (sym (ap is_some none) ∙ some));
 }
@@ -138,6 +140,7 @@ pub nothing_apt : (d : Chan) → d.peer ≡ None → d.leg_of ≡ None → IsApt
 nothing_apt d none lone = record {
   outbound = λ some. absurd (false≢true (sym (ap is_some lone) ∙ some));
   idle = λ some. absurd (false≢true (sym (ap is_some lone) ∙ some));
+  free = λ some. absurd (false≢true (sym (ap is_some lone) ∙ some));
   alone = λ some. absurd (false≢true (sym (ap is_some none) ∙ some));
   held = λ some. absurd (false≢true (sym (ap is_some none) ∙ some));
 }
@@ -154,7 +157,7 @@ freed_bonds open_at rest cause place t none split whole h = by (chan_at t place)
     by None is = none_open open_at rest t.channels t.bridges place is split whole h
     by (Some c) is =
         lone_put open_at rest t.channels t.bridges place c (unbridged cause c) is none
-        (peerless_apt c (unbridged cause c) refl refl refl refl (h.apt place c is)) refl split whole h
+        (peerless_apt c (unbridged cause c) refl refl refl refl (λ none. none) (h.apt place c is)) refl split whole h
 
 -- bridges that stood when the hangup began have ended
 record Ending (s t : Switch) : Type 0 where
@@ -386,7 +389,8 @@ module _ (survivors : List (ℕ × After)) (bridges : BridgeRows) where
       told_ended (plain_event ChannelExecuteComplete) (after_move at_rest slot t)
       (moved_there (AllEnd survivors bridges) told_ended at_rest slot t
       (λ c is. put_ended slot c (at_rest c) t is none
-      (peerless_apt c (at_rest c) (peerless t slot c none h is) refl refl refl (h.bonds.apt slot c is)) (peerless t slot c none h is)
+      (peerless_apt c (at_rest c) (peerless t slot c none h is) refl refl refl
+      (λ none. rest_dials c.socket c.state) (h.bonds.apt slot c is)) (peerless t slot c none h is)
       (λ no. no) h) h)
   outlives_ended Park slot t none lone h =
       moved_there (AllEnd survivors bridges) told_ended parked slot t

@@ -268,6 +268,7 @@ media_stays s slot meets c there =
       apt = λ apt. record {
         outbound = apt.outbound;
         idle = λ some. absurd (false≢true (sym (ap is_some lone) ∙ some));
+        free = apt.free;
         alone = apt.alone;
         held = apt.held;
       };

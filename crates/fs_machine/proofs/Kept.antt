@@ -84,10 +84,11 @@ is_idle CsInit = true
 is_idle CsConsumeMedia = true
 is_idle _ = false
 
--- such a leg is outbound and has nothing to run, and a leg of a bridge is none of these, and waits for the end of the bridge
+-- such a leg is outbound, has nothing to run and waits for no legs of its own, and a leg of a bridge is none of these, and waits for the end of the bridge
 pub record IsApt (c : Chan) : Type 0 where
   pub outbound : is_some c.leg_of ≡ true → c.direction ≡ Outbound
   pub idle : is_some c.leg_of ≡ true → is_idle c.state ≡ true
+  pub free : is_some c.leg_of ≡ true → awaited_by c ≡ None
   pub alone : is_some c.peer ≡ true → c.leg_of ≡ None
   pub held : is_some c.peer ≡ true → hold_in c.wait ≡ Bridged
 

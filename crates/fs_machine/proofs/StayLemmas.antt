@@ -13,9 +13,9 @@ use Rattle.fs_chan.specs.declared.chan.Chan.{Chan}
 use Rattle.fs_chan.specs.declared.peer.Direction.{Direction}
 use Rattle.fs_chan.specs.declared.peer.Direction.TheVariants.{Inbound, Outbound}
 use Rattle.fs_chan.specs.declared.wait.Wait.{Wait}
-use Rattle.fs_chan.specs.declared.wait.Wait.TheVariants.{Ready, Bridged}
+use Rattle.fs_chan.specs.declared.wait.Wait.TheVariants.{Ready, Bridged, Legs}
 use Rattle.fs_chan.specs.Changes.{is_live, with_answer_place, wait_at_rest, HasShortFields}
-use Rattle.fs_chan.specs.Bridging.{with_disposition}
+use Rattle.fs_chan.specs.Bridging.{awaited_in, with_disposition}
 use Rattle.fs_chan.specs.Work as chan
 use Rattle.fs_text.specs.Texts.{Text}
 use Rattle.fs_vars.specs.Variables.{Variables}
@@ -82,6 +82,17 @@ pub first_lives : (direction : Direction) → Lives (first_state direction)
 first_lives Inbound = routing_lives
 first_lives Outbound = media_lives
 
+-- ---- what a channel waits for
+
+hold_awaited : (wait : Wait) → awaited_in (hold_in wait) ≡ awaited_in wait
+hold_awaited (Legs orig) = refl
+hold_awaited Bridged = refl
+hold_awaited _ = refl
+
+-- held by the same, it waits for the same legs
+pub same_awaited : (old new : Wait) → hold_in new ≡ hold_in old → awaited_in new ≡ awaited_in old
+same_awaited old new same = sym (hold_awaited new) ∙ (ap awaited_in same ∙ hold_awaited old)
+
 -- ---- a channel at work
 
 -- it is no leg that others wait for, and no leg of a bridge
@@ -89,6 +100,7 @@ nothing_else : (c d : Chan) → IsAtWork c → d.leg_of ≡ c.leg_of → d.peer 
 nothing_else c d works leg peer apt = record {
   outbound = λ some. absurd (no_leg (ap is_some (sym leg) ∙ some));
   idle = λ some. absurd (no_leg (ap is_some (sym leg) ∙ some));
+  free = λ some. absurd (no_leg (ap is_some (sym leg) ∙ some));
   alone = λ some. absurd (no_peer (ap is_some (sym peer) ∙ some));
   held = λ some. absurd (no_peer (ap is_some (sym peer) ∙ some));
 }
@@ -151,6 +163,7 @@ quiet_stays c d quiet = record {
   apt = λ apt. record {
     outbound = λ some. quiet.direction ∙ apt.outbound (ap is_some (sym leg) ∙ some);
     idle = λ some. ap is_idle quiet.state ∙ apt.idle (ap is_some (sym leg) ∙ some);
+    free = λ some. same_awaited c.wait d.wait (ap (λ (l : Links). l.hold) quiet.links) ∙ apt.free (ap is_some (sym leg) ∙ some);
     alone = λ some. leg ∙ apt.alone (ap is_some (sym peer) ∙ some);
     held = λ some. ap (λ (l : Links). l.hold) quiet.links ∙ apt.held (ap is_some (sym peer) ∙ some);
   };

@@ -77,7 +77,7 @@ begins_stays c is = record {
   links = refl;
   live = init_lives ∙ sym (live_by c CsNew true is new_lives);
   short = λ short. short;
-  apt = λ apt. record { outbound = apt.outbound; idle = λ some. refl; alone = apt.alone; held = apt.held };
+  apt = λ apt. record { outbound = apt.outbound; idle = λ some. refl; free = apt.free; alone = apt.alone; held = apt.held };
 }
 
 -- an inbound one is routed, and is no leg that others wait for
@@ -89,6 +89,7 @@ first_stays c is = record {
   apt = λ apt. record {
     outbound = apt.outbound;
     idle = λ some. ap (λ (direction : Direction). is_idle (first_state direction)) (apt.outbound some);
+    free = apt.free;
     alone = apt.alone;
     held = apt.held;
   };
@@ -103,6 +104,7 @@ routed_stays vars actions c is = record {
   apt = λ apt. record {
     outbound = apt.outbound;
     idle = λ some. absurd (true≢false (sym (apt.idle some) ∙ ap is_idle is));
+    free = apt.free;
     alone = apt.alone;
     held = apt.held;
   };
@@ -116,6 +118,7 @@ reports_stays c is = record {
   apt = λ apt. record {
     outbound = apt.outbound;
     idle = λ some. absurd (true≢false (sym (apt.idle some) ∙ ap is_idle is));
+    free = apt.free;
     alone = apt.alone;
     held = apt.held;
   };

@@ -31,7 +31,7 @@ pub mod OwedBooks
 pub mod OwedLemmas
 pub mod OwedJobs
 pub mod OwedActs
-pub mod OwedLaws
+pub mod OwedSteps
 pub mod DueLaws
 pub mod CloseLaws
 pub mod PartnerLemmas
@@ -52,6 +52,8 @@ pub mod BondRows
 pub mod BondLemmas
 pub mod BondTables
 pub mod BondHangups
+pub mod StandingLemmas
+pub mod OwedLaws
 pub mod SoundLemmas
 pub mod SoundLaws
 pub mod CountLemmas

@@ -1,134 +1,33 @@
--- Behind every entry each reply that is owed has one job that owes it, and somebody has something to do.
-use Rattle.std.proofs.Common.{◌≡◌, ◌≢◌, ℕ, ◌+◌, ◌-◌, ◌*◌, ◌^◌, ◌≤◌, min, true, Option, None, Some, is_some, refl, sym, ap, ◌∙◌, arith}
-use Rattle.std.proofs.Common.{if◌then◌else◌, ◌<◌}
+-- Behind every run each reply that is owed has one job that owes it, and somebody has something to do.
+use Rattle.std.proofs.Common.{List, ◌≡◌, ◌≢◌, ℕ, ◌-◌, true, Option, None, Some, is_some, refl, sym, ap, ◌∙◌, if◌then◌else◌}
 use Rattle.std.specs.Option.{option_and_then}
-use Rattle.std.proofs.lemmas.Bool.{ltb-false}
-use Rattle.std.proofs.lemmas.List.{length-map}
 use Rattle.std.proofs.lemmas.Option.{none-some}
 use Rattle.fs_chan.specs.declared.due.Due.{Due}
 use Rattle.fs_chan.specs.declared.due.Due.TheVariants.{Now, At}
 use Rattle.fs_doc.specs.Reading.{Configuration}
 use Rattle.fs_orig.specs.declared.orig.Orig.{Orig}
 use Rattle.fs_places.specs.declared.numbered.Numbered.{Numbered}
-use Rattle.fs_places.specs.Places.{held_in, no_places}
-use Rattle.fs_places.proofs.TableLemmas.{something_there, one_there, none_held, HasRow, row_is, row_found, row_of_held, taken_in, one_if}
-use Rattle.fs_places.proofs.TableLemmas.{none_taken}
+use Rattle.fs_places.specs.Places.{held_in}
+use Rattle.fs_places.proofs.TableLemmas.{something_there, one_there, HasRow, row_is, row_found, row_of_held}
 use Rattle.fs_places.specs.Least.{lesser}
 use Rattle.fs_places.proofs.LeastLemmas.{lesser_never, least_never}
-use Rattle.fs_places.proofs.NumberLemmas.{none_numbered, Numbers}
 use Rattle.fs_state.specs.declared.conn.Conn.{Conn}
 use Rattle.fs_state.specs.declared.job.Job.{Job}
 use Rattle.fs_state.specs.declared.job.JobWork.{JobWork}
 use Rattle.fs_state.specs.declared.job.JobWork.TheVariants.{Sleep, Originate}
 use Rattle.fs_state.specs.Switch.{Switch, empty, orig_of, job_of, conn_of, at_moment}
-use Rattle.fs_state.proofs.SlotLemmas.{no_places_length}
 use Rattle.fs_machine.specs.declared.due.DueActor.TheVariants as actor
 use Rattle.fs_machine.specs.declared.entry.Entry.{Entry}
-use Rattle.fs_machine.specs.Entries.{cost_of}
 use Rattle.fs_machine.specs.Questions.{owed_of, owed_to, owes}
 use Rattle.fs_machine.specs.Due.{orig_due, work_due, job_due, is_now, later_of, row_moment, due_number, due_slot, due_job}
 use Rattle.fs_machine.specs.Due.{first_chan_moment, first_job_moment, actor_or, later_or_never, due_among_all, next_due}
-use Rattle.fs_machine.specs.Step.{act_done, step, refusal_of}
 use Rattle.fs_machine.specs.Owed.{HasOneJob, AreOwed}
-use Rattle.fs_machine.proofs.OwedBooks.{Books, books_of, tried_by, HasJob, HasNumber, trying_in, Sound, Goes, Few, Paid, SlotsAreFew}
-use Rattle.fs_machine.proofs.FrameLemmas.{some_cost}
+use Rattle.fs_machine.proofs.OwedBooks.{books_of, tried_by, HasJob, HasNumber, Sound}
 use Rattle.fs_machine.proofs.OwedJobs.{parts_of}
-use Rattle.fs_machine.proofs.OrderLemmas.{not_full, not_refused}
-use Rattle.fs_machine.proofs.OwedActs.{goes_acted}
-use Rattle.fs_machine.proofs.Kept.{Stage, Fact, KeptByMoves}
-use Rattle.fs_machine.proofs.OwedTables.{by_job, by_slot, owned_at, owned_in, taken_apart, job_has_row, none_owned}
-use Rattle.fs_machine.proofs.OwedLosses.{OwnsAwaited}
-
--- ---- entries
-
--- all facts on a state that a run comes to
-pub record Holds (b : Books) : Type 0 where
-  pub sound : Sound b
-  pub paid : Paid b
-
-pub holds_empty : (config : Configuration) → config.settings.journal_limit ≤ 1073741824 → Holds (books_of (empty config))
-holds_empty config small = record {
-  sound = record {
-    linked = record {
-      numbers = none_numbered config.settings.max_connections;
-      parts = λ p a is. absurd (none_held config.settings.max_connections p a is);
-      job_numbers = none_numbered 1024;
-      owes = record {
-        owed = λ p a since is o. absurd (none_held config.settings.max_connections p a is);
-        owes = λ q job p a is_job is e. absurd (none_held 1024 q job is_job);
-        alone = λ q r a c is_a is_c e. absurd (none_held 1024 q a is_a);
-        within = λ q job is. absurd (none_held 1024 q job is);
-      };
-    };
-    tries = record {
-      there = λ q job number is t. absurd (none_held 1024 q job is);
-      alone = λ q r a c number is_a is_c ta tc. absurd (none_held 1024 q a is_a);
-      within = λ p number is. absurd (none_owned by_job 1280 p number is);
-      fewer = fewer;
-      job_places = no_places_length (Numbered Job) 1024;
-      orig_places = length-map (no_places {T = Numbered Orig} 1280) (owned_at by_job) ∙ no_places_length (Numbered Orig) 1280;
-    };
-  };
-  paid = record { conns = omega arith; jobs = omega arith; origs = omega arith; limit = small };
-}
-  where
-    fewer : taken_in (owned_in by_job (no_places {T = Numbered Orig} 1280)) ≤ trying_in (no_places {T = Numbered Job} 1024)
-    fewer =
-        let apart : taken_in (no_places {T = Numbered Orig} 1280) ≡ taken_in (owned_in by_job (no_places {T = Numbered Orig} 1280))
-        + taken_in (owned_in by_slot (no_places {T = Numbered Orig} 1280)) = taken_apart (no_places {T = Numbered Orig} 1280) in
-        let none : taken_in (no_places {T = Numbered Orig} 1280) ≡ 0 = none_taken {T = Numbered Orig} one_if 1280 refl in
-        omega (arith, apart, none)
-
--- where few numbers were drawn, the next entry comes to all that it must, beside a fact that tells whose originations there are
-pub holds_step : (s : Switch) (entry : Entry) (Q : Fact) → KeptByMoves (at_moment entry.moment s) Q →
-    ((b : Stage) (t : Switch) → Q b t → OwnsAwaited t) → ((b : Stage) (t : Switch) → Q b t → Numbers t.origs t.drawn.origs) →
-    refusal_of s entry ≡ None → SlotsAreFew s → Q None (at_moment entry.moment s) → Holds (books_of s) →
-    Holds (books_of (step s entry).state)
-unfolding step
-holds_step s entry Q kept owns numbers accepts slots q h =
-    let room : s.cost + 65600 ≤ s.config.settings.journal_limit =
-    ltb-false s.config.settings.journal_limit (s.cost + 65600) (not_full s entry accepts) in
-    let small : s.config.settings.journal_limit ≤ 1073741824 = h.paid.limit in
-    let paid_conns : 64 * s.drawn.conns ≤ s.cost = h.paid.conns in
-    let paid_jobs : 64 * s.drawn.jobs ≤ s.cost = h.paid.jobs in
-    let paid_origs : 64 * s.drawn.origs ≤ s.cost = h.paid.origs in
-    let few : Few (books_of s) = record {
-      conns = omega (arith, room, small, paid_conns);
-      jobs = omega (arith, room, small, paid_jobs);
-      origs = omega (arith, room, small, paid_origs);
-    } in
-    let goes : Goes (books_of s) (books_of (act_done entry.act (at_moment entry.moment s)).state) =
-    goes_acted entry.act (at_moment entry.moment s) Q kept owns numbers (not_refused s entry accepts) few h.sound slots q in
-    after (act_done entry.act (at_moment entry.moment s)).state goes room small paid_conns paid_jobs paid_origs (some_cost entry.act)
-  where
-    after : (t : Switch) → Goes (books_of s) (books_of t) → s.cost + 65600 ≤ s.config.settings.journal_limit →
-        s.config.settings.journal_limit ≤ 1073741824 →
-        64 * s.drawn.conns ≤ s.cost → 64 * s.drawn.jobs ≤ s.cost → 64 * s.drawn.origs ≤ s.cost → 64 ≤ cost_of entry.act →
-        Holds (record (books_of t) { cost = min (t.cost + cost_of entry.act) (2 ^ 64 - 1) })
-    after t goes room small paid_conns paid_jobs paid_origs some =
-        let conns : t.drawn.conns ≤ s.drawn.conns + 1 = goes.near.conns in
-        let jobs : t.drawn.jobs ≤ s.drawn.jobs + 1 = goes.near.jobs in
-        let origs : t.drawn.origs ≤ s.drawn.origs + 1 = goes.near.origs in
-        let cost : t.cost ≡ s.cost = goes.near.cost in
-        let limit : t.config.settings.journal_limit ≡ s.config.settings.journal_limit = goes.near.limit in
-        record {
-          sound = record { linked = goes.sound.linked; tries = goes.sound.tries };
-          paid = record {
-            conns = omega (arith, conns, cost, room, small, paid_conns, some);
-            jobs = omega (arith, jobs, cost, room, small, paid_jobs, some);
-            origs = omega (arith, origs, cost, room, small, paid_origs, some);
-            limit = omega (arith, limit, small);
-          };
-        }
-
--- where an entry is not refused, few originations were drawn
-pub few_drawn : (s : Switch) (entry : Entry) → refusal_of s entry ≡ None → Holds (books_of s) → s.drawn.origs < 2 ^ 30
-few_drawn s entry accepts h =
-    let room : s.cost + 65600 ≤ s.config.settings.journal_limit =
-    ltb-false s.config.settings.journal_limit (s.cost + 65600) (not_full s entry accepts) in
-    let small : s.config.settings.journal_limit ≤ 1073741824 = h.paid.limit in
-    let paid : 64 * s.drawn.origs ≤ s.cost = h.paid.origs in
-    omega (arith, room, small, paid)
+use Rattle.fs_machine.proofs.OwedTables.{by_job, owned_in, job_has_row}
+use Rattle.fs_doc.specs.Limits.{IsWithin}
+use Rattle.fs_machine.specs.Runs.{run_from, IsRunFrom}
+use Rattle.fs_machine.proofs.StandingLemmas.{standing_run}
 
 -- ---- what is owed
 
@@ -184,6 +83,10 @@ are_owed s h = record { owed = λ conn since is. owed conn since is; parted = λ
                 due = job_is_due s had.0 had.1 h had.2;
               },
             )
+
+pub run_is_owed : (config : Configuration) (entries : List Entry) → IsWithin config → IsRunFrom (empty config) entries →
+    AreOwed (run_from (empty config) entries)
+run_is_owed config entries within run = are_owed (run_from (empty config) entries) (standing_run config entries within run).holds.sound
 
 -- ---- who has something to do
 
@@ -248,3 +151,8 @@ goes_on s conn now h owed never = by (owed_to s conn) refl owed
         let job : HasOneJob s conn = h.owed conn since is in
         let works = job_at_work s job.1.number job.2.due in
         works.3 (due_at_moment s now works.1.held.work (never_due (at_moment now s) works.0 works.1 works.2 never))
+
+pub run_goes_on : (config : Configuration) (entries : List Entry) → IsWithin config → IsRunFrom (empty config) entries →
+    (conn now : ℕ) → owes (run_from (empty config) entries) conn ≡ true → next_due now (run_from (empty config) entries) ≢ actor.Never
+run_goes_on config entries within run conn now owed =
+    goes_on (run_from (empty config) entries) conn now (run_is_owed config entries within run) owed

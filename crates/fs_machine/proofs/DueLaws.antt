@@ -1,6 +1,6 @@
 -- Whoever has something to do is not refused it, and what is due later is due once its moment has come.
-use Rattle.std.proofs.Common.{◌≡◌, ℕ, ◌<◌, ◌≤◌, max, leb, Bool, true, false, List, Option, None, Some, ◌⊎◌, inl, inr, refl, sym, ap, subst}
-use Rattle.std.proofs.Common.{◌∙◌, arith, if◌then◌else◌}
+use Rattle.std.proofs.Common.{◌≡◌, ℕ, ◌<◌, max, leb, Bool, true, false, List, Option, None, Some, ◌⊎◌, inl, inr, refl, sym, ap, subst, ◌∙◌}
+use Rattle.std.proofs.Common.{arith, if◌then◌else◌}
 use Rattle.std.specs.Option.{option_and_then}
 use Rattle.std.proofs.lemmas.Bool.{both_ways}
 use Rattle.std.proofs.lemmas.Option.{none-some, same_Some}
@@ -36,7 +36,9 @@ use Rattle.fs_machine.specs.Step.{not_due, refused_act}
 use Rattle.fs_machine.specs.Runs.{run_from, IsRunFrom}
 use Rattle.fs_machine.proofs.DueLemmas.{next_to_come}
 use Rattle.fs_machine.proofs.OwedBooks.{books_of, Sound}
-use Rattle.fs_machine.proofs.OwedLaws.{Holds, holds_empty, holds_run, job_is_known}
+use Rattle.fs_doc.specs.Limits.{IsWithin}
+use Rattle.fs_machine.proofs.StandingLemmas.{standing_run}
+use Rattle.fs_machine.proofs.OwedLaws.{job_is_known}
 
 -- ---- jobs are known by their numbers
 
@@ -48,11 +50,9 @@ known_in : (s : Switch) → Sound (books_of s) → AreKnown s
 known_in s h = record { known = λ place job is. job_is_known s place job h is }
 
 -- behind every run they are so
-pub run_is_known : (config : Configuration) (entries : List Entry) → config.settings.journal_limit ≤ 1073741824 →
-    IsRunFrom (empty config) entries → AreKnown (run_from (empty config) entries)
-run_is_known config entries small run =
-    let h : Holds (books_of (run_from (empty config) entries)) = holds_run entries (empty config) run (holds_empty config small) in
-    known_in (run_from (empty config) entries) h.sound
+pub run_is_known : (config : Configuration) (entries : List Entry) → IsWithin config → IsRunFrom (empty config) entries →
+    AreKnown (run_from (empty config) entries)
+run_is_known config entries within run = known_in (run_from (empty config) entries) (standing_run config entries within run).holds.sound
 
 -- ---- who has something to do is not refused
 

@@ -14,10 +14,10 @@ pub sound_state : (config : Configuration) (kept : Switch) (journal : List Entry
     IsSound (run_from (empty config) journal)
 sound_state config kept journal within stands = record {
   partners = partners_agree config journal;
-  live = live_has_partner config journal within.settings.journal.1 stands.defined;
-  profiles = profiles_are_short config journal within.settings.journal.1 stands.defined;
+  live = live_has_partner config journal within stands.defined;
+  profiles = profiles_are_short config journal within stands.defined;
   identifiers = identifiers_differ config journal within stands.defined;
-  legs = run_has_legs config journal within.settings.journal.1 stands.defined;
-  failures = failures_are_told config journal within.settings.journal.1 stands.defined;
-  owed = run_is_owed config journal within.settings.journal.1 stands.defined;
+  legs = run_has_legs config journal within stands.defined;
+  failures = failures_are_told config journal within stands.defined;
+  owed = run_is_owed config journal within stands.defined;
 }

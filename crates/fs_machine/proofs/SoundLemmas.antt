@@ -1,8 +1,8 @@
 -- In every run live channels have partners, which agree, the texts of channels keep their limits, identifiers differ, legs are channels,
 -- and an origination that fails is told why.
-use Rattle.std.proofs.Common.{◌≡◌, ℕ, ◌+◌, ◌-◌, ◌*◌, ◌<◌, ◌≤◌, ◌^◌, min, true, IsSome, List, [], ◌∷◌, length, Option, None, Some}
+use Rattle.std.proofs.Common.{◌≡◌, ℕ, ◌+◌, ◌-◌, ◌*◌, ◌<◌, ◌≤◌, ◌^◌, true, IsSome, List, [], ◌∷◌, length, Option, None, Some}
 use Rattle.std.proofs.Common.{option_and_then, option_map, refl, sym, ap, subst, ◌∙◌, arith}
-use Rattle.std.proofs.lemmas.Bool.{both_ways, false≢true, ltb-false}
+use Rattle.std.proofs.lemmas.Bool.{false≢true, ltb-false}
 use Rattle.fs_text.proofs.NamingLemmas.{naming_none}
 use Rattle.fs_doc.specs.Limits.{AreInRange, IsWithin}
 use Rattle.fs_doc.specs.Reading.{Configuration}
@@ -12,14 +12,11 @@ use Rattle.fs_orig.specs.declared.orig.Orig.{Orig}
 use Rattle.fs_orig.specs.Meaning.{IsWithCauses}
 use Rattle.fs_orig.proofs.VerdictLemmas.{failed_is}
 use Rattle.fs_places.specs.declared.numbered.Numbered.{Numbered}
-use Rattle.fs_places.specs.Places.{no_places, held_in}
-use Rattle.fs_places.specs.Rows.{has_number}
 use Rattle.fs_places.proofs.HeldLemmas.{nothing_held}
 use Rattle.fs_places.proofs.TableLemmas.{taken_in, taken_most}
 use Rattle.fs_state.specs.declared.job.Job.{Job}
 use Rattle.fs_state.specs.Switch.{Switch, empty, chan_at, orig_of, at_moment, after_entry}
 use Rattle.fs_state.specs.Moves.{partner_of}
-use Rattle.fs_state.proofs.LegTables.{Seat, seat_at, seat_number}
 use Rattle.fs_state.proofs.SlotLemmas.{no_places_length}
 use Rattle.fs_machine.specs.declared.entry.Entry.{Entry}
 use Rattle.fs_machine.specs.declared.entry.Act.{Act}
@@ -33,50 +30,21 @@ use Rattle.fs_machine.proofs.FrameLemmas.{some_cost}
 use Rattle.fs_machine.proofs.OrderLemmas.{acted_cost, acted_config, not_full}
 use Rattle.fs_machine.proofs.FramesLaws.{config_step}
 use Rattle.fs_machine.proofs.ActWalk.{acted_kept}
-use Rattle.fs_machine.proofs.OwedBooks.{books_of}
-use Rattle.fs_machine.proofs.OwedLaws.{Holds, holds_empty, holds_step}
-use Rattle.fs_machine.proofs.PartnerMoves.{ArePaired, Partners, partners_moves}
+use Rattle.fs_machine.proofs.StandingLemmas.{nothing_paired, step_pairs, Standing, standing_empty, standing_step, standing_run}
+use Rattle.fs_machine.proofs.PartnerMoves.{ArePaired}
 use Rattle.fs_machine.proofs.SeenLemmas.{seen, uuid_of, uuid_in, Named, Numbers, numbers_stay}
 use Rattle.fs_machine.proofs.IdentifierMoves.{NumbersFrom, numbers_moves}
 use Rattle.fs_machine.proofs.LegLemmas.{roles_of, LegsStand}
 use Rattle.fs_machine.proofs.LegHangups.{legs_are_channels}
-use Rattle.fs_machine.proofs.LegMoves.{Legs, legs_moves}
 use Rattle.fs_machine.proofs.CauseMoves.{ToldIn, AllTold, Told, told_there, with_causes, told_moves}
 use Rattle.fs_machine.proofs.WinnerMoves.{ShortIn, WinnersAreShort, Winners, winners_moves}
 use Rattle.fs_machine.proofs.ChannelMoves.{FitsIn, AllFit, Fit, fit_there, fit_moves}
 
 -- ---- partners
 
--- in a switch to which nothing has happened none is named
-nothing_named : (config : Configuration) → Ties partner_of (empty config).channels
-nothing_named config = record {
-  back = λ a b e. absurd (none a b e);
-  live = λ a b e. absurd (none a b e);
-}
-  where
-    none : (a b : ℕ) → named_in partner_of (empty config).channels a ≡ Some b → ⊥
-    none a b e =
-        let nothing : named_in partner_of (empty config).channels a ≡ None =
-        ap (option_and_then partner_of) (nothing_held Chan (config.settings.max_sessions + 1) a) in
-        cc
-
-nothing_paired : (config : Configuration) → ArePaired (empty config)
-nothing_paired config = record {
-  ties = nothing_named config;
-  zero = nothing_held Chan (config.settings.max_sessions + 1) 0;
-}
-
-step_agrees : (s : Switch) (entry : Entry) → ArePaired s → ArePaired (step s entry).state
-unfolding step
-step_agrees s entry h =
-    let now : Switch = at_moment entry.moment s in
-    let acted : ArePaired (act_done entry.act now).state =
-    acted_kept now Partners (partners_moves now) entry.act (record { ties = h.ties; zero = h.zero }) in
-    record { ties = acted.ties; zero = acted.zero }
-
 run_agrees : (s : Switch) (entries : List Entry) → ArePaired s → ArePaired (run_from s entries)
 run_agrees s [] h = h
-run_agrees s (entry ∷ entries) h = run_agrees (step s entry).state entries (step_agrees s entry h)
+run_agrees s (entry ∷ entries) h = run_agrees (step s entry).state entries (step_pairs s entry h)
 
 -- as the definition has it
 named_back : (s : Switch) → Ties partner_of s.channels → PartnersAgree s
@@ -97,61 +65,38 @@ pub partners_agree : (config : Configuration) (entries : List Entry) → Partner
 partners_agree config entries =
     named_back (run_from (empty config) entries) (run_agrees (empty config) entries (nothing_paired config)).ties
 
--- ---- legs, winners and channels
+-- ---- what originations and jobs tell, and channels
 
 record Stands (s : Switch) : Type 0 where
-  legs : LegsStand (roles_of s)
   told : AllTold s.origs
   winners : WinnersAreShort s.jobs
   fit : AllFit s.channels
 
--- none stands in an empty table
-none_stands : (T : Type 0) (count number place : ℕ) → has_number number (held_in (no_places {T = Numbered T} count) place) ≡ true → ⊥
-none_stands T count number place stands =
-    both_ways (has_number number (held_in (no_places {T = Numbered T} count) place))
-    (ap (has_number number) (nothing_held (Numbered T) count place)) stands
-
-none_seated : (place position : ℕ) (seat : Seat) → seat_at (no_places {T = Numbered Orig} 1280) place position ≡ Some seat → ⊥
-none_seated place position seat h =
-    none_stands Orig 1280 seat.number place (seat_number position (held_in (no_places {T = Numbered Orig} 1280) place) seat h)
-
 nothing_stands : (config : Configuration) → Stands (empty config)
 nothing_stands config = record {
-  legs = record {
-    distinct = λ number p q is_p is_q. absurd (none_stands Orig 1280 number p is_p);
-    within = λ number p is. absurd (none_stands Orig 1280 number p is);
-    stand = λ place position seat has. absurd (none_seated place position seat has);
-    apart = λ place p q seat first second. absurd (none_seated place p seat first);
-  };
   told = λ place. subst ToldIn (sym (nothing_held (Numbered Orig) 1280 place)) tt;
   winners = λ place. subst ShortIn (sym (nothing_held (Numbered Job) 1024 place)) tt;
   fit = λ slot. subst FitsIn (sym (nothing_held Chan (config.settings.max_sessions + 1) slot)) tt;
 }
 
-step_stands : (s : Switch) (entry : Entry) → Holds (books_of (step s entry).state) → Stands s → Stands (step s entry).state
+step_stands : (s : Switch) (entry : Entry) → LegsStand (roles_of s) → Stands s → Stands (step s entry).state
 unfolding step
-step_stands s entry holds h =
+step_stands s entry legs h =
     let now : Switch = at_moment entry.moment s in
-    let paid : 64 * (act_done entry.act now).state.drawn.origs ≤ min ((act_done entry.act now).state.cost + cost_of entry.act) (2 ^ 64 - 1)
-    =
-    holds.paid.origs in
     record {
-      legs = acted_kept now Legs (legs_moves now h.legs) entry.act (λ few. h.legs) (omega (arith, paid));
       told = acted_kept now Told (told_moves now) entry.act h.told;
       winners = acted_kept now Winners (winners_moves now) entry.act h.winners;
-      fit = acted_kept now Fit (fit_moves now h.legs h.winners) entry.act h.fit;
+      fit = acted_kept now Fit (fit_moves now legs h.winners) entry.act h.fit;
     }
 
-run_stands : (s : Switch) (entries : List Entry) → IsRunFrom s entries → Holds (books_of s) → Stands s → Stands (run_from s entries)
-run_stands s [] run holds h = h
-run_stands s (entry ∷ entries) run holds h =
-    let next : Holds (books_of (step s entry).state) = holds_step s entry run.0 holds in
-    run_stands (step s entry).state entries run.1 next (step_stands s entry next h)
+run_stands : (s : Switch) (entries : List Entry) → IsRunFrom s entries → Standing s → Stands s → Stands (run_from s entries)
+run_stands s [] run standing h = h
+run_stands s (entry ∷ entries) run standing h =
+    run_stands (step s entry).state entries run.1 (standing_step s entry run.0 standing) (step_stands s entry standing.legs h)
 
-all_stand : (config : Configuration) (entries : List Entry) → config.settings.journal_limit ≤ 1073741824 →
-    IsRunFrom (empty config) entries →
+all_stand : (config : Configuration) (entries : List Entry) → IsWithin config → IsRunFrom (empty config) entries →
     Stands (run_from (empty config) entries)
-all_stand config entries small run = run_stands (empty config) entries run (holds_empty config small) (nothing_stands config)
+all_stand config entries within run = run_stands (empty config) entries run (standing_empty config within) (nothing_stands config)
 
 -- as the definitions have it
 live_partner : (s : Switch) → PartnersAgree s → AllFit s.channels → LiveHasPartner s
@@ -164,36 +109,32 @@ live_partner s agree fit =
     by slot c there live (Some other) is some =
         record { other = other; partner = is; back = agree.back slot other (record { chan = c; there = there; live = live; partner = is }) }
 
-pub run_has_legs : (config : Configuration) (entries : List Entry) → config.settings.journal_limit ≤ 1073741824 →
-    IsRunFrom (empty config) entries →
+pub run_has_legs : (config : Configuration) (entries : List Entry) → IsWithin config → IsRunFrom (empty config) entries →
     LegsAreChannels (run_from (empty config) entries)
-run_has_legs config entries small run = legs_are_channels (run_from (empty config) entries) (all_stand config entries small run).legs
+run_has_legs config entries within run = legs_are_channels (run_from (empty config) entries) (standing_run config entries within run).legs
 
-pub failures_are_told : (config : Configuration) (entries : List Entry) → config.settings.journal_limit ≤ 1073741824 →
-    IsRunFrom (empty config) entries →
+pub failures_are_told : (config : Configuration) (entries : List Entry) → IsWithin config → IsRunFrom (empty config) entries →
     FailuresAreTold (run_from (empty config) entries)
-failures_are_told config entries small run = record {
+failures_are_told config entries within run = record {
   causes = has_causes;
   last = λ number now o cause there fails. failed_is now cause o fails (has_causes number o there);
 }
   where
     has_causes : (number : ℕ) (o : Orig) → orig_of (run_from (empty config) entries) number ≡ Some o → IsWithCauses o.legs
     has_causes number o there =
-        with_causes o (told_there (run_from (empty config) entries).origs number o there (all_stand config entries small run).told)
+        with_causes o (told_there (run_from (empty config) entries).origs number o there (all_stand config entries within run).told)
 
-pub live_has_partner : (config : Configuration) (entries : List Entry) → config.settings.journal_limit ≤ 1073741824 →
-    IsRunFrom (empty config) entries →
+pub live_has_partner : (config : Configuration) (entries : List Entry) → IsWithin config → IsRunFrom (empty config) entries →
     LiveHasPartner (run_from (empty config) entries)
-live_has_partner config entries small run =
-    live_partner (run_from (empty config) entries) (partners_agree config entries) (all_stand config entries small run).fit
+live_has_partner config entries within run =
+    live_partner (run_from (empty config) entries) (partners_agree config entries) (all_stand config entries within run).fit
 
-pub profiles_are_short : (config : Configuration) (entries : List Entry) → config.settings.journal_limit ≤ 1073741824 →
-    IsRunFrom (empty config) entries →
+pub profiles_are_short : (config : Configuration) (entries : List Entry) → IsWithin config → IsRunFrom (empty config) entries →
     ProfilesAreShort (run_from (empty config) entries)
-profiles_are_short config entries small run =
+profiles_are_short config entries within run =
     record {
       each =
-          λ slot c there. (fit_there (run_from (empty config) entries) slot c there (all_stand config entries small run).fit).short;
+          λ slot c there. (fit_there (run_from (empty config) entries) slot c there (all_stand config entries within run).fit).short;
     }
 
 -- ---- identifiers

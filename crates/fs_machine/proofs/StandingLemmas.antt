@@ -65,6 +65,12 @@ nothing_named config = record {
         ap (option_and_then partner_of) (nothing_held Chan (config.settings.max_sessions + 1) a) in
         cc
 
+pub nothing_paired : (config : Configuration) → ArePaired (empty config)
+nothing_paired config = record {
+  ties = nothing_named config;
+  zero = nothing_held Chan (config.settings.max_sessions + 1) 0;
+}
+
 -- none stands in an empty table
 none_stands : (T : Type 0) (count number place : ℕ) → has_number number (held_in (no_places {T = Numbered T} count) place) ≡ true → ⊥
 none_stands T count number place stands =
@@ -133,12 +139,21 @@ standing_empty config within = record {
   legs = nothing_stands config;
   bonds = nothing_bonded config;
   owned = nothing_owned config;
-  paired = record { ties = nothing_named config; zero = nothing_held Chan (config.settings.max_sessions + 1) 0 };
+  paired = nothing_paired config;
   slots = no_places_length Chan (config.settings.max_sessions + 1);
   sessions = within.settings.sessions.1;
 }
 
 -- ---- entries
+
+-- each entry pairs channels, refused or not
+pub step_pairs : (s : Switch) (entry : Entry) → ArePaired s → ArePaired (step s entry).state
+unfolding step
+step_pairs s entry h =
+    let now : Switch = at_moment entry.moment s in
+    let acted : ArePaired (act_done entry.act now).state =
+    acted_kept now Partners (partners_moves now) entry.act (record { ties = h.ties; zero = h.zero }) in
+    record { ties = acted.ties; zero = acted.zero }
 
 -- slots own few originations
 pub slots_few : (s : Switch) → Standing s → SlotsAreFew s
@@ -171,14 +186,12 @@ standing_step s entry accepts h =
         let now : Switch = at_moment entry.moment s in
         let t : Switch = (act_done entry.act now).state in
         let paid : 64 * t.drawn.origs ≤ min (t.cost + cost_of entry.act) (2 ^ 64 - 1) = holds.paid.origs in
-        let acted : ArePaired t =
-        acted_kept now Partners (partners_moves now) entry.act (record { ties = h.paired.ties; zero = h.paired.zero }) in
         record {
           holds = holds;
           legs = acted_kept now Legs (legs_moves now h.legs) entry.act (λ few. h.legs) (omega (arith, paid));
           bonds = owning.bonds;
           owned = owning.owned;
-          paired = record { ties = acted.ties; zero = acted.zero };
+          paired = step_pairs s entry h.paired;
           slots = acted_slots entry.act now
               ∙ (h.slots ∙ ap (λ (c : Configuration). c.settings.max_sessions + 1) (sym (acted_config entry.act now)));
           sessions = subst (λ (c : Configuration). c.settings.max_sessions ≤ 256) (sym (acted_config entry.act now)) h.sessions;

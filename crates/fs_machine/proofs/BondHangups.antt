@@ -42,7 +42,7 @@ use Rattle.fs_machine.proofs.BondTables.{NamesPeer, OpenBonds, BondsIn, Bonds, N
 -- ---- whoever outlives a bridge
 
 -- what is held by a bridge waits for no legs
-held_dials : (wait : Wait) → hold_in wait ≡ Bridged → awaited_in wait ≡ None
+pub held_dials : (wait : Wait) → hold_in wait ≡ Bridged → awaited_in wait ≡ None
 held_dials Ready is = refl
 held_dials (Sleep until) is = refl
 held_dials Parked is = refl
@@ -270,10 +270,10 @@ all_end (e ∷ ended) s t fit stood h =
 -- ---- whoever hangs up, and whoever does not
 
 -- a channel in a slot is no leg of an origination
-abbrev LoneIn : Channels → ℕ → Type 0
+abbrev pub LoneIn : Channels → ℕ → Type 0
 LoneIn channels slot = (c : Chan) → held_in channels slot ≡ Some c → c.leg_of ≡ None
 
-lone_kept : (channels : Channels) (slot place : ℕ) (old new : Chan) → held_in channels place ≡ Some old →
+pub lone_kept : (channels : Channels) (slot place : ℕ) (old new : Chan) → held_in channels place ≡ Some old →
     (old.leg_of ≡ None → new.leg_of ≡ None) → LoneIn channels slot → LoneIn (with_held channels place (Some new)) slot
 lone_kept channels slot place old new there keeps h c is = by (stood channels place old new slot c there is)
   where

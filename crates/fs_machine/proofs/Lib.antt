@@ -54,6 +54,8 @@ pub mod BondTables
 pub mod BondHangups
 pub mod StandingLemmas
 pub mod OwedLaws
+pub mod BondChanges
+pub mod BondMoves
 pub mod SoundLemmas
 pub mod SoundLaws
 pub mod CountLemmas

@@ -62,3 +62,6 @@ pub mod CountLemmas
 pub mod SlotCounts
 pub mod BondLaws
 pub mod CutLemmas
+pub mod AwaitedTables
+pub mod AwaitedLemmas
+pub mod AwaitedMoves

@@ -1,0 +1,222 @@
+-- Each act leaves it so that whoever waits for an origination lives and owns it.
+use Rattle.std.proofs.Common.{◌≡◌, ℕ, ◌+◌, ◌-◌, ◌^◌, min, true, if◌then◌else◌, Bool, false, List, [], Option, None, Some, unwrap_or, ◌⊎◌, inl, inr}
+use Rattle.std.proofs.Common.{refl, sym, ap, subst, ◌∙◌}
+use Rattle.std.proofs.lemmas.Option.{none-some, same_Some}
+use Rattle.fs_text.specs.Texts.{Text}
+use Rattle.fs_text.specs.declared.causes.Cause.{Cause}
+use Rattle.fs_bridge.specs.declared.row.BridgeKind.{BridgeKind}
+use Rattle.fs_bridge.specs.Closure.{Members}
+use Rattle.fs_chan.specs.declared.chan.Chan.{Chan}
+use Rattle.fs_chan.specs.Bridging.{awaiting, awaited_by, exported_pairs}
+use Rattle.fs_chan.specs.Changes.{is_live}
+use Rattle.fs_orig.specs.declared.caller.Caller.{Caller}
+use Rattle.fs_orig.specs.declared.leg.OrigLeg.{OrigLeg}
+use Rattle.fs_orig.specs.declared.orig.Orig.{Orig}
+use Rattle.fs_orig.specs.declared.orig.Owner.TheVariants as owner
+use Rattle.fs_orig.specs.declared.plan.LegPlan.{LegPlan}
+use Rattle.fs_orig.specs.declared.winner.Winner.{Winner}
+use Rattle.fs_orig.specs.declared.winner.Winner.TheVariants.{App, Route}
+use Rattle.fs_orig.specs.Changes.{new_orig, may_enter_next, at_next_group}
+use Rattle.fs_orig.specs.Plans.{all_behind}
+use Rattle.fs_places.specs.Places.{held_in, with_held}
+use Rattle.fs_places.specs.Rows.{row_of, with_new_row}
+use Rattle.fs_places.proofs.HeldLemmas.{IsFree}
+use Rattle.fs_state.specs.declared.conn.Conn.{Conn}
+use Rattle.fs_state.specs.declared.conn.Parting.TheVariants as parting
+use Rattle.fs_state.specs.declared.job.JobWork.{JobWork}
+use Rattle.fs_state.specs.declared.job.JobWork.TheVariants.{Sleep, Originate}
+use Rattle.fs_state.specs.Switch.{Switch, chan_at, without_orig, next_orig_number, next_job_number, with_new_job, without_job}
+use Rattle.fs_state.specs.Moves.{after_move}
+use Rattle.fs_state.specs.Hangups.{after_hangups}
+use Rattle.fs_state.proofs.LegTables.{Origs}
+use Rattle.fs_machine.specs.declared.originations.Call.{Call}
+use Rattle.fs_machine.specs.Texts.{made_text, failed_text}
+use Rattle.fs_machine.specs.Connections.{conn_changed, admitted, parted, owed_since, not_owed}
+use Rattle.fs_machine.specs.Originations.{seconds, pair_made, MadeGroup, group_made, won_by, after_winning}
+use Rattle.fs_machine.specs.Attempts.{first_group, orig_begun, originate_begun, awaits, with_group}
+use Rattle.fs_machine.specs.Bridging.{caller_of, group_dialed}
+use Rattle.fs_machine.specs.Dialing.{tried_by_slot}
+use Rattle.fs_machine.specs.Owing.{after_job_begin, after_job_end}
+use Rattle.fs_chan.specs.Moments.{moment_after}
+use Rattle.fs_machine.proofs.Kept.{Stage, Fact, KeptByTouches, KeptByCalls, KeptByBirths, DoesJob, raced, KeptByJobs, KeptByDials}
+use Rattle.fs_machine.proofs.Kept.{KeptByCommands, KeptByMoves}
+use Rattle.fs_machine.proofs.StayLemmas.{moved_there}
+use Rattle.fs_machine.proofs.NameLemmas.{leg_chan, far_chan, pair_channels}
+use Rattle.fs_machine.proofs.FrontLemmas.{conn_unread}
+use Rattle.fs_machine.proofs.Walk.{group_made_kept}
+use Rattle.fs_machine.proofs.LegLemmas.{Channels, Roles, roles_of}
+use Rattle.fs_machine.proofs.LegBirths.{pair_roles, pair_spares}
+use Rattle.fs_machine.proofs.OwnerLemmas.{KeepsOwner}
+use Rattle.fs_machine.proofs.BondTables.{NoSlot, Stood, stood}
+use Rattle.fs_machine.proofs.AwaitedTables.{HasOwner, Await, awaits_none, new_await, left_await, rows_await, stay_new, gone_await}
+use Rattle.fs_machine.proofs.AwaitedLemmas.{Awaits, touches_await, moved_await, orig_changed_await, hung_await, failed_await, won_await}
+use Rattle.fs_machine.proofs.AwaitedLemmas.{joined_await, left_await_all, without_await}
+
+-- ---- births
+
+pair_await : (call : Call) (orig a b : ℕ) (s : Switch) → Awaits s → Awaits (pair_made call orig a b s)
+pair_await call orig a b s h =
+    subst (λ (origs : Origs). Await NoSlot (pair_made call orig a b s).channels origs)
+    (sym (ap (λ (r : Roles). r.origs) (pair_roles call orig a b s)))
+    (subst (λ (channels : Channels). Await NoSlot channels s.origs) (sym (pair_channels call orig a b s))
+    (new_await NoSlot (with_held s.channels a (Some (leg_chan call orig a b s))) s.origs b (far_chan call orig a b s) refl
+    (new_await NoSlot s.channels s.origs a (leg_chan call orig a b s) refl h)))
+
+-- behind births the originations are the same, and the channel of a slot is there still
+record Born (s : Switch) (slot : ℕ) (held : Option Chan) (t : Switch) : Type 0 where
+  awaits : Awaits t
+  origs : t.origs ≡ s.origs
+  drawn : t.drawn.origs ≡ s.drawn.origs
+  there : (c : Chan) → held ≡ Some c → chan_at t slot ≡ Some c
+
+births_born : (s : Switch) (slot : ℕ) (held : Option Chan) → KeptByBirths (λ b t. Born s slot held t)
+births_born s slot held = record {
+  spent = λ h. h;
+  pair = λ call orig a b {s = t} short named first second h. record {
+    awaits = pair_await call orig a b t h.awaits;
+    origs = ap (λ (r : Roles). r.origs) (pair_roles call orig a b t) ∙ h.origs;
+    drawn = ap (λ (r : Roles). r.drawn) (pair_roles call orig a b t) ∙ h.drawn;
+    there = λ c is. pair_spares call orig a b t first second slot c (h.there c is);
+  };
+}
+
+group_born : (plans : List LegPlan) (caller : Caller) (number slot : ℕ) (s : Switch) → Awaits s →
+    Born s slot (chan_at s slot) (group_made plans caller number s).state
+group_born plans caller number slot s h =
+    group_made_kept (λ b t. Born s slot (chan_at s slot) t) (births_born s slot (chan_at s slot)) plans caller number {n = 0} {s = s}
+    (record { awaits = h; origs = refl; drawn = refl; there = λ c is. is })
+
+-- the next number is the same
+born_number : (s t : Switch) → t.drawn.origs ≡ s.drawn.origs → next_orig_number t ≡ next_orig_number s
+born_number s t same = ap (λ (n : ℕ). min (n + 1) (2 ^ 64 - 1)) same
+
+-- ---- channels that dial
+
+-- a channel waits for what its slot owns
+dial_await : (channels : Channels) (origs : Origs) (slot number : ℕ) (c : Chan) → held_in channels slot ≡ Some c → is_live c ≡ true →
+    HasOwner origs number slot → Await NoSlot channels origs → Await NoSlot (with_held channels slot (Some (awaiting number c))) origs
+dial_await channels origs slot number c there live owns h = record {
+  own = λ at n d is waits. own at n d waits (stood channels slot c (awaiting number c) at d there is);
+  live = λ at n d is waits. lives at n d waits (stood channels slot c (awaiting number c) at d there is);
+}
+  where
+    own : (at n : ℕ) (d : Chan) → awaited_by d ≡ Some n → Stood channels slot c (awaiting number c) at d → NoSlot at ⊎ HasOwner origs n at
+    own at n d waits s = by s.was s.there s.how
+      where
+        by : (was : Chan) → held_in channels at ≡ Some was →
+            ((at ≡ slot) × (was ≡ c) × (d ≡ awaiting number c)) ⊎ ((at ≡ slot → ⊥) × (d ≡ was)) → NoSlot at ⊎ HasOwner origs n at
+        by was is (inl here) =
+            let same : number ≡ n = same_Some number n (sym (ap awaited_by here.2) ∙ waits) in
+            inr (subst (λ (q : ℕ). HasOwner origs n q) (sym here.0) (subst (λ (m : ℕ). HasOwner origs m slot) same owns))
+        by was is (inr other) = h.own at n was is (sym (ap awaited_by other.1) ∙ waits)
+
+    lives : (at n : ℕ) (d : Chan) → awaited_by d ≡ Some n → Stood channels slot c (awaiting number c) at d → is_live d ≡ true
+    lives at n d waits s = by s.was s.there s.how
+      where
+        by : (was : Chan) → held_in channels at ≡ Some was →
+            ((at ≡ slot) × (was ≡ c) × (d ≡ awaiting number c)) ⊎ ((at ≡ slot → ⊥) × (d ≡ was)) → is_live d ≡ true
+        by was is (inl here) = ap is_live here.2 ∙ live
+        by was is (inr other) = ap is_live other.1 ∙ h.live at n was is (sym (ap awaited_by other.1) ∙ waits)
+
+-- the origination comes, and then the channel waits for it
+begun_await : (slot number : ℕ) (c : Chan) (groups : List (List LegPlan)) (legs : List OrigLeg) (timeout : ℕ) (t : Switch) →
+    chan_at t slot ≡ Some c → is_live c ≡ true → next_orig_number t ≡ number → row_of t.origs number ≡ None →
+    ((new : Orig) → row_of (with_new_row t.origs number new) number ≡ Some new) → Awaits t →
+    Awaits (after_move (awaiting number) slot (orig_begun (owner.Slot slot) groups legs timeout t))
+begun_await slot number c groups legs timeout t there live next fresh room h =
+    moved_there Awaits (λ event u k. k) (awaiting number) slot begun
+    (λ d is.
+    let same : c ≡ d = same_Some c d (sym there ∙ is) in
+    dial_await begun.channels begun.origs slot number d is (ap is_live (sym same) ∙ live) owns came) came
+  where
+    new : Orig
+    new = new_orig (owner.Slot slot) groups legs (moment_after t.moment (seconds timeout))
+
+    begun : Switch
+    begun = orig_begun (owner.Slot slot) groups legs timeout t
+
+    rows : begun.origs ≡ with_new_row t.origs number new
+    rows = ap (λ (n : ℕ). with_new_row t.origs n new) next
+
+    owns : HasOwner begun.origs number slot
+    owns = record { orig = new; there = ap (λ (origs : Origs). row_of origs number) rows ∙ room new; owned = refl }
+
+    came : Awaits begun
+    came =
+        subst (λ (origs : Origs). Await NoSlot t.channels origs) (sym rows)
+        (rows_await NoSlot t.channels t.origs (with_new_row t.origs number new) (stay_new t.origs number new fresh) h)
+
+next_keeps : (legs : List OrigLeg) → KeepsOwner (at_next_group legs)
+next_keeps legs o = by (may_enter_next o)
+  where
+    by : (test : Bool) → (if test then record o { current = o.current + 1; legs = legs } else o).owner ≡ o.owner
+    by true = refl
+    by false = refl
+
+-- ---- jobs and connections
+
+roles_await : (s t : Switch) → roles_of t ≡ roles_of s → Awaits s → Awaits t
+roles_await s t same h = subst (λ (r : Roles). Await NoSlot r.channels r.origs) (sym same) h
+
+conn_await : (change : Conn → Conn) (conn : ℕ) (s : Switch) → Awaits s → Awaits (conn_changed change conn s)
+conn_await change conn s h = roles_await s (conn_changed change conn s) (conn_unread roles_of (λ conns t. refl) change conn s) h
+
+ended_await : (number conn : ℕ) (answer : Text) (s : Switch) → Awaits s → Awaits (after_job_end number conn answer s)
+ended_await number conn answer s h = conn_await not_owed conn (without_job number s) h
+
+owing_await : (conn : ℕ) (what : JobWork) (s : Switch) → Awaits s → Awaits (after_job_begin conn what s)
+owing_await conn what s h = conn_await (owed_since s.entries) conn (with_new_job (record { conn = conn; work = what }) s) h
+
+-- an origination goes that no slot owns
+unowned_await : (orig : ℕ) (s : Switch) → ((slot : ℕ) → HasOwner s.origs orig slot → ⊥) → Awaits s → Awaits (without_orig orig s)
+unowned_await orig s none h = gone_await NoSlot s.channels s.origs orig (λ slot c held waits owned. none slot owned) h
+
+won_none : (winner : Winner) (c : Chan) → awaited_by (won_by winner c) ≡ None
+won_none (App application argument) c = refl
+won_none (Route to) c = refl
+
+winning_await : (winner : Winner) (slot : ℕ) (s : Switch) → Awaits s → Awaits (after_winning winner slot s)
+unfolding after_winning
+winning_await winner slot s h = moved_await NoSlot (won_by winner) slot s (λ c. awaits_none c (won_by winner c) (won_none winner c)) h
+
+winning_origs : (winner : Winner) (slot : ℕ) (s : Switch) → (after_winning winner slot s).origs ≡ s.origs
+unfolding after_winning
+winning_origs winner slot s = moved_there (λ (t : Switch). t.origs ≡ s.origs) (λ event t k. k) (won_by winner) slot s (λ c there. refl) refl
+
+-- ---- every move
+
+module _ (before : Switch) (Q : Fact) (kept : KeptByMoves before Q)
+    (jobs_own : (t : Switch) → Q (Some 0) t → (job conn orig : ℕ) (winner : Winner) (caller : Caller) →
+    DoesJob t job conn (Originate orig winner caller) → (slot : ℕ) → HasOwner t.origs orig slot → ⊥)
+    (fresh : (t : Switch) → Q None t → row_of t.origs (next_orig_number t) ≡ None)
+    (room : (t : Switch) → Q None t → (slot : ℕ) (c : Chan) → chan_at t slot ≡ Some c → awaited_by c ≡ None → (new : Orig) →
+    row_of (with_new_row t.origs (next_orig_number t) new) (next_orig_number t) ≡ Some new) where
+  abbrev Waiting : Fact
+  Waiting b t = Q b t × Awaits t
+
+  touches_wait : KeptByTouches Waiting
+  touches_wait = record {
+    told = λ event h. (kept.calls.touches.told event h.0, h.1);
+    globals = λ globals h. (kept.calls.touches.globals globals h.0, h.1);
+    changed = λ slot old new {b = b} {s = s} there stays h. (
+      kept.calls.touches.changed slot old new there stays h.0,
+      (touches_await NoSlot).changed slot old new {b = b} {s = s} there stays h.1,
+    );
+    answers = λ place slot number {b = b} {s = s} h. (
+      kept.calls.touches.answers place slot number h.0,
+      (touches_await NoSlot).answers place slot number {b = b} {s = s} h.1,
+    );
+  }
+
+  calls_wait : KeptByCalls Waiting
+  calls_wait = record {
+    touches = touches_wait;
+    hung = λ named {s = s} h. (kept.calls.hung named h.0, hung_await NoSlot named s h.1);
+    joined = λ kind caller answerer c d {s = s} can there other one two first second h. (
+      kept.calls.joined kind caller answerer c d can there other one two first second h.0,
+      joined_await kind caller answerer s h.1,
+    );
+    leaves = λ slot {s = s} lone h. (kept.calls.leaves slot lone h.0, left_await_all slot s h.1);
+    more = λ h. (kept.calls.more h.0, h.1);
+    gone = λ slot old {s = s} there dead h. (kept.calls.gone slot old there dead h.0, left_await NoSlot s.channels s.origs slot h.1);
+  }

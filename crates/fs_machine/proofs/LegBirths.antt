@@ -39,7 +39,7 @@ use Rattle.fs_machine.proofs.LegLemmas.{Channels, within_same, roles_of, IsLegOf
 -- ---- a pair is made
 
 -- the second slot is free still
-second_free : (leg : Chan) (a b : ℕ) (channels : Channels) → IsFree Chan channels (a + 1) b →
+pub second_free : (leg : Chan) (a b : ℕ) (channels : Channels) → IsFree Chan channels (a + 1) b →
     held_in (with_held channels a (Some leg)) b ≡ None
 second_free leg a b channels free_b =
     held_there channels a b (Some leg) (λ same. omega (arith, free_b.behind, same)) ∙ free_b.free
@@ -136,7 +136,7 @@ leg_stands plan caller orig s = made_leg (endpoint_of plan.endpoint) plan.pairs 
 
 -- ---- the legs of a group are made
 
-spared_births : (slot : ℕ) (c : Chan) → KeptByBirths (λ b s. chan_at s slot ≡ Some c)
+pub spared_births : (slot : ℕ) (c : Chan) → KeptByBirths (λ b s. chan_at s slot ≡ Some c)
 spared_births slot c = record {
   spent = λ h. h;
   pair = λ call orig a b {s = s} short named first second h. pair_spares call orig a b s first second slot c h;

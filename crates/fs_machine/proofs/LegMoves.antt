@@ -59,20 +59,40 @@ use Rattle.fs_machine.proofs.WonLemmas.{bridge_won_kept}
 
 -- ---- what draws no number of an origination
 
-orig_changed_drawn : (change : Orig → Orig) (number : ℕ) (s : Switch) → (orig_changed change number s).drawn.origs ≡ s.drawn.origs
+pub orig_changed_drawn : (change : Orig → Orig) (number : ℕ) (s : Switch) → (orig_changed change number s).drawn.origs ≡ s.drawn.origs
 orig_changed_drawn change number s = by (orig_of s number)
   where
     by : (found : Option Orig) → (orig_changed_from change number found s).drawn.origs ≡ s.drawn.origs
     by None = refl
     by (Some o) = refl
 
-hung_drawn : (named : Members) (s : Switch) → (after_hangups named s).drawn.origs ≡ s.drawn.origs
+pub hung_drawn : (named : Members) (s : Switch) → (after_hangups named s).drawn.origs ≡ s.drawn.origs
 hung_drawn named s =
     hangups_kept named s (λ (t : Switch). t.drawn.origs ≡ s.drawn.origs) (λ event t k. k) (λ slot old new t there falls k. k)
     (λ number t k. k) (λ cause place slot number t k. orig_changed_drawn (dies cause place slot) number t ∙ k) (λ number t k. k) refl
 
-given_up_drawn : (slot : ℕ) (awaited : Option ℕ) (s : Switch) → (orig_given_up slot awaited s).drawn.origs ≡ s.drawn.origs
+pub given_up_drawn : (slot : ℕ) (awaited : Option ℕ) (s : Switch) → (orig_given_up slot awaited s).drawn.origs ≡ s.drawn.origs
 given_up_drawn slot awaited s = given_up_kept (λ (t : Switch). t.drawn.origs ≡ s.drawn.origs) (λ number t k. k) slot awaited s refl
+
+pub left_drawn : (slot : ℕ) (s : Switch) → (after_leaving slot s).drawn.origs ≡ s.drawn.origs
+left_drawn slot s =
+    let awaited : Option ℕ = option_and_then awaited_by (chan_at s slot) in
+    changed_there (λ (t : Switch). t.drawn.origs ≡ s.drawn.origs) at_leisure slot (orig_given_up slot awaited s)
+    (λ c there. given_up_drawn slot awaited s) (given_up_drawn slot awaited s)
+
+peer_drawn : (slot other : ℕ) (s : Switch) → (with_peer slot other s).drawn.origs ≡ s.drawn.origs
+peer_drawn slot other s = by (chan_at s other)
+  where
+    by : (found : Option Chan) → (with_peer_from slot other found s).drawn.origs ≡ s.drawn.origs
+    by None = refl
+    by (Some d) =
+        changed_there (λ (t : Switch). t.drawn.origs ≡ s.drawn.origs) (bridged (peer_of other d)) slot s (λ c there. refl) refl
+
+pub joined_drawn : (kind : BridgeKind) (caller answerer : ℕ) (s : Switch) →
+    (joined_as kind caller answerer s).drawn.origs ≡ s.drawn.origs
+joined_drawn kind caller answerer s =
+    let t : Switch = with_bridge caller answerer kind s in
+    peer_drawn answerer caller (with_peer caller answerer t) ∙ peer_drawn caller answerer t
 
 births_drawn : (n : ℕ) → KeptByBirths (λ b t. t.drawn.origs ≡ n)
 births_drawn n = record {
@@ -80,7 +100,7 @@ births_drawn n = record {
   pair = λ call orig a b {s = s} short named first second h. ap (λ (r : Roles). r.drawn) (pair_roles call orig a b s) ∙ h;
 }
 
-group_drawn : (plans : List LegPlan) (caller : Caller) (number : ℕ) (s : Switch) →
+pub group_drawn : (plans : List LegPlan) (caller : Caller) (number : ℕ) (s : Switch) →
     (group_made plans caller number s).state.drawn.origs ≡ s.drawn.origs
 group_drawn plans caller number s =
     group_made_kept (λ b t. t.drawn.origs ≡ s.drawn.origs) (births_drawn s.drawn.origs) plans caller number {n = 0} {s = s} refl
@@ -96,7 +116,7 @@ Legs b s = Stand (roles_of s)
 same_roles : (s t : Switch) → roles_of t ≡ roles_of s → Stand (roles_of s) → Stand (roles_of t)
 same_roles s t same h = subst Stand (sym same) h
 
-conn_roles : (change : Conn → Conn) (conn : ℕ) (s : Switch) → roles_of (conn_changed change conn s) ≡ roles_of s
+pub conn_roles : (change : Conn → Conn) (conn : ℕ) (s : Switch) → roles_of (conn_changed change conn s) ≡ roles_of s
 conn_roles change conn s = conn_unread roles_of (λ conns t. refl) change conn s
 
 -- what keeps legs, and draws none
@@ -279,7 +299,7 @@ bridge_won_legs slot orig leg s h =
 
 -- ---- a leg is won by a job
 
-won_roles : (winner : Winner) (slot : ℕ) (c : Chan) (s : Switch) → chan_at s slot ≡ Some c →
+pub won_roles : (winner : Winner) (slot : ℕ) (c : Chan) (s : Switch) → chan_at s slot ≡ Some c →
     roles_of (after_winning winner slot s) ≡ record (roles_of s) { channels = with_held s.channels slot (Some (won_by winner c)) }
 unfolding after_winning
 won_roles winner slot c s there =
@@ -330,7 +350,7 @@ begun_legs by groups timeout number before made same stands h few =
     (subst (λ (n : ℕ). GroupStands n made.legs before made.state.channels) (sym same) stands) (h fewer)
 
 -- the number is the one that was next before its legs were made
-same_next : (plans : List LegPlan) (caller : Caller) (s : Switch) →
+pub same_next : (plans : List LegPlan) (caller : Caller) (s : Switch) →
     next_orig_number (group_made plans caller (next_orig_number s) s).state ≡ next_orig_number s
 same_next plans caller s = ap (λ (n : ℕ). min (n + 1) (2 ^ 64 - 1)) (group_drawn plans caller (next_orig_number s) s)
 

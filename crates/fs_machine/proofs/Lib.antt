@@ -45,6 +45,8 @@ pub mod LegBirths
 pub mod LegHangups
 pub mod LegMoves
 pub mod OwnerLemmas
+pub mod OwnerHangups
+pub mod OwnerMoves
 pub mod WinnerMoves
 pub mod CauseMoves
 pub mod ChannelMoves

@@ -1,31 +1,33 @@
 -- What channels own of what they dialed: the channel that owns an origination waits for it, and what a channel waits for it owns, if that
-use Rattle.std.proofs.Common.{◌≡◌, ℕ, ◌<◌, Bool, true, false, if◌then◌else◌, Option, None, Some, ◌⊎◌, inl, inr, refl, sym, ap, subst, ◌∙◌}
-use Rattle.std.proofs.Common.{true≢false, ◌≤◌, length}
+use Rattle.std.proofs.Common.{◌≡◌, ℕ, ◌+◌, ◌<◌, Bool, true, false, if◌then◌else◌, Option, None, Some, ◌⊎◌, inl, inr, refl, sym, ap, subst}
+use Rattle.std.proofs.Common.{◌∙◌, arith, true≢false, ◌≤◌, length}
+use Rattle.std.specs.Prelude.{is_some}
 use Rattle.std.proofs.lemmas.Bool.{cases_eq}
 use Rattle.std.proofs.lemmas.Option.{none-some, same_Some}
+use Rattle.std.proofs.lemmas.Cmp.{nat_eq_equiv}
 use Rattle.fs_text.specs.declared.states.State.TheVariants.{CsHangup}
 use Rattle.fs_text.specs.declared.causes.Cause.{Cause}
 use Rattle.fs_chan.specs.declared.chan.Chan.{Chan}
 use Rattle.fs_chan.specs.Changes.{is_live, hung_up}
+use Rattle.fs_chan.specs.Bridging.{awaiting, awaited_by}
 use Rattle.fs_orig.specs.declared.orig.Orig.{Orig}
+use Rattle.fs_orig.specs.declared.orig.Owner.TheVariants as owner
+use Rattle.fs_orig.specs.declared.orig.Owner.{Owner}
 use Rattle.fs_orig.specs.Legs.{position_in}
 use Rattle.fs_orig.specs.Changes.{with_death}
 use Rattle.fs_places.specs.Places.{held_in, with_held}
-use Rattle.fs_places.specs.Rows.{row_of, with_row, without_row}
+use Rattle.fs_places.specs.Rows.{place_of, row_of, with_row, without_row, with_new_row}
 use Rattle.fs_places.proofs.HeldLemmas.{held_here, held_there, held_within}
 use Rattle.fs_places.proofs.TableLemmas.{IsWrittenOrKept, written_or_kept}
-use Rattle.fs_places.proofs.RowLemmas.{AreDistinct, AreWithin, distinct_same, numbers-with_row, place_of-without_row_same}
-use Rattle.fs_places.proofs.RowLemmas.{distinct-without_row, within-without_row, row_none, row_of-with_row_same, row_of-with_row_other}
-use Rattle.fs_places.proofs.RowLemmas.{row_of-without_row_other}
+use Rattle.fs_places.proofs.RowLemmas.{AreDistinct, AreWithin, above_nowhere, distinct_same, numbers-with_row, place_of-without_row_same}
+use Rattle.fs_places.proofs.RowLemmas.{distinct-without_row, within-without_row, distinct-with_new_row, within-with_new_row, row_none}
+use Rattle.fs_places.proofs.RowLemmas.{row_of-with_row_same, row_of-with_row_other, row_of-without_row_other, row_of-with_new_row}
+use Rattle.fs_places.proofs.RowLemmas.{row_of-with_new_row_other}
 use Rattle.fs_state.specs.Switch.{Switch, chan_at, with_chan, orig_of, without_orig, with_event}
 use Rattle.fs_state.specs.Moves.{with_state_events, orig_changed_from, orig_changed, leg_changed, its_leg_changed, hangup_event}
 use Rattle.fs_state.specs.Moves.{after_hangup_from, after_one_hangup, given_up_by, orig_given_up, is_owner, leg_changed_at}
 use Rattle.fs_state.proofs.LegTables.{Origs, row_there, HasPlace}
-use Rattle.std.specs.Prelude.{is_some}
-use Rattle.fs_chan.specs.Bridging.{awaited_by}
-use Rattle.fs_orig.specs.declared.orig.Owner.TheVariants as owner
 use Rattle.fs_machine.proofs.LegLemmas.{Channels, within_same, Roles, roles_of, cut_roles}
-use Rattle.std.proofs.lemmas.Cmp.{nat_eq_equiv}
 
 -- is there.
 
@@ -67,7 +69,7 @@ dials_owns r slot none h number o is owns =
 -- ---- a channel is changed
 
 -- something comes to a slot: it waits for what the slot owns, and the slot owns what it waits for
-put_owned : (r : Roles) (slot : ℕ) (new : Option Chan) → slot < length r.channels →
+pub put_owned : (r : Roles) (slot : ℕ) (new : Option Chan) → slot < length r.channels →
     ((number : ℕ) (o : Orig) → row_of r.origs number ≡ Some o → o.owner ≡ owner.Slot slot →
     IsWaiting (with_held r.channels slot new) slot number) →
     ((c : Chan) (number : ℕ) → new ≡ Some c → awaited_by c ≡ Some number →
@@ -180,7 +182,7 @@ gone_row : (origs : Origs) (number : ℕ) (o : Orig) → AreDistinct origs → r
 gone_row origs number o distinct is =
     none-some o (sym (row_none (without_row origs number) number (place_of-without_row_same origs number distinct)) ∙ is)
 
-came_without : (origs : Origs) (number : ℕ) → AreDistinct origs → Came origs (without_row origs number)
+pub came_without : (origs : Origs) (number : ℕ) → AreDistinct origs → Came origs (without_row origs number)
 came_without origs number distinct n o is = by (cases_eq number n)
   where
     by : (number ≡ n) ⊎ (number ≡ n → ⊥) → (q : Orig) × (row_of origs n ≡ Some q) × (o.owner ≡ q.owner)
@@ -193,7 +195,8 @@ came_without origs number distinct n o is = by (cases_eq number n)
 abbrev pub KeepsOwner : (Orig → Orig) → Type 0
 KeepsOwner change = (o : Orig) → (change o).owner ≡ o.owner
 
-pub leg_keeps : (change : ℕ → Orig → Orig) (slot : ℕ) → ((position : ℕ) → KeepsOwner (change position)) → KeepsOwner (leg_changed change slot)
+pub leg_keeps : (change : ℕ → Orig → Orig) (slot : ℕ) → ((position : ℕ) → KeepsOwner (change position)) →
+    KeepsOwner (leg_changed change slot)
 leg_keeps change slot keeps o = by (position_in slot o.legs)
   where
     by : (found : Option ℕ) → (leg_changed_at change found o).owner ≡ o.owner
@@ -379,3 +382,133 @@ one_hung_owned cause slot s h = by (chan_at s slot) refl
     by : (found : Option Chan) → chan_at s slot ≡ found → Owned (roles_of (after_hangup_from cause slot found s))
     by None there = h
     by (Some c) there = of c there (is_live c)
+
+-- ---- as a switch has it
+
+pub given_up_owned : (slot : ℕ) (awaited : Option ℕ) (s : Switch) → Owned (roles_of s) → Owned (roles_of (orig_given_up slot awaited s))
+given_up_owned slot awaited s h =
+    subst Owned (sym (given_roles slot awaited s)) (given_owned slot awaited (roles_of s) h)
+
+pub given_up_none : (slot : ℕ) (c : Chan) (s : Switch) → chan_at s slot ≡ Some c → Owned (roles_of s) →
+    OwnsNone (orig_given_up slot (awaited_by c) s).origs slot
+given_up_none slot c s there h =
+    subst (λ (origs : Origs). OwnsNone origs slot) (sym (ap (λ (r : Roles). r.origs) (given_roles slot (awaited_by c) s)))
+    (given_none slot (awaited_by c) c (roles_of s) there refl h)
+
+-- ---- one origination more
+
+-- which kind of owner, and which slot
+abbrev is_jobs : Owner → Bool
+is_jobs (owner.Job job) = true
+is_jobs (owner.Slot slot) = false
+
+abbrev slot_in : Owner → ℕ
+slot_in (owner.Job job) = 0
+slot_in (owner.Slot slot) = slot
+
+-- a number was drawn
+pub more_owned : (r : Roles) (number : ℕ) → number ≡ r.drawn + 1 → Owned r → Owned (record r { drawn = number })
+more_owned r number next h = record {
+  distinct = h.distinct;
+  within = λ n place stands. let less : n ≤ r.drawn = h.within n place stands in omega (arith, less, next);
+  wait = h.wait;
+  own = h.own;
+  drawn = λ slot n c there awaits. let less : n ≤ r.drawn = h.drawn slot n c there awaits in omega (arith, less, next);
+  lone = h.lone;
+}
+
+-- it comes: its owner waits for it, and whoever waits for it owns it
+pub added_owned : (r : Roles) (number : ℕ) (o : Orig) → place_of r.origs number ≡ None → number ≤ r.drawn →
+    ((slot : ℕ) → o.owner ≡ owner.Slot slot → IsWaiting r.channels slot number) →
+    ((slot : ℕ) (c : Chan) → held_in r.channels slot ≡ Some c → awaited_by c ≡ Some number → o.owner ≡ owner.Slot slot) → Owned r →
+    Owned (record r { origs = with_new_row r.origs number o })
+added_owned r number o nowhere less waits owns h = record {
+  distinct = distinct-with_new_row r.origs number o h.distinct nowhere;
+  within = within-with_new_row r.origs number o r.drawn h.within less;
+  wait = λ slot n x is owned. wait slot n x owned (came n x is);
+  own = λ slot n c x there awaits is. own slot n c x there awaits (came n x is);
+  drawn = h.drawn;
+  lone = h.lone;
+}
+  where
+    came : (n : ℕ) (x : Orig) → row_of (with_new_row r.origs number o) n ≡ Some x →
+        ((number ≡ n) × (o ≡ x)) ⊎ (row_of r.origs n ≡ Some x)
+    came n x is = by (cases_eq number n)
+      where
+        at : number ≡ n → (row_of (with_new_row r.origs number o) number ≡ Some o)
+            ⊎ (row_of (with_new_row r.origs number o) number ≡ row_of r.origs number) →
+            ((number ≡ n) × (o ≡ x)) ⊎ (row_of r.origs n ≡ Some x)
+        at same (inl new) = inl (same, same_Some o x (sym new ∙ (ap (row_of (with_new_row r.origs number o)) same ∙ is)))
+        at same (inr old) =
+            inr
+            (ap (row_of r.origs) (sym same) ∙ (sym old ∙ (ap (row_of (with_new_row r.origs number o)) same ∙ is)))
+
+        by : (number ≡ n) ⊎ (number ≡ n → ⊥) → ((number ≡ n) × (o ≡ x)) ⊎ (row_of r.origs n ≡ Some x)
+        by (inl same) = at same (row_of-with_new_row r.origs number o)
+        by (inr other) = inr (sym (row_of-with_new_row_other r.origs number o n other) ∙ is)
+
+    wait : (slot n : ℕ) (x : Orig) → x.owner ≡ owner.Slot slot → ((number ≡ n) × (o ≡ x)) ⊎ (row_of r.origs n ≡ Some x) →
+        IsWaiting r.channels slot n
+    wait slot n x owned (inl new) =
+        subst (λ (m : ℕ). IsWaiting r.channels slot m) new.0 (waits slot (ap (λ (y : Orig). y.owner) new.1 ∙ owned))
+    wait slot n x owned (inr old) = h.wait slot n x old owned
+
+    own : (slot n : ℕ) (c : Chan) (x : Orig) → held_in r.channels slot ≡ Some c → awaited_by c ≡ Some n →
+        ((number ≡ n) × (o ≡ x)) ⊎ (row_of r.origs n ≡ Some x) → x.owner ≡ owner.Slot slot
+    own slot n c x there awaits (inl new) =
+        ap (λ (y : Orig). y.owner) (sym new.1) ∙ owns slot c there (awaits ∙ ap (λ (m : ℕ). Some m) (sym new.0))
+    own slot n c x there awaits (inr old) = h.own slot n c x there awaits old
+
+-- a job begins one
+pub begun_owned : (r : Roles) (number job : ℕ) (o : Orig) → number ≡ r.drawn + 1 → o.owner ≡ owner.Job job → Owned r →
+    Owned (record r { origs = with_new_row r.origs number o; drawn = number })
+begun_owned r number job o next is h =
+    added_owned (record r { drawn = number }) number o (above_nowhere r.origs r.drawn number h.within (omega (arith, next))) (omega (arith))
+    (λ slot owned. absurd (no_slot slot (sym is ∙ owned)))
+    (λ slot c there awaits. let less : number ≤ r.drawn = h.drawn slot number c there awaits in absurd (omega (arith, less, next)))
+    (more_owned r number next h)
+  where
+    no_slot : (slot : ℕ) → owner.Job job ≡ owner.Slot slot → ⊥
+    no_slot slot same = true≢false (ap is_jobs same)
+
+-- a channel dials one
+pub dialed_owned : (r : Roles) (slot number : ℕ) (c : Chan) (o : Orig) → number ≡ r.drawn + 1 → held_in r.channels slot ≡ Some c →
+    is_live c ≡ true → awaited_by c ≡ None → (is_some c.leg_of ≡ true → ⊥) → o.owner ≡ owner.Slot slot → Owned r →
+    Owned
+    (record { channels = with_held r.channels slot (Some (awaiting number c)); origs = with_new_row r.origs number o; drawn = number })
+dialed_owned r slot number c o next there live none lone is h =
+    added_owned put number o nowhere (omega (arith)) waits owns
+    (put_owned more slot (Some (awaiting number c)) (held_within r.channels slot c there)
+    (λ n x at owned. absurd (dials_owns r slot (λ d here lived. ap awaited_by (same_Some d c (sym here ∙ there)) ∙ none) h n x at owned))
+    (λ d n new awaits.
+    let same : number ≡ n = same_Some number n (ap awaited_by (same_Some (awaiting number c) d new) ∙ awaits) in
+    (omega (arith, same), λ x at. absurd (none-some x (sym (row_none r.origs number nowhere) ∙ (ap (row_of r.origs) same ∙ at)))))
+    (λ d new leg. absurd (lone (ap (λ (x : Chan). is_some x.leg_of) (same_Some (awaiting number c) d new) ∙ leg)))
+    (more_owned r number next h))
+  where
+    more : Roles
+    more = record r { drawn = number }
+
+    put : Roles
+    put = record more { channels = with_held r.channels slot (Some (awaiting number c)) }
+
+    nowhere : place_of r.origs number ≡ None
+    nowhere = above_nowhere r.origs r.drawn number h.within (omega (arith, next))
+
+    waits : (at : ℕ) → o.owner ≡ owner.Slot at → IsWaiting put.channels at number
+    waits at owned =
+        subst (λ (q : ℕ). IsWaiting put.channels q number) (ap slot_in (sym is ∙ owned))
+        (record {
+          chan = awaiting number c;
+          there = held_here r.channels slot (Some (awaiting number c)) (held_within r.channels slot c there);
+          live = live;
+          waits = refl;
+        })
+
+    owns : (at : ℕ) (d : Chan) → held_in put.channels at ≡ Some d → awaited_by d ≡ Some number → o.owner ≡ owner.Slot at
+    owns at d here awaits = by (written_or_kept r.channels slot (Some (awaiting number c)) at d here)
+      where
+        by : IsWrittenOrKept r.channels slot (Some (awaiting number c)) at d → o.owner ≡ owner.Slot at
+        by (inl new) = is ∙ ap (λ (q : ℕ). owner.Slot q) (sym new.0)
+        by (inr kept) =
+            let less : number ≤ r.drawn = h.drawn at number d kept.1 awaits in absurd (omega (arith, less, next))

@@ -31,6 +31,8 @@ pub mod OwedBooks
 pub mod OwedLemmas
 pub mod OwedJobs
 pub mod OwedActs
+pub mod TrialMoves
+pub mod BothMoves
 pub mod OwedSteps
 pub mod DueLaws
 pub mod CloseLaws

@@ -1,5 +1,6 @@
 -- What channels do leaves connections, jobs and what jobs own as they are; of the originations that slots own some may go.
-use Rattle.std.proofs.Common.{◌≡◌, ℕ, ◌+◌, ◌≤◌, Bool, true, false, if◌then◌else◌, List, [], ◌∷◌, Option, None, Some, refl, ap, ◌∙◌, arith}
+use Rattle.std.proofs.Common.{sym, ◌≡◌, ℕ, ◌+◌, ◌≤◌, Bool, true, false, if◌then◌else◌, List, [], ◌∷◌, Option, None, Some, refl, ap, ◌∙◌}
+use Rattle.std.proofs.Common.{arith}
 use Rattle.std.proofs.lemmas.Bool.{false≢true, eqb-true}
 use Rattle.std.specs.Option.{option_and_then}
 use Rattle.fs_text.specs.Cause.{cause_name}
@@ -21,7 +22,7 @@ use Rattle.fs_orig.specs.declared.plan.LegPlan.{LegPlan}
 use Rattle.fs_orig.specs.declared.winner.Winner.{Winner}
 use Rattle.fs_orig.specs.Legs.{is_at, position_in}
 use Rattle.fs_orig.specs.Changes.{with_answer, with_death, may_enter_next, at_next_group}
-use Rattle.fs_places.specs.Places.{with_held}
+use Rattle.fs_places.specs.Places.{with_held, held_in}
 use Rattle.fs_places.proofs.TableLemmas.{taken_in, taken_less}
 use Rattle.fs_places.proofs.NumberLemmas.{Numbers}
 use Rattle.fs_state.specs.declared.event.Event.{Event}
@@ -43,20 +44,33 @@ use Rattle.fs_machine.proofs.HangLemmas.{dies, hangups_kept_by}
 use Rattle.fs_machine.proofs.WonLemmas.{bridge_won_kept}
 use Rattle.fs_machine.proofs.RestLemmas.{rest_of}
 use Rattle.fs_machine.proofs.Walk.{disposed_kept, group_made_kept}
-use Rattle.fs_machine.proofs.OwedTables.{by_job, by_slot, IsOwnedAt, owned_in, owned_there, owned_changed, owned_removed, untold_removed}
-use Rattle.fs_machine.proofs.OwedTables.{none_removed}
+use Rattle.fs_machine.proofs.OwedTables.{of_slot, left_stood, by_job, by_slot, IsOwnedAt, owned_in, owned_there, owned_changed}
+use Rattle.fs_machine.proofs.OwedTables.{owned_removed, untold_removed, none_removed}
 
 -- what a later switch has of the originations and of the rest of an earlier one
 pub record Loses (s t : Switch) : Type 0 where
   pub rest : rest_of t ≡ rest_of s
   pub jobs : owned_in by_job t.origs ≡ owned_in by_job s.origs
   pub slots : taken_in (owned_in by_slot t.origs) ≤ taken_in (owned_in by_slot s.origs)
+  pub stood : (place number : ℕ) → held_in (owned_in of_slot t.origs) place ≡ Some number →
+      held_in (owned_in of_slot s.origs) place ≡ Some number
   pub drawn : t.drawn.origs ≡ s.drawn.origs
+
+-- what stands in a list that is the same
+stood_same : (old new : List (Option ℕ)) → new ≡ old → (place number : ℕ) → held_in new place ≡ Some number →
+    held_in old place ≡ Some number
+stood_same old new same place number is = sym (ap (λ (l : List (Option ℕ)). held_in l place) same) ∙ is
 
 pub loses_none : (s t : Switch) → rest_of t ≡ rest_of s → t.origs ≡ s.origs → t.drawn.origs ≡ s.drawn.origs → Loses s t
 loses_none s t rest origs drawn =
     let slots : taken_in (owned_in by_slot t.origs) ≡ taken_in (owned_in by_slot s.origs) = ap (λ o. taken_in (owned_in by_slot o)) origs in
-    record { rest = rest; jobs = ap (owned_in by_job) origs; slots = omega (arith, slots); drawn = drawn }
+    record {
+      rest = rest;
+      jobs = ap (owned_in by_job) origs;
+      slots = omega (arith, slots);
+      stood = stood_same (owned_in of_slot s.origs) (owned_in of_slot t.origs) (ap (owned_in of_slot) origs);
+      drawn = drawn;
+    }
 
 pub loses_trans : (s t u : Switch) → Loses s t → Loses t u → Loses s u
 loses_trans s t u first second =
@@ -66,6 +80,7 @@ loses_trans s t u first second =
       rest = second.rest ∙ first.rest;
       jobs = second.jobs ∙ first.jobs;
       slots = omega (arith, one, two);
+      stood = λ place number is. first.stood place number (second.stood place number is);
       drawn = second.drawn ∙ first.drawn;
     }
 
@@ -96,6 +111,8 @@ changed_loses change keeps number s = by (orig_of s number) refl
           rest = refl;
           jobs = owned_changed by_job s.origs number o (change o) is (keeps o);
           slots = omega (arith, taken);
+          stood = stood_same (owned_in of_slot s.origs) (owned_in of_slot (orig_changed_from change number (Some o) s).origs)
+              (owned_changed of_slot s.origs number o (change o) is (keeps o));
           drawn = refl;
         }
 
@@ -133,6 +150,7 @@ without_loses s number slot o is same =
       rest = refl;
       jobs = untold_removed by_job s.origs number o is (ap (λ (by : Owner). by_job by number) same);
       slots = omega (arith, less, left);
+      stood = left_stood of_slot s.origs number;
       drawn = refl;
     }
 
@@ -141,7 +159,13 @@ missing_loses : (s : Switch) (number : ℕ) → orig_of s number ≡ None → Lo
 missing_loses s number none =
     let taken : taken_in (owned_in by_slot (without_orig number s).origs) ≡ taken_in (owned_in by_slot s.origs) =
     ap taken_in (none_removed by_slot s.origs number none) in
-    record { rest = refl; jobs = none_removed by_job s.origs number none; slots = omega (arith, taken); drawn = refl }
+    record {
+      rest = refl;
+      jobs = none_removed by_job s.origs number none;
+      slots = omega (arith, taken);
+      stood = left_stood of_slot s.origs number;
+      drawn = refl;
+    }
 
 its_slot : (slot : ℕ) (by : Owner) → is_owner slot by ≡ true → by ≡ owner.Slot slot
 its_slot slot (owner.Slot other) is = ap owner.Slot (eqb-true other slot is)

@@ -5,8 +5,8 @@ use Rattle.std.proofs.lemmas.Bool.{false≢true}
 use Rattle.std.proofs.lemmas.Option.{none-some, same_Some}
 use Rattle.fs_places.specs.Places.{no_places, held_in, with_held, least_free}
 use Rattle.fs_places.proofs.HeldLemmas.{nothing_held}
-use Rattle.fs_places.proofs.TableLemmas.{HasRow, row_of_held, something_there, row_found, row_written, row_removed, row_added, one_if}
-use Rattle.fs_places.proofs.TableLemmas.{taken_in}
+use Rattle.fs_places.proofs.TableLemmas.{kept_without, HasRow, row_of_held, something_there, row_found, row_written, row_removed, row_added}
+use Rattle.fs_places.proofs.TableLemmas.{one_if, taken_in}
 use Rattle.std.proofs.lemmas.List.{set-get_or, map-set}
 use Rattle.std.proofs.lemmas.List.Sums.{sum_by-cons}
 use Rattle.fs_orig.specs.declared.orig.Orig.{Orig}
@@ -30,6 +30,11 @@ by_job (owner.Slot slot) number = None
 abbrev pub by_slot : Tells
 by_slot (owner.Job job) number = None
 by_slot (owner.Slot slot) number = Some slot
+
+-- the number, if a slot owns it
+abbrev pub of_slot : Tells
+of_slot (owner.Job job) number = None
+of_slot (owner.Slot slot) number = Some number
 
 abbrev pub owned_at : Tells → Option (Numbered Orig) → Option ℕ
 owned_at of None = None
@@ -107,6 +112,17 @@ none_removed of origs number none = by (place_of origs number) refl
     by None is = refl
     by (Some place) is =
         absurd (no_thing number (held_in origs place) (place_stands origs number place is) (sym (row_at origs number place is) ∙ none))
+
+-- whatever goes, what is left stood there before
+pub left_stood : (of : Tells) (origs : Origs) (number place told : ℕ) → held_in (owned_in of (without_row origs number)) place ≡ Some told →
+    held_in (owned_in of origs) place ≡ Some told
+left_stood of origs number place told is = by (place_of origs number) refl
+  where
+    by : (found : Option ℕ) → place_of origs number ≡ found → held_in (owned_in of origs) place ≡ Some told
+    by None none = sym (ap (λ (found : Option ℕ). held_in (owned_in of (with_held_at {T = Numbered Orig} origs None found)) place) none) ∙ is
+    by (Some gone) at =
+        (kept_without (owned_in of origs) gone place told
+        (sym (ap (λ (l : List (Option ℕ)). held_in l place) (owned_removed of origs number gone at)) ∙ is)).1
 
 -- one comes of whose owner nothing is told
 pub untold_added : (of : Tells) (origs : Origs) (number : ℕ) (x : Orig) → of x.owner number ≡ None →

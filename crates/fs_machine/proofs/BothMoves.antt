@@ -1,0 +1,78 @@
+-- Two facts that each bear every move do so together.
+use Rattle.std.proofs.Common.{ℕ}
+use Rattle.fs_state.specs.Switch.{Switch}
+use Rattle.fs_machine.proofs.Kept.{Fact, KeptByTouches, KeptByCalls, KeptByJobs, KeptByDials, KeptByCommands, KeptByVisits, KeptByMoves}
+
+abbrev pub Both : Fact → Fact → Fact
+Both P Q b s = P b s × Q b s
+
+module _ (P Q : Fact) where
+  both_touches : KeptByTouches P → KeptByTouches Q → KeptByTouches (Both P Q)
+  both_touches p q = record {
+    told = λ event h. (p.told event h.0, q.told event h.1);
+    globals = λ globals h. (p.globals globals h.0, q.globals globals h.1);
+    changed = λ slot old new there stays h. (p.changed slot old new there stays h.0, q.changed slot old new there stays h.1);
+    answers = λ place slot number h. (p.answers place slot number h.0, q.answers place slot number h.1);
+  }
+
+  both_calls : KeptByCalls P → KeptByCalls Q → KeptByCalls (Both P Q)
+  both_calls p q = record {
+    touches = both_touches p.touches q.touches;
+    hung = λ named h. (p.hung named h.0, q.hung named h.1);
+    joined = λ kind caller answerer c d can there other one two idle spare h. (
+      p.joined kind caller answerer c d can there other one two idle spare h.0,
+      q.joined kind caller answerer c d can there other one two idle spare h.1,
+    );
+    leaves = λ slot lone h. (p.leaves slot lone h.0, q.leaves slot lone h.1);
+    more = λ h. (p.more h.0, q.more h.1);
+    gone = λ slot old there dead h. (p.gone slot old there dead h.0, q.gone slot old there dead h.1);
+  }
+
+  module _ (before : Switch) where
+    both_jobs : KeptByJobs before P → KeptByJobs before Q → KeptByJobs before (Both P Q)
+    both_jobs p q = record {
+      woken = λ number conn until answer does h. (p.woken number conn until answer does h.0, q.woken number conn until answer does h.1);
+      failed = λ job conn winner caller orig cause does h.
+          (p.failed job conn winner caller orig cause does h.0, q.failed job conn winner caller orig cause does h.1);
+      wins = λ job conn winner caller orig leg slots does won h.
+          (p.wins job conn winner caller orig leg slots does won h.0, q.wins job conn winner caller orig leg slots does won h.1);
+    }
+
+    both_dials : KeptByDials before P → KeptByDials before Q → KeptByDials before (Both P Q)
+    both_dials p q = record {
+      spent = λ h. (p.spent h.0, q.spent h.1);
+      dials = λ slot c groups timeout there works are h.
+          (p.dials slot c groups timeout there works are h.0, q.dials slot c groups timeout there works are h.1);
+      regroups = λ number o plans caller there are h.
+          (p.regroups number o plans caller there are h.0, q.regroups number o plans caller there are h.1);
+      fails = λ slot orig cause waits h. (p.fails slot orig cause waits h.0, q.fails slot orig cause waits h.1);
+      wins = λ slot orig leg slots waits won h. (p.wins slot orig leg slots waits won h.0, q.wins slot orig leg slots waits won h.1);
+    }
+
+  both_commands : (conn : ℕ) → KeptByCommands conn P → KeptByCommands conn Q → KeptByCommands conn (Both P Q)
+  both_commands conn p q = record {
+    spent = λ h. (p.spent h.0, q.spent h.1);
+    gave = λ frame h. (p.gave frame h.0, q.gave frame h.1);
+    admitted = λ fresh h. (p.admitted fresh h.0, q.admitted fresh h.1);
+    parted = λ why leaves h. (p.parted why leaves h.0, q.parted why leaves h.1);
+    sleeps = λ until room h. (p.sleeps until room h.0, q.sleeps until room h.1);
+    originates = λ groups winner caller timeout are short room h.
+        (p.originates groups winner caller timeout are short room h.0, q.originates groups winner caller timeout are short room h.1);
+  }
+
+  both_visits : KeptByVisits P → KeptByVisits Q → KeptByVisits (Both P Q)
+  both_visits p q = record {
+    arrived = λ h. (p.arrived h.0, q.arrived h.1);
+    taken = λ conn h. (p.taken conn h.0, q.taken conn h.1);
+    silent = λ conn h. (p.silent conn h.0, q.silent conn h.1);
+    left = λ conn h. (p.left conn h.0, q.left conn h.1);
+  }
+
+  pub both_moves : (before : Switch) → KeptByMoves before P → KeptByMoves before Q → KeptByMoves before (Both P Q)
+  both_moves before p q = record {
+    calls = both_calls p.calls q.calls;
+    jobs = both_jobs before p.jobs q.jobs;
+    dials = both_dials before p.dials q.dials;
+    commands = λ conn. both_commands conn (p.commands conn) (q.commands conn);
+    visits = both_visits p.visits q.visits;
+  }

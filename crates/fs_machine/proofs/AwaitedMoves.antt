@@ -7,7 +7,9 @@ use Rattle.fs_text.specs.declared.causes.Cause.{Cause}
 use Rattle.fs_bridge.specs.declared.row.BridgeKind.{BridgeKind}
 use Rattle.fs_bridge.specs.Closure.{Members}
 use Rattle.fs_chan.specs.declared.chan.Chan.{Chan}
-use Rattle.fs_chan.specs.Bridging.{awaiting, awaited_by, exported_pairs}
+use Rattle.fs_chan.specs.declared.wait.Wait.{Wait}
+use Rattle.fs_chan.specs.declared.wait.Wait.TheVariants.{Ready, Legs, Bridged}
+use Rattle.fs_chan.specs.Bridging.{awaiting, awaited_in, awaited_by, exported_pairs}
 use Rattle.fs_chan.specs.Changes.{is_live}
 use Rattle.fs_orig.specs.declared.caller.Caller.{Caller}
 use Rattle.fs_orig.specs.declared.leg.OrigLeg.{OrigLeg}
@@ -38,7 +40,7 @@ use Rattle.fs_machine.specs.Bridging.{caller_of, group_dialed}
 use Rattle.fs_machine.specs.Dialing.{tried_by_slot}
 use Rattle.fs_machine.specs.Owing.{after_job_begin, after_job_end}
 use Rattle.fs_chan.specs.Moments.{moment_after}
-use Rattle.fs_machine.proofs.Kept.{Stage, Fact, KeptByTouches, KeptByCalls, KeptByBirths, DoesJob, raced, KeptByJobs, KeptByDials}
+use Rattle.fs_machine.proofs.Kept.{hold_in, Stage, Fact, KeptByTouches, KeptByCalls, KeptByBirths, DoesJob, raced, KeptByJobs, KeptByDials}
 use Rattle.fs_machine.proofs.Kept.{KeptByCommands, KeptByMoves}
 use Rattle.fs_machine.proofs.StayLemmas.{moved_there}
 use Rattle.fs_machine.proofs.NameLemmas.{leg_chan, far_chan, pair_channels}
@@ -153,6 +155,21 @@ next_keeps legs o = by (may_enter_next o)
     by true = refl
     by false = refl
 
+regrouped_await : (number : ℕ) (plans : List LegPlan) (caller : Caller) (s : Switch) → Awaits s →
+    Awaits (with_group number (group_made plans caller number s))
+regrouped_await number plans caller s h =
+    let made : MadeGroup = group_made plans caller number s in
+    orig_changed_await NoSlot (at_next_group made.legs) number made.state (next_keeps made.legs) (group_born plans caller number 0 s h).awaits
+
+-- nothing holds a channel that is at work, so it waits for no origination
+free_wait : (wait : Wait) → hold_in wait ≡ Ready → awaited_in wait ≡ None
+free_wait (Legs orig) is = absurd (cc)
+free_wait Bridged is = refl
+free_wait _ is = refl
+
+free_dials : (c : Chan) → hold_in c.wait ≡ Ready → awaited_by c ≡ None
+free_dials c is = free_wait c.wait is
+
 -- ---- jobs and connections
 
 roles_await : (s t : Switch) → roles_of t ≡ roles_of s → Awaits s → Awaits t
@@ -219,4 +236,108 @@ module _ (before : Switch) (Q : Fact) (kept : KeptByMoves before Q)
     leaves = λ slot {s = s} lone h. (kept.calls.leaves slot lone h.0, left_await_all slot s h.1);
     more = λ h. (kept.calls.more h.0, h.1);
     gone = λ slot old {s = s} there dead h. (kept.calls.gone slot old there dead h.0, left_await NoSlot s.channels s.origs slot h.1);
+  }
+
+  -- ---- jobs
+
+  jobs_wait : KeptByJobs before Waiting
+  jobs_wait = record {
+    woken = λ number conn until answer {s = s} does h. (
+      kept.jobs.woken number conn until answer does h.0,
+      ended_await number conn answer s h.1,
+    );
+    failed = λ job conn winner caller orig cause {s = s} does h. (
+      kept.jobs.failed job conn winner caller orig cause does h.0,
+      ended_await job conn (failed_text cause) (without_orig orig s)
+          (unowned_await orig s (jobs_own s h.0 job conn orig winner caller does) h.1),
+    );
+    wins = λ job conn winner caller orig leg slots does won h.
+        let s : Switch = raced slots before in
+        let at : ℕ = unwrap_or leg.slot 0 in
+        let t : Switch = after_winning winner at s in (
+          kept.jobs.wins job conn winner caller orig leg slots does won h.0,
+          ended_await job conn (made_text leg.uuid) (without_orig orig t)
+              (unowned_await orig t
+              (λ slot owned. jobs_own s h.0 job conn orig winner caller does slot
+              (subst (λ (origs : Origs). HasOwner origs orig slot) (winning_origs winner at s) owned)) (winning_await winner at s h.1)),
+        );
+  }
+
+  -- ---- channels that dial
+
+  dialed_await : (slot : ℕ) (c : Chan) (groups : List (List LegPlan)) (timeout : ℕ) (s : Switch) → chan_at s slot ≡ Some c →
+      is_live c ≡ true → awaited_by c ≡ None → Waiting None s →
+      Awaits (tried_by_slot slot groups timeout (next_orig_number s) (group_dialed (Some c) (first_group groups) (next_orig_number s) s))
+  dialed_await slot c groups timeout s there live none h =
+      let number : ℕ = next_orig_number s in
+      let made : MadeGroup = group_dialed (Some c) (first_group groups) number s in
+      let born : Born s slot (chan_at s slot) made.state =
+      group_born (all_behind (exported_pairs c.vars) (first_group groups)) (caller_of c) number slot s h.1 in
+      begun_await slot number c groups made.legs timeout made.state (born.there c there) live (born_number s made.state born.drawn)
+      (ap (λ (origs : Origs). row_of origs number) born.origs ∙ fresh s h.0)
+      (λ new. ap (λ (origs : Origs). row_of (with_new_row origs number new) number) born.origs ∙ room s h.0 slot c there none new) born.awaits
+
+  dials_wait : KeptByDials before Waiting
+  dials_wait = record {
+    spent = λ h. (kept.dials.spent h.0, h.1);
+    dials = λ slot c groups timeout {s = s} there works are h. (
+      kept.dials.dials slot c groups timeout there works are h.0,
+      dialed_await slot c groups timeout s there works.live (free_dials c works.free) h,
+    );
+    regroups = λ number o plans caller {s = s} there next h. (
+      kept.dials.regroups number o plans caller there next h.0,
+      regrouped_await number plans caller s h.1,
+    );
+    fails = λ slot orig cause {s = s} waits h. (
+      kept.dials.fails slot orig cause waits h.0,
+      failed_await cause slot (without_orig orig s) (without_await slot orig s waits h.1),
+    );
+    wins = λ slot orig leg slots waits won h. (
+      kept.dials.wins slot orig leg slots waits won h.0,
+      won_await slot (unwrap_or leg.slot 0) (without_orig orig (raced slots before)) (without_await slot orig (raced slots before) waits h.1),
+    );
+  }
+
+  -- ---- commands
+
+  originated_await : (conn : ℕ) (groups : List (List LegPlan)) (winner : Winner) (caller : Caller) (timeout : Option ℕ) (s : Switch) →
+      Waiting None s → Awaits (originate_begun conn groups winner caller timeout s)
+  originated_await conn groups winner caller timeout s h =
+      let number : ℕ = next_orig_number s in
+      let made : MadeGroup = group_made (first_group groups) caller number s in
+      let t : Switch = made.state in
+      let born : Born s 0 (chan_at s 0) t = group_born (first_group groups) caller number 0 s h.1 in
+      let new : Orig =
+      new_orig (owner.Job (next_job_number t)) groups made.legs (moment_after t.moment (seconds (unwrap_or timeout 60))) in
+      let none : row_of t.origs (next_orig_number t) ≡ None =
+      ap (row_of t.origs) (born_number s t born.drawn) ∙ ap (λ (origs : Origs). row_of origs number) born.origs ∙ fresh s h.0 in
+      owing_await conn (Originate number winner caller) (orig_begun (owner.Job (next_job_number t)) groups made.legs (unwrap_or timeout 60) t)
+      (rows_await NoSlot t.channels t.origs (with_new_row t.origs (next_orig_number t) new) (stay_new t.origs (next_orig_number t) new none)
+      born.awaits)
+
+  commands_wait : (conn : ℕ) → KeptByCommands conn Waiting
+  commands_wait conn = record {
+    spent = λ h. ((kept.commands conn).spent h.0, h.1);
+    gave = λ frame h. ((kept.commands conn).gave frame h.0, h.1);
+    admitted = λ {s = s} new h. ((kept.commands conn).admitted new h.0, conn_await admitted conn s h.1);
+    parted = λ why {s = s} leaves h. ((kept.commands conn).parted why leaves h.0, conn_await (parted why) conn s h.1);
+    sleeps = λ until {s = s} free h. ((kept.commands conn).sleeps until free h.0, owing_await conn (Sleep until) s h.1);
+    originates = λ groups winner caller timeout {s = s} are short free h. (
+      (kept.commands conn).originates groups winner caller timeout are short free h.0,
+      originated_await conn groups winner caller timeout s h,
+    );
+  }
+
+  pub awaited_moves : KeptByMoves before (λ b t. Q b t × Awaits t)
+  awaited_moves = record {
+    calls = calls_wait;
+    jobs = jobs_wait;
+    dials = dials_wait;
+    commands = commands_wait;
+    visits = record {
+      arrived = λ h. (kept.visits.arrived h.0, h.1);
+      taken = λ conn h. (kept.visits.taken conn h.0, h.1);
+      silent = λ conn {s = s} h. (kept.visits.silent conn h.0, conn_await (parted parting.EndOfInput) conn s h.1);
+      left = λ conn h. (kept.visits.left conn h.0, h.1);
+    };
   }

@@ -56,6 +56,7 @@ pub mod BondRows
 pub mod BondLemmas
 pub mod BondTables
 pub mod BondHangups
+pub mod KnownMoves
 pub mod StandingLemmas
 pub mod OwedLaws
 pub mod BondChanges

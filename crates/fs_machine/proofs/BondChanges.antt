@@ -1,9 +1,9 @@
 -- What two channels of a bridge are to each other behind a change of one channel, a birth, a death and a bridge more.
-use Rattle.std.proofs.Common.{◌≡◌, ◌≢◌, ℕ, ◌+◌, ◌<◌, ◌==◌, Bool, true, false, if◌then◌else◌, List, Option, None, Some, is_some, length, ◌⊎◌, inl, inr}
+use Rattle.std.proofs.Common.{◌≡◌, ◌≢◌, ℕ, ◌+◌, ◌==◌, Bool, true, false, if◌then◌else◌, Option, None, Some, is_some, ◌⊎◌, inl, inr}
 use Rattle.std.proofs.Common.{refl, sym, ap, subst, ◌∙◌, arith, true≢false}
 use Rattle.std.proofs.lemmas.Bool.{eqb-true, false≢true}
 use Rattle.std.proofs.lemmas.Cmp.{nat_eq_equiv}
-use Rattle.std.proofs.lemmas.Option.{none-some, same_Some}
+use Rattle.std.proofs.lemmas.Option.{same_Some}
 use Rattle.fs_bridge.specs.declared.row.Row.{Row}
 use Rattle.fs_bridge.specs.declared.row.BridgeKind.{BridgeKind}
 use Rattle.fs_bridge.specs.Bridges.{BridgeRows, part_of, next_row, joined}
@@ -14,7 +14,7 @@ use Rattle.fs_chan.specs.Changes.{is_live}
 use Rattle.fs_places.specs.Places.{held_in, with_held}
 use Rattle.fs_places.proofs.HeldLemmas.{IsFree, held_here, held_there, held_within}
 use Rattle.fs_places.proofs.TableLemmas.{IsWrittenOrKept, written_or_kept, kept_without, still_there, not_free, one_there}
-use Rattle.fs_state.specs.Switch.{Switch, chan_at}
+use Rattle.fs_state.specs.Switch.{Switch}
 use Rattle.fs_state.specs.Bridging.{peer_of}
 use Rattle.fs_machine.specs.declared.originations.Call.{Call}
 use Rattle.fs_machine.specs.Originations.{leg_end, pair_made}

@@ -1,17 +1,17 @@
 -- Bridges stand behind a hangup just where none of their legs hung up.
-use Rattle.std.proofs.Common.{◌≡◌, ◌≢◌, ℕ, ◌==◌, Bool, true, false, if◌then◌else◌, List, [], ◌∷◌, Option, None, Some, is_some, option_and_then, ◌⊎◌}
+use Rattle.std.proofs.Common.{◌≡◌, ◌≢◌, ℕ, Bool, true, false, if◌then◌else◌, List, [], ◌∷◌, Option, None, Some, is_some, ◌⊎◌}
 use Rattle.std.proofs.Common.{inl, inr, refl, sym, ap, subst, ◌∙◌, true≢false}
 use Rattle.std.specs.List.{find}
 use Rattle.std.proofs.lemmas.Bool.{eqb-true, false≢true}
 use Rattle.std.proofs.lemmas.Cmp.{nat_eq_equiv}
 use Rattle.std.proofs.lemmas.Option.{none-some, same_Some}
-use Rattle.fs_text.specs.declared.states.State.TheVariants.{CsHangup, CsPark}
+use Rattle.fs_text.specs.declared.states.State.TheVariants.{CsHangup}
 use Rattle.fs_text.specs.declared.causes.Cause.{Cause}
 use Rattle.fs_text.specs.declared.event_names.EventName.TheVariants.{ChannelExecuteComplete}
 use Rattle.fs_bridge.specs.declared.after.After.{After}
 use Rattle.fs_bridge.specs.declared.after.After.TheVariants.{GoOn, Hangup, Park}
 use Rattle.fs_bridge.specs.declared.row.Row.{Row}
-use Rattle.fs_bridge.specs.Bridges.{BridgeRows, has_number, part_of, unbridged as without_number}
+use Rattle.fs_bridge.specs.Bridges.{BridgeRows, has_number, part_of}
 use Rattle.fs_bridge.specs.Closure.{Member, Members, Ends, peer_in, closure_of}
 use Rattle.fs_bridge.specs.Hangups.{IsOneOf}
 use Rattle.fs_chan.specs.declared.chan.Chan.{Chan}

@@ -1,28 +1,21 @@
 -- The two channels of a bridge name each other until it ends, and whoever hangs up is in none any more.
-use Rattle.std.proofs.Common.{◌≡◌, ◌≢◌, ℕ, ◌==◌, Bool, true, false, not, ◌||◌, List, [], ◌∷◌, ◌++◌, fold, filter_map, Option, None, Some, if◌then◌else◌}
-use Rattle.std.proofs.Common.{option_and_then, option_map, ◌⊎◌, inl, inr, refl, sym, ap, subst, ◌∙◌, true≢false}
-use Rattle.std.specs.List.{find, list_any}
-use Rattle.std.proofs.lemmas.Bool.{cases_eq, eqb-true, or_cases, false≢true}
-use Rattle.std.proofs.lemmas.Cmp.{nat_eq_equiv}
+use Rattle.std.proofs.Common.{◌≡◌, ℕ, ◌==◌, Bool, true, false, List, [], ◌∷◌, ◌++◌, fold, filter_map, Option, None, Some, if◌then◌else◌}
+use Rattle.std.proofs.Common.{option_and_then, option_map, ◌⊎◌, inl, inr, refl, sym, ap, subst, ◌∙◌}
+use Rattle.std.proofs.lemmas.Bool.{eqb-true, or_cases, false≢true}
 use Rattle.std.proofs.lemmas.Option.{none-some, same_Some}
-use Rattle.fs_text.specs.declared.causes.Cause.{Cause}
 use Rattle.fs_vars.specs.Variables.{Variables}
 use Rattle.fs_bridge.specs.declared.after.After.{After}
 use Rattle.fs_bridge.specs.declared.row.Row.{Row}
 use Rattle.fs_bridge.specs.After.{after_bridge}
-use Rattle.fs_bridge.specs.Bridges.{BridgeRows, has_number, part_of}
-use Rattle.fs_bridge.specs.Closure.{Member, Members, Ends, peer_in, left_in, left_by, has_ended, with_end, ended_by, ended_of, survivor_of}
+use Rattle.fs_bridge.specs.Closure.{Member, Members, peer_in, left_in, left_by, has_ended, with_end, ended_by, survivor_of}
 use Rattle.fs_bridge.specs.Closure.{members_of, closure_of}
 use Rattle.fs_bridge.specs.Hangups.{IsOneOf}
-use Rattle.fs_bridge.specs.Orders.{has_slot}
 use Rattle.fs_bridge.specs.Worlds.{World}
 use Rattle.fs_bridge.proofs.DragLemmas.{one_parts, one_front, one_back, one_in_order}
 use Rattle.fs_bridge.proofs.SurvivorLemmas.{IsTold, one_told, left_case}
-use Rattle.fs_chan.specs.declared.chan.Chan.{Chan}
-use Rattle.fs_chan.specs.declared.peer.Peer.{Peer}
 use Rattle.fs_state.specs.Switch.{Switch, chan_at, bridge_at}
 use Rattle.fs_state.specs.Hangups.{world_of, living_of, has_peer, row_at, Ended}
-use Rattle.fs_machine.proofs.BondRows.{IsLeg, RowsFit, leg_part}
+use Rattle.fs_machine.proofs.BondRows.{RowsFit}
 
 -- ---- which bridges end
 

@@ -1,26 +1,22 @@
 -- Each act keeps what two channels of a bridge are to each other.
-use Rattle.std.proofs.Common.{◌≡◌, ◌≢◌, ℕ, ◌+◌, ◌==◌, Bool, true, false, not, ◌&&◌, if◌then◌else◌, List, [], ◌∷◌, Option, None, Some, unwrap_or}
+use Rattle.std.proofs.Common.{◌≡◌, ◌≢◌, ℕ, ◌==◌, Bool, true, false, not, ◌&&◌, List, [], ◌∷◌, Option, None, Some, unwrap_or}
 use Rattle.std.proofs.Common.{is_some, is_none, option_and_then, ◌⊎◌, inl, inr, refl, sym, ap, subst, ◌∙◌, true≢false}
 use Rattle.std.proofs.lemmas.Bool.{false≢true}
 use Rattle.std.proofs.lemmas.Cmp.{nat_eq_equiv}
 use Rattle.std.proofs.lemmas.List.{set-set}
 use Rattle.std.proofs.lemmas.Option.{none-some, same_Some}
-use Rattle.fs_text.specs.Texts.{Text}
 use Rattle.fs_text.specs.Cause.{cause_name}
 use Rattle.fs_text.specs.declared.causes.Cause.{Cause}
 use Rattle.fs_text.specs.declared.causes.Cause.TheVariants.{NormalTemporaryFailure}
-use Rattle.fs_text.specs.declared.event_names.EventName.TheVariants.{ChannelExecuteComplete}
 use Rattle.fs_bridge.specs.declared.row.BridgeKind.{BridgeKind}
 use Rattle.fs_bridge.specs.declared.row.BridgeKind.TheVariants.{Dial}
 use Rattle.fs_bridge.specs.declared.row.Row.{Row}
-use Rattle.fs_bridge.specs.Bridges.{BridgeRows, part_of, joined}
+use Rattle.fs_bridge.specs.Bridges.{joined}
 use Rattle.fs_chan.specs.declared.chan.Chan.{Chan}
 use Rattle.fs_chan.specs.declared.peer.Peer.{Peer}
-use Rattle.fs_chan.specs.declared.wait.Wait.{Wait}
 use Rattle.fs_chan.specs.declared.wait.Wait.TheVariants.{Ready, Bridged}
 use Rattle.fs_chan.specs.Bridging.{awaiting, awaited_by, exported_pairs, with_disposition, bridged, in_media, at_leisure}
 use Rattle.fs_chan.specs.Changes.{is_live, at_rest}
-use Rattle.fs_orig.specs.declared.caller.Caller.{Caller}
 use Rattle.fs_orig.specs.declared.leg.OrigLeg.{OrigLeg}
 use Rattle.fs_orig.specs.declared.orig.Owner.TheVariants as owner
 use Rattle.fs_orig.specs.declared.plan.LegPlan.{LegPlan}
@@ -33,10 +29,9 @@ use Rattle.fs_places.specs.Places.{held_in, with_held}
 use Rattle.fs_places.proofs.HeldLemmas.{held_here, held_within}
 use Rattle.fs_places.proofs.TableLemmas.{still_there, not_free}
 use Rattle.fs_state.proofs.LegTables.{seated}
-use Rattle.fs_state.specs.declared.event.Event.{Event}
 use Rattle.fs_state.specs.Switch.{Switch, chan_at, with_chan, bridge_at, with_bridge, next_bridge_number, next_orig_number, with_event, without_orig}
-use Rattle.fs_state.specs.Moves.{plain_event, with_changed_chan_from, with_changed_chan, after_move_from, after_move, orig_changed, leg_changed}
-use Rattle.fs_state.specs.Moves.{orig_given_up, after_completion}
+use Rattle.fs_state.specs.Moves.{with_changed_chan_from, after_move_from, after_move, orig_changed, leg_changed}
+use Rattle.fs_state.specs.Moves.{orig_given_up}
 use Rattle.fs_state.specs.Hangups.{lives, lives_at}
 use Rattle.fs_state.specs.Bridging.{bridge_event, can_join, peer_of, with_peer_from, with_peer, joined_as}
 use Rattle.fs_machine.specs.Originations.{MadeGroup, group_made, won_by, after_winning}
@@ -45,8 +40,8 @@ use Rattle.fs_machine.specs.Bridging.{caller_of, group_dialed, goes_on, after_go
 use Rattle.fs_machine.specs.Bridging.{after_bridge_win}
 use Rattle.fs_machine.specs.Dialing.{tried_by_slot}
 use Rattle.fs_machine.specs.Joining.{after_leaving}
-use Rattle.fs_machine.proofs.Kept.{Fact, Stage, Links, Stays, IsApt, IsAtWork, KeptByTouches, KeptByCalls, KeptByBirths, KeptByDials, KeptByMoves, raced}
-use Rattle.fs_machine.proofs.Kept.{HasWon, hold_in}
+use Rattle.fs_machine.proofs.Kept.{Stage, Links, IsApt, IsAtWork, KeptByTouches, KeptByCalls, KeptByBirths, KeptByDials, KeptByMoves, raced}
+use Rattle.fs_machine.proofs.Kept.{HasWon}
 use Rattle.fs_machine.proofs.StayLemmas.{WorksAt, is_at_work, exchange_lives, execute_lives, routing_lives, state_told_kept, moved_there, changed_there}
 use Rattle.fs_machine.proofs.StayLemmas.{orig_changed_channels}
 use Rattle.fs_machine.proofs.HangLemmas.{given_up_kept}

@@ -1,13 +1,11 @@
 -- The channels and the bridges of a switch, and how they belong together, behind a change of one channel.
-use Rattle.std.proofs.Common.{◌≡◌, ◌≢◌, ℕ, Bool, true, false, List, Option, None, Some, is_some, ◌⊎◌, inl, inr, refl, sym, ap, subst, ◌∙◌}
-use Rattle.std.proofs.Common.{true≢false}
+use Rattle.std.proofs.Common.{◌≡◌, ◌≢◌, ℕ, true, None, Some, is_some, ◌⊎◌, inl, inr, refl, sym, ap, subst, ◌∙◌}
 use Rattle.std.proofs.lemmas.Bool.{cases_eq, false≢true}
 use Rattle.std.proofs.lemmas.Option.{none-some, same_Some}
 use Rattle.fs_bridge.specs.declared.row.Row.{Row}
 use Rattle.fs_bridge.specs.Bridges.{BridgeRows, part_of}
 use Rattle.fs_bridge.specs.Closure.{peer_in}
 use Rattle.fs_chan.specs.declared.chan.Chan.{Chan}
-use Rattle.fs_chan.specs.declared.peer.Peer.{Peer}
 use Rattle.fs_chan.specs.Changes.{is_live}
 use Rattle.fs_places.specs.Places.{held_in, with_held}
 use Rattle.fs_places.proofs.HeldLemmas.{held_here, held_there, held_within}

@@ -58,7 +58,8 @@ use Rattle.fs_machine.proofs.Kept.{Fact, KeptByCalls, DoesJob, KeptByJobs, KeptB
 use Rattle.fs_machine.proofs.Kept.{KeptByCommands, KeptByMoves}
 use Rattle.fs_machine.proofs.ShortLemmas.{NamesShort, api_short, expanded_short}
 use Rattle.fs_machine.proofs.DialLemmas.{dialled_groups}
-use Rattle.fs_machine.proofs.JoinLemmas.{IsApart, apart_now, apart_hung, apart_left, DialsNone, left_dials, left_dials_still, CanMeet, meets_now, join_meets, media_meets}
+use Rattle.fs_machine.proofs.JoinLemmas.{IsApart, apart_now, apart_hung, apart_left, DialsNone, left_dials, left_dials_still, CanMeet}
+use Rattle.fs_machine.proofs.JoinLemmas.{meets_now, join_meets, media_meets}
 use Rattle.fs_machine.proofs.JoinLemmas.{media_stays}
 use Rattle.fs_machine.proofs.StayLemmas.{moved_there}
 use Rattle.fs_machine.proofs.TryWalk.{verdict_kept}
@@ -134,7 +135,8 @@ module _ (conn : ℕ) (P : Fact) (calls : KeptByCalls P) (commands : KeptByComma
   left_kept a b {s} first second h =
       let named : Members = map (λ slot. (slot, OriginatorCancel)) (legs_at s a ++ legs_at s b) in
       let t : Switch = after_hangups named s in
-      calls.leaves b (apart_left b a t (apart_hung b named s second)).bridge (calls.leaves a (apart_hung a named s first).bridge (calls.hung named h))
+      calls.leaves b (apart_left b a t (apart_hung b named s second)).bridge
+      (calls.leaves a (apart_hung a named s first).bridge (calls.hung named h))
 
   media_kept : (slot : ℕ) {s : Switch} → CanMeet s slot → P (Some 0) s → P (Some 0) (after_move (in_state CsExchangeMedia) slot s)
   media_kept slot {s} meets h =
@@ -187,7 +189,8 @@ module _ (conn : ℕ) (P : Fact) (calls : KeptByCalls P) (commands : KeptByComma
           let two = apart_hung b named s apart.1 in
           joined_kept a b other (apart_left a b (after_leaving a t) (apart_left a a t one))
           (apart_left b b (after_leaving a t) (apart_left b a t two))
-          (left_dials_still a b (after_leaving a t) (left_dials a t)) (left_dials b (after_leaving a t)) (left_kept a b apart.0 apart.1 (commands.spent h))
+          (left_dials_still a b (after_leaving a t) (left_dials a t)) (left_dials b (after_leaving a t))
+          (left_kept a b apart.0 apart.1 (commands.spent h))
 
       by : (first second : Option ℕ) → P (Some 0) (bridge_done_at first second other s).state
       by (Some a) (Some b) = way a b (in_the_way a b s) refl
@@ -200,7 +203,8 @@ module _ (conn : ℕ) (P : Fact) (calls : KeptByCalls P) (commands : KeptByComma
   done_plainly_kept (api.Expand text) short h = commands.spent h
   done_plainly_kept (api.GlobalGetvar name) short h = commands.spent h
   done_plainly_kept (api.GlobalSetvar name value) {s} short h =
-      done_either (can_set s.globals name value) _ _ (calls.touches.globals (set_to s.globals name value) (commands.spent h)) (commands.spent h)
+      done_either (can_set s.globals name value) _ _ (calls.touches.globals (set_to s.globals name value) (commands.spent h))
+      (commands.spent h)
   done_plainly_kept (api.Msleep milliseconds) short h = slept_kept milliseconds h
   done_plainly_kept (api.UuidExists uuid) short h = commands.spent h
   done_plainly_kept (api.UuidKill uuid cause) {s} short h = killed_kept cause (slot_named uuid s) h

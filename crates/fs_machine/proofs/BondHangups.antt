@@ -29,8 +29,10 @@ use Rattle.fs_state.specs.declared.event.Event.{Event}
 use Rattle.fs_chan.specs.declared.peer.Peer.{Peer}
 use Rattle.fs_machine.proofs.HangLemmas.{given_up_kept}
 use Rattle.fs_machine.proofs.TieLemmas.{HungAs, hung_by}
-use Rattle.fs_state.specs.Hangups.{world_of, living_of, lives_at, has_peer, Ended, after_end, after_ends, unbridge_event, is_leg_of, with_end_told, untold_by}
-use Rattle.fs_state.specs.Hangups.{after_member, after_members, after_outliving, after_survival, after_survivals, after_closure, after_hangups}
+use Rattle.fs_state.specs.Hangups.{world_of, living_of, lives_at, has_peer, Ended, after_end, after_ends, unbridge_event, is_leg_of}
+use Rattle.fs_state.specs.Hangups.{with_end_told, untold_by}
+use Rattle.fs_state.specs.Hangups.{after_member, after_members, after_outliving, after_survival, after_survivals, after_closure}
+use Rattle.fs_state.specs.Hangups.{after_hangups}
 use Rattle.fs_machine.proofs.Kept.{hold_in, is_idle, IsApt}
 use Rattle.fs_machine.proofs.StayLemmas.{differing_kept, state_told_kept, changed_there, moved_there}
 use Rattle.fs_machine.proofs.JoinLemmas.{DialsNone, rest_dials}
@@ -164,7 +166,8 @@ record Ending (s t : Switch) : Type 0 where
   bonds : Bonds t
   less : (slot : ℕ) (row : Row) → bridge_at t slot ≡ Some row → bridge_at s slot ≡ Some row
 
-module _ (s t : Switch) (fit : RowsFit s.bridges) (row : Row) (cause : Cause) (at : ℕ) (stood : bridge_at s at ≡ Some row) (h : Ending s t) where
+module _ (s t : Switch) (fit : RowsFit s.bridges) (row : Row) (cause : Cause) (at : ℕ) (stood : bridge_at s at ≡ Some row)
+    (h : Ending s t) where
   own_number : has_number row.number row ≡ true
   own_number = nat_eq_equiv.refl row.number
 

@@ -28,7 +28,8 @@ only_found test (first ∷ rows) row one is has = by (λ fewer there. only_found
     counted : one_if (test first) + count_by test rows ≤ 1
     counted = let front = count_front test first rows in omega (arith, front, one)
 
-    by : (count_by test rows ≤ 1 → IsOneOf row rows → find test rows ≡ Some row) → (b : Bool) → test first ≡ b → (row ≡ first) ⊎ IsOneOf row rows → (if b then Some first else find test rows) ≡ Some row
+    by : (count_by test rows ≤ 1 → IsOneOf row rows → find test rows ≡ Some row) → (b : Bool) → test first ≡ b →
+        (row ≡ first) ⊎ IsOneOf row rows → (if b then Some first else find test rows) ≡ Some row
     by later true e (inl same) = ap Some (sym same)
     by later true e (inr there) =
         let alone : one_if true + count_by test rows ≤ 1 = subst (λ b. one_if b + count_by test rows ≤ 1) e counted in
@@ -58,7 +59,8 @@ module _ (bridges : BridgeRows) (row : Row) (sound : IsSound bridges) (is : IsOn
 -- ---- all of it
 
 -- whoever names a peer is a leg of the bridge with it
-leg_with : (s : Switch) → Bonds s → (slot : ℕ) (c : Chan) (peer : Peer) → chan_at s slot ≡ Some c → c.peer ≡ Some peer → IsLegWith s slot peer
+leg_with : (s : Switch) → Bonds s → (slot : ℕ) (c : Chan) (peer : Peer) → chan_at s slot ≡ Some c → c.peer ≡ Some peer →
+    IsLegWith s slot peer
 leg_with s h slot c peer there names = by (bridge_at s slot) refl (h.back slot c there (ap is_some names))
   where
     by : (found : Option Row) → bridge_at s slot ≡ found → is_some found ≡ true → IsLegWith s slot peer

@@ -52,7 +52,8 @@ all_ended w e ended (m ∷ members) is = all_ended w e (ended_by w ended m) memb
 
 -- the bridge of a member ends, or one of the same caller
 member_end : (w : World) (ended : List Ended) (m : Member) (row : Row) → w.row m.0 ≡ Some row → HasEnd row.caller (ended_by w ended m)
-member_end w ended m row is = subst (λ (found : Option Row). HasEnd row.caller (with_end m.1 ended found)) (sym is) (by (has_ended row.caller ended) refl)
+member_end w ended m row is = subst (λ (found : Option Row). HasEnd row.caller (with_end m.1 ended found)) (sym is)
+    (by (has_ended row.caller ended) refl)
   where
     by : (test : Bool) → has_ended row.caller ended ≡ test → HasEnd row.caller (if test then ended else ended ++ (row, m.1) ∷ [])
     by true has = has_end row.caller ended has

@@ -29,7 +29,8 @@ use Rattle.fs_places.specs.Places.{held_in, with_held}
 use Rattle.fs_places.proofs.HeldLemmas.{held_here, held_within}
 use Rattle.fs_places.proofs.TableLemmas.{still_there, not_free}
 use Rattle.fs_state.proofs.LegTables.{seated}
-use Rattle.fs_state.specs.Switch.{Switch, chan_at, with_chan, bridge_at, with_bridge, next_bridge_number, next_orig_number, with_event, without_orig}
+use Rattle.fs_state.specs.Switch.{Switch, chan_at, with_chan, bridge_at, with_bridge, next_bridge_number, next_orig_number, with_event}
+use Rattle.fs_state.specs.Switch.{without_orig}
 use Rattle.fs_state.specs.Moves.{with_changed_chan_from, after_move_from, after_move, orig_changed, leg_changed}
 use Rattle.fs_state.specs.Moves.{orig_given_up}
 use Rattle.fs_state.specs.Hangups.{lives, lives_at}
@@ -42,7 +43,8 @@ use Rattle.fs_machine.specs.Dialing.{tried_by_slot}
 use Rattle.fs_machine.specs.Joining.{after_leaving}
 use Rattle.fs_machine.proofs.Kept.{Stage, Links, IsApt, IsAtWork, KeptByTouches, KeptByCalls, KeptByBirths, KeptByDials, KeptByMoves, raced}
 use Rattle.fs_machine.proofs.Kept.{HasWon}
-use Rattle.fs_machine.proofs.StayLemmas.{WorksAt, is_at_work, exchange_lives, execute_lives, routing_lives, state_told_kept, moved_there, changed_there}
+use Rattle.fs_machine.proofs.StayLemmas.{WorksAt, is_at_work, exchange_lives, execute_lives, routing_lives, state_told_kept, moved_there}
+use Rattle.fs_machine.proofs.StayLemmas.{changed_there}
 use Rattle.fs_machine.proofs.StayLemmas.{orig_changed_channels}
 use Rattle.fs_machine.proofs.HangLemmas.{given_up_kept}
 use Rattle.fs_machine.proofs.JoinLemmas.{rest_dials}
@@ -206,7 +208,8 @@ module _ (kind : BridgeKind) (caller answerer : ℕ) (c d : Chan) (s : Switch) (
   pub joined_bonds : c.leg_of ≡ None → d.leg_of ≡ None → Bonds s → Bonds (joined_as kind caller answerer s)
   joined_bonds lone lone_too h =
       subst (λ (t : Switch). BondsIn t.channels t.bridges) (sym joined_there)
-      (joined_tables s.channels s.bridges kind caller answerer c d (bridged (peer_of caller c) d) calls answers differ first_none second_none
+      (joined_tables s.channels s.bridges kind caller answerer c d
+      (bridged (peer_of caller c) d) calls answers differ first_none second_none
       live alive refl refl (apt_bridged answerer c d lone) (apt_bridged caller d c lone_too) h)
 
   -- one of them comes into media

@@ -71,7 +71,8 @@ still_in number row (Some r) is = by (has_number number r) refl is
     by true has e = absurd (none-some row e)
     by false has e = record { was = e; other = ap (has_number number) (sym (same_Some r row e)) ∙ has }
 
-pub still_part : (number slot : ℕ) (bridges : BridgeRows) (row : Row) → IsSound bridges → part_of slot (unbridged number bridges) ≡ Some row →
+pub still_part : (number slot : ℕ) (bridges : BridgeRows) (row : Row) → IsSound bridges →
+    part_of slot (unbridged number bridges) ≡ Some row →
     (part_of slot bridges ≡ Some row) × (has_number number row ≡ false)
 still_part number slot bridges row sound is =
     let still = still_in number row (part_of slot bridges) (sym (ended_is_left number slot bridges sound) ∙ is) in (still.was, still.other)

@@ -25,8 +25,8 @@ pub record NamesPeer (channels : Channels) (slot other : ℕ) : Type 0 where
   pub peer_there : held_in channels other ≡ Some peer
   pub names : chan.peer ≡ Some (record { slot = other; uuid = peer.uuid })
 
--- Each channel is apt, whoever is part of a bridge names the other leg, and whoever names a peer is part of a bridge, or is open. What is open
--- is part of none.
+-- Each channel is apt, whoever is part of a bridge names the other leg, and whoever names a peer is part of a bridge, or is open. What is
+-- open is part of none.
 pub record OpenBonds (open_at : ℕ → Type 0) (channels : Channels) (bridges : BridgeRows) : Type 0 where
   pub apt : (slot : ℕ) (c : Chan) → held_in channels slot ≡ Some c → IsApt c
   pub rows : RowsFit bridges
@@ -117,8 +117,8 @@ stands channels place old new slot c there is = by (cases_eq slot place)
     }
     by (inr other) = record { now = c; there = held_there channels place slot (Some new) other ∙ is; how = inr refl }
 
--- a pair stays, where the channel that is changed is not its first, or lives on and names the same peer, and is not its second, or keeps its
--- identifier
+-- a pair stays, where the channel that is changed is not its first, or lives on and names the same peer, and is not its second, or keeps
+-- its identifier
 pub peer_put : (channels : Channels) (place : ℕ) (old new : Chan) (slot other : ℕ) → held_in channels place ≡ Some old →
     (slot ≡ place → (is_live old ≡ true → is_live new ≡ true) × (new.peer ≡ old.peer)) → (other ≡ place → new.uuid ≡ old.uuid) →
     NamesPeer channels slot other → NamesPeer (with_held channels place (Some new)) slot other

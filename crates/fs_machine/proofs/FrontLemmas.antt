@@ -50,7 +50,8 @@ use Rattle.fs_machine.specs.Bridging.{caller_of, group_dialed, goes_on, after_go
 use Rattle.fs_machine.specs.Bridging.{after_bridge_win}
 use Rattle.fs_machine.specs.Dialing.{tried_by_slot}
 use Rattle.fs_machine.specs.Joining.{after_leaving}
-use Rattle.fs_machine.proofs.Kept.{Stage, Fact, Links, Remains, Stays, KeptByTouches, KeptByCalls, KeptByBirths, DoesJob, KeptByDials, raced}
+use Rattle.fs_machine.proofs.Kept.{Stage, Fact, Links, Remains, Stays, KeptByTouches, KeptByCalls, KeptByBirths, DoesJob, KeptByDials}
+use Rattle.fs_machine.proofs.Kept.{raced}
 use Rattle.fs_machine.proofs.Kept.{HasWon, KeptByMoves}
 use Rattle.fs_machine.proofs.StayLemmas.{moved_there, changed_there}
 use Rattle.fs_machine.proofs.Walk.{disposed_kept, group_made_kept}
@@ -167,7 +168,8 @@ lively_peer slot place other s h = by (chan_at s other)
         (λ c there. lively_put s slot place c (bridged (peer_of other d) c) there refl h) h
 
 lively_join : (kind : BridgeKind) (a b slot : ℕ) (s : Switch) → Lively s slot → Lively (joined_as kind a b s) slot
-lively_join kind a b slot s h = lively_peer slot b a (with_peer a b (with_bridge a b kind s)) (lively_peer slot a b (with_bridge a b kind s) h)
+lively_join kind a b slot s h = lively_peer slot b a (with_peer a b (with_bridge a b kind s))
+    (lively_peer slot a b (with_bridge a b kind s) h)
 
 -- a slot is, where its channel lives
 lively_now : (s : Switch) (slot : ℕ) → lives_at s slot ≡ true → Lively s slot
@@ -287,7 +289,8 @@ module _ (before : Switch) (P : Fact) (same : (b : Stage) (t u : Switch) → P b
     dials = λ slot c groups timeout {s = s} there works are h. dialed_remains slot c groups timeout s h;
     regroups = λ number o plans caller {s = s} there next h. regroups_same number (group_made plans caller number s)
         (group_made_kept P births plans caller number {n = 0} {s = s} h);
-    fails = λ slot orig cause {s = s} waits h. failed_remains cause slot (without_orig orig s) (same (Some 0) s (without_orig orig s) h refl);
+    fails = λ slot orig cause {s = s} waits h. failed_remains cause slot (without_orig orig s)
+        (same (Some 0) s (without_orig orig s) h refl);
     wins = λ slot orig leg slots waits won h.
         won_remains slot (unwrap_or leg.slot 0) (without_orig orig (raced slots before))
         (same (Some 0) (raced slots before) (without_orig orig (raced slots before)) h refl);
@@ -307,7 +310,8 @@ module _ (before : Switch) (P : Fact) (same : (b : Stage) (t u : Switch) → P b
   ended_same : (number conn : ℕ) (answer : Text) (s : Switch) → P (Some 0) s → P (Some 0) (after_job_end number conn answer s)
   ended_same number conn answer s h = same (Some 0) s _ h (ended_front number conn answer s)
 
-  over_same : (job conn orig : ℕ) (answer : Text) (s : Switch) → P (Some 0) s → P (Some 0) (after_job_end job conn answer (without_orig orig s))
+  over_same : (job conn orig : ℕ) (answer : Text) (s : Switch) → P (Some 0) s →
+      P (Some 0) (after_job_end job conn answer (without_orig orig s))
   over_same job conn orig answer s h = ended_same job conn answer (without_orig orig s) (same (Some 0) s _ h refl)
 
   sleeps_same : (conn until : ℕ) (s : Switch) → P None s → P (Some 0) (after_job_begin conn (Sleep until) s)
@@ -316,7 +320,8 @@ module _ (before : Switch) (P : Fact) (same : (b : Stage) (t u : Switch) → P b
   tried_same : (conn : ℕ) (groups : List (List LegPlan)) (winner : Winner) (caller : Caller) (timeout orig : ℕ) (made : MadeGroup) →
       P (Some 0) made.state → P (Some 0) (tried_by_job conn groups winner caller timeout orig made)
   tried_same conn groups winner caller timeout orig made h =
-      same (Some 0) made.state _ h (owing_front conn (Originate orig winner caller) (orig_begun (owner.Job (next_job_number made.state)) groups made.legs timeout made.state))
+      same (Some 0) made.state _ h (owing_front conn (Originate orig winner caller)
+      (orig_begun (owner.Job (next_job_number made.state)) groups made.legs timeout made.state))
 
   originates_same : (conn : ℕ) (groups : List (List LegPlan)) (winner : Winner) (caller : Caller) (timeout : Option ℕ) (s : Switch) →
       P None s → P (Some 0) (originate_begun conn groups winner caller timeout s)

@@ -19,7 +19,8 @@ use Rattle.fs_state.specs.declared.event.Event.{Event}
 use Rattle.fs_state.specs.Switch.{Switch, chan_at, with_chan, without_bridge, orig_of, without_orig, with_event}
 use Rattle.fs_state.specs.Moves.{plain_event, with_state_events, with_changed_chan, after_move, orig_changed, leg_changed}
 use Rattle.fs_state.specs.Moves.{is_owner, its_leg_changed, hangup_event, given_up_by, orig_given_up, after_hangup_from, after_one_hangup}
-use Rattle.fs_state.specs.Hangups.{lives, lives_at, world_of, Ended, after_end, after_ends, unbridge_event, is_leg_of, with_end_told, untold_by, after_member}
+use Rattle.fs_state.specs.Hangups.{lives, lives_at, world_of, Ended, after_end, after_ends, unbridge_event, is_leg_of, with_end_told}
+use Rattle.fs_state.specs.Hangups.{untold_by, after_member}
 use Rattle.fs_state.specs.Hangups.{after_members, after_outliving, after_survival, after_survivals, after_closure, living_of, after_hangups}
 use Rattle.fs_machine.proofs.ClosureLemmas.{members_for, hangs_up, survivors_stay}
 use Rattle.fs_machine.proofs.StayLemmas.{state_told_kept, differing_kept, moved_there, changed_there}
@@ -182,7 +183,8 @@ module _ (hangs : ℕ → Bool) (P : Switch → Type 0) (told : (event : Event) 
       P (after_members untold members s)
   members_kept = members_kept_by hangs P told settles_kept ends one_hung_kept
 
-  pub survivals_kept : (survivors : List (ℕ × After)) (s : Switch) → ((one : ℕ × After) → IsOneOf one survivors → hangs one.0 ≡ false) → P s →
+  pub survivals_kept : (survivors : List (ℕ × After)) (s : Switch) → ((one : ℕ × After) → IsOneOf one survivors → hangs one.0 ≡ false) →
+      P s →
       P (after_survivals survivors s)
   survivals_kept = survivals_kept_by hangs P told settles_kept ends one_hung_kept
 

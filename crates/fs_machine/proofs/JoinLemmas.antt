@@ -152,7 +152,8 @@ record AreClear (ready bridged : Bool) : Type 0 where
   none : bridged ≡ false
 
 clear : (a b c d : Text) (same ready answered bridged : Bool) →
-    (if same then Some a else (if not ready then Some b else (if not answered then Some c else (if bridged then Some d else None)))) ≡ None →
+    (if same then Some a else (if not ready then Some b else
+    (if not answered then Some c else (if bridged then Some d else None)))) ≡ None →
     AreClear ready bridged
 clear a b c d true ready answered bridged e = absurd (none-some a (sym e))
 clear a b c d false false answered bridged e = absurd (none-some b (sym e))
@@ -180,8 +181,16 @@ apart_now a b s is =
     clear same_channel not_ready not_answered already_bridged (a == b) (is_ready (chan_at s a) && is_ready (chan_at s b))
     (is_answered (chan_at s a) && is_answered (chan_at s b)) (is_some (bridge_at s a) || is_some (bridge_at s b)) is in
     let none = neither (bridge_at s a) (bridge_at s b) tests.none in (
-      record { bridge = none.0; lone = ready_lone (chan_at s a) (left_holds (is_ready (chan_at s a)) (is_ready (chan_at s b)) tests.ready_is) },
-      record { bridge = none.1; lone = ready_lone (chan_at s b) (right_holds (is_ready (chan_at s a)) (is_ready (chan_at s b)) tests.ready_is) },
+      record {
+        bridge = none.0;
+        lone = ready_lone (chan_at s a)
+            (left_holds (is_ready (chan_at s a)) (is_ready (chan_at s b)) tests.ready_is);
+      },
+      record {
+        bridge = none.1;
+        lone = ready_lone (chan_at s b)
+            (right_holds (is_ready (chan_at s a)) (is_ready (chan_at s b)) tests.ready_is);
+      },
     )
 
 -- ---- two that meet

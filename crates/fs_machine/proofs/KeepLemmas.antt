@@ -23,7 +23,8 @@ use Rattle.fs_state.specs.declared.conn.Parting.{Parting}
 use Rattle.fs_state.specs.declared.conn.Parting.TheVariants as parting
 use Rattle.fs_state.specs.declared.job.JobWork.{JobWork}
 use Rattle.fs_state.specs.declared.job.JobWork.TheVariants.{Sleep, Originate}
-use Rattle.fs_state.specs.Switch.{Switch, conn_of, next_orig_number, next_job_number, is_full_of_jobs, with_new_job, without_job, without_orig, with_gift}
+use Rattle.fs_state.specs.Switch.{Switch, conn_of, next_orig_number, next_job_number, is_full_of_jobs, with_new_job, without_job}
+use Rattle.fs_state.specs.Switch.{without_orig, with_gift}
 use Rattle.fs_machine.specs.declared.entry.Act.{Act}
 use Rattle.fs_machine.specs.declared.entry.Act.TheVariants as act
 use Rattle.fs_machine.specs.declared.entry.Closing.TheVariants as closing

@@ -32,7 +32,8 @@ use Rattle.fs_state.specs.declared.conn.Parting.TheVariants as parting
 use Rattle.fs_state.specs.declared.event.Event.{Event}
 use Rattle.fs_state.specs.declared.job.JobWork.{JobWork}
 use Rattle.fs_state.specs.declared.job.JobWork.TheVariants as work
-use Rattle.fs_state.specs.Switch.{Switch, chan_at, with_chan, bridge_at, is_full_of_jobs, job_of, without_conn, with_frame_taken, with_event}
+use Rattle.fs_state.specs.Switch.{Switch, chan_at, with_chan, bridge_at, is_full_of_jobs, job_of, without_conn, with_frame_taken}
+use Rattle.fs_state.specs.Switch.{with_event}
 use Rattle.fs_state.specs.Switch.{next_orig_number, orig_of, without_orig, with_gift}
 use Rattle.fs_state.specs.Moves.{orig_changed, leg_changed}
 use Rattle.fs_state.specs.Hangups.{after_hangups, after_hangups_for}
@@ -84,7 +85,8 @@ is_idle CsInit = true
 is_idle CsConsumeMedia = true
 is_idle _ = false
 
--- such a leg is outbound, has nothing to run and waits for no legs of its own, and a leg of a bridge is none of these, and waits for the end of the bridge
+-- such a leg is outbound, has nothing to run and waits for no legs of its own, and a leg of a bridge is none of these, and waits for the
+-- end of the bridge
 pub record IsApt (c : Chan) : Type 0 where
   pub outbound : is_some c.leg_of ≡ true → c.direction ≡ Outbound
   pub idle : is_some c.leg_of ≡ true → is_idle c.state ≡ true

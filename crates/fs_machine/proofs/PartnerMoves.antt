@@ -72,7 +72,8 @@ spared_falls hangs s t slot place old new stays there (Rests outlives lived) h =
 spared_falls hangs s t slot place old new stays there (Parks outlives lived) h =
     spared_put s t slot place old (parked old) there (λ same. (refl, λ live. park_lives)) h
 
-spared_changed : (change : Orig → Orig) (number : ℕ) (s t : Switch) (slot : ℕ) → Spared s t slot → Spared s (orig_changed change number t) slot
+spared_changed : (change : Orig → Orig) (number : ℕ) (s t : Switch) (slot : ℕ) → Spared s t slot →
+    Spared s (orig_changed change number t) slot
 spared_changed change number s t slot h = record {
   names = ap (λ (channels : List (Option Chan)). named_in partner_of channels slot) (orig_changed_channels change number t) ∙ h.names;
   live = λ lived. ap (λ (channels : List (Option Chan)). lives_in channels slot) (orig_changed_channels change number t) ∙ h.live lived;

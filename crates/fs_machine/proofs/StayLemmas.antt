@@ -75,7 +75,8 @@ unfolding state_row
 reporting_dead = refl
 
 -- a channel of a state lives as the state says
-pub live_by : (c : Chan) (state : State) (b : Bool) → c.state ≡ state → nat_lt (state_number state) (state_number CsHangup) ≡ b → is_live c ≡ b
+pub live_by : (c : Chan) (state : State) (b : Bool) → c.state ≡ state → nat_lt (state_number state) (state_number CsHangup) ≡ b →
+    is_live c ≡ b
 live_by c state b is lives = ap (λ (x : State). nat_lt (state_number x) (state_number CsHangup)) is ∙ lives
 
 pub first_lives : (direction : Direction) → Lives (first_state direction)
@@ -271,7 +272,8 @@ works_put channels slot place old new there keeps at = by (cases_eq slot place)
     by : (slot ≡ place) ⊎ (slot ≡ place → ⊥) → WorksAt (with_held channels place (Some new)) slot
     by (inl same) = record {
       chan = new;
-      there = ap (held_in (with_held channels place (Some new))) same ∙ held_here channels place (Some new) (held_within channels place old there);
+      there = ap (held_in (with_held channels place (Some new))) same ∙ held_here channels place (Some new)
+          (held_within channels place old there);
       works = keeps (is_at_work channels slot old at (ap (held_in channels) same ∙ there));
     }
     by (inr other) = record { chan = at.chan; there = held_there channels place slot (Some new) other ∙ at.there; works = at.works }

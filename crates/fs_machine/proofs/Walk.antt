@@ -1,6 +1,7 @@
 -- The one walk through what channels do: a fact that bears each of their moves is kept by all that they do.
 use Rattle.std.proofs.Common.{◌≡◌, ℕ, ◌+◌, ◌==◌, Bool, true, false, if◌then◌else◌, List, [], ◌∷◌, length, Option, None, Some}
-use Rattle.std.proofs.Common.{option_map, option_and_then, is_none, Result, Ok, Err, IsSome, slice_get, unwrap_or, refl, sym, ap, subst, ◌∙◌}
+use Rattle.std.proofs.Common.{option_map, option_and_then, is_none, Result, Ok, Err, IsSome, slice_get, unwrap_or, refl, sym, ap, subst}
+use Rattle.std.proofs.Common.{◌∙◌}
 use Rattle.std.proofs.Common.{true≢false}
 use Rattle.fs_text.specs.declared.states.State.{State}
 use Rattle.fs_text.specs.declared.states.State.TheVariants.{CsNew, CsInit, CsRouting, CsExecute, CsPark, CsHangup, CsReporting}
@@ -54,7 +55,8 @@ use Rattle.fs_machine.specs.declared.originations.Call.{Call}
 use Rattle.fs_machine.specs.Applications.{with_assignment, after_assignment, after_sleep, state_at, after_park_in, after_effect}
 use Rattle.fs_machine.specs.Applications.{argument_in, executed_within, after_running_next, after_running_from, after_running}
 use Rattle.fs_machine.specs.Attempts.{awaits, failed_for, won_for, group_for, with_group, after_verdict_on}
-use Rattle.fs_machine.specs.Bridging.{caller_of, group_dialed, goes_on, after_going_on, bridge_failed_from, after_bridge_failure, after_bridge_win, disposed}
+use Rattle.fs_machine.specs.Bridging.{caller_of, group_dialed, goes_on, after_going_on, bridge_failed_from, after_bridge_failure}
+use Rattle.fs_machine.specs.Bridging.{after_bridge_win, disposed}
 use Rattle.fs_machine.specs.Dialing.{bridge_timeout, bridge_begun_from, bridge_dialed, after_dialing}
 use Rattle.fs_machine.specs.Work.{with_variables, routed_to, has_xml, actions_for, too_long_cause, found_for, routed_by, after_routing_from}
 use Rattle.fs_machine.specs.Work.{first_state, after_wait, after_work_in, after_work_from, after_work}
@@ -62,8 +64,10 @@ use Rattle.fs_machine.specs.Originations.{Made, made_dead, made_in, with_second,
 use Rattle.fs_machine.specs.Originations.{no_variables, own_uuid, call_with, is_misnamed, made_with, made_of, leg_made, group_made}
 use Rattle.fs_machine.proofs.DialLemmas.{dialled_groups}
 use Rattle.fs_machine.proofs.ShortLemmas.{sent_short, application_short, endpoint_short}
-use Rattle.fs_machine.proofs.Kept.{Stage, Fact, hold_in, is_idle, Stays, KeptByTouches, KeptByCalls, KeptByBirths, IsAtWork, KeptByDials, raced, HasWon}
-use Rattle.fs_machine.proofs.StayLemmas.{new_lives, init_lives, routing_lives, execute_lives, park_lives, first_lives, reporting_dead, live_by}
+use Rattle.fs_machine.proofs.Kept.{Stage, Fact, hold_in, is_idle, Stays, KeptByTouches, KeptByCalls, KeptByBirths, IsAtWork, KeptByDials}
+use Rattle.fs_machine.proofs.Kept.{raced, HasWon}
+use Rattle.fs_machine.proofs.StayLemmas.{new_lives, init_lives, routing_lives, execute_lives, park_lives, first_lives, reporting_dead}
+use Rattle.fs_machine.proofs.StayLemmas.{live_by}
 use Rattle.fs_machine.proofs.StayLemmas.{work_stays, rest_links, AllQuiet, quiet_stays, after_next_quiet, running_quiet}
 use Rattle.fs_machine.proofs.StayLemmas.{variables_quiet, assignment_quiet, answer_quiet, disposition_quiet, WorksAt, is_at_work}
 use Rattle.fs_machine.proofs.StayLemmas.{moved_there, changed_there, moved_works, changed_works, answered_works, hangup_dead}
@@ -365,7 +369,8 @@ module _ (before : Switch) (P : Fact) (kept : KeptByCalls P) (dials : KeptByDial
   tried_kept : (slot orig : ℕ) (c : Chan) → chan_at before slot ≡ Some c → P (Some 0) before →
       P (Some 0) (after_verdict_on (record { orig = orig; party = party.Slot slot }) before)
   tried_kept slot orig c there h =
-      verdict_kept before P kept (record { orig = orig; party = party.Slot slot }) (λ s. Unit {0}) (λ named can. tt) fails wins regroups tt h
+      verdict_kept before P kept (record { orig = orig; party = party.Slot slot }) (λ s. Unit {0})
+      (λ named can. tt) fails wins regroups tt h
     where
       fails : (cause : Cause) (s : Switch) → Unit {0} → P (Some 0) s → P (Some 0) (failed_for (party.Slot slot) orig cause s)
       fails cause s can k = by (awaits slot orig s) refl

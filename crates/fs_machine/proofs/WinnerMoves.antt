@@ -78,7 +78,8 @@ originates_winners : (conn : ℕ) (groups : List (List LegPlan)) (winner : Winne
     WinnersAreShort (originate_begun conn groups winner caller timeout s).jobs
 originates_winners conn groups winner caller timeout s short h =
     let made : MadeGroup = group_made (first_group groups) caller (next_orig_number s) s in
-    owing_winners conn (Originate (next_orig_number s) winner caller) (orig_begun (owner.Job (next_job_number made.state)) groups made.legs (unwrap_or timeout 60) made.state)
+    owing_winners conn (Originate (next_orig_number s) winner caller)
+    (orig_begun (owner.Job (next_job_number made.state)) groups made.legs (unwrap_or timeout 60) made.state)
     short
     (rest_winners s made.state (group_made_rest (first_group groups) caller (next_orig_number s) s) h)
 

@@ -52,52 +52,52 @@ repeated_agrees Holds f g same keeps (suc n) p h = repeated_agrees Holds f g sam
 
 -- ---- what is due
 
-worked_agrees : (config : Configuration) → config.settings.journal_limit ≤ 1073741824 → (p : Play) → IsRun config p →
+worked_agrees : (config : Configuration) → IsWithin config → (p : Play) → IsRun config p →
     after_due_step p ≡ after_due_step_as by_room p
-worked_agrees config small p run = by (next_actor p) refl
+worked_agrees config within p run = by (next_actor p) refl
   where
     by : (who : DueActor) → next_actor p ≡ who → after_due_work_as by_refusal who p ≡ after_due_work_as by_room who p
-    by (due.Slot slot) is = fit_agrees (Work slot) p (λ goes_on. fit_due config (Work slot) p small run (ap act_of is))
-    by (due.Job number) is = fit_agrees (Job number) p (λ goes_on. fit_due config (Job number) p small run (ap act_of is))
+    by (due.Slot slot) is = fit_agrees (Work slot) p (λ goes_on. fit_due config (Work slot) p within run (ap act_of is))
+    by (due.Job number) is = fit_agrees (Job number) p (λ goes_on. fit_due config (Job number) p within run (ap act_of is))
     by (due.Later moment) is = refl
     by due.Never is = refl
 
-settled_agrees : (config : Configuration) → config.settings.journal_limit ≤ 1073741824 → (p : Play) → IsRun config p →
+settled_agrees : (config : Configuration) → IsWithin config → (p : Play) → IsRun config p →
     after_settling p ≡ after_settling_as by_room p
 unfolding after_settling_as
-settled_agrees config small p run =
-    ap with_runaway_end (repeated_agrees (IsRun config) after_due_step (after_due_step_as by_room) (worked_agrees config small)
+settled_agrees config within p run =
+    ap with_runaway_end (repeated_agrees (IsRun config) after_due_step (after_due_step_as by_room) (worked_agrees config within)
     (kept_worked_once Any (IsRun config) (keeps_run config)) 100000 p run)
 
 -- ---- replies that are owed
 
-waited_once_agrees : (config : Configuration) → config.settings.journal_limit ≤ 1073741824 → (p : Play) → IsRun config p →
+waited_once_agrees : (config : Configuration) → IsWithin config → (p : Play) → IsRun config p →
     after_waiting_once p ≡ after_waiting_once_as by_room p
-waited_once_agrees config small p run = ap (λ q. cond (waits p) q p) (by (next_actor p))
+waited_once_agrees config within p run = ap (λ q. cond (waits p) q p) (by (next_actor p))
   where
     by : (who : DueActor) → after_waiting_until_as by_refusal who p ≡ after_waiting_until_as by_room who p
-    by (due.Later moment) = settled_agrees config small (record p { clock = moment }) ((keeps_run config).goes_on moment p run)
+    by (due.Later moment) = settled_agrees config within (record p { clock = moment }) ((keeps_run config).goes_on moment p run)
     by (due.Slot slot) = refl
     by (due.Job number) = refl
     by due.Never = refl
 
-all_waited_agrees : (config : Configuration) → config.settings.journal_limit ≤ 1073741824 → (n : ℕ) (p : Play) → IsRun config p →
+all_waited_agrees : (config : Configuration) → IsWithin config → (n : ℕ) (p : Play) → IsRun config p →
     repeated n after_waiting_once p ≡ repeated n (after_waiting_once_as by_room) p
-all_waited_agrees config small n p run =
-    repeated_agrees (IsRun config) after_waiting_once (after_waiting_once_as by_room) (waited_once_agrees config small)
+all_waited_agrees config within n p run =
+    repeated_agrees (IsRun config) after_waiting_once (after_waiting_once_as by_room) (waited_once_agrees config within)
     (kept_waited_once Any (IsRun config) (keeps_run config)) n p run
 
-waited_agrees : (config : Configuration) → config.settings.journal_limit ≤ 1073741824 → (p : Play) → IsRun config p →
+waited_agrees : (config : Configuration) → IsWithin config → (p : Play) → IsRun config p →
     after_waiting p ≡ after_waiting_as by_room p
 unfolding after_waiting_as
-waited_agrees config small p run = all_waited_agrees config small (2 ^ 64) p run
+waited_agrees config within p run = all_waited_agrees config within (2 ^ 64) p run
 
 -- ---- frames
 
 -- nothing speaks against a Take where a frame waits
-fit_take : (config : Configuration) (p : Play) → config.settings.journal_limit ≤ 1073741824 → IsRun config p → waits_in p ≢ [] →
+fit_take : (config : Configuration) (p : Play) → IsWithin config → IsRun config p → waits_in p ≢ [] →
     (is_closed (phase_at (switch_of p) 1) ≡ false) × IsFit (Take 1) p
-fit_take config p small run some = by (is_closed (phase_at (switch_of p) 1)) refl
+fit_take config p within run some = by (is_closed (phase_at (switch_of p) 1)) refl
   where
     none_long : length (waits_in p) ≡ 0 → waits_in p ≡ []
     none_long is = nil_from_length (waits_in p) is
@@ -106,7 +106,8 @@ fit_take config p small run some = by (is_closed (phase_at (switch_of p) 1)) ref
     by true gone =
         let here = switch_is config p run in
         absurd (some (ap (λ (s : Switch). waiting_for s 1) (sym here)
-        ∙ closed_waits_not config p.journal 1 small (run_of config p run) (ap (λ (s : Switch). is_closed (phase_at s 1)) here ∙ gone)))
+        ∙ closed_waits_not config p.journal 1 within.settings.journal.1 (run_of config p run)
+        (ap (λ (s : Switch). is_closed (phase_at s 1)) here ∙ gone)))
     by false after_opening = (
       after_opening,
       ap (λ gone. refused_where gone refusal.Gone (refused_where (length (waits_in p) == 0) refusal.Empty None)) after_opening
@@ -120,18 +121,18 @@ Offers n p = (is_over p ≡ true) ⊎ (n ≤ length (waits_in p))
 some_wait : (n : ℕ) (p : Play) → suc n ≤ length (waits_in p) → waits_in p ≢ []
 some_wait n p enough none = let long = ap length none in omega (arith, enough, long)
 
-offers_less : (config : Configuration) (n : ℕ) (p : Play) → config.settings.journal_limit ≤ 1073741824 → IsRun config p → Offers (suc n) p →
+offers_less : (config : Configuration) (n : ℕ) (p : Play) → IsWithin config → IsRun config p → Offers (suc n) p →
     Offers n (after_trying_act (Take 1) p)
-offers_less config n p small run offers = by (is_over p) refl offers (is_full (switch_of p)) refl
+offers_less config n p within run offers = by (is_over p) refl offers (is_full (switch_of p)) refl
   where
     fewer : suc n ≤ length (waits_in p) → Offers n (longer_by (Take 1) p)
     fewer enough =
-        let rest = ap length (taken_rest config p small run (fit_take config p small run (some_wait n p enough)).0) in
+        let rest = ap length (taken_rest config p within.settings.journal.1 run (fit_take config p within run (some_wait n p enough)).0) in
         let less = length-drop 1 (waits_in p) in inr (omega (arith, enough, rest, less))
 
     fit : is_over p ≡ false → suc n ≤ length (waits_in p) →
         after_trying_act (Take 1) p ≡ cond (is_full (switch_of p)) (filled p) (longer_by (Take 1) p)
-    fit goes_on enough = fit_entered (Take 1) p goes_on (fit_take config p small run (some_wait n p enough)).1
+    fit goes_on enough = fit_entered (Take 1) p goes_on (fit_take config p within run (some_wait n p enough)).1
 
     by : (over : Bool) → is_over p ≡ over → Offers (suc n) p → (full : Bool) → is_full (switch_of p) ≡ full →
         Offers n (after_trying_act (Take 1) p)
@@ -142,43 +143,43 @@ offers_less config n p small run offers = by (is_over p) refl offers (is_full (s
     by false goes_on (inr enough) false is =
         subst (Offers n) (sym (fit goes_on enough ∙ ap (λ b. cond b (filled p) (longer_by (Take 1) p)) is)) (fewer enough)
 
-take_agrees : (config : Configuration) (n : ℕ) (p : Play) → config.settings.journal_limit ≤ 1073741824 → IsRun config p → Offers (suc n) p →
+take_agrees : (config : Configuration) (n : ℕ) (p : Play) → IsWithin config → IsRun config p → Offers (suc n) p →
     after_trying_act (Take 1) p ≡ after_trying_act_as by_room (Take 1) p
-take_agrees config n p small run offers = fit_agrees (Take 1) p (λ goes_on. by goes_on offers)
+take_agrees config n p within run offers = fit_agrees (Take 1) p (λ goes_on. by goes_on offers)
   where
     by : is_over p ≡ false → Offers (suc n) p → IsFit (Take 1) p
     by goes_on (inl over) = absurd (both_ways (is_over p) goes_on over)
-    by goes_on (inr enough) = (fit_take config p small run (some_wait n p enough)).1
+    by goes_on (inr enough) = (fit_take config p within run (some_wait n p enough)).1
 
-takes_agree : (config : Configuration) (n : ℕ) (p : Play) → config.settings.journal_limit ≤ 1073741824 → IsRun config p → Offers n p →
+takes_agree : (config : Configuration) (n : ℕ) (p : Play) → IsWithin config → IsRun config p → Offers n p →
     repeated n (after_trying_act (Take 1)) p ≡ repeated n (after_trying_act_as by_room (Take 1)) p
 unfolding repeated
-takes_agree config zero p small run offers = refl
-takes_agree config (suc n) p small run offers =
-    takes_agree config n (after_trying_act (Take 1) p) small ((keeps_run config).enters (Take 1) tt p run)
-    (offers_less config n p small run offers)
-    ∙ ap (repeated n (after_trying_act_as by_room (Take 1))) (take_agrees config n p small run offers)
+takes_agree config zero p within run offers = refl
+takes_agree config (suc n) p within run offers =
+    takes_agree config n (after_trying_act (Take 1) p) within ((keeps_run config).enters (Take 1) tt p run)
+    (offers_less config n p within run offers)
+    ∙ ap (repeated n (after_trying_act_as by_room (Take 1))) (take_agrees config n p within run offers)
 
-all_taken_agrees : (config : Configuration) → config.settings.journal_limit ≤ 1073741824 → (p : Play) → IsRun config p →
+all_taken_agrees : (config : Configuration) → IsWithin config → (p : Play) → IsRun config p →
     after_taking_all p ≡ after_taking_all_as by_room p
 unfolding after_taking_all_as
-all_taken_agrees config small p run = takes_agree config (length (waits_in p)) p small run (inr (omega arith))
+all_taken_agrees config within p run = takes_agree config (length (waits_in p)) p within run (inr (omega arith))
 
 -- ---- all that comes of an act
 
-followed_agrees : (config : Configuration) → config.settings.journal_limit ≤ 1073741824 → (p : Play) → IsRun config p →
+followed_agrees : (config : Configuration) → IsWithin config → (p : Play) → IsRun config p →
     after_following p ≡ after_following_as by_room p
-followed_agrees config small p run =
+followed_agrees config within p run =
     let settles = kept_settled Any (IsRun config) (keeps_run config) p run in
     let waits_out = kept_waited Any (IsRun config) (keeps_run config) (after_settling p) settles in
-    all_taken_agrees config small (after_waiting (after_settling p)) waits_out
-    ∙ ap (after_taking_all_as by_room) (waited_agrees config small (after_settling p) settles
-    ∙ ap (after_waiting_as by_room) (settled_agrees config small p run))
+    all_taken_agrees config within (after_waiting (after_settling p)) waits_out
+    ∙ ap (after_taking_all_as by_room) (waited_agrees config within (after_settling p) settles
+    ∙ ap (after_waiting_as by_room) (settled_agrees config within p run))
 
-acted_agrees : (config : Configuration) → config.settings.journal_limit ≤ 1073741824 → (act : Act) (p : Play) → IsRun config p →
+acted_agrees : (config : Configuration) → IsWithin config → (act : Act) (p : Play) → IsRun config p →
     (is_over p ≡ false → IsFit act p) → after_act act p ≡ after_act_as by_room act p
-acted_agrees config small act p run fit =
-    followed_agrees config small (after_trying_act act p) ((keeps_run config).enters act tt p run) ∙ ap (after_following_as by_room)
+acted_agrees config within act p run fit =
+    followed_agrees config within (after_trying_act act p) ((keeps_run config).enters act tt p run) ∙ ap (after_following_as by_room)
     (fit_agrees act p fit)
 
 -- ---- the conversation
@@ -194,43 +195,43 @@ fit_command p block takes = by (reads_on p) refl (owed_to (switch_of p) 1) refl 
     by true reading (Some since) free both = absurd (cc both)
     by false reading owed free both = absurd (cc both)
 
-commanded_agrees : (config : Configuration) → config.settings.journal_limit ≤ 1073741824 → (p : Play) (block : List ℕ) → IsRun config p →
+commanded_agrees : (config : Configuration) → IsWithin config → (p : Play) (block : List ℕ) → IsRun config p →
     after_command p block ≡ after_command_as by_room p block
-commanded_agrees config small p block run = by (takes_commands p) refl
+commanded_agrees config within p block run = by (takes_commands p) refl
   where
     by : (takes : Bool) → takes_commands p ≡ takes →
         cond takes (after_act (Command 1 block) p) p ≡ cond takes (after_act_as by_room (Command 1 block) p) p
-    by true takes = acted_agrees config small (Command 1 block) p run (λ goes_on. fit_command p block takes)
+    by true takes = acted_agrees config within (Command 1 block) p run (λ goes_on. fit_command p block takes)
     by false takes = refl
 
-all_commanded_agrees : (config : Configuration) → config.settings.journal_limit ≤ 1073741824 → (p : Play) (blocks : List (List ℕ)) →
+all_commanded_agrees : (config : Configuration) → IsWithin config → (p : Play) (blocks : List (List ℕ)) →
     IsRun config p → after_commands p blocks ≡ after_commands_as by_room p blocks
-all_commanded_agrees config small p [] run = refl
-all_commanded_agrees config small p (block ∷ blocks) run =
-    all_commanded_agrees config small (after_command p block) blocks (kept_commanded Any (IsRun config) (keeps_run config) block tt p run)
-    ∙ ap (λ q. after_commands_as by_room q blocks) (commanded_agrees config small p block run)
+all_commanded_agrees config within p [] run = refl
+all_commanded_agrees config within p (block ∷ blocks) run =
+    all_commanded_agrees config within (after_command p block) blocks (kept_commanded Any (IsRun config) (keeps_run config) block tt p run)
+    ∙ ap (λ q. after_commands_as by_room q blocks) (commanded_agrees config within p block run)
 
 opened_agrees : (config : Configuration) → IsWithin config → after_opening config ≡ after_opening_as by_room config
 opened_agrees config within =
-    acted_agrees config within.settings.journal.1 Arrive (new_play config) (run_begun config)
+    acted_agrees config within Arrive (new_play config) (run_begun config)
     (λ goes_on. not_refused (empty config) (entry_of Arrive (new_play config)) (arrival_accepted config 0 within))
 
 conversed_agrees : (config : Configuration) (input : List ℕ) → IsWithin config →
     after_conversing config input ≡ after_conversing_as by_room config input
 conversed_agrees config input within =
-    all_commanded_agrees config within.settings.journal.1 (after_opening config) (blocks_of input)
+    all_commanded_agrees config within (after_opening config) (blocks_of input)
     (kept_opened Any (IsRun config) (keeps_run config) tt config (run_begun config))
     ∙ ap (λ q. after_commands_as by_room q (blocks_of input)) (opened_agrees config within)
 
-input_ended_agrees : (config : Configuration) → config.settings.journal_limit ≤ 1073741824 → (p : Play) → IsRun config p →
+input_ended_agrees : (config : Configuration) → IsWithin config → (p : Play) → IsRun config p →
     after_input_end p ≡ after_input_end_as by_room p
-input_ended_agrees config small p run = by (reads_on p) refl
+input_ended_agrees config within p run = by (reads_on p) refl
   where
     by : (reading : Bool) → reads_on p ≡ reading →
         cond reading (after_taking_all (after_trying_act (Close 1 EndOfInput) p)) p
         ≡ cond reading (after_taking_all_as by_room (after_trying_act_as by_room (Close 1 EndOfInput) p)) p
     by true reading =
-        all_taken_agrees config small (after_trying_act (Close 1 EndOfInput) p) ((keeps_run config).enters (Close 1 EndOfInput) tt p run)
+        all_taken_agrees config within (after_trying_act (Close 1 EndOfInput) p) ((keeps_run config).enters (Close 1 EndOfInput) tt p run)
         ∙ ap (after_taking_all_as by_room) (fit_agrees (Close 1 EndOfInput) p (λ goes_on. fit_end p reading))
     by false reading = refl
 
@@ -239,7 +240,7 @@ closed_agrees : (config : Configuration) (input : List ℕ) → IsWithin config 
 closed_agrees config input within =
     fit_agrees (Close 1 Sent) (after_input_end (after_conversing config input)) (fit_last config input within)
     ∙ ap (after_trying_act_as by_room (Close 1 Sent))
-    (input_ended_agrees config within.settings.journal.1 (after_conversing config input) (run_conversed config input))
+    (input_ended_agrees config within (after_conversing config input) (run_conversed config input))
 
 -- the whole play is one whose entries are judged by the room in the journal alone
 pub played_agrees : (config : Configuration) (input : List ℕ) (read_failed : Bool) → IsWithin config →

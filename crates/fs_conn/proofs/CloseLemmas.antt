@@ -163,22 +163,23 @@ keeps_spent config least small = record {
 
 -- ---- what is due is worked
 
-known_of : (config : Configuration) (p : Play) → config.settings.journal_limit ≤ 1073741824 → IsRun config p → AreKnown (switch_of p)
-known_of config p small run = subst AreKnown (switch_is config p run) (run_is_known config p.journal small (run_of config p run))
+known_of : (config : Configuration) (p : Play) → IsWithin config → IsRun config p → AreKnown (switch_of p)
+known_of config p within run = subst AreKnown (switch_is config p run) (run_is_known config p.journal within (run_of config p run))
 
-owed_of_run : (config : Configuration) (p : Play) → config.settings.journal_limit ≤ 1073741824 → IsRun config p → AreOwed (switch_of p)
-owed_of_run config p small run = subst AreOwed (switch_is config p run) (owed_laws.run_is_owed config p.journal small (run_of config p run))
+owed_of_run : (config : Configuration) (p : Play) → IsWithin config → IsRun config p → AreOwed (switch_of p)
+owed_of_run config p within run =
+    subst AreOwed (switch_is config p run) (owed_laws.run_is_owed config p.journal within (run_of config p run))
 
 -- nothing speaks against what has something to do
-pub fit_due : (config : Configuration) (act : Act) (p : Play) → config.settings.journal_limit ≤ 1073741824 → IsRun config p →
+pub fit_due : (config : Configuration) (act : Act) (p : Play) → IsWithin config → IsRun config p →
     act_of (next_actor p) ≡ Some act → IsFit act p
-fit_due config act p small run is = by (next_actor p) refl is
+fit_due config act p within run is = by (next_actor p) refl is
   where
     by : (who : DueActor) → next_actor p ≡ who → act_of who ≡ Some act → IsFit act p
     by (due.Slot slot) at e = let same : Work slot ≡ act = cc e in subst (λ a. IsFit a p) same (slot_accepted (switch_of p) p.clock slot at)
     by (due.Job number) at e =
         let same : Job number ≡ act = cc e in
-        subst (λ a. IsFit a p) same (job_accepted (switch_of p) p.clock number (known_of config p small run) at)
+        subst (λ a. IsFit a p) same (job_accepted (switch_of p) p.clock number (known_of config p within run) at)
     by (due.Later moment) at e = absurd (cc e)
     by due.Never at e = absurd (cc e)
 
@@ -208,15 +209,15 @@ worked_due (due.Later moment) act p is = absurd (cc is)
 worked_due due.Never act p is = absurd (cc is)
 
 -- where something is due, all that is due costs something
-spent_settled : (config : Configuration) (p : Play) → config.settings.journal_limit ≤ 1073741824 → IsRun config p → IsDue (next_actor p) →
+spent_settled : (config : Configuration) (p : Play) → IsWithin config → IsRun config p → IsDue (next_actor p) →
     Spent config (spent p + 64) (after_settling p)
-spent_settled config p small run is =
+spent_settled config p within run is =
     let does = act_due (next_actor p) is in
     let first : Spent config (spent p + 64) (after_trying_act does.0 p) = record {
       run = (keeps_run config).enters does.0 tt p run;
-      paid = paid_entered config does.0 p small run (fit_due config does.0 p small run does.1);
+      paid = paid_entered config does.0 p within.settings.journal.1 run (fit_due config does.0 p within run does.1);
     } in
-    kept_behind Any (Spent config (spent p + 64)) (keeps_spent config (spent p + 64) small) p
+    kept_behind Any (Spent config (spent p + 64)) (keeps_spent config (spent p + 64) within.settings.journal.1) p
     (subst (Spent config (spent p + 64)) (sym (worked_due (next_actor p) does.0 p does.1)) first)
 
 -- the play is over, or nothing is due
@@ -273,12 +274,12 @@ rested p (inr free) = by (is_over p)
     by false = ap (λ b. cond b (after_waiting_until (next_actor p) p) p) free
 
 -- at the next moment something is due, which costs something
-spent_waited : (config : Configuration) (moments moment : ℕ) (p : Play) → config.settings.journal_limit ≤ 1073741824 →
+spent_waited : (config : Configuration) (moments moment : ℕ) (p : Play) → IsWithin config →
     Goes config moments p → next_actor p ≡ due.Later moment →
     Spent config (64 * (moments + 1)) (after_settling (record p { clock = moment }))
-spent_waited config moments moment p small goes later =
+spent_waited config moments moment p within goes later =
     let next =
-    spent_settled config (record p { clock = moment }) small ((keeps_run config).goes_on moment p goes.run)
+    spent_settled config (record p { clock = moment }) within ((keeps_run config).goes_on moment p goes.run)
     (comes_due (switch_of p) p.clock moment later) in
     record { run = next.run; paid = by next.paid }
   where
@@ -287,9 +288,9 @@ spent_waited config moments moment p small goes later =
     by (inl over) = inl over
     by (inr paid) = inr (omega (arith, paid, goes.paid))
 
-once : (config : Configuration) (moments : ℕ) (p : Play) → config.settings.journal_limit ≤ 1073741824 → Goes config moments p →
+once : (config : Configuration) (moments : ℕ) (p : Play) → IsWithin config → Goes config moments p →
     Rests (after_waiting_once p) ⊎ Goes config (moments + 1) (after_waiting_once p)
-once config moments p small goes = by (owes (switch_of p) 1) refl
+once config moments p within goes = by (owes (switch_of p) 1) refl
   where
     later : (q : Play) → (is_over q ≡ true) ⊎ Goes config (moments + 1) q → Rests q ⊎ Goes config (moments + 1) q
     later q (inl over) = inl (inl over)
@@ -301,9 +302,9 @@ once config moments p small goes = by (owes (switch_of p) 1) refl
     at owed (due.Job number) is = let none : act_of (due.Job number) ≡ None = ap act_of (sym is) ∙ goes.idle in absurd (cc none)
     at owed (due.Later moment) is =
         later (after_settling (record p { clock = moment }))
-        (going config (moments + 1) (after_settling (record p { clock = moment })) (spent_waited config moments moment p small goes is)
+        (going config (moments + 1) (after_settling (record p { clock = moment })) (spent_waited config moments moment p within goes is)
         (idle_settled (record p { clock = moment })))
-    at owed due.Never is = absurd (owed_laws.goes_on (switch_of p) 1 p.clock (owed_of_run config p small goes.run) owed is)
+    at owed due.Never is = absurd (owed_laws.goes_on (switch_of p) 1 p.clock (owed_of_run config p within goes.run) owed is)
 
     by : (owed : Bool) → owes (switch_of p) 1 ≡ owed → Rests (after_waiting_once p) ⊎ Goes config (moments + 1) (after_waiting_once p)
     by false free = inl (subst Rests (sym (rested p (inr free))) (inr free))
@@ -313,15 +314,15 @@ once config moments p small goes = by (owes (switch_of p) 1) refl
         ∙ ap (λ b. cond b (after_waiting_until (next_actor p) p) p) owed))
         (at owed (next_actor p) refl)
 
-rounds : (config : Configuration) (n moments : ℕ) (p : Play) → config.settings.journal_limit ≤ 1073741824 → Goes config moments p →
+rounds : (config : Configuration) (n moments : ℕ) (p : Play) → IsWithin config → Goes config moments p →
     Rests (repeated n after_waiting_once p) ⊎ Goes config (moments + n) (repeated n after_waiting_once p)
 unfolding repeated
-rounds config zero moments p small goes = inr (subst (λ m. Goes config m p) (none moments) goes)
+rounds config zero moments p within goes = inr (subst (λ m. Goes config m p) (none moments) goes)
   where
     none : (m : ℕ) → m ≡ m + 0
     none m = omega arith
-rounds config (suc n) moments p small goes =
-    by (once config moments p small goes) (λ further. rounds config n (moments + 1) (after_waiting_once p) small further)
+rounds config (suc n) moments p within goes =
+    by (once config moments p within goes) (λ further. rounds config n (moments + 1) (after_waiting_once p) within further)
   where
     more : (m k : ℕ) → (m + 1) + k ≡ m + suc k
     more m k = omega arith
@@ -347,10 +348,10 @@ rests_rounds config p (inl rests) = rests
 rests_rounds config p (inr goes) = absurd (too_many config p goes)
 
 -- so a play that waits comes to rest
-pub rests_waited : (config : Configuration) (p : Play) → config.settings.journal_limit ≤ 1073741824 → IsRun config p →
+pub rests_waited : (config : Configuration) (p : Play) → IsWithin config → IsRun config p →
     Rests (after_waiting (after_settling p))
 unfolding after_waiting_as
-rests_waited config p small run =
+rests_waited config p within run =
     by (going config 0 (after_settling p) (record {
       run = kept_settled Any (IsRun config) (keeps_run config) p run;
       paid = inr (omega arith);
@@ -361,41 +362,41 @@ rests_waited config p small run =
     by (inl over) =
         subst Rests (sym (repeated_none (2 ^ 64) after_waiting_once (after_settling p) (rested (after_settling p) (inl over)))) (inl over)
     by (inr goes) = rests_rounds config (repeated (2 ^ 64) after_waiting_once (after_settling p))
-        (rounds config (2 ^ 64) 0 (after_settling p) small goes)
+        (rounds config (2 ^ 64) 0 (after_settling p) within goes)
 
 rests_taken : (p : Play) → Rests p → Rests (after_taking_all p)
 rests_taken p (inl over) = inl (ap is_over (goes_all_taken.over p over) ∙ over)
 rests_taken p (inr free) = inr (free_taken p free)
 
-pub rests_acted : (config : Configuration) (act : Act) (p : Play) → config.settings.journal_limit ≤ 1073741824 → IsRun config p →
+pub rests_acted : (config : Configuration) (act : Act) (p : Play) → IsWithin config → IsRun config p →
     Rests (after_act act p)
-rests_acted config act p small run =
+rests_acted config act p within run =
     rests_taken (after_waiting (after_settling (after_trying_act act p)))
-    (rests_waited config (after_trying_act act p) small ((keeps_run config).enters act tt p run))
+    (rests_waited config (after_trying_act act p) within ((keeps_run config).enters act tt p run))
 
 -- ---- the conversation
 
-rests_commanded : (config : Configuration) (block : List ℕ) (p : Play) → config.settings.journal_limit ≤ 1073741824 → IsRun config p →
+rests_commanded : (config : Configuration) (block : List ℕ) (p : Play) → IsWithin config → IsRun config p →
     Rests p → Rests (after_command p block)
-rests_commanded config block p small run rests =
+rests_commanded config block p within run rests =
     elim (takes_commands p) as (λ b. Rests (cond b (after_act (Command 1 block) p) p)) [
-      | true ↦ rests_acted config (Command 1 block) p small run
+      | true ↦ rests_acted config (Command 1 block) p within run
       | false ↦ rests
     ]
 
-rests_all_commanded : (config : Configuration) (blocks : List (List ℕ)) (p : Play) → config.settings.journal_limit ≤ 1073741824 →
+rests_all_commanded : (config : Configuration) (blocks : List (List ℕ)) (p : Play) → IsWithin config →
     IsRun config p → Rests p → Rests (after_commands p blocks)
-rests_all_commanded config [] p small run rests = rests
-rests_all_commanded config (block ∷ blocks) p small run rests =
-    rests_all_commanded config blocks (after_command p block) small (kept_commanded Any (IsRun config) (keeps_run config) block tt p run)
-    (rests_commanded config block p small run rests)
+rests_all_commanded config [] p within run rests = rests
+rests_all_commanded config (block ∷ blocks) p within run rests =
+    rests_all_commanded config blocks (after_command p block) within (kept_commanded Any (IsRun config) (keeps_run config) block tt p run)
+    (rests_commanded config block p within run rests)
 
-rests_conversed : (config : Configuration) (input : List ℕ) → config.settings.journal_limit ≤ 1073741824 →
+rests_conversed : (config : Configuration) (input : List ℕ) → IsWithin config →
     Rests (after_conversing config input)
-rests_conversed config input small =
-    rests_all_commanded config (blocks_of input) (after_opening config) small
+rests_conversed config input within =
+    rests_all_commanded config (blocks_of input) (after_opening config) within
     (kept_opened Any (IsRun config) (keeps_run config) tt config (run_begun config))
-    (rests_acted config Arrive (new_play config) small (run_begun config))
+    (rests_acted config Arrive (new_play config) within (run_begun config))
 
 -- it may come, and then it is there
 pub fit_arrival : (config : Configuration) → IsWithin config →
@@ -471,9 +472,9 @@ parts_taken : (p : Play) → PartsOrOver p → PartsOrOver (after_taking_all p)
 parts_taken p (inl over) = inl (ap is_over (goes_all_taken.over p over) ∙ over)
 parts_taken p (inr h) = inr (parted_taken p h)
 
-parts_ended : (config : Configuration) (p : Play) → config.settings.journal_limit ≤ 1073741824 → IsRun config p → Here p → Rests p →
+parts_ended : (config : Configuration) (p : Play) → IsWithin config → IsRun config p → Here p → Rests p →
     PartsOrOver (after_input_end p)
-parts_ended config p small run here rests = by (is_over p) refl rests (reads_on p) refl
+parts_ended config p within run here rests = by (is_over p) refl rests (reads_on p) refl
   where
     over_both : (reading : Bool) → is_over p ≡ true →
         PartsOrOver (cond reading (after_taking_all (after_trying_act (Close 1 EndOfInput) p)) p)
@@ -487,7 +488,7 @@ parts_ended config p small run here rests = by (is_over p) refl rests (reads_on 
     by false goes_on (inl over) reading is = over_both reading over
     by false goes_on (inr free) true is = parts_taken (after_trying_act (Close 1 EndOfInput) p) (parted_end p goes_on is free)
     by false goes_on (inr free) false is =
-        inr (record { ending = ending_at (switch_of p) 1 (owed_of_run config p small run) (here goes_on).there is; free = free })
+        inr (record { ending = ending_at (switch_of p) 1 (owed_of_run config p within run) (here goes_on).there is; free = free })
 
 -- ---- the closing
 
@@ -496,21 +497,22 @@ fit_sent : (p : Play) → Parted p → waiting_for (switch_of p) 1 ≡ [] → Is
 fit_sent p h nothing = sent_accepted (at_moment p.clock (switch_of p)) 1 h.ending nothing h.free
 
 -- nothing speaks against the closing of a play that is not over
-fit_closing : (config : Configuration) (p : Play) → config.settings.journal_limit ≤ 1073741824 → IsRun config p → Here p → Rests p →
+fit_closing : (config : Configuration) (p : Play) → IsWithin config → IsRun config p → Here p → Rests p →
     Drained p → is_over (after_input_end p) ≡ false → IsFit (Close 1 Sent) (after_input_end p)
-fit_closing config p small run here rests drained goes_on = by (parts_ended config p small run here rests)
+fit_closing config p within run here rests drained goes_on = by (parts_ended config p within run here rests)
   where
     by : PartsOrOver (after_input_end p) → IsFit (Close 1 Sent) (after_input_end p)
     by (inl over) = absurd (both_ways (is_over (after_input_end p)) goes_on over)
-    by (inr h) = fit_sent (after_input_end p) h (nothing_waits (after_input_end p) (drained_ended config p small run drained) goes_on)
+    by (inr h) =
+        fit_sent (after_input_end p) h
+        (nothing_waits (after_input_end p) (drained_ended config p within.settings.journal.1 run drained) goes_on)
 
 pub fit_last : (config : Configuration) (input : List ℕ) → IsWithin config →
     is_over (after_input_end (after_conversing config input)) ≡ false →
     IsFit (Close 1 Sent) (after_input_end (after_conversing config input))
 fit_last config input within goes_on =
-    let small = within.settings.journal.1 in
-    fit_closing config (after_conversing config input) small (run_conversed config input) (here_conversed config input within)
-    (rests_conversed config input small) (drained_conversed config input small) goes_on
+    fit_closing config (after_conversing config input) within (run_conversed config input) (here_conversed config input within)
+    (rests_conversed config input within) (drained_conversed config input within.settings.journal.1) goes_on
 
 -- the journal ends with the Close as Sent of the connection
 abbrev pub EndsSent : Play → Type 0

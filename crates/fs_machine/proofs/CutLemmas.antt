@@ -23,7 +23,7 @@ use Rattle.fs_state.specs.Hangups.{after_ends, after_survivals, after_hangups, a
 use Rattle.fs_machine.proofs.StayLemmas.{hangup_dead, orig_changed_channels}
 use Rattle.fs_machine.proofs.TieLemmas.{lives_as, lives_in, HungAs, hung_by}
 use Rattle.fs_machine.proofs.HangLemmas.{dies, Falls, Cut, Unbridged, Rests, Parks, members_kept, survivals_kept, hangups_kept}
-use Rattle.fs_machine.proofs.ClosureLemmas.{hangs_up, members_lived, same_members}
+use Rattle.fs_machine.proofs.ClosureLemmas.{hangs_up, same_members}
 
 -- no live channel is in a slot
 abbrev pub DeadAt : ℕ → Switch → Type 0

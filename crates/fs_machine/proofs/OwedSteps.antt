@@ -13,7 +13,6 @@ use Rattle.fs_state.specs.Switch.{Switch, empty, at_moment}
 use Rattle.fs_state.proofs.SlotLemmas.{no_places_length}
 use Rattle.fs_machine.specs.declared.entry.Entry.{Entry}
 use Rattle.fs_machine.specs.Entries.{cost_of}
-use Rattle.fs_machine.specs.Questions.{owes}
 use Rattle.fs_machine.specs.Step.{act_done, step, refusal_of}
 use Rattle.fs_machine.proofs.OwedBooks.{Books, books_of, trying_in, Sound, Goes, Few, Paid, SlotsAreFew}
 use Rattle.fs_machine.proofs.FrameLemmas.{some_cost}

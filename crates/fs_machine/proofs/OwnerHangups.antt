@@ -1,22 +1,20 @@
 -- Whoever hangs up gives up what it dialed, so that owners wait still; whoever outlives a bridge dialed nothing.
-use Rattle.std.proofs.Common.{◌≡◌, ℕ, Bool, true, false, List, [], ◌∷◌, Option, None, Some, inl, inr, refl, sym, ap, subst, ◌∙◌, true≢false}
+use Rattle.std.proofs.Common.{◌≡◌, ℕ, Bool, true, false, List, [], ◌∷◌, None, Some, inl, inr, refl, sym, ap, subst, ◌∙◌, true≢false}
 use Rattle.std.proofs.Common.{not, ◌||◌, ◌==◌}
 use Rattle.std.proofs.lemmas.Bool.{false≢true, or_cases, or_left, or_right, eqb-true}
 use Rattle.std.proofs.lemmas.Option.{same_Some}
 use Rattle.std.proofs.lemmas.Cmp.{nat_eq_equiv}
 use Rattle.fs_text.specs.declared.states.State.TheVariants.{CsPark}
 use Rattle.fs_text.specs.declared.causes.Cause.{Cause}
-use Rattle.fs_text.specs.declared.states.State.{State}
 use Rattle.fs_bridge.specs.declared.after.After.{After}
 use Rattle.fs_bridge.specs.Closure.{Member, Members, Ends, closure_of}
 use Rattle.fs_bridge.specs.Hangups.{IsOneOf}
 use Rattle.fs_bridge.proofs.SettledLemmas.{one_stands}
 use Rattle.fs_chan.specs.declared.chan.Chan.{Chan}
-use Rattle.fs_chan.specs.Changes.{hung_up, at_rest, parked, wait_at_rest}
-use Rattle.fs_chan.specs.Bridging.{awaited_by, unbridged, awaited_in}
+use Rattle.fs_chan.specs.Changes.{hung_up, at_rest, parked}
+use Rattle.fs_chan.specs.Bridging.{awaited_by, unbridged}
 use Rattle.fs_places.specs.Places.{held_in, with_held}
 use Rattle.fs_places.proofs.HeldLemmas.{held_within}
-use Rattle.fs_places.proofs.TableLemmas.{IsWrittenOrKept, written_or_kept}
 use Rattle.fs_state.specs.Switch.{Switch, chan_at, with_chan}
 use Rattle.fs_state.specs.Moves.{after_one_hangup}
 use Rattle.fs_state.specs.Hangups.{world_of, living_of, after_hangups}
@@ -26,7 +24,8 @@ use Rattle.fs_machine.proofs.LegLemmas.{Channels, Roles, roles_of}
 use Rattle.fs_machine.proofs.TieLemmas.{HungAs, hung_by}
 use Rattle.fs_machine.proofs.BondTables.{Bonds}
 use Rattle.fs_machine.proofs.BondHangups.{survivors_dial_none}
-use Rattle.fs_machine.proofs.OwnerLemmas.{Owned, OwnsNone, DialsNone, dials_owns, fresh_owned, alike_owned, one_hung_owned}
+use Rattle.fs_machine.proofs.JoinLemmas.{DialsNone, dials_put, rest_dials}
+use Rattle.fs_machine.proofs.OwnerLemmas.{Owned, OwnsNone, dials_owns, fresh_owned, alike_owned, one_hung_owned}
 
 -- ---- who outlives a bridge
 
@@ -59,29 +58,14 @@ not_true false is = absurd (true≢false is)
 
 -- ---- who dials nothing
 
-pub put_dials : (t : Switch) (slot place : ℕ) (old new : Chan) → chan_at t place ≡ Some old →
-    (awaited_by old ≡ None → awaited_by new ≡ None) → DialsNone t slot → DialsNone (with_chan place (Some new) t) slot
-put_dials t slot place old new there keeps none c is = by (written_or_kept t.channels place (Some new) slot c is)
-  where
-    by : IsWrittenOrKept t.channels place (Some new) slot c → awaited_by c ≡ None
-    by (inl here) =
-        ap awaited_by (sym (same_Some new c here.1)) ∙ keeps (none old (ap (held_in t.channels) here.0 ∙ there))
-    by (inr kept) = none c kept.1
-
 hung_dials : (cause : Cause) (slot place : ℕ) (t : Switch) → DialsNone t slot → DialsNone (after_one_hangup cause place t) slot
 hung_dials cause slot place t none c is = by (hung_by cause place t)
   where
     by : HungAs cause place t (after_one_hangup cause place t).channels → awaited_by c ≡ None
     by (inl dead) = none c (sym (ap (λ (channels : Channels). held_in channels slot) dead.1) ∙ is)
     by (inr found) =
-        put_dials t slot place found.0 (hung_up cause found.0) found.1 (λ dialed. refl) none c
+        dials_put t slot place found.0 (hung_up cause found.0) found.1 (λ dialed. refl) none c
         (sym (ap (λ (channels : Channels). held_in channels slot) found.2) ∙ is)
-
--- at rest it waits for no origination
-pub rest_dials : (socket : Option ℕ) (state : State) → awaited_in (wait_at_rest socket state) ≡ None
-rest_dials (Some conn) state = refl
-rest_dials None CsPark = refl
-rest_dials None _ = refl
 
 -- it comes to rest, where its slot owns nothing
 pub rest_owned : (r : Roles) (slot : ℕ) (c d : Chan) → held_in r.channels slot ≡ Some c → OwnsNone r.origs slot →
@@ -100,17 +84,17 @@ settles_falling : (hangs : ℕ → Bool) (slot : ℕ) (old new : Chan) (t : Swit
     Falling hangs t → Falling hangs (with_chan slot (Some new) t)
 settles_falling hangs slot old new t there (Freed cause) k = record {
   owned = alike_owned (roles_of t) slot old (unbridged cause old) there refl refl refl k.owned;
-  dials = λ at stays. put_dials t at slot old (unbridged cause old) there (λ none. none) (k.dials at stays);
+  dials = λ at stays. dials_put t at slot old (unbridged cause old) there (λ none. none) (k.dials at stays);
 }
 settles_falling hangs slot old new t there (Resumes outlives live) k = record {
   owned = rest_owned (roles_of t) slot old (at_rest old) there
       (dials_owns (roles_of t) slot (λ c is lived. k.dials slot outlives c is) k.owned) (rest_dials old.socket old.state) k.owned;
-  dials = λ at stays. put_dials t at slot old (at_rest old) there (λ none. rest_dials old.socket old.state) (k.dials at stays);
+  dials = λ at stays. dials_put t at slot old (at_rest old) there (λ none. rest_dials old.socket old.state) (k.dials at stays);
 }
 settles_falling hangs slot old new t there (Halts outlives live) k = record {
   owned = rest_owned (roles_of t) slot old (parked old) there
       (dials_owns (roles_of t) slot (λ c is lived. k.dials slot outlives c is) k.owned) (rest_dials old.socket CsPark) k.owned;
-  dials = λ at stays. put_dials t at slot old (parked old) there (λ none. rest_dials old.socket CsPark) (k.dials at stays);
+  dials = λ at stays. dials_put t at slot old (parked old) there (λ none. rest_dials old.socket CsPark) (k.dials at stays);
 }
 
 pub hung_owned : (named : Members) (s : Switch) → Bonds s → Owned (roles_of s) → Owned (roles_of (after_hangups named s))

@@ -55,10 +55,6 @@ pub record Owned (r : Roles) : Type 0 where
 abbrev pub OwnsNone : Origs → ℕ → Type 0
 OwnsNone origs slot = (number : ℕ) (o : Orig) → row_of origs number ≡ Some o → o.owner ≡ owner.Slot slot → ⊥
 
--- the channel in a slot waits for none
-abbrev pub DialsNone : Switch → ℕ → Type 0
-DialsNone s slot = (c : Chan) → chan_at s slot ≡ Some c → awaited_by c ≡ None
-
 -- so it owns none, if there is one; and so does a slot with nothing in it
 pub dials_owns : (r : Roles) (slot : ℕ) → ((c : Chan) → held_in r.channels slot ≡ Some c → is_live c ≡ true → awaited_by c ≡ None) →
     Owned r → OwnsNone r.origs slot

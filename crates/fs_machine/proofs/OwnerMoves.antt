@@ -66,7 +66,8 @@ use Rattle.fs_machine.proofs.BondTables.{Bonds, Bonding}
 use Rattle.fs_machine.proofs.OwnerLemmas.{IsWaiting, Owned, OwnsNone, dials_owns, put_owned, fresh_owned, alike_owned, Came, none_came}
 use Rattle.fs_machine.proofs.OwnerLemmas.{came_without, KeepsOwner, leg_keeps, changed_owned, changed_came, without_owned, without_none}
 use Rattle.fs_machine.proofs.OwnerLemmas.{given_up_owned, given_up_none, begun_owned, dialed_owned}
-use Rattle.fs_machine.proofs.OwnerHangups.{rest_dials, rest_owned, hung_owned}
+use Rattle.fs_machine.proofs.JoinLemmas.{rest_dials}
+use Rattle.fs_machine.proofs.OwnerHangups.{rest_owned, hung_owned}
 use Rattle.fs_machine.proofs.LegMoves.{orig_changed_drawn, hung_drawn, left_drawn, joined_drawn, group_drawn, conn_roles, won_roles}
 use Rattle.fs_machine.proofs.LegMoves.{same_next}
 

@@ -12,10 +12,9 @@ use Rattle.fs_orig.specs.declared.orig.Owner.TheVariants as owner
 use Rattle.fs_places.specs.declared.numbered.Numbered.{Numbered}
 use Rattle.fs_places.specs.Places.{held_in, with_held}
 use Rattle.fs_places.proofs.HeldLemmas.{held_within}
-use Rattle.fs_places.proofs.TableLemmas.{IsRow, HasRow, row_is, row_of_held, kept_without, one_if, taken_in, taken_less}
+use Rattle.fs_places.proofs.TableLemmas.{HasRow, row_is, row_of_held, kept_without, one_if, taken_in, taken_less}
 use Rattle.fs_places.proofs.NumberLemmas.{Numbers}
 use Rattle.fs_state.specs.Switch.{Switch, chan_at}
-use Rattle.fs_state.proofs.LegTables.{Origs}
 use Rattle.fs_machine.specs.Sound.{Awaits, IsOwnedBy}
 use Rattle.fs_machine.proofs.ClosureLemmas.{NoneAtZero}
 use Rattle.fs_machine.proofs.OwedTables.{by_slot, owned_at, owned_in, owned_held}

@@ -1,7 +1,7 @@
 -- In every run live channels have partners, which agree, the texts of channels keep their limits, identifiers differ, legs are channels,
--- and an origination that fails is told why.
+-- an origination that fails is told why, bridges and channels agree, and whoever dials waits for what it owns.
 use Rattle.std.proofs.Common.{◌≡◌, ℕ, ◌+◌, ◌-◌, ◌*◌, ◌<◌, ◌≤◌, ◌^◌, true, IsSome, List, [], ◌∷◌, length, Option, None, Some}
-use Rattle.std.proofs.Common.{option_and_then, option_map, refl, sym, ap, subst, ◌∙◌, arith}
+use Rattle.std.proofs.Common.{option_and_then, option_map, refl, sym, ap, subst, ◌∙◌, arith, ◌⊎◌, inl, inr}
 use Rattle.std.proofs.lemmas.Bool.{false≢true, ltb-false}
 use Rattle.fs_text.proofs.NamingLemmas.{naming_none}
 use Rattle.fs_doc.specs.Limits.{AreInRange, IsWithin}
@@ -24,12 +24,18 @@ use Rattle.fs_machine.specs.Entries.{cost_of}
 use Rattle.fs_machine.specs.Step.{refusal_of, act_done, step}
 use Rattle.fs_machine.specs.Runs.{run_from, IsRunFrom}
 use Rattle.fs_machine.specs.Sound.{HasPartner, PartnersAgree, HasLivePartner, LiveHasPartner, ProfilesAreShort, IdentifiersDiffer}
-use Rattle.fs_machine.specs.Sound.{LegsAreChannels, FailuresAreTold}
+use Rattle.fs_machine.specs.Sound.{LegsAreChannels, FailuresAreTold, IsOwnedBy, RowsAgree, OwnersWait}
 use Rattle.fs_machine.proofs.TieLemmas.{lives_as, named_in, Ties}
 use Rattle.fs_machine.proofs.FrameLemmas.{some_cost}
 use Rattle.fs_machine.proofs.OrderLemmas.{acted_cost, acted_config, not_full}
 use Rattle.fs_machine.proofs.FramesLaws.{config_step}
 use Rattle.fs_machine.proofs.ActWalk.{acted_kept}
+use Rattle.fs_chan.specs.Bridging.{awaited_by}
+use Rattle.fs_machine.proofs.AwaitedTables.{HasOwner}
+use Rattle.fs_machine.proofs.AwaitedLemmas.{Awaits}
+use Rattle.fs_machine.proofs.BondTables.{NoSlot}
+use Rattle.fs_machine.proofs.BondLaws.{rows_agree}
+use Rattle.fs_machine.proofs.OwnerMoves.{Owners, owners_of}
 use Rattle.fs_machine.proofs.StandingLemmas.{nothing_paired, step_pairs, Standing, standing_empty, standing_step, standing_run}
 use Rattle.fs_machine.proofs.PartnerMoves.{ArePaired}
 use Rattle.fs_machine.proofs.SeenLemmas.{seen, uuid_of, uuid_in, Named, Numbers, numbers_stay}
@@ -136,6 +142,29 @@ profiles_are_short config entries within run =
       each =
           λ slot c there. (fit_there (run_from (empty config) entries) slot c there (all_stand config entries within run).fit).short;
     }
+
+-- ---- bridges, and what channels dial
+
+pub run_rows_agree : (config : Configuration) (entries : List Entry) → IsWithin config → IsRunFrom (empty config) entries →
+    RowsAgree (run_from (empty config) entries)
+run_rows_agree config entries within run =
+    rows_agree (run_from (empty config) entries) (standing_run config entries within run).bonds
+
+-- a channel is in no slot that is open, as none is
+awaited_owned : (s : Switch) → Awaits s → (slot number : ℕ) (c : Chan) → chan_at s slot ≡ Some c → awaited_by c ≡ Some number →
+    IsOwnedBy s slot number
+awaited_owned s h slot number c there waits = by (h.own slot number c there waits)
+  where
+    by : NoSlot slot ⊎ HasOwner s.origs number slot → IsOwnedBy s slot number
+    by (inl never) = absurd never
+    by (inr has) = record { orig = has.orig; there = has.there; owned = has.owned }
+
+pub owners_wait : (config : Configuration) (entries : List Entry) → IsWithin config → IsRunFrom (empty config) entries →
+    OwnersWait (run_from (empty config) entries)
+owners_wait config entries within run =
+    let h : Standing (run_from (empty config) entries) = standing_run config entries within run in
+    let owners : Owners (run_from (empty config) entries) = owners_of (run_from (empty config) entries) h.owned in
+    record { wait = owners.wait; own = awaited_owned (run_from (empty config) entries) h.waits }
 
 -- ---- identifiers
 

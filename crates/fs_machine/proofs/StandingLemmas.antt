@@ -1,5 +1,14 @@
 -- What holds of the state behind every run in which no entry is refused, of all that leans on one another.
-use Rattle.std.proofs.Common.{◌≡◌, ℕ, ◌+◌, ◌-◌, ◌*◌, ◌^◌, ◌<◌, ◌≤◌, min, true, List, [], ◌∷◌, length, None, Some, sym, ap, subst}
+use Rattle.std.proofs.lemmas.List.{length-map}
+use Rattle.fs_places.proofs.TableLemmas.{taken_in, row_found, none_held}
+use Rattle.fs_machine.proofs.OwedBooks.{trying_in, books_of, SlotsAreFew}
+use Rattle.fs_machine.proofs.OwedLemmas.{trying_most}
+use Rattle.fs_machine.proofs.OwedTables.{by_job, of_slot, owned_at, owned_in, none_owned}
+use Rattle.fs_machine.proofs.TrialMoves.{trials_of, AreApart}
+use Rattle.fs_machine.proofs.AwaitedLemmas.{Awaits}
+use Rattle.fs_machine.proofs.AwaitedMoves.{awaited_moves}
+use Rattle.fs_machine.proofs.KnownMoves.{Known, known_moves, jobs_apart, fresh_number, room_there}
+use Rattle.std.proofs.Common.{refl, ◌≡◌, ℕ, ◌+◌, ◌-◌, ◌*◌, ◌^◌, ◌<◌, ◌≤◌, min, true, List, [], ◌∷◌, length, None, Some, sym, ap, subst}
 use Rattle.std.proofs.Common.{option_and_then, ◌∙◌, arith}
 use Rattle.std.proofs.lemmas.Bool.{both_ways}
 use Rattle.std.proofs.lemmas.Option.{none-some}
@@ -7,7 +16,6 @@ use Rattle.fs_bridge.specs.Bridges.{no_bridges}
 use Rattle.fs_bridge.specs.Laws.{IsSound}
 use Rattle.fs_machine.specs.declared.entry.Act.{Act}
 use Rattle.fs_places.specs.Rows.{has_number}
-use Rattle.fs_places.proofs.TableLemmas.{row_found, none_held}
 use Rattle.fs_machine.proofs.BondRows.{RowsFit}
 use Rattle.fs_doc.specs.Limits.{IsWithin}
 use Rattle.fs_doc.specs.Reading.{Configuration}
@@ -30,7 +38,6 @@ use Rattle.fs_machine.proofs.OrderLemmas.{acted_config}
 use Rattle.fs_machine.proofs.ActWalk.{acted_kept}
 use Rattle.fs_machine.proofs.PartnerMoves.{ArePaired, Partners, partners_moves}
 use Rattle.fs_machine.proofs.SeenLemmas.{seen, numbers_stay}
-use Rattle.fs_machine.proofs.IdentifierMoves.{NumbersFrom, numbers_moves}
 use Rattle.fs_machine.proofs.LegLemmas.{roles_of, LegsStand}
 use Rattle.fs_machine.proofs.LegMoves.{Legs, legs_moves}
 use Rattle.fs_machine.proofs.BondTables.{Bonds}
@@ -38,7 +45,6 @@ use Rattle.fs_machine.proofs.BondMoves.{bonds_moves}
 use Rattle.fs_machine.proofs.OwnerLemmas.{Owned}
 use Rattle.fs_machine.proofs.OwnerMoves.{Owners, Owning, owners_of, owners_moves}
 use Rattle.fs_machine.proofs.SlotCounts.{few_slots}
-use Rattle.fs_machine.proofs.OwedBooks.{books_of, SlotsAreFew}
 use Rattle.fs_machine.proofs.OwedSteps.{Holds, holds_empty, holds_step, few_drawn}
 
 pub record Standing (s : Switch) : Type 0 where
@@ -47,6 +53,8 @@ pub record Standing (s : Switch) : Type 0 where
   pub bonds : Bonds s
   pub owned : Owned (roles_of s)
   pub paired : ArePaired s
+  pub trials : AreApart (trials_of s)
+  pub waits : Awaits s
   pub slots : length s.channels ≡ s.config.settings.max_sessions + 1
   pub sessions : s.config.settings.max_sessions ≤ 256
 
@@ -133,6 +141,13 @@ nothing_owned config = record {
   lone = λ slot c there leg. absurd (no_chan config slot c there);
 }
 
+nothing_tried : (config : Configuration) → AreApart (trials_of (empty config))
+nothing_tried config = record {
+  tried = λ q job number there tries. absurd (none_held 1024 q job there);
+  owned = λ p number there. absurd (none_owned of_slot 1280 p number there);
+  apart = λ q p number job there tries is. absurd (none_held 1024 q job there);
+}
+
 pub standing_empty : (config : Configuration) → IsWithin config → Standing (empty config)
 standing_empty config within = record {
   holds = holds_empty config within.settings.journal.1;
@@ -140,6 +155,11 @@ standing_empty config within = record {
   bonds = nothing_bonded config;
   owned = nothing_owned config;
   paired = nothing_paired config;
+  trials = nothing_tried config;
+  waits = record {
+    own = λ slot number c there waits. absurd (no_chan config slot c there);
+    live = λ slot number c there waits. absurd (no_chan config slot c there);
+  };
   slots = no_places_length Chan (config.settings.max_sessions + 1);
   sessions = within.settings.sessions.1;
 }
@@ -163,36 +183,85 @@ slots_few s h =
     let owners : Owners s = owners_of s h.owned in
     few_slots s owners.numbers owners.wait h.paired.zero (omega (arith, slots, sessions))
 
--- how many slots there are does not change
-acted_slots : (a : Act) (s : Switch) → length (act_done a s).state.channels ≡ length s.channels
-acted_slots a s = (acted_kept s (NumbersFrom (seen s)) (numbers_moves (seen s) s) a (numbers_stay (seen s))).slots
+-- at its start an entry has a place for what a channel dials
+jobs_few : (s : Switch) → Standing s → taken_in (owned_in by_job s.origs) ≤ 1024
+jobs_few s h =
+    let fewer : taken_in (owned_in by_job s.origs) ≤ trying_in s.jobs = h.holds.sound.tries.fewer in
+    let most : trying_in s.jobs ≤ length s.jobs = trying_most s.jobs in
+    let places : length s.jobs ≡ 1024 = h.holds.sound.tries.job_places in
+    omega (arith, fewer, most, places)
+
+all_places : (s : Switch) → Standing s → length s.origs ≡ 1280
+all_places s h = sym (length-map s.origs (owned_at by_job)) ∙ h.holds.sound.tries.orig_places
+
+slots_within : (s : Switch) → Standing s → length s.channels ≤ 257
+slots_within s h =
+    let slots : length s.channels ≡ s.config.settings.max_sessions + 1 = h.slots in
+    let sessions : s.config.settings.max_sessions ≤ 256 = h.sessions in
+    omega (arith, slots, sessions)
+
+-- what is known as it begins
+known_first : (s : Switch) → s.drawn.origs < 2 ^ 30 → Standing s → Known s None s
+known_first s few h = (
+  record { bonds = h.bonds; owned = h.owned; room = omega (arith, few) },
+  (
+    record { ties = h.paired.ties; zero = h.paired.zero },
+    (numbers_stay (seen s), (refl, record { apart = h.trials; next = omega (arith, few) })),
+  ),
+)
+
+-- and as it is over
+known_acted : (what : Act) (s : Switch) → s.drawn.origs < 2 ^ 30 → Standing s →
+    Known s (Some 1) (act_done what s).state × Awaits (act_done what s).state
+known_acted what s few h =
+    acted_kept s (λ b t. Known s b t × Awaits t)
+    (awaited_moves s (Known s) (known_moves s h.legs)
+    (λ t known job conn orig winner caller does slot has. jobs_apart s t known job conn orig winner caller does slot has.orig has.there
+    has.owned)
+    (fresh_number s) (room_there s (jobs_few s h) (all_places s h) (slots_within s h))) what (known_first s few h, h.waits)
+
+-- the same facts at another moment
+at_its_moment : (moment : ℕ) (s : Switch) → Standing s → Standing (at_moment moment s)
+at_its_moment moment s h = record {
+  holds = h.holds;
+  legs = h.legs;
+  bonds = h.bonds;
+  owned = h.owned;
+  paired = record { ties = h.paired.ties; zero = h.paired.zero };
+  trials = h.trials;
+  waits = h.waits;
+  slots = h.slots;
+  sessions = h.sessions;
+}
 
 pub standing_step : (s : Switch) (entry : Entry) → refusal_of s entry ≡ None → Standing s → Standing (step s entry).state
 unfolding step
 standing_step s entry accepts h =
     let now : Switch = at_moment entry.moment s in
-    let moves : KeptByMoves now Owning = owners_moves now h.legs (bonds_moves now h.legs) in
     let few : s.drawn.origs < 2 ^ 30 = few_drawn s entry accepts h.holds in
-    let begins : Owning None now = record { bonds = h.bonds; owned = h.owned; room = omega (arith, few) } in
+    let moves : KeptByMoves now Owning = owners_moves now h.legs (bonds_moves now h.legs) in
     let holds : Holds (books_of (step s entry).state) =
-    holds_step s entry Owning moves (λ b t owning. (owners_of t owning.owned).own)
-    (λ b t owning. (owners_of t owning.owned).numbers) accepts (slots_few s h) begins
-    h.holds in
-    behind holds (acted_kept now Owning moves entry.act begins)
+    holds_step s entry Owning moves (λ b t owning. (owners_of t owning.owned).own) (λ b t owning. (owners_of t owning.owned).numbers)
+    accepts (slots_few s h) (record { bonds = h.bonds; owned = h.owned; room = omega (arith, few) }) h.holds in
+    behind holds (known_acted entry.act now few (at_its_moment entry.moment s h))
   where
-    behind : Holds (books_of (step s entry).state) → Owning (Some 1) (act_done entry.act (at_moment entry.moment s)).state →
+    behind : Holds (books_of (step s entry).state) →
+        Known (at_moment entry.moment s) (Some 1) (act_done entry.act (at_moment entry.moment s)).state
+        × Awaits (act_done entry.act (at_moment entry.moment s)).state →
         Standing (step s entry).state
-    behind holds owning =
+    behind holds acted =
         let now : Switch = at_moment entry.moment s in
         let t : Switch = (act_done entry.act now).state in
         let paid : 64 * t.drawn.origs ≤ min (t.cost + cost_of entry.act) (2 ^ 64 - 1) = holds.paid.origs in
         record {
           holds = holds;
           legs = acted_kept now Legs (legs_moves now h.legs) entry.act (λ few. h.legs) (omega (arith, paid));
-          bonds = owning.bonds;
-          owned = owning.owned;
-          paired = step_pairs s entry h.paired;
-          slots = acted_slots entry.act now
+          bonds = acted.0.0.bonds;
+          owned = acted.0.0.owned;
+          paired = record { ties = acted.0.1.0.ties; zero = acted.0.1.0.zero };
+          trials = acted.0.1.1.1.1.apart;
+          waits = acted.1;
+          slots = acted.0.1.1.0.slots
               ∙ (h.slots ∙ ap (λ (c : Configuration). c.settings.max_sessions + 1) (sym (acted_config entry.act now)));
           sessions = subst (λ (c : Configuration). c.settings.max_sessions ≤ 256) (sym (acted_config entry.act now)) h.sessions;
         }

@@ -126,4 +126,6 @@ pub record IsSound (s : Switch) : Type 0 where
   pub identifiers : IdentifiersDiffer s
   pub legs : LegsAreChannels s
   pub failures : FailuresAreTold s
+  pub rows : RowsAgree s
+  pub owners : OwnersWait s
   pub owed : AreOwed s

@@ -70,3 +70,5 @@ pub mod CutLemmas
 pub mod AwaitedTables
 pub mod AwaitedLemmas
 pub mod AwaitedMoves
+pub mod RoomMoves
+pub mod AwaitedLaws

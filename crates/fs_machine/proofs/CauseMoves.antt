@@ -168,7 +168,8 @@ answers_told place slot number s h =
     changed_told (leg_changed (λ position. with_answer position place) slot)
     (touched_told (with_leg_answer place) (answer_keeps place) slot) number s h
 
-dies_told : (cause : Cause) (place slot number : ℕ) (s : Switch) → AllTold s.origs → AllTold (orig_changed (dies cause place slot) number s).origs
+dies_told : (cause : Cause) (place slot number : ℕ) (s : Switch) → AllTold s.origs →
+    AllTold (orig_changed (dies cause place slot) number s).origs
 dies_told cause place slot number s h =
     changed_told (dies cause place slot) (touched_told (with_leg_death place cause) (death_keeps place cause) slot) number s h
 

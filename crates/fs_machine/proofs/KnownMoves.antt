@@ -31,6 +31,7 @@ use Rattle.fs_machine.proofs.TrialMoves.{Trying, trying_moves}
 
 -- ---- what jobs own before anything has begun
 
+-- it is what they owned as the entry began
 abbrev pub Early : Switch → Fact
 Early before None t = owned_in by_job t.origs ≡ owned_in by_job before.origs
 Early before (Some n) t = Unit {0}
@@ -72,6 +73,7 @@ early_moves before = record {
 
 -- ---- all that is known
 
+-- bridges, owners, partners, slots and jobs are as they must be
 abbrev pub Known : Switch → Fact
 Known before = Both Owning (Both Partners (Both (NumbersFrom (seen before)) (Both (Early before) Trying)))
 

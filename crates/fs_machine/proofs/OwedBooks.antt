@@ -108,8 +108,8 @@ trying_in jobs = sum_by tries jobs
 abbrev pub HasNumber : List (Option ℕ) → ℕ → Type 0
 HasNumber origs number = (p : ℕ) × (held_in origs p ≡ Some number)
 
--- what a job tries is there and is owned by a job, is tried by no other job, and has a number that was drawn; jobs own no more than is tried,
--- so there is always a place for one more
+-- what a job tries is there and is owned by a job, is tried by no other job, and has a number that was drawn; jobs own no more than is
+-- tried, so there is always a place for one more
 pub record Tries (jobs : Jobs) (origs : List (Option ℕ)) (drawn : ℕ) : Type 0 where
   pub there : (q : ℕ) (job : Numbered Job) (number : ℕ) → held_in jobs q ≡ Some job → tried_by job.held.work ≡ Some number →
       HasNumber origs number

@@ -145,8 +145,8 @@ job_for number conn work = record { number = number; held = record { conn = conn
 goes_owing : (b : Books) (u : Switch) (conn : ℕ) (work : JobWork) (c : Conn) (q : ℕ) → conn_of u conn ≡ Some c → c.owed ≡ None →
     least_free u.jobs 0 ≡ Some q →
     u.drawn.jobs < 2 ^ 30 → u.drawn.jobs ≡ b.jobs_drawn → Linked u.conns u.jobs u.drawn.conns u.drawn.jobs →
-    Tries (with_held u.jobs q (Some (job_for (next_job_number u) conn work))) (owned_in by_job u.origs) u.drawn.origs → Near b (books_of u) →
-    Goes b (books_of (after_job_begin conn work u))
+    Tries (with_held u.jobs q (Some (job_for (next_job_number u) conn work))) (owned_in by_job u.origs) u.drawn.origs →
+    Near b (books_of u) → Goes b (books_of (after_job_begin conn work u))
 goes_owing b u conn work c q is none is_free few same_jobs linked tries near =
     let found = row_found u.conns conn c is in
     let free = free_least u.jobs q is_free in
@@ -186,7 +186,8 @@ pub goes_sleep : (s : Switch) (conn until : ℕ) (c : Conn) (q : ℕ) → conn_o
 goes_sleep s conn until c q is none is_free few h =
     let free = free_least s.jobs q is_free in
     goes_owing (books_of s) s conn (Sleep until) c q is none is_free few.jobs refl h.linked
-    (tries_slept s.jobs (owned_in by_job s.origs) s.drawn.origs q (job_for (next_job_number s) conn (Sleep until)) free.1 free.0 refl h.tries)
+    (tries_slept s.jobs (owned_in by_job s.origs) s.drawn.origs q (job_for (next_job_number s) conn (Sleep until)) free.1 free.0 refl
+    h.tries)
     (near_self (books_of s))
 
 -- ---- an origination begins
@@ -248,8 +249,8 @@ begun_at b t conn orig owning winner caller o c q p is none is_free is_orig_free
 -- originate, once the legs of its first group were made
 goes_tried : (s : Switch) (made : MadeGroup) (conn : ℕ) (groups : List (List LegPlan)) (winner : Winner) (caller : Caller) (timeout : ℕ)
     (c : Conn) (q : ℕ) → books_of made.state ≡ books_of s →
-    conn_of s conn ≡ Some c → c.owed ≡ None → least_free s.jobs 0 ≡ Some q → Few (books_of s) → SlotsAreFew made.state → Sound (books_of s) →
-    Goes (books_of s) (books_of (tried_by_job conn groups winner caller timeout (next_orig_number s) made))
+    conn_of s conn ≡ Some c → c.owed ≡ None → least_free s.jobs 0 ≡ Some q → Few (books_of s) → SlotsAreFew made.state →
+    Sound (books_of s) → Goes (books_of s) (books_of (tried_by_job conn groups winner caller timeout (next_orig_number s) made))
 goes_tried s made conn groups winner caller timeout c q same is none is_free few slots h = by (least_free made.state.origs 0) refl
   where
     drawn : made.state.drawn.origs ≡ s.drawn.origs

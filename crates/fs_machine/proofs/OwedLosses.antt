@@ -144,7 +144,8 @@ without_loses s number slot o is same =
     let there : IsOwnedAt by_slot s.origs number o = owned_there by_slot s.origs number o is in
     let less : taken_in (with_held (owned_in by_slot s.origs) there.place None) + 1 ≡ taken_in (owned_in by_slot s.origs) =
     taken_less (owned_in by_slot s.origs) there.place slot (there.told ∙ ap (λ (by : Owner). by_slot by number) same) in
-    let left : taken_in (owned_in by_slot (without_orig number s).origs) ≡ taken_in (with_held (owned_in by_slot s.origs) there.place None) =
+    let left : taken_in (owned_in by_slot (without_orig number s).origs)
+    ≡ taken_in (with_held (owned_in by_slot s.origs) there.place None) =
     ap taken_in (owned_removed by_slot s.origs number there.place there.at) in
     record {
       rest = refl;

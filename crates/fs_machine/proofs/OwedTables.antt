@@ -36,6 +36,7 @@ abbrev pub of_slot : Tells
 of_slot (owner.Job job) number = None
 of_slot (owner.Slot slot) number = Some number
 
+-- the same of what stands at a place, and of a table
 abbrev pub owned_at : Tells → Option (Numbered Orig) → Option ℕ
 owned_at of None = None
 owned_at of (Some row) = of row.held.owner row.number
@@ -119,7 +120,8 @@ pub left_stood : (of : Tells) (origs : Origs) (number place told : ℕ) → held
 left_stood of origs number place told is = by (place_of origs number) refl
   where
     by : (found : Option ℕ) → place_of origs number ≡ found → held_in (owned_in of origs) place ≡ Some told
-    by None none = sym (ap (λ (found : Option ℕ). held_in (owned_in of (with_held_at {T = Numbered Orig} origs None found)) place) none) ∙ is
+    by None none =
+        sym (ap (λ (found : Option ℕ). held_in (owned_in of (with_held_at {T = Numbered Orig} origs None found)) place) none) ∙ is
     by (Some gone) at =
         (kept_without (owned_in of origs) gone place told
         (sym (ap (λ (l : List (Option ℕ)). held_in l place) (owned_removed of origs number gone at)) ∙ is)).1

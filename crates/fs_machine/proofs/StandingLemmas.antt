@@ -47,6 +47,8 @@ use Rattle.fs_machine.proofs.OwnerMoves.{Owners, Owning, owners_of, owners_moves
 use Rattle.fs_machine.proofs.SlotCounts.{few_slots}
 use Rattle.fs_machine.proofs.OwedSteps.{Holds, holds_empty, holds_step, few_drawn}
 
+-- what is owed, the legs of originations, bridges, whose originations there are, partners, what jobs try, who waits, and how many slots
+-- there are
 pub record Standing (s : Switch) : Type 0 where
   pub holds : Holds (books_of s)
   pub legs : LegsStand (roles_of s)

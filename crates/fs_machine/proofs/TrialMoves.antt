@@ -46,6 +46,7 @@ pub record Trials : Type 0 where
   pub owned : List (Option ℕ)
   pub drawn : ℕ
 
+-- those of a switch
 abbrev pub trials_of : Switch → Trials
 trials_of s = record { jobs = s.jobs; owned = owned_in of_slot s.origs; drawn = s.drawn.origs }
 
@@ -62,6 +63,7 @@ abbrev pub HasNext : Stage → ℕ → Type 0
 HasNext None drawn = drawn < 2 ^ 64 - 1
 HasNext (Some n) drawn = Unit {0}
 
+-- the fact
 pub record Trying (b : Stage) (s : Switch) : Type 0 where
   pub apart : AreApart (trials_of s)
   pub next : HasNext b s.drawn.origs

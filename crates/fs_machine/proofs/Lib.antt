@@ -70,5 +70,3 @@ pub mod CutLemmas
 pub mod AwaitedTables
 pub mod AwaitedLemmas
 pub mod AwaitedMoves
-pub mod RoomMoves
-pub mod AwaitedLaws

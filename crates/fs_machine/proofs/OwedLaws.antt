@@ -1,5 +1,5 @@
 -- Behind every run each reply that is owed has one job that owes it, and somebody has something to do.
-use Rattle.std.proofs.Common.{List, ◌≡◌, ◌≢◌, ℕ, ◌-◌, true, Option, None, Some, is_some, refl, sym, ap, ◌∙◌, if◌then◌else◌}
+use Rattle.std.proofs.Common.{List, ◌≡◌, ◌≢◌, ℕ, true, Option, None, Some, is_some, refl, sym, ap, ◌∙◌, if◌then◌else◌}
 use Rattle.std.specs.Option.{option_and_then}
 use Rattle.std.proofs.lemmas.Option.{none-some}
 use Rattle.fs_chan.specs.declared.due.Due.{Due}

@@ -1,12 +1,11 @@
 -- Whoever waits for an origination lives and owns it, behind each thing that channels do.
-use Rattle.std.proofs.Common.{◌≡◌, ℕ, Bool, true, false, if◌then◌else◌, List, [], ◌∷◌, Option, None, Some, option_and_then, unwrap_or, ◌⊎◌, inl, inr, refl}
-use Rattle.std.proofs.Common.{sym, ap, subst, ◌∙◌, true≢false}
+use Rattle.std.proofs.Common.{◌≡◌, ℕ, Bool, true, false, if◌then◌else◌, List, [], ◌∷◌, Option, None, Some, option_and_then, ◌⊎◌, inl, inr}
+use Rattle.std.proofs.Common.{refl, sym, ap, subst, ◌∙◌, true≢false}
 use Rattle.std.proofs.lemmas.Bool.{eqb-true, false≢true}
 use Rattle.std.proofs.lemmas.Option.{none-some, same_Some}
 use Rattle.fs_text.specs.Cause.{cause_name}
 use Rattle.fs_text.specs.declared.causes.Cause.{Cause}
 use Rattle.fs_text.specs.declared.causes.Cause.TheVariants.{NormalTemporaryFailure}
-use Rattle.fs_text.specs.declared.event_names.EventName.TheVariants.{ChannelExecuteComplete}
 use Rattle.fs_text.specs.declared.states.State.TheVariants.{CsHangup, CsPark}
 use Rattle.fs_bridge.specs.declared.row.BridgeKind.{BridgeKind}
 use Rattle.fs_bridge.specs.declared.row.BridgeKind.TheVariants.{Dial}
@@ -14,36 +13,27 @@ use Rattle.fs_bridge.specs.Closure.{Members}
 use Rattle.fs_chan.specs.declared.chan.Chan.{Chan}
 use Rattle.fs_chan.specs.declared.wait.Wait.{Wait}
 use Rattle.fs_chan.specs.declared.wait.Wait.TheVariants.{Legs, Bridged}
-use Rattle.fs_chan.specs.Bridging.{awaiting, awaited_in, awaited_by, bridged, in_media, at_leisure, unbridged, exported_pairs}
+use Rattle.fs_chan.specs.Bridging.{awaited_in, awaited_by, bridged, in_media, at_leisure, unbridged}
 use Rattle.fs_chan.specs.Changes.{is_live, at_rest, parked, hung_up}
-use Rattle.fs_orig.specs.declared.caller.Caller.{Caller}
-use Rattle.fs_orig.specs.declared.leg.OrigLeg.{OrigLeg}
 use Rattle.fs_orig.specs.declared.orig.Orig.{Orig}
 use Rattle.fs_orig.specs.declared.orig.Owner.{Owner}
 use Rattle.fs_orig.specs.declared.orig.Owner.TheVariants as owner
-use Rattle.fs_orig.specs.declared.plan.LegPlan.{LegPlan}
-use Rattle.fs_orig.specs.declared.winner.Winner.{Winner}
-use Rattle.fs_orig.specs.declared.winner.Winner.TheVariants.{App, Route}
-use Rattle.fs_orig.specs.Changes.{with_answer, with_death, new_orig, may_enter_next, at_next_group}
+use Rattle.fs_orig.specs.Changes.{with_answer, with_death}
 use Rattle.fs_orig.specs.Legs.{is_at}
-use Rattle.fs_orig.specs.Plans.{all_behind}
-use Rattle.fs_places.specs.Places.{held_in, with_held}
-use Rattle.fs_places.specs.Rows.{row_of, with_new_row}
+use Rattle.fs_places.specs.Places.{held_in}
 use Rattle.fs_places.proofs.HeldLemmas.{held_here, held_within}
-use Rattle.fs_state.specs.declared.event.Event.{Event}
-use Rattle.fs_state.specs.declared.job.JobWork.TheVariants.{Originate}
-use Rattle.fs_state.specs.Switch.{Switch, chan_at, with_chan, with_bridge, next_bridge_number, orig_of, without_orig, next_orig_number, with_event}
-use Rattle.fs_state.specs.Moves.{plain_event, with_state_events, with_changed_chan_from, with_changed_chan, after_move_from, after_move, after_completion}
-use Rattle.fs_state.specs.Moves.{orig_changed_from, orig_changed, leg_changed, its_leg_changed, is_owner, given_up_by, orig_given_up, hangup_event}
+use Rattle.fs_state.specs.Switch.{Switch, chan_at, with_chan, with_bridge, orig_of, without_orig, with_event}
+use Rattle.fs_state.specs.Moves.{with_state_events, with_changed_chan_from, with_changed_chan, after_move_from, after_move}
+use Rattle.fs_state.specs.Moves.{orig_changed_from, orig_changed, leg_changed, its_leg_changed, is_owner, given_up_by, orig_given_up}
+use Rattle.fs_state.specs.Moves.{hangup_event}
 use Rattle.fs_state.specs.Moves.{after_hangup_from, after_one_hangup}
 use Rattle.fs_state.specs.Hangups.{lives, lives_at, after_hangups, after_hangup}
-use Rattle.fs_state.specs.Bridging.{bridge_event, can_join, peer_of, with_peer_from, with_peer, joined_as}
-use Rattle.fs_state.proofs.LegTables.{Origs}
+use Rattle.fs_state.specs.Bridging.{can_join, peer_of, with_peer_from, with_peer, joined_as}
 use Rattle.fs_machine.specs.Attempts.{awaits}
 use Rattle.fs_machine.specs.Bridging.{goes_on, after_going_on, bridge_failed_from, after_bridge_failure, disposed, after_bridge_win}
 use Rattle.fs_machine.specs.Joining.{after_leaving}
 use Rattle.fs_machine.proofs.Kept.{hold_in, Links, Stays, KeptByTouches}
-use Rattle.fs_machine.proofs.StayLemmas.{hangup_dead, exchange_lives, moved_there, changed_there, state_told_kept, orig_changed_channels}
+use Rattle.fs_machine.proofs.StayLemmas.{exchange_lives, moved_there, changed_there, state_told_kept, orig_changed_channels}
 use Rattle.fs_machine.proofs.JoinLemmas.{rest_dials}
 use Rattle.fs_machine.proofs.TieLemmas.{lives_as}
 use Rattle.fs_machine.proofs.HangLemmas.{Settles, Freed, Resumes, Halts, hangups_kept_by}
@@ -53,8 +43,8 @@ use Rattle.fs_machine.proofs.WonLemmas.{answerer_lives, bridge_won_kept}
 use Rattle.fs_machine.proofs.Walk.{disposed_kept}
 use Rattle.fs_machine.proofs.OwnerLemmas.{KeepsOwner, leg_keeps}
 use Rattle.fs_machine.proofs.BondTables.{NoSlot}
-use Rattle.fs_machine.proofs.AwaitedTables.{HasOwner, Await, AwaitsNoMore, awaits_none, put_await, new_await, left_await, close_await, open_await}
-use Rattle.fs_machine.proofs.AwaitedTables.{rows_await, stay_with, stay_new, gone_await}
+use Rattle.fs_machine.proofs.AwaitedTables.{HasOwner, Await, AwaitsNoMore, awaits_none, put_await, close_await, open_await}
+use Rattle.fs_machine.proofs.AwaitedTables.{rows_await, stay_with, gone_await}
 
 -- ---- what a switch has
 
@@ -89,7 +79,8 @@ put_none : (slot : ℕ) (old new : Chan) (s : Switch) → chan_at s slot ≡ Som
 put_none slot old new s there none c is =
     ap awaited_by (sym (same_Some new c (sym (held_here s.channels slot (Some new) (held_within s.channels slot old there)) ∙ is))) ∙ none
 
-moved_none : (change : Chan → Chan) (slot : ℕ) (s : Switch) → ((c : Chan) → awaited_by (change c) ≡ None) → NoneAt slot (after_move change slot s)
+moved_none : (change : Chan → Chan) (slot : ℕ) (s : Switch) → ((c : Chan) → awaited_by (change c) ≡ None) →
+    NoneAt slot (after_move change slot s)
 moved_none change slot s none = by (chan_at s slot) refl
   where
     by : (found : Option Chan) → chan_at s slot ≡ found → NoneAt slot (after_move_from change slot found s)
@@ -291,7 +282,8 @@ peer_closes slot other s live h = by (chan_at s other) refl
 media_await : (slot : ℕ) (s : Switch) → Awaits s → Awaits (after_move in_media slot s)
 media_await slot s h = moved_await NoSlot in_media slot s (λ c number is. (is, λ live. exchange_lives)) h
 
-won_joins : (slot leg : ℕ) (s : Switch) → can_join slot leg s ≡ true → AwaitsBut slot s → Awaits (after_move in_media leg (joined_as Dial slot leg s))
+won_joins : (slot leg : ℕ) (s : Switch) → can_join slot leg s ≡ true → AwaitsBut slot s →
+    Awaits (after_move in_media leg (joined_as Dial slot leg s))
 won_joins slot leg s can h =
     let t : Switch = with_bridge slot leg Dial s in
     media_await leg (joined_as Dial slot leg s)

@@ -1,11 +1,8 @@
 -- Each act leaves it so that whoever waits for an origination lives and owns it.
-use Rattle.std.proofs.Common.{◌≡◌, ℕ, ◌+◌, ◌-◌, ◌^◌, min, true, if◌then◌else◌, Bool, false, List, [], Option, None, Some, unwrap_or, ◌⊎◌, inl, inr}
-use Rattle.std.proofs.Common.{refl, sym, ap, subst, ◌∙◌}
-use Rattle.std.proofs.lemmas.Option.{none-some, same_Some}
+use Rattle.std.proofs.Common.{◌≡◌, ℕ, ◌+◌, ◌-◌, ◌^◌, min, true, if◌then◌else◌, Bool, false, List, Option, None, Some, unwrap_or, ◌⊎◌, inl}
+use Rattle.std.proofs.Common.{inr, refl, sym, ap, subst, ◌∙◌}
+use Rattle.std.proofs.lemmas.Option.{same_Some}
 use Rattle.fs_text.specs.Texts.{Text}
-use Rattle.fs_text.specs.declared.causes.Cause.{Cause}
-use Rattle.fs_bridge.specs.declared.row.BridgeKind.{BridgeKind}
-use Rattle.fs_bridge.specs.Closure.{Members}
 use Rattle.fs_chan.specs.declared.chan.Chan.{Chan}
 use Rattle.fs_chan.specs.declared.wait.Wait.{Wait}
 use Rattle.fs_chan.specs.declared.wait.Wait.TheVariants.{Ready, Legs, Bridged}
@@ -22,25 +19,23 @@ use Rattle.fs_orig.specs.Changes.{new_orig, may_enter_next, at_next_group}
 use Rattle.fs_orig.specs.Plans.{all_behind}
 use Rattle.fs_places.specs.Places.{held_in, with_held}
 use Rattle.fs_places.specs.Rows.{row_of, with_new_row}
-use Rattle.fs_places.proofs.HeldLemmas.{IsFree}
 use Rattle.fs_state.specs.declared.conn.Conn.{Conn}
 use Rattle.fs_state.specs.declared.conn.Parting.TheVariants as parting
 use Rattle.fs_state.specs.declared.job.JobWork.{JobWork}
 use Rattle.fs_state.specs.declared.job.JobWork.TheVariants.{Sleep, Originate}
 use Rattle.fs_state.specs.Switch.{Switch, chan_at, without_orig, next_orig_number, next_job_number, with_new_job, without_job}
 use Rattle.fs_state.specs.Moves.{after_move}
-use Rattle.fs_state.specs.Hangups.{after_hangups}
 use Rattle.fs_state.proofs.LegTables.{Origs}
 use Rattle.fs_machine.specs.declared.originations.Call.{Call}
 use Rattle.fs_machine.specs.Texts.{made_text, failed_text}
 use Rattle.fs_machine.specs.Connections.{conn_changed, admitted, parted, owed_since, not_owed}
 use Rattle.fs_machine.specs.Originations.{seconds, pair_made, MadeGroup, group_made, won_by, after_winning}
-use Rattle.fs_machine.specs.Attempts.{first_group, orig_begun, originate_begun, awaits, with_group}
+use Rattle.fs_machine.specs.Attempts.{first_group, orig_begun, originate_begun, with_group}
 use Rattle.fs_machine.specs.Bridging.{caller_of, group_dialed}
 use Rattle.fs_machine.specs.Dialing.{tried_by_slot}
 use Rattle.fs_machine.specs.Owing.{after_job_begin, after_job_end}
 use Rattle.fs_chan.specs.Moments.{moment_after}
-use Rattle.fs_machine.proofs.Kept.{hold_in, Stage, Fact, KeptByTouches, KeptByCalls, KeptByBirths, DoesJob, raced, KeptByJobs, KeptByDials}
+use Rattle.fs_machine.proofs.Kept.{hold_in, Fact, KeptByTouches, KeptByCalls, KeptByBirths, DoesJob, raced, KeptByJobs, KeptByDials}
 use Rattle.fs_machine.proofs.Kept.{KeptByCommands, KeptByMoves}
 use Rattle.fs_machine.proofs.StayLemmas.{moved_there}
 use Rattle.fs_machine.proofs.NameLemmas.{leg_chan, far_chan, pair_channels}
@@ -159,7 +154,8 @@ regrouped_await : (number : ℕ) (plans : List LegPlan) (caller : Caller) (s : S
     Awaits (with_group number (group_made plans caller number s))
 regrouped_await number plans caller s h =
     let made : MadeGroup = group_made plans caller number s in
-    orig_changed_await NoSlot (at_next_group made.legs) number made.state (next_keeps made.legs) (group_born plans caller number 0 s h).awaits
+    orig_changed_await NoSlot (at_next_group made.legs) number made.state (next_keeps made.legs)
+    (group_born plans caller number 0 s h).awaits
 
 -- nothing holds a channel that is at work, so it waits for no origination
 free_wait : (wait : Wait) → hold_in wait ≡ Ready → awaited_in wait ≡ None
@@ -275,7 +271,8 @@ module _ (before : Switch) (Q : Fact) (kept : KeptByMoves before Q)
       group_born (all_behind (exported_pairs c.vars) (first_group groups)) (caller_of c) number slot s h.1 in
       begun_await slot number c groups made.legs timeout made.state (born.there c there) live (born_number s made.state born.drawn)
       (ap (λ (origs : Origs). row_of origs number) born.origs ∙ fresh s h.0)
-      (λ new. ap (λ (origs : Origs). row_of (with_new_row origs number new) number) born.origs ∙ room s h.0 slot c there none new) born.awaits
+      (λ new. ap (λ (origs : Origs). row_of (with_new_row origs number new) number) born.origs ∙ room s h.0 slot c there none new)
+      born.awaits
 
   dials_wait : KeptByDials before Waiting
   dials_wait = record {
@@ -294,7 +291,8 @@ module _ (before : Switch) (Q : Fact) (kept : KeptByMoves before Q)
     );
     wins = λ slot orig leg slots waits won h. (
       kept.dials.wins slot orig leg slots waits won h.0,
-      won_await slot (unwrap_or leg.slot 0) (without_orig orig (raced slots before)) (without_await slot orig (raced slots before) waits h.1),
+      won_await slot (unwrap_or leg.slot 0) (without_orig orig (raced slots before))
+          (without_await slot orig (raced slots before) waits h.1),
     );
   }
 
@@ -311,7 +309,8 @@ module _ (before : Switch) (Q : Fact) (kept : KeptByMoves before Q)
       new_orig (owner.Job (next_job_number t)) groups made.legs (moment_after t.moment (seconds (unwrap_or timeout 60))) in
       let none : row_of t.origs (next_orig_number t) ≡ None =
       ap (row_of t.origs) (born_number s t born.drawn) ∙ ap (λ (origs : Origs). row_of origs number) born.origs ∙ fresh s h.0 in
-      owing_await conn (Originate number winner caller) (orig_begun (owner.Job (next_job_number t)) groups made.legs (unwrap_or timeout 60) t)
+      owing_await conn (Originate number winner caller)
+      (orig_begun (owner.Job (next_job_number t)) groups made.legs (unwrap_or timeout 60) t)
       (rows_await NoSlot t.channels t.origs (with_new_row t.origs (next_orig_number t) new) (stay_new t.origs (next_orig_number t) new none)
       born.awaits)
 

@@ -1,5 +1,5 @@
 -- What channels wait for is there and is theirs, behind changes of channels and of originations.
-use Rattle.std.proofs.Common.{◌≡◌, ℕ, true, List, Option, None, Some, ◌⊎◌, inl, inr, refl, sym, ap, ◌∙◌}
+use Rattle.std.proofs.Common.{◌≡◌, ℕ, true, None, Some, ◌⊎◌, inl, inr, sym, ap, ◌∙◌}
 use Rattle.std.proofs.lemmas.Bool.{cases_eq}
 use Rattle.std.proofs.lemmas.Option.{none-some, same_Some}
 use Rattle.fs_chan.specs.declared.chan.Chan.{Chan}
@@ -29,14 +29,16 @@ pub record Await (open_at : ℕ → Type 0) (channels : Channels) (origs : Origs
 
 -- a new channel waits for what the old one waited for, or for nothing
 abbrev pub AwaitsNoMore : Chan → Chan → Type 0
-AwaitsNoMore old new = (number : ℕ) → awaited_by new ≡ Some number → (awaited_by old ≡ Some number) × (is_live old ≡ true → is_live new ≡ true)
+AwaitsNoMore old new = (number : ℕ) → awaited_by new ≡ Some number →
+    (awaited_by old ≡ Some number) × (is_live old ≡ true → is_live new ≡ true)
 
 pub awaits_none : (old new : Chan) → awaited_by new ≡ None → AwaitsNoMore old new
 awaits_none old new none number is = absurd (none-some number (sym none ∙ is))
 
 -- ---- channels
 
-pub put_await : (open_at : ℕ → Type 0) (channels : Channels) (origs : Origs) (place : ℕ) (old new : Chan) → held_in channels place ≡ Some old →
+pub put_await : (open_at : ℕ → Type 0) (channels : Channels) (origs : Origs) (place : ℕ) (old new : Chan) →
+    held_in channels place ≡ Some old →
     AwaitsNoMore old new → Await open_at channels origs → Await open_at (with_held channels place (Some new)) origs
 put_await open_at channels origs place old new there fewer h = record {
   own = λ slot number c is waits.
@@ -132,7 +134,8 @@ rows_await open_at channels old new stay h = record {
     own slot number (inr owns) = inr (stay number slot owns)
 
 -- one is changed, and keeps its owner
-pub stay_with : (origs : Origs) (number : ℕ) (p x : Orig) → row_of origs number ≡ Some p → x.owner ≡ p.owner → Stay origs (with_row origs number x)
+pub stay_with : (origs : Origs) (number : ℕ) (p x : Orig) → row_of origs number ≡ Some p → x.owner ≡ p.owner →
+    Stay origs (with_row origs number x)
 stay_with origs number p x there same n slot owns = by (cases_eq number n)
   where
     by : (number ≡ n) ⊎ (number ≡ n → ⊥) → HasOwner (with_row origs number x) n slot
@@ -168,7 +171,8 @@ gone_await open_at channels origs gone free h = record {
   live = h.live;
 }
   where
-    own : (slot number : ℕ) (c : Chan) → held_in channels slot ≡ Some c → awaited_by c ≡ Some number → (gone ≡ number) ⊎ (gone ≡ number → ⊥) →
+    own : (slot number : ℕ) (c : Chan) → held_in channels slot ≡ Some c → awaited_by c ≡ Some number →
+        (gone ≡ number) ⊎ (gone ≡ number → ⊥) →
         open_at slot ⊎ HasOwner origs number slot → open_at slot ⊎ HasOwner (without_row origs gone) number slot
     own slot number c is waits which (inl opens) = inl opens
     own slot number c is waits (inl same) (inr owns) =

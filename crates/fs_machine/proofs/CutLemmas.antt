@@ -1,6 +1,6 @@
 -- Whoever hangs up is dead behind the hangup, and so is whoever is named.
-use Rattle.std.proofs.Common.{◌≡◌, ℕ, zero, suc, ◌==◌, Bool, true, false, if◌then◌else◌, ◌||◌, List, [], ◌∷◌, ◌++◌, Option, None, Some, ◌⊎◌, inl, inr, refl, sym, ap}
-use Rattle.std.proofs.Common.{subst, ◌∙◌, true≢false}
+use Rattle.std.proofs.Common.{◌≡◌, ℕ, zero, suc, ◌==◌, Bool, true, false, if◌then◌else◌, ◌||◌, List, [], ◌∷◌, ◌++◌, Option, None, Some}
+use Rattle.std.proofs.Common.{◌⊎◌, inl, inr, refl, sym, ap, subst, ◌∙◌, true≢false}
 use Rattle.std.proofs.lemmas.Bool.{cases_eq, eqb-true, or_cases, false≢true}
 use Rattle.std.proofs.lemmas.Cmp.{nat_eq_equiv}
 use Rattle.std.proofs.lemmas.List.Folds.{list_any-append}
@@ -18,7 +18,8 @@ use Rattle.fs_places.specs.Places.{held_in, with_held}
 use Rattle.fs_places.proofs.HeldLemmas.{held_here, held_there, held_within}
 use Rattle.fs_state.specs.Switch.{Switch, chan_at, with_chan}
 use Rattle.fs_state.specs.Moves.{orig_changed, after_one_hangup}
-use Rattle.fs_state.specs.Hangups.{lives, lives_at, world_of, living_of, Ended, is_leg_of, with_end_told, untold_by, after_member, after_members}
+use Rattle.fs_state.specs.Hangups.{lives, lives_at, world_of, living_of, Ended, is_leg_of, with_end_told, untold_by, after_member}
+use Rattle.fs_state.specs.Hangups.{after_members}
 use Rattle.fs_state.specs.Hangups.{after_ends, after_survivals, after_hangups, after_hangup}
 use Rattle.fs_machine.proofs.StayLemmas.{hangup_dead, orig_changed_channels}
 use Rattle.fs_machine.proofs.TieLemmas.{lives_as, lives_in, HungAs, hung_by}
@@ -51,7 +52,8 @@ dead_changed : (change : Orig → Orig) (number slot : ℕ) (t : Switch) → Dea
 dead_changed change number slot t h =
     ap (λ (channels : List (Option Chan)). lives_in channels slot) (orig_changed_channels change number t) ∙ h
 
-dead_members : (untold : List Ended) (members : Members) (slot : ℕ) (t : Switch) → DeadAt slot t → DeadAt slot (after_members untold members t)
+dead_members : (untold : List Ended) (members : Members) (slot : ℕ) (t : Switch) → DeadAt slot t →
+    DeadAt slot (after_members untold members t)
 dead_members untold members slot t h =
     members_kept (λ at. true) (DeadAt slot) (λ event u k. k)
     (λ place old new u there falls k. dead_falls (λ at. true) u slot place old new there falls k) (λ number u k. k)

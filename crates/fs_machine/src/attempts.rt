@@ -1,5 +1,5 @@
 //! Originations that jobs and channels try: how they begin, and what comes of them.
-ghost use Rattle.std.specs.Prelude.{◌≡◌, ◌<◌, ◌++◌, None, length, slice_get, IfOk};
+ghost use Rattle.std.specs.Prelude.{◌≡◌, ◌<◌, ◌++◌, None, length, slice_get, unwrap_or, IfOk};
 ghost use Rattle.std.specs.Option.{option_and_then};
 ghost use Rattle.fs_text.specs.declared.causes.Cause.TheVariants.{LoseRace, NoAnswer};
 ghost use Rattle.fs_orig.specs.Legs as orig_legs;
@@ -12,6 +12,7 @@ ghost use Rattle.fs_machine.specs.declared.attempts.Party.TheVariants as party;
 ghost use Rattle.fs_machine.specs.Attempts as spec;
 ghost use Rattle.fs_machine.specs.Originations.{after_winning, GroupComesTo};
 ghost use Rattle.fs_machine.specs.Owing.{after_job_end};
+ghost use Rattle.fs_machine.specs.Texts as texts;
 
 use crate::bridging::{dial_group, fail_bridge, win_bridge};
 use crate::channels::{ChanChange, awaited_at, change_chan};
@@ -287,18 +288,32 @@ fn win(draft: &mut Draft<'_>, attempt: &Attempt, leg: &OrigLeg) -> Result<(), Me
             conn,
             winner,
             ..
-        } => {
-            let answer = made_text(draft.alloc(), leg.uuid.as_bytes())?;
-            win_by_job(draft, leg.slot.unwrap_or(0), winner)?;
-            end_originate(draft, attempt.orig, *job, *conn, answer.as_bytes())
-        }
+        } => win_by_job(draft, attempt.orig, *job, *conn, winner, leg),
         Party::Slot { slot } => win_by_slot(draft, attempt.orig, *slot, leg),
     }
 }
 
+// Lets the leg do what the job asks, and ends the origination and the job.
+fn win_by_job(
+    draft: &mut Draft<'_>,
+    orig: u64,
+    job: u64,
+    conn: u32,
+    winner: &Winner,
+    leg: &OrigLeg,
+) -> Result<(), Memory>
+    ensures { Brings result draft.old draft.new
+        (after_job_end job conn (texts.made_text leg.now.uuid)
+        (without_orig orig (after_winning winner.now (unwrap_or leg.now.slot 0) (drafted draft.old)))) }
+{
+    let answer = made_text(draft.alloc(), leg.uuid.as_bytes())?;
+    let_win(draft, leg.slot.unwrap_or(0), winner)?;
+    end_originate(draft, orig, job, conn, answer.as_bytes())
+}
+
 // Lets the leg in a slot run its application, or be routed.
 #[tactic(auto, unfolding(crate::specs::Originations::after_winning))]
-fn win_by_job(draft: &mut Draft<'_>, slot: u16, winner: &Winner) -> Result<(), Memory>
+fn let_win(draft: &mut Draft<'_>, slot: u16, winner: &Winner) -> Result<(), Memory>
     ensures { Brings result draft.old draft.new (after_winning winner.now slot (drafted draft.old)) }
 {
     change_chan(draft, slot, ChanChange::Win { winner })
@@ -322,12 +337,24 @@ fn fail(draft: &mut Draft<'_>, attempt: &Attempt, cause: Cause) -> Result<(), Me
     ensures { Brings result draft.old draft.new (spec.after_failure attempt.now cause (drafted draft.old)) }
 {
     match &attempt.party {
-        Party::Job { job, conn, .. } => {
-            let answer = failed_text(draft.alloc(), cause)?;
-            end_originate(draft, attempt.orig, *job, *conn, answer.as_bytes())
-        }
+        Party::Job { job, conn, .. } => fail_by_job(draft, attempt.orig, *job, *conn, cause),
         Party::Slot { slot } => fail_by_slot(draft, attempt.orig, *slot, cause),
     }
+}
+
+// Ends an origination that has failed, and its job.
+fn fail_by_job(
+    draft: &mut Draft<'_>,
+    orig: u64,
+    job: u64,
+    conn: u32,
+    cause: Cause,
+) -> Result<(), Memory>
+    ensures { Brings result draft.old draft.new
+        (after_job_end job conn (texts.failed_text cause) (without_orig orig (drafted draft.old))) }
+{
+    let answer = failed_text(draft.alloc(), cause)?;
+    end_originate(draft, orig, job, conn, answer.as_bytes())
 }
 
 // Lets the channel in a slot fail to bridge, if it still waits for the verdict.

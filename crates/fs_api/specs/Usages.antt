@@ -1,7 +1,8 @@
 -- How the api commands are to be written.
 use Rattle.std.specs.Prelude.{ℕ, List, codes}
 use Rattle.fs_api.specs.declared.usages.Which.{Which}
-use Rattle.fs_api.specs.declared.usages.Which.TheVariants.{Expand, GlobalSetvar, Msleep, Originate, UuidBridge, UuidExists, UuidGetvar, UuidKill}
+use Rattle.fs_api.specs.declared.usages.Which.TheVariants.{Expand, GlobalSetvar, Msleep, Originate, UuidBridge}
+use Rattle.fs_api.specs.declared.usages.Which.TheVariants.{UuidExists, UuidGetvar, UuidKill}
 
 unfoldable pub usage_of : Which → List ℕ
 usage_of Expand = codes "[uuid:U ]text*"

@@ -1,5 +1,6 @@
 -- How a command joins two channels.
-use Rattle.std.specs.Prelude.{ℕ, ◌==◌, nat_lt, Bool, true, false, not, ◌||◌, ◌&&◌, if◌then◌else◌, ◌++◌, Option, None, Some, is_none, is_some}
+use Rattle.std.specs.Prelude.{ℕ, ◌==◌, nat_lt, Bool, true, false, not, ◌||◌, ◌&&◌, if◌then◌else◌, ◌++◌}
+use Rattle.std.specs.Prelude.{Option, None, Some, is_none, is_some}
 use Rattle.std.specs.Option.{option_and_then}
 use Rattle.fs_text.specs.Texts.{Text}
 use Rattle.fs_text.specs.declared.states.State.{State}

@@ -1,6 +1,6 @@
 //! How a command joins two channels.
 
-ghost use Rattle.std.specs.Prelude.{◌≡◌, ◌++◌, None, IfOk};
+ghost use Rattle.std.specs.Prelude.{◌≡◌, ◌++◌, None, Some, IfOk};
 ghost use Rattle.std.specs.Option.{option_copied};
 ghost use Rattle.fs_state.specs.Drafts.{drafted, Brings};
 ghost use Rattle.fs_state.specs.Hangups.{legs_at};
@@ -9,6 +9,7 @@ ghost use Rattle.fs_state.specs.Switch.{chan_at};
 ghost use Rattle.fs_chan.specs.Bridging.{at_leisure};
 ghost use Rattle.fs_machine.specs.Done.{ComesTo};
 ghost use Rattle.fs_machine.specs.Joining as spec;
+ghost use Rattle.fs_machine.specs.Texts as texts;
 
 use crate::channels::awaited_at;
 use crate::hangups::hang_up_for;
@@ -16,9 +17,10 @@ use crate::texts::{made_text, says};
 use fs_bridge::BridgeKind;
 use fs_state::Draft;
 use fs_text::{Cause, Memory, State, Txt};
+use std::alloc::Global;
 
 /// Joins the live channels of two identifiers, and answers whether it did.
-#[tactic(auto, unfolding(crate::specs::Joining::uuid_bridge_done, crate::specs::Texts::no_channel))]
+#[tactic(auto, unfolding(crate::specs::Joining::uuid_bridge_done))]
 pub(crate) fn bridge_channels(
     draft: &mut Draft<'_>,
     uuid: &Txt,
@@ -29,10 +31,36 @@ pub(crate) fn bridge_channels(
         (ComesTo (spec.uuid_bridge_done uuid.now other.now (drafted draft.old)) (drafted draft.new)) }
 {
     let one = draft.slot_named(uuid.as_bytes());
-    match (one, draft.slot_named(other.as_bytes())) {
-        (Some(a), Some(b)) => bridge_slots(draft, a, b, other),
-        _ => says(draft.alloc(), b"-ERR No such channel!\n"),
-    }
+    let two = draft.slot_named(other.as_bytes());
+    bridge_found(draft, one, two, other)
+}
+
+// Joins the channels in two slots, if there are such.
+fn bridge_found(
+    draft: &mut Draft<'_>,
+    one: Option<u16>,
+    two: Option<u16>,
+    other: &Txt,
+) -> Result<Option<Txt>, Memory>
+    ensures base { draft.new.base ≡ draft.old.base }
+    ensures done { IfOk result
+        (ComesTo (spec.bridge_done_at one two other.now (drafted draft.old)) (drafted draft.new)) }
+{
+    let Some(a) = one else {
+        return no_channel(draft.alloc());
+    };
+    let Some(b) = two else {
+        return no_channel(draft.alloc());
+    };
+    bridge_slots(draft, a, b, other)
+}
+
+// Answers that there is no such channel.
+#[tactic(auto, unfolding(crate::specs::Texts::no_channel))]
+fn no_channel(alloc: Global) -> Result<Option<Txt>, Memory>
+    ensures { IfOk result (λ said. said ≡ Some texts.no_channel) }
+{
+    says(alloc, b"-ERR No such channel!\n")
 }
 
 // Joins the channels in two slots, unless something stands in the way.
@@ -141,7 +169,6 @@ fn set_at_leisure(draft: &mut Draft<'_>, slot: u16) -> Result<(), Memory>
 // ---- joining
 
 // Joins two channels that have left, unless one died of that.
-#[tactic(auto, unfolding(crate::specs::Texts::no_channel))]
 fn join_both(draft: &mut Draft<'_>, a: u16, b: u16, other: &Txt) -> Result<Option<Txt>, Memory>
     ensures base { draft.new.base ≡ draft.old.base }
     ensures done { IfOk result
@@ -149,7 +176,7 @@ fn join_both(draft: &mut Draft<'_>, a: u16, b: u16, other: &Txt) -> Result<Optio
 {
     let alloc = draft.alloc();
     if !(draft.lives(a) && draft.lives(b)) {
-        return says(alloc, b"-ERR No such channel!\n");
+        return no_channel(alloc);
     }
     let answer = made_text(alloc, other.as_bytes())?;
     draft.join(BridgeKind::Joined, a, b)?;

@@ -4,7 +4,9 @@ use crate::answer::Answer;
 use crate::plays::machine_of;
 use crate::table::Table;
 use fs_conn::play;
+use fs_doc::read_config;
 use fs_machine::{Entry, Machine, Reply};
+use fs_plan::Dialplan;
 use fs_state::Event;
 use fs_text::{EventName, Memory};
 use std::alloc::Global;
@@ -20,10 +22,17 @@ pub(crate) fn tell_bridging(
     table: &Table,
     answer: &mut Answer,
 ) -> Result<(), Memory> {
+    let mut files = table.files()?;
     let mut link = table.link(ROOM)?;
-    let Some(mut machine) = machine_of(alloc, table, answer)? else {
+    let Ok(config) = read_config(alloc, table.file()) else {
+        answer.line(&[b"no document"]);
         return Ok(());
     };
+    let Ok(plan) = Dialplan::build(alloc, &config, &mut files) else {
+        answer.line(&[b"no dialplan"]);
+        return Ok(());
+    };
+    let mut machine = Machine::new(alloc, config, plan)?;
     let _end = play(alloc, &mut machine, &mut link);
     tell_answers(link.written(), answer);
     let Some(mut again) = machine_of(alloc, table, answer)? else {

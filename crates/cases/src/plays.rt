@@ -20,10 +20,17 @@ pub(crate) fn tell_play(
     counts: bool,
     answer: &mut Answer,
 ) -> Result<(), Memory> {
+    let mut files = table.files()?;
     let mut link = table.link(ROOM)?;
-    let Some(mut machine) = machine_of(alloc, table, answer)? else {
+    let Ok(config) = read_config(alloc, table.file()) else {
+        answer.line(&[b"no document"]);
         return Ok(());
     };
+    let Ok(plan) = Dialplan::build(alloc, &config, &mut files) else {
+        answer.line(&[b"no dialplan"]);
+        return Ok(());
+    };
+    let mut machine = Machine::new(alloc, config, plan)?;
     let end = play(alloc, &mut machine, &mut link);
     answer.lines(link.written());
     tell_end(&machine, end, answer);

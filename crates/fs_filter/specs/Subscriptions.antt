@@ -1,5 +1,5 @@
 -- What a connection subscribed, its filters, and the events that it wants.
-use Rattle.std.specs.Prelude.{◌==◌, Bool, true, false, not, ◌&&◌, ◌||◌, if◌then◌else◌, List, [], ◌∷◌, ◌++◌, filter, length}
+use Rattle.std.specs.Prelude.{◌≡◌, ◌==◌, Bool, true, false, not, ◌&&◌, ◌||◌, if◌then◌else◌, List, [], ◌∷◌, ◌++◌, filter, length}
 use Rattle.std.specs.Prelude.{Option, None, Some}
 use Rattle.std.specs.List.{list_any}
 use Rattle.std.specs.Global.{Vec}
@@ -154,6 +154,10 @@ cleared s = record s { names = []; subclasses = These []; listening = false }
 abbrev pub has_event : Subscription → EventName → Text → Bool
 has_event s Custom subclass = has_subclass s.subclasses subclass
 has_event s name subclass = has_name s.names name
+
+-- no event is subscribed, whatever its name and its subclass
+abbrev pub HearsNothing : Subscription → Type 0
+HearsNothing s = (name : EventName) (subclass : Text) → has_event s name subclass ≡ false
 
 -- an event is wanted: it is subscribed, and the filters let it through
 abbrev pub wants : Subscription → Event → Bool

@@ -1,6 +1,6 @@
 //! Filters over the headers of events.
 
-ghost use Rattle.std.specs.Prelude.{◌≡◌, [], OnOk, OnErr};
+ghost use Rattle.std.specs.Prelude.{◌≡◌, [], IfOk, OnOk, OnErr};
 ghost use Rattle.fs_filter.specs.Asked.{lent};
 ghost use Rattle.fs_filter.specs.Subscriptions as spec;
 
@@ -30,6 +30,14 @@ impl Filters {
         Filters {
             pairs: Vec::new(alloc),
         }
+    }
+
+    /// The same once more; the texts share their bytes.
+    pub fn copy(&self, alloc: Global) -> Result<Filters, Memory>
+        ensures { IfOk result (λ filters. filters ≡ self.now) }
+    {
+        let pairs = copied(alloc, self.pairs.as_slice())?;
+        Ok(Filters { pairs })
     }
 
     /// Adds a filter, if it is new.
@@ -65,6 +73,17 @@ impl Filters {
                 filter.1.as_bytes(),
             ))
     }
+}
+
+// The pairs once more; their bytes are shared.
+fn copied(alloc: Global, pairs: &[(Txt, Txt)]) -> Result<Vec<(Txt, Txt)>, Memory>
+    ensures { IfOk result (λ all. all.items ≡ pairs.now) }
+{
+    let mut all = Vec::with_capacity(alloc, pairs.len())?;
+    for pair in pairs {
+        all.push((pair.0.copy()?, pair.1.copy()?))?;
+    }
+    Ok(all)
 }
 
 // Whether a header with this value is among these.

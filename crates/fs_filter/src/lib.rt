@@ -4,8 +4,10 @@
 mod asked;
 mod filters;
 mod laws;
+mod shared;
 mod subclasses;
 mod subs;
 
 pub use laws::subscriptions_are_sets;
+pub use shared::SharedSubs;
 pub use subs::Subs;

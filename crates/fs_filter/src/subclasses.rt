@@ -26,7 +26,7 @@ impl Model for Subclasses {
 }
 
 impl Subclasses {
-    ghost use Rattle.std.specs.Prelude.{[]};
+    ghost use Rattle.std.specs.Prelude.{[], true};
 
     /// No subclass.
     pub fn none(alloc: Global) -> Subclasses
@@ -34,6 +34,27 @@ impl Subclasses {
     {
         Subclasses {
             listed: Some(Vec::new(alloc)),
+        }
+    }
+
+    /// The same once more; the texts share their bytes.
+    pub fn copy(&self, alloc: Global) -> Result<Subclasses, Memory>
+        ensures { IfOk result (λ s. s ≡ self.now) }
+    {
+        let listed = match &self.listed {
+            Some(known) => Some(copied(alloc, known.as_slice())?),
+            None => None,
+        };
+        Ok(Subclasses { listed })
+    }
+
+    /// Whether there is none.
+    pub fn is_empty(&self) -> bool
+        ensures { result ≡ true → self.now ≡ These [] }
+    {
+        match &self.listed {
+            Some(known) => known.is_empty(),
+            None => false,
         }
     }
 

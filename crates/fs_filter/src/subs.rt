@@ -1,6 +1,6 @@
 //! What a connection subscribed.
 
-ghost use Rattle.std.specs.Prelude.{◌≡◌, IfOk, OnOk, OnErr};
+ghost use Rattle.std.specs.Prelude.{◌≡◌, true, IfOk, OnOk, OnErr};
 ghost use Rattle.fs_filter.specs.Asked.{asked_in, is_known, lent};
 ghost use Rattle.fs_filter.specs.Subscriptions as spec;
 
@@ -54,6 +54,19 @@ impl Subs {
             subclasses: Subclasses::none(alloc),
             listening: false,
             filters: Filters::new(alloc),
+        })
+    }
+
+    /// The same once more; the texts share their bytes.
+    pub fn copy(&self) -> Result<Subs, Memory>
+        ensures { IfOk result (λ subs. subs ≡ self.now) }
+    {
+        let alloc = self.alloc();
+        Ok(Subs {
+            names: Vec::from_slice(alloc, self.names.as_slice())?,
+            subclasses: self.subclasses.copy(alloc)?,
+            listening: self.listening,
+            filters: self.filters.copy(alloc)?,
         })
     }
 
@@ -133,22 +146,30 @@ impl Subs {
         self.filters.remove(header, value)
     }
 
+    /// Whether no event is subscribed, as far as that is seen at once. Takes no memory.
+    pub fn is_idle(&self) -> bool
+        ensures { result ≡ true → spec.HearsNothing self.now }
+    {
+        self.names.is_empty() && self.subclasses.is_empty()
+    }
+
+    /// Whether the events of this name are subscribed, of `CUSTOM` events those with this subclass. Takes no memory.
+    pub fn hears(&self, name: EventName, subclass: &[u8]) -> bool
+        ensures { result ≡ spec.has_event self.now name subclass.now }
+    {
+        match name {
+            EventName::Custom => self.subclasses.has(subclass),
+            name => has_name(self.names.as_slice(), name),
+        }
+    }
+
     /// Whether the connection is to be told of an event: it is subscribed, of a `CUSTOM` event its subclass, and there
     /// is no filter or some filter is one of its headers with its value. Takes no memory.
     pub fn wants(&self, event: &Event) -> bool
         ensures { result ≡ spec.wants self.now event.now }
     {
-        self.has_event(event) && self.filters.let_through(event.headers.pairs())
-    }
-
-    // Whether the event is subscribed.
-    fn has_event(&self, event: &Event) -> bool
-        ensures { result ≡ spec.has_event self.now event.now.name event.now.subclass }
-    {
-        match event.name {
-            EventName::Custom => self.subclasses.has(event.subclass.as_bytes()),
-            name => has_name(self.names.as_slice(), name),
-        }
+        self.hears(event.name, event.subclass.as_bytes())
+            && self.filters.let_through(event.headers.pairs())
     }
 
     // Where its lists take their memory from.

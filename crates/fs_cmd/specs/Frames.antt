@@ -1,5 +1,5 @@
 -- The frames that a connection is sent.
-use Rattle.std.specs.Prelude.{ℕ, List, map, ◌++◌, ◌==◌, length, codes, if◌then◌else◌}
+use Rattle.std.specs.Prelude.{ℕ, List, [], map, ◌++◌, ◌==◌, length, codes, Option, unwrap_or, if◌then◌else◌}
 use Rattle.std.specs.List.{concat}
 use Rattle.std.specs.Fmt.{decimal}
 use Rattle.fs_text.specs.Headers.{header_line}
@@ -44,3 +44,49 @@ bye = codes "+OK bye"
 
 unfoldable pub not_found : List ℕ
 not_found = codes "-ERR command not found"
+
+-- ---- the texts of replies that subscriptions have
+
+-- events are told in the plain form
+unfoldable pub event_enabled : List ℕ
+event_enabled = codes "+OK event listener enabled plain"
+
+-- no known name stands among the words
+unfoldable pub no_keywords : List ℕ
+no_keywords = codes "-ERR no keywords supplied"
+
+-- events are not told in this form
+unfoldable pub format_unsupported : List ℕ
+format_unsupported = codes "-ERR event format not supported"
+
+-- the named events are no longer told
+unfoldable pub event_disabled : List ℕ
+event_disabled = codes "+OK event listener disabled"
+
+-- no event is told any more
+unfoldable pub no_longer_listening : List ℕ
+no_longer_listening = codes "+OK no longer listening for events"
+
+-- no event was subscribed
+unfoldable pub not_listening : List ℕ
+not_listening = codes "-ERR not listening for events"
+
+-- a part of a filter is missing
+unfoldable pub invalid_syntax : List ℕ
+invalid_syntax = codes "-ERR invalid syntax"
+
+-- no filter was meant
+unfoldable pub filter_not_found : List ℕ
+filter_not_found = codes "-ERR filter not found"
+
+-- a header and a value in brackets, behind a head
+abbrev pub bracketed : List ℕ → List ℕ → List ℕ → List ℕ
+bracketed head header value = head ++ codes "[" ++ header ++ codes "]=[" ++ value ++ codes "]"
+
+-- the filter is there now
+unfoldable pub filter_added : List ℕ → List ℕ → List ℕ
+filter_added header value = bracketed (codes "+OK filter added. ") header value
+
+-- the filters are gone: those of the header where no value is named
+unfoldable pub filter_deleted : List ℕ → Option (List ℕ) → List ℕ
+filter_deleted header value = bracketed (codes "+OK filter deleted. ") header (unwrap_or value [])

@@ -2,6 +2,7 @@
 
 ghost use Rattle.std.specs.Prelude.{◌≡◌, ◌++◌, length, codes, IfOk};
 ghost use Rattle.std.specs.Fmt.{decimal};
+ghost use Rattle.std.specs.Option.{option_copied};
 ghost use Rattle.fs_cmd.specs.Frames as spec;
 
 use fs_text::{Memory, Txt, push_header};
@@ -10,6 +11,9 @@ use std::alloc::Global;
 
 // The bytes that are set aside for the headers of a frame, so that it is formed in one buffer.
 const HEADER_ROOM: usize = 80;
+
+// The bytes that are set aside for what stands round a filter in a reply's text.
+const BRACKET_ROOM: usize = 32;
 
 /// The first frame of a connection.
 #[tactic(auto, unfolding(crate::specs::Frames::auth_request))]
@@ -81,4 +85,35 @@ fn behind_head(alloc: Global, head: &[u8], body: &[u8]) -> Result<Txt, Memory>
     frame.extend_from_slice(b"\n\n")?;
     frame.extend_from_slice(body)?;
     Txt::from_vec(frame)
+}
+
+/// The reply's text where a filter is added.
+#[tactic(auto, unfolding(crate::specs::Frames::filter_added))]
+pub fn filter_added(alloc: Global, header: &[u8], value: &[u8]) -> Result<Txt, Memory>
+    ensures { IfOk result (λ t. t ≡ spec.filter_added header.now value.now) }
+{
+    bracketed(alloc, b"+OK filter added. ", header, value)
+}
+
+/// The reply's text where the filters of a header are taken out, or those that have this value.
+#[tactic(auto, unfolding(crate::specs::Frames::filter_deleted))]
+pub fn filter_deleted(alloc: Global, header: &[u8], value: Option<&[u8]>) -> Result<Txt, Memory>
+    ensures { IfOk result (λ t. t ≡ spec.filter_deleted header.now (option_copied value.entry)) }
+{
+    bracketed(alloc, b"+OK filter deleted. ", header, value.unwrap_or(&[]))
+}
+
+// A header and a value in brackets, behind a head.
+fn bracketed(alloc: Global, head: &[u8], header: &[u8], value: &[u8]) -> Result<Txt, Memory>
+    ensures { IfOk result (λ t. t ≡ spec.bracketed head.now header.now value.now) }
+{
+    let room = header.len().saturating_add(value.len());
+    let mut text = Vec::with_capacity(alloc, room.saturating_add(BRACKET_ROOM))?;
+    text.extend_from_slice(head)?;
+    text.push(b'[')?;
+    text.extend_from_slice(header)?;
+    text.extend_from_slice(b"]=[")?;
+    text.extend_from_slice(value)?;
+    text.push(b']')?;
+    Txt::from_vec(text)
 }

@@ -4,5 +4,5 @@
 mod command;
 mod frames;
 
-pub use command::Command;
-pub use frames::{api_reply, auth_request, notice, reply};
+pub use command::{Command, Form};
+pub use frames::{api_reply, auth_request, filter_added, filter_deleted, notice, reply};

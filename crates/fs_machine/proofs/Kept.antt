@@ -7,6 +7,7 @@ use Rattle.fs_text.specs.declared.states.State.TheVariants.{CsNew, CsInit, CsCon
 use Rattle.fs_text.specs.declared.causes.Cause.{Cause}
 use Rattle.fs_text.specs.declared.causes.Cause.TheVariants.{LoseRace}
 use Rattle.fs_vars.specs.Variables.{Variables}
+use Rattle.fs_filter.specs.Subscriptions.{Subscription}
 use Rattle.fs_bridge.specs.declared.row.BridgeKind.{BridgeKind}
 use Rattle.fs_bridge.specs.Closure.{Members}
 use Rattle.fs_chan.specs.declared.chan.Chan.{Chan}
@@ -34,13 +35,13 @@ use Rattle.fs_state.specs.declared.job.JobWork.{JobWork}
 use Rattle.fs_state.specs.declared.job.JobWork.TheVariants as work
 use Rattle.fs_state.specs.Switch.{Switch, chan_at, with_chan, bridge_at, is_full_of_jobs, job_of, without_conn, with_frame_taken}
 use Rattle.fs_state.specs.Switch.{with_event}
-use Rattle.fs_state.specs.Switch.{next_orig_number, orig_of, without_orig, with_gift}
+use Rattle.fs_state.specs.Switch.{next_orig_number, orig_of, without_orig, with_gift, with_answer}
 use Rattle.fs_state.specs.Moves.{orig_changed, leg_changed}
 use Rattle.fs_state.specs.Hangups.{after_hangups, after_hangups_for}
 use Rattle.fs_state.specs.Bridging.{can_join, joined_as}
 use Rattle.fs_machine.specs.declared.attempts.Party.TheVariants as party
 use Rattle.fs_machine.specs.declared.originations.Call.{Call}
-use Rattle.fs_machine.specs.Connections.{phase_at, conn_changed, admitted, parted}
+use Rattle.fs_machine.specs.Connections.{phase_at, conn_changed, admitted, parted, with_subs_changed}
 use Rattle.fs_machine.specs.Originations.{pair_made, is_misnamed, target_of, group_made}
 use Rattle.fs_machine.specs.Bridging.{after_bridge_failure, after_bridge_win, group_dialed}
 use Rattle.fs_machine.specs.Attempts.{first_group, originate_begun, awaits, failed_for, won_for, death_of, with_group}
@@ -214,6 +215,9 @@ IsShortWinner (Route to) = IsShortTarget (target_of to)
 pub record KeptByCommands (conn : ℕ) (P : Fact) : Type 0 where
   pub spent : {s : Switch} → P None s → P (Some 0) s
   pub gave : (frame : Text) {b : Stage} {s : Switch} → P b s → P b (with_gift conn frame s)
+  pub answered : (frame : Text) {b : Stage} {s : Switch} → P b s → P b (with_answer conn frame s)
+  pub asked : (change : Subscription → Subscription) {n : ℕ} {s : Switch} → P (Some n) s →
+      P (Some n) (conn_changed (with_subs_changed change) conn s)
   pub admitted : {n : ℕ} {s : Switch} → phase_at s conn ≡ Fresh → P (Some n) s → P (Some n) (conn_changed admitted conn s)
   pub parted : (why : Parting) {n : ℕ} {s : Switch} → LeavesBy why → P (Some n) s → P (Some n) (conn_changed (parted why) conn s)
   pub sleeps : (until : ℕ) {s : Switch} → is_full_of_jobs s ≡ false → P None s → P (Some 0) (after_job_begin conn (work.Sleep until) s)

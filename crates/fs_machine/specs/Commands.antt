@@ -1,22 +1,29 @@
 -- What the commands of the event socket do.
-use Rattle.std.specs.Prelude.{ℕ, [], Option, None, Some, if◌then◌else◌}
+use Rattle.std.specs.Prelude.{ℕ, [], Bool, true, false, Option, None, Some, unwrap_or, if◌then◌else◌}
 use Rattle.std.specs.Str.{bytes_eq}
 use Rattle.fs_text.specs.Texts.{Text}
+use Rattle.fs_cmd.specs.declared.command.Form.{Form}
+use Rattle.fs_cmd.specs.declared.command.Form.TheVariants.{Plain, Json, Xml}
 use Rattle.fs_cmd.specs.Commands.{Command, Auth, Exit, Api, Unknown}
+use Rattle.fs_cmd.specs.Commands.{Event, Nixevent, Noevents, Filter, FilterDelete, BadFilter}
 use Rattle.fs_cmd.specs.Frames.{reply, api_reply, notice, accepted, invalid, bye, not_found}
+use Rattle.fs_cmd.specs.Frames.{event_enabled, no_keywords, format_unsupported, event_disabled, no_longer_listening, not_listening}
+use Rattle.fs_cmd.specs.Frames.{filter_added, filter_deleted, invalid_syntax, filter_not_found}
+use Rattle.fs_filter.specs.Asked.{Asked, asked_in, is_known}
+use Rattle.fs_filter.specs.Subscriptions.{Subscription, subscribed, unsubscribed, cleared, with_filter, without_filter, has_filter}
 use Rattle.fs_api.specs.Readings.{api_of}
 use Rattle.fs_state.specs.declared.conn.Phase.{Phase}
 use Rattle.fs_state.specs.declared.conn.Phase.TheVariants.{Fresh, Ready, Ending, Closed}
 use Rattle.fs_state.specs.declared.conn.Parting.{Parting}
 use Rattle.fs_state.specs.declared.conn.Parting.TheVariants as parting
-use Rattle.fs_state.specs.Switch.{Switch, with_gift}
-use Rattle.fs_machine.specs.Connections.{phase_at, conn_changed, admitted, parted}
+use Rattle.fs_state.specs.Switch.{Switch, with_gift, with_answer}
+use Rattle.fs_machine.specs.Connections.{phase_at, conn_changed, admitted, parted, with_subs_changed, subs_at}
 use Rattle.fs_machine.specs.Done.{Done}
 use Rattle.fs_machine.specs.Api.{done_by}
 
 -- a reply
 abbrev pub with_reply : ℕ → Text → Switch → Switch
-with_reply conn text s = with_gift conn (reply text []) s
+with_reply conn text s = with_answer conn (reply text []) s
 
 -- a last reply, and the notice
 abbrev pub after_dismissal : ℕ → Parting → Text → Switch → Switch
@@ -32,21 +39,71 @@ after_password conn given s =
 -- an answer, unless it is owed
 abbrev pub with_response_of : ℕ → Option Text → Switch → Switch
 with_response_of conn None s = s
-with_response_of conn (Some answer) s = with_gift conn (api_reply answer) s
+with_response_of conn (Some answer) s = with_answer conn (api_reply answer) s
 
 -- an api command was done
 abbrev pub with_response : ℕ → Done → Switch
 with_response conn d = with_response_of conn d.answer d.state
 
+-- ---- events
+
+-- what a connection subscribed is changed, and it is told so
+abbrev pub after_asking : ℕ → (Subscription → Subscription) → Text → Switch → Switch
+after_asking conn change text s = with_reply conn text (conn_changed (with_subs_changed change) conn s)
+
+-- a known name stands among the words, or none does
+abbrev pub unless_unknown : Asked → Text → Text
+unless_unknown asked text = if is_known asked then text else no_keywords
+
+-- events are subscribed by their names
+abbrev pub after_subscribing : ℕ → Form → Text → Switch → Switch
+after_subscribing conn Plain names s =
+    after_asking conn (subscribed (asked_in names)) (unless_unknown (asked_in names) event_enabled) s
+after_subscribing conn Json names s = with_reply conn format_unsupported s
+after_subscribing conn Xml names s = with_reply conn format_unsupported s
+
+-- some are not any more
+abbrev pub after_unsubscribing : ℕ → Text → Switch → Switch
+after_unsubscribing conn names s =
+    after_asking conn (unsubscribed (asked_in names)) (unless_unknown (asked_in names) event_disabled) s
+
+-- none is any more; the filters stay
+abbrev pub after_silence : ℕ → Switch → Switch
+after_silence conn s =
+    if (subs_at s conn).listening then after_asking conn cleared no_longer_listening s else with_reply conn not_listening s
+
+-- with another filter
+abbrev pub with_filter_added : Text → Text → Subscription → Subscription
+with_filter_added header value s = record s { filters = with_filter s.filters (header, value) }
+
+-- without the filters of a header, or those of it with a value
+abbrev pub with_filters_deleted : Text → Option Text → Subscription → Subscription
+with_filters_deleted header value s = record s { filters = without_filter s.filters header value }
+
+-- filters are deleted, if there are such
+abbrev pub after_deletion : ℕ → Text → Option Text → Switch → Switch
+after_deletion conn header value s =
+    if has_filter (subs_at s conn).filters header value
+    then after_asking conn (with_filters_deleted header value) (filter_deleted header (unwrap_or value [])) s
+    else with_reply conn filter_not_found s
+
+-- ---- all commands
+
 -- what a command does in a phase of its connection; before a password was accepted `auth` and `exit` alone are known
 abbrev pub command_done_in : Phase → ℕ → Command → Switch → Switch
 command_done_in Fresh conn (Auth given) s = after_password conn given s
 command_done_in Fresh conn Exit s = after_dismissal conn parting.Exit bye s
-command_done_in Fresh conn (Api text) s = with_reply conn not_found s
-command_done_in Fresh conn Unknown s = with_reply conn not_found s
+command_done_in Fresh conn _ s = with_reply conn not_found s
 command_done_in Ready conn (Auth given) s = with_reply conn not_found s
 command_done_in Ready conn Exit s = after_dismissal conn parting.Exit bye s
 command_done_in Ready conn (Api text) s = with_response conn (done_by conn (api_of text) s)
+command_done_in Ready conn (Event form names) s = after_subscribing conn form names s
+command_done_in Ready conn (Nixevent names) s = after_unsubscribing conn names s
+command_done_in Ready conn Noevents s = after_silence conn s
+command_done_in Ready conn (Filter header value) s =
+    after_asking conn (with_filter_added header value) (filter_added header value) s
+command_done_in Ready conn (FilterDelete header value) s = after_deletion conn header value s
+command_done_in Ready conn BadFilter s = with_reply conn invalid_syntax s
 command_done_in Ready conn Unknown s = with_reply conn not_found s
 command_done_in Ending conn command s = s
 command_done_in Closed conn command s = s

@@ -1,5 +1,6 @@
 -- Connections, and how they change.
 use Rattle.std.specs.Prelude.{ℕ, Option, None, Some}
+use Rattle.fs_filter.specs.Subscriptions.{Subscription, nothing}
 use Rattle.fs_state.specs.declared.conn.Conn.{Conn}
 use Rattle.fs_state.specs.declared.conn.Phase.{Phase}
 use Rattle.fs_state.specs.declared.conn.Phase.TheVariants.{Ready, Ending, Closed}
@@ -26,13 +27,28 @@ conn_changed change number s = conn_changed_from change number (conn_of s number
 abbrev pub admitted : Conn → Conn
 admitted c = record c { phase = Ready }
 
--- it gives no further command
+-- it gives no further command, and wants no further event
 abbrev pub parted : Parting → Conn → Conn
-parted why c = record c { phase = Ending; parting = Some why }
+parted why c = record c { phase = Ending; parting = Some why; subs = nothing }
 
 -- the place of the command to which the reply is owed
 abbrev pub owed_since : ℕ → Conn → Conn
 owed_since place c = record c { owed = Some place }
 
+-- no reply is owed to it
 abbrev pub not_owed : Conn → Conn
 not_owed c = record c { owed = None }
+
+-- ---- what it subscribes
+
+-- what it subscribed is changed
+abbrev pub with_subs_changed : (Subscription → Subscription) → Conn → Conn
+with_subs_changed change c = record c { subs = change c.subs }
+
+-- what a connection subscribed, where it is there
+abbrev pub subs_of : Option Conn → Subscription
+subs_of None = nothing
+subs_of (Some c) = c.subs
+
+abbrev pub subs_at : Switch → ℕ → Subscription
+subs_at s number = subs_of (conn_of s number)

@@ -2,8 +2,9 @@
 use Rattle.std.specs.Prelude.{ℕ, ◌==◌, List, [], ◌∷◌, ◌++◌, take, if◌then◌else◌}
 use Rattle.fs_text.specs.Texts.{Text}
 use Rattle.fs_state.specs.declared.gift.Gift.{Gift}
-use Rattle.fs_state.specs.Queues.{Frames}
-use Rattle.fs_state.specs.Switch.{Switch, waiting_for, at_moment}
+use Rattle.fs_state.specs.Queues.{texts_of}
+use Rattle.fs_state.specs.Switch.{Switch, waiting_for, at_moment, all_given}
+use Rattle.fs_state.specs.Posting.{with_posts}
 use Rattle.fs_machine.specs.declared.entry.Entry.{Entry}
 use Rattle.fs_machine.specs.declared.entry.Act.{Act}
 use Rattle.fs_machine.specs.declared.entry.Act.TheVariants.{Command, Take}
@@ -12,34 +13,39 @@ use Rattle.fs_machine.specs.Step.{is_closed, act_done, step}
 
 -- ---- what is given
 
--- the frames among gifts that are for a connection
-abbrev pub frames_among : ℕ → List Gift → Frames
+-- the texts of the frames among gifts that are for a connection
+abbrev pub frames_among : ℕ → List Gift → List Text
 frames_among conn [] = []
-frames_among conn (gift ∷ gifts) = (if gift.conn == conn then gift.frames else []) ++ frames_among conn gifts
+frames_among conn (gift ∷ gifts) = (if gift.conn == conn then texts_of gift.frames else []) ++ frames_among conn gifts
 
 -- of a switch before its entry is over; a connection that is closed is given nothing
-abbrev pub given_in : ℕ → Switch → Frames
-given_in conn s = if is_closed (phase_at s conn) then [] else frames_among conn s.given
+abbrev pub given_in : ℕ → Switch → List Text
+given_in conn s = if is_closed (phase_at s conn) then [] else frames_among conn (all_given s)
 
-unfoldable pub given_by : ℕ → Switch → Entry → Frames
-given_by conn s entry = given_in conn (act_done entry.act (at_moment entry.moment s)).state
+-- by an entry: the reply to its own command, the events that it posts, and all else
+unfoldable pub given_by : ℕ → Switch → Entry → List Text
+given_by conn s entry = given_in conn (with_posts s (act_done entry.act (at_moment entry.moment s)).state)
 
-abbrev pub frames_from : ℕ → Switch → List Entry → Frames
+-- by entries, one after another
+abbrev pub frames_from : ℕ → Switch → List Entry → List Text
 frames_from conn s [] = []
 frames_from conn s (entry ∷ entries) = given_by conn s entry ++ frames_from conn (step s entry).state entries
 
 -- ---- what is handed out
 
-abbrev pub handed_in : ℕ → Act → Switch → Frames
+-- by an act: a Take hands out the first frame that waits
+abbrev pub handed_in : ℕ → Act → Switch → List Text
 handed_in conn (Take taker) s = if taker == conn then take 1 (waiting_for s conn) else []
 handed_in conn _ s = []
 
-abbrev pub handed_from : ℕ → Switch → List Entry → Frames
+-- by entries, one after another
+abbrev pub handed_from : ℕ → Switch → List Entry → List Text
 handed_from conn s [] = []
 handed_from conn s (entry ∷ entries) = handed_in conn entry.act s ++ handed_from conn (step s entry).state entries
 
 -- ---- commands
 
+-- the block of a command of this connection
 abbrev pub command_in : ℕ → Act → List Text
 command_in conn (Command giver block) = if giver == conn then block ∷ [] else []
 command_in conn _ = []

@@ -1,7 +1,7 @@
 -- What the laws of runs speak of: what entries make of a switch that was configured so.
 use Rattle.std.specs.Prelude.{ℕ, ◌≤◌, List, [], ◌∷◌, ◌++◌}
 use Rattle.fs_doc.specs.Reading.{Configuration}
-use Rattle.fs_state.specs.Queues.{Frames}
+use Rattle.fs_text.specs.Texts.{Text}
 use Rattle.fs_state.specs.Switch.{Switch, empty}
 use Rattle.fs_machine.specs.declared.entry.Entry.{Entry}
 use Rattle.fs_machine.specs.declared.entry.Act.TheVariants.{Close}
@@ -22,11 +22,11 @@ abbrev pub state_after : Configuration → List Entry → Switch
 state_after config entries = run_from (empty config) entries
 
 -- the frames that the entries give a connection
-abbrev pub given_to : ℕ → Configuration → List Entry → Frames
+abbrev pub given_to : ℕ → Configuration → List Entry → List Text
 given_to conn config entries = frames_from conn (empty config) entries
 
 -- the frames that they hand out to it
-abbrev pub handed_to : ℕ → Configuration → List Entry → Frames
+abbrev pub handed_to : ℕ → Configuration → List Entry → List Text
 handed_to conn config entries = handed_from conn (empty config) entries
 
 -- the entries, and then the one by which a connection is closed with all sent

@@ -3,6 +3,7 @@ use Rattle.std.specs.Prelude.{ℕ, Bool, Option, None, Some, is_some, count_by}
 use Rattle.std.specs.Option.{option_and_then}
 use Rattle.fs_state.specs.declared.conn.Conn.{Conn}
 use Rattle.fs_state.specs.declared.conn.Parting.{Parting}
+use Rattle.fs_state.specs.Losses.{lost_in}
 use Rattle.fs_state.specs.Switch.{Switch, conn_of}
 
 abbrev pub parting_of : Conn → Option Parting
@@ -22,13 +23,9 @@ owed_to s conn = option_and_then owed_of (conn_of s conn)
 abbrev pub owes : Switch → ℕ → Bool
 owes s conn = is_some (owed_to s conn)
 
--- how many events a connection did not get that it asked for
-abbrev pub lost_of : Option Conn → ℕ
-lost_of None = 0
-lost_of (Some c) = c.lost
-
+-- how many events a connection did not get that it wanted, also where it is gone
 abbrev pub lost : Switch → ℕ → ℕ
-lost s conn = lost_of (conn_of s conn)
+lost s conn = lost_in conn s.losses
 
 -- how many slots hold a channel
 abbrev pub live : Switch → ℕ

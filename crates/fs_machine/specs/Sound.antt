@@ -1,5 +1,5 @@
 -- What holds of the channels, and of the legs of originations, in every switch that a run comes to.
-use Rattle.std.specs.Prelude.{◌≡◌, ◌≢◌, ℕ, true, Some, slice_get}
+use Rattle.std.specs.Prelude.{◌≡◌, ◌≢◌, ◌≤◌, ℕ, true, Some, slice_get}
 use Rattle.fs_text.specs.declared.causes.Cause.{Cause}
 use Rattle.fs_bridge.specs.declared.row.Row.{Row}
 use Rattle.fs_bridge.specs.Closure.{peer_in}
@@ -15,7 +15,9 @@ use Rattle.fs_orig.specs.declared.verdict.Verdict.TheVariants.{Failed}
 use Rattle.fs_orig.specs.Legs.{lives}
 use Rattle.fs_orig.specs.Meaning.{IsWithCauses, IsLastToDie}
 use Rattle.fs_orig.specs.Verdicts.{verdict_of}
-use Rattle.fs_state.specs.Switch.{Switch, chan_at, bridge_at, orig_of}
+use Rattle.fs_state.specs.Queues.{events_in}
+use Rattle.fs_state.specs.Posting.{most_events}
+use Rattle.fs_state.specs.Switch.{Switch, chan_at, bridge_at, orig_of, outgoing_for}
 use Rattle.fs_machine.specs.Owed.{AreOwed}
 
 -- a live channel stands in a slot, and the one in another slot is its loopback partner
@@ -118,6 +120,10 @@ pub record OwnersWait (s : Switch) : Type 0 where
   pub wait : (slot number : ℕ) → IsOwnedBy s slot number → Awaits s slot number
   pub own : (slot number : ℕ) (c : Chan) → chan_at s slot ≡ Some c → awaited_by c ≡ Some number → IsOwnedBy s slot number
 
+-- so many events wait for a connection at most
+pub record EventsAreFew (s : Switch) : Type 0 where
+  pub each : (conn : ℕ) → events_in (outgoing_for s conn) ≤ most_events
+
 -- what holds of the state of every machine
 pub record IsSound (s : Switch) : Type 0 where
   pub partners : PartnersAgree s
@@ -129,3 +135,4 @@ pub record IsSound (s : Switch) : Type 0 where
   pub rows : RowsAgree s
   pub owners : OwnersWait s
   pub owed : AreOwed s
+  pub events : EventsAreFew s

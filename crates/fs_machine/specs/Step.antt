@@ -10,7 +10,9 @@ use Rattle.fs_state.specs.declared.conn.Conn.{Conn}
 use Rattle.fs_state.specs.declared.conn.Phase.{Phase}
 use Rattle.fs_state.specs.declared.conn.Phase.TheVariants as phase
 use Rattle.fs_state.specs.declared.conn.Parting.TheVariants as parting
+use Rattle.fs_filter.specs.Subscriptions.{nothing}
 use Rattle.fs_state.specs.Drawn as numbers
+use Rattle.fs_state.specs.Posting.{with_posts}
 use Rattle.fs_state.specs.Switch.{Switch, with_new_conn, without_conn, with_frame_taken, waiting_for, is_full_of_conns, with_gift}
 use Rattle.fs_state.specs.Switch.{at_moment, after_entry}
 use Rattle.fs_machine.specs.declared.entry.Entry.{Entry}
@@ -119,7 +121,7 @@ ComesTo acted state reply = acted ≡ record { state = state; reply = reply }
 
 -- a connection that has come
 abbrev pub new_conn : Conn
-new_conn = record { phase = phase.Fresh; owed = None; parting = None; lost = 0 }
+new_conn = record { phase = phase.Fresh; owed = None; parting = None; subs = nothing }
 
 abbrev pub arrived : Switch → Acted
 arrived s = record {
@@ -146,7 +148,8 @@ act_done (Close conn how) s = record { state = after_close how conn s; reply = r
 act_done (Work slot) s = record { state = after_work slot s; reply = reply.Worked }
 act_done (Job number) s = record { state = job_done number s; reply = reply.Worked }
 
--- the state behind an entry, and its reply; defined also for what is refused
+-- the state behind an entry, and its reply: its act is done, and its events are posted; defined also for what is refused
 unfoldable pub step : Switch → Entry → Acted
 step s entry =
-    let t = act_done entry.act (at_moment entry.moment s) in record { state = after_entry (cost_of entry.act) t.state; reply = t.reply }
+    let t = act_done entry.act (at_moment entry.moment s) in
+    record { state = after_entry (cost_of entry.act) (with_posts s t.state); reply = t.reply }

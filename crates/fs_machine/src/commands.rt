@@ -30,6 +30,7 @@ pub(crate) fn do_command(
         (_, Command::Exit) => begin_ending(draft, conn, Parting::Exit, b"+OK bye"),
         (Phase::Fresh, Command::Auth { password }) => authenticate(draft, conn, password),
         (Phase::Ready, Command::Api { text }) => respond(draft, conn, text),
+        (Phase::Ready, command) => do_asking(draft, conn, command),
         _ => refuse(draft, conn),
     }
 }
@@ -47,7 +48,7 @@ fn give_reply(draft: &mut Draft<'_>, conn: u32, text: &[u8]) -> Result<(), Memor
     ensures { Brings result draft.old draft.new (spec.with_reply conn text.now (drafted draft.old)) }
 {
     let frame = reply(draft.alloc(), text, &[])?;
-    draft.give(conn, frame)
+    draft.answer_command(conn, frame)
 }
 
 // Begins the end of a connection, with a last reply and the notice.
@@ -100,5 +101,5 @@ fn give_answer(draft: &mut Draft<'_>, conn: u32, answer: &[u8]) -> Result<(), Me
     ensures { Brings result draft.old draft.new (spec.with_response_of conn (Some answer.now) (drafted draft.old)) }
 {
     let frame = api_reply(draft.alloc(), answer)?;
-    draft.give(conn, frame)
+    draft.answer_command(conn, frame)
 }

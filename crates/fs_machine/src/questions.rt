@@ -6,7 +6,7 @@ ghost use Rattle.fs_state.specs.Switch.{chan_at, waiting_for, at_moment};
 ghost use Rattle.fs_machine.specs.declared.due.DueActor.TheVariants as actor;
 ghost use Rattle.fs_machine.specs.Connections as connections;
 ghost use Rattle.fs_machine.specs.Due as due;
-ghost use Rattle.fs_machine.specs.Events.{happened, events_of, CountsEvents, CountsHangups};
+ghost use Rattle.fs_machine.specs.Events.{happened, events_of, CountsAll, CountsEvents, CountsHangups};
 ghost use Rattle.fs_machine.specs.Questions as spec;
 ghost use Rattle.fs_machine.specs.Runs.{state_of};
 ghost use Rattle.fs_machine.specs.Step.{reads};
@@ -99,6 +99,7 @@ impl Machine {
     #[tactic(auto, using(crate::proofs::EventLemmas::counts_events, crate::proofs::EventLemmas::counts_causes))]
     pub fn counts(&self) -> &Counts
         ensures state { result.now ≡ (state_of self.now).counts }
+        ensures all { CountsAll result.now (events_of (happened self.now)) }
         ensures events { CountsEvents result.now (events_of (happened self.now)) }
         ensures hangups { CountsHangups result.now (events_of (happened self.now)) }
     {
@@ -136,14 +137,12 @@ impl Machine {
         }
     }
 
-    /// How many events a connection did not get that it asked for, because too many waited for it.
+    /// How many events a connection did not get that it wanted, because too many waited for it; also of one that is
+    /// gone.
     pub fn lost(&self, conn: u32) -> u64
         ensures { result ≡ spec.lost (state_of self.now) conn }
     {
-        match self.core.conn(conn) {
-            Some(there) => there.lost,
-            None => 0,
-        }
+        self.core.losses().of(conn)
     }
 
     /// How many frames wait for a connection.

@@ -11,13 +11,18 @@ use Rattle.fs_chan.specs.declared.chan.Chan.{Chan}
 use Rattle.fs_chan.specs.declared.peer.Peer.{Peer}
 use Rattle.fs_chan.specs.Bridging.{bridged}
 use Rattle.fs_state.specs.declared.event.Event.{Event}
+use Rattle.fs_state.specs.declared.event.Detail.TheVariants.{Bridge}
 use Rattle.fs_state.specs.Switch.{Switch, chan_at, bridge_at, next_bridge_number, with_bridge, with_event}
 use Rattle.fs_state.specs.Moves.{with_changed_chan}
 use Rattle.fs_state.specs.Hangups.{lives_at}
 
+-- the next bridge, of this kind and between these slots
+abbrev pub next_row : BridgeKind → ℕ → ℕ → Switch → Row
+next_row kind caller answerer s = record { number = next_bridge_number s; caller = caller; answerer = answerer; kind = kind }
+
 -- a bridge has begun
-abbrev pub bridge_event : ℕ → Event
-bridge_event number = record { name = ChannelBridge; bridge = number; cause = None }
+abbrev pub bridge_event : Row → Event
+bridge_event row = record { name = ChannelBridge; slot = row.caller; detail = Bridge row }
 
 -- two slots can be joined: they differ, their channels are live, and neither is in a bridge
 abbrev pub can_join : ℕ → ℕ → Switch → Bool
@@ -40,7 +45,7 @@ with_peer slot other s = with_peer_from slot other (chan_at s other) s
 -- two channels are joined, the first as caller: there is a bridge, and each names the other
 abbrev pub joined_as : BridgeKind → ℕ → ℕ → Switch → Switch
 joined_as kind caller answerer s =
-    with_event (bridge_event (next_bridge_number s))
+    with_event (bridge_event (next_row kind caller answerer s))
     (with_peer answerer caller (with_peer caller answerer (with_bridge caller answerer kind s)))
 
 -- they are, where they can be

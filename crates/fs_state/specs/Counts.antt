@@ -6,9 +6,12 @@ use Rattle.fs_text.specs.Cause.{cause_number}
 use Rattle.fs_text.specs.declared.causes.Cause.{Cause}
 use Rattle.fs_text.specs.declared.event_names.EventName.{EventName}
 use Rattle.fs_state.specs.declared.event.Event.{Event}
+use Rattle.fs_state.specs.declared.event.Detail.{Detail}
+use Rattle.fs_state.specs.declared.event.Detail.TheVariants.{Hangup}
 
--- the counts by the numbers of event names, and of causes
+-- the counts of all events, of those by the numbers of their names, and of hangups by those of their causes
 pub record Tallies : Type 0 where
+  pub all : ℕ
   pub events : List ℕ
   pub hangups : List ℕ
 
@@ -17,7 +20,7 @@ unfoldable pub zeros : ℕ → List ℕ
 zeros count = replicate count 0
 
 abbrev pub no_tallies : Tallies
-no_tallies = record { events = zeros 16; hangups = zeros 606 }
+no_tallies = record { all = 0; events = zeros 16; hangups = zeros 606 }
 
 -- the count at a number
 abbrev pub counted_at : List ℕ → ℕ → ℕ
@@ -31,10 +34,18 @@ abbrev pub with_hangup_counted : Option Cause → List ℕ → List ℕ
 with_hangup_counted None hangups = hangups
 with_hangup_counted (Some cause) hangups = raised_at (cause_number cause) hangups
 
+-- why a channel was hung up, where an event tells of that
+abbrev pub hangup_in : Detail → Option Cause
+hangup_in (Hangup cause) = Some cause
+hangup_in _ = None
+
 -- with one more event
 abbrev pub with_event_counted : Event → Tallies → Tallies
-with_event_counted event t =
-    record { events = raised_at (event_number event.name) t.events; hangups = with_hangup_counted event.cause t.hangups }
+with_event_counted event t = record {
+  all = min (t.all + 1) (2 ^ 64 - 1);
+  events = raised_at (event_number event.name) t.events;
+  hangups = with_hangup_counted (hangup_in event.detail) t.hangups;
+}
 
 -- with these events, one after another
 abbrev pub with_events_counted : List Event → Tallies → Tallies
@@ -56,4 +67,4 @@ events_named name events = min (count_by (is_named name) events) (2 ^ 64 - 1)
 
 -- how many tell of a hangup with a cause, as far as a count goes
 abbrev pub hangups_for : Cause → List Event → ℕ
-hangups_for cause events = min (count_by (λ event. is_cause cause event.cause) events) (2 ^ 64 - 1)
+hangups_for cause events = min (count_by (λ event. is_cause cause (hangup_in event.detail)) events) (2 ^ 64 - 1)

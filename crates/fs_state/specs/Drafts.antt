@@ -1,5 +1,5 @@
 -- What a draft changes of a switch.
-use Rattle.std.specs.Prelude.{◌≡◌, ℕ, Option, Result, unwrap_or, OnOk}
+use Rattle.std.specs.Prelude.{◌≡◌, ℕ, ◌++◌, Option, Result, unwrap_or, OnOk}
 use Rattle.fs_bridge.specs.Bridges.{BridgeRows}
 use Rattle.fs_chan.specs.declared.chan.Chan.{Chan}
 use Rattle.fs_places.specs.Sheets.{written}
@@ -20,7 +20,10 @@ after s d = record s {
   queues = requeued d.queue s.queues;
   drawn = d.drawn;
   moment = d.moment;
+  losses = unwrap_or d.losses s.losses;
   news = d.news;
+  answered = d.answered;
+  posted = d.posted;
   given = d.given;
 }
 
@@ -55,4 +58,4 @@ chan_taken_back d slot = taken_back (record { kept = d.base.channels; sheet = d.
 
 -- what is given has room in the queues
 pub record Fits (s : Switch) (d : Delta) : Type 0 where
-  pub room : HaveRoom (requeued d.queue s.queues) (frames_given d.given)
+  pub room : HaveRoom (requeued d.queue s.queues) (frames_given (d.answered ++ (d.posted ++ d.given)))

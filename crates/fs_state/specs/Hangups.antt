@@ -18,6 +18,7 @@ use Rattle.fs_chan.specs.Changes.{is_live, parked}
 use Rattle.fs_orig.specs.declared.orig.Orig.{Orig}
 use Rattle.fs_orig.specs.Legs.{living_slots}
 use Rattle.fs_state.specs.declared.event.Event.{Event}
+use Rattle.fs_state.specs.declared.event.Detail.TheVariants.{Unbridge}
 use Rattle.fs_state.specs.Switch.{Switch, chan_at, bridge_at, orig_of, without_bridge, with_event}
 use Rattle.fs_state.specs.Moves.{partner_at, with_changed_chan, after_move, after_completion, after_one_hangup}
 
@@ -80,9 +81,9 @@ Ended = Row × Cause
 abbrev pub after_ends : List Ended → Switch → Switch
 after_ends ended s = fold (λ t e. after_end e.0 e.1 t) s ended
 
--- a bridge has ended
-abbrev pub unbridge_event : Row → Event
-unbridge_event row = record { name = ChannelUnbridge; bridge = row.number; cause = None }
+-- a bridge has ended of a cause
+abbrev pub unbridge_event : Ended → Event
+unbridge_event e = record { name = ChannelUnbridge; slot = e.0.caller; detail = Unbridge e.0 e.1 }
 
 -- ---- who is hung up
 
@@ -93,7 +94,7 @@ is_leg_of slot e = has_leg slot e.0
 -- the end of a bridge is told, if there is one
 abbrev pub with_end_told : Option Ended → Switch → Switch
 with_end_told None s = s
-with_end_told (Some e) s = with_event (unbridge_event e.0) s
+with_end_told (Some e) s = with_event (unbridge_event e) s
 
 -- the bridges whose end the channel in a slot does not tell
 abbrev pub untold_by : ℕ → List Ended → List Ended

@@ -1,8 +1,10 @@
 pub mod Drawn
 pub mod Counts
+pub mod Losses
 pub mod Queues
 pub mod Switch
 pub mod Drafts
 pub mod Moves
 pub mod Hangups
 pub mod Bridging
+pub mod Posting

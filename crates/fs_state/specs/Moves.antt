@@ -19,11 +19,13 @@ use Rattle.fs_orig.specs.declared.orig.Owner.TheVariants as owner
 use Rattle.fs_orig.specs.Legs.{position_in}
 use Rattle.fs_orig.specs.Changes.{with_answer, with_death}
 use Rattle.fs_state.specs.declared.event.Event.{Event}
+use Rattle.fs_state.specs.declared.event.Detail.{Detail}
+use Rattle.fs_state.specs.declared.event.Detail.TheVariants as detail
 use Rattle.fs_state.specs.Switch.{Switch, chan_at, with_chan, orig_of, with_orig, without_orig, with_event}
 
--- an event that tells of no bridge and of no cause
-abbrev pub plain_event : EventName → Event
-plain_event name = record { name = name; bridge = 0; cause = None }
+-- an event of the channel in a slot that tells nothing beside it
+abbrev pub plain_event : EventName → ℕ → Event
+plain_event name slot = record { name = name; slot = slot; detail = detail.Plain }
 
 -- the channel in a slot is changed; where there is none nothing changes
 abbrev pub with_changed_chan_from : (Chan → Chan) → ℕ → Option Chan → Switch → Switch
@@ -35,25 +37,25 @@ with_changed_chan change slot s = with_changed_chan_from change slot (chan_at s 
 
 -- ---- changes of state
 
--- a channel left a state
-abbrev pub with_leaving_event : State → Switch → Switch
-with_leaving_event CsPark s = with_event (plain_event ChannelUnpark) s
-with_leaving_event _ s = s
+-- the channel in a slot left a state
+abbrev pub with_leaving_event : State → ℕ → Switch → Switch
+with_leaving_event CsPark slot s = with_event (plain_event ChannelUnpark slot) s
+with_leaving_event _ slot s = s
 
--- a channel came to a state
-abbrev pub with_coming_event : State → Switch → Switch
-with_coming_event CsPark s = with_event (plain_event ChannelPark) s
-with_coming_event _ s = s
+-- it came to a state
+abbrev pub with_coming_event : State → ℕ → Switch → Switch
+with_coming_event CsPark slot s = with_event (plain_event ChannelPark slot) s
+with_coming_event _ slot s = s
 
--- a channel went from one state to another: nothing where it stayed
-abbrev pub with_state_events : State → State → Switch → Switch
-with_state_events old new s =
+-- it went from one state to another: nothing where it stayed
+abbrev pub with_state_events : State → State → ℕ → Switch → Switch
+with_state_events old new slot s =
     if state_number old == state_number new then s
-    else with_event (plain_event ChannelState) (with_coming_event new (with_leaving_event old s))
+    else with_event (plain_event ChannelState slot) (with_coming_event new slot (with_leaving_event old slot s))
 
 -- a channel that came from a state stands in a slot, and tells of that
 abbrev pub put_moved : ℕ → State → Chan → Switch → Switch
-put_moved slot old c s = with_state_events old c.state (with_chan slot (Some c) s)
+put_moved slot old c s = with_state_events old c.state slot (with_chan slot (Some c) s)
 
 -- the channel in a slot is changed, and tells of its change of state; where there is none nothing changes
 abbrev pub after_move_from : (Chan → Chan) → ℕ → Option Chan → Switch → Switch
@@ -65,7 +67,7 @@ after_move change slot s = after_move_from change slot (chan_at s slot) s
 
 -- a channel begins
 abbrev pub after_begin : ℕ → Switch → Switch
-after_begin slot s = after_move (in_state CsInit) slot (with_event (plain_event ChannelCreate) s)
+after_begin slot s = after_move (in_state CsInit) slot (with_event (plain_event ChannelCreate slot) s)
 
 -- ---- applications
 
@@ -73,13 +75,30 @@ after_begin slot s = after_move (in_state CsInit) slot (with_event (plain_event 
 abbrev pub with_running : Action → Chan → Chan
 with_running action c = record c { running = Some action }
 
+-- the application that begins or is over, if there is one
+abbrev pub application_told : Option Action → Detail
+application_told None = detail.Plain
+application_told (Some action) = detail.Application action
+
+-- an application begins, or is over
+abbrev pub application_event : EventName → Option Action → ℕ → Event
+application_event name action slot = record { name = name; slot = slot; detail = application_told action }
+
+-- what a channel runs
+abbrev pub running_of : Chan → Option Action
+running_of c = c.running
+
+abbrev pub running_at : ℕ → Switch → Option Action
+running_at slot s = option_and_then running_of (chan_at s slot)
+
 -- an application begins
 abbrev pub run_on : Action → ℕ → Switch → Switch
-run_on action slot s = with_event (plain_event ChannelExecute) (after_move (with_running action) slot s)
+run_on action slot s = with_event (application_event ChannelExecute (Some action) slot) (after_move (with_running action) slot s)
 
 -- the running application is over
 abbrev pub after_completion : ℕ → Switch → Switch
-after_completion slot s = with_event (plain_event ChannelExecuteComplete) (after_move at_rest slot s)
+after_completion slot s =
+    with_event (application_event ChannelExecuteComplete (running_at slot s) slot) (after_move at_rest slot s)
 
 -- ---- originations
 
@@ -135,7 +154,7 @@ after_answer_from slot None s = s
 after_answer_from slot (Some c) s =
     if is_none c.answered
     then its_leg_changed (λ position. with_answer position s.entries) slot c.leg_of
-    (with_event (plain_event ChannelAnswer) (with_chan slot (Some (with_answer_place s.entries c)) s))
+    (with_event (plain_event ChannelAnswer slot) (with_chan slot (Some (with_answer_place s.entries c)) s))
     else s
 
 abbrev pub after_one_answer : ℕ → Switch → Switch
@@ -159,9 +178,13 @@ after_answer slot s = for_slot after_one_answer (partner_at s slot) (after_one_a
 
 -- ---- the end of channels
 
--- why a channel is hung up
-abbrev pub hangup_event : Cause → Event
-hangup_event cause = record { name = ChannelHangup; bridge = 0; cause = Some cause }
+-- why the channel in a slot is hung up
+abbrev pub hangup_event : Cause → ℕ → Event
+hangup_event cause slot = record { name = ChannelHangup; slot = slot; detail = detail.Hangup cause }
+
+-- how the call of the channel in a slot was
+abbrev pub report_event : ℕ → Event
+report_event slot = record { name = ChannelHangupComplete; slot = slot; detail = detail.Report }
 
 -- an origination is given up, if the channel in a slot owns it
 abbrev pub given_up_by : ℕ → ℕ → Option Orig → Switch → Switch
@@ -178,7 +201,7 @@ abbrev pub after_hangup_from : Cause → ℕ → Option Chan → Switch → Swit
 after_hangup_from cause slot None s = s
 after_hangup_from cause slot (Some c) s =
     if is_live c then orig_given_up slot (awaited_by c) (its_leg_changed (λ position. with_death position s.entries cause) slot c.leg_of
-    (with_state_events c.state CsHangup (with_event (hangup_event cause) (with_chan slot (Some (hung_up cause c)) s))))
+    (with_state_events c.state CsHangup slot (with_event (hangup_event cause slot) (with_chan slot (Some (hung_up cause c)) s))))
     else s
 
 abbrev pub after_one_hangup : Cause → ℕ → Switch → Switch
@@ -186,8 +209,8 @@ after_one_hangup cause slot s = after_hangup_from cause slot (chan_at s slot) s
 
 -- the end of a call is told
 abbrev pub after_report : ℕ → Switch → Switch
-after_report slot s = after_move (in_state CsReporting) slot (with_event (plain_event ChannelHangupComplete) s)
+after_report slot s = after_move (in_state CsReporting) slot (with_event (report_event slot) s)
 
 -- a channel is gone, and its slot is free
 abbrev pub after_destroy : ℕ → Switch → Switch
-after_destroy slot s = with_event (plain_event ChannelDestroy) (with_event (plain_event ChannelState) (with_chan slot None s))
+after_destroy slot s = with_event (plain_event ChannelDestroy slot) (with_event (plain_event ChannelState slot) (with_chan slot None s))

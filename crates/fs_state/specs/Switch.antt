@@ -23,10 +23,13 @@ use Rattle.fs_state.specs.declared.job.Job.{Job}
 use Rattle.fs_state.specs.Drawn as numbers
 use Rattle.fs_state.specs.Drawn.{none_drawn}
 use Rattle.fs_state.specs.Counts.{Tallies, no_tallies, with_events_counted}
-use Rattle.fs_state.specs.Queues.{Frames, no_queues, queue_at, without_first_frame, without_frames, delivered}
+use Rattle.fs_state.specs.declared.outgoing.Outgoing.TheVariants.{Reply}
+use Rattle.fs_state.specs.Losses.{Losses, no_losses}
+use Rattle.fs_state.specs.Queues.{Frames, texts_of, no_queues, queue_at, without_first_frame, without_frames, delivered}
 
 -- A switch between entries, and while an entry is done. Channels stand at their slots, from 1 on; all else has a number. What happens in
--- the entry in hand, and what it gives to connections, is kept until the entry is over.
+-- the entry in hand, and what it gives to connections, is kept until the entry is over: the reply to its own command, then what it posts
+-- of its events, then all else.
 pub record Switch : Type 0 where
   -- what it was configured by
   pub config : Configuration
@@ -46,8 +49,11 @@ pub record Switch : Type 0 where
   -- the place of the entry by which it came to its end, once one did
   pub stopping : Option ℕ
   pub counts : Tallies
+  pub losses : Losses
   -- the entry in hand
   pub news : List Event
+  pub answered : List Gift
+  pub posted : List Gift
   pub given : List Gift
 
 -- a switch to which nothing has happened
@@ -67,7 +73,10 @@ empty config = record {
   cost = 0;
   stopping = None;
   counts = no_tallies;
+  losses = no_losses;
   news = [];
+  answered = [];
+  posted = [];
   given = [];
 }
 
@@ -186,8 +195,12 @@ waiting_at queues None = []
 waiting_at queues (Some place) = queue_at queues place
 
 -- the frames that wait for a connection
-abbrev pub waiting_for : Switch → ℕ → Frames
-waiting_for s number = waiting_at s.queues (place_of s.conns number)
+abbrev pub outgoing_for : Switch → ℕ → Frames
+outgoing_for s number = waiting_at s.queues (place_of s.conns number)
+
+-- their texts
+abbrev pub waiting_for : Switch → ℕ → List Text
+waiting_for s number = texts_of (outgoing_for s number)
 
 -- what a change does to the frames at a place, if it is one
 abbrev pub changed_at : (ℕ → List Frames → List Frames) → Option ℕ → List Frames → List Frames
@@ -213,17 +226,31 @@ at_moment now s = record s { moment = max s.moment now }
 abbrev pub with_event : Event → Switch → Switch
 with_event event s = record s { news = s.news ++ event ∷ [] }
 
--- a frame is given to a connection
-abbrev pub with_gift : ℕ → List ℕ → Switch → Switch
-with_gift conn frame s = record s { given = s.given ++ record { conn = conn; frames = frame ∷ [] } ∷ [] }
+-- one frame for a connection that is no event
+abbrev pub gift_of : ℕ → Text → Gift
+gift_of conn text = record { conn = conn; frames = Reply text ∷ [] }
+
+-- a frame is given to a connection, behind the events of the entry
+abbrev pub with_gift : ℕ → Text → Switch → Switch
+with_gift conn text s = record s { given = s.given ++ gift_of conn text ∷ [] }
+
+-- a command is answered at once, before the events of the entry
+abbrev pub with_answer : ℕ → Text → Switch → Switch
+with_answer conn text s = record s { answered = s.answered ++ gift_of conn text ∷ [] }
+
+-- all that the entry gives, in order
+abbrev pub all_given : Switch → List Gift
+all_given s = s.answered ++ (s.posted ++ s.given)
 
 -- the entry is over, at this cost; a count stands still at 2^64 - 1
 abbrev pub after_entry : ℕ → Switch → Switch
 after_entry cost s = record s {
-  queues = delivered s.conns s.given s.queues;
+  queues = delivered s.conns (all_given s) s.queues;
   entries = min (s.entries + 1) (2 ^ 64 - 1);
   cost = min (s.cost + cost) (2 ^ 64 - 1);
   counts = with_events_counted s.news s.counts;
   news = [];
+  answered = [];
+  posted = [];
   given = [];
 }

@@ -6,7 +6,7 @@ ghost use Rattle.fs_state.specs.Switch.{with_event};
 ghost use Rattle.fs_state.specs.Moves as spec;
 
 use crate::draft::Draft;
-use crate::event::Event;
+use crate::event::{Detail, Event};
 use fs_orig::{Orig, Owner};
 use fs_text::{Cause, EventName, Memory, State};
 
@@ -42,7 +42,7 @@ impl<'a> Draft<'a> {
         }
         let leg_of = chan.leg_of;
         self.set_answered(slot)?;
-        self.tell_of(EventName::ChannelAnswer)?;
+        self.tell_of(EventName::ChannelAnswer, slot)?;
         self.answer_leg(slot, leg_of)
     }
 
@@ -83,8 +83,8 @@ impl<'a> Draft<'a> {
         }
         let (old, leg_of, awaited) = (chan.state, chan.leg_of, chan.awaited());
         self.set_hung(slot, cause)?;
-        self.tell_hangup(cause)?;
-        self.tell_state(old, State::CsHangup)?;
+        self.tell_hangup(slot, cause)?;
+        self.tell_state(slot, old, State::CsHangup)?;
         self.end_leg(slot, leg_of, cause)?;
         self.give_up_orig(slot, awaited)
     }
@@ -100,14 +100,14 @@ impl<'a> Draft<'a> {
         self.put_chan(slot, Some(chan))
     }
 
-    /// A channel was hung up with a cause.
-    fn tell_hangup(&mut self, cause: Cause) -> Result<(), Memory>
-        ensures { Brings result self.old self.new (with_event (spec.hangup_event cause) (drafted self.old)) }
+    /// The channel in a slot was hung up with a cause.
+    fn tell_hangup(&mut self, slot: u16, cause: Cause) -> Result<(), Memory>
+        ensures { Brings result self.old self.new (with_event (spec.hangup_event cause slot) (drafted self.old)) }
     {
         self.tell(Event {
             name: EventName::ChannelHangup,
-            bridge: 0,
-            cause: Some(cause),
+            slot,
+            detail: Detail::Hangup(cause),
         })
     }
 
@@ -147,8 +147,8 @@ impl<'a> Draft<'a> {
         ensures { Brings result self.old self.new (spec.after_destroy slot (drafted self.old)) }
     {
         self.put_chan(slot, None)?;
-        self.tell_of(EventName::ChannelState)?;
-        self.tell_of(EventName::ChannelDestroy)
+        self.tell_of(EventName::ChannelState, slot)?;
+        self.tell_of(EventName::ChannelDestroy, slot)
     }
 }
 

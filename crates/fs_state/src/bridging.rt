@@ -6,8 +6,8 @@ ghost use Rattle.fs_state.specs.Moves.{with_changed_chan};
 ghost use Rattle.fs_state.specs.Bridging as spec;
 
 use crate::draft::Draft;
-use crate::event::Event;
-use fs_bridge::BridgeKind;
+use crate::event::{Detail, Event};
+use fs_bridge::{BridgeKind, Row};
 use fs_chan::Peer;
 use fs_text::{EventName, Memory};
 
@@ -42,8 +42,13 @@ impl<'a> Draft<'a> {
         self.set_peer(answerer, caller)?;
         self.tell(Event {
             name: EventName::ChannelBridge,
-            bridge: number,
-            cause: None,
+            slot: caller,
+            detail: Detail::Bridge(Row {
+                number,
+                caller,
+                answerer,
+                kind,
+            }),
         })
     }
 

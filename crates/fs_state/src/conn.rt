@@ -1,4 +1,8 @@
 //! Connections.
+
+use fs_filter::SharedSubs;
+use fs_text::Memory;
+
 /// How far a connection has come.
 #[derive(Clone, Copy, Debug, PartialEq, Eq)]
 pub enum Phase {
@@ -24,13 +28,29 @@ pub enum Parting {
 }
 
 /// A connection of the event socket.
-#[derive(Clone, Copy, Debug, PartialEq, Eq)]
+#[derive(Drop)]
 pub struct Conn {
     pub phase: Phase,
     /// The place of the command to which it is still owed the reply.
     pub owed: Option<u64>,
     /// Why it is ending, where it is.
     pub parting: Option<Parting>,
-    /// How many events that it asked for it did not get, because too many waited for it.
-    pub lost: u64,
+    /// The events that it subscribed, and its filters.
+    pub subs: SharedSubs,
+}
+
+impl Conn {
+    ghost use Rattle.std.specs.Prelude.{◌≡◌, IfOk};
+
+    /// The same connection once more, in constant time.
+    pub fn copy(&self) -> Result<Conn, Memory>
+        ensures { IfOk result (λ conn. conn ≡ self.now) }
+    {
+        Ok(Conn {
+            phase: self.phase,
+            owed: self.owed,
+            parting: self.parting,
+            subs: self.subs.copy()?,
+        })
+    }
 }

@@ -12,6 +12,7 @@ use std::marker::Model;
 /// How many events there were of each name, and channels that were hung up with each cause, by their numbers.
 #[derive(Drop)]
 pub struct Counts {
+    all: u64,
     events: Vec<u64>,
     hangups: Vec<u64>,
 }
@@ -22,7 +23,7 @@ impl Model for Counts {
 
     ghost Value = { Tallies };
 
-    ghost view = { λ c. record { events = c.events.items; hangups = c.hangups.items } };
+    ghost view = { λ c. record { all = c.all; events = c.events.items; hangups = c.hangups.items } };
 }
 
 /// One more than the greatest number of an event name, and of a cause.
@@ -36,9 +37,17 @@ impl Counts {
         ensures { IfOk result (λ counts. counts ≡ spec.no_tallies) }
     {
         Ok(Counts {
+            all: 0,
             events: zeros(alloc, EVENTS)?,
             hangups: zeros(alloc, CAUSES)?,
         })
+    }
+
+    /// How many events there were; at 2^64 - 1 the count stands still.
+    pub fn all(&self) -> u64
+        ensures { result ≡ self.now.all }
+    {
+        self.all
     }
 
     /// How many events of a name there were; at 2^64 - 1 the count stands still.
@@ -56,11 +65,12 @@ impl Counts {
     }
 
     /// One more event.
-    pub fn count(&mut self, event: Event)
-        ensures { self.new ≡ spec.with_event_counted event self.old }
+    pub fn count(&mut self, event: &Event)
+        ensures { self.new ≡ spec.with_event_counted event.now self.old }
     {
+        self.all = self.all.saturating_add(1);
         count_at(&mut self.events, event.name.number());
-        if let Some(cause) = event.cause {
+        if let Some(cause) = event.detail.hangup() {
             count_at(&mut self.hangups, cause.number());
         }
     }
@@ -70,7 +80,7 @@ impl Counts {
         ensures { self.new ≡ spec.with_events_counted events.now self.old }
     {
         for event in events {
-            self.count(*event);
+            self.count(event);
         }
     }
 }

@@ -7,6 +7,7 @@ use crate::drawn::Drawn;
 use crate::event::Events;
 use crate::gift::Gifts;
 use crate::job::Job;
+use crate::losses::Losses;
 use crate::switch::Core;
 use fs_bridge::Bridges;
 use fs_chan::Chan;
@@ -38,9 +39,22 @@ pub struct Delta {
     pub drawn: Drawn,
     /// The moment of the entry, in microseconds.
     pub moment: u64,
+    /// What connections have lost, where that changes.
+    pub losses: Option<Losses>,
     /// What happens in it.
     pub news: Events,
-    /// What it gives to connections.
+    /// The reply to its command.
+    pub answered: Gifts,
+    /// What it posts of its events.
+    pub posted: Gifts,
+    /// What else it gives to connections.
+    pub given: Gifts,
+}
+
+/// What an entry gives to connections, in order.
+pub(crate) struct Giving {
+    pub answered: Gifts,
+    pub posted: Gifts,
     pub given: Gifts,
 }
 
@@ -56,7 +70,10 @@ impl Drop for Delta {
             queue: _queue,
             drawn: _drawn,
             moment: _moment,
+            losses: _losses,
             news: _news,
+            answered: _answered,
+            posted: _posted,
             given: _given,
         } = self;
     }
@@ -65,9 +82,12 @@ impl Drop for Delta {
 impl Delta {
     /// Makes its changes of what is there, without memory, and gives back what happens and what is given.
     #[tactic(auto, using(fs_places::proofs::PlaceLemmas::written_length))]
-    pub(crate) fn write_into(self, core: &mut Core) -> (Events, Gifts)
-        ensures core { record core.new { news = self.news; given = self.given } ≡ after core.old self }
-        ensures entry { result ≡ (self.news, self.given) }
+    pub(crate) fn write_into(self, core: &mut Core) -> (Events, Giving)
+        ensures core { record core.new {
+            news = self.news; answered = self.answered; posted = self.posted; given = self.given }
+            ≡ after core.old self }
+        ensures news { result.0 ≡ self.news }
+        ensures entry { result.1 ≡ record { answered = self.answered; posted = self.posted; given = self.given } }
     {
         let Delta {
             globals,
@@ -79,7 +99,10 @@ impl Delta {
             queue,
             drawn,
             moment,
+            losses,
             news,
+            answered,
+            posted,
             given,
         } = self;
         core.take_globals(globals);
@@ -91,6 +114,14 @@ impl Delta {
         core.requeue(queue);
         core.drawn = drawn;
         core.moment = moment;
-        (news, given)
+        core.take_losses(losses);
+        (
+            news,
+            Giving {
+                answered,
+                posted,
+                given,
+            },
+        )
     }
 }

@@ -10,7 +10,9 @@ ghost use Rattle.fs_state.specs.Drawn as numbers;
 ghost use Rattle.fs_state.specs.Switch as spec;
 ghost use Rattle.fs_bridge.specs.Bridges.{BridgeRows};
 ghost use Rattle.fs_state.specs.Drafts.{Brings, after, drafted, chan_in, with_chan_in, chan_taken_back};
+ghost use Rattle.std.specs.Prelude.{◌-◌, ◌^◌, min};
 ghost use Rattle.fs_state.specs.Drafts.{with_bridges_in, Fits};
+ghost use Rattle.fs_state.specs.Queues.{frames_given};
 
 use crate::conn::Conn;
 use crate::delta::{Delta, QueueChange};
@@ -18,6 +20,8 @@ use crate::drawn::Drawn;
 use crate::event::{Event, Events};
 use crate::gift::Gifts;
 use crate::job::Job;
+use crate::losses::Losses;
+use crate::outgoing::Outgoing;
 use crate::switch::Core;
 use fs_bridge::{BridgeKind, Bridges, Row};
 use fs_chan::Chan;
@@ -33,7 +37,7 @@ use std::marker::Model;
 ///
 /// Where memory is wanting a draft may have part of a change: it is to be dropped then.
 pub struct Draft<'a> {
-    core: &'a Core,
+    pub(crate) core: &'a Core,
     globals: Option<Boxed<Vars>>,
     channels: Overlay<'a, Boxed<Chan>>,
     bridges: Option<Bridges>,
@@ -43,7 +47,10 @@ pub struct Draft<'a> {
     queue: QueueChange,
     drawn: Drawn,
     moment: u64,
-    news: Events,
+    pub(crate) losses: Option<Losses>,
+    pub(crate) news: Events,
+    answered: Gifts,
+    pub(crate) posted: Gifts,
     given: Gifts,
 }
 
@@ -60,7 +67,10 @@ impl Drop for Draft<'_> {
             queue: _queue,
             drawn: _drawn,
             moment: _moment,
+            losses: _losses,
             news: _news,
+            answered: _answered,
+            posted: _posted,
             given: _given,
         } = self;
     }
@@ -84,7 +94,10 @@ impl<'a> Model for Draft<'a> {
         queue = d.queue;
         drawn = d.drawn;
         moment = d.moment;
+        losses = d.losses;
         news = d.news;
+        answered = d.answered;
+        posted = d.posted;
         given = d.given;
       };
     } };
@@ -113,7 +126,10 @@ impl<'a> Draft<'a> {
             queue: QueueChange::Unchanged,
             drawn: core.drawn,
             moment: core.moment,
+            losses: None,
             news: Events::new(alloc),
+            answered: Gifts::new(alloc),
+            posted: Gifts::new(alloc),
             given: Gifts::new(alloc),
         }
     }
@@ -173,7 +189,14 @@ impl<'a> Draft<'a> {
         self.news.push(event)
     }
 
-    /// A frame is given to the connection of a number.
+    /// A command of the connection of a number is answered at once, before the events of the entry.
+    pub fn answer_command(&mut self, conn: u32, frame: Txt) -> Result<(), Memory>
+        ensures { Brings result self.old self.new (spec.with_answer conn frame (drafted self.old)) }
+    {
+        self.answered.push(conn, frame)
+    }
+
+    /// A frame is given to the connection of a number, behind the events of the entry.
     pub fn give(&mut self, conn: u32, frame: Txt) -> Result<(), Memory>
         ensures { Brings result self.old self.new (spec.with_gift conn frame (drafted self.old)) }
     {
@@ -536,7 +559,7 @@ impl<'a> Draft<'a> {
     {
         let core = self.core;
         let place = self.conns.place_of(u64::from(number))?;
-        core.queues.first(place)
+        Some(core.queues.first(place)?.text())
     }
 
     /// The frame that waits first for the connection of a number is taken, if there is one.
@@ -570,7 +593,7 @@ impl<'a> Draft<'a> {
         ensures fits { IfOk result (λ delta. Fits self.entry.base delta) }
     {
         let core = self.core;
-        if !core.queues.have_room(self.given.frames()) {
+        if !core.queues.have_room(self.frames_given()) {
             return Err(Memory);
         }
         let Draft {
@@ -584,7 +607,10 @@ impl<'a> Draft<'a> {
             queue,
             drawn,
             moment,
+            losses,
             news,
+            answered,
+            posted,
             given,
         } = self;
         Ok(Delta {
@@ -597,8 +623,19 @@ impl<'a> Draft<'a> {
             queue,
             drawn,
             moment,
+            losses,
             news,
+            answered,
+            posted,
             given,
         })
+    }
+
+    /// How many frames are given, as far as 64 bits go.
+    fn frames_given(&self) -> usize
+        ensures { result ≡ min (frames_given (spec.all_given (drafted self.now))) (2 ^ 64 - 1) }
+    {
+        let posted = self.posted.frames().saturating_add(self.given.frames());
+        self.answered.frames().saturating_add(posted)
     }
 }

@@ -1,18 +1,60 @@
 //! What happens in an entry.
 ghost use Rattle.std.specs.Prelude.{◌≡◌, [], ◌∷◌, ◌++◌, OnOk, OnErr};
 
+use fs_bridge::Row;
+use fs_chan::Action;
 use fs_text::{Cause, EventName, Memory};
 use std::alloc::Global;
 use std::marker::Model;
 
-/// Something that happened in an entry.
-#[derive(Clone, Copy, Debug, PartialEq, Eq)]
+/// Something that happened in an entry, told in short: what the entry leaves says the rest.
 pub struct Event {
     pub name: EventName,
-    /// The number of the bridge that it tells of, or 0.
-    pub bridge: u64,
-    /// Why a channel was hung up, where it tells of that.
-    pub cause: Option<Cause>,
+    /// The slot of the channel that it tells of, which is the caller's where it tells of a bridge.
+    pub slot: u16,
+    pub detail: Detail,
+}
+
+impl Drop for Event {
+    fn drop(self) {
+        let Event {
+            name: _name,
+            slot: _slot,
+            detail: _detail,
+        } = self;
+    }
+}
+
+/// What an event tells beside its channel.
+#[derive(Drop)]
+pub enum Detail {
+    /// Nothing.
+    Plain,
+    /// The application that begins or is over.
+    Application(Action),
+    /// The bridge that begins.
+    Bridge(Row),
+    /// The bridge that has ended, and of what.
+    Unbridge(Row, Cause),
+    /// Why the channel is hung up.
+    Hangup(Cause),
+    /// How the call was: why the channel was hung up, and its variables.
+    Report,
+}
+
+impl Detail {
+    ghost use Rattle.std.specs.Prelude.{Option};
+    ghost use Rattle.fs_state.specs.Counts.{hangup_in};
+
+    /// Why a channel was hung up, where that is told.
+    pub fn hangup(&self) -> Option<Cause>
+        ensures { result ≡ hangup_in self.now }
+    {
+        match self {
+            Detail::Hangup(cause) => Some(*cause),
+            _ => None,
+        }
+    }
 }
 
 /// The events of an entry, in order. A contract sees them as that list.

@@ -1,10 +1,11 @@
 //! What an entry gives to connections.
 ghost use Rattle.std.specs.Prelude.{◌≡◌, ◌-◌, ◌^◌, min, [], ◌∷◌, ◌++◌, OnOk, OnErr};
 ghost use Rattle.fs_state.specs.Queues.{behind_first, frames_given};
+ghost use Rattle.fs_state.specs.Switch.{gift_of};
 
+use crate::outgoing::{Frames, Outgoing};
 use fs_text::{Memory, Txt};
 use std::alloc::Global;
-use std::collections::LinkedList;
 use std::marker::Model;
 
 /// Frames that an entry gives to a connection.
@@ -12,7 +13,7 @@ use std::marker::Model;
 pub struct Gift {
     /// The number of the connection.
     pub conn: u32,
-    pub frames: LinkedList<Txt>,
+    pub frames: Frames,
 }
 
 /// What an entry gives, in order. A contract sees it as that list. Only what comes behind the first takes memory.
@@ -48,14 +49,21 @@ impl Gifts {
         }
     }
 
-    /// A frame is given, too.
-    pub fn push(&mut self, conn: u32, frame: Txt) -> Result<(), Memory>
-        ensures ok { OnOk result (self.new ≡ self.old ++ record { conn = conn; frames = frame ∷ [] } ∷ []) }
+    /// A frame that is no event is given, too.
+    pub fn push(&mut self, conn: u32, text: Txt) -> Result<(), Memory>
+        ensures ok { OnOk result (self.new ≡ self.old ++ gift_of conn text ∷ []) }
         ensures err { OnErr result (self.new ≡ self.old) }
     {
-        let mut frames = LinkedList::new(self.alloc);
-        frames.push_back(frame)?;
-        let gift = Gift { conn, frames };
+        let mut frames = Frames::new(self.alloc);
+        frames.push(Outgoing::Reply(text))?;
+        self.add(Gift { conn, frames })
+    }
+
+    /// So is this.
+    pub fn add(&mut self, gift: Gift) -> Result<(), Memory>
+        ensures ok { OnOk result (self.new ≡ self.old ++ gift ∷ []) }
+        ensures err { OnErr result (self.new ≡ self.old) }
+    {
         if self.first.is_none() {
             self.first = Some(gift);
             return Ok(());

@@ -8,7 +8,7 @@ ghost use Rattle.fs_state.specs.Moves.{with_changed_chan};
 ghost use Rattle.fs_state.specs.Hangups as spec;
 
 use crate::draft::Draft;
-use crate::event::Event;
+use crate::event::{Detail, Event};
 use fs_bridge::{After, Closure, Row, closure_of_hangup};
 use fs_text::{Cause, EventName, Memory};
 
@@ -139,8 +139,8 @@ impl<'a> Draft<'a> {
         match end {
             Some(end) => self.tell(Event {
                 name: EventName::ChannelUnbridge,
-                bridge: end.0.number,
-                cause: None,
+                slot: end.0.caller,
+                detail: Detail::Unbridge(end.0, end.1),
             }),
             None => Ok(()),
         }

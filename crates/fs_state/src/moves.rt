@@ -7,53 +7,53 @@ ghost use Rattle.fs_state.specs.Switch.{with_event};
 ghost use Rattle.fs_state.specs.Moves as spec;
 
 use crate::draft::Draft;
-use crate::event::Event;
+use crate::event::{Detail, Event};
 use fs_chan::{Action, Chan, Target3};
 use fs_places::Boxed;
 use fs_text::{Cause, EventName, Memory, State};
 
 impl<'a> Draft<'a> {
-    /// Something happens that tells of no bridge and of no cause.
-    pub fn tell_of(&mut self, name: EventName) -> Result<(), Memory>
-        ensures { Brings result self.old self.new (with_event (spec.plain_event name) (drafted self.old)) }
+    /// Something happens to the channel in a slot, and nothing is told beside that.
+    pub fn tell_of(&mut self, name: EventName, slot: u16) -> Result<(), Memory>
+        ensures { Brings result self.old self.new (with_event (spec.plain_event name slot) (drafted self.old)) }
     {
         self.tell(Event {
             name,
-            bridge: 0,
-            cause: None,
+            slot,
+            detail: Detail::Plain,
         })
     }
 
     // ---- changes of state
 
-    /// A channel went from one state to another.
-    pub fn tell_state(&mut self, old: State, new: State) -> Result<(), Memory>
-        ensures { Brings result self.old self.new (spec.with_state_events old new (drafted self.old)) }
+    /// The channel in a slot went from one state to another.
+    pub fn tell_state(&mut self, slot: u16, old: State, new: State) -> Result<(), Memory>
+        ensures { Brings result self.old self.new (spec.with_state_events old new slot (drafted self.old)) }
     {
         if old.number() == new.number() {
             return Ok(());
         }
-        self.tell_left(old)?;
-        self.tell_come(new)?;
-        self.tell_of(EventName::ChannelState)
+        self.tell_left(slot, old)?;
+        self.tell_come(slot, new)?;
+        self.tell_of(EventName::ChannelState, slot)
     }
 
-    /// A channel left a state.
-    fn tell_left(&mut self, old: State) -> Result<(), Memory>
-        ensures { Brings result self.old self.new (spec.with_leaving_event old (drafted self.old)) }
+    /// The channel in a slot left a state.
+    fn tell_left(&mut self, slot: u16, old: State) -> Result<(), Memory>
+        ensures { Brings result self.old self.new (spec.with_leaving_event old slot (drafted self.old)) }
     {
         match old {
-            State::CsPark => self.tell_of(EventName::ChannelUnpark),
+            State::CsPark => self.tell_of(EventName::ChannelUnpark, slot),
             _ => Ok(()),
         }
     }
 
-    /// A channel came to a state.
-    fn tell_come(&mut self, new: State) -> Result<(), Memory>
-        ensures { Brings result self.old self.new (spec.with_coming_event new (drafted self.old)) }
+    /// The channel in a slot came to a state.
+    fn tell_come(&mut self, slot: u16, new: State) -> Result<(), Memory>
+        ensures { Brings result self.old self.new (spec.with_coming_event new slot (drafted self.old)) }
     {
         match new {
-            State::CsPark => self.tell_of(EventName::ChannelPark),
+            State::CsPark => self.tell_of(EventName::ChannelPark, slot),
             _ => Ok(()),
         }
     }
@@ -88,7 +88,7 @@ impl<'a> Draft<'a> {
     {
         let new = chan.state;
         self.put_chan(slot, Some(chan))?;
-        self.tell_state(old, new)
+        self.tell_state(slot, old, new)
     }
 
     /// The channel in a slot comes into a state.
@@ -144,7 +144,7 @@ impl<'a> Draft<'a> {
     pub fn begin(&mut self, slot: u16) -> Result<(), Memory>
         ensures { Brings result self.old self.new (spec.after_begin slot (drafted self.old)) }
     {
-        self.tell_of(EventName::ChannelCreate)?;
+        self.tell_of(EventName::ChannelCreate, slot)?;
         self.enter(slot, State::CsInit)
     }
 
@@ -154,8 +154,21 @@ impl<'a> Draft<'a> {
     pub fn run_on(&mut self, slot: u16, action: Action) -> Result<(), Memory>
         ensures { Brings result self.old self.new (spec.run_on action slot (drafted self.old)) }
     {
+        let told = action.copy()?;
         self.set_running(slot, action)?;
-        self.tell_of(EventName::ChannelExecute)
+        self.tell_application(EventName::ChannelExecute, Some(told), slot)
+    }
+
+    /// The application of the channel in a slot begins or is over.
+    fn tell_application(&mut self, name: EventName, action: Option<Action>, slot: u16) -> Result<(), Memory>
+        ensures { Brings result self.old self.new
+            (with_event (spec.application_event name action slot) (drafted self.old)) }
+    {
+        let detail = match action {
+            Some(action) => Detail::Application(action),
+            None => Detail::Plain,
+        };
+        self.tell(Event { name, slot, detail })
     }
 
     /// The channel in a slot has begun an application.
@@ -174,8 +187,22 @@ impl<'a> Draft<'a> {
     pub fn complete(&mut self, slot: u16) -> Result<(), Memory>
         ensures { Brings result self.old self.new (spec.after_completion slot (drafted self.old)) }
     {
+        let running = self.running(slot)?;
         self.go_on(slot)?;
-        self.tell_of(EventName::ChannelExecuteComplete)
+        self.tell_application(EventName::ChannelExecuteComplete, running, slot)
+    }
+
+    /// What the channel in a slot runs.
+    fn running(&self, slot: u16) -> Result<Option<Action>, Memory>
+        ensures { IfOk result (λ running. running ≡ spec.running_at slot (drafted self.now)) }
+    {
+        let Some(chan) = self.chan(slot) else {
+            return Ok(None);
+        };
+        match &chan.running {
+            Some(action) => Ok(Some(action.copy()?)),
+            None => Ok(None),
+        }
     }
 
     // ---- the end of a call
@@ -184,7 +211,11 @@ impl<'a> Draft<'a> {
     pub fn report(&mut self, slot: u16) -> Result<(), Memory>
         ensures { Brings result self.old self.new (spec.after_report slot (drafted self.old)) }
     {
-        self.tell_of(EventName::ChannelHangupComplete)?;
+        self.tell(Event {
+            name: EventName::ChannelHangupComplete,
+            slot,
+            detail: Detail::Report,
+        })?;
         self.enter(slot, State::CsReporting)
     }
 }

@@ -5,26 +5,25 @@ ghost use Rattle.fs_state.specs.Queues as spec;
 
 use crate::conn::Conn;
 use crate::gift::{Gift, Gifts};
+use crate::outgoing::{Frames, Outgoing};
 use fs_places::{Numbered, Places, Rows};
-use fs_text::{Memory, Txt};
+use fs_text::Memory;
 use std::alloc::Global;
-use std::collections::LinkedList;
 use std::marker::Model;
 
-/// The frames that wait for connections, in the order of the connections' places. A contract sees them as lists of
-/// texts.
+/// The frames that wait for connections, in the order of the connections' places. A contract sees them as lists.
 #[derive(Drop)]
 pub struct Queues {
-    queues: Vec<LinkedList<Txt>>,
+    queues: Vec<Frames>,
     // No queue has more frames than this.
     most: usize,
 }
 
 impl Model for Queues {
-    ghost use Rattle.std.specs.Prelude.{ℕ, List};
-    ghost use Rattle.fs_state.specs.Queues.{AreWithin};
+    ghost use Rattle.std.specs.Prelude.{List};
+    ghost use Rattle.fs_state.specs.Queues.{Frames, AreWithin};
 
-    ghost Value = { List (List (List ℕ)) };
+    ghost Value = { List Frames };
 
     ghost view = { λ q. q.queues.items };
 
@@ -42,7 +41,7 @@ impl Queues {
     {
         let mut queues = Vec::new(alloc);
         for _place in 0..count {
-            queues.push(LinkedList::new(alloc))?;
+            queues.push(Frames::new(alloc))?;
         }
         Ok(Queues { queues, most: 0 })
     }
@@ -57,12 +56,22 @@ impl Queues {
         }
     }
 
+    /// How many of them tell of events.
+    pub fn events(&self, place: usize) -> usize
+        ensures { result ≡ spec.events_in (spec.queue_at self.now place) }
+    {
+        match self.queues.get(place) {
+            Some(queue) => queue.events(),
+            None => 0,
+        }
+    }
+
     /// The frame that waits first at a place.
-    pub fn first(&self, place: usize) -> Option<&Txt>
+    pub fn first(&self, place: usize) -> Option<&Outgoing>
         ensures { option_copied result ≡ spec.first_at self.now place }
     {
         match self.queues.get(place) {
-            Some(queue) => queue.front(),
+            Some(queue) => queue.first(),
             None => None,
         }
     }
@@ -73,7 +82,7 @@ impl Queues {
         ensures { self.new ≡ spec.without_first_frame place self.old }
     {
         if let Some(queue) = self.queues.get_mut(place) {
-            let _taken = queue.pop_front();
+            queue.take_first();
         }
     }
 
@@ -89,14 +98,13 @@ impl Queues {
 
     /// Puts frames behind all others of a place, without memory.
     #[tactic(auto, using(crate::proofs::QueueLemmas::within_given))]
-    pub fn append(&mut self, place: usize, frames: LinkedList<Txt>)
+    pub fn append(&mut self, place: usize, frames: Frames)
         requires { spec.HaveRoom self.old (length frames) }
         ensures { self.new ≡ spec.with_frames place frames self.old }
     {
-        let mut frames = frames;
         self.most = self.most.saturating_add(frames.len());
         if let Some(queue) = self.queues.get_mut(place) {
-            queue.append(&mut frames).unwrap();
+            queue.append(frames);
         }
     }
 

@@ -2,7 +2,7 @@
 ghost use Rattle.std.specs.Prelude.{◌≡◌, ◌≤◌, length, IfOk, unwrap_or};
 ghost use Rattle.std.specs.Option.{option_copied};
 ghost use Rattle.fs_places.specs.Places.{no_places, IsEmptyFrom};
-ghost use Rattle.fs_state.specs.Queues.{no_queues, requeued};
+ghost use Rattle.fs_state.specs.Queues.{no_queues, requeued, events_in};
 ghost use Rattle.fs_state.specs.Switch as spec;
 ghost use Rattle.fs_state.specs.Drafts.{after, Fits};
 
@@ -11,6 +11,7 @@ use crate::counts::Counts;
 use crate::delta::{Delta, QueueChange};
 use crate::drawn::Drawn;
 use crate::job::Job;
+use crate::losses::Losses;
 use crate::queues::Queues;
 use fs_bridge::Bridges;
 use fs_chan::Chan;
@@ -44,6 +45,7 @@ pub struct Core {
     pub(crate) cost: u64,
     pub(crate) stopping: Option<u64>,
     pub(crate) counts: Counts,
+    pub(crate) losses: Losses,
 }
 
 impl Drop for Core {
@@ -64,6 +66,7 @@ impl Drop for Core {
             cost: _cost,
             stopping: _stopping,
             counts: _counts,
+            losses: _losses,
         } = self;
     }
 }
@@ -89,7 +92,10 @@ impl Model for Core {
       cost = c.cost;
       stopping = c.stopping;
       counts = c.counts;
+      losses = c.losses;
       news = [];
+      answered = [];
+      posted = [];
       given = [];
     } };
 
@@ -126,6 +132,7 @@ impl Core {
             cost: 0,
             stopping: None,
             counts,
+            losses: Losses::new(alloc),
         })
     }
 
@@ -135,8 +142,10 @@ impl Core {
         requires { Fits self.old delta }
         ensures { self.new ≡ spec.after_entry cost (after self.old delta) }
     {
-        let (news, given) = delta.write_into(self);
-        self.queues.deliver(&self.conns, given);
+        let (news, giving) = delta.write_into(self);
+        self.queues.deliver(&self.conns, giving.answered);
+        self.queues.deliver(&self.conns, giving.posted);
+        self.queues.deliver(&self.conns, giving.given);
         self.counts.count_all(news.as_slice());
         self.entries = self.entries.saturating_add(1);
         self.cost = self.cost.saturating_add(cost);
@@ -245,6 +254,23 @@ impl Core {
         }
     }
 
+    /// How many of them tell of events.
+    pub fn events_waiting(&self, number: u32) -> usize
+        ensures { result ≡ events_in (spec.outgoing_for self.now number) }
+    {
+        match self.conns.place_of(u64::from(number)) {
+            Some(place) => self.queues.events(place),
+            None => 0,
+        }
+    }
+
+    /// How many events each connection did not get that it wanted.
+    pub fn losses(&self) -> &Losses
+        ensures { result.now ≡ self.now.losses }
+    {
+        &self.losses
+    }
+
     /// How many events there were of each name, and channels that were hung up with each cause.
     pub fn counts(&self) -> &Counts
         ensures { result.now ≡ self.now.counts }
@@ -267,6 +293,15 @@ impl Core {
     {
         if let Some(bridges) = bridges {
             self.bridges = bridges;
+        }
+    }
+
+    /// Has other losses, where there are any.
+    pub(crate) fn take_losses(&mut self, losses: Option<Losses>)
+        ensures { self.new ≡ record self.old { losses = unwrap_or losses self.old.losses } }
+    {
+        if let Some(losses) = losses {
+            self.losses = losses;
         }
     }
 

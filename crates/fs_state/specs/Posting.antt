@@ -1,0 +1,196 @@
+-- What an entry tells the connections that subscribed its events.
+use Rattle.std.specs.Prelude.{ℕ, ◌+◌, ◌-◌, ◌==◌, if◌then◌else◌, List, [], ◌∷◌, ◌++◌, length, map, filter, take, codes}
+use Rattle.std.specs.Prelude.{Option, None, Some, is_some, option_map}
+use Rattle.std.specs.Option.{option_or}
+use Rattle.std.specs.Fmt.{decimal}
+use Rattle.fs_text.specs.CoreId as core_id
+use Rattle.fs_text.specs.Cause.{cause_name}
+use Rattle.fs_text.specs.Escape.{escape}
+use Rattle.fs_text.specs.EventName.{event_name}
+use Rattle.fs_text.specs.Headers.{with_values}
+use Rattle.fs_text.specs.Texts.{Text}
+use Rattle.fs_text.specs.declared.causes.Cause.{Cause}
+use Rattle.fs_text.specs.declared.event_names.EventName.{EventName}
+use Rattle.fs_text.specs.declared.states.State.TheVariants.{CsDestroy}
+use Rattle.fs_vars.specs.Pairs.{Pairs}
+use Rattle.fs_vars.specs.Variables.{Variables}
+use Rattle.fs_event.specs.declared.event.Event.{Event as Telling}
+use Rattle.fs_event.specs.Texts.{frame}
+use Rattle.fs_filter.specs.Subscriptions.{Subscription, wants}
+use Rattle.fs_bridge.specs.declared.row.Row.{Row}
+use Rattle.fs_chan.specs.declared.action.Action.{Action}
+use Rattle.fs_chan.specs.declared.chan.Chan.{Chan}
+use Rattle.fs_chan.specs.Changes.{in_state}
+use Rattle.fs_chan.specs.Headers.{channel_headers}
+use Rattle.fs_places.specs.declared.numbered.Numbered.{Numbered}
+use Rattle.fs_places.specs.Rows.{place_of}
+use Rattle.fs_state.specs.declared.conn.Conn.{Conn}
+use Rattle.fs_state.specs.declared.event.Event.{Event}
+use Rattle.fs_state.specs.declared.event.Detail.{Detail}
+use Rattle.fs_state.specs.declared.event.Detail.TheVariants as detail
+use Rattle.fs_state.specs.declared.gift.Gift.{Gift}
+use Rattle.fs_state.specs.declared.outgoing.Outgoing.TheVariants as outgoing
+use Rattle.fs_state.specs.Losses.{Losses, with_loss}
+use Rattle.fs_state.specs.Queues.{Frames, events_in}
+use Rattle.fs_state.specs.Switch.{Switch, chan_at, outgoing_for}
+
+-- ---- the whole of an event: before the entry the switch stands as in the first argument, and behind it as in the second
+
+-- a channel that is there, or one that is gone
+abbrev pub here_or_gone : Option Chan → Option Chan → Option Chan
+here_or_gone (Some c) was = Some c
+here_or_gone None was = option_map (in_state CsDestroy) was
+
+-- the channel in a slot, as the entry leaves it; one that is gone by then as it was, in its last state
+abbrev pub chan_told : Switch → Switch → ℕ → Option Chan
+chan_told before s slot = here_or_gone (chan_at s slot) (chan_at before slot)
+
+-- the same, but for the state of one that is gone
+abbrev pub chan_left : Switch → Switch → ℕ → Option Chan
+chan_left before s slot = option_or (chan_at s slot) (chan_at before slot)
+
+-- the headers of a channel that is gone
+abbrev pub headers_of_gone : Chan → Pairs
+headers_of_gone c = channel_headers (in_state CsDestroy c)
+
+-- the headers of a channel, where there is one
+abbrev pub headers_of_chan : Option Chan → Pairs
+headers_of_chan None = []
+headers_of_chan (Some c) = channel_headers c
+
+-- the identifier of a channel, where there is one
+abbrev pub uuid_of : Option Chan → Text
+uuid_of None = []
+uuid_of (Some c) = c.uuid
+
+-- the headers of all events: the name, the switch, the number of the event, and the moment
+abbrev pub first_headers : Switch → ℕ → EventName → Pairs
+first_headers s number name =
+    (codes "Event-Name", event_name name)
+    ∷ (codes "Core-UUID", core_id.uuid s.config.settings.core_uuid 0)
+    ∷ (codes "Event-Sequence", decimal number)
+    ∷ (codes "Event-Date-Timestamp", decimal s.moment)
+    ∷ []
+
+-- the application, and the first bytes of its argument
+abbrev pub application_headers : Action → Pairs
+application_headers action =
+    (codes "Application", action.application) ∷ (codes "Application-Data", take 1024 action.argument) ∷ []
+
+-- the legs of a bridge, and its number
+abbrev pub bridge_headers : Switch → Switch → Row → Pairs
+bridge_headers before s row =
+    (codes "Bridge-A-Unique-ID", uuid_of (chan_told before s row.caller))
+    ∷ (codes "Bridge-B-Unique-ID", uuid_of (chan_told before s row.answerer))
+    ∷ (codes "Bridge-Number", decimal row.number)
+    ∷ []
+
+-- why a channel was hung up, or a bridge ended
+abbrev pub cause_header : Cause → Pairs
+cause_header cause = (codes "Hangup-Cause", cause_name cause) ∷ []
+
+abbrev pub cause_headers : Option Cause → Pairs
+cause_headers None = []
+cause_headers (Some cause) = cause_header cause
+
+-- a variable, with its name escaped
+abbrev pub variable_name : Text → Text
+variable_name name = codes "variable_" ++ escape name
+
+abbrev pub variable_header : Text × Text → Text × Text
+variable_header pair = (variable_name pair.0, pair.1)
+
+abbrev pub variable_headers : Variables → Pairs
+variable_headers vars = map variable_header vars.pairs
+
+-- how the call of a channel was: why it was hung up, and its variables
+abbrev pub report_headers : Option Chan → Pairs
+report_headers None = []
+report_headers (Some c) = cause_headers c.cause ++ variable_headers c.vars
+
+-- what an event tells beside its channel
+abbrev pub detail_headers : Switch → Switch → ℕ → Detail → Pairs
+detail_headers before s slot detail.Plain = []
+detail_headers before s slot (detail.Application action) = application_headers action
+detail_headers before s slot (detail.Bridge row) = bridge_headers before s row
+detail_headers before s slot (detail.Unbridge row cause) = bridge_headers before s row ++ cause_header cause
+detail_headers before s slot (detail.Hangup cause) = cause_header cause
+detail_headers before s slot detail.Report = report_headers (chan_told before s slot)
+
+-- all that an event tells, where it has this number
+unfoldable pub telling_of : Switch → Switch → ℕ → Event → Telling
+telling_of before s number event = record {
+  name = event.name;
+  subclass = [];
+  headers =
+      first_headers s number event.name ++ headers_of_chan (chan_told before s event.slot)
+      ++ with_values (detail_headers before s event.slot event.detail);
+  body = [];
+}
+
+-- all that events tell, the first of which has this number
+abbrev pub tellings_from : Switch → Switch → ℕ → List Event → List Telling
+tellings_from before s number [] = []
+tellings_from before s number (event ∷ events) = telling_of before s number event ∷ tellings_from before s (number + 1) events
+
+-- all that the events of an entry tell: they are numbered by how many there were before
+unfoldable pub tellings : Switch → Switch → List Telling
+tellings before s = tellings_from before s (s.counts.all + 1) s.news
+
+-- ---- who is told of it
+
+-- the frames of the events that a subscription wants
+abbrev pub wanted_by : Subscription → List Telling → List Text
+wanted_by subs all = map frame (filter (wants subs) all)
+
+-- how many events may wait for a connection
+abbrev pub most_events : ℕ
+most_events = 10000
+
+-- for so many more there is room behind these frames
+abbrev pub room_behind : Frames → ℕ
+room_behind frames = most_events - events_in frames
+
+-- frames of events for a connection, if there are any
+abbrev pub posts_of : ℕ → List Text → List Gift
+posts_of conn [] = []
+posts_of conn (text ∷ texts) = record { conn = conn; frames = map outgoing.Event (text ∷ texts) } ∷ []
+
+-- a connection that was there before the entry is told what it wanted before the entry; if the entry leaves it closed, nothing
+abbrev pub wanted_at : Switch → Switch → Numbered Conn → List Text
+wanted_at before s row = if is_some (place_of s.conns row.number) then wanted_by row.held.subs (tellings before s) else []
+
+-- the events for which there is room
+abbrev pub posts_at : Switch → Switch → Numbered Conn → List Gift
+posts_at before s row = posts_of row.number (take (room_behind (outgoing_for before row.number)) (wanted_at before s row))
+
+-- how many are lost
+abbrev pub lost_at : Switch → Switch → Numbered Conn → ℕ
+lost_at before s row = length (wanted_at before s row) - room_behind (outgoing_for before row.number)
+
+abbrev pub posts_from : Switch → Switch → List (Option (Numbered Conn)) → List Gift
+posts_from before s [] = []
+posts_from before s (None ∷ conns) = posts_from before s conns
+posts_from before s (Some row ∷ conns) = posts_at before s row ++ posts_from before s conns
+
+-- a loss, if there is one
+abbrev pub with_loss_of : ℕ → ℕ → Losses → Losses
+with_loss_of conn lost losses = if lost == 0 then losses else with_loss conn lost losses
+
+abbrev pub losses_from : Switch → Switch → List (Option (Numbered Conn)) → Losses → Losses
+losses_from before s [] losses = losses
+losses_from before s (None ∷ conns) losses = losses_from before s conns losses
+losses_from before s (Some row ∷ conns) losses =
+    losses_from before s conns (with_loss_of row.number (lost_at before s row) losses)
+
+-- what an entry posts, by the places of the connections that were there before it
+unfoldable pub posts : Switch → Switch → List Gift
+posts before s = posts_from before s before.conns
+
+-- what connections have lost then
+unfoldable pub losses_after : Switch → Switch → Losses
+losses_after before s = losses_from before s before.conns s.losses
+
+-- an entry has posted its events
+abbrev pub with_posts : Switch → Switch → Switch
+with_posts before s = record s { posted = posts before s; losses = losses_after before s }

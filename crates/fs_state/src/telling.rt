@@ -221,7 +221,7 @@ impl Told {
         ensures { OnOk result (self.new ≡ self.old ++ with_values (spec.variable_headers vars.now)) }
     {
         for (name, value) in vars.pairs() {
-            let name = variable_name(self.alloc, name.as_bytes())?;
+            let name = variable_name(self.alloc, name)?;
             self.add(&name, value.as_bytes())?;
         }
         Ok(())

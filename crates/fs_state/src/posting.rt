@@ -1,0 +1,1 @@
+//! What an entry posts of its events.

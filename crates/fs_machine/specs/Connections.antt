@@ -41,6 +41,10 @@ not_owed c = record c { owed = None }
 
 -- ---- what it subscribes
 
+-- it has subscribed this
+abbrev pub with_subs : Subscription → Conn → Conn
+with_subs subs c = record c { subs = subs }
+
 -- what it subscribed is changed
 abbrev pub with_subs_changed : (Subscription → Subscription) → Conn → Conn
 with_subs_changed change c = record c { subs = change c.subs }

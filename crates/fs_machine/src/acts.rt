@@ -13,6 +13,7 @@ use crate::questions::owed_to;
 use crate::reply::Reply;
 use crate::work::work;
 use fs_cmd::{Command, auth_request};
+use fs_filter::SharedSubs;
 use fs_frame::Block;
 use fs_plan::Dialplan;
 use fs_state::{Conn, Draft, Parting, Phase};
@@ -57,7 +58,7 @@ fn arrive(draft: &mut Draft<'_>) -> Result<Reply, Memory>
         phase: Phase::Fresh,
         owed: None,
         parting: None,
-        lost: 0,
+        subs: SharedSubs::nothing(),
     })?;
     let request = auth_request(draft.alloc())?;
     draft.give(number, request)?;

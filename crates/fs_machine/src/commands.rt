@@ -5,12 +5,14 @@ ghost use Rattle.std.specs.Str.{bytes_eq};
 ghost use Rattle.fs_cmd.specs.Commands.{read_of};
 ghost use Rattle.fs_cmd.specs.Frames.{not_found};
 ghost use Rattle.fs_api.specs.Readings.{api_of};
+ghost use Rattle.fs_state.specs.declared.conn.Phase.TheVariants as phase;
 ghost use Rattle.fs_state.specs.Drafts.{drafted, Brings};
 ghost use Rattle.fs_machine.specs.Api.{done_by};
 ghost use Rattle.fs_machine.specs.Commands as spec;
 
 use crate::api::run_api;
 use crate::connections::{admit, part, phase_at};
+use crate::subscribing::{add_filter, delete_filters, fall_silent, refuse_filter, subscribe, unsubscribe};
 use fs_api::{Api, echoed};
 use fs_cmd::{Command, api_reply, notice, reply};
 use fs_state::{Draft, Parting, Phase};
@@ -25,13 +27,42 @@ pub(crate) fn do_command(
 ) -> Result<(), Memory>
     ensures { Brings result draft.old draft.new (spec.command_done conn (read_of command.entry) (drafted draft.old)) }
 {
-    match (phase_at(draft, conn), command) {
-        (Phase::Ending | Phase::Closed, _) => Ok(()),
-        (_, Command::Exit) => begin_ending(draft, conn, Parting::Exit, b"+OK bye"),
-        (Phase::Fresh, Command::Auth { password }) => authenticate(draft, conn, password),
-        (Phase::Ready, Command::Api { text }) => respond(draft, conn, text),
-        (Phase::Ready, command) => do_asking(draft, conn, command),
+    match phase_at(draft, conn) {
+        Phase::Fresh => do_when_fresh(draft, conn, command),
+        Phase::Ready => do_when_ready(draft, conn, command),
+        Phase::Ending | Phase::Closed => Ok(()),
+    }
+}
+
+// Does a command of a connection that has not said the password yet.
+#[tactic(auto, unfolding(fs_cmd::specs::Frames::bye))]
+fn do_when_fresh(draft: &mut Draft<'_>, conn: u32, command: Command<'_>) -> Result<(), Memory>
+    ensures { Brings result draft.old draft.new
+        (spec.command_done_in phase.Fresh conn (read_of command.entry) (drafted draft.old)) }
+{
+    match command {
+        Command::Auth { password } => authenticate(draft, conn, password),
+        Command::Exit => begin_ending(draft, conn, Parting::Exit, b"+OK bye"),
         _ => refuse(draft, conn),
+    }
+}
+
+// Does a command of a connection that has.
+#[tactic(auto, unfolding(fs_cmd::specs::Frames::bye))]
+fn do_when_ready(draft: &mut Draft<'_>, conn: u32, command: Command<'_>) -> Result<(), Memory>
+    ensures { Brings result draft.old draft.new
+        (spec.command_done_in phase.Ready conn (read_of command.entry) (drafted draft.old)) }
+{
+    match command {
+        Command::Exit => begin_ending(draft, conn, Parting::Exit, b"+OK bye"),
+        Command::Api { text } => respond(draft, conn, text),
+        Command::Event { form, names } => subscribe(draft, conn, form, names),
+        Command::Nixevent { names } => unsubscribe(draft, conn, names),
+        Command::Noevents => fall_silent(draft, conn),
+        Command::Filter { header, value } => add_filter(draft, conn, header, value),
+        Command::FilterDelete { header, value } => delete_filters(draft, conn, header, value),
+        Command::BadFilter => refuse_filter(draft, conn),
+        Command::Auth { .. } | Command::Unknown => refuse(draft, conn),
     }
 }
 
@@ -44,7 +75,7 @@ fn refuse(draft: &mut Draft<'_>, conn: u32) -> Result<(), Memory>
 }
 
 // Replies to a command.
-fn give_reply(draft: &mut Draft<'_>, conn: u32, text: &[u8]) -> Result<(), Memory>
+pub(crate) fn give_reply(draft: &mut Draft<'_>, conn: u32, text: &[u8]) -> Result<(), Memory>
     ensures { Brings result draft.old draft.new (spec.with_reply conn text.now (drafted draft.old)) }
 {
     let frame = reply(draft.alloc(), text, &[])?;

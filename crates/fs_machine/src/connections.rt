@@ -5,6 +5,7 @@ ghost use Rattle.std.specs.Option.{option_copied};
 ghost use Rattle.fs_state.specs.Drafts.{drafted, Brings};
 ghost use Rattle.fs_machine.specs.Connections as spec;
 
+use fs_filter::SharedSubs;
 use fs_state::{Conn, Draft, Parting, Phase};
 use fs_text::Memory;
 
@@ -25,7 +26,7 @@ pub(crate) fn phase_at(draft: &Draft<'_>, conn: u32) -> Phase
     phase_of(draft.conn(conn))
 }
 
-/// Takes no further command of a connection, if it is there.
+/// Takes no further command of a connection, if it is there, and tells it of no further event.
 pub(crate) fn part(draft: &mut Draft<'_>, conn: u32, why: Parting) -> Result<(), Memory>
     ensures { Brings result draft.old draft.new (spec.conn_changed (spec.parted why) conn (drafted draft.old)) }
 {
@@ -35,7 +36,8 @@ pub(crate) fn part(draft: &mut Draft<'_>, conn: u32, why: Parting) -> Result<(),
     let parted = Conn {
         phase: Phase::Ending,
         parting: Some(why),
-        ..*there
+        owed: there.owed,
+        subs: SharedSubs::nothing(),
     };
     draft.set_conn(conn, parted)
 }
@@ -47,10 +49,8 @@ pub(crate) fn admit(draft: &mut Draft<'_>, conn: u32) -> Result<(), Memory>
     let Some(there) = draft.conn(conn) else {
         return Ok(());
     };
-    let admitted = Conn {
-        phase: Phase::Ready,
-        ..*there
-    };
+    let mut admitted = there.copy()?;
+    admitted.phase = Phase::Ready;
     draft.set_conn(conn, admitted)
 }
 
@@ -61,10 +61,8 @@ pub(crate) fn owe(draft: &mut Draft<'_>, conn: u32, place: u64) -> Result<(), Me
     let Some(there) = draft.conn(conn) else {
         return Ok(());
     };
-    let owed = Conn {
-        owed: Some(place),
-        ..*there
-    };
+    let mut owed = there.copy()?;
+    owed.owed = Some(place);
     draft.set_conn(conn, owed)
 }
 
@@ -75,9 +73,7 @@ pub(crate) fn settle(draft: &mut Draft<'_>, conn: u32) -> Result<(), Memory>
     let Some(there) = draft.conn(conn) else {
         return Ok(());
     };
-    let settled = Conn {
-        owed: None,
-        ..*there
-    };
+    let mut settled = there.copy()?;
+    settled.owed = None;
     draft.set_conn(conn, settled)
 }

@@ -25,6 +25,7 @@ mod questions;
 mod refusal;
 mod refused;
 mod reply;
+mod subscribing;
 mod terms;
 mod texts;
 mod work;

@@ -198,6 +198,7 @@ fn plan(core: &Core, plan: &Dialplan, asked: &Entry) -> Result<Change, Refusal>
     let mut draft = Draft::new(core);
     draft.advance(asked.moment);
     let (entry, reply) = enter(&mut draft, plan, asked)?;
+    draft.post()?;
     let delta = draft.finish()?;
     Ok(Change {
         entry,

@@ -6,6 +6,7 @@ use Rattle.fs_text.specs.declared.event_names.EventName.TheVariants.{ChannelBrid
 use Rattle.fs_bridge.specs.declared.row.Row.{Row}
 use Rattle.fs_bridge.specs.declared.row.BridgeKind.{BridgeKind}
 use Rattle.fs_bridge.specs.After.{after_bridge}
+use Rattle.fs_bridge.specs.Bridges.{next_row}
 use Rattle.fs_bridge.specs.Closure.{peer_in}
 use Rattle.fs_chan.specs.declared.chan.Chan.{Chan}
 use Rattle.fs_chan.specs.declared.peer.Peer.{Peer}
@@ -15,10 +16,6 @@ use Rattle.fs_state.specs.declared.event.Detail.TheVariants.{Bridge}
 use Rattle.fs_state.specs.Switch.{Switch, chan_at, bridge_at, next_bridge_number, with_bridge, with_event}
 use Rattle.fs_state.specs.Moves.{with_changed_chan}
 use Rattle.fs_state.specs.Hangups.{lives_at}
-
--- the next bridge, of this kind and between these slots
-abbrev pub next_row : BridgeKind → ℕ → ℕ → Switch → Row
-next_row kind caller answerer s = record { number = next_bridge_number s; caller = caller; answerer = answerer; kind = kind }
 
 -- a bridge has begun
 abbrev pub bridge_event : Row → Event
@@ -45,7 +42,7 @@ with_peer slot other s = with_peer_from slot other (chan_at s other) s
 -- two channels are joined, the first as caller: there is a bridge, and each names the other
 abbrev pub joined_as : BridgeKind → ℕ → ℕ → Switch → Switch
 joined_as kind caller answerer s =
-    with_event (bridge_event (next_row kind caller answerer s))
+    with_event (bridge_event (next_row caller answerer kind s.bridges))
     (with_peer answerer caller (with_peer caller answerer (with_bridge caller answerer kind s)))
 
 -- they are, where they can be

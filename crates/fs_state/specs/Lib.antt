@@ -1,6 +1,7 @@
 pub mod Drawn
 pub mod Counts
 pub mod Losses
+pub mod Frames
 pub mod Queues
 pub mod Switch
 pub mod Drafts

@@ -1,8 +1,7 @@
 -- The frames that wait for connections.
-use Rattle.std.specs.Prelude.{ℕ, ◌+◌, ◌<◌, ◌≤◌, ◌^◌, Bool, true, false, List, [], ◌∷◌, ◌++◌, length, map, drop, replicate}
-use Rattle.std.specs.Prelude.{sum_by, count_by, get_or, Option, None, Some}
+use Rattle.std.specs.Prelude.{ℕ, ◌+◌, ◌<◌, ◌≤◌, ◌^◌, List, [], ◌∷◌, ◌++◌, length, drop, replicate}
+use Rattle.std.specs.Prelude.{sum_by, get_or, Option, None, Some}
 use Rattle.std.specs.List.{slice_get, slice_set, All}
-use Rattle.fs_text.specs.Texts.{Text}
 use Rattle.fs_places.specs.declared.numbered.Numbered.{Numbered}
 use Rattle.fs_places.specs.Rows.{place_of}
 use Rattle.fs_state.specs.declared.conn.Conn.{Conn}
@@ -10,28 +9,7 @@ use Rattle.fs_state.specs.declared.gift.Gift.{Gift}
 use Rattle.fs_state.specs.declared.delta.QueueChange.{QueueChange}
 use Rattle.fs_state.specs.declared.delta.QueueChange.TheVariants.{Unchanged, Taken, Cleared}
 use Rattle.fs_state.specs.declared.outgoing.Outgoing.{Outgoing}
-use Rattle.fs_state.specs.declared.outgoing.Outgoing.TheVariants.{Reply, Event}
-
--- frames that go out to a connection, in order
-abbrev pub Frames : Type 0
-Frames = List Outgoing
-
--- the text of a frame
-abbrev pub text_of : Outgoing → Text
-text_of (Reply text) = text
-text_of (Event text) = text
-
-abbrev pub texts_of : Frames → List Text
-texts_of frames = map text_of frames
-
--- a frame tells of an event
-abbrev pub is_event : Outgoing → Bool
-is_event (Reply text) = false
-is_event (Event text) = true
-
--- how many of them do
-abbrev pub events_in : Frames → ℕ
-events_in frames = count_by is_event frames
+pub use Rattle.fs_state.specs.Frames.{Frames, text_of, texts_of, is_event, events_in}
 
 -- so many queues in which nothing waits
 unfoldable pub no_queues : ℕ → List Frames

@@ -84,7 +84,11 @@ impl Delta {
     #[tactic(auto, using(fs_places::proofs::PlaceLemmas::written_length))]
     pub(crate) fn write_into(self, core: &mut Core) -> (Events, Giving)
         ensures core { record core.new {
-            news = self.news; answered = self.answered; posted = self.posted; given = self.given }
+          news = self.news;
+          answered = self.answered;
+          posted = self.posted;
+          given = self.given;
+        }
             ≡ after core.old self }
         ensures news { result.0 ≡ self.news }
         ensures entry { result.1 ≡ record { answered = self.answered; posted = self.posted; given = self.given } }

@@ -1,7 +1,7 @@
 //! Frames that go out to a connection.
 ghost use Rattle.std.specs.Prelude.{◌≡◌, ◌+◌, ◌<◌, ◌^◌, [], ◌∷◌, ◌++◌, length, drop, slice_get, OnOk, OnErr};
 ghost use Rattle.std.specs.Option.{option_copied};
-ghost use Rattle.fs_state.specs.Queues as spec;
+ghost use Rattle.fs_state.specs.Frames as spec;
 
 use fs_text::{Memory, Txt};
 use std::alloc::Global;
@@ -47,7 +47,7 @@ pub struct Frames {
 
 impl Model for Frames {
     ghost use Rattle.std.specs.Prelude.{◌≡◌};
-    ghost use Rattle.fs_state.specs.Queues.{Frames, events_in};
+    ghost use Rattle.fs_state.specs.Frames.{Frames, events_in};
 
     ghost Value = { Frames };
 
@@ -93,6 +93,8 @@ impl Frames {
         ensures ok { OnOk result (self.new ≡ self.old ++ frame ∷ []) }
         ensures err { OnErr result (self.new ≡ self.old) }
     {
+        // There are fewer than 2^63 frames, so the count of those that tell of events fits.
+        let _len = self.frames.len();
         let is_event = frame.is_event();
         self.frames.push_back(frame)?;
         self.events += usize::from(is_event);

@@ -8,7 +8,7 @@ ghost use Rattle.fs_state.specs.Drafts.{after, Fits};
 
 use crate::conn::Conn;
 use crate::counts::Counts;
-use crate::delta::{Delta, QueueChange};
+use crate::delta::{Delta, Giving, QueueChange};
 use crate::drawn::Drawn;
 use crate::job::Job;
 use crate::losses::Losses;
@@ -143,9 +143,14 @@ impl Core {
         ensures { self.new ≡ spec.after_entry cost (after self.old delta) }
     {
         let (news, giving) = delta.write_into(self);
-        self.queues.deliver(&self.conns, giving.answered);
-        self.queues.deliver(&self.conns, giving.posted);
-        self.queues.deliver(&self.conns, giving.given);
+        let Giving {
+            answered,
+            posted,
+            given,
+        } = giving;
+        self.queues.deliver(&self.conns, answered);
+        self.queues.deliver(&self.conns, posted);
+        self.queues.deliver(&self.conns, given);
         self.counts.count_all(news.as_slice());
         self.entries = self.entries.saturating_add(1);
         self.cost = self.cost.saturating_add(cost);

@@ -1,20 +1,18 @@
 -- How blocks lie in a stream.
-use Rattle.std.proofs.Common.{◌≡◌, ◌≤◌, ◌<◌, ℕ, zero, suc, true, is_none, nat_lt, List, [], ◌∷◌, ◌++◌, length, drop, Option, None, Some}
-use Rattle.std.proofs.Common.{refl, sym, ◌∙◌, ap, append_assoc, arith, length-append, Bool, false, ◌&&◌}
-use Rattle.std.proofs.lemmas.Bool.{and_from, and_parts, lt-ltb, ltb-true, ltb-false}
-use Rattle.std.proofs.lemmas.List.{take_at}
+use Rattle.std.proofs.Common.{◌≡◌, ◌≤◌, ◌<◌, ℕ, zero, suc, List, [], ◌∷◌, ◌++◌, length, drop, Option, None, Some}
+use Rattle.std.proofs.Common.{refl, sym, ◌∙◌, ap, append_assoc, arith, length-append}
 use Rattle.std.proofs.lemmas.List.Folds.{concat-append}
 use Rattle.std.proofs.lemmas.List.Prefix.{front_rest}
 use Rattle.std.specs.List.{AllByRecursion, concat}
 use Rattle.std.specs.Option.{option_map_or}
-use Rattle.fs_frame.specs.Block.{IsBlock, front_of, too_long}
+use Rattle.fs_frame.specs.Block.{IsBlock, front_of}
 use Rattle.fs_frame.specs.Blocks.{HasNoBlock, Splits, first_blocks, blocks_of, rest_of}
-use Rattle.fs_frame.proofs.FormLaws.{StandsInFront, front_of-append, front_of-stands, front_of-no_head, front_of-take}
+use Rattle.fs_frame.proofs.BodyLaws.{StandsInFront, front_of-append, front_of-stands, front_of-none}
 
 -- a block is not empty
 pub length-block : (block : List ℕ) → IsBlock block → 0 < length block
 length-block [] is_block =
-    let nothing : front_of [] ≡ None = front_of-no_head [] refl in
+    let nothing : front_of [] ≡ None = front_of-none in
     let found : front_of [] ≡ Some [] = front_of-append [] [] is_block in
     cc
 length-block (byte ∷ block) is_block = omega arith
@@ -79,7 +77,7 @@ falls_behind stream block more blocks split is_block falls = record {
 
 falls : (n : ℕ) (stream : List ℕ) → length stream ≤ n → Falls stream (first_blocks n stream)
 unfolding first_blocks
-falls zero [] fits = no_more [] (front_of-no_head [] refl)
+falls zero [] fits = no_more [] (front_of-none)
 falls zero (byte ∷ stream) fits = absurd (omega arith)
 falls (suc n) stream fits = step (front_of stream) refl (λ (more : List ℕ). falls n more)
   where
@@ -138,37 +136,3 @@ blocks_of-no_block rest no_block = blocks_of-splits rest rest [] (record { whole
 
 pub rest_of-no_block : (rest : List ℕ) → HasNoBlock rest → rest_of rest ≡ rest
 rest_of-no_block rest no_block = rest_of-splits rest rest [] (record { whole = refl; each = tt; last = no_block })
-
--- no block stands in front of a rest that is too long
-pub HasNoBlock-too_long : (rest : List ℕ) → too_long rest ≡ true → HasNoBlock rest
-unfolding too_long
-HasNoBlock-too_long rest long =
-    HasNoBlock-front_of rest (none_is (front_of rest) (and_parts (nat_lt 65536 (length rest)) (is_none (front_of rest)) long).1)
-  where
-    none_is : (found : Option (List ℕ)) → is_none found ≡ true → found ≡ None
-    none_is None is = refl
-    none_is (Some block) is = cc
-
--- and it stays too long, whatever follows
-pub too_long-append : (rest more : List ℕ) → too_long rest ≡ true → too_long (rest ++ more) ≡ true
-unfolding too_long
-too_long-append rest more long =
-    let parts : (nat_lt 65536 (length rest) ≡ true) × (is_none (front_of rest) ≡ true) =
-    and_parts (nat_lt 65536 (length rest)) (is_none (front_of rest)) long in
-    let over : 65536 < length rest = ltb-true 65536 (length rest) parts.0 in
-    let same : front_of rest ≡ front_of (rest ++ more) = ap front_of (sym (take_at rest more (length rest) refl))
-    ∙ front_of-take (length rest) (rest ++ more) (omega arith) in
-    and_from (nat_lt 65536 (length (rest ++ more))) (is_none (front_of (rest ++ more)))
-    (lt-ltb 65536 (length (rest ++ more)) (omega (arith, over, length-append rest more))) (rw (← same) parts.1)
-
--- bytes with no block in front that are not too long
-pub short_rest : (rest : List ℕ) → HasNoBlock rest → too_long rest ≡ false → length rest ≤ 65536
-unfolding too_long
-short_rest rest no_block short =
-    let nothing = front_of-no_block rest no_block in
-    let few : (nat_lt 65536 (length rest) && true) ≡ false = rw nothing at short in
-    omega (arith, ltb-false 65536 (length rest) (and_true (nat_lt 65536 (length rest)) few))
-  where
-    and_true : (b : Bool) → (b && true) ≡ false → b ≡ false
-    and_true true e = e
-    and_true false e = refl

@@ -1,19 +1,21 @@
 -- What a buffer has handed out after a list of calls.
-use Rattle.std.proofs.Common.{◌≡◌, ℕ, Bool, true, false, List, [], ◌∷◌, ◌++◌, refl, sym, ◌∙◌, ap, append_assoc}
-use Rattle.std.proofs.lemmas.Bool.{both_ways}
+use Rattle.std.proofs.Common.{◌≡◌, ℕ, List, [], ◌∷◌, ◌++◌, Option, None, Some, refl, sym, ◌∙◌, ap, append_assoc}
 use Rattle.std.proofs.lemmas.List.{append-nil}
 use Rattle.std.proofs.lemmas.List.Folds.{concat-append}
 use Rattle.std.specs.List.{AllByRecursion, concat}
-use Rattle.fs_frame.specs.Block.{IsBlock, too_long}
+use Rattle.fs_frame.specs.Block.{IsBlock, fault_of}
 use Rattle.fs_frame.specs.Blocks.{HasNoBlock, blocks_of, rest_of}
 use Rattle.fs_frame.specs.Stream.{Stream, new_stream, fed_with, after_next_block}
-use Rattle.fs_frame.specs.Next.{IsNext, HandsOut, HandsOutNothing, bytes_of}
+use Rattle.fs_frame.specs.Next.{IsNext, IsNextNone, HandsOut, HandsOutNothing, bytes_of}
 use Rattle.fs_frame.specs.Calls.{Call, fed, asked, AreAnsweredFrom, AreAnswered, stream_of, blocks_in, ComeFirst, IsUsedUp, Follows}
-use Rattle.fs_frame.specs.Calls.{AlwaysTooLong}
+use Rattle.fs_frame.specs.Calls.{answer_for, AlwaysAnswered}
+use Rattle.fs_frame.specs.declared.fault.Fault.{Fault}
+use Rattle.fs_frame.specs.declared.fault.Fault.TheVariants as faults
 use Rattle.fs_frame.specs.declared.next.Next.{Next}
-use Rattle.fs_frame.specs.declared.next.Next.TheVariants.{Block, NeedMore, TooLong}
+use Rattle.fs_frame.specs.declared.next.Next.TheVariants.{Block, NeedMore, TooLong, BadLength}
 use Rattle.fs_frame.proofs.BlockLaws.{AllByRecursion-append, blocks_of-append, rest_of-append, blocks_of-no_block, rest_of-no_block}
-use Rattle.fs_frame.proofs.BlockLaws.{HasNoBlock-too_long, too_long-append}
+use Rattle.fs_frame.proofs.BlockLaws.{HasNoBlock-front_of}
+use Rattle.fs_frame.proofs.BodyLaws.{front_of-fault, fault_of-append}
 
 -- these blocks of the stream were handed out, and the buffer holds what follows them
 record Stands (blocks : List (List ℕ)) (stream : List ℕ) (s : Stream) : Type 0 where
@@ -65,6 +67,9 @@ Stands-after blocks stream s (asked NeedMore ∷ calls) stands answered =
 Stands-after blocks stream s (asked (TooLong len) ∷ calls) stands answered =
     Stands-after blocks stream (after_next_block s) calls (Stands-nothing blocks stream s (after_next_block s) stands answered.0.0)
     answered.1
+Stands-after blocks stream s (asked BadLength ∷ calls) stands answered =
+    Stands-after blocks stream (after_next_block s) calls (Stands-nothing blocks stream s (after_next_block s) stands answered.0.0)
+    answered.1
 
 Stands-calls : (calls : List Call) → AreAnswered calls → Stands (blocks_in calls) (stream_of calls) (after new_stream calls)
 Stands-calls calls answered = Stands-after [] [] new_stream calls (record { each = tt; whole = refl }) answered
@@ -76,12 +81,12 @@ rest_is : (blocks : List (List ℕ)) (stream : List ℕ) (s : Stream) → Stands
 rest_is blocks stream s stands no_block =
     ap rest_of stands.whole ∙ rest_of-append blocks s.rest stands.each ∙ rest_of-no_block s.rest no_block
 
-used_up : (blocks : List (List ℕ)) (stream : List ℕ) (s : Stream) (long : Bool) → Stands blocks stream s → HasNoBlock s.rest →
-    too_long s.rest ≡ long → IsUsedUp blocks stream long
-used_up blocks stream s long stands no_block is =
+used_up : (blocks : List (List ℕ)) (stream : List ℕ) (s : Stream) (fault : Option Fault) → Stands blocks stream s → IsNextNone s fault →
+    IsUsedUp blocks stream fault
+used_up blocks stream s fault stands is =
     let all : blocks_of stream ≡ blocks = ap blocks_of stands.whole ∙ blocks_of-append blocks s.rest stands.each
-    ∙ ap (λ (more : List (List ℕ)). blocks ++ more) (blocks_of-no_block s.rest no_block) ∙ append-nil blocks in
-    (all, rw (rest_is blocks stream s stands no_block) is)
+    ∙ ap (λ (more : List (List ℕ)). blocks ++ more) (blocks_of-no_block s.rest is.0.no_block) ∙ append-nil blocks in
+    (all, rw (rest_is blocks stream s stands is.0.no_block) is.1)
 
 -- the blocks handed out come first in the stream
 pub ComeFirst-calls : (calls : List Call) → AreAnswered calls → ComeFirst (blocks_in calls) (stream_of calls)
@@ -102,8 +107,9 @@ follows : (blocks : List (List ℕ)) (stream : List ℕ) (s : Stream) (next : Ne
 follows blocks stream s (Block block) stands is =
     come_first (blocks ++ bytes_of block ∷ []) stream (after_next_block s)
     (Stands-block blocks stream s (after_next_block s) (bytes_of block) stands is)
-follows blocks stream s NeedMore stands is = used_up blocks stream s false stands is.0.no_block is.1
-follows blocks stream s (TooLong len) stands is = (used_up blocks stream s true stands is.0.no_block is.1, is.2)
+follows blocks stream s NeedMore stands is = used_up blocks stream s None stands is
+follows blocks stream s (TooLong len) stands is = used_up blocks stream s (Some (faults.TooLong len)) stands is
+follows blocks stream s BadLength stands is = used_up blocks stream s (Some faults.BadLength) stands is
 
 -- and each answer is the one that follows
 pub Follows-calls : (calls : List Call) (next : Next) → AreAnswered (calls ++ asked next ∷ []) →
@@ -113,22 +119,40 @@ Follows-calls calls next answered =
     answered-append new_stream calls (asked next ∷ []) answered in
     follows (blocks_in calls) (stream_of calls) (after new_stream calls) next (Stands-calls calls parts.0) parts.1.0
 
-always_too_long : (s : Stream) (calls : List Call) (len : ℕ) → too_long s.rest ≡ true → len ≡ 65537 → AreAnsweredFrom s calls →
-    AlwaysTooLong len calls
-always_too_long s [] len long is answered = tt
-always_too_long s (fed piece ∷ calls) len long is answered =
-    always_too_long (fed_with s piece) calls len (too_long-append s.rest piece long) is answered
-always_too_long s (asked (Block block) ∷ calls) len long is answered =
-    HasNoBlock-too_long s.rest long (bytes_of block) (after_next_block s).rest answered.0.is_block answered.0.rest
-always_too_long s (asked NeedMore ∷ calls) len long is answered = both_ways (too_long s.rest) answered.0.1 long
-always_too_long s (asked (TooLong again) ∷ calls) len long is answered =
-    (answered.0.2 ∙ sym is, always_too_long (after_next_block s) calls len (rw answered.0.0.rest long) is answered.1)
+some_fault : (a b : Fault) → Some a ≡ Some b → a ≡ b
+some_fault a b is = cc
 
--- after `TooLong` each answer is the same
-pub AlwaysTooLong-calls : (calls further : List Call) (len : ℕ) → AreAnswered (calls ++ asked (TooLong len) ∷ further) →
-    AlwaysTooLong len further
-AlwaysTooLong-calls calls further len answered =
+-- where something is wrong with the rest that is the answer
+IsNext-fault : (s : Stream) (fault : Fault) (next : Next) → fault_of s.rest ≡ Some fault → IsNext s next → next ≡ answer_for fault
+IsNext-fault s fault (Block block) wrong is =
+    absurd (HasNoBlock-front_of s.rest (front_of-fault s.rest fault wrong) (bytes_of block) (after_next_block s).rest is.is_block is.rest)
+IsNext-fault s fault NeedMore wrong is = let no : None ≡ Some fault = sym is.1 ∙ wrong in absurd (cc)
+IsNext-fault s fault (TooLong len) wrong is = ap answer_for (some_fault (faults.TooLong len) fault (sym is.1 ∙ wrong))
+IsNext-fault s fault BadLength wrong is = ap answer_for (some_fault faults.BadLength fault (sym is.1 ∙ wrong))
+
+rest-fault : (s : Stream) (fault : Fault) → fault_of s.rest ≡ Some fault → (after_next_block s).rest ≡ s.rest
+unfolding after_next_block
+rest-fault s fault wrong = rw (front_of-fault s.rest fault wrong) refl
+
+always_answered : (s : Stream) (calls : List Call) (fault : Fault) → fault_of s.rest ≡ Some fault → AreAnsweredFrom s calls →
+    AlwaysAnswered (answer_for fault) calls
+always_answered s [] fault wrong answered = tt
+always_answered s (fed piece ∷ calls) fault wrong answered =
+    always_answered (fed_with s piece) calls fault (fault_of-append s.rest piece fault wrong) answered
+always_answered s (asked next ∷ calls) fault wrong answered = (
+  IsNext-fault s fault next wrong answered.0,
+  always_answered (after_next_block s) calls fault (rw (rest-fault s fault wrong) wrong) answered.1,
+)
+
+fault_answered : (s : Stream) (fault : Fault) → IsNext s (answer_for fault) → fault_of s.rest ≡ Some fault
+fault_answered s (faults.TooLong len) is = is.1
+fault_answered s faults.BadLength is = is.1
+
+-- after the answer for a fault each answer is the same
+pub AlwaysAnswered-calls : (calls further : List Call) (fault : Fault) → AreAnswered (calls ++ asked (answer_for fault) ∷ further) →
+    AlwaysAnswered (answer_for fault) further
+AlwaysAnswered-calls calls further fault answered =
     let s : Stream = after new_stream calls in
-    let parts : AreAnsweredFrom new_stream calls × AreAnsweredFrom s (asked (TooLong len) ∷ further) =
-    answered-append new_stream calls (asked (TooLong len) ∷ further) answered in
-    (always_too_long s (asked (TooLong len) ∷ further) len parts.1.0.1 parts.1.0.2 parts.1).1
+    let parts : AreAnsweredFrom new_stream calls × AreAnsweredFrom s (asked (answer_for fault) ∷ further) =
+    answered-append new_stream calls (asked (answer_for fault) ∷ further) answered in
+    (always_answered s (asked (answer_for fault) ∷ further) fault (fault_answered s fault parts.1.0) parts.1).1

@@ -1,14 +1,16 @@
--- The block in front of some bytes.
+-- The head in front of some bytes.
 use Rattle.std.proofs.Common.{◌≡◌, ℕ, ◌≤◌, Bool, true, false, List, [], ◌∷◌, ◌++◌, length, take, drop, nat_le, Option, None, Some, refl}
 use Rattle.std.proofs.Common.{sym, ◌∙◌, ap, append_assoc, arith}
 use Rattle.std.proofs.lemmas.Bool.{le-leb, leb-true}
 use Rattle.std.proofs.lemmas.List.{append-nil, take_at, take-take, take-append-drop}
 use Rattle.std.proofs.lemmas.List.Folds.{concat-append}
-use Rattle.std.specs.List.{AllByRecursion, concat}
-use Rattle.fs_frame.specs.Block.{IsEmptyLine, IsTextLine, IsHead, IsBlock, text_of, lines_of, first_text, line_of, head_of, within_limit}
-use Rattle.fs_frame.specs.Block.{front_of}
+use Rattle.std.specs.List.{AllByRecursion, concat, filter_map}
+use Rattle.fs_frame.specs.Lines.{IsEmptyLine, IsTextLine, text_of, lines_of, first_text, up_to_command, behind_command}
+use Rattle.fs_frame.specs.Headers.{header_of, headers_among, headers_of}
+use Rattle.fs_frame.specs.Block.{IsHead, line_of, head_of, within_limit, head_in_front}
 use Rattle.fs_frame.proofs.LineLaws.{lines_of-line, lines_of-lines, AreLines, AreLines-lines_of, AllByRecursion-lines, head_of-parts}
-use Rattle.fs_frame.proofs.LineLaws.{first_text-empties, Headed, head_of-headed}
+use Rattle.fs_frame.proofs.LineLaws.{first_text-empties, behind_command-empties, up_to_command-empties, has_bytes-none, has_bytes-some}
+use Rattle.fs_frame.proofs.LineLaws.{Headed, head_of-headed}
 
 -- the parts of a head
 abbrev spelling_of : List (List ℕ) → List ℕ → List (List ℕ) → List ℕ → List ℕ
@@ -40,16 +42,42 @@ lines_of-head : (bytes more : List ℕ) (head : IsHead bytes) →
 lines_of-head bytes more head = ap (λ (bs : List ℕ). lines_of (bs ++ more)) head.spelling
     ∙ lines_of-parts head.empties head.command head.headers head.end more head.are_empty head.is_command head.are_headers head.is_end
 
--- the line of a head is the text of its command line
+-- the line of bytes that begin with a head is the text of its command line
+pub first_text-head : (bytes more : List ℕ) (head : IsHead bytes) → first_text (lines_of (bytes ++ more)) ≡ text_of head.command
+first_text-head bytes more head = ap first_text (lines_of-head bytes more head)
+    ∙ first_text-empties head.empties head.command (head.headers ++ head.end ∷ lines_of more) head.are_empty head.is_command.1
+
 pub line_of-head : (bytes : List ℕ) (head : IsHead bytes) → line_of bytes ≡ text_of head.command
 unfolding line_of
-line_of-head bytes head =
-    let lines : lines_of bytes ≡ head.empties ++ head.command ∷ (head.headers ++ head.end ∷ []) =
-    ap lines_of (sym (append-nil bytes)) ∙ lines_of-head bytes [] head in
-    ap first_text lines ∙ first_text-empties head.empties head.command (head.headers ++ head.end ∷ []) head.are_empty head.is_command.1
+line_of-head bytes head = ap (λ (bs : List ℕ). first_text (lines_of bs)) (sym (append-nil bytes)) ∙ first_text-head bytes [] head
+
+pub up_to_command-head : (bytes more : List ℕ) (head : IsHead bytes) →
+    up_to_command (lines_of (bytes ++ more)) ≡ concat head.empties ++ head.command
+up_to_command-head bytes more head = ap up_to_command (lines_of-head bytes more head)
+    ∙ up_to_command-empties head.empties head.command (head.headers ++ head.end ∷ lines_of more) head.are_empty head.is_command.1
+
+-- and their headers are those of its header lines
+headers_among-lines : (headers : List (List ℕ)) (end : List ℕ) (more : List (List ℕ)) → AllByRecursion IsTextLine headers →
+    text_of end ≡ [] → headers_among (headers ++ end ∷ more) ≡ filter_map (λ line. header_of (text_of line)) headers
+headers_among-lines [] end more all empty = rw (has_bytes-none (text_of end) empty) refl
+headers_among-lines (line ∷ headers) end more all empty =
+    rw (has_bytes-some (text_of line) all.0.1, headers_among-lines headers end more all.1 empty) refl
+
+pub headers_of-append : (bytes more : List ℕ) (head : IsHead bytes) →
+    headers_of (bytes ++ more) ≡ filter_map (λ line. header_of (text_of line)) head.headers
+unfolding headers_of
+headers_of-append bytes more head =
+    ap (λ (lines : List (List ℕ)). headers_among (behind_command lines)) (lines_of-head bytes more head)
+    ∙ ap headers_among
+    (behind_command-empties head.empties head.command (head.headers ++ head.end ∷ lines_of more) head.are_empty head.is_command.1)
+    ∙ headers_among-lines head.headers head.end (lines_of more) head.are_headers head.is_end.1
+
+pub headers_of-head : (bytes : List ℕ) (head : IsHead bytes) →
+    headers_of bytes ≡ filter_map (λ line. header_of (text_of line)) head.headers
+headers_of-head bytes head = ap headers_of (sym (append-nil bytes)) ∙ headers_of-append bytes [] head
 
 -- a head is found in front, whatever follows it
-head_of-head : (bytes more : List ℕ) (head : IsHead bytes) → head_of (lines_of (bytes ++ more)) ≡ Some bytes
+pub head_of-head : (bytes more : List ℕ) (head : IsHead bytes) → head_of (lines_of (bytes ++ more)) ≡ Some bytes
 head_of-head bytes more head =
     let whole : bytes ≡ concat head.empties ++ (head.command ++ (concat head.headers ++ head.end)) =
     head.spelling ∙ grouped (concat head.empties) head.command (concat head.headers) head.end in
@@ -57,17 +85,18 @@ head_of-head bytes more head =
     ∙ head_of-parts head.empties head.command head.headers head.end
     (lines_of more) head.are_empty head.is_command head.are_headers head.is_end ∙ ap (λ (bs : List ℕ). Some bs) (sym whole)
 
-pub front_of-found : (bytes head : List ℕ) → head_of (lines_of bytes) ≡ Some head → length head ≤ 65536 → front_of bytes ≡ Some head
-unfolding front_of
-front_of-found bytes head found within = rw (found, le-leb (length head) 65536 within) refl
+pub head_in_front-found : (bytes head : List ℕ) → head_of (lines_of bytes) ≡ Some head → length head ≤ 65536 →
+    head_in_front bytes ≡ Some head
+unfolding head_in_front
+head_in_front-found bytes head found within = rw (found, le-leb (length head) 65536 within) refl
 
-pub front_of-no_head : (bytes : List ℕ) → head_of (lines_of bytes) ≡ None → front_of bytes ≡ None
-unfolding front_of
-front_of-no_head bytes nothing = rw nothing refl
+pub head_in_front-no_head : (bytes : List ℕ) → head_of (lines_of bytes) ≡ None → head_in_front bytes ≡ None
+unfolding head_in_front
+head_in_front-no_head bytes nothing = rw nothing refl
 
--- a block is found in front, whatever follows it
-pub front_of-append : (block more : List ℕ) → IsBlock block → front_of (block ++ more) ≡ Some block
-front_of-append block more is_block = front_of-found (block ++ more) block (head_of-head block more is_block.head) is_block.within
+-- so is one within the limit
+pub head_in_front-append : (head more : List ℕ) → IsHead head → length head ≤ 65536 → head_in_front (head ++ more) ≡ Some head
+head_in_front-append head more is_head within = head_in_front-found (head ++ more) head (head_of-head head more is_head) within
 
 -- the head stands in front of the bytes
 pub record HeadInFront (head bytes : List ℕ) : Type 0 where
@@ -119,33 +148,40 @@ head_of-stands bytes head found =
           ∙ append_assoc head (concat headed.ended.more) are.behind;
     }
 
--- a block stands in front of the bytes
-pub record StandsInFront (block bytes : List ℕ) : Type 0 where
-  pub is_block : IsBlock block
+within_limit-some : (head found : List ℕ) → within_limit head ≡ Some found → (head ≡ found) × (length found ≤ 65536)
+within_limit-some head found is = step (nat_le (length head) 65536) refl
+  where
+    step : (b : Bool) → nat_le (length head) 65536 ≡ b → (head ≡ found) × (length found ≤ 65536)
+    step false over = let no : None ≡ Some found = rw over at is in cc
+    step true fits =
+        let here : Some head ≡ Some found = rw fits at is in
+        let same : head ≡ found = cc in
+        (same, rw (← same) (leb-true (length head) 65536 fits))
+
+-- a head within the limit stands in front of the bytes
+pub record ShortHead (head bytes : List ℕ) : Type 0 where
+  pub is_head : IsHead head
+  pub within : length head ≤ 65536
   pub more : List ℕ
-  pub split : bytes ≡ block ++ more
+  pub split : bytes ≡ head ++ more
 
-within_limit-some : (head block : List ℕ) → within_limit head ≡ Some block → (head ≡ block) × (length block ≤ 65536)
-within_limit-some head block found = step (nat_le (length head) 65536) refl
+pub head_in_front-stands : (bytes head : List ℕ) → head_in_front bytes ≡ Some head → ShortHead head bytes
+unfolding head_in_front
+head_in_front-stands bytes head found = step (head_of (lines_of bytes)) refl
   where
-    step : (b : Bool) → nat_le (length head) 65536 ≡ b → (head ≡ block) × (length block ≤ 65536)
-    step false is = let no : None ≡ Some block = rw is at found in cc
-    step true is =
-        let here : Some head ≡ Some block = rw is at found in
-        let same : head ≡ block = cc in
-        (same, rw (← same) (leb-true (length head) 65536 is))
+    step : (first : Option (List ℕ)) → head_of (lines_of bytes) ≡ first → ShortHead head bytes
+    step None is = let no : None ≡ Some head = rw is at found in cc
+    step (Some first) is =
+        let parts : (first ≡ head) × (length head ≤ 65536) = within_limit-some first head (rw is at found) in
+        let stands : HeadInFront head bytes = head_of-stands bytes head (rw (← parts.0) is) in
+        record { is_head = stands.is_head; within = parts.1; more = stands.more; split = stands.split }
 
--- what is found in front is a block, and stands there
-pub front_of-stands : (bytes block : List ℕ) → front_of bytes ≡ Some block → StandsInFront block bytes
-unfolding front_of
-front_of-stands bytes block found = step (head_of (lines_of bytes)) refl
-  where
-    step : (head : Option (List ℕ)) → head_of (lines_of bytes) ≡ head → StandsInFront block bytes
-    step None is = let no : None ≡ Some block = rw is at found in cc
-    step (Some head) is =
-        let parts : (head ≡ block) × (length block ≤ 65536) = within_limit-some head block (rw is at found) in
-        let stands : HeadInFront block bytes = head_of-stands bytes block (rw (← parts.0) is) in
-        record { is_block = record { head = stands.is_head; within = parts.1 }; more = stands.more; split = stands.split }
+-- it is found whatever follows
+pub head_in_front-grown : (bytes more head : List ℕ) → head_in_front bytes ≡ Some head → head_in_front (bytes ++ more) ≡ Some head
+head_in_front-grown bytes more head found =
+    let stands : ShortHead head bytes = head_in_front-stands bytes head found in
+    ap (λ (bs : List ℕ). head_in_front (bs ++ more)) stands.split ∙ ap head_in_front (append_assoc head stands.more more) ∙
+    head_in_front-append head (stands.more ++ more) stands.is_head stands.within
 
 -- a front that is no longer than so many bytes is a front of these
 front_within : (n : ℕ) (bytes front more : List ℕ) → bytes ≡ front ++ more → length front ≤ n →
@@ -155,24 +191,21 @@ front_within n bytes front more split fits =
     ∙ ap (λ (bs : List ℕ). take (length front) bs) split ∙ take_at front more (length front) refl in
     sym (take-append-drop (length front) (take n bytes)) ∙ ap (λ (bs : List ℕ). bs ++ drop (length front) (take n bytes)) same
 
--- the block in front is found in as many bytes as it may have
-pub front_of-take : (n : ℕ) (bytes : List ℕ) → 65536 ≤ n → front_of (take n bytes) ≡ front_of bytes
-front_of-take n bytes enough = step (front_of bytes) refl
+-- the head is found in as many bytes as a block may have
+pub head_in_front-take : (n : ℕ) (bytes : List ℕ) → 65536 ≤ n → head_in_front (take n bytes) ≡ head_in_front bytes
+head_in_front-take n bytes enough = step (head_in_front bytes) refl
   where
-    grown : (found : Option (List ℕ)) → front_of (take n bytes) ≡ found → front_of bytes ≡ None → found ≡ None
+    grown : (found : Option (List ℕ)) → head_in_front (take n bytes) ≡ found → head_in_front bytes ≡ None → found ≡ None
     grown None is nothing = refl
-    grown (Some block) is nothing =
-        let stands : StandsInFront block (take n bytes) = front_of-stands (take n bytes) block is in
-        let split : bytes ≡ block ++ (stands.more ++ drop n bytes) =
-        sym (take-append-drop n bytes) ∙ ap (λ (bs : List ℕ). bs ++ drop n bytes) stands.split
-        ∙ append_assoc block stands.more (drop n bytes) in
-        let found : front_of bytes ≡ Some block = ap front_of split ∙ front_of-append block (stands.more ++ drop n bytes) stands.is_block in
+    grown (Some head) is nothing =
+        let found : head_in_front bytes ≡ Some head = ap head_in_front (sym (take-append-drop n bytes))
+        ∙ head_in_front-grown (take n bytes) (drop n bytes) head is in
         cc
 
-    step : (found : Option (List ℕ)) → front_of bytes ≡ found → front_of (take n bytes) ≡ front_of bytes
-    step None is = grown (front_of (take n bytes)) refl is ∙ sym is
-    step (Some block) is =
-        let stands : StandsInFront block bytes = front_of-stands bytes block is in
-        let split : take n bytes ≡ block ++ drop (length block) (take n bytes) =
-        front_within n bytes block stands.more stands.split (omega (arith, stands.is_block.within)) in
-        ap front_of split ∙ front_of-append block (drop (length block) (take n bytes)) stands.is_block ∙ sym is
+    step : (found : Option (List ℕ)) → head_in_front bytes ≡ found → head_in_front (take n bytes) ≡ head_in_front bytes
+    step None is = grown (head_in_front (take n bytes)) refl is ∙ sym is
+    step (Some head) is =
+        let stands : ShortHead head bytes = head_in_front-stands bytes head is in
+        let split : take n bytes ≡ head ++ drop (length head) (take n bytes) =
+        front_within n bytes head stands.more stands.split (omega (arith, stands.within)) in
+        ap head_in_front split ∙ head_in_front-append head (drop (length head) (take n bytes)) stands.is_head stands.within ∙ sym is

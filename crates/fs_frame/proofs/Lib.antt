@@ -1,8 +1,11 @@
 pub mod LineLaws
 pub mod FormLaws
+pub mod BodyLaws
 pub mod ScanLaws
+pub mod CommandLaws
+pub mod HeaderLaws
+pub mod LengthLaws
 pub mod FrontLaws
 pub mod BlockLaws
 pub mod StreamLaws
 pub mod CallLaws
-pub mod FirstLine

@@ -1,13 +1,15 @@
 -- Lines in bytes, and heads in lines.
 use Rattle.std.proofs.Common.{◌≡◌, ◌≢◌, ℕ, Bool, true, false, List, [], ◌∷◌, ◌++◌, length, Option, None, Some, ◌⊎◌, inl, inr, refl, sym}
-use Rattle.std.proofs.Common.{◌∙◌, ap, one-add, append_assoc, eqb}
+use Rattle.std.proofs.Common.{◌∙◌, ap, one-add, append_assoc, eqb, drop, arith, length-append}
 use Rattle.std.proofs.lemmas.Bool.{or_parts}
 use Rattle.std.proofs.lemmas.Bool.Decides.{eqb_tells}
-use Rattle.std.proofs.lemmas.List.{take_at}
+use Rattle.std.proofs.lemmas.List.{append-nil, take_at, drop_at}
+use Rattle.std.proofs.lemmas.List.Folds.{concat-append}
 use Rattle.std.specs.List.{AllByRecursion, concat, list_any, position_or_len}
 use Rattle.std.specs.Option.{option_map}
-use Rattle.fs_frame.specs.Block.{is_lf, IsLine, IsEmptyLine, IsTextLine, without_cr, text_of, with_front, lines_of, has_bytes, has_text}
-use Rattle.fs_frame.specs.Block.{first_text, up_to_empty, head_of}
+use Rattle.fs_frame.specs.Lines.{is_lf, IsLine, IsEmptyLine, IsTextLine, without_cr, text_of, with_front, lines_of, has_bytes, has_text}
+use Rattle.fs_frame.specs.Lines.{first_text, up_to_command, behind_command}
+use Rattle.fs_frame.specs.Block.{up_to_empty, head_of}
 
 -- the first byte that passes stands behind those that do not
 pub position_or_len-append : (p : ℕ → Bool) (front : List ℕ) (byte : ℕ) (more : List ℕ) → list_any p front ≡ false → p byte ≡ true →
@@ -153,6 +155,51 @@ pub first_text-empties : (empties : List (List ℕ)) (command : List ℕ) (more 
 first_text-empties [] command more all some = rw (has_bytes-some (text_of command) some) refl
 first_text-empties (line ∷ empties) command more all some =
     rw (has_bytes-none (text_of line) all.0.1) (first_text-empties empties command more all.1 some)
+
+-- and what stands behind the command line, and up to it
+pub behind_command-empties : (empties : List (List ℕ)) (command : List ℕ) (more : List (List ℕ)) → AllByRecursion IsEmptyLine empties →
+    text_of command ≢ [] → behind_command (empties ++ command ∷ more) ≡ more
+behind_command-empties [] command more all some = rw (has_bytes-some (text_of command) some) refl
+behind_command-empties (line ∷ empties) command more all some =
+    rw (has_bytes-none (text_of line) all.0.1) (behind_command-empties empties command more all.1 some)
+
+pub up_to_command-empties : (empties : List (List ℕ)) (command : List ℕ) (more : List (List ℕ)) → AllByRecursion IsEmptyLine empties →
+    text_of command ≢ [] → up_to_command (empties ++ command ∷ more) ≡ concat empties ++ command
+up_to_command-empties [] command more all some = rw (has_bytes-some (text_of command) some) (append-nil command)
+up_to_command-empties (line ∷ empties) command more all some =
+    rw (has_bytes-none (text_of line) all.0.1, up_to_command-empties empties command more all.1 some)
+    (sym (append_assoc line (concat empties) command))
+
+-- whole lines in front of the bytes
+append_none : (xs ys : List (List ℕ)) → xs ≡ xs ++ ys → ys ≡ []
+append_none xs [] is = refl
+append_none xs (y ∷ ys) is = absurd (omega (arith, ap length is, length-append xs (y ∷ ys)))
+
+-- behind the first lines of the bytes the others follow
+pub lines_of-behind : (bytes : List ℕ) (front behind : List (List ℕ)) → lines_of bytes ≡ front ++ behind →
+    lines_of (drop (length (concat front)) bytes) ≡ behind
+lines_of-behind bytes front behind is =
+    ap lines_of (ap (drop (length (concat front))) split ∙ drop_at (concat front) (concat behind ++ rest) (length (concat front)) refl)
+    ∙ lines_of-lines behind rest (all_behind front behind (rw is at are.all)) ∙ ap (λ (lines : List (List ℕ)). behind ++ lines) none
+    ∙ append-nil behind
+  where
+    are : AreLines bytes (lines_of bytes)
+    are = AreLines-lines_of bytes
+
+    rest : List ℕ
+    rest = are.behind
+
+    none : lines_of rest ≡ []
+    none = append_none (lines_of bytes) (lines_of rest) (ap lines_of are.split ∙ lines_of-lines (lines_of bytes) rest are.all)
+
+    split : bytes ≡ concat front ++ (concat behind ++ rest)
+    split =
+        are.split ∙ ap (λ (lines : List (List ℕ)). concat lines ++ rest) is ∙ ap (λ (bs : List ℕ). bs ++ rest) (concat-append front behind)
+        ∙ append_assoc (concat front) (concat behind) rest
+
+    all_behind : (xs ys : List (List ℕ)) → AllByRecursion IsLine (xs ++ ys) → AllByRecursion IsLine ys
+    all_behind [] ys all = all
+    all_behind (x ∷ xs) ys all = all_behind xs ys all.1
 
 -- lines with a text and the empty line behind them stand in front of the lines
 pub record Ended (lines : List (List ℕ)) (bytes : List ℕ) : Type 0 where

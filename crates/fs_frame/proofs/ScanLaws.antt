@@ -8,9 +8,11 @@ use Rattle.std.proofs.lemmas.List.Folds.{concat-append, list_any-append}
 use Rattle.std.proofs.lemmas.List.Sums.{prefix_len-le-length}
 use Rattle.std.specs.List.{concat, list_any, position_or_len}
 use Rattle.std.specs.Option.{option_map}
-use Rattle.fs_frame.specs.Block.{is_lf, IsLine, without_cr, text_of, lines_of, has_text, first_text, line_of, up_to_empty, head_of}
-use Rattle.fs_frame.specs.Front.{span_bytes, IsPassed, IsScanned, GoesOn, IsLineAt, StandsHead}
+use Rattle.fs_frame.specs.Lines.{is_lf, IsLine, without_cr, text_of, lines_of, has_text, first_text, up_to_command}
+use Rattle.fs_frame.specs.Block.{up_to_empty, head_of}
+use Rattle.fs_frame.specs.Front.{span_bytes, IsCommandAt, IsPassed, IsScanned, GoesOn, StandsHead}
 use Rattle.fs_frame.specs.declared.span.Span.{Span}
+use Rattle.fs_frame.specs.declared.span.CommandLine.{CommandLine}
 use Rattle.fs_frame.specs.declared.scan.Scan.{Scan}
 use Rattle.fs_frame.proofs.LineLaws.{position_or_len-append, position_or_len-none, text_of-content, lines_of-line, lines_of-none}
 use Rattle.fs_frame.proofs.LineLaws.{lines_of-append, has_bytes-none, has_bytes-some}
@@ -234,6 +236,24 @@ first_text-append (line ∷ lines) more = step (has_text line) refl (first_text-
     step true is again = rw is refl
     step false is again = rw is again
 
+up_to_command-append : (lines more : List (List ℕ)) →
+    up_to_command (lines ++ more) ≡ cond (list_any has_text lines) (up_to_command lines) (concat lines ++ up_to_command more)
+up_to_command-append [] more = refl
+up_to_command-append (line ∷ lines) more = step (has_text line) refl (up_to_command-append lines more)
+  where
+    behind : (b : Bool) → list_any has_text lines ≡ b →
+        up_to_command (lines ++ more) ≡ cond b (up_to_command lines) (concat lines ++ up_to_command more) →
+        line ++ up_to_command (lines ++ more) ≡ cond b (line ++ up_to_command lines) ((line ++ concat lines) ++ up_to_command more)
+    behind true is again = ap (λ (bs : List ℕ). line ++ bs) again
+    behind false is again = ap (λ (bs : List ℕ). line ++ bs) again ∙ sym (append_assoc line (concat lines) (up_to_command more))
+
+    step : (b : Bool) → has_text line ≡ b →
+        up_to_command (lines ++ more) ≡ cond (list_any has_text lines) (up_to_command lines) (concat lines ++ up_to_command more) →
+        up_to_command (line ∷ (lines ++ more)) ≡ cond (list_any has_text (line ∷ lines)) (up_to_command (line ∷ lines))
+        ((line ++ concat lines) ++ up_to_command more)
+    step true is again = rw is refl
+    step false is again = rw is (behind (list_any has_text lines) refl again)
+
 -- one more line behind those that were passed
 lines_of-more : (passed line : List ℕ) → concat (lines_of passed) ≡ passed → IsLine line →
     lines_of (passed ++ line) ≡ lines_of passed ++ line ∷ []
@@ -245,7 +265,7 @@ whole-more : (passed line : List ℕ) → concat (lines_of passed) ≡ passed �
 whole-more passed line whole is_line =
     rw (lines_of-more passed line whole is_line, concat-append (lines_of passed) (line ∷ []), whole, append-nil line) refl
 
-span_bytes-append : (xs ys : List ℕ) (span : Span) → span.start + span.len ≤ length xs → span_bytes (xs ++ ys) span ≡ span_bytes xs span
+pub span_bytes-append : (xs ys : List ℕ) (span : Span) → span.start + span.len ≤ length xs → span_bytes (xs ++ ys) span ≡ span_bytes xs span
 span_bytes-append xs ys span fits =
     rw (drop-append-le span.start xs ys (omega arith))
     (take-append-le (span.start + span.len - span.start) (drop span.start xs) ys (omega (arith, length-drop span.start xs)))
@@ -258,6 +278,16 @@ any-more lines line =
     or-false true = refl
     or-false false = refl
 
+-- the command line stays where it is
+IsCommandAt-more : (passed line : List ℕ) (command : CommandLine) → IsCommandAt passed command → list_any has_text (lines_of passed) ≡ true →
+    lines_of (passed ++ line) ≡ lines_of passed ++ line ∷ [] → IsCommandAt (passed ++ line) command
+IsCommandAt-more passed line command is met lines = record {
+  within = omega (arith, is.within, length-append passed line);
+  text = rw (lines, first_text-append (lines_of passed) (line ∷ []), met) (span_bytes-append passed line command.text is.within ∙ is.text);
+  end_within = omega (arith, is.end_within, length-append passed line);
+  end_is = rw (lines, up_to_command-append (lines_of passed) (line ∷ []), met) is.end_is;
+}
+
 -- an empty line before the command
 pub IsPassed-empty : (passed line : List ℕ) → IsPassed passed None → IsLine line → text_of line ≡ [] → IsPassed (passed ++ line) None
 IsPassed-empty passed line is is_line empty =
@@ -268,15 +298,14 @@ IsPassed-empty passed line is is_line empty =
       whole = whole-more passed line is.whole is_line;
       no_head = rw (lines, head_of-append (lines_of passed) (line ∷ []) is.no_head, none, no_text) refl;
       met = rw (lines, any-more (lines_of passed) line, none, no_text) refl;
-      text = rw (lines, first_text-append (lines_of passed) (line ∷ []), none, no_text) refl;
-      within = omega arith;
+      command_is = tt;
     }
 
 -- the command line
-pub IsPassed-command : (passed line : List ℕ) (span : Span) → IsPassed passed None → IsLine line → text_of line ≢ [] →
-    span.start + span.len ≤ length (passed ++ line) → span_bytes (passed ++ line) span ≡ text_of line → IsPassed (passed ++ line)
-    (Some span)
-IsPassed-command passed line span is is_line some fits text =
+pub IsPassed-command : (passed line : List ℕ) (command : CommandLine) → IsPassed passed None → IsLine line → text_of line ≢ [] →
+    command.text.start + command.text.len ≤ length (passed ++ line) → span_bytes (passed ++ line) command.text ≡ text_of line →
+    command.end ≡ length (passed ++ line) → IsPassed (passed ++ line) (Some command)
+IsPassed-command passed line command is is_line some fits text ends =
     let none : list_any has_text (lines_of passed) ≡ false = sym is.met in
     let has : has_text line ≡ true = has_bytes-some (text_of line) some in
     let lines : lines_of (passed ++ line) ≡ lines_of passed ++ line ∷ [] = lines_of-more passed line is.whole is_line in
@@ -284,14 +313,18 @@ IsPassed-command passed line span is is_line some fits text =
       whole = whole-more passed line is.whole is_line;
       no_head = rw (lines, head_of-append (lines_of passed) (line ∷ []) is.no_head, none, has) refl;
       met = rw (lines, any-more (lines_of passed) line, none, has) refl;
-      text = rw (lines, first_text-append (lines_of passed) (line ∷ []), none, has) text;
-      within = fits;
+      command_is = record {
+        within = fits;
+        text = rw (lines, first_text-append (lines_of passed) (line ∷ []), none, has) text;
+        end_within = omega (arith, ends);
+        end_is = rw (lines, up_to_command-append (lines_of passed) (line ∷ []), none, has, is.whole, append-nil line) ends;
+      };
     }
 
 -- a header line
-pub IsPassed-header : (passed line : List ℕ) (span : Span) → IsPassed passed (Some span) → IsLine line → text_of line ≢ [] →
-    IsPassed (passed ++ line) (Some span)
-IsPassed-header passed line span is is_line some =
+pub IsPassed-header : (passed line : List ℕ) (command : CommandLine) → IsPassed passed (Some command) → IsLine line → text_of line ≢ [] →
+    IsPassed (passed ++ line) (Some command)
+IsPassed-header passed line command is is_line some =
     let met : list_any has_text (lines_of passed) ≡ true = sym is.met in
     let has : has_text line ≡ true = has_bytes-some (text_of line) some in
     let lines : lines_of (passed ++ line) ≡ lines_of passed ++ line ∷ [] = lines_of-more passed line is.whole is_line in
@@ -299,14 +332,13 @@ IsPassed-header passed line span is is_line some =
       whole = whole-more passed line is.whole is_line;
       no_head = rw (lines, head_of-append (lines_of passed) (line ∷ []) is.no_head, met, has) refl;
       met = rw (lines, any-more (lines_of passed) line, met) refl;
-      text = rw (lines, first_text-append (lines_of passed) (line ∷ []), met) (span_bytes-append passed line span is.within ∙ is.text);
-      within = omega (arith, is.within, length-append passed line);
+      command_is = IsCommandAt-more passed line command is.command_is met lines;
     }
 
 -- the empty line that ends the head
-head-ended : (passed line more : List ℕ) (span : Span) → IsPassed passed (Some span) → IsLine line → text_of line ≡ [] →
+head-ended : (passed line more : List ℕ) (command : CommandLine) → IsPassed passed (Some command) → IsLine line → text_of line ≡ [] →
     head_of (lines_of (passed ++ (line ++ more))) ≡ Some (passed ++ line)
-head-ended passed line more span is is_line empty =
+head-ended passed line more command is is_line empty =
     let met : list_any has_text (lines_of passed) ≡ true = sym is.met in
     let none : has_text line ≡ false = has_bytes-none (text_of line) empty in
     rw (
@@ -319,15 +351,10 @@ head-ended passed line more span is is_line empty =
       is.whole,
     ) refl
 
-line_at : (passed line : List ℕ) (span : Span) → IsPassed passed (Some span) → IsLine line → IsLineAt (passed ++ line) span
-unfolding line_of
-line_at passed line span is is_line =
-    let met : list_any has_text (lines_of passed) ≡ true = sym is.met in
-    record {
-      within = omega (arith, is.within, length-append passed line);
-      text = rw (lines_of-more passed line is.whole is_line, first_text-append (lines_of passed) (line ∷ []), met)
-          (span_bytes-append passed line span is.within ∙ is.text);
-    }
+command_at : (passed line : List ℕ) (command : CommandLine) → IsPassed passed (Some command) → IsLine line →
+    IsCommandAt (passed ++ line) command
+command_at passed line command is is_line =
+    IsCommandAt-more passed line command is.command_is (sym is.met) (lines_of-more passed line is.whole is_line)
 
 -- the line at hand, behind what was passed
 record AtHand (bytes : List ℕ) (scan : Scan) (text_len len : ℕ) : Type 0 where
@@ -403,23 +430,24 @@ some_text : (content line : List ℕ) (text_len : ℕ) → text_of line ≡ take
 some_text content line text_len text within some empty =
     some (omega (arith, ap length (sym text ∙ empty), length-take-le text_len content within))
 
-passed_by : (bytes : List ℕ) (scan : Scan) (text_len len : ℕ) (command : Option Span) (hand : AtHand bytes scan text_len len) →
+passed_by : (bytes : List ℕ) (scan : Scan) (text_len len : ℕ) (command : Option CommandLine) (hand : AtHand bytes scan text_len len) →
     IsScanned bytes scan → scan.command ≡ command → IsPassed hand.passed command
 passed_by bytes scan text_len len command hand scanned is = rw (← is, ← hand.passed_is) scanned.is_passed
 
 -- the line ends a head
-pub ends_head : (bytes : List ℕ) (scan : Scan) (text_len len : ℕ) (span : Span) → IsScanned bytes scan →
-    GoesOn (drop scan.passed bytes) text_len len → scan.command ≡ Some span → text_len ≡ 0 → StandsHead bytes (scan.passed + len) span
-ends_head bytes scan text_len len span scanned goes met none =
+pub ends_head : (bytes : List ℕ) (scan : Scan) (text_len len : ℕ) (command : CommandLine) → IsScanned bytes scan →
+    GoesOn (drop scan.passed bytes) text_len len → scan.command ≡ Some command → text_len ≡ 0 →
+    StandsHead bytes (scan.passed + len) command
+ends_head bytes scan text_len len command scanned goes met none =
     let hand : AtHand bytes scan text_len len = at_hand bytes scan text_len len scanned goes in
-    let is : IsPassed hand.passed (Some span) = passed_by bytes scan text_len len (Some span) hand scanned met in
+    let is : IsPassed hand.passed (Some command) = passed_by bytes scan text_len len (Some command) hand scanned met in
     let front : take (scan.passed + len) bytes ≡ hand.passed ++ hand.line = behind_take bytes scan text_len len hand in
     record {
       within = behind_within bytes scan text_len len hand;
       head = ap (λ (bs : List ℕ). head_of (lines_of bs)) hand.split
-          ∙ head-ended hand.passed hand.line hand.more span is hand.is_line (no_text hand.content hand.line text_len hand.text none)
+          ∙ head-ended hand.passed hand.line hand.more command is hand.is_line (no_text hand.content hand.line text_len hand.text none)
           ∙ ap (λ (bs : List ℕ). Some bs) (sym front);
-      line_is = rw front (line_at hand.passed hand.line span is hand.is_line);
+      command_is = rw front (command_at hand.passed hand.line command is hand.is_line);
     }
 
 -- the line is an empty one in front
@@ -438,11 +466,12 @@ passes_empty bytes scan next text_len len scanned goes met none is =
     )
 
 -- the line is the command line
-pub passes_command : (bytes : List ℕ) (scan next : Scan) (text_len len : ℕ) → IsScanned bytes scan →
+pub passes_command : (bytes : List ℕ) (scan next : Scan) (command : CommandLine) (text_len len : ℕ) → IsScanned bytes scan →
     GoesOn (drop scan.passed bytes) text_len len → scan.command ≡ None → text_len ≢ 0 →
-    next ≡ record { passed = scan.passed + len; searched = 0; command = Some (record { start = scan.passed; len = text_len }) } →
+    command ≡ record { text = record { start = scan.passed; len = text_len }; end = scan.passed + len } →
+    next ≡ record { passed = scan.passed + len; searched = 0; command = Some command } →
     IsScanned bytes next × (next.passed ≡ scan.passed + len)
-passes_command bytes scan next text_len len scanned goes met some is =
+passes_command bytes scan next command text_len len scanned goes met some at is =
     let hand : AtHand bytes scan text_len len = at_hand bytes scan text_len len scanned goes in
     let span : Span = record { start = scan.passed; len = text_len } in
     let width : scan.passed + text_len - scan.passed ≡ text_len = omega arith in
@@ -452,13 +481,15 @@ passes_command bytes scan next text_len len scanned goes met some is =
     rw (drop_at hand.passed hand.line scan.passed hand.passed_len, width)
     (ap (λ (bs : List ℕ). take text_len bs) hand.line_is ∙ take-append-le text_len hand.content (10 ∷ []) hand.text_within
     ∙ sym hand.text) in
-    let passed : IsPassed (hand.passed ++ hand.line) (Some span) =
-    IsPassed-command hand.passed hand.line span (passed_by bytes scan text_len len None hand scanned met) hand.is_line
+    let place : CommandLine = record { text = span; end = scan.passed + len } in
+    let passed : IsPassed (hand.passed ++ hand.line) (Some place) =
+    IsPassed-command hand.passed hand.line place (passed_by bytes scan text_len len None hand scanned met) hand.is_line
     (some_text hand.content hand.line text_len hand.text hand.text_within some)
-    (omega (arith, hand.passed_len, content_len, length-append hand.passed hand.line)) text in
-    rw is (
+    (omega (arith, hand.passed_len, content_len, length-append hand.passed hand.line)) text
+    (sym (behind_len bytes scan text_len len hand)) in
+    rw (is, at) (
       goes_behind bytes scan
-          (record { passed = scan.passed + len; searched = 0; command = Some span }) text_len len hand passed refl refl,
+          (record { passed = scan.passed + len; searched = 0; command = Some place }) text_len len hand passed refl refl,
       refl,
     )
 
@@ -472,14 +503,15 @@ passes_header bytes scan next text_len len scanned goes met some is = rw is (ste
     hand : AtHand bytes scan text_len len
     hand = at_hand bytes scan text_len len scanned goes
 
-    step : (command : Option Span) → scan.command ≡ command →
+    step : (command : Option CommandLine) → scan.command ≡ command →
         IsScanned bytes (record { passed = scan.passed + len; searched = 0; command = command })
     step None none = absurd (met none)
-    step (Some span) there =
-        let passed : IsPassed (hand.passed ++ hand.line) (Some span) =
-        IsPassed-header hand.passed hand.line span (passed_by bytes scan text_len len (Some span) hand scanned there) hand.is_line
+    step (Some command) there =
+        let passed : IsPassed (hand.passed ++ hand.line) (Some command) =
+        IsPassed-header hand.passed hand.line command (passed_by bytes scan text_len len (Some command) hand scanned there) hand.is_line
         (some_text hand.content hand.line text_len hand.text hand.text_within some) in
-        goes_behind bytes scan (record { passed = scan.passed + len; searched = 0; command = Some span }) text_len len hand passed refl refl
+        goes_behind bytes scan (record { passed = scan.passed + len; searched = 0; command = Some command }) text_len len hand passed
+        refl refl
 
 -- the bytes go on with no line, so no head ends in them
 pub searched_all : (bytes : List ℕ) (scan : Scan) → IsScanned bytes scan → list_any is_lf (drop scan.passed bytes) ≡ false →

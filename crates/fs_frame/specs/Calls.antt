@@ -1,11 +1,13 @@
 -- What a buffer answers over a whole list of calls.
-use Rattle.std.specs.Prelude.{◌≡◌, ℕ, Bool, true, false, List, [], ◌∷◌, ◌++◌, ⊤}
-use Rattle.fs_frame.specs.Block.{too_long}
+use Rattle.std.specs.Prelude.{◌≡◌, ℕ, List, [], ◌∷◌, ◌++◌, ⊤, Option, None, Some}
+use Rattle.fs_frame.specs.Block.{fault_of}
 use Rattle.fs_frame.specs.Blocks.{blocks_of, rest_of}
 use Rattle.fs_frame.specs.Stream.{Stream, new_stream, fed_with, after_next_block}
 use Rattle.fs_frame.specs.Next.{IsNext, bytes_of}
+use Rattle.fs_frame.specs.declared.fault.Fault.{Fault}
+use Rattle.fs_frame.specs.declared.fault.Fault.TheVariants as faults
 use Rattle.fs_frame.specs.declared.next.Next.{Next}
-use Rattle.fs_frame.specs.declared.next.Next.TheVariants.{Block, NeedMore, TooLong}
+use Rattle.fs_frame.specs.declared.next.Next.TheVariants.{Block, NeedMore, TooLong, BadLength}
 
 -- a call on the buffer: a piece was fed, or the next block was asked for and this was the answer
 pub data Call : Type 0 where
@@ -28,32 +30,41 @@ stream_of [] = []
 stream_of (fed piece ∷ calls) = piece ++ stream_of calls
 stream_of (asked next ∷ calls) = stream_of calls
 
+-- the block that an answer hands out
+abbrev pub block_in : Next → List (List ℕ)
+block_in (Block block) = bytes_of block ∷ []
+block_in NeedMore = []
+block_in (TooLong len) = []
+block_in BadLength = []
+
 -- the blocks that were handed out
 abbrev pub blocks_in : List Call → List (List ℕ)
 blocks_in [] = []
 blocks_in (fed piece ∷ calls) = blocks_in calls
-blocks_in (asked (Block block) ∷ calls) = bytes_of block ∷ blocks_in calls
-blocks_in (asked NeedMore ∷ calls) = blocks_in calls
-blocks_in (asked (TooLong len) ∷ calls) = blocks_in calls
+blocks_in (asked next ∷ calls) = block_in next ++ blocks_in calls
 
 -- the blocks come first among those of the stream
 abbrev pub ComeFirst : List (List ℕ) → List ℕ → Type 0
 ComeFirst blocks stream = (more : List (List ℕ)) × (blocks_of stream ≡ blocks ++ more)
 
--- the blocks are all of the stream, and whether its rest is too long is as said
-abbrev pub IsUsedUp : List (List ℕ) → List ℕ → Bool → Type 0
-IsUsedUp blocks stream long = (blocks_of stream ≡ blocks) × (too_long (rest_of stream) ≡ long)
+-- the blocks are all of the stream, and what is wrong with its rest is as said
+abbrev pub IsUsedUp : List (List ℕ) → List ℕ → Option Fault → Type 0
+IsUsedUp blocks stream fault = (blocks_of stream ≡ blocks) × (fault_of (rest_of stream) ≡ fault)
 
 -- the answer that follows when these blocks of the stream were handed out
 abbrev pub Follows : List (List ℕ) → List ℕ → Next → Type 0
 Follows blocks stream (Block block) = ComeFirst (blocks ++ bytes_of block ∷ []) stream
-Follows blocks stream NeedMore = IsUsedUp blocks stream false
-Follows blocks stream (TooLong len) = IsUsedUp blocks stream true × (len ≡ 65537)
+Follows blocks stream NeedMore = IsUsedUp blocks stream None
+Follows blocks stream (TooLong len) = IsUsedUp blocks stream (Some (faults.TooLong len))
+Follows blocks stream BadLength = IsUsedUp blocks stream (Some faults.BadLength)
 
--- each answer is `TooLong` with this length
-abbrev pub AlwaysTooLong : ℕ → List Call → Type 0
-AlwaysTooLong len [] = ⊤
-AlwaysTooLong len (fed piece ∷ calls) = AlwaysTooLong len calls
-AlwaysTooLong len (asked (Block block) ∷ calls) = ⊥
-AlwaysTooLong len (asked NeedMore ∷ calls) = ⊥
-AlwaysTooLong len (asked (TooLong again) ∷ calls) = (again ≡ len) × AlwaysTooLong len calls
+-- the answer for this fault
+abbrev pub answer_for : Fault → Next
+answer_for (faults.TooLong len) = TooLong len
+answer_for faults.BadLength = BadLength
+
+-- each answer is this one
+abbrev pub AlwaysAnswered : Next → List Call → Type 0
+AlwaysAnswered next [] = ⊤
+AlwaysAnswered next (fed piece ∷ calls) = AlwaysAnswered next calls
+AlwaysAnswered next (asked again ∷ calls) = (again ≡ next) × AlwaysAnswered next calls

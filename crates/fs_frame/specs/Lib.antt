@@ -1,3 +1,5 @@
+pub mod Lines
+pub mod Headers
 pub mod Block
 pub mod Blocks
 pub mod Stream

@@ -1,11 +1,13 @@
 -- What the buffer answers when it is asked for the next block.
-use Rattle.std.specs.Prelude.{◌≡◌, ℕ, true, false, List, ◌++◌}
-use Rattle.fs_frame.specs.Block.{IsBlock, too_long}
+use Rattle.std.specs.Prelude.{◌≡◌, ℕ, List, ◌++◌, Option, None, Some}
+use Rattle.fs_frame.specs.Block.{IsBlock, fault_of}
 use Rattle.fs_frame.specs.Blocks.{HasNoBlock}
 use Rattle.fs_frame.specs.Stream.{Stream, after_next_block}
 use Rattle.fs_frame.specs.declared.block.Block.{Block as LentBlock}
+use Rattle.fs_frame.specs.declared.fault.Fault.{Fault}
+use Rattle.fs_frame.specs.declared.fault.Fault.TheVariants as faults
 use Rattle.fs_frame.specs.declared.next.Next.{Next}
-use Rattle.fs_frame.specs.declared.next.Next.TheVariants.{Block, NeedMore, TooLong}
+use Rattle.fs_frame.specs.declared.next.Next.TheVariants.{Block, NeedMore, TooLong, BadLength}
 
 -- the bytes of a block that is lent
 abbrev pub bytes_of : LentBlock → List ℕ
@@ -21,8 +23,13 @@ pub record HandsOutNothing (old new : Stream) : Type 0 where
   pub no_block : HasNoBlock old.rest
   pub rest : new.rest ≡ old.rest
 
--- the answer where the stream stands so: the block in front, or else whether one may still come
+-- nothing is handed out, for this fault or for none
+abbrev pub IsNextNone : Stream → Option Fault → Type 0
+IsNextNone s fault = HandsOutNothing s (after_next_block s) × (fault_of s.rest ≡ fault)
+
+-- the answer where the stream stands so: the block in front, or else why none can come, or that one still may
 abbrev pub IsNext : Stream → Next → Type 0
 IsNext s (Block block) = HandsOut s (after_next_block s) (bytes_of block)
-IsNext s NeedMore = HandsOutNothing s (after_next_block s) × (too_long s.rest ≡ false)
-IsNext s (TooLong len) = HandsOutNothing s (after_next_block s) × (too_long s.rest ≡ true) × (len ≡ 65537)
+IsNext s NeedMore = IsNextNone s None
+IsNext s (TooLong len) = IsNextNone s (Some (faults.TooLong len))
+IsNext s BadLength = IsNextNone s (Some faults.BadLength)

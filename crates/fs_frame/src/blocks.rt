@@ -1,9 +1,9 @@
 //! The buffer of a stream, out of which its blocks come.
 
 use crate::block::Block;
-use crate::front::{Front, MOST_BYTES, look};
+use crate::fault::Fault;
+use crate::front::{Front, Taken, look};
 use crate::next::Next;
-use crate::scan::Scan;
 use fs_text::Memory;
 use std::alloc::Global;
 use std::marker::Model;
@@ -20,8 +20,8 @@ pub struct Blocks {
     // The block handed out last begins at `lent`, and the rest begins at `start`.
     lent: usize,
     start: usize,
-    // So far the rest was searched.
-    scan: Scan,
+    // So much is known of the front of the rest.
+    front: Front,
 }
 
 impl Model for Blocks {
@@ -36,7 +36,7 @@ impl Model for Blocks {
       rest = drop b.start b.bytes.items;
     } };
 
-    ghost invariant = { λ b. IsLaidOut b.bytes.items b.lent b.start b.scan };
+    ghost invariant = { λ b. IsLaidOut b.bytes.items b.lent b.start b.front };
 }
 
 impl Blocks {
@@ -45,8 +45,7 @@ impl Blocks {
     ghost use Rattle.std.specs.Io.BufRead.{Rests};
     ghost use Rattle.fs_frame.specs.Stream.{new_stream, fed_with, after_next_block};
     ghost use Rattle.fs_frame.specs.Next.{IsNext};
-    ghost use Rattle.fs_frame.specs.Answer.{HasLine, IsAnswer};
-    ghost use Rattle.fs_frame.specs.Front.{IsFront};
+    ghost use Rattle.fs_frame.specs.Answer.{HasCommand, IsAnswer, IsTaken};
     ghost use Rattle.fs_frame.specs.contracts.blocks.Blocks.{the_row};
 
     /// A buffer to which nothing was fed.
@@ -58,7 +57,7 @@ impl Blocks {
             bytes,
             lent: 0,
             start: 0,
-            scan: Scan::at(0, None),
+            front: Front::unseen(),
         })
     }
 
@@ -77,8 +76,8 @@ impl Blocks {
         ensures answer { IsNext self.old result }
         ensures* after { sem 𝓛 (Rests the_row self.entry (λ new. new ≡ after_next_block self.old)) }
     {
-        let front = self.advance();
-        self.show(front)
+        let taken = self.advance();
+        self.show(taken)
     }
 
     // Lets go of what was handed out. It is moved over only once it is the greater part, so that no byte is moved
@@ -95,36 +94,43 @@ impl Blocks {
         self.lent = self.start;
     }
 
-    // Goes behind the block in front, and says what stood there.
-    fn advance(&mut self) -> Front
+    // Goes behind the block in front, and says what was taken.
+    fn advance(&mut self) -> Taken
         ensures after { self.new ≡ after_next_block self.old }
-        ensures front { IsFront self.old.rest result }
+        ensures taken { IsTaken self.old.rest result }
     {
         self.lent = self.start;
-        let front = look(&self.bytes[self.start..], self.scan);
-        match front {
-            Front::Whole { len, .. } => {
+        self.front = look(&self.bytes[self.start..], self.front);
+        match self.front {
+            Front::Headed { len, command } => {
+                if len > self.bytes.len() - self.start {
+                    return Taken::Nothing;
+                }
                 self.start += len;
-                self.scan = Scan::at(0, None);
+                self.front = Front::unseen();
+                Taken::Whole { command }
             }
-            Front::Open { scan } => self.scan = scan,
+            Front::Open { .. } => Taken::Nothing,
+            Front::Spoilt { fault } => Taken::Spoilt { fault },
         }
-        front
     }
 
-    // The answer, where this stood in front.
-    fn show(&self, front: Front) -> Next<'_>
-        requires { HasLine self.now.last front }
-        ensures { IsAnswer self.now front result }
+    // The answer, where this was taken.
+    fn show(&self, taken: Taken) -> Next<'_>
+        requires { HasCommand self.now.last taken }
+        ensures { IsAnswer self.now.last taken result }
     {
-        match front {
-            Front::Whole { line, .. } => {
-                Next::Block(Block::cut(&self.bytes[self.lent..self.start], line))
+        match taken {
+            Taken::Whole { command } => {
+                Next::Block(Block::cut(&self.bytes[self.lent..self.start], command))
             }
-            Front::Open { .. } if self.bytes.len() - self.start > MOST_BYTES => Next::TooLong {
-                len: MOST_BYTES as u64 + 1,
-            },
-            Front::Open { .. } => Next::NeedMore,
+            Taken::Nothing => Next::NeedMore,
+            Taken::Spoilt {
+                fault: Fault::TooLong { len },
+            } => Next::TooLong { len },
+            Taken::Spoilt {
+                fault: Fault::BadLength,
+            } => Next::BadLength,
         }
     }
 }

@@ -9,7 +9,11 @@ pub enum Next<'a> {
     Block(Block<'a>),
     /// No whole block stands in front, and one may come with what is fed next.
     NeedMore,
-    /// No whole block stands in front, and none can come: more bytes are there than a block may have. `len` is the
-    /// number of bytes that were looked at. Every later answer is the same.
+    /// No whole block stands in front, and none can come: head and body are more than 65,536 bytes, and `len` is their
+    /// number; or the first 65,536 of 65,537 bytes hold no end of a head, and `len` is 65,537. Every later answer is
+    /// the same.
     TooLong { len: u64 },
+    /// No whole block stands in front, and none can come: the `Content-Length` of its head is not 1 to 10 digits. Every
+    /// later answer is the same.
+    BadLength,
 }

@@ -3,11 +3,10 @@
 ghost use Rattle.std.specs.Prelude.{◌≡◌, ◌+◌, ◌<◌, ◌≤◌, ◌^◌, ℕ, false};
 ghost use Rattle.std.specs.Prelude.{List, length, take, drop, None, MatchOption};
 ghost use Rattle.std.specs.List.{list_any, position_or_len};
-ghost use Rattle.fs_frame.specs.Block.{is_lf, without_cr};
-ghost use Rattle.fs_frame.specs.Front.{GoesOn, IsScanned, IsBehind, IsLineAt};
+ghost use Rattle.fs_frame.specs.Lines.{is_lf, without_cr};
+ghost use Rattle.fs_frame.specs.Front.{GoesOn, IsScanned, IsBehind, IsCommandAt, behind_end};
 
-use crate::front::Front;
-use crate::span::Span;
+use crate::span::{CommandLine, Span};
 use fs_text::place_of;
 
 const LF: u8 = b'\n';
@@ -21,8 +20,17 @@ pub struct Scan {
     pub passed: usize,
     /// So many bytes of the line at hand were searched, and none of them is LF.
     pub searched: usize,
-    /// The text of the command line, once that was passed.
-    pub command: Option<Span>,
+    /// The command line, once it was passed.
+    pub command: Option<CommandLine>,
+}
+
+/// What a search for the end of a head finds.
+#[derive(Clone, Copy)]
+pub enum Found {
+    /// A head of this length, whose command line stands there.
+    Head { len: usize, command: CommandLine },
+    /// No end of a head. A search of more bytes goes on from here.
+    Open { scan: Scan },
 }
 
 /// A line, as the numbers of its bytes.
@@ -36,7 +44,7 @@ pub struct Line {
 
 impl Scan {
     /// A search that stands behind so many bytes.
-    pub fn at(passed: usize, command: Option<Span>) -> Scan
+    pub fn at(passed: usize, command: Option<CommandLine>) -> Scan
         ensures { result ≡ record { passed = passed; searched = 0; command = command } }
     {
         Scan {
@@ -47,49 +55,75 @@ impl Scan {
     }
 
     /// Goes behind the line at hand. It ends a head, or the search goes on behind it.
-    pub fn behind(self, line: Line) -> Front
+    pub fn behind(self, line: Line) -> Found
         requires { self.passed + line.len < 2 ^ 64 }
         ensures { (bytes : List ℕ) → IsScanned bytes self →
             GoesOn (drop self.passed bytes) line.text_len line.len → IsBehind bytes (self.passed + line.len) result }
     {
         let passed = self.passed + line.len;
-        let text = Span {
-            start: self.passed,
-            len: line.text_len,
-        };
         match (self.command, line.text_len) {
-            (Some(command), 0) => Front::Whole {
+            (Some(command), 0) => Found::Head {
                 len: passed,
-                line: command,
+                command,
             },
-            (None, 0) => Front::Open {
+            (None, 0) => Found::Open {
                 scan: Scan::at(passed, None),
             },
-            (None, _) => Front::Open {
-                scan: Scan::at(passed, Some(text)),
+            (None, _) => Found::Open {
+                scan: Scan::at(passed, Some(line.command_at(self.passed))),
             },
-            _ => Front::Open {
+            _ => Found::Open {
                 scan: Scan::at(passed, self.command),
             },
         }
     }
 }
 
-/// The text of the first line that has one.
-pub fn find_line(bytes: &[u8]) -> Span
-    ensures { IsLineAt bytes.now result }
+impl Line {
+    /// The line as a command line that begins here.
+    fn command_at(self, start: usize) -> CommandLine
+        requires { start + self.len < 2 ^ 64 }
+        ensures { result ≡ record { text = record { start = start; len = self.text_len }; end = start + self.len } }
+    {
+        CommandLine {
+            text: Span {
+                start,
+                len: self.text_len,
+            },
+            end: start + self.len,
+        }
+    }
+}
+
+/// The first line that has a text.
+pub fn find_command(bytes: &[u8]) -> CommandLine
+    ensures { IsCommandAt bytes.now result }
 {
     let mut start = 0;
     while let Some(line) = next_line(&bytes[start..], 0) {
         if line.text_len > 0 {
-            return Span {
-                start,
-                len: line.text_len,
-            };
+            return line.command_at(start);
         }
         start += line.len;
     }
-    Span { start: 0, len: 0 }
+    CommandLine {
+        text: Span { start: 0, len: 0 },
+        end: start,
+    }
+}
+
+/// What stands behind the first line without a text, and nothing where there is none.
+pub fn behind_empty(lines: &[u8]) -> &[u8]
+    ensures { result.now ≡ behind_end lines.now }
+{
+    let mut left = lines;
+    while let Some(line) = next_line(left, 0) {
+        left = &left[line.len..];
+        if line.text_len == 0 {
+            return left;
+        }
+    }
+    &[]
 }
 
 /// The line with which the bytes go on, of which the first `searched` are not LF.

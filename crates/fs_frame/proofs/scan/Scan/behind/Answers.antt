@@ -11,7 +11,8 @@ returns-in-None-eq0 c bytes scanned goes =
 
 pub returns-in-None-default : goal.returns-in-None-default
 returns-in-None-default c bytes scanned goes =
-    passes_command bytes c.args.self _ _ _ scanned goes c.in-None-default.is-0 c.in-None-default.is-1.1 c.at-in-None-default.ensures
+    passes_command bytes c.args.self _ _ _ _ scanned goes c.in-None-default.is-0 c.in-None-default.is-1.1 c.command_at.ensures
+    c.at-in-None-default.ensures
 
 pub returns-in_default : goal.returns-in_default
 returns-in_default c bytes scanned goes =

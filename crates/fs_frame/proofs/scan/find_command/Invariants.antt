@@ -1,6 +1,6 @@
 use Rattle.std.proofs.Common.{◌-◌, length}
-use Rattle.fs_frame.proofs.FirstLine.{StandsAhead}
-use Rattle.fs_frame.proofs.scan.find_line.Given as goal
+use Rattle.fs_frame.proofs.CommandLaws.{StandsAhead}
+use Rattle.fs_frame.proofs.scan.find_command.Given as goal
 
 abbrev pub invariant-loop-line : goal.invariant-loop-line
 invariant-loop-line l = StandsAhead l.bytes l.start

@@ -1,8 +1,10 @@
 -- What stands in the queues once gifts are delivered, a frame is taken or a connection goes.
-use Rattle.std.proofs.Common.{◌≡◌, ℕ, zero, suc, ◌<◌, ◌==◌, Bool, true, false, if◌then◌else◌, List, [], ◌∷◌, ◌++◌, length, take, drop}
-use Rattle.std.proofs.Common.{Option, None, Some, unwrap_or, slice_get, ◌⊎◌, inl, inr, refl, sym, ap, subst, ◌∙◌, append-nil}
+use Rattle.std.proofs.Common.{◌≡◌, ℕ, zero, suc, ◌+◌, ◌<◌, ◌≤◌, ◌==◌, Bool, true, false, cond, if◌then◌else◌, List, [], ◌∷◌, ◌++◌, length}
+use Rattle.std.proofs.Common.{take, drop, Option, None, Some, unwrap_or, slice_get, ◌⊎◌, inl, inr, refl, sym, ap, subst, ◌∙◌}
+use Rattle.std.proofs.Common.{append-nil, arith}
 use Rattle.std.specs.List.{concat}
-use Rattle.std.proofs.lemmas.List.{get_or-set_same, get_or-set_other, length-set, length-replicate}
+use Rattle.std.proofs.lemmas.List.{get_or-set_same, get_or-set_other, length-set, length-replicate, length-map, map-append, drop-map}
+use Rattle.std.proofs.lemmas.List.Sums.{sum_by-append, sum_by-take-drop}
 use Rattle.std.proofs.lemmas.Bool.{eqb-true, eqb-false, cases_eq}
 use Rattle.fs_places.specs.declared.numbered.Numbered.{Numbered}
 use Rattle.fs_places.specs.Places.{no_places}
@@ -11,13 +13,33 @@ use Rattle.fs_places.proofs.HeldLemmas.{all_alike}
 use Rattle.fs_places.proofs.RowLemmas.{IsFree, places_apart, free_apart, less_free}
 use Rattle.fs_state.specs.declared.conn.Conn.{Conn}
 use Rattle.fs_state.specs.declared.gift.Gift.{Gift}
-use Rattle.fs_state.specs.Queues.{Frames, no_queues, queue_at, with_queue, without_first_frame, without_frames, with_frames_at, delivered}
+use Rattle.fs_state.specs.Frames.{Frames, text_of, texts_of, is_event, events_in}
+use Rattle.fs_state.specs.Queues.{no_queues, queue_at, with_queue, without_first_frame, without_frames, with_frames_at}
+use Rattle.fs_state.specs.Queues.{with_gift_delivered, delivered}
 use Rattle.fs_state.specs.Switch.{changed_at}
 
+-- ---- frames and their texts
+
 -- the bytes of the first frame
-pub first_bytes : (frames : Frames) → concat (take 1 frames) ≡ unwrap_or (slice_get frames 0) []
+pub first_bytes : (frames : Frames) → concat (take 1 (texts_of frames)) ≡ unwrap_or (slice_get (texts_of frames) 0) []
 first_bytes [] = refl
-first_bytes (frame ∷ frames) = append-nil frame
+first_bytes (frame ∷ frames) = append-nil (text_of frame)
+
+pub texts_append : (a b : Frames) → texts_of (a ++ b) ≡ texts_of a ++ texts_of b
+texts_append a b = map-append text_of a b
+
+pub texts_drop : (n : ℕ) (a : Frames) → texts_of (drop n a) ≡ drop n (texts_of a)
+texts_drop n a = sym (drop-map text_of n a)
+
+pub texts_length : (a : Frames) → length (texts_of a) ≡ length a
+texts_length a = length-map a text_of
+
+pub events_append : (a b : Frames) → events_in (a ++ b) ≡ events_in a + events_in b
+events_append a b = sum_by-append (λ frame. cond (is_event frame) 1 0) a b
+
+-- no more tell of events once the first is gone
+pub events_drop : (a : Frames) → events_in (drop 1 a) ≤ events_in a
+events_drop a = omega (arith, sum_by-take-drop (λ frame. cond (is_event frame) 1 0) a 1)
 
 -- where no connection stands nothing waits
 abbrev pub AreQuiet : List (Option (Numbered Conn)) → List Frames → Type 0
@@ -55,6 +77,14 @@ delivered_length conns [] queues = refl
 delivered_length conns (gift ∷ gifts) queues =
     delivered_length conns gifts (with_frames_at (place_of conns gift.conn) gift.frames queues)
     ∙ given_length (place_of conns gift.conn) gift.frames queues
+
+-- ---- gifts in several parts
+
+-- first the one part, then the other
+pub delivered_append : (conns : List (Option (Numbered Conn))) (a b : List Gift) (queues : List Frames) →
+    delivered conns (a ++ b) queues ≡ delivered conns b (delivered conns a queues)
+delivered_append conns [] b queues = refl
+delivered_append conns (gift ∷ a) b queues = delivered_append conns a b (with_gift_delivered conns gift queues)
 
 -- ---- queues without a connection
 

@@ -1,4 +1,5 @@
 pub mod QueueLemmas
+pub mod LossLemmas
 pub mod SlotLemmas
 pub mod CountLemmas
 pub mod LegTables

@@ -4,7 +4,7 @@ use Rattle.std.proofs.Common.{Option, None, Some, refl, sym, ap, subst, ◌∙�
 use Rattle.std.specs.List.{slice_set, All}
 use Rattle.std.proofs.lemmas.List.{get_or-set_same, get_or-set_other, length-set, length-append, length-drop}
 use Rattle.std.proofs.lemmas.List.Elements.{All-replicate}
-use Rattle.std.proofs.lemmas.List.Sums.{sum_by-cons}
+use Rattle.std.proofs.lemmas.List.Sums.{sum_by-cons, sum_by-append}
 use Rattle.std.proofs.lemmas.Bool.{eqb-true}
 use Rattle.std.proofs.lemmas.Bool.Decides.{nat_tests}
 use Rattle.fs_state.specs.declared.delta.QueueChange.{QueueChange}
@@ -13,8 +13,9 @@ use Rattle.fs_places.specs.declared.numbered.Numbered.{Numbered}
 use Rattle.fs_places.specs.Rows.{place_of}
 use Rattle.fs_state.specs.declared.conn.Conn.{Conn}
 use Rattle.fs_state.specs.declared.gift.Gift.{Gift}
-use Rattle.fs_state.specs.Queues.{Frames, queue_at, with_queue, behind_first, with_gift_delivered, requeued, with_frames_at, frames_given}
-use Rattle.fs_state.specs.Queues.{HaveRoom, AreWithin, no_queues, without_first_frame, without_frames, with_frames}
+use Rattle.fs_state.specs.Frames.{Frames}
+use Rattle.fs_state.specs.Queues.{queue_at, with_queue, behind_first, with_gift_delivered, requeued, with_frames_at, frames_given}
+use Rattle.fs_state.specs.Queues.{delivered, HaveRoom, AreWithin, no_queues, without_first_frame, without_frames, with_frames}
 
 -- less fits where more does
 pub room_less : (queues : List Frames) (n m : ℕ) → n ≤ m → HaveRoom queues m → HaveRoom queues n
@@ -87,6 +88,25 @@ room_without first more given queues new h parts is then =
     subst (λ q. HaveRoom q (frames_given more)) (sym then) (subst (λ gifts. HaveRoom queues (frames_given gifts)) whole h)
 
 pub ruleset gift_rules = (room_for_gift, room_after_gift)
+
+-- ---- gifts in several parts
+
+pub given_append : (front back : List Gift) → frames_given (front ++ back) ≡ frames_given front + frames_given back
+given_append front back = sum_by-append (λ g. length g.frames) front back
+
+-- there is room for the first part
+pub room_for_front : (queues : List Frames) (front back : List Gift) → HaveRoom queues (frames_given (front ++ back)) →
+    HaveRoom queues (frames_given front)
+room_for_front queues front back h =
+    room_less queues (frames_given front) (frames_given (front ++ back)) (omega (arith, given_append front back)) h
+
+-- and after that for the second
+pub room_for_back : (conns : List (Option (Numbered Conn))) (front back : List Gift) (queues : List Frames) →
+    HaveRoom queues (frames_given (front ++ back)) →
+    HaveRoom (delivered conns front queues) (frames_given back)
+room_for_back conns [] back queues h = h
+room_for_back conns (gift ∷ front) back queues h =
+    room_for_back conns front back (with_gift_delivered conns gift queues) (room_after_gift conns gift (front ++ back) queues h)
 
 -- ---- the end of a draft
 

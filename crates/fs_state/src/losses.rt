@@ -1,5 +1,5 @@
 //! How many events connections did not get that they wanted.
-ghost use Rattle.std.specs.Prelude.{◌≡◌, IfOk, OnOk, OnErr};
+ghost use Rattle.std.specs.Prelude.{◌≡◌, ◌<◌, length, position, IfOk, IfSome, OnOk, OnErr};
 ghost use Rattle.fs_state.specs.Losses as spec;
 
 use fs_text::Memory;
@@ -50,29 +50,37 @@ impl Losses {
     }
 
     /// How many events a connection has lost.
+    #[tactic(auto, using(crate::proofs::LossLemmas::loss_rules))]
     pub fn of(&self, conn: u32) -> u64
         ensures { result ≡ spec.lost_in conn self.now }
     {
-        match self.losses.iter().find(|loss| loss.conn == conn) {
-            Some(loss) => loss.events,
+        match self.place_of(conn) {
+            Some(place) => self.losses[place].events,
             None => 0,
         }
     }
 
     /// A connection has lost so many more.
+    #[tactic(auto, using(crate::proofs::LossLemmas::loss_rules))]
     pub fn add(&mut self, conn: u32, more: u64) -> Result<(), Memory>
         ensures ok { OnOk result (self.new ≡ spec.with_loss conn more self.old) }
         ensures err { OnErr result (self.new ≡ self.old) }
     {
-        match self.losses.iter_mut().find(|loss| loss.conn == conn) {
-            Some(loss) => {
-                loss.events = loss.events.saturating_add(more);
-                Ok(())
+        match self.place_of(conn) {
+            Some(place) => {
+                let events = self.losses[place].events.saturating_add(more);
+                self.losses[place] = Loss { conn, events };
             }
-            None => {
-                self.losses.push(Loss { conn, events: more })?;
-                Ok(())
-            }
+            None => self.losses.push(Loss { conn, events: more })?,
         }
+        Ok(())
+    }
+
+    /// The place at which the loss of a connection stands, if it had one.
+    fn place_of(&self, conn: u32) -> Option<usize>
+        ensures place { result ≡ position (spec.is_of conn) self.now }
+        ensures bound { IfSome result (λ place. place < length self.now) }
+    {
+        self.losses.iter().position(|loss| loss.conn == conn)
     }
 }

@@ -13,7 +13,7 @@ use Rattle.fs_text.specs.Cause.{cause_row, cause_number}
 use Rattle.fs_text.specs.EventName.{event_row, event_number}
 use Rattle.fs_state.specs.declared.event.Event.{Event}
 use Rattle.fs_state.specs.Counts.{Tallies, zeros, no_tallies, counted_at, raised_at, with_hangup_counted, with_event_counted}
-use Rattle.fs_state.specs.Counts.{with_events_counted, is_named, is_cause, events_named, hangups_for}
+use Rattle.fs_state.specs.Counts.{with_events_counted, hangup_in, is_named, is_cause, events_named, hangups_for}
 
 -- some events, and then others
 pub counted_append : (events others : List Event) (t : Tallies) →
@@ -108,20 +108,35 @@ hangup_low cause (Some other) hangups low = raised_low hangups (cause_number oth
 
 hung_on : (cause : Cause) (events : List Event) (t : Tallies) → IsLow (cause_number cause) t.hangups →
     counted_at (with_events_counted events t).hangups (cause_number cause)
-    ≡ min (counted_at t.hangups (cause_number cause) + count_by (λ event. is_cause cause event.cause) events) (2 ^ 64 - 1)
+    ≡ min (counted_at t.hangups (cause_number cause) + count_by (λ event. is_cause cause (hangup_in event.detail)) events) (2 ^ 64 - 1)
 hung_on cause [] t low = omega (arith, low.1)
 hung_on cause (event ∷ events) t low =
+    let told = hangup_in event.detail in
     counts_on (counted_at t.hangups (cause_number cause)) (counted_at (with_event_counted event t).hangups (cause_number cause))
     (counted_at (with_events_counted events (with_event_counted event t)).hangups (cause_number cause))
-    (cond (is_cause cause event.cause) 1 0) (count_by (λ (e : Event). is_cause cause e.cause) events)
-    (count_by (λ (e : Event). is_cause cause e.cause) (event ∷ events))
-    (hangup_here cause event.cause t.hangups low)
-    (hung_on cause events (with_event_counted event t) (hangup_low cause event.cause t.hangups low))
-    (one_more (λ (e : Event). is_cause cause e.cause) event events)
+    (cond (is_cause cause told) 1 0) (count_by (λ (e : Event). is_cause cause (hangup_in e.detail)) events)
+    (count_by (λ (e : Event). is_cause cause (hangup_in e.detail)) (event ∷ events))
+    (hangup_here cause told t.hangups low)
+    (hung_on cause events (with_event_counted event t) (hangup_low cause told t.hangups low))
+    (one_more (λ (e : Event). is_cause cause (hangup_in e.detail)) event events)
 
 pub counts_hangups : (cause : Cause) (events : List Event) →
     counted_at (with_events_counted events no_tallies).hangups (cause_number cause) ≡ hangups_for cause events
 counts_hangups cause events =
     let none = zeros_low 606 (cause_number cause) (ltb-true (cause_number cause) 606 (cause_low cause)) in
     hung_on cause events no_tallies none.0
-    ∙ from_none (counted_at (zeros 606) (cause_number cause)) (count_by (λ (e : Event). is_cause cause e.cause) events) none.1
+    ∙ from_none (counted_at (zeros 606) (cause_number cause)) (count_by (λ (e : Event). is_cause cause (hangup_in e.detail)) events) none.1
+
+-- ---- all
+
+all_on : (events : List Event) (t : Tallies) → t.all ≤ 2 ^ 64 - 1 →
+    (with_events_counted events t).all ≡ min (t.all + length events) (2 ^ 64 - 1)
+all_on [] t low = omega (arith, low)
+all_on (event ∷ events) t low =
+    let first : (with_event_counted event t).all ≡ min (t.all + 1) (2 ^ 64 - 1) = refl in
+    let more : length (event ∷ events) ≡ 1 + length events = omega arith in
+    counts_on t.all (with_event_counted event t).all (with_events_counted events (with_event_counted event t)).all
+    1 (length events) (length (event ∷ events)) first (all_on events (with_event_counted event t) (omega arith)) more
+
+pub counts_all : (events : List Event) → (with_events_counted events no_tallies).all ≡ min (length events) (2 ^ 64 - 1)
+counts_all events = all_on events no_tallies (omega arith) ∙ from_none 0 (length events) refl

@@ -148,6 +148,10 @@ leg_ended cause slot leg_of s = its_leg_changed (λ position. with_death positio
 abbrev pub answer_set : ℕ → Switch → Switch
 answer_set slot s = with_changed_chan (with_answer_place s.entries) slot s
 
+-- the channel in a slot is answered, and so is the leg that it is
+abbrev pub answered_now : ℕ → Option ℕ → Switch → Switch
+answered_now slot leg_of s = leg_answered slot leg_of (with_event (plain_event ChannelAnswer slot) (answer_set slot s))
+
 -- a channel is answered, where it was not, and so is the leg that it is
 abbrev pub after_answer_from : ℕ → Option Chan → Switch → Switch
 after_answer_from slot None s = s

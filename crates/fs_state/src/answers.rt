@@ -41,6 +41,14 @@ impl<'a> Draft<'a> {
             return Ok(());
         }
         let leg_of = chan.leg_of;
+        self.answer_now(slot, leg_of)
+    }
+
+    /// The channel in a slot is answered by the entry in hand, and so is the leg that it is, of the origination of this
+    /// number.
+    fn answer_now(&mut self, slot: u16, leg_of: Option<u64>) -> Result<(), Memory>
+        ensures { Brings result self.old self.new (spec.answered_now slot leg_of (drafted self.old)) }
+    {
         self.set_answered(slot)?;
         self.tell_of(EventName::ChannelAnswer, slot)?;
         self.answer_leg(slot, leg_of)

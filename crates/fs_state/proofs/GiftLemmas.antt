@@ -80,7 +80,7 @@ delivered_length conns (gift ∷ gifts) queues =
 
 -- ---- gifts in several parts
 
--- first the one part, then the other
+-- first the one part is delivered, then the other
 pub delivered_append : (conns : List (Option (Numbered Conn))) (a b : List Gift) (queues : List Frames) →
     delivered conns (a ++ b) queues ≡ delivered conns b (delivered conns a queues)
 delivered_append conns [] b queues = refl

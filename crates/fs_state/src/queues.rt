@@ -1,9 +1,10 @@
 //! The frames that wait for connections.
-ghost use Rattle.std.specs.Prelude.{◌≡◌, true, length, IfOk};
+ghost use Rattle.std.specs.Prelude.{◌≡◌, ◌++◌, true, length, IfOk};
 ghost use Rattle.std.specs.Option.{option_copied};
 ghost use Rattle.fs_state.specs.Queues as spec;
 
 use crate::conn::Conn;
+use crate::delta::Giving;
 use crate::gift::{Gift, Gifts};
 use crate::outgoing::{Frames, Outgoing};
 use fs_places::{Numbered, Places, Rows};
@@ -116,9 +117,25 @@ impl Queues {
         count < LIMIT.saturating_sub(self.most)
     }
 
-    /// Puts what is given behind the frames of the connections that are there, without memory; the rest is dropped.
+    /// Puts all that is given behind the frames of the connections that are there, without memory; the rest is dropped.
+    #[tactic(auto, using(crate::proofs::GiftLemmas::delivered_append))]
+    pub(crate) fn deliver(&mut self, conns: &Places<Numbered<Conn>>, giving: Giving)
+        requires { spec.HaveRoom self.old (spec.frames_given (giving.answered ++ (giving.posted ++ giving.given))) }
+        ensures { self.new ≡ spec.delivered conns.now (giving.answered ++ (giving.posted ++ giving.given)) self.old }
+    {
+        let Giving {
+            answered,
+            posted,
+            given,
+        } = giving;
+        self.deliver_part(conns, answered);
+        self.deliver_part(conns, posted);
+        self.deliver_part(conns, given);
+    }
+
+    /// Puts what is given behind the frames of its connections.
     #[tactic(auto, using(crate::proofs::QueueLemmas::gift_rules))]
-    pub(crate) fn deliver(&mut self, conns: &Places<Numbered<Conn>>, given: Gifts)
+    fn deliver_part(&mut self, conns: &Places<Numbered<Conn>>, given: Gifts)
         requires { spec.HaveRoom self.old (spec.frames_given given) }
         ensures { self.new ≡ spec.delivered conns.now given self.old }
     {

@@ -8,7 +8,7 @@ ghost use Rattle.fs_state.specs.Drafts.{after, Fits};
 
 use crate::conn::Conn;
 use crate::counts::Counts;
-use crate::delta::{Delta, Giving, QueueChange};
+use crate::delta::{Delta, QueueChange};
 use crate::drawn::Drawn;
 use crate::job::Job;
 use crate::losses::Losses;
@@ -143,14 +143,7 @@ impl Core {
         ensures { self.new ≡ spec.after_entry cost (after self.old delta) }
     {
         let (news, giving) = delta.write_into(self);
-        let Giving {
-            answered,
-            posted,
-            given,
-        } = giving;
-        self.queues.deliver(&self.conns, answered);
-        self.queues.deliver(&self.conns, posted);
-        self.queues.deliver(&self.conns, given);
+        self.queues.deliver(&self.conns, giving);
         self.counts.count_all(news.as_slice());
         self.entries = self.entries.saturating_add(1);
         self.cost = self.cost.saturating_add(cost);

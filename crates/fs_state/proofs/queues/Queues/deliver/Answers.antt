@@ -1,17 +1,26 @@
-use Rattle.std.proofs.Common.{◌∙◌}
-use Rattle.fs_state.specs.Queues.{frames_given, HaveRoom}
-use Rattle.fs_state.proofs.QueueLemmas.{room_behind, room_without}
+use Rattle.std.proofs.Common.{◌++◌, sym, ap, subst, ◌∙◌}
+use Rattle.fs_state.specs.Queues.{delivered, frames_given, HaveRoom}
+use Rattle.fs_state.proofs.QueueLemmas.{room_for_front, room_for_back}
 use Rattle.fs_state.proofs.queues.Queues.deliver.Goals as goal
-use Rattle.fs_state.proofs.queues.Queues.deliver.Goals.{in-Some, in_default}
 
-pub deliver_all-requires : goal.deliver_all-requires
-deliver_all-requires c =
-    let room : HaveRoom c.args.self.now (frames_given c.args.given) = record { each = c.requires.each } in
-    let first = c.into_parts-first.result.0 in
-    let more = c.into_parts-first.result.1.items in
-    let new = c.match-first.self in
-    elim c.match-first.branch [
-      | in-Some w ↦ room_behind c.args.conns.now first w.in-Some.gift more c.args.given c.args.self.now new room c.into_parts-first.ensures
-          w.in-Some.is (w.self-is ∙ w.deliver_one.ensures)
-      | in_default w ↦ room_without first more c.args.given c.args.self.now new room c.into_parts-first.ensures w.in_default.is w.self-is
-    ]
+pub deliver_part-requires-2 : goal.deliver_part-requires-2
+deliver_part-requires-2 c =
+    let conns = c.args.conns.now in
+    let queues = c.args.self.now in
+    let answered = c.args.giving.answered in
+    let posted = c.args.giving.posted in
+    let given = c.args.giving.given in
+    let room : HaveRoom queues (frames_given (answered ++ (posted ++ given))) = record { each = c.requires.each } in
+    subst (λ q. HaveRoom q (frames_given posted)) (sym c.deliver_part.ensures)
+    (room_for_front (delivered conns answered queues) posted given (room_for_back conns answered (posted ++ given) queues room))
+
+pub deliver_part-requires-3 : goal.deliver_part-requires-3
+deliver_part-requires-3 c =
+    let conns = c.args.conns.now in
+    let queues = c.args.self.now in
+    let answered = c.args.giving.answered in
+    let posted = c.args.giving.posted in
+    let given = c.args.giving.given in
+    let room : HaveRoom queues (frames_given (answered ++ (posted ++ given))) = record { each = c.requires.each } in
+    subst (λ q. HaveRoom q (frames_given given)) (sym (c.deliver_part-2.ensures ∙ ap (delivered conns posted) c.deliver_part.ensures))
+    (room_for_back conns posted given (delivered conns answered queues) (room_for_back conns answered (posted ++ given) queues room))

@@ -1,5 +1,5 @@
 -- What the commands of the event socket do.
-use Rattle.std.specs.Prelude.{ℕ, [], Bool, true, false, Option, None, Some, unwrap_or, if◌then◌else◌}
+use Rattle.std.specs.Prelude.{ℕ, [], Bool, true, false, Option, None, Some, if◌then◌else◌}
 use Rattle.std.specs.Str.{bytes_eq}
 use Rattle.fs_text.specs.Texts.{Text}
 use Rattle.fs_cmd.specs.declared.command.Form.{Form}
@@ -84,7 +84,7 @@ with_filters_deleted header value s = record s { filters = without_filter s.filt
 abbrev pub after_deletion : ℕ → Text → Option Text → Switch → Switch
 after_deletion conn header value s =
     if has_filter (subs_at s conn).filters header value
-    then after_asking conn (with_filters_deleted header value) (filter_deleted header (unwrap_or value [])) s
+    then after_asking conn (with_filters_deleted header value) (filter_deleted header value) s
     else with_reply conn filter_not_found s
 
 -- ---- all commands

@@ -12,6 +12,12 @@ use Rattle.fs_frame.specs.Block.{line_of}
 use Rattle.fs_cmd.specs.Commands as command
 use Rattle.fs_cmd.specs.Commands.{Command, command_of}
 use Rattle.fs_cmd.specs.Frames.{reply, api_reply, notice, accepted, invalid, bye, not_found}
+use Rattle.fs_cmd.specs.Frames.{event_enabled, format_unsupported, event_disabled, no_longer_listening, not_listening}
+use Rattle.fs_cmd.specs.Frames.{filter_added, filter_deleted, invalid_syntax, filter_not_found}
+use Rattle.fs_cmd.specs.declared.command.Form.{Form}
+use Rattle.fs_cmd.specs.declared.command.Form.TheVariants.{Plain, Json, Xml}
+use Rattle.fs_filter.specs.Asked.{asked_in}
+use Rattle.fs_filter.specs.Subscriptions.{Subscription, subscribed, unsubscribed, cleared, has_filter}
 use Rattle.fs_api.specs.declared.api.Api.{Api}
 use Rattle.fs_api.specs.declared.api.Api.TheVariants as api
 use Rattle.fs_api.specs.Readings.{api_of, expanded_api_of}
@@ -44,7 +50,7 @@ use Rattle.fs_machine.specs.declared.entry.Closing.{Closing}
 use Rattle.fs_machine.specs.declared.entry.Closing.TheVariants as closing
 use Rattle.fs_machine.specs.declared.attempts.Party.TheVariants as party
 use Rattle.fs_machine.specs.Texts.{ok, too_many_jobs, made_text, no_channel}
-use Rattle.fs_machine.specs.Connections.{phase_at, conn_changed, admitted}
+use Rattle.fs_machine.specs.Connections.{phase_at, conn_changed, admitted, subs_at}
 use Rattle.fs_machine.specs.Attempts.{after_verdict_on}
 use Rattle.fs_machine.specs.Jobs.{sleep_begun, after_job_work, job_done_from, job_done}
 use Rattle.fs_machine.specs.Done.{Done, says, no_answer_yet}
@@ -53,6 +59,8 @@ use Rattle.fs_machine.specs.Joining.{uuid_bridge_done}
 use Rattle.fs_machine.specs.Api.{kill_done, msleep_done, dialled, originate_done, done_plainly}
 use Rattle.fs_machine.specs.Api.{done_by}
 use Rattle.fs_machine.specs.Commands.{with_reply, after_dismissal, after_password, with_response_of, command_done_in, command_done}
+use Rattle.fs_machine.specs.Commands.{after_asking, unless_unknown, after_subscribing, after_unsubscribing, after_silence, after_deletion}
+use Rattle.fs_machine.specs.Commands.{with_filter_added, with_filters_deleted}
 use Rattle.fs_machine.specs.Step.{after_close, act_done}
 use Rattle.fs_machine.proofs.Kept.{Fact, KeptByCalls, DoesJob, KeptByJobs, KeptByDials, LeavesBy, IsShortWinner}
 use Rattle.fs_machine.proofs.Kept.{KeptByCommands, KeptByMoves}
@@ -223,10 +231,13 @@ module _ (conn : ℕ) (P : Fact) (calls : KeptByCalls P) (commands : KeptByComma
 
   responded_kept : (answer : Option Text) {s : Switch} → P (Some 0) s → P (Some 0) (with_response_of conn answer s)
   responded_kept None h = h
-  responded_kept (Some answer) h = commands.gave (api_reply answer) h
+  responded_kept (Some answer) h = commands.answered (api_reply answer) h
+
+  replied_kept : (text : Text) {s : Switch} → P (Some 0) s → P (Some 0) (with_reply conn text s)
+  replied_kept text h = commands.answered (reply text []) h
 
   dismissed_kept : (why : Parting) (text : Text) {s : Switch} → LeavesBy why → P (Some 0) s → P (Some 0) (after_dismissal conn why text s)
-  dismissed_kept why text leaves h = commands.gave notice (commands.gave (reply text []) (commands.parted why leaves h))
+  dismissed_kept why text leaves h = commands.gave notice (commands.answered (reply text []) (commands.parted why leaves h))
 
   offered_kept : (given : Text) {s : Switch} → phase_at s conn ≡ phase.Fresh → P (Some 0) s → P (Some 0) (after_password conn given s)
   offered_kept given {s} fresh h = by (bytes_eq given s.config.settings.password)
@@ -235,8 +246,42 @@ module _ (conn : ℕ) (P : Fact) (calls : KeptByCalls P) (commands : KeptByComma
           P (Some 0)
           (if same then with_reply conn accepted (conn_changed admitted conn s)
           else after_dismissal conn parting.AuthRefused invalid s)
-      by true = commands.gave (reply accepted []) (commands.admitted fresh h)
+      by true = replied_kept accepted (commands.admitted fresh h)
       by false = dismissed_kept parting.AuthRefused invalid tt h
+
+  -- ---- events
+
+  asked_kept : (change : Subscription → Subscription) (text : Text) {s : Switch} → P (Some 0) s →
+      P (Some 0) (after_asking conn change text s)
+  asked_kept change text h = replied_kept text (commands.asked change h)
+
+  subscribed_kept : (form : Form) (names : Text) {s : Switch} → P (Some 0) s → P (Some 0) (after_subscribing conn form names s)
+  subscribed_kept Plain names h = asked_kept (subscribed (asked_in names)) (unless_unknown (asked_in names) event_enabled) h
+  subscribed_kept Json names h = replied_kept format_unsupported h
+  subscribed_kept Xml names h = replied_kept format_unsupported h
+
+  unsubscribed_kept : (names : Text) {s : Switch} → P (Some 0) s → P (Some 0) (after_unsubscribing conn names s)
+  unsubscribed_kept names h = asked_kept (unsubscribed (asked_in names)) (unless_unknown (asked_in names) event_disabled) h
+
+  silenced_kept : {s : Switch} → P (Some 0) s → P (Some 0) (after_silence conn s)
+  silenced_kept {s} h = by (subs_at s conn).listening
+    where
+      by : (listens : Bool) →
+          P (Some 0) (if listens then after_asking conn cleared no_longer_listening s else with_reply conn not_listening s)
+      by true = asked_kept cleared no_longer_listening h
+      by false = replied_kept not_listening h
+
+  deleted_kept : (header : Text) (value : Option Text) {s : Switch} → P (Some 0) s → P (Some 0) (after_deletion conn header value s)
+  deleted_kept header value {s} h = by (has_filter (subs_at s conn).filters header value)
+    where
+      by : (has : Bool) →
+          P (Some 0)
+          (if has then after_asking conn (with_filters_deleted header value) (filter_deleted header value) s
+          else with_reply conn filter_not_found s)
+      by true = asked_kept (with_filters_deleted header value) (filter_deleted header value) h
+      by false = replied_kept filter_not_found h
+
+  -- ---- all commands
 
   pub commanded_kept : (c : Command) {s : Switch} → P None s → P (Some 0) (command_done conn c s)
   unfolding command_done
@@ -245,13 +290,19 @@ module _ (conn : ℕ) (P : Fact) (calls : KeptByCalls P) (commands : KeptByComma
       by : (at : Phase) → phase_at s conn ≡ at → (given : Command) → P (Some 0) (command_done_in at conn given s)
       by phase.Fresh is (command.Auth given) = offered_kept given is (commands.spent h)
       by phase.Fresh is command.Exit = dismissed_kept parting.Exit bye tt (commands.spent h)
-      by phase.Fresh is (command.Api text) = commands.gave (reply not_found []) (commands.spent h)
-      by phase.Fresh is command.Unknown = commands.gave (reply not_found []) (commands.spent h)
-      by phase.Ready is (command.Auth given) = commands.gave (reply not_found []) (commands.spent h)
+      by phase.Fresh is _ = replied_kept not_found (commands.spent h)
+      by phase.Ready is (command.Auth given) = replied_kept not_found (commands.spent h)
       by phase.Ready is command.Exit = dismissed_kept parting.Exit bye tt (commands.spent h)
       by phase.Ready is (command.Api text) =
           responded_kept (done_by conn (api_of text) s).answer (done_kept (api_of text) (api_short text) h)
-      by phase.Ready is command.Unknown = commands.gave (reply not_found []) (commands.spent h)
+      by phase.Ready is (command.Event form names) = subscribed_kept form names (commands.spent h)
+      by phase.Ready is (command.Nixevent names) = unsubscribed_kept names (commands.spent h)
+      by phase.Ready is command.Noevents = silenced_kept (commands.spent h)
+      by phase.Ready is (command.Filter header value) =
+          asked_kept (with_filter_added header value) (filter_added header value) (commands.spent h)
+      by phase.Ready is (command.FilterDelete header value) = deleted_kept header value (commands.spent h)
+      by phase.Ready is command.BadFilter = replied_kept invalid_syntax (commands.spent h)
+      by phase.Ready is command.Unknown = replied_kept not_found (commands.spent h)
       by phase.Ending is given = commands.spent h
       by phase.Closed is given = commands.spent h
 

@@ -86,7 +86,7 @@ moved_none change slot s none = by (chan_at s slot) refl
     by : (found : Option Chan) → chan_at s slot ≡ found → NoneAt slot (after_move_from change slot found s)
     by None is = λ c there. absurd (none-some c (sym is ∙ there))
     by (Some c) is =
-        state_told_kept (NoneAt slot) (λ event t k. k) c.state (change c).state {s = with_chan slot (Some (change c)) s}
+        state_told_kept (NoneAt slot) (λ event t k. k) c.state (change c).state slot {s = with_chan slot (Some (change c)) s}
         (put_none slot c (change c) s is (none c))
 
 changed_none : (change : Chan → Chan) (slot : ℕ) (s : Switch) → ((c : Chan) → awaited_by (change c) ≡ None) →
@@ -176,12 +176,12 @@ module _ (open_at : ℕ → Type 0) where
       Both t = AwaitAt open_at t × NoneAt slot t
 
       cut : Chan → Switch
-      cut c = with_state_events c.state CsHangup (with_event (hangup_event cause) (with_chan slot (Some (hung_up cause c)) s))
+      cut c = with_state_events c.state CsHangup slot (with_event (hangup_event cause slot) (with_chan slot (Some (hung_up cause c)) s))
 
       cut_both : (c : Chan) → chan_at s slot ≡ Some c → Both (cut c)
       cut_both c there =
-          state_told_kept Both (λ event t k. (k.0, k.1)) c.state CsHangup
-          {s = with_event (hangup_event cause) (with_chan slot (Some (hung_up cause c)) s)}
+          state_told_kept Both (λ event t k. (k.0, k.1)) c.state CsHangup slot
+          {s = with_event (hangup_event cause slot) (with_chan slot (Some (hung_up cause c)) s)}
           (put slot c (hung_up cause c) s there (awaits_none c (hung_up cause c) refl) h, put_none slot c (hung_up cause c) s there refl)
 
       change : ℕ → Orig → Orig

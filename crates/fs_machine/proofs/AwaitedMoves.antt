@@ -28,7 +28,7 @@ use Rattle.fs_state.specs.Moves.{after_move}
 use Rattle.fs_state.proofs.LegTables.{Origs}
 use Rattle.fs_machine.specs.declared.originations.Call.{Call}
 use Rattle.fs_machine.specs.Texts.{made_text, failed_text}
-use Rattle.fs_machine.specs.Connections.{conn_changed, admitted, parted, owed_since, not_owed}
+use Rattle.fs_machine.specs.Connections.{conn_changed, admitted, parted, owed_since, not_owed, with_subs_changed}
 use Rattle.fs_machine.specs.Originations.{seconds, pair_made, MadeGroup, group_made, won_by, after_winning}
 use Rattle.fs_machine.specs.Attempts.{first_group, orig_begun, originate_begun, with_group}
 use Rattle.fs_machine.specs.Bridging.{caller_of, group_dialed}
@@ -318,6 +318,8 @@ module _ (before : Switch) (Q : Fact) (kept : KeptByMoves before Q)
   commands_wait conn = record {
     spent = λ h. ((kept.commands conn).spent h.0, h.1);
     gave = λ frame h. ((kept.commands conn).gave frame h.0, h.1);
+    answered = λ frame h. ((kept.commands conn).answered frame h.0, h.1);
+    asked = λ change {s = s} h. ((kept.commands conn).asked change h.0, conn_await (with_subs_changed change) conn s h.1);
     admitted = λ {s = s} new h. ((kept.commands conn).admitted new h.0, conn_await admitted conn s h.1);
     parted = λ why {s = s} leaves h. ((kept.commands conn).parted why leaves h.0, conn_await (parted why) conn s h.1);
     sleeps = λ until {s = s} free h. ((kept.commands conn).sleeps until free h.0, owing_await conn (Sleep until) s h.1);

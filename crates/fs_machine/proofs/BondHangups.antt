@@ -24,7 +24,7 @@ use Rattle.fs_orig.specs.Changes.{with_death}
 use Rattle.fs_places.specs.Places.{held_in, with_held}
 use Rattle.fs_state.specs.Switch.{Switch, chan_at, with_chan, bridge_at, without_bridge, with_event, orig_of}
 use Rattle.fs_state.specs.Moves.{with_changed_chan_from, with_changed_chan, after_move, after_one_hangup, its_leg_changed, leg_changed}
-use Rattle.fs_state.specs.Moves.{plain_event, with_state_events, orig_changed_from, hangup_event, orig_given_up, after_hangup_from}
+use Rattle.fs_state.specs.Moves.{application_event, running_at, with_state_events, orig_changed_from, hangup_event, orig_given_up, after_hangup_from}
 use Rattle.fs_state.specs.declared.event.Event.{Event}
 use Rattle.fs_chan.specs.declared.peer.Peer.{Peer}
 use Rattle.fs_machine.proofs.HangLemmas.{given_up_kept}
@@ -317,14 +317,14 @@ hung_bridges cause slot s = by (chan_at s slot)
     by : (found : Option Chan) → (after_hangup_from cause slot found s).bridges ≡ s.bridges
     by None = refl
     by (Some c) =
-        let cut : Switch = with_event (hangup_event cause) (with_chan slot (Some (hung_up cause c)) s) in
-        let told : Switch = with_state_events c.state CsHangup cut in
+        let cut : Switch = with_event (hangup_event cause slot) (with_chan slot (Some (hung_up cause c)) s) in
+        let told : Switch = with_state_events c.state CsHangup slot cut in
         let left : Switch = its_leg_changed (λ position. with_death position s.entries cause) slot c.leg_of told in
         differing_kept (λ (t : Switch). t.bridges ≡ s.bridges) (λ event t h. h) (is_live c) {s = orig_given_up slot (awaited_by c) left}
         {t = s}
         (given_up_kept (λ (t : Switch). t.bridges ≡ s.bridges) (λ number t h. h) slot (awaited_by c) left
         (its_leg_bridges (λ position. with_death position s.entries cause) slot c.leg_of told
-        ∙ state_told_kept (λ (t : Switch). t.bridges ≡ s.bridges) (λ event t h. h) c.state CsHangup {s = cut} refl)) refl
+        ∙ state_told_kept (λ (t : Switch). t.bridges ≡ s.bridges) (λ event t h. h) c.state CsHangup slot {s = cut} refl)) refl
 
 -- a channel in no bridge comes to name no peer
 module _ (survivors : List (ℕ × After)) (bridges : BridgeRows) where
@@ -363,7 +363,7 @@ module _ (survivors : List (ℕ × After)) (bridges : BridgeRows) where
 
   tells_ended : (found : Option Ended) (t : Switch) → AllEnd survivors bridges t → AllEnd survivors bridges (with_end_told found t)
   tells_ended None t h = h
-  tells_ended (Some e) t h = told_ended (unbridge_event e.0) t h
+  tells_ended (Some e) t h = told_ended (unbridge_event e) t h
 
   members_ended : (untold : List Ended) (members : Members) (t : Switch) →
       ((m : Member) → IsOneOf m members → part_of m.0 bridges ≡ None) → AllEnd survivors bridges t →
@@ -389,7 +389,7 @@ module _ (survivors : List (ℕ × After)) (bridges : BridgeRows) where
   outlives_ended : (what : After) (slot : ℕ) (t : Switch) → part_of slot bridges ≡ None → LoneIn t.channels slot →
       AllEnd survivors bridges t → AllEnd survivors bridges (after_outliving what slot t)
   outlives_ended GoOn slot t none lone h =
-      told_ended (plain_event ChannelExecuteComplete) (after_move at_rest slot t)
+      told_ended (application_event ChannelExecuteComplete (running_at slot t) slot) (after_move at_rest slot t)
       (moved_there (AllEnd survivors bridges) told_ended at_rest slot t
       (λ c is. put_ended slot c (at_rest c) t is none
       (peerless_apt c (at_rest c) (peerless t slot c none h is) refl refl refl

@@ -11,7 +11,7 @@ use Rattle.fs_text.specs.declared.causes.Cause.TheVariants.{NormalTemporaryFailu
 use Rattle.fs_bridge.specs.declared.row.BridgeKind.{BridgeKind}
 use Rattle.fs_bridge.specs.declared.row.BridgeKind.TheVariants.{Dial}
 use Rattle.fs_bridge.specs.declared.row.Row.{Row}
-use Rattle.fs_bridge.specs.Bridges.{joined}
+use Rattle.fs_bridge.specs.Bridges.{joined, next_row}
 use Rattle.fs_chan.specs.declared.chan.Chan.{Chan}
 use Rattle.fs_chan.specs.declared.peer.Peer.{Peer}
 use Rattle.fs_chan.specs.declared.wait.Wait.TheVariants.{Ready, Bridged}
@@ -29,7 +29,7 @@ use Rattle.fs_places.specs.Places.{held_in, with_held}
 use Rattle.fs_places.proofs.HeldLemmas.{held_here, held_within}
 use Rattle.fs_places.proofs.TableLemmas.{still_there, not_free}
 use Rattle.fs_state.proofs.LegTables.{seated}
-use Rattle.fs_state.specs.Switch.{Switch, chan_at, with_chan, bridge_at, with_bridge, next_bridge_number, next_orig_number, with_event}
+use Rattle.fs_state.specs.Switch.{Switch, chan_at, with_chan, bridge_at, with_bridge, next_orig_number, with_event}
 use Rattle.fs_state.specs.Switch.{without_orig}
 use Rattle.fs_state.specs.Moves.{with_changed_chan_from, after_move_from, after_move, orig_changed, leg_changed}
 use Rattle.fs_state.specs.Moves.{orig_given_up}
@@ -215,9 +215,9 @@ module _ (kind : BridgeKind) (caller answerer : ℕ) (c d : Chan) (s : Switch) (
   -- one of them comes into media
   pub media_bonds : c.leg_of ≡ None → Bonds s → Bonds (after_move in_media answerer (joined_as kind caller answerer s))
   media_bonds lone h =
-      subst (λ (t : Switch). Bonds (after_move in_media answerer (with_event (bridge_event (next_bridge_number s)) t))) (sym joined_there)
+      subst (λ (t : Switch). Bonds (after_move in_media answerer (with_event (bridge_event (next_row caller answerer kind s.bridges)) t))) (sym joined_there)
       (subst (λ (found : Option Chan). Bonds (after_move_from in_media answerer found w)) (sym stands)
-      (state_told_kept (λ (t : Switch). Bonds t) (λ event t k. k) e.state (in_media e).state {s = with_chan answerer (Some (in_media e)) w}
+      (state_told_kept (λ (t : Switch). Bonds t) (λ event t k. k) e.state (in_media e).state answerer {s = with_chan answerer (Some (in_media e)) w}
       (subst (λ (all : Channels). BondsIn all (joined caller answerer kind s.bridges))
       (sym (set-set (with_held s.channels caller (Some (bridged (peer_of answerer d) c))) answerer (Some e) (Some (in_media e))))
       (joined_tables s.channels s.bridges kind caller answerer c d (in_media e) calls answers differ first_none second_none live
@@ -227,7 +227,7 @@ module _ (kind : BridgeKind) (caller answerer : ℕ) (c d : Chan) (s : Switch) (
       e = bridged (peer_of caller c) d
 
       w : Switch
-      w = with_event (bridge_event (next_bridge_number s))
+      w = with_event (bridge_event (next_row caller answerer kind s.bridges))
           (with_chan answerer (Some (bridged (peer_of caller c) d))
           (with_chan caller (Some (bridged (peer_of answerer d) c)) (with_bridge caller answerer kind s)))
 

@@ -53,6 +53,8 @@ module _ (P Q : Fact) where
   both_commands conn p q = record {
     spent = λ h. (p.spent h.0, q.spent h.1);
     gave = λ frame h. (p.gave frame h.0, q.gave frame h.1);
+    answered = λ frame h. (p.answered frame h.0, q.answered frame h.1);
+    asked = λ change h. (p.asked change h.0, q.asked change h.1);
     admitted = λ fresh h. (p.admitted fresh h.0, q.admitted fresh h.1);
     parted = λ why leaves h. (p.parted why leaves h.0, q.parted why leaves h.1);
     sleeps = λ until room h. (p.sleeps until room h.0, q.sleeps until room h.1);

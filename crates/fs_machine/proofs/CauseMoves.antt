@@ -37,7 +37,7 @@ use Rattle.fs_state.specs.Moves.{orig_changed_from, orig_changed, leg_changed_at
 use Rattle.fs_state.proofs.LegTables.{Origs, row_there, set_here, set_there}
 use Rattle.fs_machine.specs.declared.originations.Call.{Call}
 use Rattle.fs_machine.specs.Texts.{made_text, failed_text}
-use Rattle.fs_machine.specs.Connections.{conn_changed, admitted, parted, owed_since, not_owed}
+use Rattle.fs_machine.specs.Connections.{conn_changed, admitted, parted, owed_since, not_owed, with_subs_changed}
 use Rattle.fs_machine.specs.Originations.{set_all, no_variables, own_uuid, call_with, is_misnamed, seconds, made_dead, is_congested}
 use Rattle.fs_machine.specs.Originations.{made_in, free_pair, loopback_made, made_with, made_of, leg_made, MadeGroup, group_made, won_by}
 use Rattle.fs_machine.specs.Originations.{after_winning, leg_end}
@@ -406,6 +406,8 @@ told_moves before = record {
   commands = λ conn. record {
     spent = λ h. h;
     gave = λ frame h. h;
+    answered = λ frame h. h;
+    asked = λ change {s = s} h. conn_told (with_subs_changed change) conn s h;
     admitted = λ {s = s} fresh h. conn_told admitted conn s h;
     parted = λ why {s = s} leaves h. conn_told (parted why) conn s h;
     sleeps = λ until {s = s} room h. owing_told conn (Sleep until) s h;

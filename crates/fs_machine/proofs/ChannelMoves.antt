@@ -127,7 +127,7 @@ won_at_fit winner slot s short live h = by (chan_at s slot) refl
     by None is = h
     by (Some c) is =
         state_told_kept (λ (t : Switch). AllFit t.channels) (λ event t k. k) c.state
-        (won_by winner c).state {s = with_chan slot (Some (won_by winner c)) s}
+        (won_by winner c).state slot {s = with_chan slot (Some (won_by winner c)) s}
         (put_fit slot (won_by winner c) s (won_by_fit winner c short (live c is) (fit_there s slot c is h)) h)
 
 wins_fit : (job conn : ℕ) (winner : Winner) (caller : Caller) (orig : ℕ) (leg : OrigLeg) (slots : List ℕ) (s : Switch) →

@@ -12,7 +12,7 @@ use Rattle.fs_text.specs.declared.causes.Cause.TheVariants.{NormalTemporaryFailu
 use Rattle.fs_text.specs.declared.event_names.EventName.TheVariants.{ChannelExecuteComplete}
 use Rattle.fs_bridge.specs.declared.row.BridgeKind.{BridgeKind}
 use Rattle.fs_bridge.specs.declared.row.BridgeKind.TheVariants.{Dial}
-use Rattle.fs_bridge.specs.Bridges.{BridgeRows, joined}
+use Rattle.fs_bridge.specs.Bridges.{BridgeRows, next_row, joined}
 use Rattle.fs_bridge.specs.Closure.{Members}
 use Rattle.fs_chan.specs.declared.chan.Chan.{Chan}
 use Rattle.fs_chan.specs.Bridging.{awaiting, awaited_by, bridged, in_media, at_leisure, exported_pairs}
@@ -35,14 +35,14 @@ use Rattle.fs_state.specs.declared.event.Event.{Event}
 use Rattle.fs_state.specs.declared.job.JobWork.{JobWork}
 use Rattle.fs_state.specs.declared.job.JobWork.TheVariants.{Sleep, Originate}
 use Rattle.fs_state.specs.Counts.{Tallies}
-use Rattle.fs_state.specs.Switch.{Switch, chan_at, with_chan, with_bridge, next_bridge_number, conn_of, orig_of, next_orig_number}
+use Rattle.fs_state.specs.Switch.{Switch, chan_at, with_chan, with_bridge, conn_of, orig_of, next_orig_number}
 use Rattle.fs_state.specs.Switch.{next_job_number, with_new_job, without_job, without_orig, with_event}
-use Rattle.fs_state.specs.Moves.{plain_event, with_changed_chan, after_move, orig_changed_from, orig_changed, leg_changed, is_owner}
+use Rattle.fs_state.specs.Moves.{application_event, running_at, with_changed_chan, after_move, orig_changed_from, orig_changed, leg_changed, is_owner}
 use Rattle.fs_state.specs.Moves.{given_up_by, orig_given_up}
 use Rattle.fs_state.specs.Hangups.{lives, lives_at, after_hangups}
 use Rattle.fs_state.specs.Bridging.{bridge_event, peer_of, with_peer_from, with_peer, joined_as}
 use Rattle.fs_machine.specs.Texts.{made_text, failed_text}
-use Rattle.fs_machine.specs.Connections.{conn_changed_from, conn_changed, admitted, parted, owed_since, not_owed}
+use Rattle.fs_machine.specs.Connections.{conn_changed_from, conn_changed, admitted, parted, owed_since, not_owed, with_subs_changed}
 use Rattle.fs_machine.specs.Originations.{MadeGroup, group_made, after_winning}
 use Rattle.fs_machine.specs.Attempts.{first_group, orig_begun, tried_by_job, originate_begun, with_group}
 use Rattle.fs_machine.specs.Owing.{after_job_begin, after_job_end}
@@ -212,7 +212,7 @@ module _ (before : Switch) (P : Fact) (same : (b : Stage) (t u : Switch) → P b
 
   joined_remains : (kind : BridgeKind) (caller answerer : ℕ) (b : Stage) (s : Switch) → P b s → P b (joined_as kind caller answerer s)
   joined_remains kind caller answerer b s h =
-      kept.told (bridge_event (next_bridge_number s))
+      kept.told (bridge_event (next_row caller answerer kind s.bridges))
       (peer_remains answerer caller b (with_peer caller answerer (with_bridge caller answerer kind s))
       (peer_remains caller answerer b (with_bridge caller answerer kind s) (kept.bridges (joined caller answerer kind s.bridges) h)))
 
@@ -244,7 +244,7 @@ module _ (before : Switch) (P : Fact) (same : (b : Stage) (t u : Switch) → P b
 
       on : (onward : Bool) → P (Some 0) (after_going_on onward cause slot (disposed (cause_name cause) slot s))
       on true =
-          kept.told (plain_event ChannelExecuteComplete)
+          kept.told (application_event ChannelExecuteComplete (running_at slot (disposed (cause_name cause) slot s)) slot)
           (moved_remains at_rest slot (Some 0) (disposed (cause_name cause) slot s)
           (λ c there. record { uuid = refl; partner = refl; live = refl; short = λ short. short }) told)
       on false = kept.hung ((slot, cause) ∷ []) told
@@ -344,6 +344,8 @@ module _ (before : Switch) (P : Fact) (same : (b : Stage) (t u : Switch) → P b
     commands = λ conn. record {
       spent = births.spent;
       gave = λ frame h. same _ _ _ h refl;
+      answered = λ frame h. same _ _ _ h refl;
+      asked = λ change {n = n} {s = s} h. changed_same (with_subs_changed change) conn n s h;
       admitted = λ {n = n} {s = s} fresh h. changed_same admitted conn n s h;
       parted = λ why {n = n} {s = s} leaves h. changed_same (parted why) conn n s h;
       sleeps = λ until {s = s} room h. sleeps_same conn until s h;

@@ -17,7 +17,7 @@ use Rattle.fs_orig.specs.declared.orig.Orig.{Orig}
 use Rattle.fs_orig.specs.Changes.{with_death}
 use Rattle.fs_state.specs.declared.event.Event.{Event}
 use Rattle.fs_state.specs.Switch.{Switch, chan_at, with_chan, without_bridge, orig_of, without_orig, with_event}
-use Rattle.fs_state.specs.Moves.{plain_event, with_state_events, with_changed_chan, after_move, orig_changed, leg_changed}
+use Rattle.fs_state.specs.Moves.{application_event, running_at, with_state_events, with_changed_chan, after_move, orig_changed, leg_changed}
 use Rattle.fs_state.specs.Moves.{is_owner, its_leg_changed, hangup_event, given_up_by, orig_given_up, after_hangup_from, after_one_hangup}
 use Rattle.fs_state.specs.Hangups.{lives, lives_at, world_of, Ended, after_end, after_ends, unbridge_event, is_leg_of, with_end_told}
 use Rattle.fs_state.specs.Hangups.{untold_by, after_member}
@@ -87,7 +87,7 @@ module _ (hangs : ℕ → Bool) (P : Switch → Type 0) (told : (event : Event) 
 
   end_told_kept : (found : Option Ended) (s : Switch) → P s → P (with_end_told found s)
   end_told_kept None s h = h
-  end_told_kept (Some e) s h = told (unbridge_event e.0) s h
+  end_told_kept (Some e) s h = told (unbridge_event e) s h
 
   pub members_kept_by : (untold : List Ended) (members : Members) (s : Switch) →
       ((m : Member) → IsOneOf m members → hangs m.0 ≡ true) → P s → P (after_members untold members s)
@@ -102,7 +102,7 @@ module _ (hangs : ℕ → Bool) (P : Switch → Type 0) (told : (event : Event) 
   outliving_kept : (what : After) (slot : ℕ) (s : Switch) → hangs slot ≡ false → lives_at s slot ≡ true → P s →
       P (after_outliving what slot s)
   outliving_kept GoOn slot s outlives live h =
-      told (plain_event ChannelExecuteComplete) (after_move at_rest slot s)
+      told (application_event ChannelExecuteComplete (running_at slot s) slot) (after_move at_rest slot s)
       (moved_there P told at_rest slot s
       (λ c is. settles slot c (at_rest c) s is (Resumes outlives (sym (ap lives is) ∙ live)) h) h)
   outliving_kept Park slot s outlives live h =
@@ -168,11 +168,11 @@ module _ (hangs : ℕ → Bool) (P : Switch → Type 0) (told : (event : Event) 
           differing_kept P told (is_live c)
           (given_up_kept P gives_up slot (awaited_by c)
           (its_leg_changed (λ position. with_death position s.entries cause) slot c.leg_of
-          (with_state_events c.state CsHangup (with_event (hangup_event cause) (with_chan slot (Some (hung_up cause c)) s))))
+          (with_state_events c.state CsHangup slot (with_event (hangup_event cause slot) (with_chan slot (Some (hung_up cause c)) s))))
           (its_leg_kept cause s.entries slot c.leg_of
-          (with_state_events c.state CsHangup (with_event (hangup_event cause) (with_chan slot (Some (hung_up cause c)) s)))
-          (state_told_kept P told c.state CsHangup
-          (told (hangup_event cause) (with_chan slot (Some (hung_up cause c)) s)
+          (with_state_events c.state CsHangup slot (with_event (hangup_event cause slot) (with_chan slot (Some (hung_up cause c)) s)))
+          (state_told_kept P told c.state CsHangup slot
+          (told (hangup_event cause slot) (with_chan slot (Some (hung_up cause c)) s)
           (falls slot c (hung_up cause c) s is (Cut cause hung) h))))) h
 
   settles_kept : (slot : ℕ) (old new : Chan) (s : Switch) → chan_at s slot ≡ Some old → Settles hangs slot old new → P s →

@@ -101,7 +101,7 @@ module _ (x : Seen) where
       by None is = h
       by (Some c) is =
           state_told_kept (λ (t : Switch). Numbers 0 x (seen t)) (λ event t k. k) c.state
-          (won_by winner c).state {s = with_chan slot (Some (won_by winner c)) s}
+          (won_by winner c).state slot {s = with_chan slot (Some (won_by winner c)) s}
           (put_numbers 0 slot c (won_by winner c) s is (same_uuid winner c) h)
 
   media_numbers : (slot : ℕ) (s : Switch) → Numbers 0 x (seen s) → Numbers 0 x (seen (after_move in_media slot s))

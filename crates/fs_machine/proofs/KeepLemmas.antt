@@ -6,6 +6,7 @@ use Rattle.std.proofs.lemmas.Option.{same_Some, none-some}
 use Rattle.fs_text.specs.Texts.{Text}
 use Rattle.fs_frame.specs.Block.{line_of}
 use Rattle.fs_cmd.specs.Commands.{Command, command_of}
+use Rattle.fs_filter.specs.Subscriptions.{Subscription}
 use Rattle.fs_orig.specs.declared.caller.Caller.{Caller}
 use Rattle.fs_orig.specs.declared.leg.OrigLeg.{OrigLeg}
 use Rattle.fs_orig.specs.declared.orig.Owner.TheVariants as owner
@@ -24,12 +25,13 @@ use Rattle.fs_state.specs.declared.conn.Parting.TheVariants as parting
 use Rattle.fs_state.specs.declared.job.JobWork.{JobWork}
 use Rattle.fs_state.specs.declared.job.JobWork.TheVariants.{Sleep, Originate}
 use Rattle.fs_state.specs.Switch.{Switch, conn_of, next_orig_number, next_job_number, is_full_of_jobs, with_new_job, without_job}
-use Rattle.fs_state.specs.Switch.{without_orig, with_gift}
+use Rattle.fs_state.specs.Switch.{without_orig, with_gift, with_answer}
 use Rattle.fs_machine.specs.declared.entry.Act.{Act}
 use Rattle.fs_machine.specs.declared.entry.Act.TheVariants as act
 use Rattle.fs_machine.specs.declared.entry.Closing.TheVariants as closing
 use Rattle.fs_machine.specs.Texts.{made_text, failed_text}
 use Rattle.fs_machine.specs.Connections.{conn_changed_from, conn_changed, admitted, parted, owed_since, not_owed, phase_of, phase_at}
+use Rattle.fs_machine.specs.Connections.{with_subs_changed}
 use Rattle.fs_machine.specs.Questions.{parting_of, owed_of}
 use Rattle.fs_machine.specs.Originations.{MadeGroup, group_made, after_winning}
 use Rattle.fs_machine.specs.Attempts.{first_group, orig_begun, tried_by_job, originate_begun}
@@ -273,6 +275,15 @@ module _ (conn : ℕ) (s : Switch) where
   gave_keeps : (frame : Text) {t : Switch} → Keeps (Some conn) false s t → Keeps (Some conn) false s (with_gift conn frame t)
   gave_keeps frame {t} h = keeps_on s t (with_gift conn frame t) h refl
 
+  answered_keeps : (frame : Text) {t : Switch} → Keeps (Some conn) false s t → Keeps (Some conn) false s (with_answer conn frame t)
+  answered_keeps frame {t} h = keeps_on s t (with_answer conn frame t) h refl
+
+  asked_keeps : (change : Subscription → Subscription) {t : Switch} → Keeps (Some conn) false s t →
+      Keeps (Some conn) false s (conn_changed (with_subs_changed change) conn t)
+  asked_keeps change {t} h =
+      keeps_trans s t (conn_changed (with_subs_changed change) conn t) h
+      (own_changed_keeps (with_subs_changed change) (λ c h. h) (λ none c heard. heard) conn t)
+
   admitted_keeps : {t : Switch} → phase_at t conn ≡ Fresh → Keeps (Some conn) false s t →
       Keeps (Some conn) false s (conn_changed admitted conn t)
   admitted_keeps {t} fresh h =
@@ -301,6 +312,8 @@ module _ (conn : ℕ) (s : Switch) where
   commands_keep = record {
     spent = λ h. h;
     gave = λ frame h. gave_keeps frame h;
+    answered = λ frame h. answered_keeps frame h;
+    asked = λ change h. asked_keeps change h;
     admitted = λ fresh h. admitted_keeps fresh h;
     parted = λ why leaves h. leaves_keeps why leaves h;
     sleeps = sleeps_keep;

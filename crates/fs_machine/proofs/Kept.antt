@@ -35,7 +35,7 @@ use Rattle.fs_state.specs.declared.job.JobWork.{JobWork}
 use Rattle.fs_state.specs.declared.job.JobWork.TheVariants as work
 use Rattle.fs_state.specs.Switch.{Switch, chan_at, with_chan, bridge_at, is_full_of_jobs, job_of, without_conn, with_frame_taken}
 use Rattle.fs_state.specs.Switch.{with_event}
-use Rattle.fs_state.specs.Switch.{next_orig_number, orig_of, without_orig, with_gift, with_answer}
+use Rattle.fs_state.specs.Switch.{next_orig_number, orig_of, without_orig, with_gift, with_answer as with_reply_now}
 use Rattle.fs_state.specs.Moves.{orig_changed, leg_changed}
 use Rattle.fs_state.specs.Hangups.{after_hangups, after_hangups_for}
 use Rattle.fs_state.specs.Bridging.{can_join, joined_as}
@@ -215,7 +215,7 @@ IsShortWinner (Route to) = IsShortTarget (target_of to)
 pub record KeptByCommands (conn : ℕ) (P : Fact) : Type 0 where
   pub spent : {s : Switch} → P None s → P (Some 0) s
   pub gave : (frame : Text) {b : Stage} {s : Switch} → P b s → P b (with_gift conn frame s)
-  pub answered : (frame : Text) {b : Stage} {s : Switch} → P b s → P b (with_answer conn frame s)
+  pub answered : (frame : Text) {b : Stage} {s : Switch} → P b s → P b (with_reply_now conn frame s)
   pub asked : (change : Subscription → Subscription) {n : ℕ} {s : Switch} → P (Some n) s →
       P (Some n) (conn_changed (with_subs_changed change) conn s)
   pub admitted : {n : ℕ} {s : Switch} → phase_at s conn ≡ Fresh → P (Some n) s → P (Some n) (conn_changed admitted conn s)

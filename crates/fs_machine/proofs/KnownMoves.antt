@@ -14,7 +14,7 @@ use Rattle.fs_places.proofs.RowLemmas.{row_none, place_stands, row_of-with_new_r
 use Rattle.fs_places.proofs.TableLemmas.{row_found, taken_in, full_taken}
 use Rattle.fs_state.specs.declared.job.Job.{Job}
 use Rattle.fs_state.specs.declared.job.JobWork.TheVariants.{Originate}
-use Rattle.fs_state.specs.Switch.{Switch, chan_at, next_orig_number, with_gift}
+use Rattle.fs_state.specs.Switch.{Switch, chan_at, next_orig_number, with_gift, with_answer}
 use Rattle.fs_machine.proofs.Kept.{Stage, Fact, DoesJob, KeptByMoves}
 use Rattle.fs_machine.proofs.BondMoves.{bonds_moves}
 use Rattle.fs_machine.proofs.BothMoves.{Both, both_moves}
@@ -45,6 +45,11 @@ early_given : (before : Switch) (b : Stage) (conn : ℕ) (frame : List ℕ) (t :
 early_given before None conn frame t h = h
 early_given before (Some n) conn frame t h = tt
 
+early_answered : (before : Switch) (b : Stage) (conn : ℕ) (frame : List ℕ) (t : Switch) → Early before b t →
+    Early before b (with_answer conn frame t)
+early_answered before None conn frame t h = h
+early_answered before (Some n) conn frame t h = tt
+
 pub early_moves : (before : Switch) → KeptByMoves before (Early before)
 early_moves before = record {
   calls = calls_by_losses (Early before) (early_loses before) (λ t h. tt);
@@ -63,6 +68,8 @@ early_moves before = record {
   commands = λ conn. record {
     spent = λ h. tt;
     gave = λ frame {b = b} {s = s} h. early_given before b conn frame s h;
+    answered = λ frame {b = b} {s = s} h. early_answered before b conn frame s h;
+    asked = λ change h. tt;
     admitted = λ fresh h. tt;
     parted = λ why leaves h. tt;
     sleeps = λ until room h. tt;

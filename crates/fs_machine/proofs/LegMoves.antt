@@ -38,7 +38,7 @@ use Rattle.fs_state.specs.Hangups.{after_hangups}
 use Rattle.fs_state.specs.Bridging.{peer_of, with_peer_from, with_peer, joined_as}
 use Rattle.fs_state.proofs.LegTables.{seated, seat_at, in_slot, seat_number, without_fewer}
 use Rattle.fs_machine.specs.Texts.{made_text, failed_text}
-use Rattle.fs_machine.specs.Connections.{conn_changed, admitted, parted, owed_since, not_owed}
+use Rattle.fs_machine.specs.Connections.{conn_changed, admitted, parted, owed_since, not_owed, with_subs_changed}
 use Rattle.fs_machine.specs.Originations.{MadeGroup, group_made, won_by, after_winning}
 use Rattle.fs_machine.specs.Attempts.{first_group, orig_begun, tried_by_job, originate_begun, with_group}
 use Rattle.fs_machine.specs.Owing.{after_job_begin, after_job_end}
@@ -306,7 +306,7 @@ won_roles winner slot c s there =
     subst (λ (found : Option Chan). roles_of (after_move_from (won_by winner) slot found s) ≡ record
     (roles_of s) { channels = with_held s.channels slot (Some (won_by winner c)) }) (sym there)
     (state_told_kept (λ (t : Switch). roles_of t ≡ record (roles_of s) { channels = with_held s.channels slot (Some (won_by winner c)) })
-    (λ event t h. h) c.state (won_by winner c).state
+    (λ event t h. h) c.state (won_by winner c).state slot
     {s = with_chan slot (Some (won_by winner c)) s} refl)
 
 won_legs : (winner : Winner) (number : ℕ) (leg : OrigLeg) (s : Switch) → IsLegOf s.channels (seated number leg.slot) →
@@ -451,6 +451,9 @@ module _ (before : Switch) (stand : LegsStand (roles_of before)) where
     commands = λ conn. record {
       spent = λ h. h;
       gave = λ frame h. h;
+      answered = λ frame h. h;
+      asked = λ change {s = s} h. same_roles s (conn_changed (with_subs_changed change) conn s)
+          (conn_roles (with_subs_changed change) conn s) h;
       admitted = λ {s = s} fresh h. same_roles s (conn_changed admitted conn s) (conn_roles admitted conn s) h;
       parted = λ why {s = s} leaves h. same_roles s (conn_changed (parted why) conn s) (conn_roles (parted why) conn s) h;
       sleeps = λ until {s = s} room h. same_roles s (after_job_begin conn (Sleep until) s)

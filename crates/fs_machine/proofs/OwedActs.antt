@@ -6,6 +6,7 @@ use Rattle.std.proofs.lemmas.Bool.{false≢true, not-false}
 use Rattle.fs_text.specs.Texts.{Text}
 use Rattle.fs_frame.specs.Block.{line_of}
 use Rattle.fs_cmd.specs.Commands.{command_of}
+use Rattle.fs_filter.specs.Subscriptions.{Subscription}
 use Rattle.fs_orig.specs.declared.caller.Caller.{Caller}
 use Rattle.fs_orig.specs.declared.leg.OrigLeg.{OrigLeg}
 use Rattle.fs_orig.specs.declared.plan.LegPlan.{LegPlan}
@@ -19,14 +20,14 @@ use Rattle.fs_state.specs.declared.conn.Phase.TheVariants as phase
 use Rattle.fs_state.specs.declared.conn.Parting.{Parting}
 use Rattle.fs_state.specs.declared.conn.Parting.TheVariants as parting
 use Rattle.fs_state.specs.declared.job.JobWork.TheVariants as work
-use Rattle.fs_state.specs.Switch.{Switch, conn_of, is_full_of_jobs, without_orig, with_gift, next_orig_number}
+use Rattle.fs_state.specs.Switch.{Switch, conn_of, is_full_of_jobs, without_orig, with_gift, with_answer, next_orig_number}
 use Rattle.fs_machine.specs.declared.entry.Act.{Act}
 use Rattle.fs_machine.specs.declared.entry.Act.TheVariants as act
 use Rattle.fs_machine.specs.declared.entry.Closing.{Closing}
 use Rattle.fs_machine.specs.declared.entry.Closing.TheVariants as closing
 use Rattle.fs_machine.specs.declared.refusal.Refusal.TheVariants as refusal
 use Rattle.fs_machine.specs.Texts.{made_text, failed_text}
-use Rattle.fs_machine.specs.Connections.{phase_of, phase_at, conn_changed, admitted, parted}
+use Rattle.fs_machine.specs.Connections.{phase_of, phase_at, conn_changed, admitted, parted, with_subs_changed}
 use Rattle.fs_machine.specs.Questions.{owed_of, owed_to}
 use Rattle.fs_machine.specs.Originations.{group_made, after_winning, seconds, MadeGroup}
 use Rattle.fs_machine.specs.Attempts.{originate_begun, with_group, first_group, orig_begun, awaits}
@@ -114,6 +115,11 @@ module _ (b : Books) (conn : ℕ) (c : Conn) (there : row_of b.conns conn ≡ So
       (λ x is. subst (λ (at : Phase). PartsIn at x.parting) (sym (ap phase_of is) ∙ fresh) (parts_of s conn x h.sound.linked.parts is))
       (λ x. refl) h
 
+  asked_goes : (change : Subscription → Subscription) (s : Switch) → Goes b (books_of s) →
+      Goes b (books_of (conn_changed (with_subs_changed change) conn s))
+  asked_goes change s h =
+      goes_conn b (with_subs_changed change) conn s (λ x is. parts_of s conn x h.sound.linked.parts is) (λ x. refl) h
+
   a_place : (s : Switch) → is_full_of_jobs s ≡ false → (q : ℕ) × (least_free s.jobs 0 ≡ Some q)
   a_place s room = by (least_free s.jobs 0) refl room
     where
@@ -145,10 +151,16 @@ module _ (b : Books) (conn : ℕ) (c : Conn) (there : row_of b.conns conn ≡ So
   gave_goes frame None s h = h
   gave_goes frame (Some n) s h = h
 
+  answered_goes : (frame : Text) (stage : Stage) (s : Switch) → GoesFrom b stage s → GoesFrom b stage (with_answer conn frame s)
+  answered_goes frame None s h = h
+  answered_goes frame (Some n) s h = h
+
   commands_go : KeptByCommands conn (GoesFrom b)
   commands_go = record {
     spent = λ {s = s} h. goes_spent b sound s h.0;
     gave = λ frame {b = stage} {s = s} h. gave_goes frame stage s h;
+    answered = λ frame {b = stage} {s = s} h. answered_goes frame stage s h;
+    asked = λ change {s = s} h. asked_goes change s h;
     admitted = λ {s = s} new h. admitted_goes s new h;
     parted = λ why {s = s} leaves h. parted_goes why s h;
     sleeps = λ until {s = s} room h. sleeps_go until s room h.0;

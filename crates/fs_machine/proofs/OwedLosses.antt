@@ -28,7 +28,7 @@ use Rattle.fs_places.proofs.NumberLemmas.{Numbers}
 use Rattle.fs_state.specs.declared.event.Event.{Event}
 use Rattle.fs_state.specs.Switch.{Switch, chan_at, with_chan, with_bridge, without_bridge, orig_of, without_orig, with_event}
 use Rattle.fs_text.specs.declared.event_names.EventName.TheVariants.{ChannelExecuteComplete}
-use Rattle.fs_state.specs.Moves.{plain_event, with_state_events, after_move, orig_changed_from, orig_changed, leg_changed_at, leg_changed}
+use Rattle.fs_state.specs.Moves.{application_event, running_at, with_state_events, after_move, orig_changed_from, orig_changed, leg_changed_at, leg_changed}
 use Rattle.fs_state.specs.Moves.{is_owner, its_leg_changed, hangup_event, given_up_by, orig_given_up, after_hangup_from, after_one_hangup}
 use Rattle.fs_state.specs.Hangups.{after_hangups}
 use Rattle.fs_state.specs.Bridging.{peer_of, with_peer_from, with_peer, joined_as}
@@ -216,14 +216,14 @@ one_hung_loses cause slot s = by (chan_at s slot)
     of : (c : Chan) (test : Bool) →
         Loses s
         (if test then orig_given_up slot (awaited_by c) (its_leg_changed (λ position. with_death position s.entries cause) slot c.leg_of
-        (with_state_events c.state CsHangup (with_event (hangup_event cause) (with_chan slot (Some (hung_up cause c)) s)))) else s)
+        (with_state_events c.state CsHangup slot (with_event (hangup_event cause slot) (with_chan slot (Some (hung_up cause c)) s)))) else s)
     of c true =
-        let cut : Switch = with_event (hangup_event cause) (with_chan slot (Some (hung_up cause c)) s) in
-        let told : Switch = with_state_events c.state CsHangup cut in
+        let cut : Switch = with_event (hangup_event cause slot) (with_chan slot (Some (hung_up cause c)) s) in
+        let told : Switch = with_state_events c.state CsHangup slot cut in
         let dead : Switch = its_leg_changed (λ position. with_death position s.entries cause) slot c.leg_of told in
         loses_trans s dead (orig_given_up slot (awaited_by c) dead)
         (loses_trans s told dead
-        (state_told_kept (λ (t : Switch). Loses s t) (told_loses s) c.state CsHangup {s = cut} (loses_none s cut refl refl refl))
+        (state_told_kept (λ (t : Switch). Loses s t) (told_loses s) c.state CsHangup slot {s = cut} (loses_none s cut refl refl refl))
         (died c.leg_of told)) (given_up_loses slot (awaited_by c) dead)
     of c false = self s
 
@@ -311,7 +311,7 @@ failure_loses cause slot s = by (chan_at s slot)
 
     onward : (goes : Bool) → Loses s (after_going_on goes cause slot t)
     onward true =
-        told_loses s (plain_event ChannelExecuteComplete) (after_move at_rest slot t)
+        told_loses s (application_event ChannelExecuteComplete (running_at slot t) slot) (after_move at_rest slot t)
         (loses_trans s t (after_move at_rest slot t) (disposed_loses (cause_name cause) slot s) (moved_loses at_rest slot t))
     onward false =
         loses_trans s t (after_hangups ((slot, cause) ∷ []) t) (disposed_loses (cause_name cause) slot s)

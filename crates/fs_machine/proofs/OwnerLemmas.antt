@@ -347,7 +347,7 @@ one_hung_owned cause slot s h = by (chan_at s slot) refl
     change position = with_death position s.entries cause
 
     cut : Chan → Switch
-    cut c = with_state_events c.state CsHangup (with_event (hangup_event cause) (with_chan slot (Some (hung_up cause c)) s))
+    cut c = with_state_events c.state CsHangup slot (with_event (hangup_event cause slot) (with_chan slot (Some (hung_up cause c)) s))
 
     -- the originations behind it
     behind : Chan → Origs

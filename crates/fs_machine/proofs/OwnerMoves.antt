@@ -43,7 +43,7 @@ use Rattle.fs_state.specs.Bridging.{peer_of, with_peer_from, with_peer, joined_a
 use Rattle.fs_state.proofs.LegTables.{seated}
 use Rattle.fs_machine.specs.declared.originations.Call.{Call}
 use Rattle.fs_machine.specs.Texts.{made_text, failed_text}
-use Rattle.fs_machine.specs.Connections.{conn_changed, admitted, parted, owed_since, not_owed}
+use Rattle.fs_machine.specs.Connections.{conn_changed, admitted, parted, owed_since, not_owed, with_subs_changed}
 use Rattle.fs_machine.specs.Originations.{pair_made, MadeGroup, group_made, won_by, after_winning}
 use Rattle.fs_machine.specs.Attempts.{first_group, orig_begun, tried_by_job, originate_begun, with_group, awaits}
 use Rattle.fs_machine.specs.Owing.{after_job_end}
@@ -310,7 +310,7 @@ moved_roles change slot c s there =
     subst (λ (found : Option Chan). roles_of (after_move_from change slot found s) ≡ record
     (roles_of s) { channels = with_held s.channels slot (Some (change c)) }) (sym there)
     (state_told_kept (λ (t : Switch). roles_of t ≡ record (roles_of s) { channels = with_held s.channels slot (Some (change c)) })
-    (λ event t h. h) c.state (change c).state {s = with_chan slot (Some (change c)) s} refl)
+    (λ event t h. h) c.state (change c).state slot {s = with_chan slot (Some (change c)) s} refl)
 
 dials_owned : (slot : ℕ) (c : Chan) (groups : List (List LegPlan)) (timeout : ℕ) (s : Switch) → chan_at s slot ≡ Some c → IsAtWork c →
     IsApt c → RoomAt None s.drawn.origs → Owned (roles_of s) →
@@ -561,6 +561,13 @@ module _ (before : Switch) (stand : LegsStand (roles_of before)) (bonding : Kept
       spent = λ {s = s} h. record { bonds = (bonding.commands conn).spent {s = s} h.bonds; owned = h.owned; room = tt };
       gave = λ frame {b = b} {s = s} h.
           record { bonds = (bonding.commands conn).gave frame {b = b} {s = s} h.bonds; owned = h.owned; room = h.room };
+      answered = λ frame {b = b} {s = s} h.
+          record { bonds = (bonding.commands conn).answered frame {b = b} {s = s} h.bonds; owned = h.owned; room = h.room };
+      asked = λ change {n = n} {s = s} h. record {
+        bonds = (bonding.commands conn).asked change {n = n} {s = s} h.bonds;
+        owned = conn_owned (with_subs_changed change) conn s h.owned;
+        room = tt;
+      };
       admitted = λ {n = n} {s = s} fresh h. record {
         bonds = (bonding.commands conn).admitted {n = n} {s = s} fresh h.bonds;
         owned = conn_owned admitted conn s h.owned;

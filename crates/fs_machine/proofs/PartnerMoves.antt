@@ -283,7 +283,7 @@ won_partners winner slot s h = by (chan_at s slot) refl
     by None is = h
     by (Some c) is =
         state_told_kept (λ (t : Switch). Ties partner_of t.channels) (λ event t k. k) c.state
-        (won_by winner c).state {s = with_chan slot (Some (won_by winner c)) s} (put winner c is)
+        (won_by winner c).state slot {s = with_chan slot (Some (won_by winner c)) s} (put winner c is)
 
 same_partners : (b : Stage) (t u : Switch) → ArePaired t → front_of u ≡ front_of t → ArePaired u
 same_partners b t u h same = record {

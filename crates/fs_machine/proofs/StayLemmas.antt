@@ -226,22 +226,22 @@ is_at_work channels slot c at there =
 -- ---- what is told of a change of state
 
 module _ (P : Switch → Type 0) (told_kept : (event : Event) (s : Switch) → P s → P (with_event event s)) where
-  left_told_kept : (state : State) {s : Switch} → P s → P (with_leaving_event state s)
-  left_told_kept CsPark h = told_kept (plain_event ChannelUnpark) _ h
-  left_told_kept _ h = h
+  left_told_kept : (state : State) (slot : ℕ) {s : Switch} → P s → P (with_leaving_event state slot s)
+  left_told_kept CsPark slot h = told_kept (plain_event ChannelUnpark slot) _ h
+  left_told_kept _ slot h = h
 
-  come_told_kept : (state : State) {s : Switch} → P s → P (with_coming_event state s)
-  come_told_kept CsPark h = told_kept (plain_event ChannelPark) _ h
-  come_told_kept _ h = h
+  come_told_kept : (state : State) (slot : ℕ) {s : Switch} → P s → P (with_coming_event state slot s)
+  come_told_kept CsPark slot h = told_kept (plain_event ChannelPark slot) _ h
+  come_told_kept _ slot h = h
 
   pub differing_kept : (b : Bool) {s t : Switch} → P s → P t → P (if b then s else t)
   differing_kept true first second = first
   differing_kept false first second = second
 
-  pub state_told_kept : (old new : State) {s : Switch} → P s → P (with_state_events old new s)
-  state_told_kept old new h =
+  pub state_told_kept : (old new : State) (slot : ℕ) {s : Switch} → P s → P (with_state_events old new slot s)
+  state_told_kept old new slot h =
       differing_kept (state_number old == state_number new) h
-      (told_kept (plain_event ChannelState) _ (come_told_kept new (left_told_kept old h)))
+      (told_kept (plain_event ChannelState slot) _ (come_told_kept new slot (left_told_kept old slot h)))
 
 -- a channel is changed, and tells of that
 pub moved_there : (P : Switch → Type 0) (told_kept : (event : Event) (s : Switch) → P s → P (with_event event s)) (change : Chan → Chan)
@@ -251,7 +251,7 @@ moved_there P told_kept change slot s there h = by (chan_at s slot) refl
   where
     by : (found : Option Chan) → chan_at s slot ≡ found → P (after_move_from change slot found s)
     by None is = h
-    by (Some c) is = state_told_kept P told_kept c.state (change c).state (there c is)
+    by (Some c) is = state_told_kept P told_kept c.state (change c).state slot (there c is)
 
 -- a channel is changed, and tells of nothing
 pub changed_there : (P : Switch → Type 0) (change : Chan → Chan) (slot : ℕ) (s : Switch) →
@@ -308,11 +308,11 @@ one_answered_works slot place s at = by (chan_at s place) refl
   where
     put : (c : Chan) → chan_at s place ≡ Some c → (test : Bool) →
         WorksAt (if test then its_leg_changed (λ position. with_answer position s.entries) place c.leg_of
-        (with_event (plain_event ChannelAnswer) (with_chan place (Some (with_answer_place s.entries c)) s)) else s).channels slot
+        (with_event (plain_event ChannelAnswer place) (with_chan place (Some (with_answer_place s.entries c)) s)) else s).channels slot
     put c is true =
         subst (λ (channels : List (Option Chan)). WorksAt channels slot)
         (sym (its_leg_channels (λ position. with_answer position s.entries) place c.leg_of
-        (with_event (plain_event ChannelAnswer) (with_chan place (Some (with_answer_place s.entries c)) s))))
+        (with_event (plain_event ChannelAnswer place) (with_chan place (Some (with_answer_place s.entries c)) s))))
         (works_put s.channels slot place c (with_answer_place s.entries c) is
         (quiet_works c (with_answer_place s.entries c) (answer_quiet s.entries c)) at)
     put c is false = at

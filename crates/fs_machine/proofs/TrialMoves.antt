@@ -6,7 +6,7 @@ use Rattle.std.proofs.Common.{unwrap_or, ◌≡◌, ℕ, ◌+◌, ◌-◌, ◌^�
 use Rattle.std.proofs.Common.{arith}
 use Rattle.std.proofs.lemmas.Option.{none-some, same_Some}
 use Rattle.fs_machine.specs.Texts.{made_text, failed_text}
-use Rattle.fs_machine.specs.Connections.{admitted, parted, conn_changed, owed_since, not_owed}
+use Rattle.fs_machine.specs.Connections.{admitted, parted, conn_changed, owed_since, not_owed, with_subs_changed}
 use Rattle.fs_machine.specs.Originations.{after_winning, seconds, MadeGroup, group_made}
 use Rattle.fs_machine.specs.Attempts.{with_group, first_group, orig_begun, originate_begun}
 use Rattle.fs_machine.specs.Bridging.{after_bridge_failure, after_bridge_win, caller_of, group_dialed}
@@ -305,6 +305,8 @@ trying_moves before = record {
   commands = λ conn. record {
     spent = λ {s = s} h. spent s h;
     gave = λ frame {s = s} h. record { apart = h.apart; next = h.next };
+    answered = λ frame {s = s} h. record { apart = h.apart; next = h.next };
+    asked = λ change {n = n} {s = s} h. conn_trials (Some n) (with_subs_changed change) conn s h;
     admitted = λ {n = n} {s = s} fresh h. conn_trials (Some n) admitted conn s h;
     parted = λ why {n = n} {s = s} leaves h. conn_trials (Some n) (parted why) conn s h;
     sleeps = λ until {s = s} room h. begun_trials conn (Sleep until) s (λ number tries. absurd (none-some number tries)) h.apart;

@@ -11,7 +11,7 @@ use Rattle.fs_text.specs.declared.causes.Cause.{Cause}
 use Rattle.fs_text.specs.declared.causes.Cause.TheVariants.{NormalClearing, NormalTemporaryFailure, DestinationOutOfOrder}
 use Rattle.fs_text.specs.declared.causes.Cause.TheVariants.{ExchangeRoutingError, NoRouteDestination, InvalidNumberFormat}
 use Rattle.fs_text.specs.declared.event_names.EventName.TheVariants.{ChannelCreate, ChannelState, ChannelAnswer, ChannelExecute}
-use Rattle.fs_text.specs.declared.event_names.EventName.TheVariants.{ChannelExecuteComplete, ChannelHangupComplete, ChannelDestroy}
+use Rattle.fs_text.specs.declared.event_names.EventName.TheVariants.{ChannelExecuteComplete, ChannelDestroy}
 use Rattle.fs_vars.specs.Variables.{Variables}
 use Rattle.fs_app.specs.declared.application.Application.{Application}
 use Rattle.fs_app.specs.declared.application.Application.TheVariants as app
@@ -46,7 +46,7 @@ use Rattle.fs_orig.specs.Verdicts.{next_group}
 use Rattle.fs_places.proofs.HeldLemmas.{free_place}
 use Rattle.fs_plan.specs.declared.hunt.Hunt.{Hunt}
 use Rattle.fs_state.specs.Switch.{Switch, chan_at, free_slot, orig_of, without_orig}
-use Rattle.fs_state.specs.Moves.{plain_event, after_move, with_changed_chan, with_running}
+use Rattle.fs_state.specs.Moves.{plain_event, application_event, running_at, report_event, after_move, with_changed_chan, with_running}
 use Rattle.fs_state.specs.Moves.{run_on, after_completion, its_leg_changed, after_answer_from, after_one_answer, partner_at, for_slot}
 use Rattle.fs_state.specs.Moves.{after_answer, after_report, after_destroy}
 use Rattle.fs_state.specs.Hangups.{after_hangup}
@@ -181,10 +181,12 @@ module _ (P : Fact) (kept : KeptByTouches P) where
       (λ c is. kept.changed slot c (change c) is (quiet_stays c (change c) (quiet c)) h) h
 
   run_on_kept : (action : Action) (slot : ℕ) {b : Stage} {s : Switch} → P b s → P b (run_on action slot s)
-  run_on_kept action slot h = kept.told (plain_event ChannelExecute) (moved_kept (with_running action) slot (running_quiet action) h)
+  run_on_kept action slot h =
+      kept.told (application_event ChannelExecute (Some action) slot) (moved_kept (with_running action) slot (running_quiet action) h)
 
   completed_kept : (slot : ℕ) {b : Stage} {s : Switch} → WorksAt s.channels slot → P b s → P b (after_completion slot s)
-  completed_kept slot at h = kept.told (plain_event ChannelExecuteComplete) (work_moved at_rest slot at rests_stays h)
+  completed_kept slot {b} {s} at h =
+      kept.told (application_event ChannelExecuteComplete (running_at slot s) slot) (work_moved at_rest slot at rests_stays h)
 
   -- ---- answers
 
@@ -201,7 +203,7 @@ module _ (P : Fact) (kept : KeptByTouches P) where
       by (Some c) is =
           either (is_none c.answered)
           (its_leg_kept s.entries slot c.leg_of
-          (kept.told (plain_event ChannelAnswer)
+          (kept.told (plain_event ChannelAnswer slot)
           (kept.changed slot c (with_answer_place s.entries c) is
           (quiet_stays c (with_answer_place s.entries c) (answer_quiet s.entries c)) h))) h
 
@@ -356,13 +358,13 @@ module _ (before : Switch) (P : Fact) (kept : KeptByCalls P) (dials : KeptByDial
       P b (after_report slot s)
   reported_kept slot c there is h =
       moved_as P kept.touches (in_state CsReporting) slot c there (reports_stays c is)
-      (kept.touches.told (plain_event ChannelHangupComplete) h)
+      (kept.touches.told (report_event slot) h)
 
   destroyed_kept : (slot : ℕ) (c : Chan) {s : Switch} → chan_at s slot ≡ Some c → c.state ≡ CsReporting → P (Some 0) s →
       P (Some 1) (after_destroy slot s)
   destroyed_kept slot c there is h =
-      kept.touches.told (plain_event ChannelDestroy)
-      (kept.touches.told (plain_event ChannelState) (kept.gone slot c there (live_by c CsReporting false is reporting_dead) h))
+      kept.touches.told (plain_event ChannelDestroy slot)
+      (kept.touches.told (plain_event ChannelState slot) (kept.gone slot c there (live_by c CsReporting false is reporting_dead) h))
 
   -- ---- what came of what it dialed
 
@@ -421,7 +423,7 @@ module _ (before : Switch) (P : Fact) (kept : KeptByCalls P) (dials : KeptByDial
   working_kept CsNew slot c there is h =
       kept.more
       (dials.spent
-      (moved_as P kept.touches (in_state CsInit) slot c there (begins_stays c is) (kept.touches.told (plain_event ChannelCreate) h)))
+      (moved_as P kept.touches (in_state CsInit) slot c there (begins_stays c is) (kept.touches.told (plain_event ChannelCreate slot) h)))
   working_kept CsInit slot c there is h =
       kept.more (dials.spent (moved_as P kept.touches (in_state (first_state c.direction)) slot c there (first_stays c is) h))
   working_kept CsRouting slot c there is h =

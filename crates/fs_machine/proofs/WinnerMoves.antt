@@ -17,7 +17,7 @@ use Rattle.fs_state.specs.declared.job.JobWork.{JobWork}
 use Rattle.fs_state.specs.declared.job.JobWork.TheVariants.{Sleep, Originate}
 use Rattle.fs_state.specs.Switch.{Switch, next_orig_number, next_job_number, with_new_job, without_job, without_orig}
 use Rattle.fs_machine.specs.Texts.{made_text, failed_text}
-use Rattle.fs_machine.specs.Connections.{conn_changed, admitted, parted, owed_since, not_owed}
+use Rattle.fs_machine.specs.Connections.{conn_changed, admitted, parted, owed_since, not_owed, with_subs_changed}
 use Rattle.fs_machine.specs.Originations.{MadeGroup, group_made, after_winning}
 use Rattle.fs_machine.specs.Attempts.{first_group, orig_begun, originate_begun}
 use Rattle.fs_machine.specs.Owing.{after_job_begin, after_job_end}
@@ -99,6 +99,8 @@ winners_moves before = record {
   commands = λ conn. record {
     spent = λ h. h;
     gave = λ frame h. h;
+    answered = λ frame h. h;
+    asked = λ change {s = s} h. same_winners s (conn_changed (with_subs_changed change) conn s) (conn_jobs (with_subs_changed change) conn s) h;
     admitted = λ {s = s} fresh h. same_winners s (conn_changed admitted conn s) (conn_jobs admitted conn s) h;
     parted = λ why {s = s} leaves h. same_winners s (conn_changed (parted why) conn s) (conn_jobs (parted why) conn s) h;
     sleeps = λ until {s = s} room h. owing_winners conn (Sleep until) s tt h;

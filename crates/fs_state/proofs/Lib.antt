@@ -5,3 +5,4 @@ pub mod CountLemmas
 pub mod LegTables
 pub mod GiftLemmas
 pub mod HangupLemmas
+pub mod TellLemmas

@@ -160,7 +160,12 @@ impl<'a> Draft<'a> {
     }
 
     /// The application of the channel in a slot begins or is over.
-    fn tell_application(&mut self, name: EventName, action: Option<Action>, slot: u16) -> Result<(), Memory>
+    fn tell_application(
+        &mut self,
+        name: EventName,
+        action: Option<Action>,
+        slot: u16,
+    ) -> Result<(), Memory>
         ensures { Brings result self.old self.new
             (with_event (spec.application_event name action slot) (drafted self.old)) }
     {

@@ -1,5 +1,5 @@
 //! All that an event tells: what was told in short, and what the entry leaves.
-ghost use Rattle.std.specs.Prelude.{◌≡◌, [], ◌∷◌, ◌++◌, IfOk, OnOk};
+ghost use Rattle.std.specs.Prelude.{◌≡◌, [], ◌∷◌, ◌++◌, take, IfOk, OnOk};
 ghost use Rattle.std.specs.Option.{option_copied};
 ghost use Rattle.fs_text.specs.Headers.{with_values};
 ghost use Rattle.fs_state.specs.Drafts.{drafted};
@@ -46,7 +46,8 @@ impl<'a> Draft<'a> {
         told.put(b"Event-Name", Txt::of(alloc, name.name().as_bytes())?)?;
         told.put(b"Core-UUID", core_id.uuid(alloc, 0)?)?;
         told.put(b"Event-Sequence", decimal(alloc, number)?)?;
-        told.put(b"Event-Date-Timestamp", decimal(alloc, self.moment())?)
+        told.put(b"Event-Date-Timestamp", decimal(alloc, self.moment())?)?;
+        Ok(())
     }
 
     /// Tells of the channel in a slot, as the entry leaves it; of one that is gone by then as it was, in its last
@@ -101,7 +102,8 @@ impl<'a> Draft<'a> {
         let number = decimal(self.alloc(), row.number)?;
         told.add(b"Bridge-A-Unique-ID", self.uuid_told(row.caller))?;
         told.add(b"Bridge-B-Unique-ID", self.uuid_told(row.answerer))?;
-        told.add(b"Bridge-Number", number.as_bytes())
+        told.add(b"Bridge-Number", number.as_bytes())?;
+        Ok(())
     }
 
     /// The identifier of the channel in a slot, or nothing where none is or was there.
@@ -204,9 +206,9 @@ impl Told {
     fn tell_application(&mut self, action: &Action) -> Result<(), Memory>
         ensures { OnOk result (self.new ≡ self.old ++ with_values (spec.application_headers action.now)) }
     {
-        let argument = action.argument.as_bytes();
         self.add(b"Application", action.application.as_bytes())?;
-        self.add(b"Application-Data", &argument[..argument.len().min(ARGUMENT_TOLD)])
+        self.add(b"Application-Data", argument_told(action))?;
+        Ok(())
     }
 
     /// Tells why a channel was hung up, or a bridge ended.
@@ -221,11 +223,27 @@ impl Told {
         ensures { OnOk result (self.new ≡ self.old ++ with_values (spec.variable_headers vars.now)) }
     {
         for (name, value) in vars.pairs() {
-            let name = variable_name(self.alloc, name)?;
-            self.add(&name, value.as_bytes())?;
+            self.tell_variable(name, value)?;
         }
         Ok(())
     }
+
+    /// Tells a variable, with its name escaped.
+    fn tell_variable(&mut self, name: &[u8], value: &Txt) -> Result<(), Memory>
+        ensures { OnOk result (self.new ≡ self.old ++ with_values (spec.variable_header (name.now, value.now) ∷ [])) }
+    {
+        let name = variable_name(self.alloc, name)?;
+        self.add(&name, value.as_bytes())
+    }
+}
+
+/// The first bytes of an application's argument.
+#[tactic(auto, using(std::proofs::lemmas::List::take_min))]
+fn argument_told(action: &Action) -> &[u8]
+    ensures { result.now ≡ take 1024 action.now.argument }
+{
+    let argument = action.argument.as_bytes();
+    &argument[..ARGUMENT_TOLD.min(argument.len())]
 }
 
 /// The name of the header of a variable.

@@ -43,7 +43,7 @@ pub struct Draft<'a> {
     bridges: Option<Bridges>,
     origs: Overlay<'a, Numbered<Orig>>,
     jobs: Overlay<'a, Numbered<Job>>,
-    conns: Overlay<'a, Numbered<Conn>>,
+    pub(crate) conns: Overlay<'a, Numbered<Conn>>,
     queue: QueueChange,
     drawn: Drawn,
     moment: u64,

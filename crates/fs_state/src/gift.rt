@@ -12,7 +12,7 @@ use std::marker::Model;
 #[derive(Drop)]
 pub struct Gift {
     /// The number of the connection.
-    pub conn: u32,
+    pub conn: u64,
     pub frames: Frames,
 }
 
@@ -56,6 +56,7 @@ impl Gifts {
     {
         let mut frames = Frames::new(self.alloc);
         frames.push(Outgoing::Reply(text))?;
+        let conn = u64::from(conn);
         self.add(Gift { conn, frames })
     }
 

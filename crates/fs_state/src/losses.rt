@@ -10,7 +10,7 @@ use std::marker::Model;
 #[derive(Clone, Copy, Debug, PartialEq, Eq)]
 pub struct Loss {
     /// The number of the connection.
-    pub conn: u32,
+    pub conn: u64,
     /// How many events; at 2^64 - 1 the count stands still.
     pub events: u64,
 }
@@ -54,7 +54,7 @@ impl Losses {
     pub fn of(&self, conn: u32) -> u64
         ensures { result ≡ spec.lost_in conn self.now }
     {
-        match self.place_of(conn) {
+        match self.place_of(u64::from(conn)) {
             Some(place) => self.losses[place].events,
             None => 0,
         }
@@ -62,7 +62,7 @@ impl Losses {
 
     /// A connection has lost so many more.
     #[tactic(auto, using(crate::proofs::LossLemmas::loss_rules))]
-    pub fn add(&mut self, conn: u32, more: u64) -> Result<(), Memory>
+    pub fn add(&mut self, conn: u64, more: u64) -> Result<(), Memory>
         ensures ok { OnOk result (self.new ≡ spec.with_loss conn more self.old) }
         ensures err { OnErr result (self.new ≡ self.old) }
     {
@@ -77,7 +77,7 @@ impl Losses {
     }
 
     /// The place at which the loss of a connection stands, if it had one.
-    fn place_of(&self, conn: u32) -> Option<usize>
+    fn place_of(&self, conn: u64) -> Option<usize>
         ensures place { result ≡ position (spec.is_of conn) self.now }
         ensures bound { IfSome result (λ place. place < length self.now) }
     {

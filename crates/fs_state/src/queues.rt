@@ -161,7 +161,7 @@ impl Queues {
         requires { spec.HaveRoom self.old (length gift.frames) }
         ensures { self.new ≡ spec.with_gift_delivered conns.now gift self.old }
     {
-        if let Some(place) = conns.place_of(u64::from(gift.conn)) {
+        if let Some(place) = conns.place_of(gift.conn) {
             self.append(place, gift.frames);
         }
     }

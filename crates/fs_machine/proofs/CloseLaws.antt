@@ -1,5 +1,5 @@
 -- When a connection is ending, and can be closed.
-use Rattle.std.proofs.Common.{◌≡◌, ◌≢◌, ℕ, ◌==◌, Bool, true, false, not, ◌||◌, [], length, Option, None, Some, is_some, refl, sym, ap}
+use Rattle.std.proofs.Common.{◌≡◌, ◌≢◌, ℕ, ◌==◌, Bool, true, false, not, ◌||◌, List, [], length, Option, None, Some, is_some, refl, sym, ap}
 use Rattle.std.proofs.Common.{subst, ◌∙◌}
 use Rattle.std.specs.Option.{option_and_then}
 use Rattle.std.proofs.lemmas.Option.{none-some}
@@ -9,7 +9,7 @@ use Rattle.fs_state.specs.declared.conn.Conn.{Conn}
 use Rattle.fs_state.specs.declared.conn.Phase.{Phase}
 use Rattle.fs_state.specs.declared.conn.Phase.TheVariants.{Fresh, Ready, Ending, Closed}
 use Rattle.fs_state.specs.declared.conn.Parting.TheVariants as parting
-use Rattle.fs_state.specs.Queues.{Frames}
+use Rattle.fs_text.specs.Texts.{Text}
 use Rattle.fs_state.specs.Switch.{Switch, conn_of, waiting_for, at_moment}
 use Rattle.fs_machine.specs.declared.entry.Act.TheVariants.{Take, Close}
 use Rattle.fs_machine.specs.declared.entry.Closing.TheVariants.{EndOfInput, Sent}
@@ -80,6 +80,6 @@ sent_accepted s conn ending nothing free =
     ap (λ (now : Phase). refused_where (is_closed now) refusal.Gone
     (refused_where (unsent_in now (length (waiting_for s conn)) (owes s conn))
     (refusal.Unsent (length (waiting_for s conn)) (owes s conn)) None)) ending
-    ∙ ap (λ (frames : Frames). refused_where (unsent_in Ending (length frames) (owes s conn))
-    (refusal.Unsent (length frames) (owes s conn)) None) nothing
+    ∙ ap (λ (texts : List Text). refused_where (unsent_in Ending (length texts) (owes s conn))
+    (refusal.Unsent (length texts) (owes s conn)) None) nothing
     ∙ ap (λ (owed : Bool). refused_where (unsent_in Ending 0 owed) (refusal.Unsent 0 owed) None) free

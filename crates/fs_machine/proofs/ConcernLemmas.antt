@@ -11,7 +11,8 @@ use Rattle.fs_cmd.specs.Frames.{auth_request}
 use Rattle.fs_state.specs.declared.conn.Phase.{Phase}
 use Rattle.fs_state.specs.declared.conn.Phase.TheVariants.{Fresh, Ready, Ending, Closed}
 use Rattle.fs_state.specs.Drawn as numbers
-use Rattle.fs_state.specs.Switch.{Switch, empty, conn_of, waiting_for, without_conn, is_full_of_conns, at_moment}
+use Rattle.fs_state.specs.Posting.{posts, with_posts}
+use Rattle.fs_state.specs.Switch.{Switch, empty, conn_of, waiting_for, without_conn, is_full_of_conns, at_moment, gift_of, all_given}
 use Rattle.fs_machine.specs.declared.entry.Entry.{Entry}
 use Rattle.fs_machine.specs.declared.entry.Act.{Act}
 use Rattle.fs_machine.specs.declared.entry.Act.TheVariants.{Arrive, Command, Take, Close, Work, Job}
@@ -27,7 +28,8 @@ use Rattle.fs_machine.specs.Frames.{frames_among, given_in, given_by, handed_in,
 use Rattle.fs_machine.specs.Concerns.{actor_of, IsOwn, IsOthers, Comes, Concerns}
 use Rattle.fs_machine.proofs.KeepLemmas.{Settles, settles_same, Keeps, act_keeps}
 use Rattle.fs_machine.proofs.WaitingLemmas.{Ordered, none_closed, keeps_waiting, closed_waits, taken_other, without_other, number_new}
-use Rattle.fs_machine.proofs.WaitingLemmas.{arrived_ordered, arrived_waits}
+use Rattle.fs_machine.proofs.PostLemmas.{among_append, posts_gone}
+use Rattle.fs_machine.proofs.WaitingLemmas.{arrived_ordered, arrived_waits, posted_ordered}
 use Rattle.fs_machine.proofs.OrderLemmas.{Orderly, acted_ordered, none_refused, not_full, not_refused, room_left, advanced_orderly}
 use Rattle.fs_machine.proofs.OrderLemmas.{run_orderly, empty_orderly}
 use Rattle.fs_machine.proofs.FramesLaws.{close_refused, Lost, entry_follows, none_waits, run_front}
@@ -109,9 +111,10 @@ others conn s entry orderly none apart =
       phase = spares.settles.phase;
       owed = spares.settles.owed;
       frames =
-          closed_waits (cost_of entry.act) (act_done entry.act (at_moment entry.moment s)).state conn
-          (acted_ordered entry.act (at_moment entry.moment s) ordered room)
-          ∙ ap (λ frames. frames ++ given_in conn (act_done entry.act (at_moment entry.moment s)).state) spares.waits;
+          closed_waits (cost_of entry.act) (with_posts s (act_done entry.act (at_moment entry.moment s)).state) conn
+          (posted_ordered s (act_done entry.act (at_moment entry.moment s)).state
+          (acted_ordered entry.act (at_moment entry.moment s) ordered room))
+          ∙ ap (λ frames. frames ++ given_in conn (with_posts s (act_done entry.act (at_moment entry.moment s)).state)) spares.waits;
     }
 
 -- ---- an act of its own
@@ -149,7 +152,7 @@ closed_gives_none : (conn : ℕ) (s : Switch) (entry : Entry) → is_closed (pha
     given_by conn s entry ≡ []
 unfolding step given_by
 closed_gives_none conn s entry gone =
-    ap (λ b. if b then [] else frames_among conn (act_done entry.act (at_moment entry.moment s)).state.given) gone
+    ap (λ b. if b then [] else frames_among conn (all_given (with_posts s (act_done entry.act (at_moment entry.moment s)).state))) gone
 
 own : (conn : ℕ) (s : Switch) (entry : Entry) → Orderly s → refusal_of s entry ≡ None → actor_of entry.act ≡ Some conn → IsOwn conn s entry
 own conn s entry orderly none actor = record {
@@ -193,9 +196,13 @@ comes moment s orderly none =
     new_there s orderly.ordered room
     (none_refused (is_full_of_conns s) (refusal.TooMany (places_for_conns s)) None
     (not_refused s (record { moment = moment; act = Arrive }) none)).0 in
-    let given : given_in new (arrived (at_moment moment s)).state ≡ auth_request ∷ [] =
-    ap (λ found. if is_closed (phase_of found) then [] else frames_among new (arrived (at_moment moment s)).state.given) there
-    ∙ ap (λ gifts. frames_among new (gifts ++ record { conn = new; frames = auth_request ∷ [] } ∷ [])) orderly.given
+    let t : Switch = (arrived (at_moment moment s)).state in
+    let given : given_in new (with_posts s t) ≡ auth_request ∷ [] =
+    ap (λ found. if is_closed (phase_of found) then [] else frames_among new (all_given (with_posts s t))) there
+    ∙ ap (λ gifts. frames_among new (gifts ++ (posts s t ++ (s.given ++ gift_of new auth_request ∷ [])))) orderly.answered
+    ∙ ap (λ gifts. frames_among new (posts s t ++ (gifts ++ gift_of new auth_request ∷ []))) orderly.given
+    ∙ among_append new (posts s t) (gift_of new auth_request ∷ [])
+    ∙ ap (λ texts. texts ++ frames_among new (gift_of new auth_request ∷ [])) (posts_gone s t new nowhere)
     ∙ ap (λ b. (if b then auth_request ∷ [] else []) ++ []) (eq-eqb new new refl) in
     record {
       act = refl;
@@ -203,8 +210,8 @@ comes moment s orderly none =
       after = ap phase_of there;
       given = given;
       frames =
-          closed_waits 64 (arrived (at_moment moment s)).state new (arrived_ordered (at_moment moment s) ordered room)
-          ∙ ap (λ frames. frames ++ given_in new (arrived (at_moment moment s)).state)
+          closed_waits 64 (with_posts s t) new (posted_ordered s t (arrived_ordered (at_moment moment s) ordered room))
+          ∙ ap (λ frames. frames ++ given_in new (with_posts s t))
           (arrived_waits (at_moment moment s) new ordered room ∙ none_waits s new nowhere)
           ∙ given;
     }

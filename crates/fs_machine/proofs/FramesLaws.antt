@@ -7,8 +7,10 @@ use Rattle.std.proofs.lemmas.List.{nil_from_length}
 use Rattle.fs_doc.specs.Reading.{Configuration}
 use Rattle.fs_places.specs.Rows.{place_of}
 use Rattle.fs_places.proofs.RowLemmas.{place_stands, place_of-without_row_same}
-use Rattle.fs_state.specs.Queues.{Frames}
-use Rattle.fs_state.specs.Switch.{Switch, empty, waiting_at, waiting_for, with_frame_taken, without_conn, at_moment, after_entry}
+use Rattle.fs_text.specs.Texts.{Text}
+use Rattle.fs_state.specs.Frames.{texts_of}
+use Rattle.fs_state.specs.Posting.{with_posts}
+use Rattle.fs_state.specs.Switch.{Switch, empty, waiting_at, waiting_for, with_frame_taken, without_conn, at_moment, after_entry, all_given}
 use Rattle.fs_machine.specs.declared.entry.Entry.{Entry}
 use Rattle.fs_machine.specs.declared.entry.Act.{Act}
 use Rattle.fs_machine.specs.declared.entry.Act.TheVariants.{Arrive, Take, Close}
@@ -24,6 +26,7 @@ use Rattle.fs_machine.proofs.FrameLemmas.{handed_more}
 use Rattle.fs_machine.proofs.RestLemmas.{whichever}
 use Rattle.fs_machine.proofs.KeepLemmas.{Keeps, act_keeps}
 use Rattle.fs_machine.proofs.WaitingLemmas.{Ordered, none_closed, some_open, keeps_waiting, closed_waits, closed_quietly, none_given}
+use Rattle.fs_machine.proofs.WaitingLemmas.{posted_ordered, none_in_all}
 use Rattle.fs_machine.proofs.WaitingLemmas.{nothing_given, taken_ordered, taken_same, taken_other, without_ordered, without_same}
 use Rattle.fs_machine.proofs.WaitingLemmas.{without_other, arrived_waits}
 use Rattle.fs_machine.proofs.OrderLemmas.{Orderly, acted_ordered, acted_config, acted_drawn, acted_gone, none_refused, not_full}
@@ -31,48 +34,57 @@ use Rattle.fs_machine.proofs.OrderLemmas.{not_refused, room_left, advanced_order
 
 -- ---- one act
 
+-- what an act gives, in an entry that began in a switch
+abbrev posted_by : Switch → Act → Switch → Switch
+posted_by before act s = with_posts before (act_done act s).state
+
 -- what waited and what is given is what is handed out and what then waits
-abbrev Follows : ℕ → Act → Switch → Type 0
-Follows conn act s =
-    waiting_for s conn ++ given_in conn (act_done act s).state ≡ handed_in conn act s ++ waiting_for
-    (after_entry (cost_of act) (act_done act s).state) conn
+abbrev Follows : Switch → ℕ → Act → Switch → Type 0
+Follows before conn act s =
+    waiting_for s conn ++ given_in conn (posted_by before act s) ≡ handed_in conn act s ++ waiting_for
+    (after_entry (cost_of act) (posted_by before act s)) conn
 
 -- or else the connection is gone, and what waited for it is dropped
-record Drops (conn : ℕ) (act : Act) (s : Switch) : Type 0 where
+record Drops (before : Switch) (conn : ℕ) (act : Act) (s : Switch) : Type 0 where
   handed : handed_in conn act s ≡ []
-  given : given_in conn (act_done act s).state ≡ []
+  given : given_in conn (posted_by before act s) ≡ []
   gone : place_of (act_done act s).state.conns conn ≡ None
   drawn : conn ≤ (act_done act s).state.drawn.conns
 
 -- an act that hands out nothing, and leaves what waits
-quiet_follows : (conn : ℕ) (act : Act) (s : Switch) → handed_in conn act s ≡ [] → Ordered (act_done act s).state →
-    waiting_for (act_done act s).state conn ≡ waiting_for s conn → Follows conn act s
-quiet_follows conn act s handed ordered same =
-    sym (closed_waits (cost_of act) (act_done act s).state conn ordered ∙ ap (λ frames. frames ++ given_in conn (act_done act s).state)
-    same)
-    ∙ ap (λ frames. frames ++ waiting_for (after_entry (cost_of act) (act_done act s).state) conn) (sym handed)
+quiet_follows : (before : Switch) (conn : ℕ) (act : Act) (s : Switch) → handed_in conn act s ≡ [] → Ordered (act_done act s).state →
+    waiting_for (act_done act s).state conn ≡ waiting_for s conn → Follows before conn act s
+quiet_follows before conn act s handed ordered same =
+    sym (closed_waits (cost_of act) (posted_by before act s) conn (posted_ordered before (act_done act s).state ordered)
+    ∙ ap (λ frames. frames ++ given_in conn (posted_by before act s)) same)
+    ∙ ap (λ frames. frames ++ waiting_for (after_entry (cost_of act) (posted_by before act s)) conn) (sym handed)
 
 -- an act that keeps the connections
-keeps_follows : {who : Option ℕ} {may_end : Bool} → (conn : ℕ) (act : Act) (s : Switch) → handed_in conn act s ≡ [] →
-    Ordered (act_done act s).state → Keeps who may_end s (act_done act s).state → Follows conn act s
-keeps_follows conn act s handed ordered keeps = quiet_follows conn act s handed ordered (keeps_waiting s (act_done act s).state keeps conn)
+keeps_follows : {who : Option ℕ} {may_end : Bool} → (before : Switch) (conn : ℕ) (act : Act) (s : Switch) → handed_in conn act s ≡ [] →
+    Ordered (act_done act s).state → Keeps who may_end s (act_done act s).state → Follows before conn act s
+keeps_follows before conn act s handed ordered keeps = quiet_follows before conn act s handed ordered (keeps_waiting s (act_done act s).state keeps conn)
 
 -- a frame that is taken is handed out, and the others wait
-take_follows : (conn taker : ℕ) (s : Switch) → Orderly s → Follows conn (Take taker) s
-take_follows conn taker s orderly = by (taker == conn) refl
+take_follows : (before : Switch) (conn taker : ℕ) (s : Switch) → Orderly s → Follows before conn (Take taker) s
+take_follows before conn taker s orderly = by (taker == conn) refl
   where
-    ordered : Ordered (with_frame_taken taker s)
-    ordered = taken_ordered taker s orderly.ordered
+    t : Switch
+    t = with_posts before (with_frame_taken taker s)
 
-    none : given_in conn (with_frame_taken taker s) ≡ []
-    none = nothing_given (with_frame_taken taker s) conn orderly.given
+    ordered : Ordered t
+    ordered = posted_ordered before (with_frame_taken taker s) (taken_ordered taker s orderly.ordered)
 
-    waits : waiting_for (after_entry 64 (with_frame_taken taker s)) conn ≡ waiting_for (with_frame_taken taker s) conn
-    waits = closed_quietly 64 (with_frame_taken taker s) conn ordered orderly.given
+    nothing : all_given t ≡ []
+    nothing = none_in_all before (with_frame_taken taker s) orderly.answered orderly.news orderly.given
+
+    none : given_in conn t ≡ []
+    none = nothing_given t conn nothing
+
+    waits : waiting_for (after_entry 64 t) conn ≡ waiting_for (with_frame_taken taker s) conn
+    waits = closed_quietly 64 t conn ordered nothing
 
     by : (b : Bool) → (taker == conn) ≡ b →
-        waiting_for s conn ++ given_in conn (with_frame_taken taker s) ≡ (if b then take 1 (waiting_for s conn) else []) ++ waiting_for
-        (after_entry 64 (with_frame_taken taker s)) conn
+        waiting_for s conn ++ given_in conn t ≡ (if b then take 1 (waiting_for s conn) else []) ++ waiting_for (after_entry 64 t) conn
     by true e =
         ap (λ frames. waiting_for s conn ++ frames) none ∙ append-nil (waiting_for s conn)
         ∙ sym (take-append-drop 1 (waiting_for s conn))
@@ -103,9 +115,9 @@ sent_all s conn none =
     nil_from_length (waiting_for s conn) (eqb-true (length (waiting_for s conn)) 0 (not-false (length (waiting_for s conn) == 0) waits.0))
 
 -- a connection that goes with all sent leaves nothing
-sent_follows : (conn gone : ℕ) (s : Switch) → Orderly s → refused_act (Close gone Sent) s ≡ None → Follows conn (Close gone Sent) s
-sent_follows conn gone s orderly none =
-    quiet_follows conn (Close gone Sent) s refl (without_ordered gone s orderly.ordered) (by (cases_eq gone conn))
+sent_follows : (before : Switch) (conn gone : ℕ) (s : Switch) → Orderly s → refused_act (Close gone Sent) s ≡ None → Follows before conn (Close gone Sent) s
+sent_follows before conn gone s orderly none =
+    quiet_follows before conn (Close gone Sent) s refl (without_ordered gone s orderly.ordered) (by (cases_eq gone conn))
   where
     by : (gone ≡ conn) ⊎ (gone ≡ conn → ⊥) → waiting_for (without_conn gone s) conn ≡ waiting_for s conn
     by (inl same) =
@@ -122,23 +134,23 @@ open_drawn s conn ordered is_open = by (place_of s.conns conn) refl
     by (Some place) is = ordered.within conn place (place_stands s.conns conn place is)
 
 -- one whose link failed is gone
-failed_drops : (conn : ℕ) (s : Switch) → Orderly s → refused_act (Close conn Failed) s ≡ None → Drops conn (Close conn Failed) s
-failed_drops conn s orderly none = record {
+failed_drops : (before : Switch) (conn : ℕ) (s : Switch) → Orderly s → refused_act (Close conn Failed) s ≡ None → Drops before conn (Close conn Failed) s
+failed_drops before conn s orderly none = record {
   handed = refl;
-  given = nothing_given (without_conn conn s) conn orderly.given;
+  given = none_given (posted_by before (Close conn Failed) s) conn (place_of-without_row_same s.conns conn orderly.ordered.distinct);
   gone = place_of-without_row_same s.conns conn orderly.ordered.distinct;
   drawn = open_drawn s conn orderly.ordered (none_refused (is_closed (phase_at s conn)) refusal.Gone None none).0;
 }
 
 -- and the others do not feel it
-failed_follows : (conn gone : ℕ) (s : Switch) → Orderly s → refused_act (Close gone Failed) s ≡ None →
-    Follows conn (Close gone Failed) s ⊎ Drops conn (Close gone Failed) s
-failed_follows conn gone s orderly none = by (cases_eq gone conn)
+failed_follows : (before : Switch) (conn gone : ℕ) (s : Switch) → Orderly s → refused_act (Close gone Failed) s ≡ None →
+    Follows before conn (Close gone Failed) s ⊎ Drops before conn (Close gone Failed) s
+failed_follows before conn gone s orderly none = by (cases_eq gone conn)
   where
-    by : (gone ≡ conn) ⊎ (gone ≡ conn → ⊥) → Follows conn (Close gone Failed) s ⊎ Drops conn (Close gone Failed) s
-    by (inl same) = inr (subst (λ number. Drops number (Close gone Failed) s) same (failed_drops gone s orderly none))
+    by : (gone ≡ conn) ⊎ (gone ≡ conn → ⊥) → Follows before conn (Close gone Failed) s ⊎ Drops before conn (Close gone Failed) s
+    by (inl same) = inr (subst (λ number. Drops before number (Close gone Failed) s) same (failed_drops before gone s orderly none))
     by (inr differ) =
-        inl (quiet_follows conn (Close gone Failed) s refl (without_ordered gone s orderly.ordered) (without_other gone conn s differ))
+        inl (quiet_follows before conn (Close gone Failed) s refl (without_ordered gone s orderly.ordered) (without_other gone conn s differ))
 
 -- an act that closes no connection as failed
 abbrev pub IsUnfailed : Act → Type 0
@@ -146,21 +158,21 @@ IsUnfailed (Close gone Failed) = ⊥
 IsUnfailed _ = Unit {0}
 
 -- each such act that is not refused
-unfailed_follows : (conn : ℕ) (act : Act) (s : Switch) → IsUnfailed act → Orderly s → s.drawn.conns < 2 ^ 32 - 1 →
-    refused_act act s ≡ None → Follows conn act s
-unfailed_follows conn Arrive s such orderly room none =
-    quiet_follows conn Arrive s refl (acted_ordered Arrive s orderly.ordered room) (arrived_waits s conn orderly.ordered room)
-unfailed_follows conn (Take taker) s such orderly room none = take_follows conn taker s orderly
-unfailed_follows conn (Close gone Sent) s such orderly room none = sent_follows conn gone s orderly none
-unfailed_follows conn (Close gone Failed) s such orderly room none = absurd such
-unfailed_follows conn act s such orderly room none =
-    keeps_follows conn act s refl (acted_ordered act s orderly.ordered room) (act_keeps act s)
+unfailed_follows : (before : Switch) (conn : ℕ) (act : Act) (s : Switch) → IsUnfailed act → Orderly s → s.drawn.conns < 2 ^ 32 - 1 →
+    refused_act act s ≡ None → Follows before conn act s
+unfailed_follows before conn Arrive s such orderly room none =
+    quiet_follows before conn Arrive s refl (acted_ordered Arrive s orderly.ordered room) (arrived_waits s conn orderly.ordered room)
+unfailed_follows before conn (Take taker) s such orderly room none = take_follows before conn taker s orderly
+unfailed_follows before conn (Close gone Sent) s such orderly room none = sent_follows before conn gone s orderly none
+unfailed_follows before conn (Close gone Failed) s such orderly room none = absurd such
+unfailed_follows before conn act s such orderly room none =
+    keeps_follows before conn act s refl (acted_ordered act s orderly.ordered room) (act_keeps act s)
 
 -- each act that is not refused
-act_follows : (conn : ℕ) (act : Act) (s : Switch) → Orderly s → s.drawn.conns < 2 ^ 32 - 1 → refused_act act s ≡ None →
-    Follows conn act s ⊎ Drops conn act s
-act_follows conn (Close gone Failed) s orderly room none = failed_follows conn gone s orderly none
-act_follows conn act s orderly room none = inl (unfailed_follows conn act s tt orderly room none)
+act_follows : (before : Switch) (conn : ℕ) (act : Act) (s : Switch) → Orderly s → s.drawn.conns < 2 ^ 32 - 1 → refused_act act s ≡ None →
+    Follows before conn act s ⊎ Drops before conn act s
+act_follows before conn (Close gone Failed) s orderly room none = failed_follows before conn gone s orderly none
+act_follows before conn act s orderly room none = inl (unfailed_follows before conn act s tt orderly room none)
 
 -- ---- one entry
 
@@ -176,13 +188,13 @@ pub record Lost (conn : ℕ) (s : Switch) (entry : Entry) : Type 0 where
   pub drawn : conn ≤ (step s entry).state.drawn.conns
 
 -- the same of the entry of an act
-entry_waits : (conn : ℕ) (s : Switch) (entry : Entry) → Follows conn entry.act (at_moment entry.moment s) →
+entry_waits : (conn : ℕ) (s : Switch) (entry : Entry) → Follows s conn entry.act (at_moment entry.moment s) →
     waiting_for s conn ++ given_by conn s entry ≡ handed_in conn entry.act s ++ waiting_for (step s entry).state conn
 unfolding step given_by
 entry_waits conn s entry follows =
     follows ∙ ap (λ frames. frames ++ waiting_for (step s entry).state conn) (handed_advanced conn entry.moment entry.act s)
 
-entry_drops : (conn : ℕ) (s : Switch) (entry : Entry) → Drops conn entry.act (at_moment entry.moment s) → Lost conn s entry
+entry_drops : (conn : ℕ) (s : Switch) (entry : Entry) → Drops s conn entry.act (at_moment entry.moment s) → Lost conn s entry
 unfolding step given_by
 entry_drops conn s entry drops = record {
   handed = sym (handed_advanced conn entry.moment entry.act s) ∙ drops.handed;
@@ -194,10 +206,10 @@ entry_drops conn s entry drops = record {
 pub entry_follows : (conn : ℕ) (s : Switch) (entry : Entry) → Orderly s → refusal_of s entry ≡ None →
     (waiting_for s conn ++ given_by conn s entry ≡ handed_in conn entry.act s ++ waiting_for (step s entry).state conn) ⊎ Lost conn s entry
 entry_follows conn s entry orderly none =
-    by (act_follows conn entry.act (at_moment entry.moment s) (advanced_orderly entry.moment s orderly)
+    by (act_follows s conn entry.act (at_moment entry.moment s) (advanced_orderly entry.moment s orderly)
     (room_left s orderly (not_full s entry none)) (not_refused s entry none))
   where
-    by : Follows conn entry.act (at_moment entry.moment s) ⊎ Drops conn entry.act (at_moment entry.moment s) →
+    by : Follows s conn entry.act (at_moment entry.moment s) ⊎ Drops s conn entry.act (at_moment entry.moment s) →
         (waiting_for s conn ++ given_by conn s entry ≡ handed_in conn entry.act s ++ waiting_for (step s entry).state conn) ⊎ Lost conn s
         entry
     by (inl follows) = inl (entry_waits conn s entry follows)
@@ -207,12 +219,12 @@ entry_follows conn s entry orderly none =
 
 -- nothing waits for it
 pub none_waits : (s : Switch) (conn : ℕ) → place_of s.conns conn ≡ None → waiting_for s conn ≡ []
-none_waits s conn none = ap (waiting_at s.queues) none
+none_waits s conn none = ap (λ found. texts_of (waiting_at s.queues found)) none
 
 -- and nothing is handed out to it
 none_handed : (conn : ℕ) (act : Act) (s : Switch) → place_of s.conns conn ≡ None → handed_in conn act s ≡ []
 none_handed conn (Take taker) s none =
-    whichever (λ (frames : Frames). frames ≡ []) (taker == conn) (take 1 (waiting_for s conn)) []
+    whichever (λ (texts : List Text). texts ≡ []) (taker == conn) (take 1 (waiting_for s conn)) []
     (ap (take 1) (none_waits s conn none)) refl
 none_handed conn _ s none = refl
 
@@ -226,7 +238,7 @@ entry_gone conn s entry orderly none nowhere below =
     acted_gone entry.act (at_moment entry.moment s) conn (advanced_orderly entry.moment s orderly).ordered room nowhere below in
     record {
       handed = none_handed conn entry.act s nowhere;
-      given = none_given (act_done entry.act (at_moment entry.moment s)).state conn later;
+      given = none_given (with_posts s (act_done entry.act (at_moment entry.moment s)).state) conn later;
       gone = later;
       drawn = omega (arith, below, (acted_drawn entry.act (at_moment entry.moment s) room).0);
     }
@@ -252,19 +264,19 @@ stays_gone conn s (entry ∷ entries) orderly run nowhere below =
 -- ---- all entries
 
 record HandedOut (conn : ℕ) (s : Switch) (entries : List Entry) : Type 0 where
-  more : Frames
+  more : List Text
   split : waiting_for s conn ++ frames_from conn s entries ≡ handed_from conn s entries ++ more
   waits : is_closed (phase_at (run_from s entries) conn) ≡ false → more ≡ waiting_for (run_from s entries) conn
 
 -- two parts, one behind the other
-regrouped : (waits given handed later from behind more : Frames) → waits ++ given ≡ handed ++ later → later ++ from ≡ behind ++ more →
+regrouped : (waits given handed later from behind more : List Text) → waits ++ given ≡ handed ++ later → later ++ from ≡ behind ++ more →
     waits ++ (given ++ from) ≡ (handed ++ behind) ++ more
 regrouped waits given handed later from behind more first rest =
     sym (append_assoc waits given from) ∙ ap (λ frames. frames ++ from) first ∙ append_assoc handed later from
     ∙ ap (λ frames. handed ++ frames) rest ∙ sym (append_assoc handed behind more)
 
 -- what waits alone, with nothing given and nothing handed out
-none_more : (waits given from handed behind : Frames) → given ≡ [] → from ≡ [] → handed ≡ [] → behind ≡ [] →
+none_more : (waits given from handed behind : List Text) → given ≡ [] → from ≡ [] → handed ≡ [] → behind ≡ [] →
     waits ++ (given ++ from) ≡ (handed ++ behind) ++ waits
 none_more waits given from handed behind a b c d =
     ap (λ frames. waits ++ (frames ++ from)) a ∙ ap (λ frames. waits ++ frames) b ∙ append-nil waits
@@ -308,7 +320,7 @@ handed_out conn s (entry ∷ entries) orderly run =
 -- what is handed out is the first of what is given
 pub handed_first : (config : Configuration) (entries : List Entry) (conn : ℕ) → config.settings.journal_limit ≤ 1073741824 →
     IsRunFrom (empty config) entries →
-    (more : Frames) × (frames_from conn (empty config) entries ≡ handed_from conn (empty config) entries ++ more)
+    (more : List Text) × (frames_from conn (empty config) entries ≡ handed_from conn (empty config) entries ++ more)
 handed_first config entries conn limit run =
     let all = handed_out conn (empty config) entries (empty_orderly config limit) run in
     (all.more, ap (λ frames. frames ++ frames_from conn (empty config) entries) (sym (empty_waits config conn)) ∙ all.split)
@@ -339,9 +351,11 @@ run_front s [] entry run = (tt, run.0)
 run_front s (first ∷ entries) entry run = let rest = run_front (step s first).state entries entry run.1 in ((run.0, rest.0), rest.1)
 
 -- a connection that is closed with all sent was handed out all
-close_gives_none : (s : Switch) (moment conn : ℕ) → s.given ≡ [] → given_by conn s (record { moment = moment; act = Close conn Sent }) ≡ []
+close_gives_none : (s : Switch) (moment conn : ℕ) → Orderly s → given_by conn s (record { moment = moment; act = Close conn Sent }) ≡ []
 unfolding given_by
-close_gives_none s moment conn none = nothing_given (without_conn conn (at_moment moment s)) conn none
+close_gives_none s moment conn orderly =
+    let t : Switch = without_conn conn (at_moment moment s) in
+    nothing_given (with_posts s t) conn (none_in_all s t orderly.answered orderly.news orderly.given)
 
 -- a connection that can be closed so is open
 close_open : (s : Switch) (moment conn : ℕ) → refusal_of s (record { moment = moment; act = Close conn Sent }) ≡ None →
@@ -377,7 +391,7 @@ handed_sent config entries moment conn limit run = result
     result =
         frames_more conn (empty config) entries (record { moment = moment; act = Close conn Sent })
         ∙ ap (λ frames. frames_from conn (empty config) entries ++ frames)
-        (close_gives_none (run_from (empty config) entries) moment conn orderly.given)
+        (close_gives_none (run_from (empty config) entries) moment conn orderly)
         ∙ append-nil (frames_from conn (empty config) entries)
         ∙ before
         ∙ sym (handed_more conn (empty config) entries (record { moment = moment; act = Close conn Sent })
@@ -400,7 +414,7 @@ waits_on : (conn : ℕ) (s : Switch) (entries : List Entry) → Orderly s → Is
 waits_on conn s [] orderly run unfailed = append-nil (waiting_for s conn)
 waits_on conn s (entry ∷ entries) orderly run unfailed =
     let follows =
-    unfailed_follows conn entry.act (at_moment entry.moment s) unfailed.0 (advanced_orderly entry.moment s orderly)
+    unfailed_follows s conn entry.act (at_moment entry.moment s) unfailed.0 (advanced_orderly entry.moment s orderly)
     (room_left s orderly (not_full s entry run.0)) (not_refused s entry run.0) in
     regrouped (waiting_for s conn) (given_by conn s entry) (handed_in conn entry.act s) (waiting_for (step s entry).state conn)
     (frames_from conn (step s entry).state entries)
@@ -447,8 +461,10 @@ take_leaves : (s : Switch) (moment conn : ℕ) → Orderly s →
     waiting_for (step s (record { moment = moment; act = Take conn })).state conn ≡ drop 1 (waiting_for s conn)
 unfolding step
 take_leaves s moment conn orderly =
-    closed_quietly 64 (with_frame_taken conn (at_moment moment s)) conn
-    (taken_ordered conn (at_moment moment s) (advanced_orderly moment s orderly).ordered) orderly.given
+    let t : Switch = with_frame_taken conn (at_moment moment s) in
+    closed_quietly 64 (with_posts s t) conn
+    (posted_ordered s t (taken_ordered conn (at_moment moment s) (advanced_orderly moment s orderly).ordered))
+    (none_in_all s t orderly.answered orderly.news orderly.given)
     ∙ taken_same conn (at_moment moment s) (advanced_orderly moment s orderly).ordered
 
 take_leaves_phase : (s : Switch) (moment conn : ℕ) →

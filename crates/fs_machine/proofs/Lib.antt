@@ -17,6 +17,7 @@ pub mod FrontLemmas
 pub mod ActWalk
 pub mod ConstantMoves
 pub mod KeepLemmas
+pub mod PostLemmas
 pub mod WaitingLemmas
 pub mod NameLemmas
 pub mod OrderLemmas

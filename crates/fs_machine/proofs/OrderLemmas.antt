@@ -9,7 +9,9 @@ use Rattle.fs_places.specs.Rows.{has_number, place_of}
 use Rattle.fs_places.proofs.RowLemmas.{nowhere}
 use Rattle.fs_places.proofs.HeldLemmas.{nothing_held}
 use Rattle.fs_state.specs.declared.conn.Conn.{Conn}
-use Rattle.fs_state.specs.Switch.{Switch, empty, waiting_at, waiting_for, at_moment, after_entry}
+use Rattle.fs_state.specs.Frames.{texts_of}
+use Rattle.fs_state.specs.Posting.{with_posts}
+use Rattle.fs_state.specs.Switch.{Switch, empty, waiting_at, outgoing_for, waiting_for, at_moment, after_entry}
 use Rattle.fs_state.proofs.GiftLemmas.{none_waits, as_many}
 use Rattle.fs_machine.specs.declared.entry.Entry.{Entry}
 use Rattle.fs_machine.specs.declared.entry.Act.{Act}
@@ -22,7 +24,7 @@ use Rattle.fs_machine.specs.Step.{refused_where, refused_act, refusal_of, act_do
 use Rattle.fs_machine.specs.Runs.{run_from, IsRunFrom}
 use Rattle.fs_machine.proofs.ConstantMoves.{Constants, acted_constants}
 use Rattle.fs_machine.proofs.KeepLemmas.{is_shut, keeps_same, act_keeps}
-use Rattle.fs_machine.proofs.WaitingLemmas.{Ordered, keeps_ordered, keeps_place, closed_ordered, taken_ordered, without_ordered}
+use Rattle.fs_machine.proofs.WaitingLemmas.{Ordered, keeps_ordered, keeps_place, posted_ordered, closed_ordered, taken_ordered, without_ordered}
 use Rattle.fs_machine.proofs.WaitingLemmas.{arrived_ordered, arrived_gone, without_gone}
 use Rattle.fs_machine.proofs.FrameLemmas.{some_cost}
 
@@ -99,7 +101,10 @@ not_refused s entry none =
 -- a switch between the entries of a run, whose journal is short enough for each connection to have a number of its own
 pub record Orderly (s : Switch) : Type 0 where
   pub ordered : Ordered s
+  pub answered : s.answered ≡ []
+  pub posted : s.posted ≡ []
   pub given : s.given ≡ []
+  pub news : s.news ≡ []
   pub paid : 64 * s.drawn.conns ≤ s.cost
   pub limit : s.config.settings.journal_limit ≤ 1073741824
 
@@ -114,8 +119,15 @@ advanced_ordered now s ordered =
     keeps_ordered s (at_moment now s) (keeps_same {who = None} {may_end = false} s (at_moment now s) refl) ordered
 
 pub advanced_orderly : (now : ℕ) (s : Switch) → Orderly s → Orderly (at_moment now s)
-advanced_orderly now s orderly =
-    record { ordered = advanced_ordered now s orderly.ordered; given = orderly.given; paid = orderly.paid; limit = orderly.limit }
+advanced_orderly now s orderly = record {
+  ordered = advanced_ordered now s orderly.ordered;
+  answered = orderly.answered;
+  posted = orderly.posted;
+  given = orderly.given;
+  news = orderly.news;
+  paid = orderly.paid;
+  limit = orderly.limit;
+}
 
 -- the number that is drawn next is paid for by the cost of an entry
 paid_more : (drawn later cost spent limit : ℕ) → later ≤ drawn + 1 → 64 * drawn ≤ cost → cost + 65600 ≤ limit → limit ≤ 1073741824 →
@@ -123,10 +135,15 @@ paid_more : (drawn later cost spent limit : ℕ) → later ≤ drawn + 1 → 64 
     64 * later ≤ min (cost + spent) (2 ^ 64 - 1)
 paid_more drawn later cost spent limit next paid below small some = omega (arith, next, paid, below, small, some)
 
-act_orderly : (act : Act) (s : Switch) → Orderly s → is_full s ≡ false → Orderly (after_entry (cost_of act) (act_done act s).state)
-act_orderly act s orderly below = record {
-  ordered = closed_ordered (cost_of act) (act_done act s).state (acted_ordered act s orderly.ordered (room_left s orderly below));
+act_orderly : (before : Switch) (act : Act) (s : Switch) → Orderly s → is_full s ≡ false →
+    Orderly (after_entry (cost_of act) (with_posts before (act_done act s).state))
+act_orderly before act s orderly below = record {
+  ordered = closed_ordered (cost_of act) (with_posts before (act_done act s).state)
+      (posted_ordered before (act_done act s).state (acted_ordered act s orderly.ordered (room_left s orderly below)));
+  answered = refl;
+  posted = refl;
   given = refl;
+  news = refl;
   paid = subst (λ cost. 64 * (act_done act s).state.drawn.conns ≤ min (cost + cost_of act) (2 ^ 64 - 1)) (sym (acted_cost act s))
       (paid_more s.drawn.conns (act_done act s).state.drawn.conns s.cost (cost_of act) s.config.settings.journal_limit
       (acted_drawn act s (room_left s orderly below)).1 orderly.paid
@@ -138,7 +155,7 @@ act_orderly act s orderly below = record {
 pub entry_orderly : (s : Switch) (entry : Entry) → Orderly s → refusal_of s entry ≡ None → Orderly (step s entry).state
 unfolding step
 entry_orderly s entry orderly none =
-    act_orderly entry.act (at_moment entry.moment s) (advanced_orderly entry.moment s orderly) (not_full s entry none)
+    act_orderly s entry.act (at_moment entry.moment s) (advanced_orderly entry.moment s orderly) (not_full s entry none)
 
 pub run_orderly : (s : Switch) (entries : List Entry) → Orderly s → IsRunFrom s entries → Orderly (run_from s entries)
 run_orderly s [] orderly run = orderly
@@ -151,8 +168,11 @@ pub empty_nowhere : (config : Configuration) (conn : ℕ) → place_of (empty co
 empty_nowhere config conn =
     nowhere (empty config).conns conn (λ place. ap (has_number conn) (nothing_held (Numbered Conn) config.settings.max_connections place))
 
+pub empty_outgoing : (config : Configuration) (conn : ℕ) → outgoing_for (empty config) conn ≡ []
+empty_outgoing config conn = ap (waiting_at (empty config).queues) (empty_nowhere config conn)
+
 pub empty_waits : (config : Configuration) (conn : ℕ) → waiting_for (empty config) conn ≡ []
-empty_waits config conn = ap (waiting_at (empty config).queues) (empty_nowhere config conn)
+empty_waits config conn = ap texts_of (empty_outgoing config conn)
 
 empty_ordered : (config : Configuration) → Ordered (empty config)
 empty_ordered config = record {
@@ -169,4 +189,12 @@ empty_ordered config = record {
 }
 
 pub empty_orderly : (config : Configuration) → config.settings.journal_limit ≤ 1073741824 → Orderly (empty config)
-empty_orderly config limit = record { ordered = empty_ordered config; given = refl; paid = omega arith; limit = limit }
+empty_orderly config limit = record {
+  ordered = empty_ordered config;
+  answered = refl;
+  posted = refl;
+  given = refl;
+  news = refl;
+  paid = omega arith;
+  limit = limit;
+}

@@ -15,6 +15,7 @@ use Rattle.fs_places.specs.declared.numbered.Numbered.{Numbered}
 use Rattle.fs_places.proofs.HeldLemmas.{nothing_held}
 use Rattle.fs_places.proofs.TableLemmas.{taken_in, taken_most}
 use Rattle.fs_state.specs.declared.job.Job.{Job}
+use Rattle.fs_state.specs.Posting.{with_posts}
 use Rattle.fs_state.specs.Switch.{Switch, empty, chan_at, orig_of, at_moment, after_entry}
 use Rattle.fs_state.specs.Moves.{partner_of}
 use Rattle.fs_state.proofs.SlotLemmas.{no_places_length}
@@ -213,7 +214,7 @@ step_counted : (s : Switch) (entry : Entry) â†’ s.config.settings.max_sessions â
 unfolding step
 step_counted s entry few_slots room h =
     let now : Switch = at_moment entry.moment s in
-    closed_counted now (act_done entry.act now).state (cost_of entry.act) (acted_numbers entry.act now) (acted_config entry.act now)
+    closed_counted now (with_posts s (act_done entry.act now).state) (cost_of entry.act) (acted_numbers entry.act now) (acted_config entry.act now)
     (acted_cost entry.act now) (some_cost entry.act) few_slots room
     (record { named = h.named; slots = h.slots; paid = h.paid })
 

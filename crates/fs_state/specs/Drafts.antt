@@ -5,6 +5,7 @@ use Rattle.fs_chan.specs.declared.chan.Chan.{Chan}
 use Rattle.fs_places.specs.Sheets.{written}
 use Rattle.fs_places.specs.Overlays.{taken_back}
 use Rattle.fs_state.specs.declared.delta.Delta.{Delta}
+use Rattle.fs_state.specs.Losses.{Losses}
 use Rattle.fs_state.specs.Queues.{requeued, HaveRoom, frames_given}
 use Rattle.fs_state.specs.Switch.{Switch, chan_at, with_chan}
 
@@ -51,6 +52,10 @@ with_chan_in d slot chan = with_chan slot chan (drafted d)
 -- the switch as it is to be, with other bridges
 abbrev pub with_bridges_in : Drafted → BridgeRows → Switch
 with_bridges_in d bridges = record (drafted d) { bridges = bridges }
+
+-- the switch as it is to be, with other losses
+abbrev pub with_losses_in : Drafted → Losses → Switch
+with_losses_in d losses = record (drafted d) { losses = losses }
 
 -- the channel that can be taken back from a slot: what was written last, where that put a channel there
 abbrev pub chan_taken_back : Drafted → ℕ → Option Chan

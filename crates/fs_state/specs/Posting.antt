@@ -1,6 +1,6 @@
 -- What an entry tells the connections that subscribed its events.
-use Rattle.std.specs.Prelude.{ℕ, ◌+◌, ◌-◌, ◌==◌, if◌then◌else◌, List, [], ◌∷◌, ◌++◌, length, map, filter, take, codes}
-use Rattle.std.specs.Prelude.{Option, None, Some, is_some, option_map}
+use Rattle.std.specs.Prelude.{◌≡◌, ℕ, ◌+◌, ◌-◌, ◌^◌, ◌==◌, min, Bool, false, if◌then◌else◌, List, [], ◌∷◌, ◌++◌, length, map, filter}
+use Rattle.std.specs.Prelude.{take, codes, Option, None, Some, is_some, option_map}
 use Rattle.std.specs.Option.{option_or}
 use Rattle.std.specs.Fmt.{decimal}
 use Rattle.fs_text.specs.CoreId as core_id
@@ -16,13 +16,14 @@ use Rattle.fs_vars.specs.Pairs.{Pairs}
 use Rattle.fs_vars.specs.Variables.{Variables}
 use Rattle.fs_event.specs.declared.event.Event.{Event as Telling}
 use Rattle.fs_event.specs.Texts.{frame}
-use Rattle.fs_filter.specs.Subscriptions.{Subscription, wants}
+use Rattle.fs_filter.specs.Subscriptions.{Subscription, has_event, wants}
 use Rattle.fs_bridge.specs.declared.row.Row.{Row}
 use Rattle.fs_chan.specs.declared.action.Action.{Action}
 use Rattle.fs_chan.specs.declared.chan.Chan.{Chan}
 use Rattle.fs_chan.specs.Changes.{in_state}
 use Rattle.fs_chan.specs.Headers.{channel_headers}
 use Rattle.fs_places.specs.declared.numbered.Numbered.{Numbered}
+use Rattle.fs_places.specs.Places.{first_place}
 use Rattle.fs_places.specs.Rows.{place_of}
 use Rattle.fs_state.specs.declared.conn.Conn.{Conn}
 use Rattle.fs_state.specs.declared.event.Event.{Event}
@@ -128,10 +129,11 @@ telling_of before s number event = record {
   body = [];
 }
 
--- all that events tell, the first of which has this number
+-- all that events tell, the first of which has this number; the number stands still at 2^64 - 1
 abbrev pub tellings_from : Switch → Switch → ℕ → List Event → List Telling
 tellings_from before s number [] = []
-tellings_from before s number (event ∷ events) = telling_of before s number event ∷ tellings_from before s (number + 1) events
+tellings_from before s number (event ∷ events) =
+    telling_of before s (min number (2 ^ 64 - 1)) event ∷ tellings_from before s (number + 1) events
 
 -- all that the events of an entry tell: they are numbered by how many there were before
 unfoldable pub tellings : Switch → Switch → List Telling
@@ -156,9 +158,13 @@ abbrev pub posts_of : ℕ → List Text → List Gift
 posts_of conn [] = []
 posts_of conn (text ∷ texts) = record { conn = conn; frames = map outgoing.Event (text ∷ texts) } ∷ []
 
+-- a connection is told what it wants of these; if it is not among the ones that are there, nothing
+abbrev pub wanted_of : List (Option (Numbered Conn)) → List Telling → Numbered Conn → List Text
+wanted_of there told row = if is_some (place_of there row.number) then wanted_by row.held.subs told else []
+
 -- a connection that was there before the entry is told what it wanted before the entry; if the entry leaves it closed, nothing
 abbrev pub wanted_at : Switch → Switch → Numbered Conn → List Text
-wanted_at before s row = if is_some (place_of s.conns row.number) then wanted_by row.held.subs (tellings before s) else []
+wanted_at before s row = wanted_of s.conns (tellings before s) row
 
 -- the events for which there is room
 abbrev pub posts_at : Switch → Switch → Numbered Conn → List Gift
@@ -194,3 +200,77 @@ losses_after before s = losses_from before s before.conns s.losses
 -- an entry has posted its events
 abbrev pub with_posts : Switch → Switch → Switch
 with_posts before s = record s { posted = posts before s; losses = losses_after before s }
+
+-- ---- how it is posted: what nobody wants is not told at all
+
+-- the connection that stands at a place, if one does, wants an event
+abbrev pub wants_at : Telling → Option (Numbered Conn) → Bool
+wants_at telling None = false
+wants_at telling (Some row) = wants row.held.subs telling
+
+-- some connection wants it
+abbrev pub is_wanted : List (Option (Numbered Conn)) → Telling → Bool
+is_wanted conns telling = is_some (first_place (wants_at telling) conns 0)
+
+-- the connection that stands at a place has subscribed the events of a name, of CUSTOM events those with a subclass
+abbrev pub hears_at : EventName → Text → Option (Numbered Conn) → Bool
+hears_at name subclass None = false
+hears_at name subclass (Some row) = has_event row.held.subs name subclass
+
+-- some connection has
+abbrev pub is_heard : List (Option (Numbered Conn)) → EventName → Text → Bool
+is_heard conns name subclass = is_some (first_place (hears_at name subclass) conns 0)
+
+-- the connection that stands at a place has subscribed nothing
+abbrev pub IsDeaf : Option (Numbered Conn) → Type 0
+IsDeaf held = (name : EventName) (subclass : Text) → hears_at name subclass held ≡ false
+
+-- none of them has
+pub record AreDeaf (conns : List (Option (Numbered Conn))) : Type 0 where
+  pub each : (name : EventName) (subclass : Text) → is_heard conns name subclass ≡ false
+
+-- what an event tells, if some connection wants it
+abbrev pub told_of : Switch → Switch → ℕ → Event → Option Telling
+told_of before s number event =
+    if is_wanted before.conns (telling_of before s number event) then Some (telling_of before s number event) else None
+
+-- what the events of an entry tell that some connection wants
+abbrev pub told : Switch → Switch → List Telling
+told before s = filter (is_wanted before.conns) (tellings before s)
+
+-- for so many events there is room behind the frames that wait for a connection
+abbrev pub room_for : Switch → ℕ → ℕ
+room_for before conn = room_behind (outgoing_for before conn)
+
+-- as many frames of events as there is room for
+abbrev pub frames_within : ℕ → List Text → Frames
+frames_within room texts = map outgoing.Event (take room texts)
+
+-- frames for a connection, if there are any
+abbrev pub gifts_of : ℕ → Frames → List Gift
+gifts_of conn [] = []
+gifts_of conn (frame ∷ frames) = record { conn = conn; frames = frame ∷ frames } ∷ []
+
+-- they are posted
+abbrev pub with_post : ℕ → Frames → Switch → Switch
+with_post conn frames s = record s { posted = s.posted ++ gifts_of conn frames }
+
+-- a connection loses so many events
+abbrev pub with_lost : ℕ → ℕ → Switch → Switch
+with_lost conn lost s = record s { losses = with_loss_of conn lost s.losses }
+
+-- a connection is posted what it wants of these, as far as there is room
+abbrev pub posted_to : Switch → List Telling → Numbered Conn → Switch → Switch
+posted_to before all row s =
+    with_lost row.number (length (wanted_of s.conns all row) - room_for before row.number)
+    (with_post row.number (frames_within (room_for before row.number) (wanted_of s.conns all row)) s)
+
+-- so is the one that stands at a place, if one does
+abbrev pub posted_at : Switch → List Telling → Option (Numbered Conn) → Switch → Switch
+posted_at before all None s = s
+posted_at before all (Some row) s = posted_to before all row s
+
+-- so are those that stand at places, one after another
+abbrev pub posted_over : Switch → List Telling → List (Option (Numbered Conn)) → Switch → Switch
+posted_over before all [] s = s
+posted_over before all (held ∷ conns) s = posted_over before all conns (posted_at before all held s)

@@ -20,6 +20,7 @@ mod lines;
 mod losses;
 mod moves;
 mod outgoing;
+mod post;
 mod posting;
 mod queues;
 mod seen;

@@ -1,5 +1,5 @@
 -- What was counted is what happened.
-use Rattle.std.proofs.Common.{◌≡◌, ℕ, ◌+◌, List, [], ◌∷◌, ◌++◌, refl, sym, ap, ◌∙◌}
+use Rattle.std.proofs.Common.{◌≡◌, ℕ, ◌+◌, ◌-◌, ◌^◌, min, List, [], ◌∷◌, ◌++◌, length, refl, sym, ap, ◌∙◌}
 use Rattle.std.proofs.lemmas.List.{map-append}
 use Rattle.fs_text.specs.declared.causes.Cause.{Cause}
 use Rattle.fs_text.specs.declared.event_names.EventName.{EventName}
@@ -8,6 +8,7 @@ use Rattle.fs_text.specs.EventName.{event_number}
 use Rattle.fs_state.specs.declared.event.Event.{Event}
 use Rattle.fs_state.specs.Counts.{Tallies, counted_at, with_events_counted, events_named, hangups_for}
 use Rattle.fs_state.specs.Switch.{Switch, empty, at_moment}
+use Rattle.fs_state.proofs.CountLemmas as counts
 use Rattle.fs_state.proofs.CountLemmas.{counted_append, counts_names, counts_hangups}
 use Rattle.fs_machine.specs.declared.entry.Entry.{Entry}
 use Rattle.fs_machine.specs.Step.{act_done, step}
@@ -37,6 +38,9 @@ run_counts place s (entry ∷ entries) =
     (map-append (λ (h : Happened). h.event) (at_place place (events_by s entry)) later
     ∙ ap (λ events. events ++ events_of later) (events_at place (events_by s entry)))
     ∙ counted_append (events_by s entry) (events_of later) s.counts)
+
+pub counts_all : (m : View) → (state_of m).counts.all ≡ min (length (events_of (happened m))) (2 ^ 64 - 1)
+counts_all m = ap (λ (t : Tallies). t.all) (run_counts 0 (empty m.config) m.journal) ∙ counts.counts_all (events_of (happened m))
 
 pub counts_events : (m : View) (name : EventName) →
     counted_at (state_of m).counts.events (event_number name) ≡ events_named name (events_of (happened m))

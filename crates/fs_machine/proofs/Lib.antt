@@ -63,7 +63,9 @@ pub mod OwedLaws
 pub mod BondChanges
 pub mod BondMoves
 pub mod SoundLemmas
+pub mod QueueMoves
 pub mod SoundLaws
+pub mod AskingLemmas
 pub mod CountLemmas
 pub mod SlotCounts
 pub mod BondLaws

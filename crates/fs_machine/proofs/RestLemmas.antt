@@ -59,6 +59,7 @@ pub record Rest : Type 0 where
   pub entries : ℕ
   pub cost : ℕ
   pub counts : Tallies
+  pub answered : List Gift
   pub given : List Gift
 
 abbrev pub rest_of : Switch → Rest
@@ -73,6 +74,7 @@ rest_of s = record {
   entries = s.entries;
   cost = s.cost;
   counts = s.counts;
+  answered = s.answered;
   given = s.given;
 }
 

@@ -9,6 +9,7 @@ use Rattle.fs_machine.specs.Sound.{IsSound}
 use Rattle.fs_machine.proofs.SoundLemmas.{partners_agree, live_has_partner, profiles_are_short, identifiers_differ, run_has_legs}
 use Rattle.fs_machine.proofs.SoundLemmas.{failures_are_told, run_rows_agree, owners_wait}
 use Rattle.fs_machine.proofs.OwedLaws.{run_is_owed}
+use Rattle.fs_machine.proofs.QueueMoves.{events_are_few}
 
 pub sound_state : (config : Configuration) (kept : Switch) (journal : List Entry) → IsWithin config → StandsFor config kept journal →
     IsSound (run_from (empty config) journal)
@@ -22,4 +23,5 @@ sound_state config kept journal within stands = record {
   rows = run_rows_agree config journal within stands.defined;
   owners = owners_wait config journal within stands.defined;
   owed = run_is_owed config journal within stands.defined;
+  events = events_are_few config journal within stands.defined;
 }

@@ -1,25 +1,38 @@
-//! What happens in the entries of a play in which a bridge begins or ends, or a channel is hung up.
+//! What happens in the entries of a play in which a bridge begins or ends, or a channel is hung up, and what its
+//! connection hears of events.
 
 use crate::answer::Answer;
+use crate::hearing::{tell_heard, tell_posted};
 use crate::plays::machine_of;
 use crate::table::Table;
 use fs_conn::play;
 use fs_doc::read_config;
-use fs_machine::{Entry, Machine, Reply};
+use fs_machine::{Entry, Journal, Machine, Reply};
 use fs_plan::Dialplan;
-use fs_state::Event;
+use fs_state::{Detail, Event};
 use fs_text::{EventName, Memory};
 use std::alloc::Global;
 
 // The most that is written.
-const ROOM: usize = 1_000_000;
+const ROOM: usize = 12_000_000;
 
-/// Answers `bridging` with the answers of the api commands, and with the events of each entry of the play in which a
-/// bridge begins or ends, or a channel is hung up: `at MOMENT:` and their names, with the number of the bridge or the
-/// cause of the hangup.
+/// What is told of a play.
+#[derive(Clone, Copy, Debug)]
+pub(crate) enum Told {
+    /// The answers of the api commands, and the events of each entry in which a bridge begins or ends, or a channel is
+    /// hung up: `at MOMENT:` and their names, with the number of the bridge or the cause of the hangup.
+    Bridging,
+    /// What its connection reads, in short.
+    Heard,
+    /// How many events its connection reads and loses, and the last of what it reads.
+    Posted,
+}
+
+/// Answers `bridging`, `heard` and `posted` with what is told of the play.
 pub(crate) fn tell_bridging(
     alloc: Global,
     table: &Table,
+    told: Told,
     answer: &mut Answer,
 ) -> Result<(), Memory> {
     let mut files = table.files()?;
@@ -34,11 +47,29 @@ pub(crate) fn tell_bridging(
     };
     let mut machine = Machine::new(alloc, config, plan)?;
     let _end = play(alloc, &mut machine, &mut link);
-    tell_answers(link.written(), answer);
+    let written = link.written();
+    match told {
+        Told::Bridging => {
+            tell_answers(written, answer);
+            return tell_journal(alloc, table, machine.journal(), answer);
+        }
+        Told::Heard => tell_heard(written, answer),
+        Told::Posted => tell_posted(written, machine.lost(1), answer),
+    }
+    Ok(())
+}
+
+// Adds what happens in the entries of a journal.
+fn tell_journal(
+    alloc: Global,
+    table: &Table,
+    journal: &Journal,
+    answer: &mut Answer,
+) -> Result<(), Memory> {
     let Some(mut again) = machine_of(alloc, table, answer)? else {
         return Ok(());
     };
-    for entry in machine.journal().entries() {
+    for entry in journal.entries() {
         let _reply = tell_entry(&mut again, entry, answer);
     }
     Ok(())
@@ -54,8 +85,8 @@ pub(crate) fn tell_answers(written: &[u8], answer: &mut Answer) {
     }
 }
 
-// What stands in front of a header of a frame: an answer without a line end has the next frame behind it.
-fn without_header(line: &[u8]) -> &[u8] {
+/// What stands in front of a header of a frame: an answer without a line end has the next frame behind it.
+pub(crate) fn without_header(line: &[u8]) -> &[u8] {
     if line.starts_with(b"Content-Length: ") || line.starts_with(b"Reply-Text: ") {
         return b"";
     }
@@ -104,10 +135,11 @@ fn tells_of_calls(name: EventName) -> bool {
 
 fn tell_event(event: &Event, answer: &mut Answer) {
     answer.add(&[b" ", event.name.name().as_bytes()]);
-    if event.bridge > 0 {
-        answer.show(format_args!("({})", event.bridge));
-    }
-    if let Some(cause) = event.cause {
-        answer.add(&[b"(", cause.name().as_bytes(), b")"]);
+    match &event.detail {
+        Detail::Bridge(row) | Detail::Unbridge(row, _) => {
+            answer.show(format_args!("({})", row.number));
+        }
+        Detail::Hangup(cause) => answer.add(&[b"(", cause.name().as_bytes(), b")"]),
+        _ => (),
     }
 }

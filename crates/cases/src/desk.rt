@@ -3,7 +3,7 @@
 use crate::answer::Answer;
 use crate::applications::tell_app;
 use crate::bridges::tell_bridges;
-use crate::bridging::tell_bridging;
+use crate::bridging::{Told, tell_bridging};
 use crate::channels::tell_channel;
 use crate::commands::{tell_api, tell_expanded};
 use crate::dials::{tell_dial, tell_plans, tell_timeout};
@@ -83,7 +83,9 @@ impl<D: Files + Drop> Desk<D> {
             "measure" => tell_run(self.alloc, &self.table, rest, true, answer),
             "play" => tell_play(self.alloc, &self.table, false, answer),
             "count" => tell_play(self.alloc, &self.table, true, answer),
-            "bridging" => tell_bridging(self.alloc, &self.table, answer),
+            "bridging" => tell_bridging(self.alloc, &self.table, Told::Bridging, answer),
+            "heard" => tell_bridging(self.alloc, &self.table, Told::Heard, answer),
+            "posted" => tell_bridging(self.alloc, &self.table, Told::Posted, answer),
             "entries" => tell_entries(self.alloc, &self.table, rest, answer),
             "contexts" => self.hunts.build(&self.table, rest, answer),
             "reads" => tell_reads(&self.table, rest, answer),

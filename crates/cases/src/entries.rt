@@ -3,6 +3,7 @@
 use crate::answer::Answer;
 use crate::bridges::slot_of;
 use crate::bridging::{tell_answers, tell_entry};
+use crate::hearing::tell_heard;
 use crate::plays::machine_of;
 use crate::table::Table;
 use crate::words::{bytes_of, cut};
@@ -11,8 +12,8 @@ use fs_text::{Memory, Txt};
 use std::alloc::Global;
 
 /// Answers `entries STEPS`, with `;` between them: `arrive`, `say CONNECTION LINE`, `take CONNECTION`, `job NUMBER`,
-/// and `work SLOTS` with an entry for each slot. It tells what `bridging` tells, refusals, and the frames that are
-/// taken.
+/// `hear CONNECTION COUNT`, by which so many frames are taken, and `work SLOTS` with an entry for each slot. It tells
+/// what `bridging` tells, refusals, and the frames that are taken, those of `hear` in short.
 pub(crate) fn tell_entries(
     alloc: Global,
     table: &Table,
@@ -26,6 +27,7 @@ pub(crate) fn tell_entries(
         let (verb, rest) = cut(step.trim_start());
         match verb {
             "work" => tell_work(&mut machine, rest, answer),
+            "hear" => hear(&mut machine, rest, answer),
             _ => tell_step(alloc, &mut machine, verb, rest, answer)?,
         }
     }
@@ -37,6 +39,18 @@ fn tell_work(machine: &mut Machine, slots: &str, answer: &mut Answer) {
     for slot in slots.split(' ') {
         let slot = slot_of(slot);
         tell_act(machine, Act::Work { slot }, answer);
+    }
+}
+
+// Takes so many frames of a connection, and tells of them in short.
+fn hear(machine: &mut Machine, rest: &str, answer: &mut Answer) {
+    let (first, count) = cut(rest);
+    let conn = slot_of(first) as u32;
+    for _ in 0..slot_of(count) {
+        let act = Act::Take { conn };
+        if let Some(Reply::Frame(frame)) = tell_entry(machine, &Entry { moment: 0, act }, answer) {
+            tell_heard(frame.as_bytes(), answer);
+        }
     }
 }
 

@@ -15,6 +15,7 @@ mod documents;
 mod entries;
 mod events;
 mod frames;
+mod hearing;
 mod hunts;
 mod legs;
 mod links;

@@ -1,0 +1,58 @@
+//! What a connection hears of events.
+
+use crate::answer::Answer;
+use crate::bridging::without_header;
+
+/// Adds what stands in frames, in short: of an event its name, its number and the identifier of its channel in a line,
+/// of a reply its text, and of an answer its lines without a colon.
+pub(crate) fn tell_heard(written: &[u8], answer: &mut Answer) {
+    for line in written.split(|byte| *byte == b'\n') {
+        tell_line(line, answer);
+    }
+}
+
+// Adds what is told of a line. The line of an event goes from its name to the identifier of its channel.
+fn tell_line(line: &[u8], answer: &mut Answer) {
+    if let Some(name) = line.strip_prefix(b"Event-Name: ") {
+        answer.begin();
+        answer.add(&[name]);
+    } else if let Some(number) = line.strip_prefix(b"Event-Sequence: ") {
+        answer.add(&[b" ", number]);
+    } else if let Some(channel) = line.strip_prefix(b"Unique-ID: ") {
+        answer.add(&[b" ", channel]);
+        answer.end();
+    } else {
+        tell_other(line, answer);
+    }
+}
+
+fn tell_other(line: &[u8], answer: &mut Answer) {
+    if let Some(text) = line.strip_prefix(b"Reply-Text: ") {
+        return answer.line(&[text]);
+    }
+    let text = without_header(line);
+    if !text.is_empty() && !text.contains(&b':') {
+        answer.line(&[text]);
+    }
+}
+
+/// Adds how many events were written, the number of the last of these, how many were lost, and the last line that is
+/// not empty.
+pub(crate) fn tell_posted(written: &[u8], lost: u64, answer: &mut Answer) {
+    let mut count = 0_u64;
+    let mut number = b"0".as_slice();
+    let mut last = b"".as_slice();
+    for line in written.split(|byte| *byte == b'\n') {
+        if let Some(told) = line.strip_prefix(b"Event-Sequence: ") {
+            count = count.saturating_add(1);
+            number = told;
+        }
+        last = if line.is_empty() { last } else { line };
+    }
+    answer.begin();
+    answer.show(format_args!("{count} events up to number "));
+    answer.add(&[number]);
+    answer.show(format_args!(", {lost} lost"));
+    answer.end();
+    answer.line(&[last]);
+}

@@ -41,7 +41,7 @@ reads phase.Ready = true
 reads phase.Ending = false
 reads phase.Closed = false
 
--- it is closed
+-- it is gone, or was never there
 abbrev pub is_closed : Phase → Bool
 is_closed phase.Fresh = false
 is_closed phase.Ready = false

@@ -33,15 +33,19 @@ notice =
 
 -- ---- the texts of replies
 
+-- the password that was offered is the right one
 unfoldable pub accepted : List ℕ
 accepted = codes "+OK accepted"
 
+-- the password that was offered is another
 unfoldable pub invalid : List ℕ
 invalid = codes "-ERR invalid"
 
+-- the connection comes to its end, as it asked
 unfoldable pub bye : List ℕ
 bye = codes "+OK bye"
 
+-- the command is not known, or not in this phase of the connection
 unfoldable pub not_found : List ℕ
 not_found = codes "-ERR command not found"
 

@@ -44,9 +44,11 @@ switch_of p = run_from (empty p.config) p.journal
 abbrev pub bytes_handed : Configuration → List Entry → List ℕ
 bytes_handed config journal = concat (handed_from 1 (empty config) journal)
 
+-- the bytes that a play has handed out
 abbrev pub output_of : Play → List ℕ
 output_of p = bytes_handed p.config p.journal
 
+-- a play has come to its end
 abbrev pub is_over : Play → Bool
 is_over p = is_some p.end
 
@@ -76,6 +78,7 @@ by_room entry p =
     if is_full (switch_of p) then record p { end = Some (JournalFull (switch_of p).cost (switch_of p).config.settings.journal_limit) }
     else record p { journal = p.journal ++ entry ∷ [] }
 
+-- an entry is tried, unless the play is over
 abbrev pub after_trying_as : Judge → Entry → Play → Play
 after_trying_as judge entry p = if is_over p then p else judge entry p
 
@@ -97,9 +100,11 @@ after_due_work_as judge (actor.Job job) p = after_trying_act_as judge (Job job) 
 after_due_work_as judge (actor.Later moment) p = p
 after_due_work_as judge actor.Never p = p
 
+-- who has something to do at the clock's moment, or else when somebody has
 abbrev pub next_actor : Play → DueActor
 next_actor p = next_due p.clock (switch_of p)
 
+-- one that has something to do does it
 abbrev pub after_due_step_as : Judge → Play → Play
 after_due_step_as judge p = after_due_work_as judge (next_actor p) p
 
@@ -110,6 +115,7 @@ with_runaway_end_by (actor.Job job) p = with_end (Runaway 100000) p
 with_runaway_end_by (actor.Later moment) p = p
 with_runaway_end_by actor.Never p = p
 
+-- it has run away, where somebody still has something to do
 abbrev pub with_runaway_end : Play → Play
 with_runaway_end p = with_runaway_end_by (next_actor p) p
 
@@ -128,6 +134,7 @@ abbrev pub after_waiting_until_as : Judge → DueActor → Play → Play
 after_waiting_until_as judge (actor.Later moment) p = after_settling_as judge (record p { clock = moment })
 after_waiting_until_as judge _ p = p
 
+-- the clock goes on once, where a reply is owed
 abbrev pub after_waiting_once_as : Judge → Play → Play
 after_waiting_once_as judge p = if waits p then after_waiting_until_as judge (next_actor p) p else p
 
@@ -163,6 +170,7 @@ takes_commands p = reads_on p && not (owes (switch_of p) 1)
 abbrev pub after_command_as : Judge → Play → List ℕ → Play
 after_command_as judge p block = if takes_commands p then after_act_as judge (Command 1 block) p else p
 
+-- these blocks are commands, one after another
 abbrev pub after_commands_as : Judge → Play → List (List ℕ) → Play
 after_commands_as judge p [] = p
 after_commands_as judge p (block ∷ blocks) = after_commands_as judge (after_command_as judge p block) blocks
@@ -181,6 +189,7 @@ after_closing_as judge p = after_trying_act_as judge (Close 1 Sent) (after_input
 
 -- ---- how it ends
 
+-- how a connection ends that reads no further command for this reason
 abbrev pub end_by : Option Parting → Option End
 end_by None = None
 end_by (Some parting.Exit) = Some Exit
@@ -208,56 +217,74 @@ played_as judge config input read_failed =
 
 -- ---- the play of a machine, which judges each entry by what it refuses it for
 
+-- an entry is tried
 abbrev pub after_trying : Entry → Play → Play
 after_trying = after_trying_as by_refusal
 
+-- an act is tried at the clock's moment
 abbrev pub after_trying_act : Act → Play → Play
 after_trying_act = after_trying_act_as by_refusal
 
+-- the one that has something to do does it
 abbrev pub after_due_work : DueActor → Play → Play
 after_due_work = after_due_work_as by_refusal
 
+-- one that has something to do does it, if there is one
 abbrev pub after_due_step : Play → Play
 after_due_step = after_due_step_as by_refusal
 
+-- all that is due is worked
 abbrev pub after_settling : Play → Play
 after_settling = after_settling_as by_refusal
 
+-- the clock goes on to the next moment at which something is due, and that is worked
 abbrev pub after_waiting_until : DueActor → Play → Play
 after_waiting_until = after_waiting_until_as by_refusal
 
+-- the clock goes on once, where a reply is owed
 abbrev pub after_waiting_once : Play → Play
 after_waiting_once = after_waiting_once_as by_refusal
 
+-- the clock goes on while a reply is owed
 abbrev pub after_waiting : Play → Play
 after_waiting = after_waiting_as by_refusal
 
+-- all frames that wait are taken
 abbrev pub after_taking_all : Play → Play
 after_taking_all = after_taking_all_as by_refusal
 
+-- what comes of an act
 abbrev pub after_following : Play → Play
 after_following = after_following_as by_refusal
 
+-- an act with all that comes of it
 abbrev pub after_act : Act → Play → Play
 after_act = after_act_as by_refusal
 
+-- the next block is a command, unless the connection takes none any more
 abbrev pub after_command : Play → List ℕ → Play
 after_command = after_command_as by_refusal
 
+-- these blocks are commands, one after another
 abbrev pub after_commands : Play → List (List ℕ) → Play
 after_commands = after_commands_as by_refusal
 
+-- the connection has come
 abbrev pub after_opening : Configuration → Play
 after_opening = after_opening_as by_refusal
 
+-- its input has ended
 abbrev pub after_input_end : Play → Play
 after_input_end = after_input_end_as by_refusal
 
+-- it is closed
 abbrev pub after_closing : Play → Play
 after_closing = after_closing_as by_refusal
 
+-- the play of these bytes up to the last command
 abbrev pub after_conversing : Configuration → List ℕ → Play
 after_conversing = after_conversing_as by_refusal
 
+-- what these bytes of a link play, where the reading ended or failed behind them
 abbrev pub played : Configuration → List ℕ → Bool → Play
 played = played_as by_refusal

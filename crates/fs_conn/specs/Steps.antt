@@ -60,6 +60,7 @@ Does step old new (Err stop) = Halts stop new (step old)
 
 -- ---- entries
 
+-- an act as it is entered at the clock's moment
 abbrev pub entry_of : Act → Play → Entry
 entry_of act p = record { moment = p.clock; act = act }
 

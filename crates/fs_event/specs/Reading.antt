@@ -18,6 +18,7 @@ Told = List (Text × Text) × Text
 abbrev pub header_of : Text → Text × Text
 header_of line = (before_byte 58 line, percent_decode (drop 1 (behind_byte 58 line)))
 
+-- with one more header, before the others
 abbrev pub with_header : Text × Text → Told → Told
 with_header header told = (header ∷ told.0, told.1)
 

@@ -5,6 +5,7 @@ use fs_text::{EventName, Headers, Txt};
 /// What happened, as a connection is told.
 #[derive(Drop)]
 pub struct Event {
+    /// Which event it is.
     pub name: EventName,
     /// Of a `CUSTOM` event its subclass, as `fifo::info`; else empty.
     pub subclass: Txt,

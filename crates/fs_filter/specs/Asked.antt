@@ -11,6 +11,7 @@ use Rattle.fs_text.specs.declared.event_names.EventName.{EventName}
 
 -- ---- words
 
+-- what stands between spaces is a word, unless it is empty
 abbrev pub is_word : Text → Bool
 is_word text = not (length text == 0)
 
@@ -26,9 +27,11 @@ texts words = map (λ word. word.now) words
 abbrev pub lent : Option (Bor Text) → Option Text
 lent text = option_map (λ t. t.now) text
 
+-- the word asks for all events
 unfoldable pub is_all : Text → Bool
 is_all word = bytes_eq word (codes "ALL")
 
+-- the word behind which subclasses stand
 unfoldable pub is_custom : Text → Bool
 is_custom word = bytes_eq word (codes "CUSTOM")
 

@@ -46,6 +46,7 @@ abbrev pub with_texts : List Text → List Text → List Text
 with_texts known [] = known
 with_texts known (text ∷ more) = with_texts (if has_text known text then known else known ++ text ∷ []) more
 
+-- those that are not among the ones of a list
 abbrev pub without_texts : List Text → List Text → List Text
 without_texts known texts = filter (λ text. not (has_text texts text)) known
 

@@ -3,7 +3,9 @@
 /// A part of some bytes.
 #[derive(Clone, Copy, Debug)]
 pub struct Span {
+    /// How many bytes stand before it.
     pub start: usize,
+    /// How many bytes it has.
     pub len: usize,
 }
 

@@ -51,6 +51,7 @@ set_global name value s =
 
 -- ---- channels
 
+-- whether something holds, as an answer
 abbrev pub told_whether : Bool → Text
 told_whether holds = if holds then yes else no
 
@@ -68,11 +69,13 @@ abbrev pub variable_text : Text → Option Chan → Text
 variable_text name None = no_channel
 variable_text name (Some c) = unwrap_or (value_of c.vars.pairs name) undefined
 
+-- the live channel of an identifier
 abbrev pub chan_named : Text → Switch → Option Chan
 chan_named uuid s = option_and_then (chan_at s) (slot_named uuid s)
 
 -- ---- jobs
 
+-- the reply is owed for so many milliseconds, unless there are too many jobs
 abbrev pub msleep_done : ℕ → ℕ → Switch → Done
 msleep_done conn milliseconds s = if is_full_of_jobs s then says too_many_jobs s else no_answer_yet (sleep_begun conn milliseconds s)
 
@@ -82,6 +85,7 @@ dialled conn (Err fault) winner caller timeout s = says (failed_text InvalidNumb
 dialled conn (Ok dial) winner caller timeout s =
     no_answer_yet (originate_begun conn (plans_of dial) winner caller (option_or timeout (braces_timeout dial)) s)
 
+-- the legs of a dial string are tried by a job, unless there are too many jobs
 abbrev pub originate_done : ℕ → Text → Winner → Caller → Option ℕ → Switch → Done
 originate_done conn url winner caller timeout s =
     if is_full_of_jobs s then says too_many_jobs s else dialled conn (dial_string url) winner caller timeout s

@@ -31,10 +31,11 @@ with_assignment how argument c = record c { vars = assigned how argument c.vars 
 abbrev pub after_sleep : ℕ → ℕ → Switch → Switch
 after_sleep milliseconds slot s = if milliseconds == 0 then after_completion slot s else after_move (asleep s.moment milliseconds) slot s
 
--- the state of the channel in a slot
+-- the state of a channel
 abbrev pub chan_state : Chan → State
 chan_state c = c.state
 
+-- the state of the channel in a slot
 abbrev pub state_at : ℕ → Switch → Option State
 state_at slot s = option_map chan_state (chan_at s slot)
 
@@ -44,6 +45,7 @@ after_park_in None slot s = s
 after_park_in (Some CsPark) slot s = after_completion slot s
 after_park_in (Some _) slot s = after_move parked slot s
 
+-- the channel in a slot parks, unless it is parked
 abbrev pub after_park : ℕ → Switch → Switch
 after_park slot s = after_park_in (state_at slot s) slot s
 
@@ -90,9 +92,11 @@ after_running_next None slot c s = after_hangup NormalClearing slot s
 after_running_next (Some action) slot c s =
     executed_within action.application (argument_in c s action.argument) slot (after_move after_next slot s)
 
+-- the channel that is to run what is next does so, if it is there
 abbrev pub after_running_from : ℕ → Option Chan → Switch → Switch
 after_running_from slot None s = s
 after_running_from slot (Some c) s = after_running_next (next_action c) slot c s
 
+-- the channel in a slot runs what is next
 unfoldable pub after_running : ℕ → Switch → Switch
 after_running slot s = after_running_from slot (chan_at s slot) s

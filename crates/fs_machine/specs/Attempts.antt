@@ -99,6 +99,7 @@ abbrev pub after_race_by : Option Cause → Attempt → OrigLeg → Switch → S
 after_race_by None a leg s = won_for a.party a.orig leg s
 after_race_by (Some cause) a leg s = after_failure a cause s
 
+-- a leg has won, unless its channel died of the hangup of the others
 abbrev pub after_race : Attempt → OrigLeg → Switch → Switch
 after_race a leg s = after_race_by (death_of (chan_at s (unwrap_or leg.slot 0))) a leg s
 
@@ -130,9 +131,11 @@ after_verdict (verdict.Failed cause) a o s = after_failure a cause s
 after_verdict verdict.Expired a o s = after_deadline a (living_slots o.legs) s
 after_verdict (verdict.Wait until) a o s = s
 
+-- what comes of an origination by the verdict at this moment, if it is there
 abbrev pub after_verdict_from : Attempt → Option Orig → Switch → Switch
 after_verdict_from a None s = s
 after_verdict_from a (Some o) s = after_verdict (verdict_of s.moment o) a o s
 
+-- what comes of what is tried, by the verdict at this moment
 abbrev pub after_verdict_on : Attempt → Switch → Switch
 after_verdict_on a s = after_verdict_from a (orig_of s a.orig) s

@@ -74,6 +74,7 @@ abbrev pub bridge_failed_from : Option Chan → Cause → ℕ → Switch → Swi
 bridge_failed_from None cause slot s = s
 bridge_failed_from (Some c) cause slot s = after_going_on (goes_on cause c.vars) cause slot (disposed (cause_name cause) slot s)
 
+-- the bridge that the channel in a slot dials has failed of a cause: it goes on, or hangs up
 unfoldable pub after_bridge_failure : Cause → ℕ → Switch → Switch
 after_bridge_failure cause slot s = bridge_failed_from (chan_at s slot) cause slot s
 

@@ -8,6 +8,7 @@ use Rattle.fs_machine.specs.declared.channels.ChanChange.TheVariants as change
 use Rattle.fs_machine.specs.Applications.{with_assignment}
 use Rattle.fs_machine.specs.Originations.{won_by}
 
+-- a channel with this change
 abbrev pub changed_by : ChanChange → Chan → Chan
 changed_by change.Pass c = after_next c
 changed_by (change.Assign how argument) c = with_assignment how argument.now c

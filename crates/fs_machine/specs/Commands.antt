@@ -108,5 +108,6 @@ command_done_in Ready conn Unknown s = with_reply conn not_found s
 command_done_in Ending conn command s = s
 command_done_in Closed conn command s = s
 
+-- what a command does in the phase in which its connection is
 unfoldable pub command_done : ℕ → Command → Switch → Switch
 command_done conn command s = command_done_in (phase_at s conn) conn command s

@@ -47,5 +47,6 @@ pub record Comes (conn : ℕ) (s : Switch) (entry : Entry) : Type 0 where
   pub given : given_by conn s entry ≡ auth_request ∷ []
   pub frames : waiting_for (step s entry).state conn ≡ auth_request ∷ []
 
+-- an entry concerns a connection in one of these three ways
 abbrev pub Concerns : ℕ → Switch → Entry → Type 0
 Concerns conn s entry = IsOwn conn s entry ⊎ (IsOthers conn s entry ⊎ Comes conn s entry)

@@ -12,6 +12,7 @@ abbrev pub phase_of : Option Conn → Phase
 phase_of None = Closed
 phase_of (Some c) = c.phase
 
+-- the phase of the connection of a number
 abbrev pub phase_at : Switch → ℕ → Phase
 phase_at s number = phase_of (conn_of s number)
 
@@ -20,6 +21,7 @@ abbrev pub conn_changed_from : (Conn → Conn) → ℕ → Option Conn → Switc
 conn_changed_from change number None s = s
 conn_changed_from change number (Some c) s = with_conn number (change c) s
 
+-- the connection of a number is changed, if it is there
 abbrev pub conn_changed : (Conn → Conn) → ℕ → Switch → Switch
 conn_changed change number s = conn_changed_from change number (conn_of s number) s
 
@@ -54,5 +56,6 @@ abbrev pub subs_of : Option Conn → Subscription
 subs_of None = nothing
 subs_of (Some c) = c.subs
 
+-- what the connection of a number subscribed
 abbrev pub subs_at : Switch → ℕ → Subscription
 subs_at s number = subs_of (conn_of s number)

@@ -32,6 +32,7 @@ abbrev pub tried_by_slot : ℕ → List (List LegPlan) → ℕ → ℕ → MadeG
 tried_by_slot slot groups timeout orig made =
     after_move (awaiting orig) slot (orig_begun (owner.Slot slot) groups made.legs timeout made.state)
 
+-- the legs of a dial string are tried for a channel, if it is there
 abbrev pub bridge_begun_from : Option Chan → Dial → ℕ → Switch → Switch
 bridge_begun_from None dial slot s = s
 bridge_begun_from (Some c) dial slot s =

@@ -34,18 +34,22 @@ due_by s c (Some orig) = orig_due s.moment (orig_of s orig)
 abbrev pub chan_due : Switch → Option Chan → Option Due
 chan_due s chan = option_and_then (λ c. due_by s c (awaited_by c)) chan
 
+-- when the channel in a slot has something to do
 abbrev pub slot_due : ℕ → Switch → Option Due
 slot_due slot s = chan_due s (chan_at s slot)
 
+-- when a job with this work has something to do
 abbrev pub work_due : Switch → JobWork → Option Due
 work_due s (Sleep until) = Some (due_at s.moment until)
 work_due s (Originate orig winner caller) = orig_due s.moment (orig_of s orig)
 
+-- when the job of a number has something to do
 abbrev pub job_due : ℕ → Switch → Option Due
 job_due number s = option_and_then (λ job. work_due s job.work) (job_of s number)
 
 -- ---- all of them
 
+-- there is something to do at this moment
 abbrev pub is_now : Option Due → Bool
 is_now None = false
 is_now (Some Now) = true
@@ -57,29 +61,33 @@ later_of None = None
 later_of (Some Now) = None
 later_of (Some (At moment)) = Some moment
 
--- the least slot that has something to do
+-- what stands in a slot has something to do
 abbrev pub is_due : Switch → Option Chan → Bool
 is_due s chan = is_now (chan_due s chan)
 
+-- the least slot that has something to do
 abbrev pub due_slot : Switch → Option ℕ
 due_slot s = first_place (is_due s) s.channels 0
 
--- the moment at which a channel or a job will have something to do
+-- the moment at which a channel will have something to do
 abbrev pub chan_moment : Switch → Option Chan → Option ℕ
 chan_moment s chan = later_of (chan_due s chan)
 
+-- when the job at a place has something to do
 abbrev pub row_due : Switch → Option (Numbered Job) → Option Due
 row_due s None = None
 row_due s (Some row) = work_due s row.held.work
 
+-- the moment at which the job at a place will have something to do
 abbrev pub row_moment : Switch → Option (Numbered Job) → Option ℕ
 row_moment s row = later_of (row_due s row)
 
--- the number of a job that has something to do
+-- the number of a job, where it is said to have something to do
 abbrev pub number_where : Bool → Option (Numbered Job) → Option ℕ
 number_where due None = None
 number_where due (Some row) = if due then Some row.number else None
 
+-- the number of the job at a place, where it has something to do
 abbrev pub due_number : Switch → Option (Numbered Job) → Option ℕ
 due_number s row = number_where (is_now (row_due s row)) row
 
@@ -87,9 +95,11 @@ due_number s row = number_where (is_now (row_due s row)) row
 abbrev pub due_job : Switch → Option ℕ
 due_job s = least_of (due_number s) s.jobs
 
+-- the first moment at which a channel will have something to do
 abbrev pub first_chan_moment : Switch → Option ℕ
 first_chan_moment s = least_of (chan_moment s) s.channels
 
+-- the first moment at which a job will have something to do
 abbrev pub first_job_moment : Switch → Option ℕ
 first_job_moment s = least_of (row_moment s) s.jobs
 
@@ -104,9 +114,11 @@ actor_or actor (Some number) otherwise = actor number
 abbrev pub later_or_never : Option ℕ → DueActor
 later_or_never moment = actor_or actor.Later moment actor.Never
 
+-- the least job that has something to do, or else the next moment at which one has
 abbrev pub due_among_jobs : Switch → DueActor
 due_among_jobs s = actor_or actor.Job (due_job s) (later_or_never (first_job_moment s))
 
+-- the least slot, or else the least job, that has something to do, or else the next moment at which one has
 abbrev pub due_among_all : Switch → DueActor
 due_among_all s =
     actor_or actor.Slot (due_slot s) (actor_or actor.Job (due_job s) (later_or_never (lesser (first_chan_moment s) (first_job_moment s))))

@@ -20,6 +20,7 @@ after_job_work (Sleep until) number conn s = after_job_end number conn ok s
 after_job_work (Originate orig winner caller) number conn s =
     after_verdict_on (record { orig = orig; party = party.Job number conn winner caller }) s
 
+-- what the job of a number does, if it is there
 abbrev pub job_done_from : ℕ → Option Job → Switch → Switch
 job_done_from number None s = s
 job_done_from number (Some job) s = after_job_work job.work number job.conn s

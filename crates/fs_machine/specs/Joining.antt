@@ -19,6 +19,7 @@ use Rattle.fs_machine.specs.Texts.{no_channel, same_channel, not_ready, not_answ
 
 -- ---- what stands in the way
 
+-- a channel in this state has not begun
 abbrev pub is_early : State → Bool
 is_early CsNew = true
 is_early CsInit = true
@@ -29,6 +30,7 @@ abbrev pub is_ready : Option Chan → Bool
 is_ready None = false
 is_ready (Some c) = not (is_early c.state) && is_none c.leg_of
 
+-- there is a channel, and it was answered
 abbrev pub is_answered : Option Chan → Bool
 is_answered None = false
 is_answered (Some c) = is_some c.answered

@@ -88,13 +88,15 @@ abbrev pub named_end_made : Option Text → Call → End → Switch → Switch
 named_end_made None call end s = end_made call end s
 named_end_made (Some uuid) call end s = end_made_as uuid call end s
 
--- the outbound end is the leg of an origination, the inbound end is routed
+-- the outbound end, which is the leg of an origination
 abbrev pub leg_end : ℕ → ℕ → ℕ → End
 leg_end orig a b = record { direction = Outbound; slot = a; partner = b; leg_of = Some orig }
 
+-- the inbound end, which is routed
 abbrev pub far_end : ℕ → ℕ → End
 far_end a b = record { direction = Inbound; slot = b; partner = a; leg_of = None }
 
+-- both ends of a pair are there, and the outbound one is the leg of an origination
 abbrev pub pair_made : Call → ℕ → ℕ → ℕ → Switch → Switch
 pair_made call orig a b s = end_made call (far_end a b) (named_end_made call.uuid call (leg_end orig a b) s)
 
@@ -105,6 +107,7 @@ abbrev pub set_all : List (Text × Text) → Variables → Option Variables
 set_all [] vars = Some vars
 set_all (pair ∷ pairs) vars = if can_set vars pair.0 pair.1 then set_all pairs (set_to vars pair.0 pair.1) else None
 
+-- the variables of a channel for which none is set yet
 abbrev pub no_variables : Variables
 no_variables = record { bounds = Channel; pairs = [] }
 
@@ -128,6 +131,7 @@ abbrev pub leg_deadline : Variables → ℕ → Option ℕ
 leg_deadline vars now =
     option_map (λ n. moment_after now (seconds n)) (option_and_then seconds_in (value_of vars.pairs (codes "leg_timeout")))
 
+-- a call with these variables, which may say who calls and which identifier the leg has
 abbrev pub call_with : Text → Text → Variables → Caller → Call
 call_with exten context vars caller =
     record { exten = exten; context = context; caller = caller_with vars caller; vars = vars; uuid = own_uuid vars }
@@ -188,6 +192,7 @@ with_second s a = option_map (λ b. (a, b)) (free_slot (a + 1) s)
 abbrev pub free_pair : Switch → Option (ℕ × ℕ)
 free_pair s = option_and_then (with_second s) (free_slot 1 s)
 
+-- a leg of the loopback; one dies for which the journal has cost too much, or no two slots are free
 abbrev pub loopback_made : Call → ℕ → Switch → Made
 loopback_made call orig s = if is_congested s then made_dead SwitchCongestion s else made_in call orig (free_pair s) s
 
@@ -198,6 +203,7 @@ made_with exten context (Some vars) caller orig s =
     if is_misnamed (own_uuid vars) s then made_dead NormalTemporaryFailure s
     else loopback_made (call_with exten context vars caller) orig s
 
+-- the leg at an endpoint, with the variables that pairs come to
 abbrev pub made_of : Endpoint → List (Text × Text) → Caller → ℕ → Switch → Made
 made_of (Dead cause) pairs caller orig s = made_dead cause s
 made_of (Loopback exten context) pairs caller orig s = made_with exten context (set_all pairs no_variables) caller orig s
@@ -234,16 +240,19 @@ abbrev pub given_action : Text → Text → Chan → Chan
 given_action application argument c =
     record c { actions = record { application = application; argument = argument } ∷ []; wait = Ready; leg_of = None; state = CsExecute }
 
--- it is routed, and no leg any more
+-- where a channel goes that is routed so
 abbrev pub target_of : RouteTo → Target3
 target_of to = record { exten = to.exten; dialplan = Some to.dialplan; context = Some to.context }
 
+-- it is routed, and no leg any more
 abbrev pub given_route : RouteTo → Chan → Chan
 given_route to c = transferred (target_of to) (record c { leg_of = None })
 
+-- a leg that has won does what is asked of the winner
 abbrev pub won_by : Winner → Chan → Chan
 won_by (App application argument) c = given_action application argument c
 won_by (Route to) c = given_route to c
 
+-- the channel in a slot has won, and does what is asked of the winner
 unfoldable pub after_winning : Winner → ℕ → Switch → Switch
 after_winning winner slot s = after_move (won_by winner) slot s

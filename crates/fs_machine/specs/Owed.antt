@@ -29,6 +29,7 @@ PartsIn Ready parting = parting ≡ None
 PartsIn Ending parting = parting ≢ None
 PartsIn Closed parting = ⊥
 
+-- a connection has parted just where its phase says so
 abbrev pub Parts : Conn → Type 0
 Parts c = PartsIn c.phase c.parting
 

@@ -6,6 +6,7 @@ use Rattle.fs_state.specs.declared.conn.Parting.{Parting}
 use Rattle.fs_state.specs.Losses.{lost_in}
 use Rattle.fs_state.specs.Switch.{Switch, conn_of}
 
+-- why it reads no further command, where it reads none
 abbrev pub parting_of : Conn → Option Parting
 parting_of c = c.parting
 
@@ -13,13 +14,15 @@ parting_of c = c.parting
 abbrev pub parting_at : Switch → ℕ → Option Parting
 parting_at s conn = option_and_then parting_of (conn_of s conn)
 
--- the place of the command to which a connection is still owed the reply
+-- the place of the command to which it is still owed the reply
 abbrev pub owed_of : Conn → Option ℕ
 owed_of c = c.owed
 
+-- the place of the command to which a connection is still owed the reply
 abbrev pub owed_to : Switch → ℕ → Option ℕ
 owed_to s conn = option_and_then owed_of (conn_of s conn)
 
+-- a connection is still owed a reply
 abbrev pub owes : Switch → ℕ → Bool
 owes s conn = is_some (owed_to s conn)
 

@@ -41,12 +41,14 @@ reads phase.Ready = true
 reads phase.Ending = false
 reads phase.Closed = false
 
+-- it is gone, or was never there
 abbrev pub is_closed : Phase → Bool
 is_closed phase.Fresh = false
 is_closed phase.Ready = false
 is_closed phase.Ending = false
 is_closed phase.Closed = true
 
+-- it reads no further command, and is not closed yet
 abbrev pub is_ending : Phase → Bool
 is_ending phase.Fresh = false
 is_ending phase.Ready = false
@@ -57,6 +59,7 @@ is_ending phase.Closed = false
 abbrev pub refused_where : Bool → Refusal → Option Refusal → Option Refusal
 refused_where test refusal otherwise = if test then Some refusal else otherwise
 
+-- no command is taken while a reply is owed
 abbrev pub busy : Option ℕ → Option Refusal
 busy None = None
 busy (Some since) = Some (refusal.Busy since)
@@ -69,9 +72,11 @@ is_unsent s conn = not (is_ending (phase_at s conn)) || (not (length (waiting_fo
 abbrev pub unsent : ℕ → Switch → Refusal
 unsent conn s = refusal.Unsent (length (waiting_for s conn)) (is_some (owed_to s conn))
 
+-- why it is too early to close a connection to which all is to be sent
 abbrev pub refused_unsent : ℕ → Switch → Option Refusal
 refused_unsent conn s = refused_where (is_unsent s conn) (unsent conn s) None
 
+-- why a connection cannot be closed so
 abbrev pub refused_close : ℕ → Closing → Switch → Option Refusal
 refused_close conn EndOfInput s = refused_where (not (reads (phase_at s conn))) refusal.Gone None
 refused_close conn Sent s = refused_where (is_closed (phase_at s conn)) refusal.Gone (refused_unsent conn s)
@@ -83,6 +88,7 @@ not_due None = Some (refusal.NotDue None)
 not_due (Some Now) = None
 not_due (Some (At moment)) = Some (refusal.NotDue (Some moment))
 
+-- why a connection cannot give a command
 abbrev pub refused_command : ℕ → Switch → Option Refusal
 refused_command conn s = refused_where (not (reads (phase_at s conn))) refusal.Gone (busy (owed_to s conn))
 
@@ -90,6 +96,7 @@ refused_command conn s = refused_where (not (reads (phase_at s conn))) refusal.G
 abbrev pub places_for_conns : Switch → ℕ
 places_for_conns s = min (length s.conns) (2 ^ 16 - 1)
 
+-- why an act is refused
 abbrev pub refused_act : Act → Switch → Option Refusal
 refused_act Arrive s = refused_where (is_full_of_conns s) (refusal.TooMany (places_for_conns s)) None
 refused_act (Command conn block) s = refused_command conn s
@@ -111,6 +118,7 @@ IsRefusedFor s entry r = r ≢ refusal.Memory → refusal_of s entry ≡ Some r
 
 -- ---- what the others do
 
+-- the state behind an act, and the reply to it
 pub record Acted : Type 0 where
   pub state : Switch
   pub reply : Reply
@@ -123,23 +131,28 @@ ComesTo acted state reply = acted ≡ record { state = state; reply = reply }
 abbrev pub new_conn : Conn
 new_conn = record { phase = phase.Fresh; owed = None; parting = None; subs = nothing }
 
+-- a connection has come, and is asked for the password
 abbrev pub arrived : Switch → Acted
 arrived s = record {
   state = with_gift (numbers.with_conn s.drawn).conns auth_request (with_new_conn new_conn s);
   reply = reply.Arrived (numbers.with_conn s.drawn).conns;
 }
 
+-- a command was taken: whether its reply is still owed
 abbrev pub queued_in : ℕ → Switch → Acted
 queued_in conn s = record { state = s; reply = reply.Queued (is_some (owed_to s conn)) }
 
+-- the first frame that waits for a connection is handed out
 abbrev pub taken : ℕ → Switch → Acted
 taken conn s = record { state = with_frame_taken conn s; reply = reply.Frame (unwrap_or (slice_get (waiting_for s conn) 0) []) }
 
+-- the input of a connection has ended, or it is gone
 abbrev pub after_close : Closing → ℕ → Switch → Switch
 after_close EndOfInput conn s = conn_changed (parted parting.EndOfInput) conn s
 after_close Sent conn s = without_conn conn s
 after_close Failed conn s = without_conn conn s
 
+-- what an act does
 abbrev pub act_done : Act → Switch → Acted
 act_done Arrive s = arrived s
 act_done (Command conn block) s = queued_in conn (command_done conn (command_of (line_of block)) s)

@@ -3,6 +3,7 @@ use Rattle.std.specs.Prelude.{ℕ, List, ◌++◌, codes}
 use Rattle.fs_text.specs.declared.causes.Cause.{Cause}
 use Rattle.fs_text.specs.Cause.{cause_name}
 
+-- what was asked for is done
 unfoldable pub ok : List ℕ
 ok = codes "+OK\n"
 
@@ -28,15 +29,19 @@ no_channel = codes "-ERR No such channel!\n"
 
 -- ---- why two channels are not joined
 
+-- they are one channel
 abbrev pub same_channel : List ℕ
 same_channel = codes "-ERR Same channel!\n"
 
+-- one of them has not begun, or is the leg of an origination that is not yet decided
 abbrev pub not_ready : List ℕ
 not_ready = codes "-ERR Channel not ready!\n"
 
+-- one of them was not answered
 abbrev pub not_answered : List ℕ
 not_answered = codes "-ERR Channel not answered!\n"
 
+-- one of them is in a bridge
 abbrev pub already_bridged : List ℕ
 already_bridged = codes "-ERR Channel already bridged!\n"
 
@@ -58,8 +63,10 @@ made_text uuid = codes "+OK " ++ uuid ++ codes "\n"
 unfoldable pub failed_text : Cause → List ℕ
 failed_text cause = codes "-ERR " ++ cause_name cause ++ codes "\n"
 
+-- it holds
 unfoldable pub yes : List ℕ
 yes = codes "true"
 
+-- it does not hold
 unfoldable pub no : List ℕ
 no = codes "false"

@@ -26,6 +26,7 @@ use Rattle.fs_machine.specs.Applications.{after_running}
 
 -- ---- routing
 
+-- a channel with other variables
 abbrev pub with_variables : Variables → Chan → Chan
 with_variables vars c = record c { vars = vars }
 
@@ -56,6 +57,7 @@ abbrev pub found_in : Outcome Hunt → Option Hunt
 found_in (Err len) = None
 found_in (Ok hunt) = Some hunt
 
+-- what the hunt for a channel gave, unless a text is too long
 abbrev pub found_for : Chan → Switch → Option Hunt
 found_for c s = found_in (hunted s.config.contexts c.profile.context c.profile c.vars s.globals)
 
@@ -69,6 +71,7 @@ abbrev pub after_routing_from : ℕ → Option Chan → Switch → Switch
 after_routing_from slot None s = s
 after_routing_from slot (Some c) s = if may_route c then routed_by (found_for c s) c slot s else after_hangup ExchangeRoutingError slot s
 
+-- the channel in a slot is routed, unless it was routed too often
 abbrev pub after_routing : ℕ → Switch → Switch
 after_routing slot s = after_routing_from slot (chan_at s slot) s
 
@@ -88,6 +91,7 @@ after_wait (Socket conn) slot s = after_running slot s
 after_wait (Legs orig) slot s = after_verdict_on (record { orig = orig; party = party.Slot slot }) s
 after_wait _ slot s = s
 
+-- what a channel does by itself in a state
 abbrev pub after_work_in : State → ℕ → Chan → Switch → Switch
 after_work_in CsNew slot c s = after_begin slot s
 after_work_in CsInit slot c s = after_move (in_state (first_state c.direction)) slot s
@@ -98,6 +102,7 @@ after_work_in CsHangup slot c s = after_report slot s
 after_work_in CsReporting slot c s = after_destroy slot s
 after_work_in _ slot c s = s
 
+-- what a channel does by itself in its state, if it is there
 abbrev pub after_work_from : ℕ → Option Chan → Switch → Switch
 after_work_from slot None s = s
 after_work_from slot (Some c) s = after_work_in c.state slot c s

@@ -12,6 +12,7 @@ const ENTRY_COST: u64 = 64;
 pub struct Entry {
     /// The moment of the entry, in microseconds. The clock never goes back: an earlier one is the last one.
     pub moment: u64,
+    /// What it does.
     pub act: Act,
 }
 

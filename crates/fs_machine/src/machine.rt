@@ -48,8 +48,11 @@ impl Drop for Machine {
 
 /// What an entry is to change, once it was prepared.
 pub struct Change {
+    /// The entry.
     pub entry: Entry,
+    /// What it changes of the switch.
     pub delta: Delta,
+    /// What it comes to.
     pub reply: Reply,
 }
 

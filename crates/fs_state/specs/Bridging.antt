@@ -36,6 +36,7 @@ abbrev pub with_peer_from : ℕ → ℕ → Option Chan → Switch → Switch
 with_peer_from slot other None s = s
 with_peer_from slot other (Some c) s = with_changed_chan (bridged (peer_of other c)) slot s
 
+-- the channel in a slot gets the one in another slot as its peer
 abbrev pub with_peer : ℕ → ℕ → Switch → Switch
 with_peer slot other s = with_peer_from slot other (chan_at s other) s
 

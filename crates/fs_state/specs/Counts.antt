@@ -19,6 +19,7 @@ pub record Tallies : Type 0 where
 unfoldable pub zeros : ℕ → List ℕ
 zeros count = replicate count 0
 
+-- the counts before anything has happened
 abbrev pub no_tallies : Tallies
 no_tallies = record { all = 0; events = zeros 16; hangups = zeros 606 }
 
@@ -30,6 +31,7 @@ counted_at counts number = get_or counts number 0
 abbrev pub raised_at : ℕ → List ℕ → List ℕ
 raised_at number counts = slice_set counts number (min (counted_at counts number + 1) (2 ^ 64 - 1))
 
+-- with one more hangup, where an event tells of one
 abbrev pub with_hangup_counted : Option Cause → List ℕ → List ℕ
 with_hangup_counted None hangups = hangups
 with_hangup_counted (Some cause) hangups = raised_at (cause_number cause) hangups
@@ -54,9 +56,11 @@ with_events_counted (event ∷ events) t = with_events_counted events (with_even
 
 -- ---- what the counts tell of all events so far
 
+-- an event has this name
 abbrev pub is_named : EventName → Event → Bool
 is_named name event = event_number event.name == event_number name
 
+-- a hangup is told, and had this cause
 abbrev pub is_cause : Cause → Option Cause → Bool
 is_cause cause None = false
 is_cause cause (Some other) = cause_number other == cause_number cause

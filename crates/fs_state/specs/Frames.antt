@@ -13,6 +13,7 @@ abbrev pub text_of : Outgoing → Text
 text_of (Reply text) = text
 text_of (Event text) = text
 
+-- the texts of frames, in order
 abbrev pub texts_of : Frames → List Text
 texts_of frames = map text_of frames
 

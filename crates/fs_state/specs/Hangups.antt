@@ -29,12 +29,15 @@ abbrev pub lives : Option Chan → Bool
 lives None = false
 lives (Some c) = is_live c
 
+-- the channel in a slot is live
 abbrev pub lives_at : Switch → ℕ → Bool
 lives_at s slot = lives (chan_at s slot)
 
+-- the variables of a channel
 abbrev pub vars_of : Chan → Variables
 vars_of c = c.vars
 
+-- the variables of the channel in a slot
 abbrev pub vars_at : Switch → ℕ → Option Variables
 vars_at s slot = option_map vars_of (chan_at s slot)
 
@@ -78,6 +81,7 @@ after_end row cause s =
 abbrev pub Ended : Type 0
 Ended = Row × Cause
 
+-- these bridges end, one after another
 abbrev pub after_ends : List Ended → Switch → Switch
 after_ends ended s = fold (λ t e. after_end e.0 e.1 t) s ended
 
@@ -121,6 +125,7 @@ after_outliving (Hangup cause) slot s = s
 abbrev pub after_survival : After → ℕ → Switch → Switch
 after_survival after slot s = if lives_at s slot then after_outliving after slot s else s
 
+-- these slots outlive their bridges, one after another
 abbrev pub after_survivals : List (ℕ × After) → Switch → Switch
 after_survivals survivors s = fold (λ t one. after_survival one.1 one.0 t) s survivors
 

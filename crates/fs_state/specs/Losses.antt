@@ -6,6 +6,7 @@ use Rattle.fs_state.specs.declared.losses.Loss.{Loss}
 abbrev pub Losses : Type 0
 Losses = List Loss
 
+-- no connection has lost anything
 abbrev pub no_losses : Losses
 no_losses = []
 

@@ -32,6 +32,7 @@ abbrev pub with_changed_chan_from : (Chan → Chan) → ℕ → Option Chan → 
 with_changed_chan_from change slot None s = s
 with_changed_chan_from change slot (Some c) s = with_chan slot (Some (change c)) s
 
+-- the channel in a slot is changed, if there is one
 abbrev pub with_changed_chan : (Chan → Chan) → ℕ → Switch → Switch
 with_changed_chan change slot s = with_changed_chan_from change slot (chan_at s slot) s
 
@@ -62,6 +63,7 @@ abbrev pub after_move_from : (Chan → Chan) → ℕ → Option Chan → Switch 
 after_move_from change slot None s = s
 after_move_from change slot (Some c) s = put_moved slot c.state (change c) s
 
+-- the channel in a slot is changed, and tells of its change of state
 abbrev pub after_move : (Chan → Chan) → ℕ → Switch → Switch
 after_move change slot s = after_move_from change slot (chan_at s slot) s
 
@@ -88,6 +90,7 @@ application_event name action slot = record { name = name; slot = slot; detail =
 abbrev pub running_of : Chan → Option Action
 running_of c = c.running
 
+-- what the channel in a slot runs
 abbrev pub running_at : ℕ → Switch → Option Action
 running_at slot s = option_and_then running_of (chan_at s slot)
 
@@ -102,19 +105,21 @@ after_completion slot s =
 
 -- ---- originations
 
--- the origination of a number is changed, if it is there
+-- an origination that may be there is changed, as the one of a number
 abbrev pub orig_changed_from : (Orig → Orig) → ℕ → Option Orig → Switch → Switch
 orig_changed_from change number None s = s
 orig_changed_from change number (Some o) s = with_orig number (change o) s
 
+-- the origination of a number is changed, if it is there
 abbrev pub orig_changed : (Orig → Orig) → ℕ → Switch → Switch
 orig_changed change number s = orig_changed_from change number (orig_of s number) s
 
--- an origination with the living leg in a slot changed, if there is one
+-- an origination with the leg at a position changed, if there is one
 abbrev pub leg_changed_at : (ℕ → Orig → Orig) → Option ℕ → Orig → Orig
 leg_changed_at change None o = o
 leg_changed_at change (Some position) o = change position o
 
+-- an origination with the living leg in a slot changed
 abbrev pub leg_changed : (ℕ → Orig → Orig) → ℕ → Orig → Orig
 leg_changed change slot o = leg_changed_at change (position_in slot o.legs) o
 
@@ -128,17 +133,19 @@ abbrev pub its_leg_changed : (ℕ → Orig → Orig) → ℕ → Option ℕ → 
 its_leg_changed change slot None s = s
 its_leg_changed change slot (Some number) s = orig_changed (leg_changed change slot) number s
 
--- an origination with the living leg in a slot answered, if there is one, and with it dead
+-- an origination with the living leg in a slot answered, if there is one
 abbrev pub with_leg_answered : ℕ → ℕ → Orig → Orig
 with_leg_answered place slot o = leg_changed (λ position. with_answer position place) slot o
 
+-- an origination with the living leg in a slot dead, if there is one
 abbrev pub with_leg_ended : ℕ → Cause → ℕ → Orig → Orig
 with_leg_ended place cause slot o = leg_changed (λ position. with_death position place cause) slot o
 
--- the leg that a channel is is answered, and it dies
+-- the leg that a channel is is answered
 abbrev pub leg_answered : ℕ → Option ℕ → Switch → Switch
 leg_answered slot leg_of s = its_leg_changed (λ position. with_answer position s.entries) slot leg_of s
 
+-- the leg that a channel is dies of a cause
 abbrev pub leg_ended : Cause → ℕ → Option ℕ → Switch → Switch
 leg_ended cause slot leg_of s = its_leg_changed (λ position. with_death position s.entries cause) slot leg_of s
 
@@ -161,9 +168,11 @@ after_answer_from slot (Some c) s =
     (with_event (plain_event ChannelAnswer slot) (with_chan slot (Some (with_answer_place s.entries c)) s))
     else s
 
+-- the channel in a slot is answered, where it was not, and its partner is not
 abbrev pub after_one_answer : ℕ → Switch → Switch
 after_one_answer slot s = after_answer_from slot (chan_at s slot) s
 
+-- the slot of a channel's loopback partner
 abbrev pub partner_of : Chan → Option ℕ
 partner_of c = c.partner
 
@@ -208,6 +217,7 @@ after_hangup_from cause slot (Some c) s =
     (with_state_events c.state CsHangup slot (with_event (hangup_event cause slot) (with_chan slot (Some (hung_up cause c)) s))))
     else s
 
+-- the channel in a slot is hung up, and nobody else with it
 abbrev pub after_one_hangup : Cause → ℕ → Switch → Switch
 after_one_hangup cause slot s = after_hangup_from cause slot (chan_at s slot) s
 

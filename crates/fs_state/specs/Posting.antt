@@ -90,6 +90,7 @@ bridge_headers before s row =
 abbrev pub cause_header : Cause → Pairs
 cause_header cause = (codes "Hangup-Cause", cause_name cause) ∷ []
 
+-- why a channel was hung up, where it was
 abbrev pub cause_headers : Option Cause → Pairs
 cause_headers None = []
 cause_headers (Some cause) = cause_header cause
@@ -98,9 +99,11 @@ cause_headers (Some cause) = cause_header cause
 abbrev pub variable_name : Text → Text
 variable_name name = codes "variable_" ++ escape name
 
+-- the header of a variable
 abbrev pub variable_header : Text × Text → Text × Text
 variable_header pair = (variable_name pair.0, pair.1)
 
+-- the headers of all variables, in order
 abbrev pub variable_headers : Variables → Pairs
 variable_headers vars = map variable_header vars.pairs
 
@@ -174,6 +177,7 @@ posts_at before s row = posts_of row.number (take (room_behind (outgoing_for bef
 abbrev pub lost_at : Switch → Switch → Numbered Conn → ℕ
 lost_at before s row = length (wanted_at before s row) - room_behind (outgoing_for before row.number)
 
+-- what is posted to the connections at these places
 abbrev pub posts_from : Switch → Switch → List (Option (Numbered Conn)) → List Gift
 posts_from before s [] = []
 posts_from before s (None ∷ conns) = posts_from before s conns
@@ -183,6 +187,7 @@ posts_from before s (Some row ∷ conns) = posts_at before s row ++ posts_from b
 abbrev pub with_loss_of : ℕ → ℕ → Losses → Losses
 with_loss_of conn lost losses = if lost == 0 then losses else with_loss conn lost losses
 
+-- with what the connections at these places lose
 abbrev pub losses_from : Switch → Switch → List (Option (Numbered Conn)) → Losses → Losses
 losses_from before s [] losses = losses
 losses_from before s (None ∷ conns) losses = losses_from before s conns losses

@@ -100,9 +100,11 @@ identifier_of s = core_id.uuid s.config.settings.core_uuid s.drawn.identifiers
 
 -- ---- what is there
 
+-- the channel in a slot
 abbrev pub chan_at : Switch → ℕ → Option Chan
 chan_at s slot = held_in s.channels slot
 
+-- with this channel in a slot, or none
 abbrev pub with_chan : ℕ → Option Chan → Switch → Switch
 with_chan slot chan s = record s { channels = with_held s.channels slot chan }
 
@@ -144,12 +146,15 @@ with_bridge caller answerer kind s = record s { bridges = joined caller answerer
 abbrev pub without_bridge : ℕ → Switch → Switch
 without_bridge number s = record s { bridges = unbridged number s.bridges }
 
+-- the origination of a number
 abbrev pub orig_of : Switch → ℕ → Option Orig
 orig_of s number = row_of s.origs number
 
+-- with another origination in the place of the one of a number
 abbrev pub with_orig : ℕ → Orig → Switch → Switch
 with_orig number orig s = record s { origs = with_row s.origs number orig }
 
+-- without the origination of a number
 abbrev pub without_orig : ℕ → Switch → Switch
 without_orig number s = record s { origs = without_row s.origs number }
 
@@ -157,9 +162,11 @@ without_orig number s = record s { origs = without_row s.origs number }
 abbrev pub with_new_orig : Orig → Switch → Switch
 with_new_orig orig s = record s { drawn = numbers.with_orig s.drawn; origs = with_new_row s.origs (next_orig_number s) orig }
 
+-- the job of a number
 abbrev pub job_of : Switch → ℕ → Option Job
 job_of s number = row_of s.jobs number
 
+-- without the job of a number
 abbrev pub without_job : ℕ → Switch → Switch
 without_job number s = record s { jobs = without_row s.jobs number }
 
@@ -175,9 +182,11 @@ job_at s place = held_in s.jobs place
 abbrev pub is_full_of_jobs : Switch → Bool
 is_full_of_jobs s = is_none (least_free s.jobs 0)
 
+-- the connection of a number
 abbrev pub conn_of : Switch → ℕ → Option Conn
 conn_of s number = row_of s.conns number
 
+-- with another connection in the place of the one of a number
 abbrev pub with_conn : ℕ → Conn → Switch → Switch
 with_conn number conn s = record s { conns = with_row s.conns number conn }
 

@@ -30,6 +30,7 @@ pub enum Parting {
 /// A connection of the event socket.
 #[derive(Drop)]
 pub struct Conn {
+    /// How far it has come.
     pub phase: Phase,
     /// The place of the command to which it is still owed the reply.
     pub owed: Option<u64>,

@@ -18,6 +18,7 @@ use fs_vars::Vars;
 /// What an entry does to the frames that wait.
 #[derive(Clone, Copy, Debug, PartialEq, Eq)]
 pub enum QueueChange {
+    /// They stay as they are.
     Unchanged,
     /// The first frame of the connection at this place is taken.
     Taken { place: usize },
@@ -29,13 +30,19 @@ pub enum QueueChange {
 pub struct Delta {
     /// The globals, where they change.
     pub globals: Option<Boxed<Vars>>,
+    /// The channels that change, by their slots.
     pub channels: Sheet<Boxed<Chan>>,
     /// The bridges, where they change.
     pub bridges: Option<Bridges>,
+    /// The originations that change, by their places.
     pub origs: Sheet<Numbered<Orig>>,
+    /// The jobs that change, by their places.
     pub jobs: Sheet<Numbered<Job>>,
+    /// The connections that change, by their places.
     pub conns: Sheet<Numbered<Conn>>,
+    /// What becomes of the frames that wait.
     pub queue: QueueChange,
+    /// The last numbers that were drawn.
     pub drawn: Drawn,
     /// The moment of the entry, in microseconds.
     pub moment: u64,

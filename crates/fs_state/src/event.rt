@@ -9,9 +9,11 @@ use std::marker::Model;
 
 /// Something that happened in an entry, told in short: what the entry leaves says the rest.
 pub struct Event {
+    /// Which event it is.
     pub name: EventName,
     /// The slot of the channel that it tells of, which is the caller's where it tells of a bridge.
     pub slot: u16,
+    /// What it tells beside the channel.
     pub detail: Detail,
 }
 

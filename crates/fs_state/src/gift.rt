@@ -13,6 +13,7 @@ use std::marker::Model;
 pub struct Gift {
     /// The number of the connection.
     pub conn: u64,
+    /// The frames, in order.
     pub frames: Frames,
 }
 

@@ -8,6 +8,7 @@ use fs_text::Memory;
 pub struct Job {
     /// The number of the connection that is owed the reply.
     pub conn: u32,
+    /// What it waits for.
     pub work: JobWork,
 }
 

@@ -28,7 +28,7 @@ use Rattle.fs_top.specs.Told.{status_of_end, usage_line, cannot_read_line, fault
 use Rattle.fs_top.specs.declared.outcome.Outcome.{Outcome}
 use Rattle.fs_top.specs.declared.outcome.Outcome.TheVariants.{Usage, CannotRead, BadDocument, BadPattern, Printed, Ended}
 
--- the line of an outcome, and its status
+-- the line of an outcome
 abbrev pub line_of_outcome : Outcome → List ℕ
 line_of_outcome Usage = usage_line
 line_of_outcome (CannotRead name) = cannot_read_line name.now
@@ -37,6 +37,7 @@ line_of_outcome (BadPattern fault) = pattern_line fault
 line_of_outcome Printed = []
 line_of_outcome (Ended end) = line_of_end end
 
+-- the status of an outcome
 abbrev pub status_of_outcome : Outcome → ℕ
 status_of_outcome Usage = 2
 status_of_outcome (CannotRead name) = 4

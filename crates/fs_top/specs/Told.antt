@@ -54,9 +54,11 @@ file_asked (Check file) = file
 file_asked (Hunt file context dest) = file
 file_asked (Play file) = file
 
+-- how the words of the command line are to be written
 unfoldable pub usage_line : List ℕ
 usage_line = codes "usage: fsw check FILE | hunt FILE CONTEXT DEST | play FILE | load COUNT START | serve FILE\n"
 
+-- the file of this name cannot be read
 unfoldable pub cannot_read_line : List ℕ → List ℕ
 cannot_read_line name = codes "fsw: cannot read " ++ (name ++ codes "\n")
 
@@ -69,16 +71,20 @@ unfoldable pub pattern_refused_line : ℕ → ℕ → List ℕ
 pattern_refused_line extension condition =
     codes "fsw: pattern refused in extension " ++ (decimal extension ++ (codes " condition " ++ (decimal condition ++ codes "\n")))
 
+-- the pattern that was too large, by the numbers of its extension and condition
 unfoldable pub pattern_too_large_line : ℕ → ℕ → List ℕ
 pattern_too_large_line extension condition =
     codes "fsw: pattern too large in extension " ++ (decimal extension ++ (codes " condition " ++ (decimal condition ++ codes "\n")))
 
+-- a read of the link failed
 unfoldable pub read_fault_line : List ℕ
 read_fault_line = codes "fsw: read fault\n"
 
+-- so many bytes have no block in front of them, and are more than a block may have
 unfoldable pub too_long_line : ℕ → List ℕ
 too_long_line len = codes "fsw: block too long " ++ decimal len ++ codes "\n"
 
+-- the journal has no room for a further entry: its cost, and its limit
 unfoldable pub journal_full_line : ℕ → ℕ → List ℕ
 journal_full_line cost limit = codes "fsw: journal full " ++ (decimal cost ++ (codes " " ++ (decimal limit ++ codes "\n")))
 
@@ -86,9 +92,11 @@ journal_full_line cost limit = codes "fsw: journal full " ++ (decimal cost ++ (c
 unfoldable pub runaway_line : ℕ → List ℕ
 runaway_line count = codes "fsw: runaway " ++ (decimal count ++ codes "\n")
 
+-- a write failed
 unfoldable pub write_fault_line : List ℕ
 write_fault_line = codes "fsw: write fault\n"
 
+-- memory was wanting
 unfoldable pub memory_line : List ℕ
 memory_line = codes "fsw: out of memory\n"
 
@@ -102,7 +110,7 @@ pattern_line (PatternRefused extension condition) = pattern_refused_line extensi
 pattern_line (PatternTooLarge extension condition) = pattern_too_large_line extension condition
 pattern_line Memory = memory_line
 
--- the line of an end, and its status
+-- the line of an end
 abbrev pub line_of_end : End → List ℕ
 line_of_end ends.Exit = []
 line_of_end ends.Eof = []
@@ -114,6 +122,7 @@ line_of_end (ends.JournalFull cost limit) = journal_full_line cost limit
 line_of_end ends.Memory = memory_line
 line_of_end (ends.Runaway count) = runaway_line count
 
+-- the status of an end
 abbrev pub status_of_end : End → ℕ
 status_of_end ends.Exit = 0
 status_of_end ends.Eof = 0
@@ -178,5 +187,6 @@ abbrev pub told_words : Option Asked → Load → Option PlanFault → List ℕ 
 told_words None file built input read_failed = refused usage_line 2
 told_words (Some asked) file built input read_failed = told_file asked file built input read_failed
 
+-- what the program answers to these words, over what the file gives, a refused pattern or none, and these bytes of the link
 abbrev pub told_run : List (List ℕ) → Load → Option PlanFault → List ℕ → Bool → Told
 told_run words file built input read_failed = told_words (asked_by words) file built input read_failed

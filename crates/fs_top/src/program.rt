@@ -27,6 +27,7 @@ use std::alloc::Global;
 /// The status that the program ends with.
 #[derive(Clone, Copy, Debug, PartialEq, Eq)]
 pub struct Status {
+    /// The number: 0 where no error is told, else from 1 to 10.
     pub code: u8,
 }
 

@@ -14,7 +14,12 @@ use fs_text::Memory;
 
 /// Subscribes events by their names.
 #[tactic(auto, unfolding(fs_cmd::specs::Frames::format_unsupported))]
-pub(crate) fn subscribe(draft: &mut Draft<'_>, conn: u32, form: Form, names: &[u8]) -> Result<(), Memory>
+pub(crate) fn subscribe(
+    draft: &mut Draft<'_>,
+    conn: u32,
+    form: Form,
+    names: &[u8],
+) -> Result<(), Memory>
     ensures { Brings result draft.old draft.new (spec.after_subscribing conn form names.now (drafted draft.old)) }
 {
     match form {
@@ -31,7 +36,11 @@ fn subscribe_plain(draft: &mut Draft<'_>, conn: u32, names: &[u8]) -> Result<(),
     let mut subs = copy_subs(draft, conn)?;
     let known = subs.subscribe(draft.alloc(), names)?;
     put_subs(draft, conn, subs)?;
-    give_reply(draft, conn, text_if(known, b"+OK event listener enabled plain"))
+    give_reply(
+        draft,
+        conn,
+        text_if(known, b"+OK event listener enabled plain"),
+    )
 }
 
 /// Takes events out again by their names.
@@ -46,7 +55,11 @@ pub(crate) fn unsubscribe(draft: &mut Draft<'_>, conn: u32, names: &[u8]) -> Res
 
 // A reply, or that no known name was named.
 fn text_if<'a>(known: bool, text: &'a [u8]) -> &'a [u8] {
-    if known { text } else { b"-ERR no keywords supplied" }
+    if known {
+        text
+    } else {
+        b"-ERR no keywords supplied"
+    }
 }
 
 /// Tells a connection of no further event; its filters stay.
@@ -63,7 +76,12 @@ pub(crate) fn fall_silent(draft: &mut Draft<'_>, conn: u32) -> Result<(), Memory
 }
 
 /// Adds a filter.
-pub(crate) fn add_filter(draft: &mut Draft<'_>, conn: u32, header: &[u8], value: &[u8]) -> Result<(), Memory>
+pub(crate) fn add_filter(
+    draft: &mut Draft<'_>,
+    conn: u32,
+    header: &[u8],
+    value: &[u8],
+) -> Result<(), Memory>
     ensures { Brings result draft.old draft.new
         (spec.after_asking conn (spec.with_filter_added header.now value.now)
         (filter_added header.now value.now) (drafted draft.old)) }

@@ -215,9 +215,11 @@ module _ (kind : BridgeKind) (caller answerer : ℕ) (c d : Chan) (s : Switch) (
   -- one of them comes into media
   pub media_bonds : c.leg_of ≡ None → Bonds s → Bonds (after_move in_media answerer (joined_as kind caller answerer s))
   media_bonds lone h =
-      subst (λ (t : Switch). Bonds (after_move in_media answerer (with_event (bridge_event (next_row caller answerer kind s.bridges)) t))) (sym joined_there)
+      subst (λ (t : Switch). Bonds (after_move in_media answerer (with_event (bridge_event (next_row caller answerer kind s.bridges)) t)))
+      (sym joined_there)
       (subst (λ (found : Option Chan). Bonds (after_move_from in_media answerer found w)) (sym stands)
-      (state_told_kept (λ (t : Switch). Bonds t) (λ event t k. k) e.state (in_media e).state answerer {s = with_chan answerer (Some (in_media e)) w}
+      (state_told_kept (λ (t : Switch). Bonds t) (λ event t k. k) e.state (in_media e).state answerer
+      {s = with_chan answerer (Some (in_media e)) w}
       (subst (λ (all : Channels). BondsIn all (joined caller answerer kind s.bridges))
       (sym (set-set (with_held s.channels caller (Some (bridged (peer_of answerer d) c))) answerer (Some e) (Some (in_media e))))
       (joined_tables s.channels s.bridges kind caller answerer c d (in_media e) calls answers differ first_none second_none live

@@ -37,8 +37,8 @@ use Rattle.fs_state.specs.declared.job.JobWork.TheVariants.{Sleep, Originate}
 use Rattle.fs_state.specs.Counts.{Tallies}
 use Rattle.fs_state.specs.Switch.{Switch, chan_at, with_chan, with_bridge, conn_of, orig_of, next_orig_number}
 use Rattle.fs_state.specs.Switch.{next_job_number, with_new_job, without_job, without_orig, with_event}
-use Rattle.fs_state.specs.Moves.{application_event, running_at, with_changed_chan, after_move, orig_changed_from, orig_changed, leg_changed, is_owner}
-use Rattle.fs_state.specs.Moves.{given_up_by, orig_given_up}
+use Rattle.fs_state.specs.Moves.{application_event, running_at, with_changed_chan, after_move, orig_changed_from, orig_changed, leg_changed}
+use Rattle.fs_state.specs.Moves.{is_owner, given_up_by, orig_given_up}
 use Rattle.fs_state.specs.Hangups.{lives, lives_at, after_hangups}
 use Rattle.fs_state.specs.Bridging.{bridge_event, peer_of, with_peer_from, with_peer, joined_as}
 use Rattle.fs_machine.specs.Texts.{made_text, failed_text}

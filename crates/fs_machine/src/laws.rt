@@ -1,9 +1,9 @@
 //! What holds of every run. These functions do nothing: each stands for its contract.
 
 ghost use Rattle.std.specs.Prelude.{◌≡◌, ◌≢◌, ℕ, true, false, List, [], ◌∷◌, ◌++◌};
+ghost use Rattle.fs_text.specs.Texts.{Text};
 ghost use Rattle.fs_doc.specs.Limits.{IsWithin};
 ghost use Rattle.fs_doc.specs.Reading.{Configuration};
-ghost use Rattle.fs_state.specs.Queues.{Frames};
 ghost use Rattle.fs_state.specs.Switch.{waiting_for};
 ghost use Rattle.fs_machine.specs.declared.due.DueActor.TheVariants as actor;
 ghost use Rattle.fs_machine.specs.declared.entry.Entry.{Entry};
@@ -21,7 +21,7 @@ ghost use Rattle.fs_machine.specs.Sound.{PartnersAgree, IdentifiersDiffer};
 pub fn hands_out_what_it_gives()
     ensures first { (config : Configuration) (entries : List Entry) (conn : ℕ) → IsLimited config
         → IsRun config entries
-        → (more : Frames) × (given_to conn config entries ≡ handed_to conn config entries ++ more) }
+        → (more : List Text) × (given_to conn config entries ≡ handed_to conn config entries ++ more) }
     ensures waiting { (config : Configuration) (entries : List Entry) (conn : ℕ) → IsLimited config
         → IsRun config entries → is_closed (phase_at (state_after config entries) conn) ≡ false
         → given_to conn config entries

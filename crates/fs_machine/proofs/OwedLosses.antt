@@ -191,7 +191,7 @@ given_up_loses slot (Some number) s = by (orig_of s number) refl
 
 touches_lose : (s : Switch) → KeptByTouches (λ b t. Loses s t)
 touches_lose s = record {
-  told = λ event {s = t} h. on s t (with_event event t) refl refl refl h;
+  told = λ event {s = t} plain h. on s t (with_event event t) refl refl refl h;
   globals = λ globals {s = t} h. on s t (record t { globals = globals }) refl refl refl h;
   changed = λ slot old new {s = t} there stays h. on s t (with_chan slot (Some new) t) refl refl refl h;
   answers = λ place slot number {s = t} h.
@@ -281,7 +281,7 @@ pub calls_by_losses : (P : Fact) → ((b : Stage) (t u : Switch) → P b t → L
     ((t : Switch) → P (Some 0) t → P (Some 1) t) → KeptByCalls P
 calls_by_losses P loses more = record {
   touches = record {
-    told = λ event {b = b} {s = s} h. loses b s (with_event event s) h (loses_none s (with_event event s) refl refl refl);
+    told = λ event {b = b} {s = s} plain h. loses b s (with_event event s) h (loses_none s (with_event event s) refl refl refl);
     globals = λ globals {b = b} {s = s} h.
         loses b s (record s { globals = globals }) h (loses_none s (record s { globals = globals }) refl refl refl);
     changed = λ slot old new {b = b} {s = s} there stays h.

@@ -19,17 +19,19 @@ abbrev pub tells_end : ℕ → Detail → Bool
 tells_end number (Unbridge row cause) = has_number number row
 tells_end number _ = false
 
--- an event tells that it begins, and that it has ended
+-- an event tells that it begins
 abbrev pub begins : ℕ → Event → Bool
 begins number event = tells_begin number event.detail
 
+-- an event tells that it has ended
 abbrev pub ends : ℕ → Event → Bool
 ends number event = tells_end number event.detail
 
--- how many events do
+-- how many events tell that it begins
 abbrev pub begun : ℕ → List Event → ℕ
 begun number events = count_by (begins number) events
 
+-- how many tell that it has ended
 abbrev pub ended : ℕ → List Event → ℕ
 ended number events = count_by (ends number) events
 

@@ -32,7 +32,7 @@ pub(crate) fn say<E: Sink>(err: &mut E, outcome: Outcome<'_>) -> Sent
 }
 
 // Prints the line of an end, if it has one.
-#[tactic(auto, unfolding(crate::specs::Told::read_fault_line, crate::specs::Told::write_fault_line))]
+#[tactic(auto, unfolding(crate::specs::Told::read_fault_line, crate::specs::Told::write_fault_line, crate::specs::Told::bad_length_line))]
 fn say_end<E: Sink>(err: &mut E, end: End) -> Sent
     ensures { SendDid (E.output err.old) (E.output err.new) result (spec.line_of_end end) }
 {
@@ -40,6 +40,7 @@ fn say_end<E: Sink>(err: &mut E, end: End) -> Sent
         End::Exit | End::AuthRefused | End::Eof => send_all(err, b""),
         End::ReadFault => send_all(err, b"fsw: read fault\n"),
         End::TooLong { len } => say_too_long(err, len),
+        End::BadLength => send_all(err, b"fsw: bad length\n"),
         End::JournalFull { cost, limit } => say_journal_full(err, cost, limit),
         End::Runaway { count } => say_runaway(err, count),
         End::Memory => say_memory(err),
@@ -131,7 +132,7 @@ fn say_cannot_read<E: Sink>(err: &mut E, name: &[u8]) -> Sent
     send_parts(err, &[b"fsw: cannot read ", name, b"\n"])
 }
 
-// Prints that a block is too long, of which so many bytes were looked at.
+// Prints that a block is too long: its length, or how many of its bytes were looked at.
 #[tactic(auto, unfolding(crate::specs::Told::too_long_line))]
 fn say_too_long<E: Sink>(err: &mut E, len: u64) -> Sent
     ensures { SendDid (E.output err.old) (E.output err.new) result (spec.too_long_line len) }

@@ -26,7 +26,8 @@ use Rattle.fs_machine.proofs.FramesLaws.{config_run}
 use Rattle.fs_machine.proofs.FrameLemmas.{command_refused}
 use Rattle.fs_machine.proofs.RefusalLemmas.{full_refused}
 use Rattle.fs_conn.specs.declared.end.End.{End}
-use Rattle.fs_conn.specs.declared.end.End.TheVariants.{Exit, AuthRefused, Eof, ReadFault, WriteFault, TooLong, BadLength, JournalFull, Memory, Runaway}
+use Rattle.fs_conn.specs.declared.end.End.TheVariants.{Exit, AuthRefused, Eof, ReadFault, WriteFault, TooLong, BadLength, JournalFull}
+use Rattle.fs_conn.specs.declared.end.End.TheVariants.{Memory, Runaway}
 use Rattle.fs_conn.specs.Play.{Play, switch_of, bytes_handed, is_over, with_end, after_judging, after_trying_act, after_following}
 use Rattle.fs_conn.specs.Play.{after_act, reads_on, takes_commands, after_command, after_commands, after_opening, after_conversing}
 use Rattle.fs_conn.specs.Play.{after_closing, end_by, farewell, end_behind, played, played_as}
@@ -163,7 +164,8 @@ early_closed config input =
 -- ---- the cause of each end
 
 -- an end before that of the connection has its cause
-early_cause : (end : End) (s : Switch) (fault : Option Fault) (read_failed : Bool) → EndsEarly (Some end) s → HasCause end s fault read_failed
+early_cause : (end : End) (s : Switch) (fault : Option Fault) (read_failed : Bool) → EndsEarly (Some end) s →
+    HasCause end s fault read_failed
 early_cause Exit s fault read_failed early = absurd early
 early_cause AuthRefused s fault read_failed early = absurd early
 early_cause Eof s fault read_failed early = absurd early

@@ -643,8 +643,8 @@ cause_bad_block asked next_load counts0 counts1 sizes0 sizes1 in0 in1 out0 out1 
     (p.c, p.has, bad_block_play p.c in0 in1 runs.answers.input runs.answers.read_failed runs.answers.has_read ended)
 
 -- no play is told to end by a write that failed
-unwritten_end : (end : End) (s : Switch) (fault : Option Fault) (read_failed : Bool) → status_of_end end ≡ 5 → HasCause end s fault read_failed →
-    ⊥
+unwritten_end : (end : End) (s : Switch) (fault : Option Fault) (read_failed : Bool) → status_of_end end ≡ 5 →
+    HasCause end s fault read_failed → ⊥
 unwritten_end ends.Exit s fault read_failed five cause = cc
 unwritten_end ends.Eof s fault read_failed five cause = cc
 unwritten_end ends.AuthRefused s fault read_failed five cause = cc

@@ -32,7 +32,7 @@ pub(crate) fn say<E: Sink>(err: &mut E, outcome: Outcome<'_>) -> Sent
 }
 
 // Prints the line of an end, if it has one.
-#[tactic(auto, unfolding(crate::specs::Told::read_fault_line, crate::specs::Told::write_fault_line, crate::specs::Told::bad_length_line))]
+#[tactic(auto, unfolding(crate::specs::Told::read_fault_line, crate::specs::Told::write_fault_line))]
 fn say_end<E: Sink>(err: &mut E, end: End) -> Sent
     ensures { SendDid (E.output err.old) (E.output err.new) result (spec.line_of_end end) }
 {
@@ -40,7 +40,7 @@ fn say_end<E: Sink>(err: &mut E, end: End) -> Sent
         End::Exit | End::AuthRefused | End::Eof => send_all(err, b""),
         End::ReadFault => send_all(err, b"fsw: read fault\n"),
         End::TooLong { len } => say_too_long(err, len),
-        End::BadLength => send_all(err, b"fsw: bad length\n"),
+        End::BadLength => say_bad_length(err),
         End::JournalFull { cost, limit } => say_journal_full(err, cost, limit),
         End::Runaway { count } => say_runaway(err, count),
         End::Memory => say_memory(err),
@@ -146,6 +146,14 @@ fn say_too_long<E: Sink>(err: &mut E, len: u64) -> Sent
             b"\n",
         ],
     )
+}
+
+// Prints that the length of a block is malformed.
+#[tactic(auto, unfolding(crate::specs::Told::bad_length_line))]
+fn say_bad_length<E: Sink>(err: &mut E) -> Sent
+    ensures { SendDid (E.output err.old) (E.output err.new) result spec.bad_length_line }
+{
+    send_all(err, b"fsw: bad length\n")
 }
 
 // Prints that the journal is full at this cost and limit.

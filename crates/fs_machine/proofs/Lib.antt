@@ -78,3 +78,4 @@ pub mod CutLemmas
 pub mod AwaitedTables
 pub mod AwaitedLemmas
 pub mod AwaitedMoves
+pub mod AskingLemmas

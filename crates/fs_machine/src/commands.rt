@@ -12,7 +12,9 @@ ghost use Rattle.fs_machine.specs.Commands as spec;
 
 use crate::api::run_api;
 use crate::connections::{admit, part, phase_at};
-use crate::subscribing::{add_filter, delete_filters, fall_silent, refuse_filter, subscribe, unsubscribe};
+use crate::subscribing::{
+    add_filter, delete_filters, fall_silent, refuse_filter, subscribe, unsubscribe,
+};
 use fs_api::{Api, echoed};
 use fs_cmd::{Command, api_reply, notice, reply};
 use fs_state::{Draft, Parting, Phase};

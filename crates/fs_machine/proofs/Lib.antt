@@ -78,4 +78,3 @@ pub mod CutLemmas
 pub mod AwaitedTables
 pub mod AwaitedLemmas
 pub mod AwaitedMoves
-pub mod AskingLemmas

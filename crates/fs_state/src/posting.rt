@@ -4,7 +4,7 @@ ghost use Rattle.fs_filter.specs.Subscriptions.{wants};
 ghost use Rattle.fs_places.specs.Places.{held_in};
 ghost use Rattle.fs_places.specs.Rows.{place_of};
 ghost use Rattle.fs_state.specs.Drafts.{drafted, Brings, with_losses_in};
-ghost use Rattle.fs_state.specs.Losses.{Losses};
+ghost use Rattle.fs_state.specs.Losses.{Losses, with_loss};
 ghost use Rattle.fs_state.specs.Posting as spec;
 
 use crate::conn::Conn;
@@ -30,6 +30,7 @@ impl<'a> Draft<'a> {
     ///
     /// Where nobody has subscribed anything no memory is taken. A text is formed once, and only where it is wanted.
 
+    #[tactic(auto, using(crate::proofs::PostLemmas::all_posted))]
     pub fn post(&mut self) -> Result<(), Memory>
         ensures { Brings result self.old self.new (spec.with_posts self.old.base (drafted self.old)) }
     {
@@ -42,6 +43,7 @@ impl<'a> Draft<'a> {
 
     /// What the events of the entry tell that some connection wants.
 
+    #[tactic(auto, using(crate::proofs::PostLemmas::untold_rules))]
     fn told(&self) -> Result<Vec<Post>, Memory>
         ensures { IfOk result (λ told. told.items ≡ spec.told self.now.base (drafted self.now)) }
     {
@@ -71,6 +73,7 @@ impl<'a> Draft<'a> {
 
     /// What an event tells, where it has this number and some connection wants it.
 
+    #[tactic(auto, using(crate::proofs::PostLemmas::tell_rules))]
     fn tell_wanted(&self, number: u64, event: &Event) -> Result<Option<Post>, Memory>
         ensures { IfOk result
             (λ post. post ≡ spec.told_of self.now.base (drafted self.now) number event.now) }
@@ -90,6 +93,7 @@ impl<'a> Draft<'a> {
 
     /// The connections that were there before the entry are posted what they want of these, one after another.
 
+    #[tactic(auto, using(crate::proofs::PostLemmas::over_rules))]
     fn post_all(&mut self, told: &[Post]) -> Result<(), Memory>
         ensures { Brings result self.old self.new
             (spec.posted_over self.old.base told.now self.old.base.conns (drafted self.old)) }
@@ -118,6 +122,7 @@ impl<'a> Draft<'a> {
 
     /// A connection is posted what it wants of these, as far as there is room, and loses the rest.
 
+    #[tactic(auto, using(crate::proofs::PostLemmas::post_rules))]
     fn post_to(&mut self, row: &Numbered<Conn>, told: &[Post]) -> Result<(), Memory>
         ensures { Brings result self.old self.new
             (spec.posted_to self.old.base told.now row.now (drafted self.old)) }
@@ -167,9 +172,17 @@ impl<'a> Draft<'a> {
         if events == 0 {
             return Ok(());
         }
+        self.add_loss(conn, events)
+    }
+
+    /// It loses so many more.
+    fn add_loss(&mut self, conn: u64, events: u64) -> Result<(), Memory>
+        ensures { Brings result self.old self.new
+            (with_losses_in self.old (with_loss conn events (drafted self.old).losses)) }
+    {
         let mut losses = self.own_losses()?;
         losses.add(conn, events)?;
-        self.losses = Some(losses);
+        self.put_losses(losses);
         Ok(())
     }
 
@@ -185,6 +198,14 @@ impl<'a> Draft<'a> {
             Some(losses) => Ok(losses),
             None => core.losses.copy(),
         }
+    }
+
+    /// There are other losses.
+    fn put_losses(&mut self, losses: Losses)
+        ensures base { self.new.base ≡ self.old.base }
+        ensures put { drafted self.new ≡ with_losses_in self.old losses }
+    {
+        self.losses = Some(losses);
     }
 }
 
@@ -262,6 +283,7 @@ impl Core {
 
 /// The frames of the events that a connection wants of these, as many as there is room for.
 
+#[tactic(auto, using(crate::proofs::PostLemmas::within_rules))]
 fn frames_within(
     alloc: Global,
     subs: &SharedSubs,
@@ -282,6 +304,7 @@ fn frames_within(
 
 /// How many events that a connection wants there are behind those for which there is room.
 
+#[tactic(auto, using(crate::proofs::PostLemmas::count_rules))]
 fn lost_behind(subs: &SharedSubs, told: &[Post], room: usize) -> u64
     ensures { result ≡ length (spec.wanted_by subs.now told.now) - room }
 {

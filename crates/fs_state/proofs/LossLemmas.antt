@@ -61,7 +61,7 @@ with_first_from conn more (loss ∷ losses) i none = by (is_of conn loss) refl (
   where
     by : (b : Bool) → is_of conn loss ≡ b →
         (position_from (is_of conn) (i + 1) losses ≡ None →
-            with_loss conn more losses ≡ losses ++ record { conn = conn; events = more } ∷ []) →
+        with_loss conn more losses ≡ losses ++ record { conn = conn; events = more } ∷ []) →
         cond b (Some i) (position_from (is_of conn) (i + 1) losses) ≡ None →
         with_loss conn more (loss ∷ losses) ≡ loss ∷ (losses ++ record { conn = conn; events = more } ∷ [])
     by true is later e = absurd (cc)

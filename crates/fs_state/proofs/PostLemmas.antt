@@ -1,6 +1,7 @@
 -- What an entry posts of its events, as a draft forms it: what nobody wants is left out, and connections are gone through one by one.
-use Rattle.std.proofs.Common.{◌≡◌, ℕ, suc, ◌+◌, ◌-◌, ◌^◌, ◌<◌, ◌≤◌, ◌==◌, min, Bool, true, false, ◌&&◌, ◌||◌, cond, if◌then◌else◌, List, [], ◌∷◌, ◌++◌}
-use Rattle.std.proofs.Common.{length, map, take, drop, get_or, Option, None, Some, refl, sym, ap, subst, ◌∙◌, append_assoc, append-nil, arith}
+use Rattle.std.proofs.Common.{◌≡◌, ℕ, suc, ◌+◌, ◌-◌, ◌^◌, ◌<◌, ◌≤◌, ◌==◌, min, Bool, true, false, ◌&&◌, ◌||◌, cond, if◌then◌else◌, List}
+use Rattle.std.proofs.Common.{[], ◌∷◌, ◌++◌, length, map, take, drop, get_or, Option, None, Some, refl, sym, ap, subst, ◌∙◌}
+use Rattle.std.proofs.Common.{append_assoc, append-nil, arith}
 use Rattle.std.specs.Prelude.{is_some, filter, count_by}
 use Rattle.std.proofs.Math.Seq.{take-nil, take-length}
 use Rattle.std.proofs.lemmas.Bool.{true≢false, eqb-true}
@@ -74,8 +75,6 @@ told_wanted before s number event telling is wanted =
     ap (λ (t : Telling). Some t) is
     ∙ sym (ap (λ b. if b then Some (telling_of before s number event) else None) (ap (is_wanted before.conns) (sym is) ∙ wanted))
 
-pub ruleset tell_rules = (untold_unheard, told_wanted)
-
 -- where nobody hears anything none is
 deaf_filter : (conns : Places) (all : List Telling) → AreDeaf conns → filter (is_wanted conns) all ≡ []
 deaf_filter conns [] deaf = refl
@@ -100,8 +99,6 @@ quiet_told before s none = ap (λ events. filter (is_wanted before.conns) (telli
 
 pub untold_quiet : (before s : Switch) → (length s.news == 0) ≡ true → told before s ≡ []
 untold_quiet before s none = quiet_told before s (none_there s.news none)
-
-pub ruleset untold_rules = (untold_deaf, untold_quiet)
 
 -- ---- what is told, event by event
 
@@ -227,8 +224,6 @@ frame_unwanted room i subs all frames d within is unwanted =
     ∙ ap (λ b. wanted_by subs (take i all) ++ cond b (frame (get_or all i d) ∷ []) []) unwanted
     ∙ append-nil (wanted_by subs (take i all))))
 
-pub ruleset within_rules = (frame_taken, frame_lost, frame_unwanted)
-
 -- how many are wanted
 pub wanted_count : (subs : Subscription) (all : List Telling) → length (wanted_by subs all) ≡ count_by (wants subs) all
 wanted_count subs all = length-map (filter (wants subs) all) frame ∙ length-filter (wants subs) all
@@ -290,8 +285,6 @@ posted_there before all row s there =
     ap (λ b. let texts = if b then wanted_by row.held.subs all else [] in
     with_lost row.number (length texts - room_for before row.number)
     (with_post row.number (frames_within (room_for before row.number) texts) s)) there
-
-pub ruleset post_rules = (posted_deaf, posted_gone, posted_there)
 
 -- ---- one connection after another
 

@@ -29,8 +29,6 @@ impl<'a> Draft<'a> {
     /// that it wanted before, as far as there is room; the rest is lost, and counted.
     ///
     /// Where nobody has subscribed anything no memory is taken. A text is formed once, and only where it is wanted.
-
-    #[tactic(auto, using(crate::proofs::PostLemmas::all_posted))]
     pub fn post(&mut self) -> Result<(), Memory>
         ensures { Brings result self.old self.new (spec.with_posts self.old.base (drafted self.old)) }
     {
@@ -42,8 +40,6 @@ impl<'a> Draft<'a> {
     // ---- what is told
 
     /// What the events of the entry tell that some connection wants.
-
-    #[tactic(auto, using(crate::proofs::PostLemmas::untold_rules))]
     fn told(&self) -> Result<Vec<Post>, Memory>
         ensures { IfOk result (λ told. told.items ≡ spec.told self.now.base (drafted self.now)) }
     {
@@ -72,8 +68,7 @@ impl<'a> Draft<'a> {
     }
 
     /// What an event tells, where it has this number and some connection wants it.
-
-    #[tactic(auto, using(crate::proofs::PostLemmas::tell_rules))]
+    #[tactic(auto, using(crate::proofs::PostLemmas::untold_unheard))]
     fn tell_wanted(&self, number: u64, event: &Event) -> Result<Option<Post>, Memory>
         ensures { IfOk result
             (λ post. post ≡ spec.told_of self.now.base (drafted self.now) number event.now) }
@@ -92,7 +87,6 @@ impl<'a> Draft<'a> {
     // ---- who is told
 
     /// The connections that were there before the entry are posted what they want of these, one after another.
-
     #[tactic(auto, using(crate::proofs::PostLemmas::over_rules))]
     fn post_all(&mut self, told: &[Post]) -> Result<(), Memory>
         ensures { Brings result self.old self.new
@@ -121,8 +115,7 @@ impl<'a> Draft<'a> {
     }
 
     /// A connection is posted what it wants of these, as far as there is room, and loses the rest.
-
-    #[tactic(auto, using(crate::proofs::PostLemmas::post_rules))]
+    #[tactic(auto, using(crate::proofs::PostLemmas::posted_there))]
     fn post_to(&mut self, row: &Numbered<Conn>, told: &[Post]) -> Result<(), Memory>
         ensures { Brings result self.old self.new
             (spec.posted_to self.old.base told.now row.now (drafted self.old)) }
@@ -211,7 +204,6 @@ impl<'a> Draft<'a> {
 
 impl Core {
     /// Whether no connection has subscribed anything, as far as that is seen at once.
-    #[tactic(auto, using(fs_places::proofs::PlaceLemmas::filled_rules))]
     fn is_deaf(&self) -> bool
         ensures { result ≡ true → spec.AreDeaf self.now.conns }
     {
@@ -282,8 +274,6 @@ impl Core {
 }
 
 /// The frames of the events that a connection wants of these, as many as there is room for.
-
-#[tactic(auto, using(crate::proofs::PostLemmas::within_rules))]
 fn frames_within(
     alloc: Global,
     subs: &SharedSubs,
@@ -303,7 +293,6 @@ fn frames_within(
 }
 
 /// How many events that a connection wants there are behind those for which there is room.
-
 #[tactic(auto, using(crate::proofs::PostLemmas::count_rules))]
 fn lost_behind(subs: &SharedSubs, told: &[Post], room: usize) -> u64
     ensures { result ≡ length (spec.wanted_by subs.now told.now) - room }

@@ -25,8 +25,8 @@ impl Frames {
     ///
     /// `cut SIZE TEXT` tells the command lines of a stream that comes in pieces of so many bytes, a bar behind each,
     /// and what is said behind them. `new` begins a stream to which `feed TEXT` and `feeds COUNT TEXT` add a piece;
-    /// `next` tells what is handed out then, and the bytes of a block, and `length` only how long its line and the
-    /// block are.
+    /// `next` tells what is handed out then, of a block its bytes and its parts; `header NAME` only the value of this
+    /// name in it, and `length` only how long its line and the block are.
     pub(crate) fn tell(&mut self, rest: &str, answer: &mut Answer) -> Result<(), Memory> {
         let (verb, rest) = cut(rest);
         match verb {
@@ -35,6 +35,7 @@ impl Frames {
             "feed" => self.blocks.feed(&bytes_of(self.alloc, rest)?)?,
             "feeds" => self.blocks.feed(&counted(self.alloc, rest)?)?,
             "next" => tell_next(self.blocks.next_block(), answer),
+            "header" => tell_header(self.blocks.next_block(), rest.as_bytes(), answer),
             "length" => tell_length(self.blocks.next_block(), answer),
             _ => answer.line(&[b"no case"]),
         }
@@ -67,9 +68,24 @@ fn add_lines(blocks: &mut Blocks, most: usize, answer: &mut Answer) {
 }
 
 fn tell_next(next: Next<'_>, answer: &mut Answer) {
-    answer.told(format_args!("{next:?}"));
-    if let Next::Block(block) = next {
-        answer.line(&[block.bytes()]);
+    let Next::Block(block) = next else {
+        return answer.told(format_args!("{next:?}"));
+    };
+    answer.line(&[b"block ", block.bytes()]);
+    answer.line(&[b"line ", block.line()]);
+    for (name, value) in block.headers() {
+        answer.line(&[b"header ", name, b"=", value]);
+    }
+    answer.line(&[b"body ", block.body()]);
+}
+
+fn tell_header(next: Next<'_>, name: &[u8], answer: &mut Answer) {
+    let Next::Block(block) = next else {
+        return answer.line(&[b"no block"]);
+    };
+    match block.header(name) {
+        Some(value) => answer.line(&[b"value ", value]),
+        None => answer.line(&[b"no header"]),
     }
 }
 

@@ -5,7 +5,7 @@ use Rattle.std.proofs.lemmas.Bool.{both_ways, ne_eqb}
 use Rattle.std.proofs.lemmas.List.{nil_from_length, length-drop}
 use Rattle.fs_doc.specs.Reading.{Configuration}
 use Rattle.fs_doc.specs.Limits.{IsWithin}
-use Rattle.fs_frame.specs.Block.{too_long}
+use Rattle.fs_frame.specs.Block.{fault_of}
 use Rattle.fs_frame.specs.Blocks.{blocks_of, rest_of}
 use Rattle.fs_state.specs.Switch.{Switch, empty, waiting_for}
 use Rattle.fs_machine.specs.declared.due.DueActor.{DueActor}
@@ -247,7 +247,7 @@ pub played_agrees : (config : Configuration) (input : List ℕ) (read_failed : B
     played config input read_failed ≡ played_as by_room config input read_failed
 unfolding played_as
 played_agrees config input read_failed within =
-    ap (with_end (end_behind (farewell (after_conversing config input)) (too_long (rest_of input)) read_failed))
+    ap (with_end (end_behind (farewell (after_conversing config input)) (fault_of (rest_of input)) read_failed))
     (closed_agrees config input within)
-    ∙ ap (λ p. with_end (end_behind (farewell p) (too_long (rest_of input)) read_failed) (after_closing_as by_room p))
+    ∙ ap (λ p. with_end (end_behind (farewell p) (fault_of (rest_of input)) read_failed) (after_closing_as by_room p))
     (conversed_agrees config input within)

@@ -4,7 +4,7 @@ use Rattle.std.proofs.Common.{Option, None, Some, ◌⊎◌, inl, inr, refl, sym
 use Rattle.std.proofs.lemmas.Bool.{both_ways, ltb-false}
 use Rattle.fs_doc.specs.Reading.{Configuration}
 use Rattle.fs_doc.specs.Limits.{IsWithin}
-use Rattle.fs_frame.specs.Block.{too_long}
+use Rattle.fs_frame.specs.Block.{fault_of}
 use Rattle.fs_frame.specs.Blocks.{blocks_of, rest_of}
 use Rattle.fs_state.specs.declared.conn.Phase.TheVariants.{Ending}
 use Rattle.fs_state.specs.Switch.{Switch, empty, waiting_for, at_moment}
@@ -549,6 +549,6 @@ pub sent_played : (config : Configuration) (input : List ℕ) (read_failed : Boo
     EndsSent (played config input read_failed)
 unfolding played_as
 sent_played config input read_failed end within is not_early =
-    sent_concluded (end_behind (farewell (after_conversing config input)) (too_long (rest_of input)) read_failed) end
+    sent_concluded (end_behind (farewell (after_conversing config input)) (fault_of (rest_of input)) read_failed) end
     (after_closing (after_conversing config input))
     (sent_entered (after_input_end (after_conversing config input)) (fit_last config input within)) (early_closed config input) is not_early

@@ -6,7 +6,7 @@ use Rattle.std.proofs.lemmas.Bool.{both_ways, eqb-true}
 use Rattle.std.proofs.lemmas.List.{nil_from_length, length-drop}
 use Rattle.std.proofs.lemmas.List.Folds.{concat-append}
 use Rattle.fs_doc.specs.Reading.{Configuration}
-use Rattle.fs_frame.specs.Block.{too_long}
+use Rattle.fs_frame.specs.Block.{fault_of}
 use Rattle.fs_frame.specs.Blocks.{blocks_of, rest_of}
 use Rattle.fs_state.specs.Queues.{Frames}
 use Rattle.fs_state.specs.Switch.{Switch, empty, waiting_for}
@@ -25,7 +25,8 @@ use Rattle.fs_machine.proofs.RunLemmas.{run_more}
 use Rattle.fs_machine.proofs.FramesLaws.{handed_first, handed_sent, closed_waits_not, take_leaves_rest, IsUnfailed, AreUnfailed}
 use Rattle.fs_machine.proofs.FramesLaws.{unfailed_more, handed_unfailed}
 use Rattle.fs_conn.specs.declared.end.End.{End}
-use Rattle.fs_conn.specs.declared.end.End.TheVariants.{Exit, Eof, AuthRefused, ReadFault, WriteFault, TooLong, JournalFull, Memory, Runaway}
+use Rattle.fs_conn.specs.declared.end.End.TheVariants.{Exit, Eof, AuthRefused, ReadFault, WriteFault, TooLong, BadLength, JournalFull}
+use Rattle.fs_conn.specs.declared.end.End.TheVariants.{Memory, Runaway}
 use Rattle.fs_conn.specs.Play.{Play, switch_of, bytes_handed, new_play, is_over, with_end, after_judging, after_trying_act, repeated}
 use Rattle.fs_conn.specs.Play.{after_settling, after_waiting, after_taking_all, after_act, reads_on, takes_commands, after_command}
 use Rattle.fs_conn.specs.Play.{after_commands, after_opening, after_input_end, after_conversing, after_closing, farewell, end_behind}
@@ -293,6 +294,7 @@ early_is AuthRefused s early = absurd early
 early_is ReadFault s early = absurd early
 early_is WriteFault s early = absurd early
 early_is (TooLong len) s early = absurd early
+early_is BadLength s early = absurd early
 early_is (JournalFull cost limit) s early = refl
 early_is Memory s early = absurd early
 early_is (Runaway count) s early = refl
@@ -311,7 +313,7 @@ whole_played : (config : Configuration) (input : List ℕ) (read_failed : Bool) 
     (played config input read_failed).end ≡ Some end → is_early end ≡ false → IsWhole config (played config input read_failed)
 unfolding played_as
 whole_played config input read_failed end limit is not_early =
-    whole_concluded config (end_behind (farewell (after_conversing config input)) (too_long (rest_of input)) read_failed) end
+    whole_concluded config (end_behind (farewell (after_conversing config input)) (fault_of (rest_of input)) read_failed) end
     (after_closing (after_conversing config input))
     (whole_closed config input limit) (early_closed config input) is not_early
 

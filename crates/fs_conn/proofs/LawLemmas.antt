@@ -4,8 +4,10 @@ use Rattle.std.proofs.Common.{refl, sym, ap, ◌∙◌, subst, append_assoc, app
 use Rattle.std.specs.List.{concat}
 use Rattle.std.proofs.lemmas.List.Folds.{concat-append}
 use Rattle.fs_doc.specs.Reading.{Configuration}
-use Rattle.fs_frame.specs.Block.{too_long}
+use Rattle.fs_frame.specs.Block.{fault_of}
 use Rattle.fs_frame.specs.Blocks.{blocks_of, rest_of}
+use Rattle.fs_frame.specs.declared.fault.Fault.{Fault}
+use Rattle.fs_frame.specs.declared.fault.Fault.TheVariants as faults
 use Rattle.fs_state.specs.declared.conn.Parting.{Parting}
 use Rattle.fs_state.specs.declared.conn.Parting.TheVariants as way
 use Rattle.fs_state.specs.Switch.{Switch, empty}
@@ -24,7 +26,8 @@ use Rattle.fs_machine.proofs.FramesLaws.{config_run}
 use Rattle.fs_machine.proofs.FrameLemmas.{command_refused}
 use Rattle.fs_machine.proofs.RefusalLemmas.{full_refused}
 use Rattle.fs_conn.specs.declared.end.End.{End}
-use Rattle.fs_conn.specs.declared.end.End.TheVariants.{Exit, AuthRefused, Eof, ReadFault, WriteFault, TooLong, JournalFull, Memory, Runaway}
+use Rattle.fs_conn.specs.declared.end.End.TheVariants.{Exit, AuthRefused, Eof, ReadFault, WriteFault, TooLong, BadLength, JournalFull}
+use Rattle.fs_conn.specs.declared.end.End.TheVariants.{Memory, Runaway}
 use Rattle.fs_conn.specs.Play.{Play, switch_of, bytes_handed, is_over, with_end, after_judging, after_trying_act, after_following}
 use Rattle.fs_conn.specs.Play.{after_act, reads_on, takes_commands, after_command, after_commands, after_opening, after_conversing}
 use Rattle.fs_conn.specs.Play.{after_closing, end_by, farewell, end_behind, played, played_as}
@@ -83,7 +86,7 @@ run_closed config input =
 run_whole : (config : Configuration) (input : List ℕ) (read_failed : Bool) → IsRun config (played config input read_failed)
 unfolding played_as
 run_whole config input read_failed =
-    run_concluded config (end_behind (farewell (after_conversing config input)) (too_long (rest_of input)) read_failed)
+    run_concluded config (end_behind (farewell (after_conversing config input)) (fault_of (rest_of input)) read_failed)
     (after_closing (after_conversing config input)) (run_closed config input)
 
 pub config_played : (config : Configuration) (input : List ℕ) (read_failed : Bool) → (played config input read_failed).config ≡ config
@@ -112,6 +115,7 @@ EndsEarly (Some Eof) s = ⊥
 EndsEarly (Some ReadFault) s = ⊥
 EndsEarly (Some WriteFault) s = ⊥
 EndsEarly (Some (TooLong len)) s = ⊥
+EndsEarly (Some BadLength) s = ⊥
 EndsEarly (Some (JournalFull cost limit)) s = IsFullAt cost limit s
 EndsEarly (Some Memory) s = ⊥
 EndsEarly (Some (Runaway count)) s = count ≡ 100000
@@ -160,50 +164,54 @@ early_closed config input =
 -- ---- the cause of each end
 
 -- an end before that of the connection has its cause
-early_cause : (end : End) (s : Switch) (is_too_long read_failed : Bool) → EndsEarly (Some end) s → HasCause end s is_too_long read_failed
-early_cause Exit s is_too_long read_failed early = absurd early
-early_cause AuthRefused s is_too_long read_failed early = absurd early
-early_cause Eof s is_too_long read_failed early = absurd early
-early_cause ReadFault s is_too_long read_failed early = absurd early
-early_cause WriteFault s is_too_long read_failed early = absurd early
-early_cause (TooLong len) s is_too_long read_failed early = absurd early
-early_cause (JournalFull cost limit) s is_too_long read_failed early = early
-early_cause Memory s is_too_long read_failed early = absurd early
-early_cause (Runaway count) s is_too_long read_failed early = early
+early_cause : (end : End) (s : Switch) (fault : Option Fault) (read_failed : Bool) → EndsEarly (Some end) s →
+    HasCause end s fault read_failed
+early_cause Exit s fault read_failed early = absurd early
+early_cause AuthRefused s fault read_failed early = absurd early
+early_cause Eof s fault read_failed early = absurd early
+early_cause ReadFault s fault read_failed early = absurd early
+early_cause WriteFault s fault read_failed early = absurd early
+early_cause (TooLong len) s fault read_failed early = absurd early
+early_cause BadLength s fault read_failed early = absurd early
+early_cause (JournalFull cost limit) s fault read_failed early = early
+early_cause Memory s fault read_failed early = absurd early
+early_cause (Runaway count) s fault read_failed early = early
 
 -- and so has that of the connection
-cause_behind : (parting : Option Parting) (s : Switch) (is_too_long read_failed : Bool) →
-    HasCause (end_behind (end_by parting) is_too_long read_failed) s is_too_long read_failed
-cause_behind (Some way.Exit) s is_too_long read_failed = tt
-cause_behind (Some way.AuthRefused) s is_too_long read_failed = tt
-cause_behind (Some way.EndOfInput) s true read_failed = (refl, refl)
-cause_behind (Some way.EndOfInput) s false true = (refl, refl)
-cause_behind (Some way.EndOfInput) s false false = (refl, refl)
-cause_behind None s true read_failed = (refl, refl)
-cause_behind None s false true = (refl, refl)
-cause_behind None s false false = (refl, refl)
+cause_unparted : (s : Switch) (fault : Option Fault) (read_failed : Bool) → HasCause (end_behind None fault read_failed) s fault read_failed
+cause_unparted s (Some (faults.TooLong len)) read_failed = refl
+cause_unparted s (Some faults.BadLength) read_failed = refl
+cause_unparted s None true = (refl, refl)
+cause_unparted s None false = (refl, refl)
+
+cause_behind : (parting : Option Parting) (s : Switch) (fault : Option Fault) (read_failed : Bool) →
+    HasCause (end_behind (end_by parting) fault read_failed) s fault read_failed
+cause_behind (Some way.Exit) s fault read_failed = tt
+cause_behind (Some way.AuthRefused) s fault read_failed = tt
+cause_behind (Some way.EndOfInput) s fault read_failed = cause_unparted s fault read_failed
+cause_behind None s fault read_failed = cause_unparted s fault read_failed
 
 -- a play that was over stays so, and any other ends in this way
-cause_ended : (how end : End) (p : Play) (is_too_long read_failed : Bool) → Early p →
-    ((s : Switch) → HasCause how s is_too_long read_failed) → (with_end how p).end ≡ Some end →
-    HasCause end (switch_of (with_end how p)) is_too_long read_failed
-cause_ended how end p is_too_long read_failed early cause is = by (is_over p) is
+cause_ended : (how end : End) (p : Play) (fault : Option Fault) (read_failed : Bool) → Early p →
+    ((s : Switch) → HasCause how s fault read_failed) → (with_end how p).end ≡ Some end →
+    HasCause end (switch_of (with_end how p)) fault read_failed
+cause_ended how end p fault read_failed early cause is = by (is_over p) is
   where
     by : (over : Bool) → (cond over p (record p { end = Some how })).end ≡ Some end →
-        HasCause end (switch_of (cond over p (record p { end = Some how }))) is_too_long read_failed
-    by true e = early_cause end (switch_of p) is_too_long read_failed (subst (λ (last : Option End). EndsEarly last (switch_of p)) e early)
+        HasCause end (switch_of (cond over p (record p { end = Some how }))) fault read_failed
+    by true e = early_cause end (switch_of p) fault read_failed (subst (λ (last : Option End). EndsEarly last (switch_of p)) e early)
     by false e =
-        let same : how ≡ end = cc in subst (λ (last : End). HasCause last (switch_of p) is_too_long read_failed) same (cause (switch_of p))
+        let same : how ≡ end = cc in subst (λ (last : End). HasCause last (switch_of p) fault read_failed) same (cause (switch_of p))
 
 pub cause_played : (config : Configuration) (input : List ℕ) (read_failed : Bool) (end : End) →
     (played config input read_failed).end ≡ Some end →
-    HasCause end (switch_of (played config input read_failed)) (too_long (rest_of input)) read_failed
+    HasCause end (switch_of (played config input read_failed)) (fault_of (rest_of input)) read_failed
 unfolding played_as
 cause_played config input read_failed end is =
-    cause_ended (end_behind (farewell (after_conversing config input)) (too_long (rest_of input)) read_failed) end
-    (after_closing (after_conversing config input)) (too_long (rest_of input)) read_failed
+    cause_ended (end_behind (farewell (after_conversing config input)) (fault_of (rest_of input)) read_failed) end
+    (after_closing (after_conversing config input)) (fault_of (rest_of input)) read_failed
     (early_closed config input) (λ s. cause_behind (parting_at (switch_of (after_conversing config input)) 1) s
-    (too_long (rest_of input)) read_failed) is
+    (fault_of (rest_of input)) read_failed) is
 
 -- and every play ends
 ended_some : (how : End) (p : Play) → (end : End) × ((with_end how p).end ≡ Some end)
@@ -217,7 +225,7 @@ pub ends_played : (config : Configuration) (input : List ℕ) (read_failed : Boo
     (end : End) × ((played config input read_failed).end ≡ Some end)
 unfolding played_as
 ends_played config input read_failed =
-    ended_some (end_behind (farewell (after_conversing config input)) (too_long (rest_of input)) read_failed)
+    ended_some (end_behind (farewell (after_conversing config input)) (fault_of (rest_of input)) read_failed)
     (after_closing (after_conversing config input))
 
 -- ---- commands
@@ -338,7 +346,7 @@ commands_played config input read_failed =
     let first = kept_opened IsSilent (Says []) (keeps_says []) refl config refl in
     let all = commands_all (after_opening config) (blocks_of input) in
     let last = after_conversing config input in
-    let same = says_ended (commands last) (end_behind (farewell last) (too_long (rest_of input)) read_failed) (after_closing last)
+    let same = says_ended (commands last) (end_behind (farewell last) (fault_of (rest_of input)) read_failed) (after_closing last)
     (kept_closed IsSilent (Says (commands last)) (keeps_says (commands last)) refl refl last refl) in
     (all.0, ap (λ blocks. blocks ++ blocks_of input) (sym first) ∙ all.1 ∙ ap (λ blocks. blocks ++ all.0) (sym same))
 

@@ -9,12 +9,13 @@ use Rattle.fs_doc.specs.Reading.{Configuration}
 use Rattle.fs_ports.specs.Counts.{raised}
 use Rattle.fs_ports.specs.Ports.{Input, Output, Reads, Writes}
 use Rattle.fs_ports.proofs.Sides.{reads_both, reads_nothing, writes_nothing}
-use Rattle.fs_frame.specs.Block.{IsBlock, too_long}
+use Rattle.fs_frame.specs.Block.{IsBlock, fault_of}
 use Rattle.fs_frame.specs.Blocks.{HasNoBlock, blocks_of, rest_of}
 use Rattle.fs_frame.specs.Stream.{Stream, new_stream, fed_with}
 use Rattle.fs_frame.specs.Next.{HandsOut}
 use Rattle.fs_frame.proofs.BlockLaws.{AllByRecursion-append, blocks_of-append, rest_of-append, blocks_of-no_block, rest_of-no_block}
-use Rattle.fs_frame.proofs.BlockLaws.{short_rest}
+use Rattle.fs_frame.proofs.BlockLaws.{front_of-no_block}
+use Rattle.fs_frame.proofs.BodyLaws.{short_rest}
 use Rattle.fs_state.specs.declared.conn.Conn.{Conn}
 use Rattle.fs_state.specs.declared.conn.Phase.{Phase}
 use Rattle.fs_state.specs.declared.conn.Phase.TheVariants.{Fresh, Ready, Ending, Closed}
@@ -50,7 +51,7 @@ use Rattle.fs_conn.proofs.WriteLemmas.{written_then, written_all, written_read, 
 -- ---- what follows the last command
 
 abbrev pub concluded : List ℕ → Bool → Play → Play
-concluded input read_failed p = with_end (end_behind (farewell p) (too_long (rest_of input)) read_failed) (after_closing p)
+concluded input read_failed p = with_end (end_behind (farewell p) (fault_of (rest_of input)) read_failed) (after_closing p)
 
 pub played_is : (config : Configuration) (input : List ℕ) (read_failed : Bool) →
     concluded input read_failed (after_conversing config input) ≡ played config input read_failed
@@ -60,10 +61,10 @@ played_is config input read_failed = refl
 pub goes_concluded : (input : List ℕ) (read_failed : Bool) → Goes (concluded input read_failed)
 goes_concluded input read_failed = record {
   over =
-      λ p over. let end = end_behind (farewell p) (too_long (rest_of input)) read_failed in
+      λ p over. let end = end_behind (farewell p) (fault_of (rest_of input)) read_failed in
       ap (with_end end) (goes_closed.over p over) ∙ (goes_ended end).over p over;
   begins =
-      λ p. let end = end_behind (farewell p) (too_long (rest_of input)) read_failed in
+      λ p. let end = end_behind (farewell p) (fault_of (rest_of input)) read_failed in
       begins_trans p (after_closing p) (with_end end (after_closing p)) (goes_closed.begins p) ((goes_ended end).begins (after_closing p));
 }
 
@@ -389,7 +390,7 @@ ends_by_farewell config in0 in1 out0 out1 unsent end stream p stands sound last 
           ∙ ap (λ q. after_commands q (blocks_of stream.rest)) stands.play_is
           ∙ after_conversing-append config stands.blocks stream.rest stands.are_blocks;
       written = stands.written;
-      end_is = sym (ap (λ last. end_behind last (too_long (rest_of (concat stands.blocks ++ stream.rest))) false) last);
+      end_is = sym (ap (λ last. end_behind last (fault_of (rest_of (concat stands.blocks ++ stream.rest))) false) last);
       told = told.0;
       at_end = λ is_eof. absurd (told.1 is_eof);
     }
@@ -399,14 +400,14 @@ pub ends_between : (config : Configuration) (in0 in1 in2 : Input) (out0 out1 out
     (old : Stream) (p : Play) (read_failed : Bool) →
     Stands config in0 out0 in1 out1 unsent old p → HasNoBlock old.rest → farewell p ≡ None → Reads in1 in2 [] →
     in2.faults ≡ (if read_failed then raised in1.faults else in1.faults) →
-    Writing out1 out2 unsent left p p → end ≡ end_behind None (too_long old.rest) read_failed → is_told end ≡ true →
+    Writing out1 out2 unsent left p p → end ≡ end_behind None (fault_of old.rest) read_failed → is_told end ≡ true →
     (end ≡ Eof → IsAtEnd in2.left) →
     Ends config in0 out0 in2 out2 left end p
 ends_between config in0 in1 in2 out0 out1 out2 unsent left end old p read_failed stands no_block none reads faults writing end_is told
     at_end =
     let input = concat stands.blocks ++ old.rest in
-    let rest : too_long old.rest ≡ too_long (rest_of input) =
-    ap too_long (sym (rest_of-append stands.blocks old.rest stands.are_blocks ∙ rest_of-no_block old.rest no_block)) in record {
+    let rest : fault_of old.rest ≡ fault_of (rest_of input) =
+    ap fault_of (sym (rest_of-append stands.blocks old.rest stands.are_blocks ∙ rest_of-no_block old.rest no_block)) in record {
       input = input;
       read_failed = read_failed;
       has_read = record {
@@ -415,8 +416,8 @@ ends_between config in0 in1 in2 out0 out1 out2 unsent left end old p read_failed
       };
       play_is = stands_read config in0 in1 out0 out1 unsent old p stands no_block;
       written = written_then config out0 out1 out2 input unsent left p p stands.written writing;
-      end_is = end_is ∙ ap (λ long. end_behind None long read_failed) rest
-          ∙ ap (λ last. end_behind last (too_long (rest_of input)) read_failed) (sym none);
+      end_is = end_is ∙ ap (λ fault. end_behind None fault read_failed) rest
+          ∙ ap (λ last. end_behind last (fault_of (rest_of input)) read_failed) (sym none);
       told = told;
       at_end = at_end;
     }
@@ -444,11 +445,11 @@ falls_behind old mid new stream later block mid_is new_is costs spent =
     let limit = ap (λ (c : Configuration). c.settings.journal_limit) config in omega (arith, limit, costs.more, costs.free, spent)
 
 -- a piece that was read
-pub falls_fed : (p : Play) (old new : Stream) (piece : List ℕ) → HasNoBlock old.rest → too_long old.rest ≡ false → new.rest ≡ old.rest →
+pub falls_fed : (p : Play) (old new : Stream) (piece : List ℕ) → HasNoBlock old.rest → fault_of old.rest ≡ None → new.rest ≡ old.rest →
     0 < length piece →
     work_left p (fed_with new piece) < work_left p old
-falls_fed p old new piece no_block short same some =
-    let few = short_rest old.rest no_block short in
+falls_fed p old new piece no_block well same some =
+    let few = short_rest old.rest (front_of-no_block old.rest no_block) well in
     let long = length-append new.rest piece in
     let kept = ap length same in omega (arith, few, long, kept)
 
@@ -463,8 +464,8 @@ concludes config in0 in1 out0 out1 out2 unsent left end p later ends goes_on lat
     let same = ap after_closing ends.play_is in
     let whole : with_end end later ≡ played config ends.input ends.read_failed =
     ap (λ how. with_end how later)
-    (ends.end_is ∙ ap (λ q. end_behind (farewell q) (too_long (rest_of ends.input)) ends.read_failed) ends.play_is)
-    ∙ ap (with_end (end_behind (farewell (after_conversing config ends.input)) (too_long (rest_of ends.input)) ends.read_failed))
+    (ends.end_is ∙ ap (λ q. end_behind (farewell q) (fault_of (rest_of ends.input)) ends.read_failed) ends.play_is)
+    ∙ ap (with_end (end_behind (farewell (after_conversing config ends.input)) (fault_of (rest_of ends.input)) ends.read_failed))
     (later_is ∙ same)
     ∙ played_is config ends.input ends.read_failed in record {
       input = ends.input;
@@ -485,7 +486,7 @@ pub stops_closing : (config : Configuration) (in0 in1 : Input) (out0 out1 out2 :
     Sends {A = Unit {0}} (MayClose p) out1 out2 unsent left p later (Err stop) →
     Stops config in0 out0 in1 out2 left stop later
 stops_closing config in0 in1 out0 out1 out2 unsent left end stop p later ends halts sends =
-    let how = end_behind (farewell p) (too_long (rest_of ends.input)) ends.read_failed in
+    let how = end_behind (farewell p) (fault_of (rest_of ends.input)) ends.read_failed in
     let whole = halts_on (with_end how) (goes_ended how) stop later (after_closing p) halts in record {
       input = ends.input;
       read_failed = ends.read_failed;

@@ -2,8 +2,10 @@
 use Rattle.std.specs.Prelude.{ℕ, zero, suc, ◌^◌, Bool, List, [], ◌∷◌, ◌++◌, length, Option, None, Some, is_some, not, ◌&&◌, if◌then◌else◌}
 use Rattle.std.specs.List.{concat}
 use Rattle.fs_doc.specs.Reading.{Configuration}
-use Rattle.fs_frame.specs.Block.{too_long}
+use Rattle.fs_frame.specs.Block.{fault_of}
 use Rattle.fs_frame.specs.Blocks.{blocks_of, rest_of}
+use Rattle.fs_frame.specs.declared.fault.Fault.{Fault}
+use Rattle.fs_frame.specs.declared.fault.Fault.TheVariants as faults
 use Rattle.fs_state.specs.declared.conn.Parting.{Parting}
 use Rattle.fs_state.specs.declared.conn.Parting.TheVariants as parting
 use Rattle.fs_state.specs.Switch.{Switch, empty, waiting_for}
@@ -23,7 +25,7 @@ use Rattle.fs_machine.specs.Frames.{handed_from}
 use Rattle.fs_machine.specs.Connections.{phase_at}
 use Rattle.fs_machine.specs.Questions.{parting_at, owes}
 use Rattle.fs_conn.specs.declared.end.End.{End}
-use Rattle.fs_conn.specs.declared.end.End.TheVariants.{Exit, AuthRefused, Eof, ReadFault, TooLong, JournalFull, Runaway}
+use Rattle.fs_conn.specs.declared.end.End.TheVariants.{Exit, AuthRefused, Eof, ReadFault, TooLong, BadLength, JournalFull, Runaway}
 
 -- a play so far: what the switch was configured by, its journal, the clock, and how the play ended, if it did
 pub record Play : Type 0 where
@@ -200,10 +202,16 @@ end_by (Some parting.EndOfInput) = None
 abbrev pub farewell : Play → Option End
 farewell p = end_by (parting_at (switch_of p) 1)
 
--- by its last command, or else by a block that is too long, by a read that failed, or by the end of the input
-abbrev pub end_behind : Option End → Bool → Bool → End
-end_behind (Some end) is_too_long read_failed = end
-end_behind None is_too_long read_failed = if is_too_long then TooLong 65537 else (if read_failed then ReadFault else Eof)
+-- how it ends by what is wrong with the bytes that were read behind its blocks
+abbrev pub end_for : Fault → End
+end_for (faults.TooLong len) = TooLong len
+end_for faults.BadLength = BadLength
+
+-- by its last command, or else by what is wrong with those bytes, by a read that failed, or by the end of the input
+abbrev pub end_behind : Option End → Option Fault → Bool → End
+end_behind (Some end) fault read_failed = end
+end_behind None (Some fault) read_failed = end_for fault
+end_behind None None read_failed = if read_failed then ReadFault else Eof
 
 -- the play of these bytes up to the last command
 abbrev pub after_conversing_as : Judge → Configuration → List ℕ → Play
@@ -213,7 +221,7 @@ after_conversing_as judge config input = after_commands_as judge (after_opening_
 unfoldable pub played_as : Judge → Configuration → List ℕ → Bool → Play
 played_as judge config input read_failed =
     let p = after_conversing_as judge config input in
-    with_end (end_behind (farewell p) (too_long (rest_of input)) read_failed) (after_closing_as judge p)
+    with_end (end_behind (farewell p) (fault_of (rest_of input)) read_failed) (after_closing_as judge p)
 
 -- ---- the play of a machine, which judges each entry by what it refuses it for
 

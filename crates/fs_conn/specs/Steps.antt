@@ -13,8 +13,8 @@ use Rattle.fs_machine.specs.Step.{step, refusal_of}
 use Rattle.fs_machine.specs.Runs.{View}
 use Rattle.fs_machine.specs.Frames.{handed_in}
 use Rattle.fs_conn.specs.declared.end.End.{End}
-use Rattle.fs_conn.specs.declared.end.End.TheVariants.{Exit, AuthRefused, Eof, ReadFault, WriteFault as ends_by_write, TooLong, JournalFull}
-use Rattle.fs_conn.specs.declared.end.End.TheVariants.{Memory, Runaway}
+use Rattle.fs_conn.specs.declared.end.End.TheVariants.{Exit, AuthRefused, Eof, ReadFault, WriteFault as ends_by_write, TooLong, BadLength}
+use Rattle.fs_conn.specs.declared.end.End.TheVariants.{JournalFull, Memory, Runaway}
 use Rattle.fs_conn.specs.declared.stop.Stop.{Stop}
 use Rattle.fs_conn.specs.declared.stop.Stop.TheVariants.{Over, OutOfMemory, WriteFault}
 use Rattle.fs_conn.specs.Play.{Play, switch_of, output_of, after_trying_act, after_input_end}
@@ -45,6 +45,7 @@ is_early Eof = false
 is_early ReadFault = false
 is_early ends_by_write = false
 is_early (TooLong len) = false
+is_early BadLength = false
 is_early Memory = false
 
 -- what was to become the whole play came to its end, or broke off behind a front of it

@@ -6,7 +6,7 @@ use Rattle.std.specs.Io.KnownBytes.{IsAtEnd}
 use Rattle.fs_doc.specs.Reading.{Configuration}
 use Rattle.fs_ports.specs.Counts.{raised}
 use Rattle.fs_ports.specs.Ports.{Input, Output, Reads, Writes, Stopped}
-use Rattle.fs_frame.specs.Block.{IsBlock, too_long}
+use Rattle.fs_frame.specs.Block.{IsBlock, fault_of}
 use Rattle.fs_frame.specs.Blocks.{rest_of}
 use Rattle.fs_frame.specs.Stream.{Stream, fed_with}
 use Rattle.fs_machine.specs.declared.entry.Entry.{Entry}
@@ -111,6 +111,7 @@ is_told ends.Eof = true
 is_told ends.AuthRefused = true
 is_told ends.ReadFault = true
 is_told (ends.TooLong len) = true
+is_told ends.BadLength = true
 is_told (ends.JournalFull cost limit) = true
 is_told (ends.Runaway count) = true
 
@@ -122,7 +123,7 @@ pub record Ends (config : Configuration) (in0 : Input) (out0 : Output) (in1 : In
   pub has_read : HasRead in0 in1 input read_failed
   pub play_is : p ≡ after_conversing config input
   pub written : HasWritten config out0 out1 input unsent p
-  pub end_is : end ≡ end_behind (farewell p) (too_long (rest_of input)) read_failed
+  pub end_is : end ≡ end_behind (farewell p) (fault_of (rest_of input)) read_failed
   pub told : is_told end ≡ true
   pub at_end : end ≡ ends.Eof → IsAtEnd in1.left
 
@@ -256,6 +257,7 @@ Plays config in0 out0 in1 out1 journal ends.Eof = Finishes config in0 out0 in1 o
 Plays config in0 out0 in1 out1 journal ends.AuthRefused = Finishes config in0 out0 in1 out1 ends.AuthRefused journal
 Plays config in0 out0 in1 out1 journal ends.ReadFault = Finishes config in0 out0 in1 out1 ends.ReadFault journal
 Plays config in0 out0 in1 out1 journal (ends.TooLong len) = Finishes config in0 out0 in1 out1 (ends.TooLong len) journal
+Plays config in0 out0 in1 out1 journal ends.BadLength = Finishes config in0 out0 in1 out1 ends.BadLength journal
 Plays config in0 out0 in1 out1 journal (ends.JournalFull cost limit) =
     Finishes config in0 out0 in1 out1 (ends.JournalFull cost limit) journal
 Plays config in0 out0 in1 out1 journal (ends.Runaway count) = Finishes config in0 out0 in1 out1 (ends.Runaway count) journal

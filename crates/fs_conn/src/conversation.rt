@@ -119,6 +119,7 @@ fn take_turn<L: Link>(
             Filled::ReadFailed => Ok(Turn::Done(End::ReadFault)),
         },
         Next::TooLong { len } => Ok(Turn::Done(End::TooLong { len })),
+        Next::BadLength => Ok(Turn::Done(End::BadLength)),
     }
 }
 

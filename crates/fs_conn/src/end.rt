@@ -13,8 +13,11 @@ pub enum End {
     ReadFault,
     /// By a write that failed.
     WriteFault,
-    /// By more bytes than a block may have, with no block in front of them; so many were looked at.
+    /// By a block that is longer than a block may be: so many bytes, or so many that were looked at without the end of
+    /// its head.
     TooLong { len: u64 },
+    /// By a block whose `Content-Length` is not 1 to 10 digits.
+    BadLength,
     /// By the journal, behind whose cost no further entry is accepted.
     JournalFull { cost: u64, limit: u64 },
     /// For want of memory.

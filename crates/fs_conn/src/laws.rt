@@ -4,7 +4,7 @@ ghost use Rattle.std.specs.Prelude.{◌≡◌, ℕ, ◌≤◌, Bool, false, List
 ghost use Rattle.std.specs.List.{concat};
 ghost use Rattle.fs_doc.specs.Limits.{IsWithin};
 ghost use Rattle.fs_doc.specs.Reading.{Configuration};
-ghost use Rattle.fs_frame.specs.Block.{too_long};
+ghost use Rattle.fs_frame.specs.Block.{fault_of};
 ghost use Rattle.fs_frame.specs.Blocks.{blocks_of, rest_of};
 ghost use Rattle.fs_state.specs.Switch.{empty};
 ghost use Rattle.fs_machine.specs.declared.entry.Entry.{Entry};
@@ -37,7 +37,7 @@ pub fn ends_for_a_cause()
         → (end : End) × ((played config input read_failed).end ≡ Some end) }
     ensures cause { (config : Configuration) (input : List ℕ) (read_failed : Bool) (end : End)
         → (played config input read_failed).end ≡ Some end
-        → HasCause end (switch_of (played config input read_failed)) (too_long (rest_of input)) read_failed }
+        → HasCause end (switch_of (played config input read_failed)) (fault_of (rest_of input)) read_failed }
 {}
 
 /// The bytes that a play hands out are those of the frames that its journal gives the connection, in their order: all

@@ -1,6 +1,6 @@
 -- Where a command line stands, and what stands behind it.
-use Rattle.std.proofs.Common.{◌≡◌, ◌≢◌, ℕ, ◌+◌, ◌-◌, ◌≤◌, ◌<◌, Bool, true, false, cond, List, [], ◌∷◌, ◌++◌, length, take, drop, refl, sym, ap}
-use Rattle.std.proofs.Common.{◌∙◌, append_assoc, arith, length-append, Option, None, Some}
+use Rattle.std.proofs.Common.{◌≡◌, ◌≢◌, ℕ, ◌+◌, ◌-◌, ◌≤◌, ◌<◌, Bool, true, false, cond, List, [], ◌∷◌, ◌++◌, length, take, drop, refl}
+use Rattle.std.proofs.Common.{sym, ap, ◌∙◌, append_assoc, arith, length-append, Option, None, Some}
 use Rattle.std.proofs.lemmas.List.{append-nil, drop_at, drop-drop, take-append-le, length-drop, length-take-le}
 use Rattle.std.specs.List.{concat, list_any}
 use Rattle.std.specs.Option.{option_map, option_map_or}
@@ -94,8 +94,8 @@ pub IsCommandAt-head : (head more : List ℕ) (command : CommandLine) → IsHead
     IsCommandAt (head ++ more) command
 IsCommandAt-head head more command is_head is = record {
   within = omega (arith, is.within, length-append head more);
-  text = span_bytes-append head more command.text is.within ∙ is.text ∙ ap (λ (bs : List ℕ). first_text (lines_of bs)) (sym (append-nil head))
-      ∙ first_text-head head [] is_head ∙ sym (first_text-head head more is_head);
+  text = span_bytes-append head more command.text is.within ∙ is.text
+      ∙ ap (λ (bs : List ℕ). first_text (lines_of bs)) (sym (append-nil head)) ∙ first_text-head head [] is_head ∙ sym (first_text-head head more is_head);
   end_within = omega (arith, is.end_within, length-append head more);
   end_is = is.end_is
       ∙ ap length

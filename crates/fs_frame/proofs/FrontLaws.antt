@@ -13,8 +13,8 @@ use Rattle.fs_frame.specs.declared.span.CommandLine.{CommandLine}
 use Rattle.fs_frame.specs.declared.scan.Scan.{Scan}
 use Rattle.fs_frame.specs.declared.front.Front.{Front}
 use Rattle.fs_frame.specs.declared.front.Front.TheVariants.{Open, Headed, Spoilt}
-use Rattle.fs_frame.proofs.FormLaws.{head_in_front-found, head_in_front-no_head, head_in_front-grown, head_in_front-stands, head_in_front-take}
-use Rattle.fs_frame.proofs.FormLaws.{ShortHead}
+use Rattle.fs_frame.proofs.FormLaws.{head_in_front-found, head_in_front-no_head, head_in_front-grown, head_in_front-stands}
+use Rattle.fs_frame.proofs.FormLaws.{ShortHead, head_in_front-take}
 use Rattle.fs_frame.proofs.BodyLaws.{front_of-open, front_with-fits, fault_of-append, take_behind}
 use Rattle.fs_frame.proofs.ScanLaws.{IsScanned-fed}
 use Rattle.fs_frame.proofs.CommandLaws.{IsCommandAt-head}

@@ -115,7 +115,8 @@ after_next_block-last : (s : Stream) (block : List ℕ) → front_of s.rest ≡ 
 unfolding after_next_block
 after_next_block-last s block found = rw found refl
 
-after_next_block-rest : (s : Stream) (block : List ℕ) → front_of s.rest ≡ Some block → (after_next_block s).rest ≡ drop (length block) s.rest
+after_next_block-rest : (s : Stream) (block : List ℕ) → front_of s.rest ≡ Some block →
+    (after_next_block s).rest ≡ drop (length block) s.rest
 unfolding after_next_block
 after_next_block-rest s block found = rw found refl
 

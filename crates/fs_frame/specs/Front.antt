@@ -1,6 +1,6 @@
 -- What a search of the front of some bytes finds.
-use Rattle.std.specs.Prelude.{◌≡◌, ◌+◌, ◌≤◌, ℕ, false, List, ◌∷◌, ◌++◌, [], Option, None, Some, IfSome, is_some, length, take, drop, slice_range}
-use Rattle.std.specs.Prelude.{if◌then◌else◌}
+use Rattle.std.specs.Prelude.{◌≡◌, ◌+◌, ◌≤◌, ℕ, false, List, ◌∷◌, ◌++◌, [], Option, None, Some, IfSome, is_some, length, take, drop}
+use Rattle.std.specs.Prelude.{slice_range, if◌then◌else◌}
 use Rattle.std.specs.List.{concat, list_any, position_or_len}
 use Rattle.std.specs.Option.{option_map_or}
 use Rattle.fs_frame.specs.Lines.{is_lf, text_of, lines_of, has_text, first_text, up_to_command}

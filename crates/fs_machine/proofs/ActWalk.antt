@@ -41,7 +41,7 @@ use Rattle.fs_text.specs.declared.causes.Cause.TheVariants.{OriginatorCancel}
 use Rattle.fs_text.specs.declared.states.State.TheVariants.{CsExchangeMedia}
 use Rattle.fs_chan.specs.Changes.{in_state}
 use Rattle.fs_state.specs.Switch.{Switch, job_of, slot_named, is_full_of_jobs}
-use Rattle.fs_state.specs.Moves.{after_move}
+use Rattle.fs_state.specs.Moves.{plain_event, after_move}
 use Rattle.fs_state.specs.Hangups.{after_hangups, legs_at, lives_at}
 use Rattle.fs_state.specs.Bridging.{can_join, joined_as, after_join}
 use Rattle.fs_machine.specs.declared.entry.Act.{Act}
@@ -69,7 +69,7 @@ use Rattle.fs_machine.proofs.DialLemmas.{dialled_groups}
 use Rattle.fs_machine.proofs.JoinLemmas.{IsApart, apart_now, apart_hung, apart_left, DialsNone, left_dials, left_dials_still, CanMeet}
 use Rattle.fs_machine.proofs.JoinLemmas.{meets_now, join_meets, media_meets}
 use Rattle.fs_machine.proofs.JoinLemmas.{media_stays}
-use Rattle.fs_machine.proofs.StayLemmas.{moved_there}
+use Rattle.fs_machine.proofs.StayLemmas.{moved_plain}
 use Rattle.fs_machine.proofs.TryWalk.{verdict_kept}
 use Rattle.fs_machine.proofs.Walk.{worked_kept}
 use Rattle.fs_machine.proofs.RestLemmas.{hung_rest, does_same}
@@ -148,7 +148,7 @@ module _ (conn : ℕ) (P : Fact) (calls : KeptByCalls P) (commands : KeptByComma
 
   media_kept : (slot : ℕ) {s : Switch} → CanMeet s slot → P (Some 0) s → P (Some 0) (after_move (in_state CsExchangeMedia) slot s)
   media_kept slot {s} meets h =
-      moved_there (P (Some 0)) (λ event t k. calls.touches.told event k) (in_state CsExchangeMedia) slot s
+      moved_plain (P (Some 0)) (λ name at t k. calls.touches.told (plain_event name at) tt k) (in_state CsExchangeMedia) slot s
       (λ c there. calls.touches.changed slot c (in_state CsExchangeMedia c) there (media_stays s slot meets c there) h) h
 
   both_media_kept : (a b : ℕ) {s : Switch} → CanMeet s a → CanMeet s b → P (Some 0) s → P (Some 0) (both_in_media a b s)

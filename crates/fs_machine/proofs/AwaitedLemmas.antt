@@ -122,7 +122,7 @@ module _ (open_at : ℕ → Type 0) where
 
   pub touches_await : KeptByTouches (λ b s. AwaitAt open_at s)
   touches_await = record {
-    told = λ event h. h;
+    told = λ event plain h. h;
     globals = λ globals h. h;
     changed = λ slot old new {s = s} there stays h. put slot old new s there (stays_awaits old new stays) h;
     answers = λ place slot number {s = s} h.

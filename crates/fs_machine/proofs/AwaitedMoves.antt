@@ -209,7 +209,7 @@ module _ (before : Switch) (Q : Fact) (kept : KeptByMoves before Q)
 
   touches_wait : KeptByTouches Waiting
   touches_wait = record {
-    told = λ event h. (kept.calls.touches.told event h.0, h.1);
+    told = λ event plain h. (kept.calls.touches.told event plain h.0, h.1);
     globals = λ globals h. (kept.calls.touches.globals globals h.0, h.1);
     changed = λ slot old new {b = b} {s = s} there stays h. (
       kept.calls.touches.changed slot old new there stays h.0,

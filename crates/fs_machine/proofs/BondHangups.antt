@@ -24,7 +24,8 @@ use Rattle.fs_orig.specs.Changes.{with_death}
 use Rattle.fs_places.specs.Places.{held_in, with_held}
 use Rattle.fs_state.specs.Switch.{Switch, chan_at, with_chan, bridge_at, without_bridge, with_event, orig_of}
 use Rattle.fs_state.specs.Moves.{with_changed_chan_from, with_changed_chan, after_move, after_one_hangup, its_leg_changed, leg_changed}
-use Rattle.fs_state.specs.Moves.{application_event, running_at, with_state_events, orig_changed_from, hangup_event, orig_given_up, after_hangup_from}
+use Rattle.fs_state.specs.Moves.{application_event, running_at, with_state_events, orig_changed_from, hangup_event, orig_given_up}
+use Rattle.fs_state.specs.Moves.{after_hangup_from}
 use Rattle.fs_state.specs.declared.event.Event.{Event}
 use Rattle.fs_chan.specs.declared.peer.Peer.{Peer}
 use Rattle.fs_machine.proofs.HangLemmas.{given_up_kept}

@@ -1,8 +1,7 @@
 -- Each act keeps what two channels of a bridge are to each other.
-use Rattle.std.proofs.Common.{◌≡◌, ◌≢◌, ℕ, ◌==◌, Bool, true, false, not, ◌&&◌, List, [], ◌∷◌, Option, None, Some, unwrap_or}
-use Rattle.std.proofs.Common.{is_some, is_none, option_and_then, ◌⊎◌, inl, inr, refl, sym, ap, subst, ◌∙◌, true≢false}
+use Rattle.std.proofs.Common.{◌≡◌, ◌≢◌, ℕ, Bool, true, false, List, [], ◌∷◌, Option, None, Some, unwrap_or}
+use Rattle.std.proofs.Common.{is_some, option_and_then, ◌⊎◌, inl, inr, refl, sym, ap, subst, ◌∙◌, true≢false}
 use Rattle.std.proofs.lemmas.Bool.{false≢true}
-use Rattle.std.proofs.lemmas.Cmp.{nat_eq_equiv}
 use Rattle.std.proofs.lemmas.List.{set-set}
 use Rattle.std.proofs.lemmas.Option.{none-some, same_Some}
 use Rattle.fs_text.specs.Cause.{cause_name}
@@ -10,7 +9,6 @@ use Rattle.fs_text.specs.declared.causes.Cause.{Cause}
 use Rattle.fs_text.specs.declared.causes.Cause.TheVariants.{NormalTemporaryFailure}
 use Rattle.fs_bridge.specs.declared.row.BridgeKind.{BridgeKind}
 use Rattle.fs_bridge.specs.declared.row.BridgeKind.TheVariants.{Dial}
-use Rattle.fs_bridge.specs.declared.row.Row.{Row}
 use Rattle.fs_bridge.specs.Bridges.{joined, next_row}
 use Rattle.fs_chan.specs.declared.chan.Chan.{Chan}
 use Rattle.fs_chan.specs.declared.peer.Peer.{Peer}
@@ -49,9 +47,8 @@ use Rattle.fs_machine.proofs.StayLemmas.{orig_changed_channels}
 use Rattle.fs_machine.proofs.HangLemmas.{given_up_kept}
 use Rattle.fs_machine.proofs.JoinLemmas.{rest_dials}
 use Rattle.fs_machine.proofs.NameLemmas.{leg_chan, far_chan, pair_channels}
-use Rattle.fs_machine.proofs.ShortLemmas.{left_holds, right_holds}
 use Rattle.fs_machine.proofs.Walk.{disposed_kept, group_made_kept}
-use Rattle.fs_machine.proofs.WonLemmas.{caller_lives, answerer_lives, bridge_won_kept}
+use Rattle.fs_machine.proofs.WonLemmas.{joins_apart, caller_lone, answerer_lone, caller_lives, answerer_lives, bridge_won_kept}
 use Rattle.fs_machine.proofs.FrontLemmas.{Front, front_of, orig_changed_front, moves_by_front}
 use Rattle.fs_machine.proofs.LegLemmas.{Channels, roles_of, IsLegOf, LegsStand}
 use Rattle.fs_machine.proofs.LegHangups.{winning_leg}
@@ -108,7 +105,7 @@ awaits_lone s slot orig is h c there =
 
 bonds_touches : KeptByTouches Bonding
 bonds_touches = record {
-  told = λ event h. h;
+  told = λ event plain h. h;
   globals = λ globals h. h;
   changed = λ slot old new {s = s} there stays h.
       same_put s.channels s.bridges slot old new there (stays.apt (h.apt slot old there)) (ap (λ (l : Links). l.uuid) stays.links)
@@ -153,30 +150,16 @@ peer_there slot other c d t is_c is_d =
     ap (λ (found : Option Chan). with_peer_from slot other found t) is_d
     ∙ ap (λ (found : Option Chan). with_changed_chan_from (bridged (peer_of other d)) slot found t) is_c
 
-no_row : (found : Option Row) → is_none found ≡ true → found ≡ None
-no_row None is = refl
-no_row (Some row) is = absurd (false≢true is)
-
 module _ (kind : BridgeKind) (caller answerer : ℕ) (c d : Chan) (s : Switch) (can : can_join caller answerer s ≡ true)
     (calls : chan_at s caller ≡ Some c) (answers : chan_at s answerer ≡ Some d) where
   differ : caller ≢ answerer
-  differ same =
-      let is : not (caller == answerer) ≡ true =
-      left_holds (not (caller == answerer)) (lives_at s caller && lives_at s answerer)
-      (left_holds (not (caller == answerer) && (lives_at s caller && lives_at s answerer))
-      (is_none (bridge_at s caller) && is_none (bridge_at s answerer)) can) in
-      false≢true (sym (ap not (ap (λ at. caller == at) (sym same) ∙ nat_eq_equiv.refl caller)) ∙ is)
-
-  none_too : (is_none (bridge_at s caller) && is_none (bridge_at s answerer)) ≡ true
-  none_too =
-      right_holds (not (caller == answerer) && (lives_at s caller && lives_at s answerer))
-      (is_none (bridge_at s caller) && is_none (bridge_at s answerer)) can
+  differ = joins_apart caller answerer s can
 
   first_none : bridge_at s caller ≡ None
-  first_none = no_row (bridge_at s caller) (left_holds (is_none (bridge_at s caller)) (is_none (bridge_at s answerer)) none_too)
+  first_none = caller_lone caller answerer s can
 
   second_none : bridge_at s answerer ≡ None
-  second_none = no_row (bridge_at s answerer) (right_holds (is_none (bridge_at s caller)) (is_none (bridge_at s answerer)) none_too)
+  second_none = answerer_lone caller answerer s can
 
   live : is_live c ≡ true
   live = sym (ap lives calls) ∙ caller_lives caller answerer s can
@@ -215,9 +198,11 @@ module _ (kind : BridgeKind) (caller answerer : ℕ) (c d : Chan) (s : Switch) (
   -- one of them comes into media
   pub media_bonds : c.leg_of ≡ None → Bonds s → Bonds (after_move in_media answerer (joined_as kind caller answerer s))
   media_bonds lone h =
-      subst (λ (t : Switch). Bonds (after_move in_media answerer (with_event (bridge_event (next_row caller answerer kind s.bridges)) t))) (sym joined_there)
+      subst (λ (t : Switch). Bonds (after_move in_media answerer (with_event (bridge_event (next_row caller answerer kind s.bridges)) t)))
+      (sym joined_there)
       (subst (λ (found : Option Chan). Bonds (after_move_from in_media answerer found w)) (sym stands)
-      (state_told_kept (λ (t : Switch). Bonds t) (λ event t k. k) e.state (in_media e).state answerer {s = with_chan answerer (Some (in_media e)) w}
+      (state_told_kept (λ (t : Switch). Bonds t) (λ event t k. k) e.state (in_media e).state answerer
+      {s = with_chan answerer (Some (in_media e)) w}
       (subst (λ (all : Channels). BondsIn all (joined caller answerer kind s.bridges))
       (sym (set-set (with_held s.channels caller (Some (bridged (peer_of answerer d) c))) answerer (Some e) (Some (in_media e))))
       (joined_tables s.channels s.bridges kind caller answerer c d (in_media e) calls answers differ first_none second_none live
@@ -304,7 +289,7 @@ record Dialed (slot : ℕ) (s : Switch) : Type 0 where
 
 dialed_touches : (slot : ℕ) → KeptByTouches (λ b s. Dialed slot s)
 dialed_touches slot = record {
-  told = λ event h. record { bonds = h.bonds; peerless = h.peerless; lone = h.lone };
+  told = λ event plain h. record { bonds = h.bonds; peerless = h.peerless; lone = h.lone };
   globals = λ globals h. record { bonds = h.bonds; peerless = h.peerless; lone = h.lone };
   changed = λ place old new {s = s} there stays h. record {
     bonds = bonds_touches.changed place old new {b = None} {s = s} there stays h.bonds;

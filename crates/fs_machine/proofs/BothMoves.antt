@@ -9,7 +9,7 @@ Both P Q b s = P b s × Q b s
 module _ (P Q : Fact) where
   both_touches : KeptByTouches P → KeptByTouches Q → KeptByTouches (Both P Q)
   both_touches p q = record {
-    told = λ event h. (p.told event h.0, q.told event h.1);
+    told = λ event plain h. (p.told event plain h.0, q.told event plain h.1);
     globals = λ globals h. (p.globals globals h.0, q.globals globals h.1);
     changed = λ slot old new there stays h. (p.changed slot old new there stays h.0, q.changed slot old new there stays h.1);
     answers = λ place slot number h. (p.answers place slot number h.0, q.answers place slot number h.1);

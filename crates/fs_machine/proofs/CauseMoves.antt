@@ -180,7 +180,7 @@ without_told number s h = each_put_at ToldIn s.origs None (place_of s.origs numb
 
 touches_told : KeptByTouches Told
 touches_told = record {
-  told = λ event h. h;
+  told = λ event plain h. h;
   globals = λ globals h. h;
   changed = λ slot old new there stays h. h;
   answers = λ place slot number {s = s} h. answers_told place slot number s h;

@@ -28,7 +28,8 @@ use Rattle.fs_machine.proofs.StayLemmas.{hangup_dead, state_told_kept, moved_the
 use Rattle.fs_machine.proofs.ClosureLemmas.{hangs_up}
 use Rattle.fs_machine.proofs.HangLemmas.{dies, Falls, Cut, Unbridged, Rests, Parks, hangups_kept}
 use Rattle.fs_machine.proofs.NameLemmas.{leg_uuid_short, leg_chan, far_chan, with_leg, pair_channels}
-use Rattle.fs_machine.proofs.FrontLemmas.{Front, front_of, orig_changed_front, Lively, KeptByRemains, calls_by_remains, dials_by_remains}
+use Rattle.fs_machine.proofs.FrontLemmas.{Front, front_of, orig_changed_front, Lively, KeptByRemains, joins_by_remains, calls_by_remains}
+use Rattle.fs_machine.proofs.FrontLemmas.{dials_by_remains}
 use Rattle.fs_machine.proofs.FrontLemmas.{moves_by_front}
 use Rattle.fs_machine.proofs.RestLemmas.{hung_rest}
 use Rattle.fs_machine.proofs.LegLemmas.{roles_of, LegsStand}
@@ -144,14 +145,20 @@ wins_fit job conn winner caller orig leg slots s does lively short h =
 
 remains_moves : KeptByRemains Fit
 remains_moves = record {
-  told = λ event h. h;
+  told = λ event plain h. h;
   globals = λ globals h. h;
-  bridges = λ bridges h. h;
-  remains = λ slot old new {s = s} there remains h. put_fit slot new s (remains_fit old new remains (fit_there s slot old there h)) h;
+  joins = λ kind caller answerer {b = b} {s = s} can h.
+      joins_by_remains Fit (λ event b t k. k) (λ rows b t k. k) (λ slot old new b t there remains k. put slot old new t there remains k)
+      kind caller answerer b s h;
+  remains = λ slot old new {s = s} there remains h. put slot old new s there remains h;
   hung = λ named {s = s} h. hung_fit named s h;
   more = λ h. h;
   gone = λ slot old {s = s} there dead h. each_put FitsIn s.channels slot None h tt;
 }
+  where
+    put : (slot : ℕ) (old new : Chan) (s : Switch) → chan_at s slot ≡ Some old → Remains old new → AllFit s.channels →
+        AllFit (with_chan slot (Some new) s).channels
+    put slot old new s there remains h = put_fit slot new s (remains_fit old new remains (fit_there s slot old there h)) h
 
 births_fit : KeptByBirths Fit
 births_fit = record {

@@ -27,6 +27,15 @@ events_at : (place : ℕ) (events : List Event) → events_of (at_place place ev
 events_at place [] = refl
 events_at place (event ∷ events) = ap (λ more. event ∷ more) (events_at place events)
 
+-- first what happens in the first of entries
+pub events_first : (place : ℕ) (s : Switch) (entry : Entry) (entries : List Entry) →
+    events_of (happened_from place s (entry ∷ entries))
+    ≡ events_by s entry ++ events_of (happened_from (place + 1) (step s entry).state entries)
+events_first place s entry entries =
+    let later = happened_from (place + 1) (step s entry).state entries in
+    map-append (λ (h : Happened). h.event) (at_place place (events_by s entry)) later
+    ∙ ap (λ events. events ++ events_of later) (events_at place (events_by s entry))
+
 run_counts : (place : ℕ) (s : Switch) (entries : List Entry) →
     (run_from s entries).counts ≡ with_events_counted (events_of (happened_from place s entries)) s.counts
 run_counts place s [] = refl
@@ -34,9 +43,7 @@ run_counts place s (entry ∷ entries) =
     let later = happened_from (place + 1) (step s entry).state entries in
     run_counts (place + 1) (step s entry).state entries
     ∙ ap (with_events_counted (events_of later)) (step_counts s entry)
-    ∙ sym (ap (λ events. with_events_counted events s.counts)
-    (map-append (λ (h : Happened). h.event) (at_place place (events_by s entry)) later
-    ∙ ap (λ events. events ++ events_of later) (events_at place (events_by s entry)))
+    ∙ sym (ap (λ events. with_events_counted events s.counts) (events_first place s entry entries)
     ∙ counted_append (events_by s entry) (events_of later) s.counts)
 
 pub counts_all : (m : View) → (state_of m).counts.all ≡ min (length (events_of (happened m))) (2 ^ 64 - 1)

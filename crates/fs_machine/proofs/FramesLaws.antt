@@ -62,7 +62,8 @@ quiet_follows before conn act s handed ordered same =
 -- an act that keeps the connections
 keeps_follows : {who : Option ℕ} {may_end : Bool} → (before : Switch) (conn : ℕ) (act : Act) (s : Switch) → handed_in conn act s ≡ [] →
     Ordered (act_done act s).state → Keeps who may_end s (act_done act s).state → Follows before conn act s
-keeps_follows before conn act s handed ordered keeps = quiet_follows before conn act s handed ordered (keeps_waiting s (act_done act s).state keeps conn)
+keeps_follows before conn act s handed ordered keeps =
+    quiet_follows before conn act s handed ordered (keeps_waiting s (act_done act s).state keeps conn)
 
 -- a frame that is taken is handed out, and the others wait
 take_follows : (before : Switch) (conn taker : ℕ) (s : Switch) → Orderly s → Follows before conn (Take taker) s
@@ -115,7 +116,8 @@ sent_all s conn none =
     nil_from_length (waiting_for s conn) (eqb-true (length (waiting_for s conn)) 0 (not-false (length (waiting_for s conn) == 0) waits.0))
 
 -- a connection that goes with all sent leaves nothing
-sent_follows : (before : Switch) (conn gone : ℕ) (s : Switch) → Orderly s → refused_act (Close gone Sent) s ≡ None → Follows before conn (Close gone Sent) s
+sent_follows : (before : Switch) (conn gone : ℕ) (s : Switch) → Orderly s → refused_act (Close gone Sent) s ≡ None →
+    Follows before conn (Close gone Sent) s
 sent_follows before conn gone s orderly none =
     quiet_follows before conn (Close gone Sent) s refl (without_ordered gone s orderly.ordered) (by (cases_eq gone conn))
   where
@@ -134,7 +136,8 @@ open_drawn s conn ordered is_open = by (place_of s.conns conn) refl
     by (Some place) is = ordered.within conn place (place_stands s.conns conn place is)
 
 -- one whose link failed is gone
-failed_drops : (before : Switch) (conn : ℕ) (s : Switch) → Orderly s → refused_act (Close conn Failed) s ≡ None → Drops before conn (Close conn Failed) s
+failed_drops : (before : Switch) (conn : ℕ) (s : Switch) → Orderly s → refused_act (Close conn Failed) s ≡ None →
+    Drops before conn (Close conn Failed) s
 failed_drops before conn s orderly none = record {
   handed = refl;
   given = none_given (posted_by before (Close conn Failed) s) conn (place_of-without_row_same s.conns conn orderly.ordered.distinct);
@@ -150,7 +153,8 @@ failed_follows before conn gone s orderly none = by (cases_eq gone conn)
     by : (gone ≡ conn) ⊎ (gone ≡ conn → ⊥) → Follows before conn (Close gone Failed) s ⊎ Drops before conn (Close gone Failed) s
     by (inl same) = inr (subst (λ number. Drops before number (Close gone Failed) s) same (failed_drops before gone s orderly none))
     by (inr differ) =
-        inl (quiet_follows before conn (Close gone Failed) s refl (without_ordered gone s orderly.ordered) (without_other gone conn s differ))
+        inl
+        (quiet_follows before conn (Close gone Failed) s refl (without_ordered gone s orderly.ordered) (without_other gone conn s differ))
 
 -- an act that closes no connection as failed
 abbrev pub IsUnfailed : Act → Type 0

@@ -37,10 +37,10 @@ use Rattle.fs_state.specs.declared.job.JobWork.TheVariants.{Sleep, Originate}
 use Rattle.fs_state.specs.Counts.{Tallies}
 use Rattle.fs_state.specs.Switch.{Switch, chan_at, with_chan, with_bridge, conn_of, orig_of, next_orig_number}
 use Rattle.fs_state.specs.Switch.{next_job_number, with_new_job, without_job, without_orig, with_event}
-use Rattle.fs_state.specs.Moves.{application_event, running_at, with_changed_chan, after_move, orig_changed_from, orig_changed, leg_changed, is_owner}
-use Rattle.fs_state.specs.Moves.{given_up_by, orig_given_up}
+use Rattle.fs_state.specs.Moves.{plain_event, application_event, running_at, with_changed_chan, after_move, orig_changed_from, orig_changed}
+use Rattle.fs_state.specs.Moves.{leg_changed, is_owner, given_up_by, orig_given_up}
 use Rattle.fs_state.specs.Hangups.{lives, lives_at, after_hangups}
-use Rattle.fs_state.specs.Bridging.{bridge_event, peer_of, with_peer_from, with_peer, joined_as}
+use Rattle.fs_state.specs.Bridging.{can_join, bridge_event, peer_of, with_peer_from, with_peer, joined_as}
 use Rattle.fs_machine.specs.Texts.{made_text, failed_text}
 use Rattle.fs_machine.specs.Connections.{conn_changed_from, conn_changed, admitted, parted, owed_since, not_owed, with_subs_changed}
 use Rattle.fs_machine.specs.Originations.{MadeGroup, group_made, after_winning}
@@ -50,10 +50,11 @@ use Rattle.fs_machine.specs.Bridging.{caller_of, group_dialed, goes_on, after_go
 use Rattle.fs_machine.specs.Bridging.{after_bridge_win}
 use Rattle.fs_machine.specs.Dialing.{tried_by_slot}
 use Rattle.fs_machine.specs.Joining.{after_leaving}
-use Rattle.fs_machine.proofs.Kept.{Stage, Fact, Links, Remains, Stays, KeptByTouches, KeptByCalls, KeptByBirths, DoesJob, KeptByDials}
+use Rattle.fs_machine.proofs.Kept.{Stage, Fact, TellsNoBridge, Links, Remains, Stays, KeptByTouches, KeptByCalls, KeptByBirths, DoesJob}
+use Rattle.fs_machine.proofs.Kept.{KeptByDials}
 use Rattle.fs_machine.proofs.Kept.{raced}
 use Rattle.fs_machine.proofs.Kept.{HasWon, KeptByMoves}
-use Rattle.fs_machine.proofs.StayLemmas.{moved_there, changed_there}
+use Rattle.fs_machine.proofs.StayLemmas.{application_plain, moved_plain, changed_there}
 use Rattle.fs_machine.proofs.Walk.{disposed_kept, group_made_kept}
 use Rattle.fs_machine.proofs.RestLemmas.{whichever}
 use Rattle.fs_machine.proofs.WonLemmas.{answerer_lives, bridge_won_kept}
@@ -125,11 +126,12 @@ given_up_front slot (Some number) s = by (orig_of s number)
 abbrev pub Lively : Switch → ℕ → Type 0
 Lively s slot = (c : Chan) → chan_at s slot ≡ Some c → is_live c ≡ true
 
--- such a fact has a case for each change that leaves of a channel what a bridge does, and reads no bridges
+-- such a fact has a case for each change that leaves of a channel what a bridge does, and for all that begins and ends bridges
 pub record KeptByRemains (P : Fact) : Type 0 where
-  pub told : (event : Event) {b : Stage} {s : Switch} → P b s → P b (with_event event s)
+  pub told : (event : Event) {b : Stage} {s : Switch} → TellsNoBridge event → P b s → P b (with_event event s)
   pub globals : (globals : Variables) {b : Stage} {s : Switch} → P b s → P b (record s { globals = globals })
-  pub bridges : (bridges : BridgeRows) {b : Stage} {s : Switch} → P b s → P b (record s { bridges = bridges })
+  pub joins : (kind : BridgeKind) (caller answerer : ℕ) {b : Stage} {s : Switch} → can_join caller answerer s ≡ true → P b s →
+      P b (joined_as kind caller answerer s)
   pub remains : (slot : ℕ) (old new : Chan) {b : Stage} {s : Switch} → chan_at s slot ≡ Some old → Remains old new → P b s →
       P b (with_chan slot (Some new) s)
   pub hung : (named : Members) {b : Stage} {s : Switch} → P b s → P b (after_hangups named s)
@@ -175,6 +177,29 @@ lively_join kind a b slot s h = lively_peer slot b a (with_peer a b (with_bridge
 lively_now : (s : Switch) (slot : ℕ) → lives_at s slot ≡ true → Lively s slot
 lively_now s slot live c is = sym (ap lives is) ∙ live
 
+-- two are joined, where each event is kept, all rows of bridges are, and what remains of channels
+module _ (P : Fact) (told : (event : Event) (b : Stage) (s : Switch) → P b s → P b (with_event event s))
+    (bridges : (rows : BridgeRows) (b : Stage) (s : Switch) → P b s → P b (record s { bridges = rows }))
+    (remains : (slot : ℕ) (old new : Chan) (b : Stage) (s : Switch) → chan_at s slot ≡ Some old → Remains old new → P b s →
+    P b (with_chan slot (Some new) s)) where
+  peer_remains : (slot other : ℕ) (b : Stage) (s : Switch) → P b s → P b (with_peer slot other s)
+  peer_remains slot other b s h = by (chan_at s other)
+    where
+      by : (found : Option Chan) → P b (with_peer_from slot other found s)
+      by None = h
+      by (Some d) =
+          changed_there (P b) (bridged (peer_of other d)) slot s
+          (λ c there. remains slot c (bridged (peer_of other d) c) b s there
+          (record { uuid = refl; partner = refl; live = refl; short = λ short. short }) h) h
+
+  pub joins_by_remains : (kind : BridgeKind) (caller answerer : ℕ) (b : Stage) (s : Switch) → P b s → P b (joined_as kind caller answerer s)
+  joins_by_remains kind caller answerer b s h =
+      let t : Switch = with_bridge caller answerer kind s in
+      let u : Switch = with_peer answerer caller (with_peer caller answerer t) in
+      told (bridge_event (next_row caller answerer kind s.bridges)) b u
+      (peer_remains answerer caller b (with_peer caller answerer t)
+      (peer_remains caller answerer b t (bridges (joined caller answerer kind s.bridges) b s h)))
+
 -- such a fact is kept by what channels do, and by those that dial, if it is where a leg that has won comes into media
 module _ (before : Switch) (P : Fact) (same : (b : Stage) (t u : Switch) → P b t → front_of u ≡ front_of t → P b u)
     (kept : KeptByRemains P) (births : KeptByBirths P)
@@ -196,25 +221,10 @@ module _ (before : Switch) (P : Fact) (same : (b : Stage) (t u : Switch) → P b
   moved_remains : (change : Chan → Chan) (slot : ℕ) (b : Stage) (s : Switch) →
       ((c : Chan) → chan_at s slot ≡ Some c → Remains c (change c)) → P b s → P b (after_move change slot s)
   moved_remains change slot b s remains h =
-      moved_there (P b) (λ event t k. kept.told event k) change slot s
+      moved_plain (P b) (λ name at t k. kept.told (plain_event name at) tt k) change slot s
       (λ c there. kept.remains slot c (change c) there (remains c there) h) h
 
   -- ---- bridges
-
-  peer_remains : (slot other : ℕ) (b : Stage) (s : Switch) → P b s → P b (with_peer slot other s)
-  peer_remains slot other b s h = by (chan_at s other)
-    where
-      by : (found : Option Chan) → P b (with_peer_from slot other found s)
-      by None = h
-      by (Some d) =
-          changed_remains (bridged (peer_of other d)) slot b s
-          (λ c. record { uuid = refl; partner = refl; live = refl; short = λ short. short }) h
-
-  joined_remains : (kind : BridgeKind) (caller answerer : ℕ) (b : Stage) (s : Switch) → P b s → P b (joined_as kind caller answerer s)
-  joined_remains kind caller answerer b s h =
-      kept.told (bridge_event (next_row caller answerer kind s.bridges))
-      (peer_remains answerer caller b (with_peer caller answerer (with_bridge caller answerer kind s))
-      (peer_remains caller answerer b (with_bridge caller answerer kind s) (kept.bridges (joined caller answerer kind s.bridges) h)))
 
   left_remains : (slot : ℕ) (b : Stage) (s : Switch) → P b s → P b (after_leaving slot s)
   left_remains slot b s h =
@@ -227,7 +237,7 @@ module _ (before : Switch) (P : Fact) (same : (b : Stage) (t u : Switch) → P b
   calls_by_remains = record {
     touches = touches;
     hung = kept.hung;
-    joined = λ kind caller answerer c d {b = b} {s = s} can there other one two first second h. joined_remains kind caller answerer b s h;
+    joined = λ kind caller answerer c d {b = b} {s = s} can there other one two first second h. kept.joins kind caller answerer can h;
     leaves = λ slot {b = b} {s = s} apart h. left_remains slot b s h;
     more = kept.more;
     gone = kept.gone;
@@ -245,6 +255,7 @@ module _ (before : Switch) (P : Fact) (same : (b : Stage) (t u : Switch) → P b
       on : (onward : Bool) → P (Some 0) (after_going_on onward cause slot (disposed (cause_name cause) slot s))
       on true =
           kept.told (application_event ChannelExecuteComplete (running_at slot (disposed (cause_name cause) slot s)) slot)
+          (application_plain (running_at slot (disposed (cause_name cause) slot s)))
           (moved_remains at_rest slot (Some 0) (disposed (cause_name cause) slot s)
           (λ c there. record { uuid = refl; partner = refl; live = refl; short = λ short. short }) told)
       on false = kept.hung ((slot, cause) ∷ []) told
@@ -255,7 +266,7 @@ module _ (before : Switch) (P : Fact) (same : (b : Stage) (t u : Switch) → P b
 
   at_one : KeptByTouches (λ b s. P (Some 0) s)
   at_one = record {
-    told = λ event h. touches.told event h;
+    told = λ event plain h. touches.told event plain h;
     globals = λ globals h. touches.globals globals h;
     changed = λ slot old new there stays h. touches.changed slot old new there stays h;
     answers = λ place slot number h. touches.answers place slot number h;
@@ -265,7 +276,7 @@ module _ (before : Switch) (P : Fact) (same : (b : Stage) (t u : Switch) → P b
   won_remains slot leg s h =
       bridge_won_kept (P (Some 0)) (P (Some 0)) at_one slot leg
       (λ u can k. media leg (joined_as Dial slot leg u)
-      (lively_join Dial slot leg leg u (lively_now u leg (answerer_lives slot leg u can))) (joined_remains Dial slot leg (Some 0) u k))
+      (lively_join Dial slot leg leg u (lively_now u leg (answerer_lives slot leg u can))) (kept.joins Dial slot leg can k))
       (λ u k. failed_remains NormalTemporaryFailure slot u k) s h
 
   dialed_remains : (slot : ℕ) (c : Chan) (groups : List (List LegPlan)) (timeout : ℕ) (s : Switch) → P None s →

@@ -30,6 +30,8 @@ use Rattle.fs_places.proofs.HeldLemmas.{IsFree}
 use Rattle.fs_state.specs.declared.conn.Phase.TheVariants.{Fresh}
 use Rattle.fs_state.specs.declared.conn.Parting.{Parting}
 use Rattle.fs_state.specs.declared.conn.Parting.TheVariants as parting
+use Rattle.fs_state.specs.declared.event.Detail.{Detail}
+use Rattle.fs_state.specs.declared.event.Detail.TheVariants as detail
 use Rattle.fs_state.specs.declared.event.Event.{Event}
 use Rattle.fs_state.specs.declared.job.JobWork.{JobWork}
 use Rattle.fs_state.specs.declared.job.JobWork.TheVariants as work
@@ -109,9 +111,18 @@ pub record Stays (old new : Chan) : Type 0 where
   pub short : HasShortFields old.profile → HasShortFields new.profile
   pub apt : IsApt old → IsApt new
 
+-- an event tells neither that a bridge begins nor that one has ended
+abbrev pub IsOfNoBridge : Detail → Type 0
+IsOfNoBridge (detail.Bridge row) = ⊥
+IsOfNoBridge (detail.Unbridge row cause) = ⊥
+IsOfNoBridge _ = Unit {0}
+
+abbrev pub TellsNoBridge : Event → Type 0
+TellsNoBridge event = IsOfNoBridge event.detail
+
 -- what happens to a channel and leaves it what it is to others
 pub record KeptByTouches (P : Fact) : Type 0 where
-  pub told : (event : Event) {b : Stage} {s : Switch} → P b s → P b (with_event event s)
+  pub told : (event : Event) {b : Stage} {s : Switch} → TellsNoBridge event → P b s → P b (with_event event s)
   pub globals : (globals : Variables) {b : Stage} {s : Switch} → P b s → P b (record s { globals = globals })
   pub changed : (slot : ℕ) (old new : Chan) {b : Stage} {s : Switch} → chan_at s slot ≡ Some old → Stays old new → P b s →
       P b (with_chan slot (Some new) s)

@@ -152,8 +152,8 @@ given_up_legs slot awaited s h =
 -- ---- a channel is hung up, and the leg that it is dies
 
 pub cut_roles : (cause : Cause) (slot : ℕ) (c : Chan) (s : Switch) →
-    roles_of (with_state_events c.state CsHangup slot (with_event (hangup_event cause slot) (with_chan slot (Some (hung_up cause c)) s))) ≡ record
-    (roles_of s) { channels = with_held s.channels slot (Some (hung_up cause c)) }
+    roles_of (with_state_events c.state CsHangup slot (with_event (hangup_event cause slot) (with_chan slot (Some (hung_up cause c)) s)))
+    ≡ record (roles_of s) { channels = with_held s.channels slot (Some (hung_up cause c)) }
 cut_roles cause slot c s =
     let cut : Switch = with_event (hangup_event cause slot) (with_chan slot (Some (hung_up cause c)) s) in
     state_told_kept (λ (t : Switch). roles_of t ≡ record (roles_of s) { channels = with_held s.channels slot (Some (hung_up cause c)) })
@@ -210,7 +210,8 @@ one_hung_legs cause slot s h = by (chan_at s slot) refl
     of : (c : Chan) → chan_at s slot ≡ Some c → (test : Bool) →
         LegsStand (roles_of (if test then orig_given_up slot (awaited_by c)
         (its_leg_changed (λ position. with_death position s.entries cause) slot c.leg_of
-        (with_state_events c.state CsHangup slot (with_event (hangup_event cause slot) (with_chan slot (Some (hung_up cause c)) s)))) else s))
+        (with_state_events c.state CsHangup slot (with_event (hangup_event cause slot) (with_chan slot (Some (hung_up cause c)) s))))
+        else s))
     of c is true =
         given_up_legs slot (awaited_by c)
         (its_leg_changed (λ position. with_death position s.entries cause) slot c.leg_of

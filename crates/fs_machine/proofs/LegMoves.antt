@@ -143,7 +143,7 @@ moved_legs change slot s still h =
 
 legs_touches : KeptByTouches Legs
 legs_touches = record {
-  told = λ event h. h;
+  told = λ event plain h. h;
   globals = λ globals h. h;
   changed = λ slot old new {s = s} there stays h few.
       put_legs slot old new s there (ap (λ (l : Links). l.leg_of) stays.links) stays.live (h few);
@@ -240,7 +240,7 @@ answered_won orig slot place at number s h = record {
 
 won_touches : (orig slot : ℕ) → KeptByTouches (λ b s. IsWon orig slot s)
 won_touches orig slot = record {
-  told = λ event h. record { legs = h.legs; ended = h.ended; names = h.names };
+  told = λ event plain h. record { legs = h.legs; ended = h.ended; names = h.names };
   globals = λ globals h. record { legs = h.legs; ended = h.ended; names = h.names };
   changed = λ place old new {s = s} there stays h.
       put_won orig slot place old new s there (ap (λ (l : Links). l.leg_of) stays.links) stays.live h;

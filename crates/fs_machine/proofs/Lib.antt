@@ -25,6 +25,11 @@ pub mod FramesLaws
 pub mod ConcernLemmas
 pub mod HereLemmas
 pub mod EventLemmas
+pub mod ListCounts
+pub mod EndLemmas
+pub mod BridgeCounts
+pub mod BridgeMoves
+pub mod BridgeLaws
 pub mod RefusalLemmas
 pub mod OwedTables
 pub mod OwedLosses

@@ -24,8 +24,8 @@ use Rattle.fs_machine.specs.Step.{refused_where, refused_act, refusal_of, act_do
 use Rattle.fs_machine.specs.Runs.{run_from, IsRunFrom}
 use Rattle.fs_machine.proofs.ConstantMoves.{Constants, acted_constants}
 use Rattle.fs_machine.proofs.KeepLemmas.{is_shut, keeps_same, act_keeps}
-use Rattle.fs_machine.proofs.WaitingLemmas.{Ordered, keeps_ordered, keeps_place, posted_ordered, closed_ordered, taken_ordered, without_ordered}
-use Rattle.fs_machine.proofs.WaitingLemmas.{arrived_ordered, arrived_gone, without_gone}
+use Rattle.fs_machine.proofs.WaitingLemmas.{Ordered, keeps_ordered, keeps_place, posted_ordered, closed_ordered, taken_ordered}
+use Rattle.fs_machine.proofs.WaitingLemmas.{without_ordered, arrived_ordered, arrived_gone, without_gone}
 use Rattle.fs_machine.proofs.FrameLemmas.{some_cost}
 
 -- ---- what each act keeps

@@ -177,7 +177,7 @@ module _ (before : Switch) (Q : Fact) (kept : KeptByMoves before Q) (owns : (b :
     (numbers : (b : Stage) (t : Switch) → Q b t → Numbers t.origs t.drawn.origs) (b : Books) (few : Few b) (sound : Sound b) where
   both_touched : KeptByTouches (Beside b Q)
   both_touched = record {
-    told = λ event h. ((calls_go b).touches.told event h.0, kept.calls.touches.told event h.1);
+    told = λ event plain h. ((calls_go b).touches.told event plain h.0, kept.calls.touches.told event plain h.1);
     globals = λ globals h. ((calls_go b).touches.globals globals h.0, kept.calls.touches.globals globals h.1);
     changed = λ slot old new there stays h.
         ((calls_go b).touches.changed slot old new there stays h.0, kept.calls.touches.changed slot old new there stays h.1);

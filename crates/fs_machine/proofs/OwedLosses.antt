@@ -28,7 +28,8 @@ use Rattle.fs_places.proofs.NumberLemmas.{Numbers}
 use Rattle.fs_state.specs.declared.event.Event.{Event}
 use Rattle.fs_state.specs.Switch.{Switch, chan_at, with_chan, with_bridge, without_bridge, orig_of, without_orig, with_event}
 use Rattle.fs_text.specs.declared.event_names.EventName.TheVariants.{ChannelExecuteComplete}
-use Rattle.fs_state.specs.Moves.{application_event, running_at, with_state_events, after_move, orig_changed_from, orig_changed, leg_changed_at, leg_changed}
+use Rattle.fs_state.specs.Moves.{application_event, running_at, with_state_events, after_move, orig_changed_from, orig_changed}
+use Rattle.fs_state.specs.Moves.{leg_changed_at, leg_changed}
 use Rattle.fs_state.specs.Moves.{is_owner, its_leg_changed, hangup_event, given_up_by, orig_given_up, after_hangup_from, after_one_hangup}
 use Rattle.fs_state.specs.Hangups.{after_hangups}
 use Rattle.fs_state.specs.Bridging.{peer_of, with_peer_from, with_peer, joined_as}
@@ -190,7 +191,7 @@ given_up_loses slot (Some number) s = by (orig_of s number) refl
 
 touches_lose : (s : Switch) → KeptByTouches (λ b t. Loses s t)
 touches_lose s = record {
-  told = λ event {s = t} h. on s t (with_event event t) refl refl refl h;
+  told = λ event {s = t} plain h. on s t (with_event event t) refl refl refl h;
   globals = λ globals {s = t} h. on s t (record t { globals = globals }) refl refl refl h;
   changed = λ slot old new {s = t} there stays h. on s t (with_chan slot (Some new) t) refl refl refl h;
   answers = λ place slot number {s = t} h.
@@ -216,7 +217,8 @@ one_hung_loses cause slot s = by (chan_at s slot)
     of : (c : Chan) (test : Bool) →
         Loses s
         (if test then orig_given_up slot (awaited_by c) (its_leg_changed (λ position. with_death position s.entries cause) slot c.leg_of
-        (with_state_events c.state CsHangup slot (with_event (hangup_event cause slot) (with_chan slot (Some (hung_up cause c)) s)))) else s)
+        (with_state_events c.state CsHangup slot (with_event (hangup_event cause slot) (with_chan slot (Some (hung_up cause c)) s))))
+        else s)
     of c true =
         let cut : Switch = with_event (hangup_event cause slot) (with_chan slot (Some (hung_up cause c)) s) in
         let told : Switch = with_state_events c.state CsHangup slot cut in
@@ -279,7 +281,7 @@ pub calls_by_losses : (P : Fact) → ((b : Stage) (t u : Switch) → P b t → L
     ((t : Switch) → P (Some 0) t → P (Some 1) t) → KeptByCalls P
 calls_by_losses P loses more = record {
   touches = record {
-    told = λ event {b = b} {s = s} h. loses b s (with_event event s) h (loses_none s (with_event event s) refl refl refl);
+    told = λ event {b = b} {s = s} plain h. loses b s (with_event event s) h (loses_none s (with_event event s) refl refl refl);
     globals = λ globals {b = b} {s = s} h.
         loses b s (record s { globals = globals }) h (loses_none s (record s { globals = globals }) refl refl refl);
     changed = λ slot old new {b = b} {s = s} there stays h.

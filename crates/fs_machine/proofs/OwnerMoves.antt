@@ -354,8 +354,8 @@ record Unowning (a b : ℕ) (s : Switch) : Type 0 where
 module _ (before : Switch) (bonding : KeptByMoves before Bonding) where
   unowning_touches : (a b : ℕ) → KeptByTouches (λ k s. Unowning a b s)
   unowning_touches a b = record {
-    told = λ event {b = k} {s = s} h. record {
-      bonds = bonding.calls.touches.told event {b = k} {s = s} h.bonds;
+    told = λ event {b = k} {s = s} plain h. record {
+      bonds = bonding.calls.touches.told event {b = k} {s = s} plain h.bonds;
       none = record { owned = h.none.owned; first = h.none.first; second = h.none.second };
     };
     globals = λ globals {b = k} {s = s} h. record {
@@ -444,8 +444,8 @@ won_owned winner orig leg s stands h =
 module _ (before : Switch) (stand : LegsStand (roles_of before)) (bonding : KeptByMoves before Bonding) where
   owning_touches : KeptByTouches Owning
   owning_touches = record {
-    told = λ event {b = b} {s = s} h.
-        record { bonds = bonding.calls.touches.told event {b = b} {s = s} h.bonds; owned = h.owned; room = h.room };
+    told = λ event {b = b} {s = s} plain h.
+        record { bonds = bonding.calls.touches.told event {b = b} {s = s} plain h.bonds; owned = h.owned; room = h.room };
     globals = λ globals {b = b} {s = s} h.
         record { bonds = bonding.calls.touches.globals globals {b = b} {s = s} h.bonds; owned = h.owned; room = h.room };
     changed = λ slot old new {b = b} {s = s} there stays h. record {

@@ -22,13 +22,14 @@ use Rattle.fs_state.specs.Hangups.{world_of, living_of, Ended, after_ends, is_le
 use Rattle.fs_state.specs.Hangups.{after_survivals, after_hangups}
 use Rattle.fs_machine.specs.declared.originations.Call.{Call}
 use Rattle.fs_machine.specs.Originations.{pair_made, won_by, after_winning}
-use Rattle.fs_machine.proofs.Kept.{Stage, Fact, KeptByBirths, raced, KeptByMoves}
+use Rattle.fs_machine.proofs.Kept.{Stage, Fact, Remains, KeptByBirths, raced, KeptByMoves}
 use Rattle.fs_machine.proofs.StayLemmas.{new_lives, execute_lives, routing_lives, park_lives, exchange_lives, state_told_kept, moved_there}
 use Rattle.fs_machine.proofs.StayLemmas.{orig_changed_channels}
 use Rattle.fs_machine.proofs.ClosureLemmas.{NoneAtZero, hangs_up, members_lived, partner_hangs_up}
 use Rattle.fs_machine.proofs.HangLemmas.{dies, Falls, Cut, Unbridged, Rests, Parks, ends_kept, members_kept, survivals_kept, hangups_kept}
 use Rattle.fs_machine.proofs.NameLemmas.{leg_chan, far_chan, pair_channels}
-use Rattle.fs_machine.proofs.FrontLemmas.{Front, front_of, KeptByRemains, calls_by_remains, dials_by_remains, moves_by_front}
+use Rattle.fs_machine.proofs.FrontLemmas.{Front, front_of, KeptByRemains, joins_by_remains, calls_by_remains, dials_by_remains}
+use Rattle.fs_machine.proofs.FrontLemmas.{moves_by_front}
 use Rattle.fs_machine.proofs.TieLemmas.{lives_as, lives_in, HungAs, hung_by, named_in, Ties, ties_put, ties_gone, ties_joined}
 
 -- ---- who hangs up, and who does not
@@ -301,13 +302,13 @@ media_partners slot s h =
 
 remains_partners : KeptByRemains Partners
 remains_partners = record {
-  told = λ event h. record { ties = h.ties; zero = h.zero };
+  told = λ event plain h. record { ties = h.ties; zero = h.zero };
   globals = λ globals h. record { ties = h.ties; zero = h.zero };
-  bridges = λ bridges h. record { ties = h.ties; zero = h.zero };
-  remains = λ slot old new {s = s} there remains h. record {
-    ties = put_partners slot old new s there remains.partner (λ live. remains.live ∙ live) h.ties;
-    zero = zero_put s slot (Some new) (not_zero s slot old there h.zero) h.zero;
-  };
+  joins = λ kind caller answerer {b = b} {s = s} can h.
+      joins_by_remains Partners (λ event b t k. record { ties = k.ties; zero = k.zero })
+      (λ rows b t k. record { ties = k.ties; zero = k.zero }) (λ slot old new b t there remains k. put slot old new t there remains k)
+      kind caller answerer b s h;
+  remains = λ slot old new {s = s} there remains h. put slot old new s there remains h;
   hung = λ named {s = s} h. record { ties = hung_ties named s h; zero = hung_zero named s h.zero };
   more = λ h. h;
   gone = λ slot old {s = s} there dead h. record {
@@ -315,6 +316,13 @@ remains_partners = record {
     zero = zero_put s slot None (not_zero s slot old there h.zero) h.zero;
   };
 }
+  where
+    put : (slot : ℕ) (old new : Chan) (s : Switch) → chan_at s slot ≡ Some old → Remains old new → ArePaired s →
+        ArePaired (with_chan slot (Some new) s)
+    put slot old new s there remains h = record {
+      ties = put_partners slot old new s there remains.partner (λ live. remains.live ∙ live) h.ties;
+      zero = zero_put s slot (Some new) (not_zero s slot old there h.zero) h.zero;
+    }
 
 births_partners : KeptByBirths Partners
 births_partners = record {

@@ -137,7 +137,8 @@ few_from before s conn [] distinct = omega arith
 few_from before s conn (None ∷ conns) distinct = few_from before s conn conns (distinct_rest None conns distinct)
 few_from before s conn (Some row ∷ conns) distinct =
     subst (λ (frames : Frames). length frames ≤ room_behind (outgoing_for before conn))
-    (sym (frames_append conn (posts_at before s row) (posts_from before s conns))) (by (row.number == conn) refl (few_from before s conn conns (distinct_rest (Some row) conns distinct)))
+    (sym (frames_append conn (posts_at before s row) (posts_from before s conns)))
+    (by (row.number == conn) refl (few_from before s conn conns (distinct_rest (Some row) conns distinct)))
   where
     texts : List Text
     texts = take (room_behind (outgoing_for before row.number)) (wanted_at before s row)
@@ -145,7 +146,8 @@ few_from before s conn (Some row ∷ conns) distinct =
     room : length texts ≤ room_behind (outgoing_for before row.number)
     room = omega (arith, length-take (room_behind (outgoing_for before row.number)) (wanted_at before s row))
 
-    by : (b : Bool) → (row.number == conn) ≡ b → length (frames_for conn (posts_from before s conns)) ≤ room_behind (outgoing_for before conn) →
+    by : (b : Bool) → (row.number == conn) ≡ b →
+        length (frames_for conn (posts_from before s conns)) ≤ room_behind (outgoing_for before conn) →
         length (frames_for conn (posts_at before s row) ++ frames_for conn (posts_from before s conns)) ≤ room_behind
         (outgoing_for before conn)
     by true mine few =

@@ -133,7 +133,7 @@ module _ (P : Fact) (same : (b : Stage) (t u : Switch) → P b t → rest_of u �
     (more : (t : Switch) → P (Some 0) t → P (Some 1) t) where
   touches_by_rest : KeptByTouches P
   touches_by_rest = record {
-    told = λ event h. same _ _ _ h refl;
+    told = λ event plain h. same _ _ _ h refl;
     globals = λ globals h. same _ _ _ h refl;
     changed = λ slot old new there stays h. same _ _ _ h refl;
     answers = λ place slot number {b = b} {s = s} h.

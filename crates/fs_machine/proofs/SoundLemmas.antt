@@ -214,7 +214,8 @@ step_counted : (s : Switch) (entry : Entry) â†’ s.config.settings.max_sessions â
 unfolding step
 step_counted s entry few_slots room h =
     let now : Switch = at_moment entry.moment s in
-    closed_counted now (with_posts s (act_done entry.act now).state) (cost_of entry.act) (acted_numbers entry.act now) (acted_config entry.act now)
+    closed_counted now (with_posts s (act_done entry.act now).state) (cost_of entry.act) (acted_numbers entry.act now)
+    (acted_config entry.act now)
     (acted_cost entry.act now) (some_cost entry.act) few_slots room
     (record { named = h.named; slots = h.slots; paid = h.paid })
 

@@ -114,24 +114,25 @@ none_sound = record {
   one = λ slot. omega arith;
 }
 
+-- none stands
+pub none_fit : RowsFit no_bridges
+none_fit = record {
+  sound = none_sound;
+  leg = λ slot row part. absurd (none-some row part);
+  apart = λ slot row part. absurd (none-some row part);
+  caller = λ slot row part. absurd (none-some row part);
+  answerer = λ slot row part. absurd (none-some row part);
+  numbers = λ a b r q one two. absurd (none-some r one);
+  drawn = λ slot row part. absurd (none-some row part);
+}
+
 nothing_bonded : (config : Configuration) → Bonds (empty config)
 nothing_bonded config = record {
   apt = λ slot c there. absurd (no_chan config slot c there);
-  rows = no_rows;
+  rows = none_fit;
   legs = λ slot row part. absurd (none-some row part);
   back = λ slot c there some. absurd (no_chan config slot c there);
 }
-  where
-    no_rows : RowsFit no_bridges
-    no_rows = record {
-      sound = none_sound;
-      leg = λ slot row part. absurd (none-some row part);
-      apart = λ slot row part. absurd (none-some row part);
-      caller = λ slot row part. absurd (none-some row part);
-      answerer = λ slot row part. absurd (none-some row part);
-      numbers = λ a b r q one two. absurd (none-some r one);
-      drawn = λ slot row part. absurd (none-some row part);
-    }
 
 nothing_owned : (config : Configuration) → Owned (roles_of (empty config))
 nothing_owned config = record {

@@ -7,6 +7,7 @@ use Rattle.fs_text.specs.declared.states.State.{State}
 use Rattle.fs_text.specs.declared.states.State.TheVariants.{CsNew, CsInit, CsRouting, CsExecute, CsPark, CsConsumeMedia, CsExchangeMedia}
 use Rattle.fs_text.specs.declared.states.State.TheVariants.{CsHangup, CsReporting}
 use Rattle.fs_text.specs.State.{state_row, state_number}
+use Rattle.fs_text.specs.declared.event_names.EventName.{EventName}
 use Rattle.fs_text.specs.declared.event_names.EventName.TheVariants.{ChannelState, ChannelAnswer, ChannelPark, ChannelUnpark}
 use Rattle.fs_chan.specs.declared.action.Action.{Action}
 use Rattle.fs_chan.specs.declared.chan.Chan.{Chan}
@@ -29,9 +30,9 @@ use Rattle.fs_state.specs.declared.event.Event.{Event}
 use Rattle.fs_state.specs.Switch.{Switch, chan_at, with_chan, orig_of, with_event}
 use Rattle.fs_state.specs.Moves.{plain_event, with_leaving_event, with_coming_event, with_state_events, with_changed_chan_from}
 use Rattle.fs_state.specs.Moves.{with_changed_chan, after_move_from, after_move, with_running, orig_changed_from, orig_changed, leg_changed}
-use Rattle.fs_state.specs.Moves.{its_leg_changed, after_answer_from, after_one_answer, partner_at, for_slot, after_answer}
+use Rattle.fs_state.specs.Moves.{application_told, its_leg_changed, after_answer_from, after_one_answer, partner_at, for_slot, after_answer}
 use Rattle.fs_machine.specs.Work.{first_state, with_variables}
-use Rattle.fs_machine.proofs.Kept.{hold_in, Links, links_of, is_idle, IsApt, IsAtWork, Stays}
+use Rattle.fs_machine.proofs.Kept.{hold_in, Links, links_of, is_idle, IsApt, IsAtWork, Stays, IsOfNoBridge}
 
 -- ---- states that live
 
@@ -225,33 +226,55 @@ is_at_work channels slot c at there =
 
 -- ---- what is told of a change of state
 
-module _ (P : Switch → Type 0) (told_kept : (event : Event) (s : Switch) → P s → P (with_event event s)) where
-  left_told_kept : (state : State) (slot : ℕ) {s : Switch} → P s → P (with_leaving_event state slot s)
-  left_told_kept CsPark slot h = told_kept (plain_event ChannelUnpark slot) _ h
-  left_told_kept _ slot h = h
+-- the application that begins or is over is no bridge
+pub application_plain : (found : Option Action) → IsOfNoBridge (application_told found)
+application_plain None = tt
+application_plain (Some action) = tt
 
-  come_told_kept : (state : State) (slot : ℕ) {s : Switch} → P s → P (with_coming_event state slot s)
-  come_told_kept CsPark slot h = told_kept (plain_event ChannelPark slot) _ h
-  come_told_kept _ slot h = h
+-- each event of a change of state tells of its channel alone
+module _ (P : Switch → Type 0)
+    (plain_kept : (name : EventName) (slot : ℕ) (s : Switch) → P s → P (with_event (plain_event name slot) s)) where
+  left_plain_kept : (state : State) (slot : ℕ) {s : Switch} → P s → P (with_leaving_event state slot s)
+  left_plain_kept CsPark slot h = plain_kept ChannelUnpark slot _ h
+  left_plain_kept _ slot h = h
 
-  pub differing_kept : (b : Bool) {s t : Switch} → P s → P t → P (if b then s else t)
-  differing_kept true first second = first
-  differing_kept false first second = second
+  come_plain_kept : (state : State) (slot : ℕ) {s : Switch} → P s → P (with_coming_event state slot s)
+  come_plain_kept CsPark slot h = plain_kept ChannelPark slot _ h
+  come_plain_kept _ slot h = h
 
-  pub state_told_kept : (old new : State) (slot : ℕ) {s : Switch} → P s → P (with_state_events old new slot s)
-  state_told_kept old new slot h =
-      differing_kept (state_number old == state_number new) h
-      (told_kept (plain_event ChannelState slot) _ (come_told_kept new slot (left_told_kept old slot h)))
+  pub plain_differing_kept : (b : Bool) {s t : Switch} → P s → P t → P (if b then s else t)
+  plain_differing_kept true first second = first
+  plain_differing_kept false first second = second
+
+  pub state_plain_kept : (old new : State) (slot : ℕ) {s : Switch} → P s → P (with_state_events old new slot s)
+  state_plain_kept old new slot h =
+      plain_differing_kept (state_number old == state_number new) h
+      (plain_kept ChannelState slot _ (come_plain_kept new slot (left_plain_kept old slot h)))
 
 -- a channel is changed, and tells of that
-pub moved_there : (P : Switch → Type 0) (told_kept : (event : Event) (s : Switch) → P s → P (with_event event s)) (change : Chan → Chan)
-    (slot : ℕ) (s : Switch) → ((c : Chan) → chan_at s slot ≡ Some c → P (with_chan slot (Some (change c)) s)) → P s →
-    P (after_move change slot s)
-moved_there P told_kept change slot s there h = by (chan_at s slot) refl
+pub moved_plain : (P : Switch → Type 0) (plain_kept : (name : EventName) (slot : ℕ) (s : Switch) → P s →
+    P (with_event (plain_event name slot) s)) (change : Chan → Chan) (slot : ℕ) (s : Switch) →
+    ((c : Chan) → chan_at s slot ≡ Some c → P (with_chan slot (Some (change c)) s)) → P s → P (after_move change slot s)
+moved_plain P plain_kept change slot s there h = by (chan_at s slot) refl
   where
     by : (found : Option Chan) → chan_at s slot ≡ found → P (after_move_from change slot found s)
     by None is = h
-    by (Some c) is = state_told_kept P told_kept c.state (change c).state slot (there c is)
+    by (Some c) is = state_plain_kept P plain_kept c.state (change c).state slot (there c is)
+
+-- the same for what each event keeps
+module _ (P : Switch → Type 0) (told_kept : (event : Event) (s : Switch) → P s → P (with_event event s)) where
+  plain_told : (name : EventName) (slot : ℕ) (s : Switch) → P s → P (with_event (plain_event name slot) s)
+  plain_told name slot s h = told_kept (plain_event name slot) s h
+
+  pub differing_kept : (b : Bool) {s t : Switch} → P s → P t → P (if b then s else t)
+  differing_kept b first second = plain_differing_kept P plain_told b first second
+
+  pub state_told_kept : (old new : State) (slot : ℕ) {s : Switch} → P s → P (with_state_events old new slot s)
+  state_told_kept old new slot h = state_plain_kept P plain_told old new slot h
+
+  pub moved_there : (change : Chan → Chan) (slot : ℕ) (s : Switch) →
+      ((c : Chan) → chan_at s slot ≡ Some c → P (with_chan slot (Some (change c)) s)) → P s → P (after_move change slot s)
+  moved_there change slot s there h = moved_plain P plain_told change slot s there h
 
 -- a channel is changed, and tells of nothing
 pub changed_there : (P : Switch → Type 0) (change : Chan → Chan) (slot : ℕ) (s : Switch) →

@@ -54,16 +54,18 @@ hung_by cause slot s = by (chan_at s slot) refl
     of : (c : Chan) → chan_at s slot ≡ Some c → (b : Bool) → is_live c ≡ b →
         HungAs cause slot s
         (cond b (orig_given_up slot (awaited_by c) (its_leg_changed (λ position. with_death position s.entries cause) slot c.leg_of
-        (with_state_events c.state CsHangup slot (with_event (hangup_event cause slot) (with_chan slot (Some (hung_up cause c)) s))))) s).channels
+        (with_state_events c.state CsHangup slot (with_event (hangup_event cause slot) (with_chan slot (Some (hung_up cause c)) s)))))
+        s).channels
     of c is true live =
         let cut : Switch = with_event (hangup_event cause slot) (with_chan slot (Some (hung_up cause c)) s) in
+        let told : Switch = with_state_events c.state CsHangup slot cut in
         inr
         ((
           c,
           is,
           given_up_channels slot (awaited_by c)
-              (its_leg_changed (λ position. with_death position s.entries cause) slot c.leg_of (with_state_events c.state CsHangup slot cut))
-              ∙ its_leg_channels (λ position. with_death position s.entries cause) slot c.leg_of (with_state_events c.state CsHangup slot cut)
+              (its_leg_changed (λ position. with_death position s.entries cause) slot c.leg_of told)
+              ∙ its_leg_channels (λ position. with_death position s.entries cause) slot c.leg_of told
               ∙ state_told_kept (λ (t : Switch). t.channels ≡ with_held s.channels slot (Some (hung_up cause c)))
               (λ event t h. h) c.state CsHangup slot {s = cut} refl,
         ))

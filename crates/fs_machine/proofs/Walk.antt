@@ -70,7 +70,8 @@ use Rattle.fs_machine.proofs.StayLemmas.{new_lives, init_lives, routing_lives, e
 use Rattle.fs_machine.proofs.StayLemmas.{live_by}
 use Rattle.fs_machine.proofs.StayLemmas.{work_stays, rest_links, AllQuiet, quiet_stays, after_next_quiet, running_quiet}
 use Rattle.fs_machine.proofs.StayLemmas.{variables_quiet, assignment_quiet, answer_quiet, disposition_quiet, WorksAt, is_at_work}
-use Rattle.fs_machine.proofs.StayLemmas.{moved_there, changed_there, moved_works, changed_works, answered_works, hangup_dead}
+use Rattle.fs_machine.proofs.StayLemmas.{application_plain, moved_plain, changed_there, moved_works, changed_works, answered_works}
+use Rattle.fs_machine.proofs.StayLemmas.{hangup_dead}
 use Rattle.fs_machine.proofs.TryWalk.{verdict_kept}
 
 -- ---- changes of state
@@ -158,7 +159,8 @@ module _ (P : Fact) (kept : KeptByTouches P) where
   moved_by : (change : Chan → Chan) (slot : ℕ) {b : Stage} {s : Switch} → ((c : Chan) → chan_at s slot ≡ Some c → Stays c (change c)) →
       P b s → P b (after_move change slot s)
   moved_by change slot {b} {s} stays h =
-      moved_there (P b) (λ event t k. kept.told event k) change slot s (λ c is. kept.changed slot c (change c) is (stays c is) h) h
+      moved_plain (P b) (λ name at t k. kept.told (plain_event name at) tt k) change slot s
+      (λ c is. kept.changed slot c (change c) is (stays c is) h) h
 
   -- the channel that stands there is changed
   moved_as : (change : Chan → Chan) (slot : ℕ) (c : Chan) {b : Stage} {s : Switch} → chan_at s slot ≡ Some c → Stays c (change c) →
@@ -182,11 +184,12 @@ module _ (P : Fact) (kept : KeptByTouches P) where
 
   run_on_kept : (action : Action) (slot : ℕ) {b : Stage} {s : Switch} → P b s → P b (run_on action slot s)
   run_on_kept action slot h =
-      kept.told (application_event ChannelExecute (Some action) slot) (moved_kept (with_running action) slot (running_quiet action) h)
+      kept.told (application_event ChannelExecute (Some action) slot) tt (moved_kept (with_running action) slot (running_quiet action) h)
 
   completed_kept : (slot : ℕ) {b : Stage} {s : Switch} → WorksAt s.channels slot → P b s → P b (after_completion slot s)
   completed_kept slot {b} {s} at h =
-      kept.told (application_event ChannelExecuteComplete (running_at slot s) slot) (work_moved at_rest slot at rests_stays h)
+      kept.told (application_event ChannelExecuteComplete (running_at slot s) slot) (application_plain (running_at slot s))
+      (work_moved at_rest slot at rests_stays h)
 
   -- ---- answers
 
@@ -203,7 +206,7 @@ module _ (P : Fact) (kept : KeptByTouches P) where
       by (Some c) is =
           either (is_none c.answered)
           (its_leg_kept s.entries slot c.leg_of
-          (kept.told (plain_event ChannelAnswer slot)
+          (kept.told (plain_event ChannelAnswer slot) tt
           (kept.changed slot c (with_answer_place s.entries c) is
           (quiet_stays c (with_answer_place s.entries c) (answer_quiet s.entries c)) h))) h
 
@@ -358,13 +361,13 @@ module _ (before : Switch) (P : Fact) (kept : KeptByCalls P) (dials : KeptByDial
       P b (after_report slot s)
   reported_kept slot c there is h =
       moved_as P kept.touches (in_state CsReporting) slot c there (reports_stays c is)
-      (kept.touches.told (report_event slot) h)
+      (kept.touches.told (report_event slot) tt h)
 
   destroyed_kept : (slot : ℕ) (c : Chan) {s : Switch} → chan_at s slot ≡ Some c → c.state ≡ CsReporting → P (Some 0) s →
       P (Some 1) (after_destroy slot s)
   destroyed_kept slot c there is h =
-      kept.touches.told (plain_event ChannelDestroy slot)
-      (kept.touches.told (plain_event ChannelState slot) (kept.gone slot c there (live_by c CsReporting false is reporting_dead) h))
+      kept.touches.told (plain_event ChannelDestroy slot) tt
+      (kept.touches.told (plain_event ChannelState slot) tt (kept.gone slot c there (live_by c CsReporting false is reporting_dead) h))
 
   -- ---- what came of what it dialed
 
@@ -423,7 +426,8 @@ module _ (before : Switch) (P : Fact) (kept : KeptByCalls P) (dials : KeptByDial
   working_kept CsNew slot c there is h =
       kept.more
       (dials.spent
-      (moved_as P kept.touches (in_state CsInit) slot c there (begins_stays c is) (kept.touches.told (plain_event ChannelCreate slot) h)))
+      (moved_as P kept.touches (in_state CsInit) slot c there (begins_stays c is)
+      (kept.touches.told (plain_event ChannelCreate slot) tt h)))
   working_kept CsInit slot c there is h =
       kept.more (dials.spent (moved_as P kept.touches (in_state (first_state c.direction)) slot c there (first_stays c is) h))
   working_kept CsRouting slot c there is h =

@@ -100,7 +100,8 @@ winners_moves before = record {
     spent = λ h. h;
     gave = λ frame h. h;
     answered = λ frame h. h;
-    asked = λ change {s = s} h. same_winners s (conn_changed (with_subs_changed change) conn s) (conn_jobs (with_subs_changed change) conn s) h;
+    asked = λ change {s = s} h. same_winners s (conn_changed (with_subs_changed change) conn s)
+        (conn_jobs (with_subs_changed change) conn s) h;
     admitted = λ {s = s} fresh h. same_winners s (conn_changed admitted conn s) (conn_jobs admitted conn s) h;
     parted = λ why {s = s} leaves h. same_winners s (conn_changed (parted why) conn s) (conn_jobs (parted why) conn s) h;
     sleeps = λ until {s = s} room h. owing_winners conn (Sleep until) s tt h;

@@ -1,8 +1,11 @@
 -- The walk through a bridge that is won: a leg is joined to the channel that dialed it, or the bridge has failed.
-use Rattle.std.proofs.Common.{◌≡◌, ℕ, ◌==◌, Bool, true, false, if◌then◌else◌, None, refl}
+use Rattle.std.proofs.Common.{◌≡◌, ◌≢◌, ℕ, ◌==◌, Bool, true, false, if◌then◌else◌, Option, None, Some, refl, sym, ap, ◌∙◌}
 use Rattle.std.specs.Prelude.{◌&&◌, not, is_none, codes}
+use Rattle.std.proofs.lemmas.Bool.{false≢true}
+use Rattle.std.proofs.lemmas.Cmp.{nat_eq_equiv}
 use Rattle.fs_text.specs.declared.causes.Cause.TheVariants.{NormalTemporaryFailure}
 use Rattle.fs_bridge.specs.declared.row.BridgeKind.TheVariants.{Dial}
+use Rattle.fs_bridge.specs.declared.row.Row.{Row}
 use Rattle.fs_chan.specs.Bridging.{in_media}
 use Rattle.fs_state.specs.Switch.{Switch, bridge_at}
 use Rattle.fs_state.specs.Moves.{after_move, after_answer}
@@ -13,7 +16,11 @@ use Rattle.fs_machine.proofs.ShortLemmas.{left_holds, right_holds}
 use Rattle.fs_machine.proofs.Kept.{KeptByTouches}
 use Rattle.fs_machine.proofs.Walk.{answered_kept, disposed_kept}
 
--- whoever can be joined lives
+is_none_eq : (found : Option Row) → is_none found ≡ true → found ≡ None
+is_none_eq None is = refl
+is_none_eq (Some row) is = absurd (false≢true is)
+
+-- whoever can be joined lives, is part of no bridge, and is another one
 module _ (caller answerer : ℕ) (s : Switch) (can : can_join caller answerer s ≡ true) where
   apart : Bool
   apart = not (caller == answerer)
@@ -27,6 +34,27 @@ module _ (caller answerer : ℕ) (s : Switch) (can : can_join caller answerer s 
   both_live : both ≡ true
   unfolding apart both lone
   both_live = right_holds apart both (left_holds (apart && both) lone can)
+
+  apart_holds : apart ≡ true
+  unfolding apart both lone
+  apart_holds = left_holds apart both (left_holds (apart && both) lone can)
+
+  lone_holds : lone ≡ true
+  unfolding apart both lone
+  lone_holds = right_holds (apart && both) lone can
+
+  pub joins_apart : caller ≢ answerer
+  unfolding apart
+  joins_apart same =
+      false≢true (sym (ap not (ap (λ at. caller == at) (sym same) ∙ nat_eq_equiv.refl caller)) ∙ apart_holds)
+
+  pub caller_lone : bridge_at s caller ≡ None
+  unfolding lone
+  caller_lone = is_none_eq (bridge_at s caller) (left_holds (is_none (bridge_at s caller)) (is_none (bridge_at s answerer)) lone_holds)
+
+  pub answerer_lone : bridge_at s answerer ≡ None
+  unfolding lone
+  answerer_lone = is_none_eq (bridge_at s answerer) (right_holds (is_none (bridge_at s caller)) (is_none (bridge_at s answerer)) lone_holds)
 
   pub caller_lives : lives_at s caller ≡ true
   unfolding both

@@ -22,6 +22,7 @@ pub mod Frames
 pub mod Owed
 pub mod Runs
 pub mod Events
+pub mod BridgeEvents
 pub mod Concerns
 pub mod Sound
 pub mod Journals

@@ -1,12 +1,13 @@
 //! What holds of every run. These functions do nothing: each stands for its contract.
 
 ghost use Rattle.std.specs.Prelude.{◌≡◌, ◌≢◌, ℕ, true, false, List, [], ◌∷◌, ◌++◌};
+ghost use Rattle.fs_text.specs.Texts.{Text};
 ghost use Rattle.fs_doc.specs.Limits.{IsWithin};
 ghost use Rattle.fs_doc.specs.Reading.{Configuration};
-ghost use Rattle.fs_state.specs.Queues.{Frames};
 ghost use Rattle.fs_state.specs.Switch.{waiting_for};
 ghost use Rattle.fs_machine.specs.declared.due.DueActor.TheVariants as actor;
 ghost use Rattle.fs_machine.specs.declared.entry.Entry.{Entry};
+ghost use Rattle.fs_machine.specs.BridgeEvents.{BridgesAreTold, events_in};
 ghost use Rattle.fs_machine.specs.Connections.{phase_at};
 ghost use Rattle.fs_machine.specs.Due.{next_due};
 ghost use Rattle.fs_machine.specs.Questions.{owes};
@@ -21,7 +22,7 @@ ghost use Rattle.fs_machine.specs.Sound.{PartnersAgree, IdentifiersDiffer};
 pub fn hands_out_what_it_gives()
     ensures first { (config : Configuration) (entries : List Entry) (conn : ℕ) → IsLimited config
         → IsRun config entries
-        → (more : Frames) × (given_to conn config entries ≡ handed_to conn config entries ++ more) }
+        → (more : List Text) × (given_to conn config entries ≡ handed_to conn config entries ++ more) }
     ensures waiting { (config : Configuration) (entries : List Entry) (conn : ℕ) → IsLimited config
         → IsRun config entries → is_closed (phase_at (state_after config entries) conn) ≡ false
         → given_to conn config entries
@@ -61,4 +62,11 @@ pub fn identifiers_differ()
 pub fn concerns_each_connection()
     ensures { (config : Configuration) (entries : List Entry) (entry : Entry) (conn : ℕ) → IsLimited config
         → IsRun config (entries ++ entry ∷ []) → Concerns conn (state_after config entries) entry }
+{}
+
+/// Whatever entries are run, one event tells of each bridge that it begins. No event tells of the end of a bridge that
+/// stands, and one of the end of each other.
+pub fn bridges_are_told()
+    ensures { (config : Configuration) (entries : List Entry)
+        → BridgesAreTold (state_after config entries) (events_in config entries) }
 {}

@@ -34,8 +34,8 @@ pub use due::DueActor;
 pub use entry::{Act, Closing, Entry};
 pub use journal::Journal;
 pub use laws::{
-    concerns_each_connection, hands_out_what_it_gives, identifiers_differ, owes_to_its_jobs,
-    partners_agree,
+    bridges_are_told, concerns_each_connection, hands_out_what_it_gives, identifiers_differ,
+    owes_to_its_jobs, partners_agree,
 };
 pub use machine::{Change, Machine};
 pub use refusal::Refusal;

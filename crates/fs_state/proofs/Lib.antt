@@ -6,3 +6,4 @@ pub mod LegTables
 pub mod GiftLemmas
 pub mod HangupLemmas
 pub mod TellLemmas
+pub mod PostLemmas

@@ -16,14 +16,14 @@ pub(crate) struct Post {
 
 impl Model for Post {
     ghost use Rattle.std.specs.Prelude.{◌≡◌};
-    ghost use Rattle.fs_event.specs.Texts.{frame};
+    ghost use Rattle.fs_event.specs.Texts as texts;
     ghost use Rattle.fs_event.specs.declared.event.Event.{Event};
 
     ghost Value = { Event };
 
     ghost view = { λ p. p.telling };
 
-    ghost invariant = { λ p. p.frame ≡ frame p.telling };
+    ghost invariant = { λ p. p.frame ≡ texts.frame p.telling };
 }
 
 impl Post {

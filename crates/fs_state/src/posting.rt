@@ -4,7 +4,7 @@ ghost use Rattle.fs_filter.specs.Subscriptions.{wants};
 ghost use Rattle.fs_places.specs.Places.{held_in};
 ghost use Rattle.fs_places.specs.Rows.{place_of};
 ghost use Rattle.fs_state.specs.Drafts.{drafted, Brings, with_losses_in};
-ghost use Rattle.fs_state.specs.Losses.{Losses};
+ghost use Rattle.fs_state.specs.Losses.{Losses, with_loss};
 ghost use Rattle.fs_state.specs.Posting as spec;
 
 use crate::conn::Conn;
@@ -29,7 +29,6 @@ impl<'a> Draft<'a> {
     /// that it wanted before, as far as there is room; the rest is lost, and counted.
     ///
     /// Where nobody has subscribed anything no memory is taken. A text is formed once, and only where it is wanted.
-
     pub fn post(&mut self) -> Result<(), Memory>
         ensures { Brings result self.old self.new (spec.with_posts self.old.base (drafted self.old)) }
     {
@@ -41,7 +40,6 @@ impl<'a> Draft<'a> {
     // ---- what is told
 
     /// What the events of the entry tell that some connection wants.
-
     fn told(&self) -> Result<Vec<Post>, Memory>
         ensures { IfOk result (λ told. told.items ≡ spec.told self.now.base (drafted self.now)) }
     {
@@ -70,7 +68,7 @@ impl<'a> Draft<'a> {
     }
 
     /// What an event tells, where it has this number and some connection wants it.
-
+    #[tactic(auto, using(crate::proofs::PostLemmas::untold_unheard))]
     fn tell_wanted(&self, number: u64, event: &Event) -> Result<Option<Post>, Memory>
         ensures { IfOk result
             (λ post. post ≡ spec.told_of self.now.base (drafted self.now) number event.now) }
@@ -89,7 +87,7 @@ impl<'a> Draft<'a> {
     // ---- who is told
 
     /// The connections that were there before the entry are posted what they want of these, one after another.
-
+    #[tactic(auto, using(crate::proofs::PostLemmas::over_rules))]
     fn post_all(&mut self, told: &[Post]) -> Result<(), Memory>
         ensures { Brings result self.old self.new
             (spec.posted_over self.old.base told.now self.old.base.conns (drafted self.old)) }
@@ -117,7 +115,7 @@ impl<'a> Draft<'a> {
     }
 
     /// A connection is posted what it wants of these, as far as there is room, and loses the rest.
-
+    #[tactic(auto, using(crate::proofs::PostLemmas::posted_there))]
     fn post_to(&mut self, row: &Numbered<Conn>, told: &[Post]) -> Result<(), Memory>
         ensures { Brings result self.old self.new
             (spec.posted_to self.old.base told.now row.now (drafted self.old)) }
@@ -167,9 +165,17 @@ impl<'a> Draft<'a> {
         if events == 0 {
             return Ok(());
         }
+        self.add_loss(conn, events)
+    }
+
+    /// It loses so many more.
+    fn add_loss(&mut self, conn: u64, events: u64) -> Result<(), Memory>
+        ensures { Brings result self.old self.new
+            (with_losses_in self.old (with_loss conn events (drafted self.old).losses)) }
+    {
         let mut losses = self.own_losses()?;
         losses.add(conn, events)?;
-        self.losses = Some(losses);
+        self.put_losses(losses);
         Ok(())
     }
 
@@ -186,11 +192,18 @@ impl<'a> Draft<'a> {
             None => core.losses.copy(),
         }
     }
+
+    /// There are other losses.
+    fn put_losses(&mut self, losses: Losses)
+        ensures base { self.new.base ≡ self.old.base }
+        ensures put { drafted self.new ≡ with_losses_in self.old losses }
+    {
+        self.losses = Some(losses);
+    }
 }
 
 impl Core {
     /// Whether no connection has subscribed anything, as far as that is seen at once.
-    #[tactic(auto, using(fs_places::proofs::PlaceLemmas::filled_rules))]
     fn is_deaf(&self) -> bool
         ensures { result ≡ true → spec.AreDeaf self.now.conns }
     {
@@ -261,7 +274,6 @@ impl Core {
 }
 
 /// The frames of the events that a connection wants of these, as many as there is room for.
-
 fn frames_within(
     alloc: Global,
     subs: &SharedSubs,
@@ -281,7 +293,7 @@ fn frames_within(
 }
 
 /// How many events that a connection wants there are behind those for which there is room.
-
+#[tactic(auto, using(crate::proofs::PostLemmas::count_rules))]
 fn lost_behind(subs: &SharedSubs, told: &[Post], room: usize) -> u64
     ensures { result ≡ length (spec.wanted_by subs.now told.now) - room }
 {

@@ -10,7 +10,9 @@ use Rattle.fs_ports.specs.Loads.{LoadCounts, Tells, Counted}
 use Rattle.fs_ports.specs.declared.files.Load.{Load}
 use Rattle.fs_ports.specs.declared.files.Load.TheVariants.{Got, Absent, Failed}
 use Rattle.fs_ports.proofs.Sides.{reads_nothing, writes_nothing, stopped_sooner}
-use Rattle.fs_frame.specs.Block.{too_long}
+use Rattle.fs_frame.specs.Block.{fault_of}
+use Rattle.fs_frame.specs.declared.fault.Fault.{Fault}
+use Rattle.fs_frame.specs.declared.fault.Fault.TheVariants as faults
 use Rattle.fs_frame.specs.Blocks.{rest_of}
 use Rattle.fs_doc.specs.Reading.{Configuration, config_of}
 use Rattle.fs_doc.specs.declared.fault.DocKind.TheVariants.{Memory}
@@ -24,7 +26,7 @@ use Rattle.fs_machine.specs.Runs.{run_from}
 use Rattle.fs_machine.specs.Frames.{handed_from}
 use Rattle.fs_conn.specs.declared.end.End.{End}
 use Rattle.fs_conn.specs.declared.end.End.TheVariants as ends
-use Rattle.fs_conn.specs.Play.{switch_of, bytes_handed, played}
+use Rattle.fs_conn.specs.Play.{switch_of, bytes_handed, end_for, played}
 use Rattle.fs_conn.specs.Turns.{HasRead, Plays, Finishes, Breaks, all_written, then_failed, failed_before}
 use Rattle.fs_conn.specs.Ends.{IsFullAt, HasCause}
 use Rattle.fs_conn.proofs.LawLemmas.{config_kept, ends_played, cause_played, bytes_begin}
@@ -33,7 +35,7 @@ use Rattle.fs_top.specs.Told.{told_play, told_text, refused, is_eof, line_of_end
 use Rattle.fs_top.specs.Told.{pattern_line}
 use Rattle.fs_top.specs.Runs.{line_of_outcome, status_of_outcome, PlaysTo, CarriesOut, completes, fails_to_write, lacks_memory}
 use Rattle.fs_top.specs.Runs.{fails_for_memory, CarriesOutAs, Answers, IsPlanBuiltOf, IsBuilt, OverConfig, OverBytes, is_memory, not_read}
-use Rattle.fs_top.specs.Runs.{not_built, Runs, RefusesPattern, Ran, HasConfig, HasFault, HasRefusal, CountRose, FillsJournal, MeetsTooLong}
+use Rattle.fs_top.specs.Runs.{not_built, Runs, RefusesPattern, Ran, HasConfig, HasFault, HasRefusal, CountRose, FillsJournal, MeetsBadBlock}
 use Rattle.fs_top.specs.Runs.{RunsAway}
 use Rattle.fs_top.specs.declared.outcome.Outcome.{Outcome}
 use Rattle.fs_top.specs.declared.outcome.Outcome.TheVariants.{Usage, CannotRead, BadDocument, BadPattern, Printed, Ended}
@@ -86,6 +88,7 @@ eof_is ends.AuthRefused h = absurd (cc)
 eof_is ends.ReadFault h = absurd (cc)
 eof_is ends.WriteFault h = absurd (cc)
 eof_is (ends.TooLong len) h = absurd (cc)
+eof_is ends.BadLength h = absurd (cc)
 eof_is (ends.JournalFull cost limit) h = absurd (cc)
 eof_is ends.Memory h = absurd (cc)
 eof_is (ends.Runaway count) h = absurd (cc)
@@ -136,6 +139,7 @@ answers_ended c file in0 in1 out0 out1 ends.AuthRefused journal plays =
 answers_ended c file in0 in1 out0 out1 ends.ReadFault journal plays = answers_finished c file in0 in1 out0 out1 ends.ReadFault journal plays
 answers_ended c file in0 in1 out0 out1 (ends.TooLong len) journal plays =
     answers_finished c file in0 in1 out0 out1 (ends.TooLong len) journal plays
+answers_ended c file in0 in1 out0 out1 ends.BadLength journal plays = answers_finished c file in0 in1 out0 out1 ends.BadLength journal plays
 answers_ended c file in0 in1 out0 out1 (ends.JournalFull cost limit) journal plays =
     answers_finished c file in0 in1 out0 out1 (ends.JournalFull cost limit) journal plays
 answers_ended c file in0 in1 out0 out1 (ends.Runaway count) journal plays =
@@ -429,74 +433,78 @@ status_ended c input read_failed status is =
     (ended.0, ended.1, sym (ap (λ (last : Option End). unwrap_or (option_map status_of_end last) 0) ended.1) ∙ is)
 
 -- the count that a status of 4 shows
-unreadable_end : (end : End) (s : Switch) (is_too_long read_failed : Bool) → status_of_end end ≡ 4 →
-    HasCause end s is_too_long read_failed → read_failed ≡ true
-unreadable_end ends.Exit s is_too_long read_failed four cause = absurd (cc)
-unreadable_end ends.Eof s is_too_long read_failed four cause = absurd (cc)
-unreadable_end ends.AuthRefused s is_too_long read_failed four cause = absurd (cc)
-unreadable_end ends.ReadFault s is_too_long read_failed four cause = cause.1
-unreadable_end ends.WriteFault s is_too_long read_failed four cause = absurd cause
-unreadable_end (ends.TooLong len) s is_too_long read_failed four cause = absurd (cc)
-unreadable_end (ends.JournalFull cost limit) s is_too_long read_failed four cause = absurd (cc)
-unreadable_end ends.Memory s is_too_long read_failed four cause = absurd cause
-unreadable_end (ends.Runaway count) s is_too_long read_failed four cause = absurd (cc)
+unreadable_end : (end : End) (s : Switch) (fault : Option Fault) (read_failed : Bool) → status_of_end end ≡ 4 →
+    HasCause end s fault read_failed → read_failed ≡ true
+unreadable_end ends.Exit s fault read_failed four cause = absurd (cc)
+unreadable_end ends.Eof s fault read_failed four cause = absurd (cc)
+unreadable_end ends.AuthRefused s fault read_failed four cause = absurd (cc)
+unreadable_end ends.ReadFault s fault read_failed four cause = cause.1
+unreadable_end ends.WriteFault s fault read_failed four cause = absurd cause
+unreadable_end (ends.TooLong len) s fault read_failed four cause = absurd (cc)
+unreadable_end ends.BadLength s fault read_failed four cause = absurd (cc)
+unreadable_end (ends.JournalFull cost limit) s fault read_failed four cause = absurd (cc)
+unreadable_end ends.Memory s fault read_failed four cause = absurd cause
+unreadable_end (ends.Runaway count) s fault read_failed four cause = absurd (cc)
 
 unreadable_play : (c : Configuration) (counts0 counts1 : LoadCounts) (in0 in1 : Input) (input : List ℕ) (read_failed : Bool) →
     HasRead in0 in1 input read_failed → (tells c input read_failed).status ≡ 4 → CountRose counts0 counts1 in0 in1
 unreadable_play c counts0 counts1 in0 in1 input read_failed has_read four =
     let ended = status_ended c input read_failed 4 four in
     let failed =
-    unreadable_end ended.0 (switch_of (played c input read_failed)) (too_long (rest_of input)) read_failed ended.2
+    unreadable_end ended.0 (switch_of (played c input read_failed)) (fault_of (rest_of input)) read_failed ended.2
     (cause_played c input read_failed ended.0 ended.1) in
     inr (inr (has_read.faults ∙ ap (λ b. cond b (raised in0.faults) in0.faults) failed))
 
--- the rest that a status of 10 shows
-too_long_end : (end : End) (s : Switch) (is_too_long read_failed : Bool) → status_of_end end ≡ 10 → HasCause end s is_too_long read_failed →
-    (end ≡ ends.TooLong 65537) × (is_too_long ≡ true)
-too_long_end ends.Exit s is_too_long read_failed ten cause = absurd (cc)
-too_long_end ends.Eof s is_too_long read_failed ten cause = absurd (cc)
-too_long_end ends.AuthRefused s is_too_long read_failed ten cause = absurd (cc)
-too_long_end ends.ReadFault s is_too_long read_failed ten cause = absurd (cc)
-too_long_end ends.WriteFault s is_too_long read_failed ten cause = absurd cause
-too_long_end (ends.TooLong len) s is_too_long read_failed ten cause = (ap ends.TooLong cause.1, cause.0)
-too_long_end (ends.JournalFull cost limit) s is_too_long read_failed ten cause = absurd (cc)
-too_long_end ends.Memory s is_too_long read_failed ten cause = absurd cause
-too_long_end (ends.Runaway count) s is_too_long read_failed ten cause = absurd (cc)
+-- the bad block that a status of 10 shows
+bad_block_end : (end : End) (s : Switch) (fault : Option Fault) (read_failed : Bool) → status_of_end end ≡ 10 →
+    HasCause end s fault read_failed → (bad : Fault) × (fault ≡ Some bad) × (end ≡ end_for bad)
+bad_block_end ends.Exit s fault read_failed ten cause = absurd (cc)
+bad_block_end ends.Eof s fault read_failed ten cause = absurd (cc)
+bad_block_end ends.AuthRefused s fault read_failed ten cause = absurd (cc)
+bad_block_end ends.ReadFault s fault read_failed ten cause = absurd (cc)
+bad_block_end ends.WriteFault s fault read_failed ten cause = absurd cause
+bad_block_end (ends.TooLong len) s fault read_failed ten cause = (faults.TooLong len, cause, refl)
+bad_block_end ends.BadLength s fault read_failed ten cause = (faults.BadLength, cause, refl)
+bad_block_end (ends.JournalFull cost limit) s fault read_failed ten cause = absurd (cc)
+bad_block_end ends.Memory s fault read_failed ten cause = absurd cause
+bad_block_end (ends.Runaway count) s fault read_failed ten cause = absurd (cc)
 
-too_long_play : (c : Configuration) (in0 in1 : Input) (input : List ℕ) (read_failed : Bool) → HasRead in0 in1 input read_failed →
-    (tells c input read_failed).status ≡ 10 → MeetsTooLong c in0 in1
-too_long_play c in0 in1 input read_failed has_read ten =
+bad_block_play : (c : Configuration) (in0 in1 : Input) (input : List ℕ) (read_failed : Bool) → HasRead in0 in1 input read_failed →
+    (tells c input read_failed).status ≡ 10 → MeetsBadBlock c in0 in1
+bad_block_play c in0 in1 input read_failed has_read ten =
     let ended = status_ended c input read_failed 10 ten in
-    let is = too_long_end ended.0 (switch_of (played c input read_failed)) (too_long (rest_of input)) read_failed ended.2
+    let is = bad_block_end ended.0 (switch_of (played c input read_failed)) (fault_of (rest_of input)) read_failed ended.2
     (cause_played c input read_failed ended.0 ended.1) in record {
       input = input;
       read_failed = read_failed;
       has_read = has_read;
-      end_is = ended.1 ∙ ap Some is.0;
-      is_too_long = is.1;
+      fault = is.0;
+      is_bad = is.1;
+      end_is = ended.1 ∙ ap Some is.2;
     }
 
 -- the journal that a status of 8 shows
 abbrev IsFull : End → Switch → Type 0
 IsFull end s = (cost : ℕ) × (limit : ℕ) × (end ≡ ends.JournalFull cost limit) × IsFullAt cost limit s
 
-full_end : (end : End) (s : Switch) (is_too_long read_failed : Bool) → status_of_end end ≡ 8 → HasCause end s is_too_long read_failed →
+full_end : (end : End) (s : Switch) (fault : Option Fault) (read_failed : Bool) → status_of_end end ≡ 8 → HasCause end s fault read_failed →
     IsFull end s
-full_end ends.Exit s is_too_long read_failed eight cause = absurd (cc)
-full_end ends.Eof s is_too_long read_failed eight cause = absurd (cc)
-full_end ends.AuthRefused s is_too_long read_failed eight cause = absurd (cc)
-full_end ends.ReadFault s is_too_long read_failed eight cause = absurd (cc)
-full_end ends.WriteFault s is_too_long read_failed eight cause = absurd cause
-full_end (ends.TooLong len) s is_too_long read_failed eight cause = absurd (cc)
-full_end (ends.JournalFull cost limit) s is_too_long read_failed eight cause = (cost, limit, refl, cause)
-full_end ends.Memory s is_too_long read_failed eight cause = absurd cause
-full_end (ends.Runaway count) s is_too_long read_failed eight cause = absurd (cc)
+full_end ends.Exit s fault read_failed eight cause = absurd (cc)
+full_end ends.Eof s fault read_failed eight cause = absurd (cc)
+full_end ends.AuthRefused s fault read_failed eight cause = absurd (cc)
+full_end ends.ReadFault s fault read_failed eight cause = absurd (cc)
+full_end ends.WriteFault s fault read_failed eight cause = absurd cause
+full_end (ends.TooLong len) s fault read_failed eight cause = absurd (cc)
+full_end ends.BadLength s fault read_failed eight cause = absurd (cc)
+full_end (ends.JournalFull cost limit) s fault read_failed eight cause = (cost, limit, refl, cause)
+full_end ends.Memory s fault read_failed eight cause = absurd cause
+full_end (ends.Runaway count) s fault read_failed eight cause = absurd (cc)
 
 full_play : (c : Configuration) (in0 in1 : Input) (input : List ℕ) (read_failed : Bool) → HasRead in0 in1 input read_failed →
     (tells c input read_failed).status ≡ 8 → FillsJournal c in0 in1
 full_play c in0 in1 input read_failed has_read eight =
     let ended = status_ended c input read_failed 8 eight in
-    let is = full_end ended.0 (switch_of (played c input read_failed)) (too_long (rest_of input)) read_failed ended.2
+    let is = full_end ended.0 (switch_of (played c input read_failed)) (fault_of (rest_of input)) read_failed ended.2
     (cause_played c input read_failed ended.0 ended.1) in record {
       input = input;
       read_failed = read_failed;
@@ -509,17 +517,18 @@ full_play c in0 in1 input read_failed has_read eight =
     }
 
 -- the end that a status of 9 shows
-away_end : (end : End) (s : Switch) (is_too_long read_failed : Bool) → status_of_end end ≡ 9 → HasCause end s is_too_long read_failed →
+away_end : (end : End) (s : Switch) (fault : Option Fault) (read_failed : Bool) → status_of_end end ≡ 9 → HasCause end s fault read_failed →
     end ≡ ends.Runaway 100000
-away_end ends.Exit s is_too_long read_failed nine cause = absurd (cc)
-away_end ends.Eof s is_too_long read_failed nine cause = absurd (cc)
-away_end ends.AuthRefused s is_too_long read_failed nine cause = absurd (cc)
-away_end ends.ReadFault s is_too_long read_failed nine cause = absurd (cc)
-away_end ends.WriteFault s is_too_long read_failed nine cause = absurd cause
-away_end (ends.TooLong len) s is_too_long read_failed nine cause = absurd (cc)
-away_end (ends.JournalFull cost limit) s is_too_long read_failed nine cause = absurd (cc)
-away_end ends.Memory s is_too_long read_failed nine cause = absurd cause
-away_end (ends.Runaway count) s is_too_long read_failed nine cause = ap ends.Runaway cause
+away_end ends.Exit s fault read_failed nine cause = absurd (cc)
+away_end ends.Eof s fault read_failed nine cause = absurd (cc)
+away_end ends.AuthRefused s fault read_failed nine cause = absurd (cc)
+away_end ends.ReadFault s fault read_failed nine cause = absurd (cc)
+away_end ends.WriteFault s fault read_failed nine cause = absurd cause
+away_end (ends.TooLong len) s fault read_failed nine cause = absurd (cc)
+away_end ends.BadLength s fault read_failed nine cause = absurd (cc)
+away_end (ends.JournalFull cost limit) s fault read_failed nine cause = absurd (cc)
+away_end ends.Memory s fault read_failed nine cause = absurd cause
+away_end (ends.Runaway count) s fault read_failed nine cause = ap ends.Runaway cause
 
 away_play : (c : Configuration) (in0 in1 : Input) (input : List ℕ) (read_failed : Bool) → HasRead in0 in1 input read_failed →
     (tells c input read_failed).status ≡ 9 → RunsAway c in0 in1
@@ -529,7 +538,7 @@ away_play c in0 in1 input read_failed has_read nine =
       read_failed = read_failed;
       has_read = has_read;
       end_is =
-          ended.1 ∙ ap Some (away_end ended.0 (switch_of (played c input read_failed)) (too_long (rest_of input)) read_failed ended.2
+          ended.1 ∙ ap Some (away_end ended.0 (switch_of (played c input read_failed)) (fault_of (rest_of input)) read_failed ended.2
           (cause_played c input read_failed ended.0 ended.1));
     }
 
@@ -619,11 +628,11 @@ cause_away asked next_load counts0 counts1 sizes0 sizes1 in0 in1 out0 out1 outco
     (p.c, p.has, away_play p.c in0 in1 runs.answers.input runs.answers.read_failed runs.answers.has_read ended)
 
 -- what status 10 shows
-pub cause_too_long : (asked : Option Asked) (next_load : List ℕ → Option Load) (counts0 counts1 : LoadCounts) (sizes0 sizes1 : ℕ)
+pub cause_bad_block : (asked : Option Asked) (next_load : List ℕ → Option Load) (counts0 counts1 : LoadCounts) (sizes0 sizes1 : ℕ)
     (in0 in1 : Input) (out0 out1 : Output) (outcome : Outcome) →
     Runs asked next_load counts0 counts1 sizes0 sizes1 in0 in1 out0 out1 outcome → status_of_outcome outcome ≡ 10 →
-    (c : Configuration) × HasConfig asked next_load c × MeetsTooLong c in0 in1
-cause_too_long asked next_load counts0 counts1 sizes0 sizes1 in0 in1 out0 out1 outcome runs ten =
+    (c : Configuration) × HasConfig asked next_load c × MeetsBadBlock c in0 in1
+cause_bad_block asked next_load counts0 counts1 sizes0 sizes1 in0 in1 out0 out1 outcome runs ten =
     let told =
     status-told asked next_load counts0 counts1 sizes0 sizes1 in0 in1 out0 out1 outcome runs (λ e. absurd (cc)) (λ e. absurd (cc)) in
     let p =
@@ -631,25 +640,26 @@ cause_too_long asked next_load counts0 counts1 sizes0 sizes1 in0 in1 out0 out1 o
     (λ e. absurd (cc)) (λ e. absurd (cc)) (λ e. absurd (cc)) (λ e. absurd (cc)) runs.file_told told in
     let ended : (tells p.c runs.answers.input runs.answers.read_failed).status ≡ 10 =
     subst (λ (n : ℕ). (tells p.c runs.answers.input runs.answers.read_failed).status ≡ n) ten p.ended in
-    (p.c, p.has, too_long_play p.c in0 in1 runs.answers.input runs.answers.read_failed runs.answers.has_read ended)
+    (p.c, p.has, bad_block_play p.c in0 in1 runs.answers.input runs.answers.read_failed runs.answers.has_read ended)
 
 -- no play is told to end by a write that failed
-unwritten_end : (end : End) (s : Switch) (is_too_long read_failed : Bool) → status_of_end end ≡ 5 → HasCause end s is_too_long read_failed →
-    ⊥
-unwritten_end ends.Exit s is_too_long read_failed five cause = cc
-unwritten_end ends.Eof s is_too_long read_failed five cause = cc
-unwritten_end ends.AuthRefused s is_too_long read_failed five cause = cc
-unwritten_end ends.ReadFault s is_too_long read_failed five cause = cc
-unwritten_end ends.WriteFault s is_too_long read_failed five cause = cause
-unwritten_end (ends.TooLong len) s is_too_long read_failed five cause = cc
-unwritten_end (ends.JournalFull cost limit) s is_too_long read_failed five cause = cc
-unwritten_end ends.Memory s is_too_long read_failed five cause = cause
-unwritten_end (ends.Runaway count) s is_too_long read_failed five cause = cc
+unwritten_end : (end : End) (s : Switch) (fault : Option Fault) (read_failed : Bool) → status_of_end end ≡ 5 →
+    HasCause end s fault read_failed → ⊥
+unwritten_end ends.Exit s fault read_failed five cause = cc
+unwritten_end ends.Eof s fault read_failed five cause = cc
+unwritten_end ends.AuthRefused s fault read_failed five cause = cc
+unwritten_end ends.ReadFault s fault read_failed five cause = cc
+unwritten_end ends.WriteFault s fault read_failed five cause = cause
+unwritten_end (ends.TooLong len) s fault read_failed five cause = cc
+unwritten_end ends.BadLength s fault read_failed five cause = cc
+unwritten_end (ends.JournalFull cost limit) s fault read_failed five cause = cc
+unwritten_end ends.Memory s fault read_failed five cause = cause
+unwritten_end (ends.Runaway count) s fault read_failed five cause = cc
 
 unwritten_play : (c : Configuration) (input : List ℕ) (read_failed : Bool) → (tells c input read_failed).status ≡ 5 → ⊥
 unwritten_play c input read_failed five =
     let ended = status_ended c input read_failed 5 five in
-    unwritten_end ended.0 (switch_of (played c input read_failed)) (too_long (rest_of input)) read_failed ended.2
+    unwritten_end ended.0 (switch_of (played c input read_failed)) (fault_of (rest_of input)) read_failed ended.2
     (cause_played c input read_failed ended.0 ended.1)
 
 -- so a status of 5 comes of a write
@@ -707,6 +717,7 @@ end_not_3 ends.AuthRefused three = cc
 end_not_3 ends.ReadFault three = cc
 end_not_3 ends.WriteFault three = cc
 end_not_3 (ends.TooLong len) three = cc
+end_not_3 ends.BadLength three = cc
 end_not_3 (ends.JournalFull cost limit) three = cc
 end_not_3 ends.Memory three = cc
 end_not_3 (ends.Runaway count) three = cc

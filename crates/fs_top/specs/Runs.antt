@@ -8,8 +8,9 @@ use Rattle.fs_ports.specs.declared.send.Sent.{Sent}
 use Rattle.fs_ports.specs.Loads.{LoadCounts, Tells, Counted}
 use Rattle.fs_ports.specs.declared.files.Load.{Load}
 use Rattle.fs_ports.specs.declared.files.Load.TheVariants.{Got, Absent, Failed}
-use Rattle.fs_frame.specs.Block.{too_long}
+use Rattle.fs_frame.specs.Block.{fault_of}
 use Rattle.fs_frame.specs.Blocks.{rest_of}
+use Rattle.fs_frame.specs.declared.fault.Fault.{Fault}
 use Rattle.fs_doc.specs.Dialplans.{Context}
 use Rattle.fs_doc.specs.Reading.{Configuration, config_of}
 use Rattle.fs_doc.specs.declared.fault.DocKind.{DocKind}
@@ -20,7 +21,7 @@ use Rattle.fs_plan.specs.declared.fault.PlanFault.{PlanFault}
 use Rattle.fs_plan.specs.declared.fault.PlanFault.TheVariants.{PatternRefused, PatternTooLarge, Memory as NoMemory}
 use Rattle.fs_machine.specs.declared.entry.Entry.{Entry}
 use Rattle.fs_conn.specs.declared.end.End.TheVariants as ends
-use Rattle.fs_conn.specs.Play.{switch_of, played}
+use Rattle.fs_conn.specs.Play.{switch_of, end_for, played}
 use Rattle.fs_conn.specs.Turns.{HasRead, Plays}
 use Rattle.fs_conn.specs.Ends.{IsFullAt}
 use Rattle.fs_top.specs.Told.{Told, Asked, Check, Hunt, Play, file_asked, told_asked, told_built, told_file, told_words, line_of_end}
@@ -221,13 +222,14 @@ abbrev pub CountRose : LoadCounts → LoadCounts → Input → Input → Type 0
 CountRose counts0 counts1 in0 in1 =
     (counts1.absences ≡ raised counts0.absences) ⊎ ((counts1.faults ≡ raised counts0.faults) ⊎ (in1.faults ≡ raised in0.faults))
 
--- behind the blocks of the bytes that were taken stand more bytes than a block may have, and none in front of them
-pub record MeetsTooLong (c : Configuration) (in0 in1 : Input) : Type 0 where
+-- behind the blocks of the bytes that were taken stands one that is too long or has a bad length, and by that the play ends
+pub record MeetsBadBlock (c : Configuration) (in0 in1 : Input) : Type 0 where
   pub input : List ℕ
   pub read_failed : Bool
   pub has_read : HasRead in0 in1 input read_failed
-  pub end_is : (played c input read_failed).end ≡ Some (ends.TooLong 65537)
-  pub is_too_long : too_long (rest_of input) ≡ true
+  pub fault : Fault
+  pub is_bad : fault_of (rest_of input) ≡ Some fault
+  pub end_is : (played c input read_failed).end ≡ Some (end_for fault)
 
 -- the journal of what was taken is full behind its last entry, and was to have a further one
 pub record FillsJournal (c : Configuration) (in0 in1 : Input) : Type 0 where

@@ -88,6 +88,9 @@ too_long_line len = codes "fsw: block too long " ++ decimal len ++ codes "\n"
 unfoldable pub journal_full_line : ℕ → ℕ → List ℕ
 journal_full_line cost limit = codes "fsw: journal full " ++ (decimal cost ++ (codes " " ++ (decimal limit ++ codes "\n")))
 
+unfoldable pub bad_length_line : List ℕ
+bad_length_line = codes "fsw: bad length\n"
+
 -- so many entries were worked at one moment
 unfoldable pub runaway_line : ℕ → List ℕ
 runaway_line count = codes "fsw: runaway " ++ (decimal count ++ codes "\n")
@@ -118,6 +121,7 @@ line_of_end ends.AuthRefused = []
 line_of_end ends.ReadFault = read_fault_line
 line_of_end ends.WriteFault = write_fault_line
 line_of_end (ends.TooLong len) = too_long_line len
+line_of_end ends.BadLength = bad_length_line
 line_of_end (ends.JournalFull cost limit) = journal_full_line cost limit
 line_of_end ends.Memory = memory_line
 line_of_end (ends.Runaway count) = runaway_line count
@@ -130,6 +134,7 @@ status_of_end ends.AuthRefused = 0
 status_of_end ends.ReadFault = 4
 status_of_end ends.WriteFault = 5
 status_of_end (ends.TooLong len) = 10
+status_of_end ends.BadLength = 10
 status_of_end (ends.JournalFull cost limit) = 8
 status_of_end ends.Memory = 1
 status_of_end (ends.Runaway count) = 9
@@ -142,6 +147,7 @@ is_eof ends.AuthRefused = false
 is_eof ends.ReadFault = false
 is_eof ends.WriteFault = false
 is_eof (ends.TooLong len) = false
+is_eof ends.BadLength = false
 is_eof (ends.JournalFull cost limit) = false
 is_eof ends.Memory = false
 is_eof (ends.Runaway count) = false

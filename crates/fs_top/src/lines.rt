@@ -40,6 +40,7 @@ fn say_end<E: Sink>(err: &mut E, end: End) -> Sent
         End::Exit | End::AuthRefused | End::Eof => send_all(err, b""),
         End::ReadFault => send_all(err, b"fsw: read fault\n"),
         End::TooLong { len } => say_too_long(err, len),
+        End::BadLength => say_bad_length(err),
         End::JournalFull { cost, limit } => say_journal_full(err, cost, limit),
         End::Runaway { count } => say_runaway(err, count),
         End::Memory => say_memory(err),
@@ -131,7 +132,7 @@ fn say_cannot_read<E: Sink>(err: &mut E, name: &[u8]) -> Sent
     send_parts(err, &[b"fsw: cannot read ", name, b"\n"])
 }
 
-// Prints that a block is too long, of which so many bytes were looked at.
+// Prints that a block is too long: its length, or how many of its bytes were looked at.
 #[tactic(auto, unfolding(crate::specs::Told::too_long_line))]
 fn say_too_long<E: Sink>(err: &mut E, len: u64) -> Sent
     ensures { SendDid (E.output err.old) (E.output err.new) result (spec.too_long_line len) }
@@ -145,6 +146,14 @@ fn say_too_long<E: Sink>(err: &mut E, len: u64) -> Sent
             b"\n",
         ],
     )
+}
+
+// Prints that the length of a block is malformed.
+#[tactic(auto, unfolding(crate::specs::Told::bad_length_line))]
+fn say_bad_length<E: Sink>(err: &mut E) -> Sent
+    ensures { SendDid (E.output err.old) (E.output err.new) result spec.bad_length_line }
+{
+    send_all(err, b"fsw: bad length\n")
 }
 
 // Prints that the journal is full at this cost and limit.

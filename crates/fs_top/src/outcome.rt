@@ -39,7 +39,7 @@ impl<'a> Outcome<'a> {
             Outcome::Ended(End::WriteFault) => 5,
             Outcome::Ended(End::JournalFull { .. }) => 8,
             Outcome::Ended(End::Runaway { .. }) => 9,
-            Outcome::Ended(End::TooLong { .. }) => 10,
+            Outcome::Ended(End::TooLong { .. } | End::BadLength) => 10,
         }
     }
 }

@@ -8,7 +8,7 @@ ghost use Rattle.fs_top.specs.Told as spec;
 ghost use Rattle.fs_top.specs.Reading.{asked_seen};
 ghost use Rattle.fs_top.specs.Runs.{PlaysTo, Answers, OverBytes, OverConfig, not_read, not_built, Runs, Ran};
 ghost use Rattle.fs_top.specs.Runs.{CarriesOutAs};
-ghost use Rattle.fs_top.specs.Runs.{HasConfig, HasFault, HasRefusal, CountRose, FillsJournal, MeetsTooLong, RunsAway};
+ghost use Rattle.fs_top.specs.Runs.{HasConfig, HasFault, HasRefusal, CountRose, FillsJournal, MeetsBadBlock, RunsAway};
 ghost use Rattle.fs_top.specs.Runs.{IsGiven, NoneRose, DoesAll};
 
 use crate::asked::Asked;
@@ -65,9 +65,9 @@ pub fn run<F: Files, L: Link, E: Sink>(
     ensures runaway { result.code ≡ 9 → (c : Configuration)
         × HasConfig (spec.asked_by words.now) (F.next_load files.old) c
         × RunsAway c (L.input link.old) (L.input link.new) }
-    ensures too_long { result.code ≡ 10 → (c : Configuration)
+    ensures bad_block { result.code ≡ 10 → (c : Configuration)
         × HasConfig (spec.asked_by words.now) (F.next_load files.old) c
-        × MeetsTooLong c (L.input link.old) (L.input link.new) }
+        × MeetsBadBlock c (L.input link.old) (L.input link.new) }
 
     // Where the file is told to be read as a configuration whose patterns have readings, and no count rose, all that is
     // told was done, or memory was wanting.

@@ -141,7 +141,19 @@ returns-in-TooLong-clause-turns g c =
     let p = play_of c.args.machine.now c.args.clock.now in
     λ config in0 out0 stands. ends_between config in0 _ _ out0 _ _ _ _ _ _ p false stands answer.0.no_block reading.none
     (reads_nothing _) refl
-    (writing_none _ _ p p refl) (rw (answer.1, answer.2) refl) refl (λ is_eof. absurd (cc))
+    (writing_none _ _ p p refl) (rw answer.1 refl) refl (λ is_eof. absurd (cc))
+
+pub returns-in-BadLength-clause-turns : goal.returns-in-BadLength-clause-turns
+returns-in-BadLength-clause-turns g c =
+    let reading =
+    is_reading
+    (play_of c.args.machine.now c.args.clock.now) _ _ c.sound.ensures.state.owed c.requires.here c.requires.free c.parting.ensures
+    c.farewell.ensures c.in_default.not-Some in
+    let answer = c.in-BadLength.ensures.answer in
+    let p = play_of c.args.machine.now c.args.clock.now in
+    λ config in0 out0 stands. ends_between config in0 _ _ out0 _ _ _ _ _ _ p false stands answer.0.no_block reading.none
+    (reads_nothing _) refl
+    (writing_none _ _ p p refl) (rw answer.1 refl) refl (λ is_eof. absurd (cc))
 
 pub command-requires-clause-reads : goal.command-requires-clause-reads
 command-requires-clause-reads g c =

@@ -1,5 +1,5 @@
 use Rattle.std.proofs.Common.{sym, ◌∙◌}
-use Rattle.fs_top.proofs.RunLaws.{ran, cause_document, cause_unreadable, cause_write, cause_full, cause_away, cause_too_long}
+use Rattle.fs_top.proofs.RunLaws.{ran, cause_document, cause_unreadable, cause_write, cause_full, cause_away, cause_bad_block}
 use Rattle.fs_top.proofs.CompleteLaws.{complete}
 use Rattle.fs_top.proofs.program.run.Goals as goal
 
@@ -21,8 +21,8 @@ returns-clause-full g c = λ eight. cause_full _ _ _ _ _ _ _ _ _ _ _ c.conduct-o
 pub returns-clause-runaway : goal.returns-clause-runaway
 returns-clause-runaway g c = λ nine. cause_away _ _ _ _ _ _ _ _ _ _ _ c.conduct-outcome.ensures (sym c.status.ensures ∙ nine)
 
-pub returns-clause-too_long : goal.returns-clause-too_long
-returns-clause-too_long g c = λ ten. cause_too_long _ _ _ _ _ _ _ _ _ _ _ c.conduct-outcome.ensures (sym c.status.ensures ∙ ten)
+pub returns-clause-bad_block : goal.returns-clause-bad_block
+returns-clause-bad_block g c = λ ten. cause_bad_block _ _ _ _ _ _ _ _ _ _ _ c.conduct-outcome.ensures (sym c.status.ensures ∙ ten)
 
 pub returns-clause-complete : goal.returns-clause-complete
 returns-clause-complete g c =

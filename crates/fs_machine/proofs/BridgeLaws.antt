@@ -1,0 +1,150 @@
+-- In every run one event tells of each bridge that it begins, and one of each that stands no more that it has ended.
+use Rattle.std.proofs.Common.{◌≡◌, ℕ, ◌+◌, ◌≤◌, true, false, List, [], ◌∷◌, ◌++◌, Option, None, Some, is_some}
+use Rattle.std.proofs.Common.{◌⊎◌, inl, inr, refl, sym, ap, subst, ◌∙◌, arith, true≢false}
+use Rattle.std.proofs.lemmas.Bool.{false≢true, cases_eq}
+use Rattle.std.proofs.lemmas.List.{append-nil, append_assoc}
+use Rattle.std.proofs.lemmas.List.Sums.{sum_by-append}
+use Rattle.fs_doc.specs.Reading.{Configuration}
+use Rattle.fs_bridge.specs.Bridges.{BridgeRows, has_number, numbered}
+use Rattle.fs_bridge.specs.declared.row.Row.{Row}
+use Rattle.fs_bridge.proofs.RowLemmas.{one_if, none_counted, none_found}
+use Rattle.fs_state.specs.declared.event.Event.{Event}
+use Rattle.fs_state.specs.Switch.{Switch, empty, at_moment}
+use Rattle.fs_machine.specs.declared.entry.Entry.{Entry}
+use Rattle.fs_machine.specs.BridgeEvents.{begins, ends, begun, ended, stands, WasDrawn, BridgesAreTold, events_in}
+use Rattle.fs_machine.specs.Events.{events_by, happened_from, events_of}
+use Rattle.fs_machine.specs.Runs.{run_from}
+use Rattle.fs_machine.specs.Step.{act_done, step}
+use Rattle.fs_machine.proofs.ActWalk.{acted_kept}
+use Rattle.fs_machine.proofs.BondRows.{RowsFit}
+use Rattle.fs_machine.proofs.EventLemmas.{events_first}
+use Rattle.fs_machine.proofs.ListCounts.{found_passes, counts_found}
+use Rattle.fs_machine.proofs.StandingLemmas.{none_fit}
+use Rattle.fs_machine.proofs.EndLemmas.{rows_of_number}
+use Rattle.fs_machine.proofs.BridgeCounts.{drawn_times, drawn_later, drawn_never, drawn_once, drawn_most, Tells}
+use Rattle.fs_machine.proofs.BridgeMoves.{Telling, telling_moves}
+
+-- ---- runs
+
+-- the events of entries tell so, and none is left in hand
+record HasTold (past : List Event) (s : Switch) : Type 0 where
+  told : Tells past s
+  over : s.news ≡ []
+
+nothing_told : (config : Configuration) → HasTold [] (empty config)
+nothing_told config = record {
+  told = record { rows = none_fit; begin = λ number. refl; end = λ number. refl };
+  over = refl;
+}
+
+-- the news of an entry become events of the past
+past_told : (past : List Event) (s t : Switch) → Tells past s → t.bridges ≡ s.bridges → t.news ≡ [] → HasTold (past ++ s.news) t
+past_told past s t h same over = record {
+  told = record {
+    rows = subst RowsFit (sym same) h.rows;
+    begin = λ number.
+        let all = h.begin number in
+        let both : begun number (past ++ s.news) ≡ begun number past + begun number s.news =
+        sum_by-append (λ (e : Event). one_if (begins number e)) past s.news in
+        let none : begun number t.news ≡ 0 = ap (begun number) over in
+        let drawn : drawn_times number t.bridges.drawn ≡ drawn_times number s.bridges.drawn =
+        ap (λ (b : BridgeRows). drawn_times number b.drawn) same in
+        omega (arith, all, both, none, drawn);
+    end = λ number.
+        let all = h.end number in
+        let both : ended number (past ++ s.news) ≡ ended number past + ended number s.news =
+        sum_by-append (λ (e : Event). one_if (ends number e)) past s.news in
+        let none : ended number t.news ≡ 0 = ap (ended number) over in
+        let drawn : drawn_times number t.bridges.drawn ≡ drawn_times number s.bridges.drawn =
+        ap (λ (b : BridgeRows). drawn_times number b.drawn) same in
+        let rows : rows_of_number number t.bridges ≡ rows_of_number number s.bridges = ap (rows_of_number number) same in
+        omega (arith, all, both, none, drawn, rows);
+  };
+  over = over;
+}
+
+step_told : (past : List Event) (s : Switch) (entry : Entry) → HasTold past s → HasTold (past ++ events_by s entry) (step s entry).state
+unfolding step events_by
+step_told past s entry h =
+    let now : Switch = at_moment entry.moment s in
+    let t : Switch = (act_done entry.act now).state in
+    past_told past t (step s entry).state
+    (acted_kept now (Telling past) (telling_moves past now) entry.act
+    (record { rows = h.told.rows; begin = h.told.begin; end = h.told.end })) refl refl
+
+run_told : (place : ℕ) (past : List Event) (s : Switch) (entries : List Entry) → HasTold past s →
+    HasTold (past ++ events_of (happened_from place s entries)) (run_from s entries)
+run_told place past s [] h = subst (λ events. HasTold events s) (sym (append-nil past)) h
+run_told place past s (entry ∷ entries) h =
+    let t : Switch = (step s entry).state in
+    subst (λ events. HasTold events (run_from t entries))
+    (append_assoc past (events_by s entry) (events_of (happened_from (place + 1) t entries))
+    ∙ ap (λ events. past ++ events) (sym (events_first place s entry entries)))
+    (run_told (place + 1) (past ++ events_by s entry) t entries (step_told past s entry h))
+
+-- ---- as the definition has it
+
+module _ (past : List Event) (s : Switch) (h : HasTold past s) where
+  begun_as : (number : ℕ) → begun number past ≡ drawn_times number s.bridges.drawn
+  begun_as number =
+      let all = h.told.begin number in
+      let none : begun number s.news ≡ 0 = ap (begun number) h.over in
+      omega (arith, all, none)
+
+  ended_as : (number : ℕ) → ended number past + rows_of_number number s.bridges ≡ drawn_times number s.bridges.drawn
+  ended_as number =
+      let all = h.told.end number in
+      let none : ended number s.news ≡ 0 = ap (ended number) h.over in
+      omega (arith, all, none)
+
+  -- what stands is one of the rows
+  stands_one : (number : ℕ) (found : Option Row) → numbered number s.bridges ≡ found → is_some found ≡ true →
+      1 ≤ rows_of_number number s.bridges
+  stands_one number None is some = absurd (false≢true some)
+  stands_one number (Some row) is some =
+      counts_found (has_number number) (has_number number) s.bridges.rows row is
+      (found_passes (has_number number) s.bridges.rows row is)
+
+  stands_none : (number : ℕ) (found : Option Row) → numbered number s.bridges ≡ found → is_some found ≡ false →
+      rows_of_number number s.bridges ≡ 0
+  stands_none number None is none = none_counted (has_number number) s.bridges.rows is
+  stands_none number (Some row) is none = absurd (true≢false none)
+
+  -- a number is not drawn
+  never_drawn : (number : ℕ) → (WasDrawn number s → ⊥) → drawn_times number s.bridges.drawn ≡ 0
+  never_drawn number never = by (cases_eq number 0)
+    where
+      by : (number ≡ 0) ⊎ (number ≡ 0 → ⊥) → drawn_times number s.bridges.drawn ≡ 0
+      by (inl zero) = ap (λ n. drawn_times n s.bridges.drawn) zero ∙ drawn_never s.bridges.drawn
+      by (inr other) =
+          let first : 1 ≤ number = omega (arith, other) in
+          let late : number ≤ s.bridges.drawn → ⊥ = λ last. never (record { first = first; last = last }) in
+          drawn_later number s.bridges.drawn (omega (arith, late))
+
+  all_told : BridgesAreTold s past
+  all_told = record {
+    begin = λ number drawn. begun_as number ∙ drawn_once number s.bridges.drawn drawn.first drawn.last;
+    stand = λ number stands.
+        let all = ended_as number in
+        let most = drawn_most number s.bridges.drawn in
+        let one = stands_one number (numbered number s.bridges) refl stands in
+        omega (arith, all, most, one);
+    end = λ number drawn gone.
+        let all = ended_as number in
+        let once = drawn_once number s.bridges.drawn drawn.first drawn.last in
+        let none = stands_none number (numbered number s.bridges) refl gone in
+        omega (arith, all, once, none);
+    none = λ number never.
+        let begin = begun_as number in
+        let end = ended_as number in
+        let zero = never_drawn number never in (
+          omega (arith, begin, zero),
+          omega (arith, end, zero),
+          ap is_some (none_found (has_number number) s.bridges.rows (omega (arith, end, zero))),
+        );
+  }
+
+pub bridges_are_told : (config : Configuration) (entries : List Entry) →
+    BridgesAreTold (run_from (empty config) entries) (events_in config entries)
+bridges_are_told config entries =
+    all_told (events_in config entries) (run_from (empty config) entries) (run_told 0 [] (empty config) entries (nothing_told config))

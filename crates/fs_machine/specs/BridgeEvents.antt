@@ -1,0 +1,58 @@
+-- What the events of a run tell of bridges.
+use Rattle.std.specs.Prelude.{◌≡◌, ◌≤◌, ℕ, Bool, true, false, List, is_some, count_by}
+use Rattle.fs_doc.specs.Reading.{Configuration}
+use Rattle.fs_bridge.specs.Bridges.{has_number, numbered}
+use Rattle.fs_state.specs.declared.event.Detail.{Detail}
+use Rattle.fs_state.specs.declared.event.Detail.TheVariants.{Bridge, Unbridge}
+use Rattle.fs_state.specs.declared.event.Event.{Event}
+use Rattle.fs_state.specs.Switch.{Switch, empty}
+use Rattle.fs_machine.specs.declared.entry.Entry.{Entry}
+use Rattle.fs_machine.specs.Events.{happened_from, events_of}
+
+-- the bridge of this number begins
+abbrev pub tells_begin : ℕ → Detail → Bool
+tells_begin number (Bridge row) = has_number number row
+tells_begin number _ = false
+
+-- it has ended
+abbrev pub tells_end : ℕ → Detail → Bool
+tells_end number (Unbridge row cause) = has_number number row
+tells_end number _ = false
+
+-- an event tells that it begins
+abbrev pub begins : ℕ → Event → Bool
+begins number event = tells_begin number event.detail
+
+-- an event tells that it has ended
+abbrev pub ends : ℕ → Event → Bool
+ends number event = tells_end number event.detail
+
+-- how many events tell that it begins
+abbrev pub begun : ℕ → List Event → ℕ
+begun number events = count_by (begins number) events
+
+-- how many tell that it has ended
+abbrev pub ended : ℕ → List Event → ℕ
+ended number events = count_by (ends number) events
+
+-- the bridge of this number stands
+abbrev pub stands : ℕ → Switch → Bool
+stands number s = is_some (numbered number s.bridges)
+
+-- some bridge got this number
+pub record WasDrawn (number : ℕ) (s : Switch) : Type 0 where
+  pub first : 1 ≤ number
+  pub last : number ≤ s.bridges.drawn
+
+-- One event tells of each bridge that it begins. No event tells of the end of a bridge that stands, and one of the end of each other. Of a
+-- number that no bridge got no event tells, and no bridge of it stands.
+pub record BridgesAreTold (s : Switch) (events : List Event) : Type 0 where
+  pub begin : (number : ℕ) → WasDrawn number s → begun number events ≡ 1
+  pub stand : (number : ℕ) → stands number s ≡ true → ended number events ≡ 0
+  pub end : (number : ℕ) → WasDrawn number s → stands number s ≡ false → ended number events ≡ 1
+  pub none : (number : ℕ) → (WasDrawn number s → ⊥) →
+      (begun number events ≡ 0) × (ended number events ≡ 0) × (stands number s ≡ false)
+
+-- all that happens in entries, under a configuration
+abbrev pub events_in : Configuration → List Entry → List Event
+events_in config entries = events_of (happened_from 0 (empty config) entries)

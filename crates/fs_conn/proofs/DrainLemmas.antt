@@ -8,7 +8,7 @@ use Rattle.std.proofs.lemmas.List.Folds.{concat-append}
 use Rattle.fs_doc.specs.Reading.{Configuration}
 use Rattle.fs_frame.specs.Block.{fault_of}
 use Rattle.fs_frame.specs.Blocks.{blocks_of, rest_of}
-use Rattle.fs_state.specs.Queues.{Frames}
+use Rattle.fs_text.specs.Texts.{Text}
 use Rattle.fs_state.specs.Switch.{Switch, empty, waiting_for}
 use Rattle.fs_machine.specs.declared.entry.Entry.{Entry}
 use Rattle.fs_machine.specs.declared.entry.Act.{Act}
@@ -44,7 +44,7 @@ pub switch_is : (config : Configuration) (p : Play) → IsRun config p → run_f
 switch_is config p h = ap (λ (c : Configuration). run_from (empty c) p.journal) (sym h.config_is)
 
 -- the frames that wait for the connection
-abbrev pub waits_in : Play → Frames
+abbrev pub waits_in : Play → List Text
 waits_in p = waiting_for (switch_of p) 1
 
 -- ---- taking frames
@@ -220,10 +220,10 @@ unfailed_ended config input =
 -- ---- frames
 
 -- the frames that a journal gives the connection, and those that it hands out
-abbrev given_to : Configuration → List Entry → Frames
+abbrev given_to : Configuration → List Entry → List Text
 given_to config journal = frames_from 1 (empty config) journal
 
-abbrev handed_to : Configuration → List Entry → Frames
+abbrev handed_to : Configuration → List Entry → List Text
 handed_to config journal = handed_from 1 (empty config) journal
 
 -- all was handed out

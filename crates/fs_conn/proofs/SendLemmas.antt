@@ -3,7 +3,7 @@ use Rattle.std.proofs.Common.{◌≡◌, ◌≢◌, ℕ, ◌-◌, ◌<◌, ◌�
 use Rattle.std.proofs.Common.{slice_get, inr, refl, sym, ap, ◌∙◌, subst, append_assoc, append-nil, arith}
 use Rattle.fs_ports.specs.Ports.{Output, Writes, Stopped}
 use Rattle.fs_ports.proofs.Sides.{writes_both, writes_nothing}
-use Rattle.fs_state.specs.Switch.{waiting_for}
+use Rattle.fs_state.specs.Switch.{waiting_for, outgoing_for}
 use Rattle.fs_state.proofs.GiftLemmas.{first_bytes}
 use Rattle.fs_machine.specs.declared.entry.Act.{Act}
 use Rattle.fs_machine.specs.declared.entry.Act.TheVariants.{Take, Close}
@@ -29,7 +29,7 @@ pub take_hands : (old new : Play) (frame : List ℕ) → Accepts (Take 1) old ne
 take_hands old new frame accepts =
     let same : unwrap_or (slice_get (waiting_for (switch_of old) 1) 0) [] ≡ frame = let is =
     take_replies old new (reply.Frame frame) accepts in cc in
-    accepts.hands ∙ ap (λ bytes. output_of old ++ bytes) (first_bytes (waiting_for (switch_of old) 1) ∙ same)
+    accepts.hands ∙ ap (λ bytes. output_of old ++ bytes) (first_bytes (outgoing_for (switch_of old) 1) ∙ same)
 
 -- ---- one write after another
 

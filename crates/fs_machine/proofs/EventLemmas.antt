@@ -60,3 +60,5 @@ pub counts_causes : (m : View) (cause : Cause) →
 counts_causes m cause =
     ap (λ (t : Tallies). counted_at t.hangups (cause_number cause)) (run_counts 0 (empty m.config) m.journal)
     ∙ counts_hangups cause (events_of (happened m))
+
+pub ruleset count_laws = (counts_all, counts_events, counts_causes)

@@ -96,7 +96,7 @@ impl Machine {
     }
 
     /// How many events there were of each name, and channels that were hung up with each cause.
-    #[tactic(auto, using(crate::proofs::EventLemmas::counts_events, crate::proofs::EventLemmas::counts_causes))]
+    #[tactic(auto, using(crate::proofs::EventLemmas::count_laws))]
     pub fn counts(&self) -> &Counts
         ensures state { result.now ≡ (state_of self.now).counts }
         ensures all { CountsAll result.now (events_of (happened self.now)) }

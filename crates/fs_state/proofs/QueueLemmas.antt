@@ -14,7 +14,7 @@ use Rattle.fs_places.specs.Rows.{place_of}
 use Rattle.fs_state.specs.declared.conn.Conn.{Conn}
 use Rattle.fs_state.specs.declared.gift.Gift.{Gift}
 use Rattle.fs_state.specs.Frames.{Frames}
-use Rattle.fs_state.specs.Queues.{queue_at, with_queue, behind_first, with_gift_delivered, requeued, with_frames_at, frames_given}
+use Rattle.fs_state.specs.Queues.{queue_at, with_queue, with_gift_delivered, requeued, with_frames_at, frames_given}
 use Rattle.fs_state.specs.Queues.{delivered, HaveRoom, AreWithin, no_queues, without_first_frame, without_frames, with_frames}
 
 -- less fits where more does
@@ -70,24 +70,6 @@ pub room_after_gift : (conns : List (Option (Numbered Conn))) (gift : Gift) (gif
     HaveRoom queues (frames_given (gift ∷ gifts)) →
     HaveRoom (with_gift_delivered conns gift queues) (frames_given gifts)
 room_after_gift conns gift gifts queues h = room_after_at (place_of conns gift.conn) queues gift gifts h
-
--- where the first one, if there is any, is already given
-pub room_behind : (conns : List (Option (Numbered Conn))) (first : Option Gift) (gift : Gift) (more given : List Gift)
-    (queues new : List Frames) →
-    HaveRoom queues (frames_given given) → behind_first first more ≡ given → first ≡ Some gift →
-    new ≡ with_gift_delivered conns gift queues → HaveRoom new (frames_given more)
-room_behind conns first gift more given queues new h parts is then =
-    let whole : given ≡ gift ∷ more = sym parts ∙ ap (λ f. behind_first f more) is in
-    subst (λ q. HaveRoom q (frames_given more)) (sym then)
-    (room_after_gift conns gift more queues (subst (λ gifts. HaveRoom queues (frames_given gifts)) whole h))
-
-pub room_without : (first : Option Gift) (more given : List Gift) (queues new : List Frames) →
-    HaveRoom queues (frames_given given) → behind_first first more ≡ given → first ≡ None → new ≡ queues → HaveRoom new (frames_given more)
-room_without first more given queues new h parts is then =
-    let whole : given ≡ more = sym parts ∙ ap (λ f. behind_first f more) is in
-    subst (λ q. HaveRoom q (frames_given more)) (sym then) (subst (λ gifts. HaveRoom queues (frames_given gifts)) whole h)
-
-pub ruleset gift_rules = (room_for_gift, room_after_gift)
 
 -- ---- gifts in several parts
 

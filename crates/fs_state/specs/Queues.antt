@@ -47,11 +47,6 @@ requeued (Cleared place) queues = without_frames place queues
 
 -- ---- what an entry gives
 
--- a list behind its first element, if it has one
-abbrev pub behind_first : Option Gift → List Gift → List Gift
-behind_first None more = more
-behind_first (Some gift) more = gift ∷ more
-
 -- frames for a connection that stands at a place, or for none
 abbrev pub with_frames_at : Option ℕ → Frames → List Frames → List Frames
 with_frames_at None frames queues = queues

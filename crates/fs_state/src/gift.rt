@@ -1,6 +1,6 @@
 //! What an entry gives to connections.
 ghost use Rattle.std.specs.Prelude.{◌≡◌, ◌-◌, ◌^◌, min, [], ◌∷◌, ◌++◌, OnOk, OnErr};
-ghost use Rattle.fs_state.specs.Queues.{behind_first, frames_given};
+ghost use Rattle.fs_state.specs.Queues.{frames_given};
 ghost use Rattle.fs_state.specs.Switch.{gift_of};
 
 use crate::outgoing::{Frames, Outgoing};
@@ -17,25 +17,19 @@ pub struct Gift {
     pub frames: Frames,
 }
 
-/// What an entry gives, in order. A contract sees it as that list. Only what comes behind the first takes memory.
+/// What an entry gives, in order. A contract sees it as that list.
 #[derive(Drop)]
 pub struct Gifts {
-    alloc: Global,
-    first: Option<Gift>,
-    more: Vec<Gift>,
+    gifts: Vec<Gift>,
 }
 
 impl Model for Gifts {
     ghost use Rattle.std.specs.Prelude.{List};
-    ghost use Rattle.std.specs.Prelude.{◌≡◌, [], None};
     ghost use Rattle.fs_state.specs.declared.gift.Gift.{Gift};
-    ghost use Rattle.fs_state.specs.Queues.{behind_first};
 
     ghost Value = { List Gift };
 
-    ghost view = { λ g. behind_first g.first g.more.items };
-
-    ghost invariant = { λ g. g.first ≡ None → g.more.items ≡ [] };
+    ghost view = { λ g. g.gifts.items };
 }
 
 impl Gifts {
@@ -44,9 +38,7 @@ impl Gifts {
         ensures { result ≡ [] }
     {
         Gifts {
-            alloc,
-            first: None,
-            more: Vec::new(alloc),
+            gifts: Vec::new(alloc),
         }
     }
 
@@ -55,7 +47,7 @@ impl Gifts {
         ensures ok { OnOk result (self.new ≡ self.old ++ gift_of conn text ∷ []) }
         ensures err { OnErr result (self.new ≡ self.old) }
     {
-        let mut frames = Frames::new(self.alloc);
+        let mut frames = Frames::new(*self.gifts.allocator());
         frames.push(Outgoing::Reply(text))?;
         let conn = u64::from(conn);
         self.add(Gift { conn, frames })
@@ -66,31 +58,22 @@ impl Gifts {
         ensures ok { OnOk result (self.new ≡ self.old ++ gift ∷ []) }
         ensures err { OnErr result (self.new ≡ self.old) }
     {
-        if self.first.is_none() {
-            self.first = Some(gift);
-            return Ok(());
-        }
-        self.more.push(gift)?;
+        self.gifts.push(gift)?;
         Ok(())
     }
 
-    /// What is given first, if there is anything, and what is given behind it.
-    pub fn into_parts(self) -> (Option<Gift>, Vec<Gift>)
-        ensures { behind_first result.0 result.1.items ≡ self }
+    /// The gifts as a vector.
+    pub fn into_vec(self) -> Vec<Gift>
+        ensures { result.items ≡ self }
     {
-        let Gifts { first, more, .. } = self;
-        (first, more)
+        self.gifts
     }
 
     /// How many frames are given, as far as 64 bits go.
     pub fn frames(&self) -> usize
         ensures { result ≡ min (frames_given self.now) (2 ^ 64 - 1) }
     {
-        let more = frames_of(&self.more);
-        match &self.first {
-            Some(gift) => more.saturating_add(gift.frames.len()),
-            None => more,
-        }
+        frames_of(&self.gifts)
     }
 }
 

@@ -134,16 +134,11 @@ impl Queues {
     }
 
     /// Puts what is given behind the frames of its connections.
-    #[tactic(auto, using(crate::proofs::QueueLemmas::gift_rules))]
     fn deliver_part(&mut self, conns: &Places<Numbered<Conn>>, given: Gifts)
         requires { spec.HaveRoom self.old (spec.frames_given given) }
         ensures { self.new ≡ spec.delivered conns.now given self.old }
     {
-        let (first, more) = given.into_parts();
-        if let Some(gift) = first {
-            self.deliver_one(conns, gift);
-        }
-        self.deliver_all(conns, more);
+        self.deliver_all(conns, given.into_vec());
     }
 
     /// Puts these gifts behind the frames of their connections.

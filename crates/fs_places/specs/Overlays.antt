@@ -8,6 +8,10 @@ pub record Overlaid (T : Type 0) : Type 0 where
   pub kept : List (Option T)
   pub sheet : List (Write T)
 
+-- a table with a sheet over it
+abbrev pub over : {T : Type 0} → List (Option T) → List (Write T) → Overlaid T
+over places ws = record { kept = places; sheet = ws }
+
 -- the table with what is written
 abbrev pub now_of : {T : Type 0} → Overlaid T → List (Option T)
 now_of o = written o.kept o.sheet

@@ -1,46 +1,70 @@
-//! Things that are known by their numbers, over a table.
-ghost use Rattle.std.specs.Prelude.{◌≡◌, Some, OnOk, OnErr};
-ghost use Rattle.fs_places.specs.Rows as spec;
+//! Things that are known by their numbers, written over a table.
+ghost use Rattle.std.specs.Prelude.{◌≡◌, OnOk, OnErr};
+ghost use Rattle.std.specs.Option.{option_copied};
 ghost use Rattle.fs_places.specs.Overlays.{now_of};
+ghost use Rattle.fs_places.specs.Rows as spec;
+ghost use Rattle.fs_places.specs.Sheets.{written};
 
 use crate::numbered::{Numbered, Rows};
 use crate::overlay::Overlay;
+use crate::places::Places;
+use crate::sheet::Sheet;
 use fs_text::Memory;
 
-impl<'a, T: Drop> Overlay<'a, Numbered<T>> {
+impl<T: Drop> Sheet<Numbered<T>> {
     /// Puts a thing in the place of the one with its number; where there is none nothing changes.
-    pub fn set_row(&mut self, number: u64, held: T) -> Result<(), Memory>
-        ensures kept { self.new.kept ≡ self.old.kept }
-        ensures ok { OnOk result (now_of self.new ≡ spec.with_row (now_of self.old) number held) }
+    pub fn set_row(
+        &mut self,
+        kept: &Places<Numbered<T>>,
+        number: u64,
+        held: T,
+    ) -> Result<(), Memory>
+        ensures ok { OnOk result
+            (written kept.now self.new ≡ spec.with_row (written kept.now self.old) number held) }
         ensures err { OnErr result (self.new ≡ self.old) }
     {
-        match self.place_of(number) {
-            Some(place) => self.put(place, Some(Numbered { number, held })),
+        match Overlay::of(kept, self).place_of(number) {
+            Some(place) => self.put_over(kept, place, Some(Numbered { number, held })),
             None => Ok(()),
         }
     }
 
     /// Takes the thing of a number away.
-    pub fn drop_row(&mut self, number: u64) -> Result<(), Memory>
-        ensures kept { self.new.kept ≡ self.old.kept }
-        ensures ok { OnOk result (now_of self.new ≡ spec.without_row (now_of self.old) number) }
+    pub fn drop_row(&mut self, kept: &Places<Numbered<T>>, number: u64) -> Result<(), Memory>
+        ensures ok { OnOk result (written kept.now self.new ≡ spec.without_row (written kept.now self.old) number) }
         ensures err { OnErr result (self.new ≡ self.old) }
     {
-        match self.place_of(number) {
-            Some(place) => self.put(place, None),
+        match Overlay::of(kept, self).place_of(number) {
+            Some(place) => self.put_over(kept, place, None),
             None => Ok(()),
         }
     }
 
     /// Puts a thing of a new number at the least empty place; where there is none nothing changes.
-    pub fn add_row(&mut self, number: u64, held: T) -> Result<(), Memory>
-        ensures kept { self.new.kept ≡ self.old.kept }
-        ensures ok { OnOk result (now_of self.new ≡ spec.with_new_row (now_of self.old) number held) }
+    pub fn add_row(
+        &mut self,
+        kept: &Places<Numbered<T>>,
+        number: u64,
+        held: T,
+    ) -> Result<(), Memory>
+        ensures ok { OnOk result
+            (written kept.now self.new ≡ spec.with_new_row (written kept.now self.old) number held) }
         ensures err { OnErr result (self.new ≡ self.old) }
     {
-        match self.least_free(0) {
-            Some(place) => self.put(place, Some(Numbered { number, held })),
+        match Overlay::of(kept, self).least_free(0) {
+            Some(place) => self.put_over(kept, place, Some(Numbered { number, held })),
             None => Ok(()),
         }
+    }
+}
+
+impl<'a, T: Drop> Overlay<'a, Numbered<T>> {
+    /// The thing of a number. It is lent for as long as the table and the sheet are.
+    pub fn lend_row(&self, number: u64) -> Option<&'a T>
+        ensures { option_copied result ≡ spec.row_of (now_of self.now) number }
+    {
+        let place = self.place_of(number)?;
+        let row = self.lend(place)?;
+        Some(&row.held)
     }
 }

@@ -1,10 +1,13 @@
 //! Writes over a table.
-ghost use Rattle.std.specs.Prelude.{◌≡◌, [], ◌∷◌, ◌++◌, Some, length, MatchOption, OnOk, OnErr};
+ghost use Rattle.std.specs.Prelude.{◌≡◌, [], ◌∷◌, ◌++◌, Option, Some, length, MatchOption, OnOk, OnErr};
 ghost use Rattle.std.specs.Option.{option_copied};
+ghost use Rattle.fs_places.specs.Places.{with_held};
 ghost use Rattle.fs_places.specs.Sheets as spec;
+ghost use Rattle.fs_places.specs.Overlays.{over, held_at, put_at, taken_back};
 ghost use Rattle.fs_places.specs.declared.sheet.Write.{Write};
 
 use crate::places::Places;
+use crate::table::Table;
 use fs_text::Memory;
 use std::alloc::Global;
 use std::marker::Model;
@@ -51,6 +54,16 @@ impl<T: Drop> Sheet<T> {
         Ok(())
     }
 
+    /// Writes over a table: something is to stand at a place, or nothing; past the last one nothing changes.
+    #[tactic(auto, using(crate::proofs::PlaceLemmas::written_put))]
+    pub fn put_over(&mut self, kept: &Places<T>, place: usize, held: Option<T>) -> Result<(), Memory>
+        ensures ok { OnOk result
+            (spec.written kept.now self.new ≡ with_held (spec.written kept.now self.old) place held) }
+        ensures err { OnErr result (self.new ≡ self.old) }
+    {
+        self.put(place, held)
+    }
+
     /// How many writes there are.
     pub fn len(&self) -> usize
         ensures { result ≡ length self.now }
@@ -58,9 +71,25 @@ impl<T: Drop> Sheet<T> {
         self.writes.len()
     }
 
+    /// Takes back what was written over a table last, if it is something at this place, so that something else can be
+    /// put there.
+    #[tactic(auto, using(crate::proofs::PlaceLemmas::taken_held, crate::proofs::PlaceLemmas::taken_put))]
+    pub fn take_back(&mut self, kept: &Places<T>, place: usize) -> Option<T>
+        ensures answer { result ≡ taken_back (over kept.now self.old) place }
+        ensures taken { MatchOption result (self.new ≡ self.old)
+            (λ held. held_at (over kept.now self.old) place ≡ Some held) }
+        ensures put { (held : Option T)
+            → put_at (over kept.now self.new) place held ≡ put_at (over kept.now self.old) place held }
+    {
+        if place >= kept.len() {
+            return None;
+        }
+        self.take_newest(place)
+    }
+
     /// Takes the newest write back, if it put something at this place.
     #[tactic(auto, using(crate::proofs::PlaceLemmas::last_write))]
-    pub fn take_newest(&mut self, place: usize) -> Option<T>
+    fn take_newest(&mut self, place: usize) -> Option<T>
         ensures put { result ≡ spec.put_last self.old place }
         ensures left { MatchOption result (self.new ≡ self.old) (λ held. self.old ≡ spec.with_put self.new place held) }
     {
@@ -86,11 +115,13 @@ impl<T: Drop> Sheet<T> {
         held
     }
 
-    /// Moves the writes into a table, in order.
-    pub fn write_into(self, places: &mut Places<T>)
-        ensures { places.new ≡ spec.written places.old self }
+    /// Moves the writes into a table, in order. None is left.
+    #[tactic(auto, using(crate::proofs::PlaceLemmas::written_put))]
+    pub fn move_into(&mut self, places: &mut Places<T>)
+        ensures places { places.new ≡ spec.written places.old self.old }
+        ensures none { self.new ≡ [] }
     {
-        for write in self.writes {
+        for write in self.writes.drain(..) {
             places.put(write.place, write.held);
         }
     }

@@ -17,8 +17,9 @@ use crate::refusal::Refusal;
 use crate::refused::refused_act;
 use crate::reply::Reply;
 use fs_doc::Config;
+use fs_places::Boxed;
 use fs_plan::Dialplan;
-use fs_state::{Core, Delta, Draft, Seen};
+use fs_state::{Blank, Core, Delta, Draft, Seen};
 use fs_text::Memory;
 use std::alloc::Global;
 use std::marker::Model;
@@ -34,6 +35,8 @@ pub struct Machine {
     pub(crate) core: Core,
     plan: Dialplan,
     journal: Journal,
+    // What the last entry was noted on, for the next one.
+    blank: Option<Blank>,
 }
 
 impl Drop for Machine {
@@ -42,6 +45,7 @@ impl Drop for Machine {
             core: _core,
             plan: _plan,
             journal: _journal,
+            blank: _blank,
         } = self;
     }
 }
@@ -51,7 +55,7 @@ pub struct Change {
     /// The entry.
     pub entry: Entry,
     /// What it changes of the switch.
-    pub delta: Delta,
+    pub delta: Boxed<Delta>,
     /// What it comes to.
     pub reply: Reply,
 }
@@ -68,7 +72,7 @@ impl Drop for Change {
 
 impl Change {
     /// The entry, what it changes, and the reply to it.
-    fn into_parts(self) -> (Entry, Delta, Reply)
+    fn into_parts(self) -> (Entry, Boxed<Delta>, Reply)
         ensures { result ≡ (self.entry, self.delta, self.reply) }
     {
         let Change {
@@ -106,6 +110,7 @@ impl Machine {
             core: Core::new(alloc, config)?,
             plan,
             journal: Journal::new(alloc),
+            blank: None,
         })
     }
 
@@ -133,6 +138,7 @@ impl Machine {
             core: _core,
             plan: _plan,
             journal,
+            blank: _blank,
         } = self;
         journal
     }
@@ -146,7 +152,19 @@ impl Machine {
         ensures room { IfOk result (λ change. 1 ≤ self.new.spare) }
     {
         self.journal.make_room()?;
-        plan(&self.core, &self.plan, asked)
+        let blank = self.take_blank()?;
+        plan(&self.core, blank, &self.plan, asked)
+    }
+
+    // What the entry in hand is noted on.
+    fn take_blank(&mut self) -> Result<Blank, Memory>
+        ensures same { spec.IsSame self.old self.new }
+        ensures room { self.new.spare ≡ self.old.spare }
+    {
+        match self.blank.take() {
+            Some(blank) => Ok(blank),
+            None => Blank::new(self.core.alloc()),
+        }
     }
 
     /// Does what was prepared. It takes no memory.
@@ -159,7 +177,8 @@ impl Machine {
         ensures cost { (spec.state_of self.new).cost ≡ cost_with change.entry.act (spec.state_of self.old) }
     {
         let (entry, delta, reply) = change.into_parts();
-        self.core.apply(delta, entry.act.cost());
+        let blank = self.core.apply(delta, entry.act.cost());
+        self.blank = Some(blank);
         self.journal.add(entry);
         reply
     }
@@ -183,7 +202,7 @@ impl Machine {
 
 // Judges an entry over a state, and prepares what it changes.
 #[tactic(auto, unfolding(crate::specs::Step::step, crate::specs::Step::refusal_of))]
-fn plan(core: &Core, plan: &Dialplan, asked: &Entry) -> Result<Change, Refusal>
+fn plan(core: &Core, blank: Blank, plan: &Dialplan, asked: &Entry) -> Result<Change, Refusal>
     requires { plan.now ≡ core.now.config.contexts }
     ensures refused { IfErr result (IsRefusedFor core.now asked.entry.now) }
     ensures free { OnOk result (HasRoomWithin core.now.config.settings.journal_limit core.now) }
@@ -198,7 +217,7 @@ fn plan(core: &Core, plan: &Dialplan, asked: &Entry) -> Result<Change, Refusal>
     if let Some(refusal) = refused_act(&Seen::of(core, asked.moment), &asked.act) {
         return Err(refusal);
     }
-    let mut draft = Draft::new(core);
+    let mut draft = Draft::new(core, blank);
     draft.advance(asked.moment);
     let (entry, reply) = enter(&mut draft, plan, asked)?;
     draft.post()?;

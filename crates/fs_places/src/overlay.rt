@@ -1,5 +1,5 @@
 //! A table with a sheet of writes over it.
-ghost use Rattle.std.specs.Prelude.{◌≡◌, ◌<◌, ◌≤◌, length, IfSome};
+ghost use Rattle.std.specs.Prelude.{◌≡◌, ◌≤◌, length};
 ghost use Rattle.std.specs.Option.{option_copied};
 ghost use Rattle.fs_places.specs.Places as places;
 ghost use Rattle.fs_places.specs.Overlays as spec;
@@ -68,19 +68,5 @@ impl<'a, T: Drop> Overlay<'a, T> {
         } else {
             self.len()
         }
-    }
-
-    /// The least empty place from one on.
-    #[tactic(auto, using(crate::proofs::PlaceLemmas::first_rules))]
-    pub fn least_free(&self, from: usize) -> Option<usize>
-        ensures place { result ≡ places.least_free (spec.now_of self.now) from }
-        ensures within { IfSome result (λ place. place < length (spec.now_of self.now)) }
-    {
-        for place in from..self.len() {
-            if self.get(place).is_none() {
-                return Some(place);
-            }
-        }
-        None
     }
 }

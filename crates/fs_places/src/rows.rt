@@ -9,6 +9,7 @@ use crate::numbered::{Numbered, Rows};
 use crate::overlay::Overlay;
 use crate::places::Places;
 use crate::sheet::Sheet;
+use crate::table::Table;
 use fs_text::Memory;
 
 impl<T: Drop> Sheet<Numbered<T>> {

@@ -1,10 +1,11 @@
 -- What a draft changes of a switch.
-use Rattle.std.specs.Prelude.{◌≡◌, ℕ, ◌++◌, Option, Result, unwrap_or, OnOk}
+use Rattle.std.specs.Prelude.{◌≡◌, ℕ, ◌++◌, Option, None, Result, unwrap_or, OnOk, []}
 use Rattle.fs_bridge.specs.Bridges.{BridgeRows}
 use Rattle.fs_chan.specs.declared.chan.Chan.{Chan}
 use Rattle.fs_places.specs.Sheets.{written}
 use Rattle.fs_places.specs.Overlays.{taken_back}
 use Rattle.fs_state.specs.declared.delta.Delta.{Delta}
+use Rattle.fs_state.specs.declared.delta.QueueChange.TheVariants.{Unchanged}
 use Rattle.fs_state.specs.Losses.{Losses}
 use Rattle.fs_state.specs.Queues.{requeued, HaveRoom, frames_given}
 use Rattle.fs_state.specs.Switch.{Switch, chan_at, with_chan}
@@ -26,6 +27,38 @@ after s d = record s {
   answered = d.answered;
   posted = d.posted;
   given = d.given;
+}
+
+-- a change of nothing, whatever was drawn and whenever
+abbrev pub IsBlank : Delta → Type 0
+IsBlank d = d ≡ record {
+  globals = None;
+  channels = [];
+  bridges = None;
+  origs = [];
+  jobs = [];
+  conns = [];
+  queue = Unchanged;
+  drawn = d.drawn;
+  moment = d.moment;
+  losses = None;
+  news = [];
+  answered = [];
+  posted = [];
+  given = [];
+}
+
+-- what a change still has once it was made: what happens, and what is given
+abbrev pub rest_of : Delta → Delta
+rest_of d = record d {
+  globals = None;
+  channels = [];
+  bridges = None;
+  origs = [];
+  jobs = [];
+  conns = [];
+  queue = Unchanged;
+  losses = None;
 }
 
 -- a switch, and what is to change of it

@@ -1,6 +1,6 @@
 //! What an entry changes.
 ghost use Rattle.std.specs.Prelude.{◌≡◌};
-ghost use Rattle.fs_state.specs.Drafts.{after};
+ghost use Rattle.fs_state.specs.Drafts.{after, rest_of};
 
 use crate::conn::Conn;
 use crate::drawn::Drawn;
@@ -58,13 +58,6 @@ pub struct Delta {
     pub given: Gifts,
 }
 
-/// What an entry gives to connections, in order.
-pub(crate) struct Giving {
-    pub answered: Gifts,
-    pub posted: Gifts,
-    pub given: Gifts,
-}
-
 impl Drop for Delta {
     fn drop(self) {
         let Delta {
@@ -87,52 +80,28 @@ impl Drop for Delta {
 }
 
 impl Delta {
-    /// Makes its changes of what is there, without memory, and gives back what happens and what is given.
+    /// Makes its changes of what is there, without memory. What happens, and what is given, is left in it.
     #[tactic(auto, using(fs_places::proofs::PlaceLemmas::written_length))]
-    pub(crate) fn write_into(self, core: &mut Core) -> (Events, Giving)
+    pub(crate) fn move_into(&mut self, core: &mut Core)
         ensures core { record core.new {
-          news = self.news;
-          answered = self.answered;
-          posted = self.posted;
-          given = self.given;
+          news = self.old.news;
+          answered = self.old.answered;
+          posted = self.old.posted;
+          given = self.old.given;
         }
-            ≡ after core.old self }
-        ensures news { result.0 ≡ self.news }
-        ensures entry { result.1 ≡ record { answered = self.answered; posted = self.posted; given = self.given } }
+            ≡ after core.old self.old }
+        ensures left { self.new ≡ rest_of self.old }
     {
-        let Delta {
-            globals,
-            channels,
-            bridges,
-            origs,
-            jobs,
-            conns,
-            queue,
-            drawn,
-            moment,
-            losses,
-            news,
-            answered,
-            posted,
-            given,
-        } = self;
-        core.take_globals(globals);
-        channels.write_into(&mut core.channels);
-        core.take_bridges(bridges);
-        origs.write_into(&mut core.origs);
-        jobs.write_into(&mut core.jobs);
-        conns.write_into(&mut core.conns);
-        core.requeue(queue);
-        core.drawn = drawn;
-        core.moment = moment;
-        core.take_losses(losses);
-        (
-            news,
-            Giving {
-                answered,
-                posted,
-                given,
-            },
-        )
+        core.take_globals(self.globals.take());
+        self.channels.move_into(&mut core.channels);
+        core.take_bridges(self.bridges.take());
+        self.origs.move_into(&mut core.origs);
+        self.jobs.move_into(&mut core.jobs);
+        self.conns.move_into(&mut core.conns);
+        core.requeue(self.queue);
+        self.queue = QueueChange::Unchanged;
+        core.drawn = self.drawn;
+        core.moment = self.moment;
+        core.take_losses(self.losses.take());
     }
 }

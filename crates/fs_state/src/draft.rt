@@ -1,7 +1,7 @@
 //! A draft: a switch that is kept, and what is to change of it.
 ghost use Rattle.std.specs.Prelude.{◌≡◌, ◌≢◌, ◌≤◌, Option, Some, None, length, slice_get, MatchOption, IfOk};
 ghost use Rattle.std.specs.Option.{option_copied};
-ghost use Rattle.fs_places.specs.Overlays.{now_of};
+ghost use Rattle.fs_places.specs.Overlays.{over};
 ghost use Rattle.fs_places.specs.Places.{IsEmptyFrom};
 ghost use Rattle.fs_chan.specs.declared.chan.Chan.{Chan};
 ghost use Rattle.fs_places.specs.Rows as rows;
@@ -14,11 +14,11 @@ ghost use Rattle.std.specs.Prelude.{◌-◌, ◌^◌, min};
 ghost use Rattle.fs_state.specs.Drafts.{with_bridges_in, Fits};
 ghost use Rattle.fs_state.specs.Queues.{frames_given};
 
+use crate::blank::Blank;
 use crate::conn::Conn;
 use crate::delta::{Delta, QueueChange};
 use crate::drawn::Drawn;
-use crate::event::{Event, Events};
-use crate::gift::Gifts;
+use crate::event::Event;
 use crate::job::Job;
 use crate::losses::Losses;
 use crate::outgoing::Outgoing;
@@ -36,102 +36,34 @@ use std::marker::Model;
 /// A switch that is kept, and what is to change of it. A contract sees both.
 ///
 /// Where memory is wanting a draft may have part of a change: it is to be dropped then.
+#[derive(Drop)]
 pub struct Draft<'a> {
     pub(crate) core: &'a Core,
-    globals: Option<Boxed<Vars>>,
-    channels: Overlay<'a, Boxed<Chan>>,
-    bridges: Option<Bridges>,
-    origs: Overlay<'a, Numbered<Orig>>,
-    jobs: Overlay<'a, Numbered<Job>>,
-    pub(crate) conns: Overlay<'a, Numbered<Conn>>,
-    queue: QueueChange,
-    drawn: Drawn,
-    moment: u64,
-    pub(crate) losses: Option<Losses>,
-    pub(crate) news: Events,
-    answered: Gifts,
-    pub(crate) posted: Gifts,
-    given: Gifts,
-}
-
-impl Drop for Draft<'_> {
-    fn drop(self) {
-        let Draft {
-            core: _core,
-            globals: _globals,
-            channels: _channels,
-            bridges: _bridges,
-            origs: _origs,
-            jobs: _jobs,
-            conns: _conns,
-            queue: _queue,
-            drawn: _drawn,
-            moment: _moment,
-            losses: _losses,
-            news: _news,
-            answered: _answered,
-            posted: _posted,
-            given: _given,
-        } = self;
-    }
+    pub(crate) delta: Boxed<Delta>,
 }
 
 impl<'a> Model for Draft<'a> {
-    ghost use Rattle.std.specs.Prelude.{◌≡◌, ◌<◌, ◌^◌, length};
+    ghost use Rattle.std.specs.Prelude.{◌<◌, ◌^◌, length};
     ghost use Rattle.fs_state.specs.Drafts.{Drafted};
 
     ghost Value = { Drafted };
 
-    ghost view = { λ d. record {
-      base = d.core.now;
-      delta = record {
-        globals = d.globals;
-        channels = d.channels.sheet;
-        bridges = d.bridges;
-        origs = d.origs.sheet;
-        jobs = d.jobs.sheet;
-        conns = d.conns.sheet;
-        queue = d.queue;
-        drawn = d.drawn;
-        moment = d.moment;
-        losses = d.losses;
-        news = d.news;
-        answered = d.answered;
-        posted = d.posted;
-        given = d.given;
-      };
-    } };
+    ghost view = { λ d. record { base = d.core.now; delta = d.delta } };
 
-    ghost invariant = { λ d.
-        (d.channels.kept ≡ d.core.now.channels) × (d.origs.kept ≡ d.core.now.origs) × (d.jobs.kept ≡ d.core.now.jobs)
-        × (d.conns.kept ≡ d.core.now.conns) × (length d.core.now.channels < 2 ^ 16) };
+    ghost invariant = { λ d. length d.core.now.channels < 2 ^ 16 };
 }
 
 impl<'a> Draft<'a> {
-    /// A switch of which nothing is to change.
-    pub fn new(core: &'a Core) -> Draft<'a>
+    /// A switch of which nothing is to change. What is to change is noted on a blank.
+    pub fn new(core: &'a Core, blank: Blank) -> Draft<'a>
         ensures base { result.base ≡ core.entry.now }
         ensures drafted { drafted result ≡ core.entry.now }
         ensures queue { result.delta.queue ≡ change.Unchanged }
     {
-        let alloc = core.alloc;
-        Draft {
-            core,
-            globals: None,
-            channels: Overlay::new(alloc, &core.channels),
-            bridges: None,
-            origs: Overlay::new(alloc, &core.origs),
-            jobs: Overlay::new(alloc, &core.jobs),
-            conns: Overlay::new(alloc, &core.conns),
-            queue: QueueChange::Unchanged,
-            drawn: core.drawn,
-            moment: core.moment,
-            losses: None,
-            news: Events::new(alloc),
-            answered: Gifts::new(alloc),
-            posted: Gifts::new(alloc),
-            given: Gifts::new(alloc),
-        }
+        let mut delta = blank.into_delta();
+        delta.drawn = core.drawn;
+        delta.moment = core.moment;
+        Draft { core, delta }
     }
 
     /// Where memory is taken.
@@ -146,6 +78,40 @@ impl<'a> Draft<'a> {
     {
         let core = self.core;
         &core.config
+    }
+
+    // ---- the tables, as they are to be
+
+    /// The channels by their slots.
+    fn channels(&self) -> Overlay<'_, Boxed<Chan>>
+        ensures { result ≡ over self.now.base.channels self.now.delta.channels }
+    {
+        let core = self.core;
+        Overlay::of(&core.channels, &self.delta.channels)
+    }
+
+    /// The originations by their places.
+    fn origs(&self) -> Overlay<'_, Numbered<Orig>>
+        ensures { result ≡ over self.now.base.origs self.now.delta.origs }
+    {
+        let core = self.core;
+        Overlay::of(&core.origs, &self.delta.origs)
+    }
+
+    /// The jobs by their places.
+    fn jobs(&self) -> Overlay<'_, Numbered<Job>>
+        ensures { result ≡ over self.now.base.jobs self.now.delta.jobs }
+    {
+        let core = self.core;
+        Overlay::of(&core.jobs, &self.delta.jobs)
+    }
+
+    /// The connections by their places.
+    pub(crate) fn conns(&self) -> Overlay<'_, Numbered<Conn>>
+        ensures { result ≡ over self.now.base.conns self.now.delta.conns }
+    {
+        let core = self.core;
+        Overlay::of(&core.conns, &self.delta.conns)
     }
 
     // ---- the entry in hand
@@ -170,7 +136,7 @@ impl<'a> Draft<'a> {
     pub fn moment(&self) -> u64
         ensures { result ≡ (drafted self.now).moment }
     {
-        self.moment
+        self.delta.moment
     }
 
     /// The clock comes to a moment; it never goes back.
@@ -179,28 +145,28 @@ impl<'a> Draft<'a> {
         ensures advanced { drafted self.new ≡ spec.at_moment now (drafted self.old) }
         ensures queue { self.new.delta.queue ≡ self.old.delta.queue }
     {
-        self.moment = self.moment.max(now);
+        self.delta.moment = self.delta.moment.max(now);
     }
 
     /// Something happens.
     pub fn tell(&mut self, event: Event) -> Result<(), Memory>
         ensures { Brings result self.old self.new (spec.with_event event (drafted self.old)) }
     {
-        self.news.push(event)
+        self.delta.news.push(event)
     }
 
     /// A command of the connection of a number is answered at once, before the events of the entry.
     pub fn answer_command(&mut self, conn: u32, frame: Txt) -> Result<(), Memory>
         ensures { Brings result self.old self.new (spec.with_answer conn frame (drafted self.old)) }
     {
-        self.answered.push(conn, frame)
+        self.delta.answered.push(conn, frame)
     }
 
     /// A frame is given to the connection of a number, behind the events of the entry.
     pub fn give(&mut self, conn: u32, frame: Txt) -> Result<(), Memory>
         ensures { Brings result self.old self.new (spec.with_gift conn frame (drafted self.old)) }
     {
-        self.given.push(conn, frame)
+        self.delta.given.push(conn, frame)
     }
 
     // ---- the numbers that are drawn
@@ -209,14 +175,14 @@ impl<'a> Draft<'a> {
     pub fn next_orig(&self) -> u64
         ensures { result ≡ spec.next_orig_number (drafted self.now) }
     {
-        self.drawn.with_orig().origs
+        self.delta.drawn.with_orig().origs
     }
 
     /// The number that the next job gets.
     pub fn next_job(&self) -> u64
         ensures { result ≡ spec.next_job_number (drafted self.now) }
     {
-        self.drawn.with_job().jobs
+        self.delta.drawn.with_job().jobs
     }
 
     /// Draws an identifier of the switch, whose number is the next.
@@ -224,10 +190,10 @@ impl<'a> Draft<'a> {
         ensures identifier { IfOk result (λ text. text ≡ spec.identifier_of (drafted self.new)) }
         ensures draft { Brings result self.old self.new (spec.with_next_identifier (drafted self.old)) }
     {
-        self.drawn = self.drawn.with_identifier();
+        self.delta.drawn = self.delta.drawn.with_identifier();
         let core = self.core;
         let core_id = core.config.settings().core_uuid;
-        core_id.uuid(core.alloc, self.drawn.identifiers)
+        core_id.uuid(core.alloc, self.delta.drawn.identifiers)
     }
 
     // ---- globals
@@ -237,7 +203,7 @@ impl<'a> Draft<'a> {
         ensures { result.now ≡ (drafted self.now).globals }
     {
         let core = self.core;
-        match &self.globals {
+        match &self.delta.globals {
             Some(globals) => globals,
             None => &core.globals,
         }
@@ -247,7 +213,7 @@ impl<'a> Draft<'a> {
     pub fn set_globals(&mut self, globals: Vars) -> Result<(), Memory>
         ensures { Brings result self.old self.new (record (drafted self.old) { globals = globals }) }
     {
-        self.globals = Some(Boxed::of(self.alloc(), globals)?);
+        self.delta.globals = Some(Boxed::of(self.alloc(), globals)?);
         Ok(())
     }
 
@@ -257,14 +223,17 @@ impl<'a> Draft<'a> {
     pub fn chan(&self, slot: u16) -> Option<&Chan>
         ensures { option_copied result ≡ spec.chan_at (drafted self.now) slot }
     {
-        Some(self.channels.get(usize::from(slot))?)
+        Some(self.channels().lend(usize::from(slot))?)
     }
 
     /// Puts a channel into a slot, or empties it.
     pub fn put_chan(&mut self, slot: u16, chan: Option<Boxed<Chan>>) -> Result<(), Memory>
         ensures { Brings result self.old self.new (spec.with_chan slot chan (drafted self.old)) }
     {
-        self.channels.put(usize::from(slot), chan)
+        let core = self.core;
+        self.delta
+            .channels
+            .put_over(&core.channels, usize::from(slot), chan)
     }
 
     /// Takes a channel back that was put into a slot last, so that it can be put there changed.
@@ -275,7 +244,10 @@ impl<'a> Draft<'a> {
             (λ chan. chan_in self.old slot ≡ Some chan) }
         ensures put { (chan : Option Chan) → with_chan_in self.new slot chan ≡ with_chan_in self.old slot chan }
     {
-        self.channels.take(usize::from(slot))
+        let core = self.core;
+        self.delta
+            .channels
+            .take_back(&core.channels, usize::from(slot))
     }
 
     /// How many slots are filled, at most: from this one on there is no channel.
@@ -284,7 +256,7 @@ impl<'a> Draft<'a> {
         ensures within { result ≤ length (drafted self.now).channels }
         ensures empty { IsEmptyFrom result (drafted self.now).channels }
     {
-        self.channels.filled() as u16
+        self.channels().filled() as u16
     }
 
     /// How many slots there are, with slot 0.
@@ -292,7 +264,7 @@ impl<'a> Draft<'a> {
     pub fn slots(&self) -> u16
         ensures { result ≡ length (drafted self.now).channels }
     {
-        self.channels.len() as u16
+        self.channels().len() as u16
     }
 
     /// The least free slot from one on.
@@ -300,7 +272,7 @@ impl<'a> Draft<'a> {
     pub fn free_slot(&self, from: u16) -> Option<u16>
         ensures { result ≡ spec.free_slot from (drafted self.now) }
     {
-        let slot = self.channels.least_free(usize::from(from))?;
+        let slot = self.channels().least_free(usize::from(from))?;
         Some(slot as u16)
     }
 
@@ -357,7 +329,7 @@ impl<'a> Draft<'a> {
         ensures { result ≡ spec.bridge_at (drafted self.now) slot }
     {
         let core = self.core;
-        match &self.bridges {
+        match &self.delta.bridges {
             Some(bridges) => bridges.part_of(slot),
             None => core.bridges.part_of(slot),
         }
@@ -400,7 +372,7 @@ impl<'a> Draft<'a> {
         ensures put { (bridges : BridgeRows) → with_bridges_in self.new bridges ≡ with_bridges_in self.old bridges }
     {
         let core = self.core;
-        match self.bridges.take() {
+        match self.delta.bridges.take() {
             Some(bridges) => Ok(bridges),
             None => core.bridges.copy(),
         }
@@ -411,7 +383,7 @@ impl<'a> Draft<'a> {
         ensures base { self.new.base ≡ self.old.base }
         ensures put { drafted self.new ≡ with_bridges_in self.old bridges }
     {
-        self.bridges = Some(bridges);
+        self.delta.bridges = Some(bridges);
     }
 
     // ---- originations
@@ -420,14 +392,15 @@ impl<'a> Draft<'a> {
     pub fn orig(&self, number: u64) -> Option<&Orig>
         ensures { option_copied result ≡ spec.orig_of (drafted self.now) number }
     {
-        self.origs.row(number)
+        self.origs().lend_row(number)
     }
 
     /// Puts an origination in the place of the one of this number.
     pub fn set_orig(&mut self, number: u64, orig: Orig) -> Result<(), Memory>
         ensures { Brings result self.old self.new (spec.with_orig number orig (drafted self.old)) }
     {
-        self.origs.set_row(number, orig)
+        let core = self.core;
+        self.delta.origs.set_row(&core.origs, number, orig)
     }
 
     /// Begins an origination, whose number is the next.
@@ -435,9 +408,10 @@ impl<'a> Draft<'a> {
         ensures number { IfOk result (λ number. number ≡ spec.next_orig_number (drafted self.old)) }
         ensures draft { Brings result self.old self.new (spec.with_new_orig orig (drafted self.old)) }
     {
-        self.drawn = self.drawn.with_orig();
-        let number = self.drawn.origs;
-        self.origs.add_row(number, orig)?;
+        let core = self.core;
+        self.delta.drawn = self.delta.drawn.with_orig();
+        let number = self.delta.drawn.origs;
+        self.delta.origs.add_row(&core.origs, number, orig)?;
         Ok(number)
     }
 
@@ -445,7 +419,8 @@ impl<'a> Draft<'a> {
     pub fn drop_orig(&mut self, number: u64) -> Result<(), Memory>
         ensures { Brings result self.old self.new (spec.without_orig number (drafted self.old)) }
     {
-        self.origs.drop_row(number)
+        let core = self.core;
+        self.delta.origs.drop_row(&core.origs, number)
     }
 
     // ---- jobs
@@ -454,7 +429,7 @@ impl<'a> Draft<'a> {
     pub fn job(&self, number: u64) -> Option<&Job>
         ensures { option_copied result ≡ spec.job_of (drafted self.now) number }
     {
-        self.jobs.row(number)
+        self.jobs().lend_row(number)
     }
 
     /// Begins a job, whose number is the next.
@@ -462,9 +437,10 @@ impl<'a> Draft<'a> {
         ensures number { IfOk result (λ number. number ≡ spec.next_job_number (drafted self.old)) }
         ensures draft { Brings result self.old self.new (spec.with_new_job job (drafted self.old)) }
     {
-        self.drawn = self.drawn.with_job();
-        let number = self.drawn.jobs;
-        self.jobs.add_row(number, job)?;
+        let core = self.core;
+        self.delta.drawn = self.delta.drawn.with_job();
+        let number = self.delta.drawn.jobs;
+        self.delta.jobs.add_row(&core.jobs, number, job)?;
         Ok(number)
     }
 
@@ -472,21 +448,22 @@ impl<'a> Draft<'a> {
     pub fn drop_job(&mut self, number: u64) -> Result<(), Memory>
         ensures { Brings result self.old self.new (spec.without_job number (drafted self.old)) }
     {
-        self.jobs.drop_row(number)
+        let core = self.core;
+        self.delta.jobs.drop_row(&core.jobs, number)
     }
 
     /// Whether each place for a job is taken.
     pub fn is_full_of_jobs(&self) -> bool
         ensures { result ≡ spec.is_full_of_jobs (drafted self.now) }
     {
-        self.jobs.least_free(0).is_none()
+        self.jobs().least_free(0).is_none()
     }
 
     /// What stands at a place for a job; past the last one stands nothing.
     pub fn job_at(&self, place: usize) -> Option<&Numbered<Job>>
         ensures { option_copied result ≡ spec.job_at (drafted self.now) place }
     {
-        self.jobs.get(place)
+        self.jobs().lend(place)
     }
 
     /// How many places for jobs are filled, at most: from this one on there is no job.
@@ -494,7 +471,7 @@ impl<'a> Draft<'a> {
         ensures within { result ≤ length (drafted self.now).jobs }
         ensures empty { IsEmptyFrom result (drafted self.now).jobs }
     {
-        self.jobs.filled()
+        self.jobs().filled()
     }
 
     // ---- connections
@@ -503,14 +480,15 @@ impl<'a> Draft<'a> {
     pub fn conn(&self, number: u32) -> Option<&Conn>
         ensures { option_copied result ≡ spec.conn_of (drafted self.now) number }
     {
-        self.conns.row(u64::from(number))
+        self.conns().lend_row(u64::from(number))
     }
 
     /// Puts a connection in the place of the one of this number.
     pub fn set_conn(&mut self, number: u32, conn: Conn) -> Result<(), Memory>
         ensures { Brings result self.old self.new (spec.with_conn number conn (drafted self.old)) }
     {
-        self.conns.set_row(u64::from(number), conn)
+        let core = self.core;
+        self.delta.conns.set_row(&core.conns, u64::from(number), conn)
     }
 
     /// Opens a connection, whose number is the next.
@@ -518,9 +496,10 @@ impl<'a> Draft<'a> {
         ensures number { IfOk result (λ number. number ≡ (numbers.with_conn (drafted self.old).drawn).conns) }
         ensures draft { Brings result self.old self.new (spec.with_new_conn conn (drafted self.old)) }
     {
-        self.drawn = self.drawn.with_conn();
-        let number = self.drawn.conns;
-        self.conns.add_row(u64::from(number), conn)?;
+        let core = self.core;
+        self.delta.drawn = self.delta.drawn.with_conn();
+        let number = self.delta.drawn.conns;
+        self.delta.conns.add_row(&core.conns, u64::from(number), conn)?;
         Ok(number)
     }
 
@@ -528,14 +507,14 @@ impl<'a> Draft<'a> {
     pub fn is_full(&self) -> bool
         ensures { result ≡ spec.is_full_of_conns (drafted self.now) }
     {
-        self.conns.least_free(0).is_none()
+        self.conns().least_free(0).is_none()
     }
 
     /// How many connections there may be.
     pub fn conn_places(&self) -> usize
         ensures { result ≡ length (drafted self.now).conns }
     {
-        self.conns.len()
+        self.conns().len()
     }
 
     // ---- frames that wait; a draft changes one queue at most
@@ -546,7 +525,7 @@ impl<'a> Draft<'a> {
         ensures { result ≡ length (spec.waiting_for (drafted self.now) number) }
     {
         let core = self.core;
-        match self.conns.place_of(u64::from(number)) {
+        match self.conns().place_of(u64::from(number)) {
             Some(place) => core.queues.len(place),
             None => 0,
         }
@@ -558,7 +537,7 @@ impl<'a> Draft<'a> {
         ensures { option_copied result ≡ slice_get (spec.waiting_for (drafted self.now) number) 0 }
     {
         let core = self.core;
-        let place = self.conns.place_of(u64::from(number))?;
+        let place = self.conns().place_of(u64::from(number))?;
         Some(core.queues.first(place)?.text())
     }
 
@@ -568,8 +547,8 @@ impl<'a> Draft<'a> {
         ensures base { self.new.base ≡ self.old.base }
         ensures taken { drafted self.new ≡ spec.with_frame_taken number (drafted self.old) }
     {
-        if let Some(place) = self.conns.place_of(u64::from(number)) {
-            self.queue = QueueChange::Taken { place };
+        if let Some(place) = self.conns().place_of(u64::from(number)) {
+            self.delta.queue = QueueChange::Taken { place };
         }
     }
 
@@ -578,17 +557,18 @@ impl<'a> Draft<'a> {
         requires { self.old.delta.queue ≡ change.Unchanged }
         ensures { Brings result self.old self.new (spec.without_conn number (drafted self.old)) }
     {
-        if let Some(place) = self.conns.place_of(u64::from(number)) {
-            self.queue = QueueChange::Cleared { place };
+        let core = self.core;
+        if let Some(place) = self.conns().place_of(u64::from(number)) {
+            self.delta.queue = QueueChange::Cleared { place };
         }
-        self.conns.drop_row(u64::from(number))
+        self.delta.conns.drop_row(&core.conns, u64::from(number))
     }
 
     // ---- the end
 
     /// What is to change. It is refused, as for want of memory, where queues might come to have 2^63 frames.
     #[tactic(auto, using(crate::proofs::QueueLemmas::room_counted, crate::proofs::QueueLemmas::room_requeued))]
-    pub fn finish(self) -> Result<Delta, Memory>
+    pub fn finish(self) -> Result<Boxed<Delta>, Memory>
         ensures delta { IfOk result (λ delta. after self.entry.base delta ≡ drafted self.entry) }
         ensures fits { IfOk result (λ delta. Fits self.entry.base delta) }
     {
@@ -596,46 +576,14 @@ impl<'a> Draft<'a> {
         if !core.queues.have_room(self.frames_given()) {
             return Err(Memory);
         }
-        let Draft {
-            core: _core,
-            globals,
-            channels,
-            bridges,
-            origs,
-            jobs,
-            conns,
-            queue,
-            drawn,
-            moment,
-            losses,
-            news,
-            answered,
-            posted,
-            given,
-        } = self;
-        Ok(Delta {
-            globals,
-            channels: channels.into_sheet(),
-            bridges,
-            origs: origs.into_sheet(),
-            jobs: jobs.into_sheet(),
-            conns: conns.into_sheet(),
-            queue,
-            drawn,
-            moment,
-            losses,
-            news,
-            answered,
-            posted,
-            given,
-        })
+        Ok(self.delta)
     }
 
     /// How many frames are given, as far as 64 bits go.
     fn frames_given(&self) -> usize
         ensures { result ≡ min (frames_given (spec.all_given (drafted self.now))) (2 ^ 64 - 1) }
     {
-        let posted = self.posted.frames().saturating_add(self.given.frames());
-        self.answered.frames().saturating_add(posted)
+        let posted = self.delta.posted.frames().saturating_add(self.delta.given.frames());
+        self.delta.answered.frames().saturating_add(posted)
     }
 }

@@ -20,7 +20,7 @@ pub struct Gift {
 /// What an entry gives, in order. A contract sees it as that list.
 #[derive(Drop)]
 pub struct Gifts {
-    gifts: Vec<Gift>,
+    pub(crate) gifts: Vec<Gift>,
 }
 
 impl Model for Gifts {
@@ -62,11 +62,11 @@ impl Gifts {
         Ok(())
     }
 
-    /// The gifts as a vector.
-    pub fn into_vec(self) -> Vec<Gift>
-        ensures { result.items ≡ self }
+    /// Nothing is given.
+    pub(crate) fn clear(&mut self)
+        ensures { self.new ≡ [] }
     {
-        self.gifts
+        self.gifts.clear();
     }
 
     /// How many frames are given, as far as 64 bits go.

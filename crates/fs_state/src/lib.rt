@@ -5,6 +5,7 @@
 #![tactic(auto)]
 
 mod answers;
+mod blank;
 mod bridging;
 mod conn;
 mod counts;
@@ -27,6 +28,7 @@ mod seen;
 mod switch;
 mod telling;
 
+pub use blank::Blank;
 pub use conn::{Conn, Parting, Phase};
 pub use counts::Counts;
 pub use delta::{Delta, QueueChange};

@@ -10,7 +10,7 @@ ghost use Rattle.fs_state.specs.Posting as spec;
 use crate::conn::Conn;
 use crate::draft::Draft;
 use crate::event::Event;
-use crate::gift::{Gift, Gifts};
+use crate::gift::Gift;
 use crate::losses::Losses;
 use crate::outgoing::{Frames, Outgoing};
 use crate::post::Post;
@@ -33,7 +33,7 @@ impl<'a> Draft<'a> {
         ensures { Brings result self.old self.new (spec.with_posts self.old.base (drafted self.old)) }
     {
         let told = self.told()?;
-        self.posted = Gifts::new(self.alloc());
+        self.delta.posted.clear();
         self.post_all(&told)
     }
 
@@ -44,7 +44,7 @@ impl<'a> Draft<'a> {
         ensures { IfOk result (λ told. told.items ≡ spec.told self.now.base (drafted self.now)) }
     {
         let core = self.core;
-        if self.news.as_slice().is_empty() || core.is_deaf() {
+        if self.delta.news.as_slice().is_empty() || core.is_deaf() {
             return Ok(Vec::new(self.alloc()));
         }
         self.tell_all()
@@ -55,7 +55,7 @@ impl<'a> Draft<'a> {
         ensures { IfOk result (λ told. told.items ≡ spec.told self.now.base (drafted self.now)) }
     {
         let core = self.core;
-        let news = self.news.as_slice();
+        let news = self.delta.news.as_slice();
         let mut told = Vec::new(self.alloc());
         let mut number = core.counts.all();
         for event in news {
@@ -134,7 +134,7 @@ impl<'a> Draft<'a> {
     fn is_there(&self, number: u64) -> bool
         ensures { result ≡ is_some (place_of (drafted self.now).conns number) }
     {
-        self.conns.place_of(number).is_some()
+        self.conns().place_of(number).is_some()
     }
 
     /// For how many events there was room, before the entry, behind the frames that waited for a connection.
@@ -155,7 +155,7 @@ impl<'a> Draft<'a> {
         if frames.len() == 0 {
             return Ok(());
         }
-        self.posted.add(Gift { conn, frames })
+        self.delta.posted.add(Gift { conn, frames })
     }
 
     /// The connection of a number loses so many events.
@@ -187,7 +187,7 @@ impl<'a> Draft<'a> {
         ensures put { (losses : Losses) → with_losses_in self.new losses ≡ with_losses_in self.old losses }
     {
         let core = self.core;
-        match self.losses.take() {
+        match self.delta.losses.take() {
             Some(losses) => Ok(losses),
             None => core.losses.copy(),
         }
@@ -198,7 +198,7 @@ impl<'a> Draft<'a> {
         ensures base { self.new.base ≡ self.old.base }
         ensures put { drafted self.new ≡ with_losses_in self.old losses }
     {
-        self.losses = Some(losses);
+        self.delta.losses = Some(losses);
     }
 }
 

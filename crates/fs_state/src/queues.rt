@@ -1,10 +1,10 @@
 //! The frames that wait for connections.
-ghost use Rattle.std.specs.Prelude.{◌≡◌, ◌++◌, true, length, IfOk};
+ghost use Rattle.std.specs.Prelude.{◌≡◌, [], ◌++◌, true, length, IfOk};
 ghost use Rattle.std.specs.Option.{option_copied};
 ghost use Rattle.fs_state.specs.Queues as spec;
 
 use crate::conn::Conn;
-use crate::delta::Giving;
+use crate::delta::Delta;
 use crate::gift::{Gift, Gifts};
 use crate::outgoing::{Frames, Outgoing};
 use fs_places::{Numbered, Places, Rows};
@@ -118,35 +118,27 @@ impl Queues {
     }
 
     /// Puts all that is given behind the frames of the connections that are there, without memory; the rest is dropped.
+    /// Nothing is left to be given.
     #[tactic(auto, using(crate::proofs::GiftLemmas::delivered_append))]
-    pub(crate) fn deliver(&mut self, conns: &Places<Numbered<Conn>>, giving: Giving)
-        requires { spec.HaveRoom self.old (spec.frames_given (giving.answered ++ (giving.posted ++ giving.given))) }
-        ensures { self.new ≡ spec.delivered conns.now (giving.answered ++ (giving.posted ++ giving.given)) self.old }
+    pub(crate) fn deliver(&mut self, conns: &Places<Numbered<Conn>>, delta: &mut Delta)
+        requires { spec.HaveRoom self.old
+            (spec.frames_given (delta.old.answered ++ (delta.old.posted ++ delta.old.given))) }
+        ensures queues { self.new
+            ≡ spec.delivered conns.now (delta.old.answered ++ (delta.old.posted ++ delta.old.given)) self.old }
+        ensures left { delta.new ≡ record delta.old { answered = []; posted = []; given = [] } }
     {
-        let Giving {
-            answered,
-            posted,
-            given,
-        } = giving;
-        self.deliver_part(conns, answered);
-        self.deliver_part(conns, posted);
-        self.deliver_part(conns, given);
+        self.deliver_part(conns, &mut delta.answered);
+        self.deliver_part(conns, &mut delta.posted);
+        self.deliver_part(conns, &mut delta.given);
     }
 
-    /// Puts what is given behind the frames of its connections.
-    fn deliver_part(&mut self, conns: &Places<Numbered<Conn>>, given: Gifts)
-        requires { spec.HaveRoom self.old (spec.frames_given given) }
-        ensures { self.new ≡ spec.delivered conns.now given self.old }
+    /// Puts these gifts behind the frames of their connections. None are left.
+    fn deliver_part(&mut self, conns: &Places<Numbered<Conn>>, gifts: &mut Gifts)
+        requires { spec.HaveRoom self.old (spec.frames_given gifts.old) }
+        ensures queues { self.new ≡ spec.delivered conns.now gifts.old self.old }
+        ensures left { gifts.new ≡ [] }
     {
-        self.deliver_all(conns, given.into_vec());
-    }
-
-    /// Puts these gifts behind the frames of their connections.
-    fn deliver_all(&mut self, conns: &Places<Numbered<Conn>>, gifts: Vec<Gift>)
-        requires { spec.HaveRoom self.old (spec.frames_given gifts.items) }
-        ensures { self.new ≡ spec.delivered conns.now gifts.items self.old }
-    {
-        for gift in gifts {
+        for gift in gifts.gifts.drain(..) {
             self.deliver_one(conns, gift);
         }
     }

@@ -5,12 +5,11 @@ ghost use Rattle.fs_places.specs.Places.{IsEmptyFrom};
 ghost use Rattle.fs_state.specs.Switch as spec;
 
 use crate::conn::Conn;
-use crate::draft::Draft;
 use crate::job::Job;
 use crate::switch::Core;
 use fs_chan::Chan;
 use fs_orig::Orig;
-use fs_places::Numbered;
+use fs_places::{Numbered, Table};
 use std::marker::Model;
 
 /// A switch that is kept, as it stands at a moment. A contract sees it as that switch.
@@ -114,7 +113,8 @@ impl<'a> Seen<'a> {
     pub fn is_full(&self) -> bool
         ensures { result ≡ spec.is_full_of_conns self.now }
     {
-        Draft::new(self.core).is_full()
+        let core = self.core;
+        core.conns.least_free(0).is_none()
     }
 
     /// How many connections there may be.

@@ -6,6 +6,7 @@ ghost use Rattle.fs_state.specs.Queues.{no_queues, requeued, events_in};
 ghost use Rattle.fs_state.specs.Switch as spec;
 ghost use Rattle.fs_state.specs.Drafts.{after, Fits};
 
+use crate::blank::Blank;
 use crate::conn::Conn;
 use crate::counts::Counts;
 use crate::delta::{Delta, QueueChange};
@@ -136,17 +137,24 @@ impl Core {
         })
     }
 
-    /// Does what an entry changes, at its cost. It takes no memory.
+    /// Does what an entry changes, at its cost. It takes no memory, and leaves a blank for the next draft.
     #[tactic(auto, using(fs_places::proofs::PlaceLemmas::written_length))]
-    pub fn apply(&mut self, delta: Delta, cost: u64)
+    pub fn apply(&mut self, mut delta: Boxed<Delta>, cost: u64) -> Blank
         requires { Fits self.old delta }
         ensures { self.new ≡ spec.after_entry cost (after self.old delta) }
     {
-        let (news, giving) = delta.write_into(self);
-        self.queues.deliver(&self.conns, giving);
-        self.counts.count_all(news.as_slice());
+        delta.move_into(self);
+        self.queues.deliver(&self.conns, &mut delta);
+        self.counts.count_all(delta.news.as_slice());
+        delta.news.clear();
         self.entries = self.entries.saturating_add(1);
         self.cost = self.cost.saturating_add(cost);
+        Blank::of(delta)
+    }
+
+    /// Where memory is taken.
+    pub fn alloc(&self) -> Global {
+        self.alloc
     }
 
     /// What the switch was configured by.

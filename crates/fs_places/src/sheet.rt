@@ -121,8 +121,9 @@ impl<T: Drop> Sheet<T> {
         ensures places { places.new ≡ spec.written places.old self.old }
         ensures none { self.new ≡ [] }
     {
-        for write in self.writes.drain(..) {
-            places.put(write.place, write.held);
+        for write in self.writes.iter_mut() {
+            places.put(write.place, write.held.take());
         }
+        self.writes.clear();
     }
 }

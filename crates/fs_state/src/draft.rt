@@ -10,7 +10,7 @@ ghost use Rattle.fs_state.specs.Drawn as numbers;
 ghost use Rattle.fs_state.specs.Switch as spec;
 ghost use Rattle.fs_bridge.specs.Bridges.{BridgeRows};
 ghost use Rattle.fs_state.specs.Drafts.{Brings, after, drafted, chan_in, with_chan_in, chan_taken_back};
-ghost use Rattle.std.specs.Prelude.{◌-◌, ◌^◌, min};
+ghost use Rattle.std.specs.Prelude.{◌-◌, ◌^◌, ◌<◌, min};
 ghost use Rattle.fs_state.specs.Drafts.{with_bridges_in, Fits};
 ghost use Rattle.fs_state.specs.Queues.{frames_given};
 
@@ -84,7 +84,8 @@ impl<'a> Draft<'a> {
 
     /// The channels by their slots.
     fn channels(&self) -> Overlay<'_, Boxed<Chan>>
-        ensures { result ≡ over self.now.base.channels self.now.delta.channels }
+        ensures table { result ≡ over self.now.base.channels self.now.delta.channels }
+        ensures few { length self.now.base.channels < 2 ^ 16 }
     {
         let core = self.core;
         Overlay::of(&core.channels, &self.delta.channels)

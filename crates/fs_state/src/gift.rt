@@ -17,6 +17,15 @@ pub struct Gift {
     pub frames: Frames,
 }
 
+impl Gift {
+    /// Takes its frames out.
+    pub(crate) fn take_frames(&mut self) -> Frames
+        ensures { result ≡ self.old.frames }
+    {
+        self.frames.take_all()
+    }
+}
+
 /// What an entry gives, in order. A contract sees it as that list.
 #[derive(Drop)]
 pub struct Gifts {

@@ -7,6 +7,7 @@ use fs_text::{Memory, Txt};
 use std::alloc::Global;
 use std::collections::LinkedList;
 use std::marker::Model;
+use std::mem;
 
 /// A frame that goes out to a connection.
 #[derive(Drop)]
@@ -116,6 +117,15 @@ impl Frames {
     {
         self.frames.clear();
         self.events = 0;
+    }
+
+    /// Takes all out, to be put elsewhere.
+    pub fn take_all(&mut self) -> Frames
+        ensures result { result ≡ self.old }
+        ensures none { self.new ≡ [] }
+    {
+        let none = Frames::new(*self.frames.allocator());
+        mem::replace(self, none)
     }
 
     /// Puts other frames behind these, without memory.

@@ -1,5 +1,5 @@
 //! What an entry posts of its events.
-ghost use Rattle.std.specs.Prelude.{◌≡◌, ◌-◌, true, is_some, count_by, length, IfOk};
+ghost use Rattle.std.specs.Prelude.{◌≡◌, [], ◌-◌, true, is_some, count_by, length, IfOk};
 ghost use Rattle.fs_filter.specs.Subscriptions.{wants};
 ghost use Rattle.fs_places.specs.Places.{held_in};
 ghost use Rattle.fs_places.specs.Rows.{place_of};
@@ -33,8 +33,16 @@ impl<'a> Draft<'a> {
         ensures { Brings result self.old self.new (spec.with_posts self.old.base (drafted self.old)) }
     {
         let told = self.told()?;
-        self.delta.posted.clear();
+        self.clear_posted();
         self.post_all(&told)
+    }
+
+    /// Nothing is posted yet.
+    fn clear_posted(&mut self)
+        ensures base { self.new.base ≡ self.old.base }
+        ensures none { drafted self.new ≡ record (drafted self.old) { posted = [] } }
+    {
+        self.delta.posted.clear();
     }
 
     // ---- what is told

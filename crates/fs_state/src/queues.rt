@@ -5,7 +5,7 @@ ghost use Rattle.fs_state.specs.Queues as spec;
 
 use crate::conn::Conn;
 use crate::delta::Delta;
-use crate::gift::{Gift, Gifts};
+use crate::gift::Gifts;
 use crate::outgoing::{Frames, Outgoing};
 use fs_places::{Numbered, Places, Rows};
 use fs_text::Memory;
@@ -138,18 +138,22 @@ impl Queues {
         ensures queues { self.new ≡ spec.delivered conns.now gifts.old self.old }
         ensures left { gifts.new ≡ [] }
     {
-        for gift in gifts.gifts.drain(..) {
-            self.deliver_one(conns, gift);
+        for gift in gifts.gifts.iter_mut() {
+            let conn = gift.conn;
+            let frames = gift.take_frames();
+            self.deliver_one(conns, conn, frames);
         }
+        gifts.clear();
     }
 
-    /// Puts a gift behind the frames of its connection, if that is there.
-    fn deliver_one(&mut self, conns: &Places<Numbered<Conn>>, gift: Gift)
-        requires { spec.HaveRoom self.old (length gift.frames) }
-        ensures { self.new ≡ spec.with_gift_delivered conns.now gift self.old }
+    /// Puts frames behind those of the connection of a number, if that is there.
+    fn deliver_one(&mut self, conns: &Places<Numbered<Conn>>, conn: u64, frames: Frames)
+        requires { spec.HaveRoom self.old (length frames) }
+        ensures { self.new
+            ≡ spec.with_gift_delivered conns.now (record { conn = conn; frames = frames }) self.old }
     {
-        if let Some(place) = conns.place_of(gift.conn) {
-            self.append(place, gift.frames);
+        if let Some(place) = conns.place_of(conn) {
+            self.append(place, frames);
         }
     }
 }

@@ -1,6 +1,7 @@
-use Rattle.std.proofs.Common.{◌≡◌}
+use Rattle.std.proofs.Common.{◌≡◌, drop}
 use Rattle.fs_places.specs.Sheets as spec
 use Rattle.fs_places.proofs.sheet.Sheet.move_into.Given as goal
 
+-- what is still to be written makes of the table what all does
 abbrev pub invariant-loop-write : goal.invariant-loop-write
-invariant-loop-write g l = l.places ≡ spec.written l.fn.places l.yielded
+invariant-loop-write g l = spec.written l.places (drop l.write-index l.write-items) ≡ spec.written l.fn.places l.fn.self

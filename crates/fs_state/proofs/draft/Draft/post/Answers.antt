@@ -1,8 +1,7 @@
 use Rattle.std.proofs.Common.{◌≡◌, List, [], ap, ◌∙◌}
 use Rattle.std.proofs.lemmas.Result.{on_ok_weaker}
 use Rattle.fs_event.specs.declared.event.Event.{Event as Telling}
-use Rattle.fs_state.specs.declared.gift.Gift.{Gift}
-use Rattle.fs_state.specs.Drafts.{Drafted, drafted}
+use Rattle.fs_state.specs.Drafts.{drafted}
 use Rattle.fs_state.specs.Posting.{told, posted_over, with_posts}
 use Rattle.fs_state.specs.Switch.{Switch}
 use Rattle.fs_state.proofs.PostLemmas.{all_posted}
@@ -20,10 +19,8 @@ pub returns : goal.returns
 returns c =
     let base = c.args.self.now.base in
     let s = drafted c.args.self.now in
-    let same : c.self.inside.core.now ≡ base = ap (λ (d : Drafted). d.base) c.self.view_is in
-    let tells : c.deref.result.now ≡ told base s = c.deref.ensures.value ∙ c.in_ok-told.ensures in
-    let clear = ap (λ (d : Drafted). record (drafted d) { posted = c.new.result }) c.self.view_is
-    ∙ ap (λ (gifts : List Gift). record s { posted = gifts }) c.new.ensures in (
+    let same = c.clear_posted.ensures.base in
+    let tells : c.deref.result.now ≡ told base s = c.deref.ensures.value ∙ c.in_ok-told.ensures in (
       c.post_all.ensures.0 ∙ same,
-      on_ok_weaker c.post_all.result (λ e. e ∙ done base s _ _ _ same tells clear) c.post_all.ensures.1,
+      on_ok_weaker c.post_all.result (λ e. e ∙ done base s _ _ _ same tells c.clear_posted.ensures.none) c.post_all.ensures.1,
     )

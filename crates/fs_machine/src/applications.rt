@@ -3,6 +3,7 @@
 ghost use Rattle.std.specs.Prelude.{◌≡◌, IfOk};
 ghost use Rattle.fs_state.specs.Drafts.{drafted, Brings};
 ghost use Rattle.fs_state.specs.Moves.{after_answer, after_completion};
+ghost use Rattle.fs_chan.specs.Work.{after_next};
 ghost use Rattle.fs_app.specs.Applications.{IsShortApplication};
 ghost use Rattle.fs_machine.specs.Applications as spec;
 
@@ -27,7 +28,6 @@ pub(crate) fn run_next(draft: &mut Draft<'_>, slot: u16) -> Result<(), Memory>
     };
     let argument = argument_in(draft, chan, &action.argument)?;
     let application = action.application.copy()?;
-    change_chan(draft, slot, ChanChange::Pass)?;
     execute_within(draft, slot, application, argument)
 }
 
@@ -48,27 +48,32 @@ fn argument_in(draft: &Draft<'_>, chan: &Chan, text: &Txt) -> Result<Option<Txt>
     }
 }
 
-// Runs an application, unless its argument is too long.
+// Runs what a channel is to run next, which is used up, unless its argument is too long.
 fn execute_within(
     draft: &mut Draft<'_>,
     slot: u16,
     application: Txt,
     argument: Option<Txt>,
 ) -> Result<(), Memory>
-    ensures { Brings result draft.old draft.new (spec.executed_within application argument slot (drafted draft.old)) }
+    ensures { Brings result draft.old draft.new
+        (spec.executed_within application argument slot (after_move after_next slot (drafted draft.old))) }
 {
     match argument {
         Some(argument) => execute(draft, slot, application, argument),
-        None => draft.hang_up(slot, Cause::NormalTemporaryFailure),
+        None => {
+            change_chan(draft, slot, ChanChange::Pass)?;
+            draft.hang_up(slot, Cause::NormalTemporaryFailure)
+        }
     }
 }
 
-// Begins an application, and applies its effect.
+// Begins an application that a channel is to run next, and applies its effect.
 fn execute(draft: &mut Draft<'_>, slot: u16, application: Txt, argument: Txt) -> Result<(), Memory>
-    ensures { Brings result draft.old draft.new (spec.after_execution application argument slot (drafted draft.old)) }
+    ensures { Brings result draft.old draft.new
+        (spec.after_execution application argument slot (after_move after_next slot (drafted draft.old))) }
 {
     let asked = Application::of(draft.alloc(), application.as_bytes(), argument.as_bytes())?;
-    draft.run_on(
+    draft.begin_next(
         slot,
         Action {
             application,

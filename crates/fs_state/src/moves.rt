@@ -2,6 +2,7 @@
 ghost use Rattle.std.specs.Prelude.{◌≡◌, Option, Some, None, Ok, IfOk};
 ghost use Rattle.fs_chan.specs.declared.chan.Chan.{Chan};
 ghost use Rattle.fs_chan.specs.Changes as chan;
+ghost use Rattle.fs_chan.specs.Work.{after_next};
 ghost use Rattle.fs_state.specs.Drafts.{drafted, Brings, chan_in, with_chan_in};
 ghost use Rattle.fs_state.specs.Switch.{with_event};
 ghost use Rattle.fs_state.specs.Moves as spec;
@@ -128,18 +129,6 @@ impl<'a> Draft<'a> {
         self.put_moved(slot, old, chan)
     }
 
-    /// The channel in a slot goes on once what it waited for is over.
-    pub fn go_on(&mut self, slot: u16) -> Result<(), Memory>
-        ensures { Brings result self.old self.new (spec.after_move chan.at_rest slot (drafted self.old)) }
-    {
-        let Some(mut chan) = self.own_chan(slot)? else {
-            return Ok(());
-        };
-        let old = chan.state;
-        chan.go_on();
-        self.put_moved(slot, old, chan)
-    }
-
     /// A channel begins.
     pub fn begin(&mut self, slot: u16) -> Result<(), Memory>
         ensures { Brings result self.old self.new (spec.after_begin slot (drafted self.old)) }
@@ -150,12 +139,13 @@ impl<'a> Draft<'a> {
 
     // ---- applications
 
-    /// An application begins on the channel in a slot.
-    pub fn run_on(&mut self, slot: u16, action: Action) -> Result<(), Memory>
-        ensures { Brings result self.old self.new (spec.run_on action slot (drafted self.old)) }
+    /// What the channel in a slot is to run next is used up, and an application begins.
+    pub fn begin_next(&mut self, slot: u16, action: Action) -> Result<(), Memory>
+        ensures { Brings result self.old self.new
+            (spec.run_on action slot (spec.after_move after_next slot (drafted self.old))) }
     {
         let told = action.copy()?;
-        self.set_running(slot, action)?;
+        self.set_next(slot, action)?;
         self.tell_application(EventName::ChannelExecute, Some(told), slot)
     }
 
@@ -176,14 +166,17 @@ impl<'a> Draft<'a> {
         self.tell(Event { name, slot, detail })
     }
 
-    /// The channel in a slot has begun an application.
-    fn set_running(&mut self, slot: u16, action: Action) -> Result<(), Memory>
-        ensures { Brings result self.old self.new (spec.after_move (spec.with_running action) slot (drafted self.old)) }
+    /// What the channel in a slot is to run next is used up, and it has begun an application.
+    #[tactic(auto, using(crate::proofs::MoveLemmas::begun_next))]
+    fn set_next(&mut self, slot: u16, action: Action) -> Result<(), Memory>
+        ensures { Brings result self.old self.new
+            (spec.after_move (spec.with_running action) slot (spec.after_move after_next slot (drafted self.old))) }
     {
         let Some(mut chan) = self.own_chan(slot)? else {
             return Ok(());
         };
         let old = chan.state;
+        chan.pass_action();
         chan.running = Some(action);
         self.put_moved(slot, old, chan)
     }
@@ -192,22 +185,14 @@ impl<'a> Draft<'a> {
     pub fn complete(&mut self, slot: u16) -> Result<(), Memory>
         ensures { Brings result self.old self.new (spec.after_completion slot (drafted self.old)) }
     {
-        let running = self.running(slot)?;
-        self.go_on(slot)?;
-        self.tell_application(EventName::ChannelExecuteComplete, running, slot)
-    }
-
-    /// What the channel in a slot runs.
-    fn running(&self, slot: u16) -> Result<Option<Action>, Memory>
-        ensures { IfOk result (λ running. running ≡ spec.running_at slot (drafted self.now)) }
-    {
-        let Some(chan) = self.chan(slot) else {
-            return Ok(None);
+        let Some(mut chan) = self.own_chan(slot)? else {
+            return self.tell_application(EventName::ChannelExecuteComplete, None, slot);
         };
-        match &chan.running {
-            Some(action) => Ok(Some(action.copy()?)),
-            None => Ok(None),
-        }
+        let old = chan.state;
+        let running = chan.running.take();
+        chan.go_on();
+        self.put_moved(slot, old, chan)?;
+        self.tell_application(EventName::ChannelExecuteComplete, running, slot)
     }
 
     // ---- the end of a call

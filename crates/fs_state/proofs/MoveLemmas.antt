@@ -1,9 +1,10 @@
 -- What is used up and what begins in one change of a channel, and in two.
-use Rattle.std.proofs.Common.{◌≡◌, ℕ, ◌==◌, Bool, true, List, [], ◌∷◌, Option, None, Some, cond, refl, sym, ap, ◌∙◌}
-use Rattle.std.proofs.lemmas.Bool.{eqb-refl}
+use Rattle.std.proofs.Common.{◌≡◌, ℕ, ◌==◌, Bool, true, List, [], ◌∷◌, Option, None, Some, cond, refl, sym, ap, ◌∙◌, arith}
+use Rattle.std.proofs.lemmas.Bool.Decides.{nat_tests}
 use Rattle.std.proofs.lemmas.List.{set-set}
 use Rattle.fs_text.specs.declared.states.State.{State}
 use Rattle.fs_text.specs.State.{state_number}
+use Rattle.fs_text.specs.declared.event_names.EventName.TheVariants.{ChannelState}
 use Rattle.fs_chan.specs.declared.action.Action.{Action}
 use Rattle.fs_chan.specs.declared.chan.Chan.{Chan}
 use Rattle.fs_chan.specs.Work.{pending_of, without_first, after_taking, after_next}
@@ -11,11 +12,15 @@ use Rattle.fs_places.proofs.HeldLemmas.{held_here, held_within}
 use Rattle.fs_state.specs.Switch.{Switch, chan_at, with_chan, with_event}
 use Rattle.fs_state.specs.Moves.{plain_event, with_coming_event, with_leaving_event, with_state_events, after_move_from, after_move, with_running}
 
+-- a number is itself
+same : (n : ℕ) → (n == n) ≡ true
+same n = grind (arith, nat_tests)
+
 -- where the state stays nothing is told
 quiet : (state : State) (slot : ℕ) (s : Switch) → with_state_events state state slot s ≡ s
 quiet state slot s =
-    ap (λ (b : Bool). cond b s (with_event (plain_event _ slot) (with_coming_event state slot (with_leaving_event state slot s))))
-    (eqb-refl (state_number state))
+    ap (λ (b : Bool). cond b s (with_event (plain_event ChannelState slot) (with_coming_event state slot (with_leaving_event state slot s))))
+    (same (state_number state))
 
 -- what is used up leaves the state
 same_without : (messages : List Action) (c : Chan) → (without_first messages c).state ≡ c.state
@@ -37,6 +42,10 @@ there c d slot s at = held_here s.channels slot (Some d) (held_within s.channels
 twice : (c d : Option Chan) (slot : ℕ) (s : Switch) → with_chan slot d (with_chan slot c s) ≡ with_chan slot d s
 twice c d slot s = ap (λ (channels : List (Option Chan)). record s { channels = channels }) (set-set s.channels slot c d)
 
+-- where there is no channel nothing changes
+nobody : (change : Chan → Chan) (slot : ℕ) (s : Switch) → chan_at s slot ≡ None → after_move change slot s ≡ s
+nobody change slot s at = ap (λ (held : Option Chan). after_move_from change slot held s) at
+
 -- a change that leaves the state only puts the channel there
 puts : (change : Chan → Chan) (c : Chan) (slot : ℕ) (s : Switch) → chan_at s slot ≡ Some c → (change c).state ≡ c.state →
     after_move change slot s ≡ with_chan slot (Some (change c)) s
@@ -53,10 +62,8 @@ begun_next action slot s = by (chan_at s slot) refl
     by : (held : Option Chan) → chan_at s slot ≡ held →
         after_move (λ c. with_running action (after_next c)) slot s ≡ after_move (with_running action) slot (after_move after_next slot s)
     by None at =
-        let stays : {change : Chan → Chan} → after_move change slot s ≡ s =
-        λ {change}. ap (λ (held : Option Chan). after_move_from change slot held s) at in
-        stays {change = λ c. with_running action (after_next c)}
-        ∙ sym (ap (after_move (with_running action) slot) (stays {change = after_next}) ∙ stays {change = with_running action})
+        nobody (λ c. with_running action (after_next c)) slot s at
+        ∙ sym (ap (after_move (with_running action) slot) (nobody after_next slot s at) ∙ nobody (with_running action) slot s at)
     by (Some c) at =
         let d : Chan = after_next c in
         let once = puts after_next c slot s at (same_next c) in

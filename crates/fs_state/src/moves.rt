@@ -167,17 +167,15 @@ impl<'a> Draft<'a> {
     }
 
     /// What the channel in a slot is to run next is used up, and it has begun an application.
-    #[tactic(auto, using(crate::proofs::MoveLemmas::begun_next))]
     fn set_next(&mut self, slot: u16, action: Action) -> Result<(), Memory>
         ensures { Brings result self.old self.new
-            (spec.after_move (spec.with_running action) slot (spec.after_move after_next slot (drafted self.old))) }
+            (spec.after_move (λ c. spec.with_running action (after_next c)) slot (drafted self.old)) }
     {
         let Some(mut chan) = self.own_chan(slot)? else {
             return Ok(());
         };
         let old = chan.state;
-        chan.pass_action();
-        chan.running = Some(action);
+        run_next(&mut chan, action);
         self.put_moved(slot, old, chan)
     }
 
@@ -208,4 +206,12 @@ impl<'a> Draft<'a> {
         })?;
         self.enter(slot, State::CsReporting)
     }
+}
+
+/// What a channel is to run next is used up, and it has begun an application.
+fn run_next(chan: &mut Chan, action: Action)
+    ensures { chan.new ≡ spec.with_running action (after_next chan.old) }
+{
+    chan.pass_action();
+    chan.running = Some(action);
 }

@@ -32,12 +32,18 @@ pub trait Rows<T>: Table<Numbered<T>> {
     }
 
     /// The thing of a number.
+    #[tactic(auto, using(crate::proofs::PlaceLemmas::first_rules))]
     fn row(&self, number: u64) -> Option<&T>
         ensures { option_copied result ≡ spec.row_of (Self.held self.now) number }
     {
-        let place = self.place_of(number)?;
-        let row = self.get(place)?;
-        Some(&row.held)
+        for place in 0..self.len() {
+            if let Some(row) = self.get(place) {
+                if row.number == number {
+                    return Some(&row.held);
+                }
+            }
+        }
+        None
     }
 }
 

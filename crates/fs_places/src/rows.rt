@@ -61,11 +61,17 @@ impl<T: Drop> Sheet<Numbered<T>> {
 
 impl<'a, T: Drop> Overlay<'a, Numbered<T>> {
     /// The thing of a number. It is lent for as long as the table and the sheet are.
+    #[tactic(auto, using(crate::proofs::PlaceLemmas::first_rules))]
     pub fn lend_row(&self, number: u64) -> Option<&'a T>
         ensures { option_copied result ≡ spec.row_of (now_of self.now) number }
     {
-        let place = self.place_of(number)?;
-        let row = self.lend(place)?;
-        Some(&row.held)
+        for place in 0..self.len() {
+            if let Some(row) = self.lend(place) {
+                if row.number == number {
+                    return Some(&row.held);
+                }
+            }
+        }
+        None
     }
 }

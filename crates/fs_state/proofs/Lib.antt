@@ -2,7 +2,6 @@ pub mod QueueLemmas
 pub mod LossLemmas
 pub mod MoveLemmas
 pub mod SlotLemmas
-pub mod MoveLemmas
 pub mod CountLemmas
 pub mod LegTables
 pub mod GiftLemmas

@@ -2,7 +2,7 @@
 
 ghost use Rattle.std.specs.Prelude.{◌≡◌, IfOk};
 ghost use Rattle.fs_state.specs.Drafts.{drafted, Brings};
-ghost use Rattle.fs_state.specs.Moves.{after_answer, after_completion};
+ghost use Rattle.fs_state.specs.Moves.{after_move, after_answer, after_completion};
 ghost use Rattle.fs_chan.specs.Work.{after_next};
 ghost use Rattle.fs_app.specs.Applications.{IsShortApplication};
 ghost use Rattle.fs_machine.specs.Applications as spec;

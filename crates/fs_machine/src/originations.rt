@@ -19,6 +19,8 @@ use std::alloc::Global;
 
 /// The most bytes of a caller id.
 const LONGEST_CALLER_ID: usize = 256;
+/// The bytes that the name of a channel of the loopback has beside the extension.
+const NAME_ROOM: usize = 11;
 
 // A call over the loopback.
 pub(crate) struct Call {
@@ -251,8 +253,10 @@ fn loopback_profile(
 fn loopback_name(alloc: Global, exten: &Txt, direction: Direction) -> Result<Txt, Memory>
     ensures { IfOk result (λ name. name ≡ spec.loopback_name exten.now direction) }
 {
-    let mut name = Vec::from_slice(alloc, b"loopback/")?;
-    name.extend_from_slice(exten.as_bytes())?;
+    let exten = exten.as_bytes();
+    let mut name = Vec::with_capacity(alloc, exten.len().saturating_add(NAME_ROOM))?;
+    name.extend_from_slice(b"loopback/")?;
+    name.extend_from_slice(exten)?;
     name.extend_from_slice(side_of(direction))?;
     Txt::from_vec(name)
 }
@@ -272,7 +276,10 @@ fn cut(alloc: Global, text: &Txt) -> Result<Txt, Memory>
     ensures { IfOk result (λ t. t ≡ spec.cut text.now) }
 {
     let bytes = text.as_bytes();
-    Txt::of(alloc, &bytes[..LONGEST_CALLER_ID.min(bytes.len())])
+    if bytes.len() <= LONGEST_CALLER_ID {
+        return text.copy();
+    }
+    Txt::of(alloc, &bytes[..LONGEST_CALLER_ID])
 }
 
 // ---- a leg that has won

@@ -275,11 +275,10 @@ fn side_of(direction: Direction) -> &'static [u8]
 fn cut(alloc: Global, text: &Txt) -> Result<Txt, Memory>
     ensures { IfOk result (λ t. t ≡ spec.cut text.now) }
 {
-    let bytes = text.as_bytes();
-    if bytes.len() <= LONGEST_CALLER_ID {
-        return text.copy();
+    match text.as_bytes().get(..LONGEST_CALLER_ID) {
+        Some(front) => Txt::of(alloc, front),
+        None => text.copy(),
     }
-    Txt::of(alloc, &bytes[..LONGEST_CALLER_ID])
 }
 
 // ---- a leg that has won

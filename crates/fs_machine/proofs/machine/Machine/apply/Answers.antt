@@ -17,7 +17,7 @@ invariant_of-self c =
     let entries = c.self.inside.journal.entries in
     let parts = c.into_parts-entry.ensures in
     let added = c.add.ensures ∙ ap (λ (t : Entry × Delta × Reply). entries ++ t.0 ∷ []) parts in
-    let priced = c.apply.ensures ∙ ap (λ cost. after_entry cost (after kept c.into_parts-entry.result.1)) c.cost.ensures.exact in
+    let priced = c.apply-blank.ensures ∙ ap (λ cost. after_entry cost (after kept c.into_parts-entry.result.1)) c.cost.ensures.exact in
     let done = priced ∙ ap (λ (t : Entry × Delta × Reply). after_entry (cost_of t.0.act) (after kept t.1)) parts in
     let P : View → Type 0 = λ view. IsPrepared (state_of view) entry c.args.change.delta c.args.change.reply in
     rw (done, added) (
@@ -34,14 +34,14 @@ returns-clause-cost c =
     let entries = c.self.inside.journal.entries in
     let parts = c.into_parts-entry.ensures in
     let added = c.add.ensures ∙ ap (λ (t : Entry × Delta × Reply). entries ++ t.0 ∷ []) parts in
-    let priced = c.apply.ensures ∙ ap (λ cost. after_entry cost (after kept c.into_parts-entry.result.1)) c.cost.ensures.exact in
+    let priced = c.apply-blank.ensures ∙ ap (λ cost. after_entry cost (after kept c.into_parts-entry.result.1)) c.cost.ensures.exact in
     let done = priced ∙ ap (λ (t : Entry × Delta × Reply). after_entry (cost_of t.0.act) (after kept t.1)) parts in
     let P : View → Type 0 = λ view. IsPrepared (state_of view) entry c.args.change.delta c.args.change.reply in
     let cost =
     cost_more (empty kept.config) entries entry c.args.change.delta c.args.change.reply
     (subst P (sym c.self.view_is) c.requires.prepared) in
     let Q : View → Type 0 = λ view. (state_of (record {
-      config = c.apply.new.self.config;
+      config = c.apply-blank.new.self.config;
       journal = c.add.new.self.entries;
       spare = 0;
     })).cost ≡ min ((state_of view).cost + cost_of entry.act) (2 ^ 64 - 1) in

@@ -36,6 +36,10 @@ fn tell_command(api: &Api, answer: &mut Answer) -> Result<(), Memory> {
             answer.line(&[b"cause ", cause.name().as_bytes()]);
         }
         Api::UuidGetvar { uuid, name } => answer.named("UuidGetvar", &[uuid, name]),
+        Api::Hupall { cause } => {
+            answer.named("Hupall", &[]);
+            answer.line(&[b"cause ", cause.name().as_bytes()]);
+        }
         Api::Originate {
             url,
             winner,

@@ -18,7 +18,7 @@ use Rattle.fs_text.specs.Texts.{Text}
 use Rattle.fs_api.specs.Words.{behind_quoted, quoted_word}
 use Rattle.fs_api.specs.Originates.{plain_word, originate_with, originate_to, originate_of}
 use Rattle.fs_api.specs.Readings.{needs, global_setvar_of, global_getvar_of, msleep_for, uuid_exists_of, uuid_kill_of, uuid_getvar_of}
-use Rattle.fs_api.specs.Readings.{uuid_bridge_of, api_named}
+use Rattle.fs_api.specs.Readings.{uuid_bridge_of, hupall_of, api_named}
 use Rattle.fs_api.specs.Ranges.{IsInRange}
 
 -- what holds of both parts of a choice holds of the choice
@@ -58,6 +58,10 @@ getting_in_range : (arguments : Text) → IsInRange (global_getvar_of arguments)
 getting_in_range [] = tt
 getting_in_range (byte ∷ bytes) = tt
 
+hanging_in_range : (arguments : Text) → IsInRange (hupall_of arguments)
+hanging_in_range [] = tt
+hanging_in_range (byte ∷ bytes) = tt
+
 hour_of : (n : ℕ) → nat_le n 3600000 ≡ true → n ≤ 3600000
 hour_of n within = grind (arith, nat_tests)
 
@@ -81,6 +85,7 @@ named_in_range name arguments =
     (λ _. either IsInRange (bytes_eq name (codes "global_getvar")) _ _ (λ _. getting_in_range arguments)
     (λ _. either IsInRange (bytes_eq name (codes "global_setvar")) _ _ (λ _. needs_in_range which.GlobalSetvar global_setvar_of arguments
     (λ _. tt))
+    (λ _. either IsInRange (bytes_eq name (codes "hupall")) _ _ (λ _. hanging_in_range arguments)
     (λ _. either IsInRange (bytes_eq name (codes "msleep")) _ _ (λ _. sleeping_in_range (read_u64 (word_of arguments)))
     (λ _. either IsInRange (bytes_eq name (codes "originate")) _ _ (λ _. originate_in_range arguments)
     (λ _. either IsInRange (bytes_eq name (codes "uuid_bridge")) _ _
@@ -90,7 +95,7 @@ named_in_range name arguments =
     (λ _. either IsInRange (bytes_eq name (codes "uuid_getvar")) _ _
     (λ _. needs_in_range which.UuidGetvar uuid_getvar_of arguments reading_in_range)
     (λ _. either IsInRange (bytes_eq name (codes "uuid_kill")) _ _ (λ _. needs_in_range which.UuidKill uuid_kill_of arguments (λ _. tt))
-    (λ _. tt))))))))))
+    (λ _. tt)))))))))))
 
 -- what is read of a name and its arguments, once it is read
 pub IfOk-in_range : (name arguments : Text) (result : Result Api Memory) → IfOk result (λ api. api ≡ api_named name arguments) →

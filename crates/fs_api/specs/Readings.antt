@@ -4,10 +4,11 @@ use Rattle.std.specs.Str.{bytes_eq}
 use Rattle.fs_text.specs.Number.{read_u64}
 use Rattle.fs_text.specs.Words.{name_in, value_in, without_spaces, word_of, behind_word}
 use Rattle.fs_text.specs.Cause.{cause_or_clearing}
+use Rattle.fs_text.specs.declared.causes.Cause.TheVariants.{ManagerRequest}
 use Rattle.fs_text.specs.Texts.{Text}
 use Rattle.fs_api.specs.declared.api.Api.{Api}
 use Rattle.fs_api.specs.declared.api.Api.TheVariants.{Echo, Expand, GlobalGetvar, GlobalSetvar, Msleep, UuidExists, UuidKill, UuidGetvar}
-use Rattle.fs_api.specs.declared.api.Api.TheVariants.{UuidBridge, Usage, Unknown}
+use Rattle.fs_api.specs.declared.api.Api.TheVariants.{UuidBridge, Hupall, Usage, Unknown}
 use Rattle.fs_api.specs.declared.usages.Which.{Which}
 use Rattle.fs_api.specs.declared.usages.Which.TheVariants as which
 use Rattle.fs_api.specs.Originates.{originate_of}
@@ -45,6 +46,11 @@ uuid_getvar_of arguments = needs which.UuidGetvar (λ name. UuidGetvar (word_of 
 abbrev pub uuid_bridge_of : Text → Api
 uuid_bridge_of arguments = needs which.UuidBridge (λ other. UuidBridge (word_of arguments) (word_of other)) (behind_word arguments)
 
+-- the cause that is named, or the one of a manager where none is
+abbrev pub hupall_of : Text → Api
+hupall_of [] = Hupall ManagerRequest
+hupall_of (byte ∷ bytes) = Hupall (cause_or_clearing (word_of (byte ∷ bytes)))
+
 -- the api command of a name with these arguments
 unfoldable pub api_named : Text → Text → Api
 api_named name arguments =
@@ -52,13 +58,14 @@ api_named name arguments =
     else (if bytes_eq name (codes "expand") then needs which.Expand Expand arguments
     else (if bytes_eq name (codes "global_getvar") then global_getvar_of arguments
     else (if bytes_eq name (codes "global_setvar") then needs which.GlobalSetvar global_setvar_of arguments
+    else (if bytes_eq name (codes "hupall") then hupall_of arguments
     else (if bytes_eq name (codes "msleep") then msleep_of arguments
     else (if bytes_eq name (codes "originate") then originate_of arguments
     else (if bytes_eq name (codes "uuid_bridge") then needs which.UuidBridge uuid_bridge_of arguments
     else (if bytes_eq name (codes "uuid_exists") then needs which.UuidExists uuid_exists_of arguments
     else (if bytes_eq name (codes "uuid_getvar") then needs which.UuidGetvar uuid_getvar_of arguments
     else (if bytes_eq name (codes "uuid_kill") then needs which.UuidKill uuid_kill_of arguments
-    else Unknown name)))))))))
+    else Unknown name))))))))))
 
 -- the api command that a text is
 abbrev pub api_of : Text → Api

@@ -46,6 +46,10 @@ pub enum Api {
         uuid: Txt,
         name: Txt,
     },
+    /// All live channels are to be hung up.
+    Hupall {
+        cause: Cause,
+    },
     /// Legs are to be made, and the one that wins is to do something.
     Originate {
         url: Txt,
@@ -85,6 +89,7 @@ impl Drop for Api {
                 uuid: _uuid,
                 name: _name,
             } => {}
+            Api::Hupall { cause: _ } => {}
             Api::Originate {
                 url: _url,
                 winner: _winner,

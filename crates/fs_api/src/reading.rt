@@ -69,6 +69,8 @@ fn named(alloc: Global, name: &[u8], arguments: &[u8]) -> Result<Api, Memory>
         global_getvar_of(alloc, arguments)
     } else if name == b"global_setvar".as_slice() {
         global_setvar_of(alloc, arguments)
+    } else if name == b"hupall".as_slice() {
+        Ok(hupall_of(arguments))
     } else if name == b"msleep".as_slice() {
         Ok(msleep_of(arguments))
     } else if name == b"originate".as_slice() {
@@ -118,6 +120,19 @@ fn global_setvar_of(alloc: Global, arguments: &[u8]) -> Result<Api, Memory>
     let name = Txt::of(alloc, name)?;
     let value = Txt::of(alloc, value)?;
     Ok(Api::GlobalSetvar { name, value })
+}
+
+fn hupall_of(arguments: &[u8]) -> Api
+    ensures { result ≡ spec.hupall_of arguments.now }
+{
+    if arguments.is_empty() {
+        return Api::Hupall {
+            cause: Cause::ManagerRequest,
+        };
+    }
+    let (name, _) = cut_word(arguments);
+    let cause = Cause::of_name_or_clearing(name);
+    Api::Hupall { cause }
 }
 
 fn msleep_of(arguments: &[u8]) -> Api

@@ -56,6 +56,7 @@ use Rattle.fs_machine.specs.Jobs.{sleep_begun, after_job_work, job_done_from, jo
 use Rattle.fs_machine.specs.Done.{Done, says, no_answer_yet}
 use Rattle.fs_machine.specs.Joining.{in_the_way, after_leaving, both_left, both_in_media, joined_done, bridged_unless, bridge_done_at}
 use Rattle.fs_machine.specs.Joining.{uuid_bridge_done}
+use Rattle.fs_machine.specs.Hangups.{all_slots}
 use Rattle.fs_machine.specs.Api.{kill_done, msleep_done, dialled, originate_done, done_plainly}
 use Rattle.fs_machine.specs.Api.{done_by}
 use Rattle.fs_machine.specs.Commands.{with_reply, after_dismissal, after_password, with_response_of, command_done_in, command_done}
@@ -218,6 +219,7 @@ module _ (conn : ℕ) (P : Fact) (calls : KeptByCalls P) (commands : KeptByComma
   done_plainly_kept (api.UuidKill uuid cause) {s} short h = killed_kept cause (slot_named uuid s) h
   done_plainly_kept (api.UuidGetvar uuid name) short h = commands.spent h
   done_plainly_kept (api.UuidBridge uuid other) short h = bridged_kept uuid other h
+  done_plainly_kept (api.Hupall cause) {s} short h = commands.spent (calls.hung (map (λ slot. (slot, cause)) (all_slots s)) h)
   done_plainly_kept (api.Originate url winner cid_name cid_number timeout) short h =
       originated_kept url winner (record { name = cid_name; number = cid_number }) timeout short h
   done_plainly_kept (api.Usage which) short h = commands.spent h

@@ -72,6 +72,7 @@ pub mod QueueMoves
 pub mod SoundLaws
 pub mod AskingLemmas
 pub mod CountLemmas
+pub mod RangeLemmas
 pub mod SlotCounts
 pub mod BondLaws
 pub mod CutLemmas

@@ -182,6 +182,10 @@ getting_short : (arguments : Text) → NamesShort (readings.global_getvar_of arg
 getting_short [] = tt
 getting_short (byte ∷ bytes) = tt
 
+hanging_short : (arguments : Text) → NamesShort (readings.hupall_of arguments)
+hanging_short [] = tt
+hanging_short (byte ∷ bytes) = tt
+
 sleeping_short : (milliseconds : Option ℕ) → NamesShort (readings.msleep_for milliseconds)
 sleeping_short None = tt
 sleeping_short (Some n) = by (nat_le n 3600000)
@@ -205,39 +209,41 @@ joining_short arguments =
     needs_short which.UuidBridge (λ other. api.UuidBridge (word_of arguments) (word_of other)) (behind_word arguments) (λ other. tt)
 
 -- whichever name it has
-command_short : (echoes expands gets sets sleeps tries bridges exists reads kills : Bool) (name arguments : Text) → NamesShort
+command_short : (echoes expands gets sets hangs sleeps tries bridges exists reads kills : Bool) (name arguments : Text) → NamesShort
     (if echoes then api.Echo arguments
     else (if expands then readings.needs which.Expand api.Expand arguments
     else (if gets then readings.global_getvar_of arguments
     else (if sets then readings.needs which.GlobalSetvar readings.global_setvar_of arguments
+    else (if hangs then readings.hupall_of arguments
     else (if sleeps then readings.msleep_of arguments
     else (if tries then originates.originate_of arguments
     else (if bridges then readings.needs which.UuidBridge readings.uuid_bridge_of arguments
     else (if exists then readings.needs which.UuidExists readings.uuid_exists_of arguments
     else (if reads then readings.needs which.UuidGetvar readings.uuid_getvar_of arguments
     else (if kills then readings.needs which.UuidKill readings.uuid_kill_of arguments
-    else api.Unknown name))))))))))
-command_short true expands gets sets sleeps tries bridges exists reads kills name arguments = tt
-command_short false true gets sets sleeps tries bridges exists reads kills name arguments =
+    else api.Unknown name)))))))))))
+command_short true expands gets sets hangs sleeps tries bridges exists reads kills name arguments = tt
+command_short false true gets sets hangs sleeps tries bridges exists reads kills name arguments =
     needs_short which.Expand api.Expand arguments (λ text. tt)
-command_short false false true sets sleeps tries bridges exists reads kills name arguments = getting_short arguments
-command_short false false false true sleeps tries bridges exists reads kills name arguments =
+command_short false false true sets hangs sleeps tries bridges exists reads kills name arguments = getting_short arguments
+command_short false false false true hangs sleeps tries bridges exists reads kills name arguments =
     needs_short which.GlobalSetvar readings.global_setvar_of arguments (λ text. tt)
-command_short false false false false true tries bridges exists reads kills name arguments = sleeping_short (read_u64 (word_of arguments))
-command_short false false false false false true bridges exists reads kills name arguments = originate_short arguments
-command_short false false false false false false true exists reads kills name arguments =
+command_short false false false false true sleeps tries bridges exists reads kills name arguments = hanging_short arguments
+command_short false false false false false true tries bridges exists reads kills name arguments = sleeping_short (read_u64 (word_of arguments))
+command_short false false false false false false true bridges exists reads kills name arguments = originate_short arguments
+command_short false false false false false false false true exists reads kills name arguments =
     needs_short which.UuidBridge readings.uuid_bridge_of arguments joining_short
-command_short false false false false false false false true reads kills name arguments =
+command_short false false false false false false false false true reads kills name arguments =
     needs_short which.UuidExists readings.uuid_exists_of arguments (λ text. tt)
-command_short false false false false false false false false true kills name arguments =
+command_short false false false false false false false false false true kills name arguments =
     needs_short which.UuidGetvar readings.uuid_getvar_of arguments reading_short
-command_short false false false false false false false false false true name arguments =
+command_short false false false false false false false false false false true name arguments =
     needs_short which.UuidKill readings.uuid_kill_of arguments (λ text. tt)
-command_short false false false false false false false false false false name arguments = tt
+command_short false false false false false false false false false false false name arguments = tt
 
 named_short : (name arguments : Text) → NamesShort (api_named name arguments)
 unfolding api_named
-named_short name arguments = command_short _ _ _ _ _ _ _ _ _ _ name arguments
+named_short name arguments = command_short _ _ _ _ _ _ _ _ _ _ _ name arguments
 
 pub api_short : (text : Text) → NamesShort (api_of text)
 api_short text = named_short (word_of (without_spaces text)) (behind_word (without_spaces text))

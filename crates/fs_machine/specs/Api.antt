@@ -23,9 +23,10 @@ use Rattle.fs_orig.specs.Timeouts.{braces_timeout}
 use Rattle.fs_state.specs.Switch.{Switch, chan_at, slot_named, is_full_of_jobs}
 use Rattle.fs_state.specs.Hangups.{after_hangup}
 use Rattle.fs_machine.specs.Done.{Done, says, no_answer_yet}
+use Rattle.fs_machine.specs.Hangups.{after_hangup_of_all}
 use Rattle.fs_machine.specs.Joining.{uuid_bridge_done}
 use Rattle.fs_machine.specs.Texts.{ok, yes, no, limit_passed, too_long_text, usage_text, api_not_found, no_channel, undefined}
-use Rattle.fs_machine.specs.Texts.{too_many_jobs, failed_text}
+use Rattle.fs_machine.specs.Texts.{hupall_text, too_many_jobs, failed_text}
 use Rattle.fs_machine.specs.Attempts.{originate_begun}
 use Rattle.fs_machine.specs.Jobs.{sleep_begun}
 
@@ -63,6 +64,10 @@ kill_done cause (Some slot) s = says ok (after_hangup cause slot s)
 -- the one of an identifier
 abbrev pub killed_as : Cause → Text → Switch → Done
 killed_as cause uuid s = kill_done cause (slot_named uuid s) s
+
+-- all live channels are hung up
+abbrev pub hupall_done : Cause → Switch → Done
+hupall_done cause s = says (hupall_text cause) (after_hangup_of_all cause s)
 
 -- the value of a variable
 abbrev pub variable_text : Text → Option Chan → Text
@@ -103,6 +108,7 @@ done_plainly conn (api.UuidExists uuid) s = says (told_whether (is_some (slot_na
 done_plainly conn (api.UuidKill uuid cause) s = killed_as cause uuid s
 done_plainly conn (api.UuidBridge uuid other) s = uuid_bridge_done uuid other s
 done_plainly conn (api.UuidGetvar uuid name) s = says (variable_text name (chan_named uuid s)) s
+done_plainly conn (api.Hupall cause) s = hupall_done cause s
 done_plainly conn (api.Originate url winner cid_name cid_number timeout) s =
     originate_done conn url winner (record { name = cid_name; number = cid_number }) timeout s
 done_plainly conn (api.Usage which) s = says (usage_text (usage_of which)) s

@@ -14,6 +14,7 @@ pub mod Channels
 pub mod Work
 pub mod Jobs
 pub mod Done
+pub mod Hangups
 pub mod Joining
 pub mod Api
 pub mod Commands

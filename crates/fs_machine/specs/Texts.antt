@@ -27,6 +27,10 @@ api_not_found name = codes "-ERR " ++ name ++ codes " Command not found!\n"
 unfoldable pub no_channel : List ℕ
 no_channel = codes "-ERR No such channel!\n"
 
+-- all channels are hung up of a cause
+unfoldable pub hupall_text : Cause → List ℕ
+hupall_text cause = codes "+OK hangup all channels with cause " ++ cause_name cause ++ codes "\n"
+
 -- ---- why two channels are not joined
 
 -- they are one channel

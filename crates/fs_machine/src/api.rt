@@ -13,9 +13,10 @@ ghost use Rattle.fs_machine.specs.Done.{ComesTo};
 
 use crate::attempts::begin_originate;
 use crate::globals::set_global;
+use crate::hangups::hang_up_everyone;
 use crate::jobs::begin_sleep;
 use crate::joining::bridge_channels;
-use crate::texts::{api_not_found, failed_text, says, usage_text};
+use crate::texts::{api_not_found, failed_text, hupall_text, says, usage_text};
 use fs_api::{Api, usage};
 use fs_chan::Chan;
 use fs_dial::{DialKind, DialString, parse};
@@ -85,6 +86,7 @@ fn run_plainly(draft: &mut Draft<'_>, conn: u32, api: &Api) -> Result<Option<Txt
         Api::UuidKill { uuid, cause } => kill(draft, uuid, *cause),
         Api::UuidBridge { uuid, other } => bridge_channels(draft, uuid, other),
         Api::UuidGetvar { uuid, name } => get_variable(draft, uuid, name),
+        Api::Hupall { cause } => hang_up_all(draft, *cause),
         Api::Originate {
             url,
             winner,
@@ -137,6 +139,16 @@ fn kill(draft: &mut Draft<'_>, uuid: &Txt, cause: Cause) -> Result<Option<Txt>, 
     };
     draft.hang_up(slot, cause)?;
     says(alloc, b"+OK\n")
+}
+
+// Hangs up all live channels.
+fn hang_up_all(draft: &mut Draft<'_>, cause: Cause) -> Result<Option<Txt>, Memory>
+    ensures base { draft.new.base ≡ draft.old.base }
+    ensures done { IfOk result (ComesTo (spec.hupall_done cause (drafted draft.old)) (drafted draft.new)) }
+{
+    let answer = hupall_text(draft.alloc(), cause)?;
+    hang_up_everyone(draft, cause)?;
+    Ok(Some(answer))
 }
 
 // The value of a variable of a live channel.

@@ -37,6 +37,18 @@ pub(crate) fn api_not_found(alloc: Global, name: &[u8]) -> Result<Txt, Memory>
     Txt::from_vec(text)
 }
 
+/// The answer where all channels were hung up of a cause.
+#[tactic(auto, unfolding(crate::specs::Texts::hupall_text))]
+pub(crate) fn hupall_text(alloc: Global, cause: Cause) -> Result<Txt, Memory>
+    ensures { IfOk result (λ t. t ≡ texts.hupall_text cause) }
+{
+    let mut text = Vec::new(alloc);
+    text.extend_from_slice(b"+OK hangup all channels with cause ")?;
+    text.extend_from_slice(cause.name().as_bytes())?;
+    text.extend_from_slice(b"\n")?;
+    Txt::from_vec(text)
+}
+
 /// The answer of an origination that has made a call: the identifier of its leg.
 #[tactic(auto, unfolding(crate::specs::Texts::made_text))]
 pub(crate) fn made_text(alloc: Global, uuid: &[u8]) -> Result<Txt, Memory>

@@ -101,6 +101,16 @@ impl Answer {
         self.end();
     }
 
+    /// Adds an indented line of a name, and of bytes in brackets.
+    pub(crate) fn lent(&mut self, name: &str, texts: &[&[u8]]) {
+        self.begin();
+        self.push(name);
+        for text in texts {
+            self.bracket(text);
+        }
+        self.end();
+    }
+
     /// Adds an indented line of a name with a place, and of texts in brackets.
     pub(crate) fn placed(&mut self, name: &str, at: usize, texts: &[&[u8]]) {
         self.begin();

@@ -2,6 +2,7 @@
 
 use crate::answer::Answer;
 use crate::applications::tell_app;
+use crate::blocks::tell_block;
 use crate::bridges::tell_bridges;
 use crate::bridging::{Told, tell_bridging};
 use crate::channels::tell_channel;
@@ -104,6 +105,7 @@ impl<D: Files + Drop> Desk<D> {
             "api" => tell_api(alloc, rest, answer),
             "expanded" => tell_expanded(alloc, rest, answer),
             "app" => tell_app(alloc, rest, answer),
+            "block" => tell_block(alloc, rest, answer),
             "channel" => tell_channel(alloc, rest, answer),
             "endpoint" => tell_endpoint(alloc, rest, answer),
             "dial" => tell_dial(alloc, rest, answer),

@@ -4,6 +4,7 @@
 
 mod answer;
 mod applications;
+mod blocks;
 mod bridges;
 mod bridging;
 mod channels;

@@ -4,6 +4,7 @@ ghost use Rattle.std.specs.Prelude.{◌≡◌};
 ghost use Rattle.std.specs.Option.{option_copied};
 ghost use Rattle.fs_cmd.specs.Commands as spec;
 
+use crate::message::{Message, job_of, message_of};
 use fs_frame::Block;
 use fs_text::{cut_at, cut_word, without_spaces};
 
@@ -31,6 +32,11 @@ pub enum Command<'a> {
     Api {
         text: &'a [u8],
     },
+    /// An api command is to run in the background, as a job that may have an identifier of the client's own.
+    Bgapi {
+        text: &'a [u8],
+        job: Option<&'a [u8]>,
+    },
     /// The connection is to be told, in this form, of the events that words name.
     Event {
         form: Form,
@@ -54,19 +60,26 @@ pub enum Command<'a> {
     },
     /// A part of a filter is missing.
     BadFilter,
+    /// A channel is sent a message: the one with this identifier, or the connection's own.
+    Sendmsg {
+        uuid: Option<&'a [u8]>,
+        message: Message<'a>,
+    },
+    /// The greeting of an outbound connection is asked for.
+    Connect,
     /// There is no such command.
     Unknown,
 }
 
 impl<'a> Command<'a> {
-    ghost use Rattle.fs_frame.specs.Block.{line_of};
     ghost use Rattle.fs_frame.specs.Next.{bytes_of};
     ghost use Rattle.fs_cmd.specs.Commands.{command_of, read_of};
 
-    /// The command that a block is. Its word stands before the first space of its line.
+    /// The command that a block is. Its word stands before the first space of its line, and headers and the body have
+    /// what `bgapi` and `sendmsg` ask beside it.
     #[tactic(auto, unfolding(crate::specs::Commands::command_of))]
     pub fn of(block: &Block<'a>) -> Command<'a>
-        ensures { read_of result ≡ command_of (line_of (bytes_of block.now)) }
+        ensures { read_of result ≡ command_of (bytes_of block.now) }
     {
         let (word, text) = cut_at(b' ', block.line());
         if word == b"auth".as_slice() {
@@ -75,6 +88,11 @@ impl<'a> Command<'a> {
             Command::Exit
         } else if word == b"api".as_slice() {
             Command::Api { text }
+        } else if word == b"bgapi".as_slice() {
+            Command::Bgapi {
+                text,
+                job: job_of(block),
+            }
         } else if word == b"event".as_slice() {
             event_of(text)
         } else if word == b"nixevent".as_slice() {
@@ -83,6 +101,13 @@ impl<'a> Command<'a> {
             Command::Noevents
         } else if word == b"filter".as_slice() {
             filter_of(text)
+        } else if word == b"sendmsg".as_slice() {
+            Command::Sendmsg {
+                uuid: channel_named(text),
+                message: message_of(block),
+            }
+        } else if word == b"connect".as_slice() {
+            Command::Connect
         } else {
             Command::Unknown
         }
@@ -159,6 +184,14 @@ fn delete_with<'a>(header: &'a [u8], value: &'a [u8]) -> Command<'a>
             value: text_named(value),
         }
     }
+}
+
+// A channel is named by the first word.
+fn channel_named<'a>(text: &'a [u8]) -> Option<&'a [u8]>
+    ensures { option_copied result ≡ spec.channel_named text.now }
+{
+    let (word, _behind) = cut_at(b' ', without_spaces(text));
+    text_named(word)
 }
 
 // A text that is there.

@@ -1,8 +1,10 @@
-//! The commands of the event socket, as their lines are read, and the frames that a connection is sent.
+//! The commands of the event socket, as their blocks are read, and the frames that a connection is sent.
 #![tactic(auto)]
 
 mod command;
 mod frames;
+mod message;
 
 pub use command::{Command, Form};
 pub use frames::{api_reply, auth_request, filter_added, filter_deleted, notice, reply};
+pub use message::Message;

@@ -8,7 +8,6 @@ use Rattle.fs_text.specs.Texts.{Text}
 use Rattle.fs_text.specs.declared.causes.Cause.{Cause}
 use Rattle.fs_vars.specs.Variables.{can_set, set_to}
 use Rattle.fs_vars.specs.Expansion.{expanded}
-use Rattle.fs_frame.specs.Block.{line_of}
 use Rattle.fs_cmd.specs.Commands as command
 use Rattle.fs_cmd.specs.Commands.{Command, command_of}
 use Rattle.fs_cmd.specs.Frames.{reply, api_reply, notice, accepted, invalid, bye, not_found}
@@ -304,6 +303,9 @@ module _ (conn : ℕ) (P : Fact) (calls : KeptByCalls P) (commands : KeptByComma
           asked_kept (with_filter_added header value) (filter_added header value) (commands.spent h)
       by phase.Ready is (command.FilterDelete header value) = deleted_kept header value (commands.spent h)
       by phase.Ready is command.BadFilter = replied_kept invalid_syntax (commands.spent h)
+      by phase.Ready is (command.Bgapi text job) = replied_kept not_found (commands.spent h)
+      by phase.Ready is (command.Sendmsg uuid message) = replied_kept not_found (commands.spent h)
+      by phase.Ready is command.Connect = replied_kept not_found (commands.spent h)
       by phase.Ready is command.Unknown = replied_kept not_found (commands.spent h)
       by phase.Ending is given = commands.spent h
       by phase.Closed is given = commands.spent h
@@ -323,7 +325,7 @@ module _ (before : Switch) (P : Fact) (kept : KeptByMoves before P) where
   pub acted_kept : (a : Act) → P None before → P (Some 1) (act_done a before).state
   acted_kept act.Arrive h = kept.calls.more (kept.visits.arrived h)
   acted_kept (act.Command conn block) h =
-      kept.calls.more (commanded_kept conn P kept.calls (kept.commands conn) (command_of (line_of block)) h)
+      kept.calls.more (commanded_kept conn P kept.calls (kept.commands conn) (command_of block) h)
   acted_kept (act.Take conn) h = kept.calls.more (kept.visits.taken conn (spent h))
   acted_kept (act.Close conn how) h = kept.calls.more (closed_kept how conn (spent h))
   acted_kept (act.Work slot) h = worked_kept before P kept.calls kept.dials slot h

@@ -4,7 +4,6 @@ use Rattle.std.proofs.Common.{refl, sym, ap, subst, ◌∙◌}
 use Rattle.std.proofs.lemmas.Bool.{cases_eq}
 use Rattle.std.proofs.lemmas.Option.{same_Some, none-some}
 use Rattle.fs_text.specs.Texts.{Text}
-use Rattle.fs_frame.specs.Block.{line_of}
 use Rattle.fs_cmd.specs.Commands.{Command, command_of}
 use Rattle.fs_filter.specs.Subscriptions.{Subscription}
 use Rattle.fs_orig.specs.declared.caller.Caller.{Caller}
@@ -343,7 +342,7 @@ ActKeeps (act.Command conn block) s = Keeps (Some conn) false s (act_done (act.C
 ActKeeps other s = Keeps None false s (act_done other s).state
 
 pub act_keeps : (a : Act) (s : Switch) → ActKeeps a s
-act_keeps (act.Command conn block) s = commanded_keeps conn (command_of (line_of block)) s
+act_keeps (act.Command conn block) s = commanded_keeps conn (command_of block) s
 act_keeps (act.Close conn closing.EndOfInput) s = parted_keeps parting.EndOfInput conn s
 act_keeps (act.Work slot) s = work_keeps slot s
 act_keeps (act.Job number) s = job_done_keeps number s

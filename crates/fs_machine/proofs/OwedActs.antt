@@ -4,7 +4,6 @@ use Rattle.std.proofs.Common.{◌^◌, ◌+◌, arith}
 use Rattle.std.specs.Option.{option_and_then}
 use Rattle.std.proofs.lemmas.Bool.{false≢true, not-false}
 use Rattle.fs_text.specs.Texts.{Text}
-use Rattle.fs_frame.specs.Block.{line_of}
 use Rattle.fs_cmd.specs.Commands.{command_of}
 use Rattle.fs_filter.specs.Subscriptions.{Subscription}
 use Rattle.fs_orig.specs.declared.caller.Caller.{Caller}
@@ -297,7 +296,7 @@ goes_acted (act.Command conn block) s Q kept owns numbers accepts few h slots q 
     let passed = none_refused (not (reads (phase_at s conn))) refusal.Gone (busy (owed_to s conn)) accepts in
     let giver = may_owe s conn (not-false (reads (phase_at s conn)) passed.0) (not_busy (owed_to s conn) passed.1) in
     commanded_kept conn (GoesFrom (books_of s)) (calls_go (books_of s))
-    (commands_go (books_of s) conn giver.0 giver.1.there giver.1.none few h) (command_of (line_of block)) {s = s} (refl, slots)
+    (commands_go (books_of s) conn giver.0 giver.1.there giver.1.none few h) (command_of block) {s = s} (refl, slots)
 goes_acted (act.Take conn) s Q kept owns numbers accepts few h slots q = goes_spent (books_of s) h s refl
 goes_acted (act.Close conn how) s Q kept owns numbers accepts few h slots q =
     closed_goes how conn s (goes_spent (books_of s) h s refl)

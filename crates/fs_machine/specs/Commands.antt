@@ -5,7 +5,7 @@ use Rattle.fs_text.specs.Texts.{Text}
 use Rattle.fs_cmd.specs.declared.command.Form.{Form}
 use Rattle.fs_cmd.specs.declared.command.Form.TheVariants.{Plain, Json, Xml}
 use Rattle.fs_cmd.specs.Commands.{Command, Auth, Exit, Api, Unknown}
-use Rattle.fs_cmd.specs.Commands.{Event, Nixevent, Noevents, Filter, FilterDelete, BadFilter}
+use Rattle.fs_cmd.specs.Commands.{Event, Nixevent, Noevents, Filter, FilterDelete, BadFilter, Bgapi, Sendmsg, Connect}
 use Rattle.fs_cmd.specs.Frames.{reply, api_reply, notice, accepted, invalid, bye, not_found}
 use Rattle.fs_cmd.specs.Frames.{event_enabled, no_keywords, format_unsupported, event_disabled, no_longer_listening, not_listening}
 use Rattle.fs_cmd.specs.Frames.{filter_added, filter_deleted, invalid_syntax, filter_not_found}
@@ -89,7 +89,8 @@ after_deletion conn header value s =
 
 -- ---- all commands
 
--- what a command does in a phase of its connection; before a password was accepted `auth` and `exit` alone are known
+-- what a command does in a phase of its connection; before a password was accepted `auth` and `exit` alone are known, and
+-- what has no effect as yet is answered as one that is not
 abbrev pub command_done_in : Phase → ℕ → Command → Switch → Switch
 command_done_in Fresh conn (Auth given) s = after_password conn given s
 command_done_in Fresh conn Exit s = after_dismissal conn parting.Exit bye s
@@ -104,6 +105,9 @@ command_done_in Ready conn (Filter header value) s =
     after_asking conn (with_filter_added header value) (filter_added header value) s
 command_done_in Ready conn (FilterDelete header value) s = after_deletion conn header value s
 command_done_in Ready conn BadFilter s = with_reply conn invalid_syntax s
+command_done_in Ready conn (Bgapi text job) s = with_reply conn not_found s
+command_done_in Ready conn (Sendmsg uuid message) s = with_reply conn not_found s
+command_done_in Ready conn Connect s = with_reply conn not_found s
 command_done_in Ready conn Unknown s = with_reply conn not_found s
 command_done_in Ending conn command s = s
 command_done_in Closed conn command s = s

@@ -1,7 +1,6 @@
 -- Which entries are refused, and what the others do.
 use Rattle.std.specs.Prelude.{◌≡◌, ◌≢◌, ℕ, ◌-◌, ◌^◌, min, ◌==◌, ◌||◌, not, Bool, true, false, [], length, Option, None, Some, is_some}
 use Rattle.std.specs.Prelude.{unwrap_or, slice_get, if◌then◌else◌}
-use Rattle.fs_frame.specs.Block.{line_of}
 use Rattle.fs_cmd.specs.Commands.{command_of}
 use Rattle.fs_cmd.specs.Frames.{auth_request}
 use Rattle.fs_chan.specs.declared.due.Due.{Due}
@@ -155,7 +154,7 @@ after_close Failed conn s = without_conn conn s
 -- what an act does
 abbrev pub act_done : Act → Switch → Acted
 act_done Arrive s = arrived s
-act_done (Command conn block) s = queued_in conn (command_done conn (command_of (line_of block)) s)
+act_done (Command conn block) s = queued_in conn (command_done conn (command_of block) s)
 act_done (Take conn) s = taken conn s
 act_done (Close conn how) s = record { state = after_close how conn s; reply = reply.Closed }
 act_done (Work slot) s = record { state = after_work slot s; reply = reply.Worked }

@@ -64,7 +64,11 @@ fn do_when_ready(draft: &mut Draft<'_>, conn: u32, command: Command<'_>) -> Resu
         Command::Filter { header, value } => add_filter(draft, conn, header, value),
         Command::FilterDelete { header, value } => delete_filters(draft, conn, header, value),
         Command::BadFilter => refuse_filter(draft, conn),
-        Command::Auth { .. } | Command::Unknown => refuse(draft, conn),
+        Command::Auth { .. }
+        | Command::Bgapi { .. }
+        | Command::Sendmsg { .. }
+        | Command::Connect
+        | Command::Unknown => refuse(draft, conn),
     }
 }
 

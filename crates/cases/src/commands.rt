@@ -4,7 +4,7 @@ use crate::answer::Answer;
 use crate::words::bytes_of;
 use fs_api::Api;
 use fs_orig::Winner;
-use fs_text::Memory;
+use fs_text::{Memory, Txt};
 use std::alloc::Global;
 
 /// Answers `api TEXT` with the command and its parts.
@@ -36,6 +36,17 @@ fn tell_command(api: &Api, answer: &mut Answer) -> Result<(), Memory> {
             answer.line(&[b"cause ", cause.name().as_bytes()]);
         }
         Api::UuidGetvar { uuid, name } => answer.named("UuidGetvar", &[uuid, name]),
+        Api::UuidPark { uuid } => answer.named("UuidPark", &[uuid]),
+        Api::UuidTransfer {
+            uuid,
+            exten,
+            dialplan,
+            context,
+        } => {
+            answer.named("UuidTransfer", &[uuid, exten]);
+            tell_word("dialplan", dialplan.as_ref(), answer);
+            tell_word("context", context.as_ref(), answer);
+        }
         Api::Hupall { cause } => {
             answer.named("Hupall", &[]);
             answer.line(&[b"cause ", cause.name().as_bytes()]);
@@ -55,6 +66,13 @@ fn tell_command(api: &Api, answer: &mut Answer) -> Result<(), Memory> {
         Api::Unknown(name) => answer.named("Unknown", &[name]),
     }
     Ok(())
+}
+
+// Adds a word, where it is given.
+fn tell_word(name: &str, word: Option<&Txt>, answer: &mut Answer) {
+    if let Some(word) = word {
+        answer.named(name, &[word]);
+    }
 }
 
 // Adds the seconds that the legs have, where they are told.

@@ -9,6 +9,7 @@ use Rattle.fs_text.specs.Number.{read_u64}
 use Rattle.fs_text.specs.declared.memory.Memory.{Memory}
 use Rattle.fs_orig.specs.declared.winner.Winner.{Winner}
 use Rattle.fs_orig.specs.Timeouts.{IsTimeout, seconds_within}
+use Rattle.fs_orig.specs.Endpoints.{is_short}
 use Rattle.fs_api.specs.declared.api.Api.{Api}
 use Rattle.fs_api.specs.declared.api.Api.TheVariants.{Expand, UuidGetvar, UuidBridge}
 use Rattle.fs_api.specs.declared.usages.Which.{Which}
@@ -18,8 +19,9 @@ use Rattle.fs_text.specs.Texts.{Text}
 use Rattle.fs_api.specs.Words.{behind_quoted, quoted_word}
 use Rattle.fs_api.specs.Originates.{plain_word, originate_with, originate_to, originate_of}
 use Rattle.fs_api.specs.Readings.{needs, global_setvar_of, global_getvar_of, msleep_for, uuid_exists_of, uuid_kill_of, uuid_getvar_of}
-use Rattle.fs_api.specs.Readings.{uuid_bridge_of, hupall_of, api_named}
-use Rattle.fs_api.specs.Ranges.{IsInRange}
+use Rattle.fs_api.specs.Readings.{uuid_bridge_of, uuid_park_of, hupall_of, api_named}
+use Rattle.fs_api.specs.Transfers.{word_named, is_exten, transfer_to, transfer_words, uuid_transfer_of}
+use Rattle.fs_api.specs.Ranges.{IsShort, AreShort, IsInRange}
 
 -- what holds of both parts of a choice holds of the choice
 either : {A : Type 0} (P : A → Type 0) (test : Bool) (x y : A) → (test ≡ true → P x) → (test ≡ false → P y) → P (if test then x else y)
@@ -62,6 +64,35 @@ hanging_in_range : (arguments : Text) → IsInRange (hupall_of arguments)
 hanging_in_range [] = tt
 hanging_in_range (byte ∷ bytes) = tt
 
+short_of : (text : Text) → is_short text ≡ true → IsShort text
+short_of text short = grind (arith, nat_tests)
+
+named_short : (word : Text) → is_short word ≡ true → IfSome (word_named word) IsShort
+named_short [] short = tt
+named_short (byte ∷ bytes) short = short_of (byte ∷ bytes) short
+
+transferred_short : (exten dialplan context : Text) → (is_exten exten && is_short exten && is_short dialplan && is_short context) ≡ true →
+    AreShort exten (word_named dialplan) (word_named context)
+transferred_short exten dialplan context all = by (is_exten exten) (is_short exten) refl (is_short dialplan) refl (is_short context) refl all
+  where
+    by : (first second : Bool) → is_short exten ≡ second → (third : Bool) → is_short dialplan ≡ third → (fourth : Bool) →
+        is_short context ≡ fourth → (first && second && third && fourth) ≡ true → AreShort exten (word_named dialplan) (word_named context)
+    by true true one true two true three all =
+        record { first = short_of exten one; second = named_short dialplan two; third = named_short context three }
+    by false second one third two fourth three all = absurd (cc)
+    by true false one third two fourth three all = absurd (cc)
+    by true true one false two fourth three all = absurd (cc)
+    by true true one true two false three all = absurd (cc)
+
+transferring_in_range : (arguments : Text) → IsInRange (uuid_transfer_of arguments)
+transferring_in_range arguments =
+    let behind : Text = behind_word arguments in
+    let exten : Text = word_of behind in
+    let dialplan : Text = word_of (behind_word behind) in
+    let context : Text = word_of (behind_word (behind_word behind)) in
+    either IsInRange (is_exten exten && is_short exten && is_short dialplan && is_short context) _ _
+    (transferred_short exten dialplan context) (λ _. tt)
+
 hour_of : (n : ℕ) → nat_le n 3600000 ≡ true → n ≤ 3600000
 hour_of n within = grind (arith, nat_tests)
 
@@ -95,7 +126,9 @@ named_in_range name arguments =
     (λ _. either IsInRange (bytes_eq name (codes "uuid_getvar")) _ _
     (λ _. needs_in_range which.UuidGetvar uuid_getvar_of arguments reading_in_range)
     (λ _. either IsInRange (bytes_eq name (codes "uuid_kill")) _ _ (λ _. needs_in_range which.UuidKill uuid_kill_of arguments (λ _. tt))
-    (λ _. tt)))))))))))
+    (λ _. either IsInRange (bytes_eq name (codes "uuid_park")) _ _ (λ _. needs_in_range which.UuidPark uuid_park_of arguments (λ _. tt))
+    (λ _. either IsInRange (bytes_eq name (codes "uuid_transfer")) _ _ (λ _. transferring_in_range arguments)
+    (λ _. tt)))))))))))))
 
 -- what is read of a name and its arguments, once it is read
 pub IfOk-in_range : (name arguments : Text) (result : Result Api Memory) → IfOk result (λ api. api ≡ api_named name arguments) →

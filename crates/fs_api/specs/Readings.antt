@@ -8,10 +8,11 @@ use Rattle.fs_text.specs.declared.causes.Cause.TheVariants.{ManagerRequest}
 use Rattle.fs_text.specs.Texts.{Text}
 use Rattle.fs_api.specs.declared.api.Api.{Api}
 use Rattle.fs_api.specs.declared.api.Api.TheVariants.{Echo, Expand, GlobalGetvar, GlobalSetvar, Msleep, UuidExists, UuidKill, UuidGetvar}
-use Rattle.fs_api.specs.declared.api.Api.TheVariants.{UuidBridge, Hupall, Usage, Unknown}
+use Rattle.fs_api.specs.declared.api.Api.TheVariants.{UuidBridge, UuidPark, Hupall, Usage, Unknown}
 use Rattle.fs_api.specs.declared.usages.Which.{Which}
 use Rattle.fs_api.specs.declared.usages.Which.TheVariants as which
 use Rattle.fs_api.specs.Originates.{originate_of}
+use Rattle.fs_api.specs.Transfers.{uuid_transfer_of}
 
 -- what these arguments are, or the usage where there are none
 abbrev pub needs : Which → (Text → Api) → Text → Api
@@ -40,6 +41,9 @@ uuid_exists_of arguments = UuidExists (word_of arguments)
 abbrev pub uuid_kill_of : Text → Api
 uuid_kill_of arguments = UuidKill (word_of arguments) (cause_or_clearing (word_of (behind_word arguments)))
 
+abbrev pub uuid_park_of : Text → Api
+uuid_park_of arguments = UuidPark (word_of arguments)
+
 abbrev pub uuid_getvar_of : Text → Api
 uuid_getvar_of arguments = needs which.UuidGetvar (λ name. UuidGetvar (word_of arguments) (word_of name)) (behind_word arguments)
 
@@ -65,7 +69,9 @@ api_named name arguments =
     else (if bytes_eq name (codes "uuid_exists") then needs which.UuidExists uuid_exists_of arguments
     else (if bytes_eq name (codes "uuid_getvar") then needs which.UuidGetvar uuid_getvar_of arguments
     else (if bytes_eq name (codes "uuid_kill") then needs which.UuidKill uuid_kill_of arguments
-    else Unknown name))))))))))
+    else (if bytes_eq name (codes "uuid_park") then needs which.UuidPark uuid_park_of arguments
+    else (if bytes_eq name (codes "uuid_transfer") then uuid_transfer_of arguments
+    else Unknown name))))))))))))
 
 -- the api command that a text is
 abbrev pub api_of : Text → Api

@@ -2,7 +2,7 @@
 use Rattle.std.specs.Prelude.{ℕ, List, codes}
 use Rattle.fs_api.specs.declared.usages.Which.{Which}
 use Rattle.fs_api.specs.declared.usages.Which.TheVariants.{Expand, GlobalSetvar, Msleep, Originate, UuidBridge}
-use Rattle.fs_api.specs.declared.usages.Which.TheVariants.{UuidExists, UuidGetvar, UuidKill}
+use Rattle.fs_api.specs.declared.usages.Which.TheVariants.{UuidExists, UuidGetvar, UuidKill, UuidPark, UuidTransfer}
 
 unfoldable pub usage_of : Which → List ℕ
 usage_of Expand = codes "[uuid:U ]text*"
@@ -13,3 +13,5 @@ usage_of UuidBridge = codes "<uuid> <other_uuid>"
 usage_of UuidExists = codes "<uuid>"
 usage_of UuidGetvar = codes "<uuid> <name>"
 usage_of UuidKill = codes "<uuid> [cause]"
+usage_of UuidPark = codes "<uuid>"
+usage_of UuidTransfer = codes "<uuid> <exten> [dialplan] [context]"

@@ -36,6 +36,17 @@ pub enum Api {
         uuid: Txt,
         cause: Cause,
     },
+    /// A channel is to leave what it is in, and to park.
+    UuidPark {
+        uuid: Txt,
+    },
+    /// A channel is to leave what it is in, and to be routed anew. A dialplan or context that is not given stays.
+    UuidTransfer {
+        uuid: Txt,
+        exten: Txt,
+        dialplan: Option<Txt>,
+        context: Option<Txt>,
+    },
     /// Two channels are to be joined.
     UuidBridge {
         uuid: Txt,
@@ -80,6 +91,13 @@ impl Drop for Api {
             Api::UuidKill {
                 uuid: _uuid,
                 cause: _,
+            } => {}
+            Api::UuidPark { uuid: _uuid } => {}
+            Api::UuidTransfer {
+                uuid: _uuid,
+                exten: _exten,
+                dialplan: _dialplan,
+                context: _context,
             } => {}
             Api::UuidBridge {
                 uuid: _uuid,

@@ -4,6 +4,7 @@
 mod api;
 mod originate;
 mod reading;
+mod transfers;
 mod usages;
 mod words;
 

@@ -8,6 +8,7 @@ ghost use Rattle.fs_api.specs.declared.usages.Which.TheVariants as which;
 
 use crate::api::Api;
 use crate::originate::originate_of;
+use crate::transfers::uuid_transfer_of;
 use crate::usages::Which;
 use fs_text::{Cause, Memory, Txt, cut_at, cut_word, read_u64, without_spaces};
 use std::alloc::Global;
@@ -83,6 +84,10 @@ fn named(alloc: Global, name: &[u8], arguments: &[u8]) -> Result<Api, Memory>
         uuid_getvar_of(alloc, arguments)
     } else if name == b"uuid_kill".as_slice() {
         uuid_kill_of(alloc, arguments)
+    } else if name == b"uuid_park".as_slice() {
+        uuid_park_of(alloc, arguments)
+    } else if name == b"uuid_transfer".as_slice() {
+        uuid_transfer_of(alloc, arguments)
     } else {
         Ok(Api::Unknown(Txt::of(alloc, name)?))
     }
@@ -193,4 +198,15 @@ fn uuid_kill_of(alloc: Global, arguments: &[u8]) -> Result<Api, Memory>
     let uuid = Txt::of(alloc, word)?;
     let cause = Cause::of_name_or_clearing(name);
     Ok(Api::UuidKill { uuid, cause })
+}
+
+fn uuid_park_of(alloc: Global, arguments: &[u8]) -> Result<Api, Memory>
+    ensures { IfOk result (λ api. api ≡ spec.needs which.UuidPark spec.uuid_park_of arguments.now) }
+{
+    if arguments.is_empty() {
+        return Ok(Api::Usage(Which::UuidPark));
+    }
+    let (word, _) = cut_word(arguments);
+    let uuid = Txt::of(alloc, word)?;
+    Ok(Api::UuidPark { uuid })
 }

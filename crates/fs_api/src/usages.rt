@@ -14,6 +14,8 @@ pub enum Which {
     UuidExists,
     UuidGetvar,
     UuidKill,
+    UuidPark,
+    UuidTransfer,
 }
 
 /// How an api command is to be written, behind its name.
@@ -32,5 +34,7 @@ pub fn usage(which: Which) -> &'static str
         Which::UuidExists => "<uuid>",
         Which::UuidGetvar => "<uuid> <name>",
         Which::UuidKill => "<uuid> [cause]",
+        Which::UuidPark => "<uuid>",
+        Which::UuidTransfer => "<uuid> <exten> [dialplan] [context]",
     }
 }

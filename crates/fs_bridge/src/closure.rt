@@ -199,8 +199,8 @@ fn peer_of<L: Lines>(world: &L, member: (u16, Cause)) -> Option<(u16, Cause)>
     }
 }
 
-/// The peer of a member, and what it does when that dies.
-fn left_by<L: Lines>(world: &L, member: (u16, Cause)) -> Option<(u16, After)>
+/// The peer of a member, and what it does when that dies, or leaves of that cause.
+pub fn left_by<L: Lines>(world: &L, member: (u16, Cause)) -> Option<(u16, After)>
     ensures { result ≡ spec.left_by (L.world world.now) member }
 {
     let row = world.row(member.0)?;

@@ -12,7 +12,7 @@ mod row;
 
 pub use after::{After, after_bridge};
 pub use bridges::Bridges;
-pub use closure::{Closure, closure_of_hangup};
+pub use closure::{Closure, closure_of_hangup, left_by};
 pub use laws::{bridges_law, closure_law};
 pub use lines::Lines;
 pub use row::{BridgeKind, Row};

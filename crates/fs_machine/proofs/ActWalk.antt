@@ -1,6 +1,6 @@
 -- The walk goes on: jobs, commands and all acts.
 use Rattle.std.proofs.Common.{◌≡◌, ℕ, ◌*◌, nat_lt, Bool, true, false, if◌then◌else◌, [], ◌∷◌, length, Option, None, Some}
-use Rattle.std.proofs.Common.{◌++◌, Result, Ok, Err, refl}
+use Rattle.std.proofs.Common.{◌++◌, ◌∙◌, Result, Ok, Err, refl, sym, ap}
 use Rattle.std.specs.Prelude.{◌&&◌, map}
 use Rattle.std.specs.Option.{option_or}
 use Rattle.std.specs.Str.{bytes_eq}
@@ -38,23 +38,30 @@ use Rattle.fs_bridge.specs.declared.row.BridgeKind.TheVariants.{Joined}
 use Rattle.fs_bridge.specs.Closure.{Members}
 use Rattle.fs_text.specs.declared.causes.Cause.TheVariants.{OriginatorCancel}
 use Rattle.fs_text.specs.declared.states.State.TheVariants.{CsExchangeMedia}
-use Rattle.fs_chan.specs.Changes.{in_state}
-use Rattle.fs_state.specs.Switch.{Switch, job_of, slot_named, is_full_of_jobs}
+use Rattle.fs_chan.specs.Changes.{in_state, is_live, parked, transferred}
+use Rattle.fs_chan.specs.declared.chan.Chan.{Chan}
+use Rattle.fs_chan.specs.declared.target.Target3.{Target3}
+use Rattle.fs_chan.specs.declared.wait.Wait.TheVariants.{Ready}
+use Rattle.fs_state.specs.Switch.{Switch, chan_at, job_of, slot_named, is_full_of_jobs}
 use Rattle.fs_state.specs.Moves.{plain_event, after_move}
-use Rattle.fs_state.specs.Hangups.{after_hangups, legs_at, lives_at}
+use Rattle.fs_state.specs.Hangups.{after_hangups, legs_at, lives, lives_at}
 use Rattle.fs_state.specs.Bridging.{can_join, joined_as, after_join}
 use Rattle.fs_machine.specs.declared.entry.Act.{Act}
 use Rattle.fs_machine.specs.declared.entry.Act.TheVariants as act
 use Rattle.fs_machine.specs.declared.entry.Closing.{Closing}
 use Rattle.fs_machine.specs.declared.entry.Closing.TheVariants as closing
 use Rattle.fs_machine.specs.declared.attempts.Party.TheVariants as party
-use Rattle.fs_machine.specs.Texts.{ok, too_many_jobs, made_text, no_channel}
+use Rattle.fs_machine.specs.Texts.{ok, too_many_jobs, made_text, no_channel, not_ready}
 use Rattle.fs_machine.specs.Connections.{phase_at, conn_changed, admitted, subs_at}
 use Rattle.fs_machine.specs.Attempts.{after_verdict_on}
 use Rattle.fs_machine.specs.Jobs.{sleep_begun, after_job_work, job_done_from, job_done}
 use Rattle.fs_machine.specs.Done.{Done, says, no_answer_yet}
 use Rattle.fs_machine.specs.Joining.{in_the_way, after_leaving, both_left, both_in_media, joined_done, bridged_unless, bridge_done_at}
-use Rattle.fs_machine.specs.Joining.{uuid_bridge_done}
+use Rattle.fs_machine.specs.Joining.{uuid_bridge_done, is_ready}
+use Rattle.fs_machine.specs.Leaving.{after_departure, after_arrival, sent_at, sent_done}
+use Rattle.fs_state.specs.Leaving.{after_leaving_others}
+use Rattle.fs_machine.proofs.LeaveLemmas.{left_free, parked_stays, transferred_stays}
+use Rattle.fs_machine.proofs.BondLeaves.{departed_lone}
 use Rattle.fs_machine.specs.Hangups.{all_slots}
 use Rattle.fs_machine.specs.Api.{kill_done, msleep_done, dialled, originate_done, done_plainly}
 use Rattle.fs_machine.specs.Api.{done_by}
@@ -62,12 +69,12 @@ use Rattle.fs_machine.specs.Commands.{with_reply, after_dismissal, after_passwor
 use Rattle.fs_machine.specs.Commands.{after_asking, unless_unknown, after_subscribing, after_unsubscribing, after_silence, after_deletion}
 use Rattle.fs_machine.specs.Commands.{with_filter_added, with_filters_deleted}
 use Rattle.fs_machine.specs.Step.{after_close, act_done}
-use Rattle.fs_machine.proofs.Kept.{Fact, KeptByCalls, DoesJob, KeptByJobs, KeptByDials, LeavesBy, IsShortWinner}
+use Rattle.fs_machine.proofs.Kept.{hold_in, Stays, Fact, KeptByCalls, DoesJob, KeptByJobs, KeptByDials, LeavesBy, IsShortWinner}
 use Rattle.fs_machine.proofs.Kept.{KeptByCommands, KeptByMoves}
 use Rattle.fs_machine.proofs.ShortLemmas.{NamesShort, api_short, expanded_short}
 use Rattle.fs_machine.proofs.DialLemmas.{dialled_groups}
 use Rattle.fs_machine.proofs.JoinLemmas.{IsApart, apart_now, apart_hung, apart_left, DialsNone, left_dials, left_dials_still, CanMeet}
-use Rattle.fs_machine.proofs.JoinLemmas.{meets_now, join_meets, media_meets}
+use Rattle.fs_machine.proofs.JoinLemmas.{meets_now, join_meets, media_meets, ready_lone}
 use Rattle.fs_machine.proofs.JoinLemmas.{media_stays}
 use Rattle.fs_machine.proofs.StayLemmas.{moved_plain}
 use Rattle.fs_machine.proofs.TryWalk.{verdict_kept}
@@ -206,6 +213,37 @@ module _ (conn : ℕ) (P : Fact) (calls : KeptByCalls P) (commands : KeptByComma
       by None (Some b) = commands.spent h
       by None None = commands.spent h
 
+  -- a channel leaves what it was in, and goes elsewhere
+  arrived_kept : (change : Chan → Chan) (slot : ℕ) {s : Switch} →
+      ((c : Chan) → chan_at s slot ≡ Some c → is_live c ≡ true → Stays c (change c)) → P (Some 0) s →
+      P (Some 0) (after_arrival change slot s)
+  arrived_kept change slot {s} stays h = by (lives_at s slot) refl
+    where
+      by : (live : Bool) → lives_at s slot ≡ live → P (Some 0) (if live then after_move change slot s else s)
+      by true live =
+          moved_plain (P (Some 0)) (λ name at t k. calls.touches.told (plain_event name at) tt k) change slot s
+          (λ c there. calls.touches.changed slot c (change c) there (stays c there (sym (ap lives there) ∙ live)) h) h
+      by false dead = h
+
+  sent_kept : (change : Chan → Chan) (uuid : Text) →
+      ((c : Chan) → is_live c ≡ true → c.leg_of ≡ None → hold_in c.wait ≡ Ready → Stays c (change c)) → {s : Switch} → P None s →
+      P (Some 0) (sent_done change uuid s).state
+  unfolding sent_done
+  sent_kept change uuid stays {s} h = by (slot_named uuid s)
+    where
+      ready : (slot : ℕ) (test : Bool) → is_ready (chan_at s slot) ≡ test →
+          P (Some 0) (if test then says ok (after_arrival change slot (after_departure slot s)) else says not_ready s).state
+      ready slot true is =
+          arrived_kept change slot
+          (λ c there live.
+          stays c live (departed_lone slot slot s (ready_lone (chan_at s slot) is) c there) (left_free slot (after_leaving_others slot s) c there))
+          (calls.departs slot (commands.spent h))
+      ready slot false is = commands.spent h
+
+      by : (found : Option ℕ) → P (Some 0) (sent_at change found s).state
+      by None = commands.spent h
+      by (Some slot) = ready slot (is_ready (chan_at s slot)) refl
+
   done_plainly_kept : (what : Api) {s : Switch} → NamesShort what → P None s → P (Some 0) (done_plainly conn what s).state
   done_plainly_kept (api.Echo text) short h = commands.spent h
   done_plainly_kept (api.Expand text) short h = commands.spent h
@@ -218,6 +256,10 @@ module _ (conn : ℕ) (P : Fact) (calls : KeptByCalls P) (commands : KeptByComma
   done_plainly_kept (api.UuidKill uuid cause) {s} short h = killed_kept cause (slot_named uuid s) h
   done_plainly_kept (api.UuidGetvar uuid name) short h = commands.spent h
   done_plainly_kept (api.UuidBridge uuid other) short h = bridged_kept uuid other h
+  done_plainly_kept (api.UuidPark uuid) short h = sent_kept parked uuid (λ c live lone free. parked_stays c live lone free) h
+  done_plainly_kept (api.UuidTransfer uuid exten dialplan context) short h =
+      let to : Target3 = record { exten = exten; dialplan = dialplan; context = context } in
+      sent_kept (transferred to) uuid (λ c live lone free. transferred_stays to c short live lone free) h
   done_plainly_kept (api.Hupall cause) {s} short h = commands.spent (calls.hung (map (λ slot. (slot, cause)) (all_slots s)) h)
   done_plainly_kept (api.Originate url winner cid_name cid_number timeout) short h =
       originated_kept url winner (record { name = cid_name; number = cid_number }) timeout short h

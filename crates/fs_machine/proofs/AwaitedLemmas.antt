@@ -32,6 +32,8 @@ use Rattle.fs_state.specs.Bridging.{can_join, peer_of, with_peer_from, with_peer
 use Rattle.fs_machine.specs.Attempts.{awaits}
 use Rattle.fs_machine.specs.Bridging.{goes_on, after_going_on, bridge_failed_from, after_bridge_failure, disposed, after_bridge_win}
 use Rattle.fs_machine.specs.Joining.{after_leaving}
+use Rattle.fs_machine.specs.Leaving.{after_departure}
+use Rattle.fs_machine.proofs.LeaveLemmas.{departed_kept}
 use Rattle.fs_machine.proofs.Kept.{hold_in, Links, Stays, KeptByTouches}
 use Rattle.fs_machine.proofs.StayLemmas.{exchange_lives, moved_there, changed_there, state_told_kept, orig_changed_channels}
 use Rattle.fs_machine.proofs.JoinLemmas.{rest_dials}
@@ -206,7 +208,7 @@ module _ (open_at : ℕ → Type 0) where
       by None is = h
       by (Some c) is = live c is (is_live c)
 
-  settled_await : (hangs : ℕ → Bool) (slot : ℕ) (old new : Chan) (s : Switch) → chan_at s slot ≡ Some old → Settles hangs slot old new →
+  pub settled_await : (hangs : ℕ → Bool) (slot : ℕ) (old new : Chan) (s : Switch) → chan_at s slot ≡ Some old → Settles hangs slot old new →
       AwaitAt open_at s → AwaitAt open_at (with_chan slot (Some new) s)
   settled_await hangs slot old new s there (Freed cause) h = put slot old (unbridged cause old) s there (λ number is. (is, λ live. live)) h
   settled_await hangs slot old new s there (Resumes outlives live) h =
@@ -307,6 +309,11 @@ left_await_all slot s h =
     given_up_await (λ at. at ≡ slot) slot awaited s (λ c is. inr refl) (open_await (λ at. at ≡ slot) s.channels s.origs h) in
     close slot (with_changed_chan at_leisure slot t) (changed_none at_leisure slot t (λ c. rest_dials c.socket c.state))
     (changed_await (λ at. at ≡ slot) at_leisure slot t (λ c. awaits_none c (at_leisure c) (rest_dials c.socket c.state)) gone)
+
+pub departed_await : (slot : ℕ) (s : Switch) → Awaits s → Awaits (after_departure slot s)
+departed_await slot s h =
+    departed_kept Awaits (λ event t k. k) (λ at old new t there how k. settled_await NoSlot (λ place. false) at old new t there how k)
+    (λ number t k. k) (hung_await NoSlot) left_await_all slot s h
 
 -- what a slot waited for is gone
 pub without_await : (slot orig : ℕ) (s : Switch) → awaits slot orig s ≡ true → Awaits s → AwaitsBut slot (without_orig orig s)

@@ -47,7 +47,7 @@ use Rattle.fs_machine.proofs.OwnerLemmas.{KeepsOwner}
 use Rattle.fs_machine.proofs.BondTables.{NoSlot, Stood, stood}
 use Rattle.fs_machine.proofs.AwaitedTables.{HasOwner, Await, awaits_none, new_await, left_await, rows_await, stay_new, gone_await}
 use Rattle.fs_machine.proofs.AwaitedLemmas.{Awaits, touches_await, moved_await, orig_changed_await, hung_await, failed_await, won_await}
-use Rattle.fs_machine.proofs.AwaitedLemmas.{joined_await, left_await_all, without_await}
+use Rattle.fs_machine.proofs.AwaitedLemmas.{joined_await, left_await_all, departed_await, without_await}
 
 -- ---- births
 
@@ -230,6 +230,7 @@ module _ (before : Switch) (Q : Fact) (kept : KeptByMoves before Q)
       joined_await kind caller answerer s h.1,
     );
     leaves = λ slot {s = s} lone h. (kept.calls.leaves slot lone h.0, left_await_all slot s h.1);
+    departs = λ slot {s = s} h. (kept.calls.departs slot h.0, departed_await slot s h.1);
     more = λ h. (kept.calls.more h.0, h.1);
     gone = λ slot old {s = s} there dead h. (kept.calls.gone slot old there dead h.0, left_await NoSlot s.channels s.origs slot h.1);
   }

@@ -54,11 +54,11 @@ held_dials (Legs orig) is = absurd (cc)
 held_dials _ is = refl
 
 -- a leg of a bridge is no leg of an origination, and waits for no legs
-record IsHeld (s : Switch) (slot : ℕ) : Type 0 where
-  lone : (c : Chan) → chan_at s slot ≡ Some c → c.leg_of ≡ None
-  dials : DialsNone s slot
+pub record IsHeld (s : Switch) (slot : ℕ) : Type 0 where
+  pub lone : (c : Chan) → chan_at s slot ≡ Some c → c.leg_of ≡ None
+  pub dials : DialsNone s slot
 
-leg_held : (s : Switch) (slot : ℕ) (row : Row) → Bonds s → bridge_at s slot ≡ Some row → IsHeld s slot
+pub leg_held : (s : Switch) (slot : ℕ) (row : Row) → Bonds s → bridge_at s slot ≡ Some row → IsHeld s slot
 leg_held s slot row h part = record {
   lone = λ c there. (h.apt slot c there).alone (has c there);
   dials = λ c there. held_dials c.wait ((h.apt slot c there).held (has c there));
@@ -163,9 +163,9 @@ freed_bonds open_at rest cause place t none split whole h = by (chan_at t place)
         (peerless_apt c (unbridged cause c) refl refl refl refl (λ none. none) (h.apt place c is)) refl split whole h
 
 -- bridges that stood when the hangup began have ended
-record Ending (s t : Switch) : Type 0 where
-  bonds : Bonds t
-  less : (slot : ℕ) (row : Row) → bridge_at t slot ≡ Some row → bridge_at s slot ≡ Some row
+pub record Ending (s t : Switch) : Type 0 where
+  pub bonds : Bonds t
+  pub less : (slot : ℕ) (row : Row) → bridge_at t slot ≡ Some row → bridge_at s slot ≡ Some row
 
 module _ (s t : Switch) (fit : RowsFit s.bridges) (row : Row) (cause : Cause) (at : ℕ) (stood : bridge_at s at ≡ Some row)
     (h : Ending s t) where
@@ -231,14 +231,14 @@ module _ (s t : Switch) (fit : RowsFit s.bridges) (row : Row) (cause : Cause) (a
       ∙ changed_bridges (unbridged cause) row.caller u in
       still_part row.number slot t.bridges r h.bonds.rows.sound (ap (part_of slot) (sym same) ∙ is)
 
-  end_bonds : Ending s (after_end row cause t)
+  pub end_bonds : Ending s (after_end row cause t)
   end_bonds = record {
     bonds = closed (after_end row cause t).channels (after_end row cause t).bridges both_freed;
     less = λ slot r is. h.less slot r (end_part slot r is).0;
   }
 
   -- it stands nowhere
-  end_gone : (slot : ℕ) → bridge_at (after_end row cause t) slot ≡ Some row → ⊥
+  pub end_gone : (slot : ℕ) → bridge_at (after_end row cause t) slot ≡ Some row → ⊥
   end_gone slot is = true≢false (sym own_number ∙ (end_part slot row is).1)
 
 -- a row stands nowhere

@@ -54,6 +54,7 @@ use Rattle.fs_machine.proofs.LegLemmas.{Channels, roles_of, IsLegOf, LegsStand}
 use Rattle.fs_machine.proofs.LegHangups.{winning_leg}
 use Rattle.fs_machine.proofs.BondTables.{BondsIn, Bonds, Bonding, NoSlot, Stood, stood, opened, closed, lone_put}
 use Rattle.fs_machine.proofs.BondHangups.{held_dials, LoneIn, lone_kept, peerless_apt, nothing_apt, hung_bonds}
+use Rattle.fs_machine.proofs.BondLeaves.{departed_bonds}
 use Rattle.fs_machine.proofs.BondChanges.{as_bonds, same_put, gone_put, pair_bonds, joined_tables}
 
 -- ---- a channel that names no peer
@@ -239,6 +240,7 @@ bonds_calls = record {
   joined = λ kind caller answerer c d {s = s} can there other one two first second h.
       joined_bonds kind caller answerer c d s can there other one two h;
   leaves = λ slot {s = s} none h. left_bonds slot s none h;
+  departs = λ slot {s = s} h. departed_bonds slot s h;
   more = λ h. h;
   gone = λ slot old {s = s} there dead h. gone_put s.channels s.bridges slot old there dead h;
 }

@@ -24,6 +24,7 @@ module _ (P Q : Fact) where
       q.joined kind caller answerer c d can there other one two idle spare h.1,
     );
     leaves = λ slot lone h. (p.leaves slot lone h.0, q.leaves slot lone h.1);
+    departs = λ slot h. (p.departs slot h.0, q.departs slot h.1);
     more = λ h. (p.more h.0, q.more h.1);
     gone = λ slot old there dead h. (p.gone slot old there dead h.0, q.gone slot old there dead h.1);
   }

@@ -7,13 +7,14 @@ use Rattle.std.proofs.lemmas.Bool.{eqb-true, or_cases, false≢true}
 use Rattle.std.proofs.lemmas.Cmp.{nat_eq_equiv}
 use Rattle.std.proofs.lemmas.List.Sums.{sum_by_push}
 use Rattle.fs_text.specs.declared.causes.Cause.{Cause}
+use Rattle.fs_text.specs.declared.causes.Cause.TheVariants.{NormalClearing}
 use Rattle.fs_text.specs.declared.states.State.TheVariants.{CsHangup}
 use Rattle.fs_text.specs.declared.event_names.EventName.{EventName}
 use Rattle.fs_text.specs.declared.event_names.EventName.TheVariants.{ChannelExecuteComplete}
 use Rattle.fs_bridge.specs.declared.after.After.{After}
 use Rattle.fs_bridge.specs.declared.after.After.TheVariants.{GoOn, Hangup, Park}
 use Rattle.fs_bridge.specs.declared.row.Row.{Row}
-use Rattle.fs_bridge.specs.Bridges.{BridgeRows, has_number, unbridged}
+use Rattle.fs_bridge.specs.Bridges.{BridgeRows, has_leg, has_number, unbridged}
 use Rattle.fs_bridge.specs.Closure.{Member, Members, Ends, closure_of}
 use Rattle.fs_bridge.specs.Hangups.{IsOneOf}
 use Rattle.fs_bridge.specs.Orders.{has_slot}
@@ -27,18 +28,19 @@ use Rattle.fs_orig.specs.Changes.{with_death}
 use Rattle.fs_state.specs.declared.event.Detail.{Detail}
 use Rattle.fs_state.specs.declared.event.Detail.TheVariants as detail
 use Rattle.fs_state.specs.declared.event.Event.{Event}
-use Rattle.fs_state.specs.Switch.{Switch, chan_at, with_chan, without_bridge, orig_of, with_event}
+use Rattle.fs_state.specs.Switch.{Switch, chan_at, with_chan, bridge_at, without_bridge, orig_of, with_event}
 use Rattle.fs_state.specs.Moves.{with_changed_chan_from, with_changed_chan, after_move, plain_event, with_state_events, hangup_event}
 use Rattle.fs_state.specs.Moves.{application_told, application_event, running_at, orig_changed_from, leg_changed, its_leg_changed, is_owner}
 use Rattle.fs_state.specs.Moves.{given_up_by, orig_given_up, after_hangup_from, after_one_hangup, after_completion}
 use Rattle.fs_state.specs.Hangups.{lives_at, world_of, living_of, Ended, after_end, after_ends, unbridge_event, is_leg_of, with_end_told}
 use Rattle.fs_state.specs.Hangups.{untold_by, after_member, after_members, after_outliving, after_survival, after_survivals, after_closure}
 use Rattle.fs_state.specs.Hangups.{after_hangups}
+use Rattle.fs_state.specs.Leaving.{after_parting}
 use Rattle.fs_machine.specs.BridgeEvents.{tells_begin, tells_end, begins, ends, begun, ended}
 use Rattle.fs_machine.proofs.Kept.{IsOfNoBridge, TellsNoBridge}
 use Rattle.fs_machine.proofs.StayLemmas.{state_plain_kept, moved_plain}
 use Rattle.fs_machine.proofs.BondRows.{RowsFit, unbridged_fit}
-use Rattle.fs_machine.proofs.ListCounts.{counts_front, counts_none, counts_kept, counts_part, counts_apart, one_passes}
+use Rattle.fs_machine.proofs.ListCounts.{counts_front, counts_found, counts_none, counts_kept, counts_part, counts_apart, one_passes}
 use Rattle.fs_machine.proofs.EndLemmas.{is_end_of, ends_of_number, rows_of_number, AreEnds, closure_ends}
 
 -- ---- how often a number is drawn
@@ -453,3 +455,22 @@ module _ (past : List Event) where
   pub hung_tells : (named : Members) (s : Switch) → Tells past s → Tells past (after_hangups named s)
   unfolding after_hangups
   hung_tells named s h = closure_tells (closure_of (world_of s) (living_of s named)) s (closure_ends named s h.rows) h
+
+  -- a bridge is left, which is told at once
+  pub parted_tells : (slot : ℕ) (row : Row) (s : Switch) → bridge_at s slot ≡ Some row → Tells past s → Tells past (after_parting (Some row) s)
+  parted_tells slot row s part h =
+      let e : Ended = (row, NormalClearing) in
+      let there = counts_found (has_leg slot) (has_number row.number) s.bridges.rows row part (nat_eq_equiv.refl row.number) in
+      let k = end_tells (λ number. 0) e s there h in
+      let t : Switch = after_end row NormalClearing s in
+      record {
+        rows = k.rows;
+        begin = λ number.
+            let all = k.begin number in
+            let push = begun_push number t.news (unbridge_event e) in
+            omega (arith, all, push);
+        end = λ number.
+            let all = k.end number in
+            let push = ended_push number t.news (unbridge_event e) in
+            omega (arith, all, push);
+      }

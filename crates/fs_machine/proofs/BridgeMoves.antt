@@ -20,7 +20,7 @@ use Rattle.fs_machine.proofs.WonLemmas.{joins_apart, caller_lone, answerer_lone}
 use Rattle.fs_machine.proofs.FrontLemmas.{Front, front_of, KeptByRemains, calls_by_remains, dials_by_remains, moves_by_front}
 use Rattle.fs_machine.proofs.BondRows.{joined_fit}
 use Rattle.fs_machine.proofs.BridgeCounts.{Tidings, tidings_of, drawn_next, Tells, changed_tidings, begun_push, ended_push, told_tells}
-use Rattle.fs_machine.proofs.BridgeCounts.{same_tells, moved_tells, hung_tells}
+use Rattle.fs_machine.proofs.BridgeCounts.{same_tells, moved_tells, hung_tells, parted_tells}
 
 abbrev pub Telling : List Event → Fact
 Telling past b s = Tells past s
@@ -84,6 +84,7 @@ module _ (past : List Event) where
     told = λ event {s = s} plain h. told_tells past (λ number. 0) event s plain h;
     globals = λ globals h. h;
     joins = λ kind caller answerer {s = s} can h. joined_tells past kind caller answerer s can h;
+    parts = λ slot row {s = s} part h. parted_tells past slot row s part h;
     remains = λ slot old new there remains h. h;
     hung = λ named {s = s} h. hung_tells past named s h;
     more = λ h. h;

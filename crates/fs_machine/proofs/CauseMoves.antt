@@ -60,6 +60,8 @@ use Rattle.fs_machine.specs.Bridging.{caller_of, group_dialed, goes_on, after_go
 use Rattle.fs_machine.specs.Bridging.{after_bridge_win}
 use Rattle.fs_machine.specs.Dialing.{tried_by_slot}
 use Rattle.fs_machine.specs.Joining.{after_leaving}
+use Rattle.fs_machine.specs.Leaving.{after_departure}
+use Rattle.fs_machine.proofs.LeaveLemmas.{departed_kept}
 use Rattle.fs_machine.proofs.NameLemmas.{leg_by}
 use Rattle.fs_machine.proofs.StayLemmas.{moved_there, changed_there}
 use Rattle.fs_machine.proofs.HangLemmas.{dies, given_up_kept, hangups_kept}
@@ -212,6 +214,11 @@ left_told slot s h =
     let given_up : AllTold (orig_given_up slot awaited s).origs =
     given_up_kept (λ (t : Switch). AllTold t.origs) without_told slot awaited s h in
     changed_there (λ (t : Switch). AllTold t.origs) at_leisure slot (orig_given_up slot awaited s) (λ c is. given_up) given_up
+
+departed_told : (slot : ℕ) (s : Switch) → AllTold s.origs → AllTold (after_departure slot s).origs
+departed_told slot s h =
+    departed_kept (λ (t : Switch). AllTold t.origs) (λ event t k. k) (λ at old new t there settles k. k) (λ number t k. k) hung_told
+    left_told slot s h
 
 -- ---- what comes of a bridge that is dialed
 
@@ -398,6 +405,7 @@ told_moves before = record {
     hung = λ named {s = s} h. hung_told named s h;
     joined = λ kind caller answerer c d {s = s} can there other one two first second h. joined_told kind caller answerer s h;
     leaves = λ slot {s = s} lone h. left_told slot s h;
+    departs = λ slot {s = s} h. departed_told slot s h;
     more = λ h. h;
     gone = λ slot old there dead h. h;
   };

@@ -29,7 +29,7 @@ use Rattle.fs_machine.proofs.ClosureLemmas.{hangs_up}
 use Rattle.fs_machine.proofs.HangLemmas.{dies, Falls, Cut, Unbridged, Rests, Parks, hangups_kept}
 use Rattle.fs_machine.proofs.NameLemmas.{leg_uuid_short, leg_chan, far_chan, with_leg, pair_channels}
 use Rattle.fs_machine.proofs.FrontLemmas.{Front, front_of, orig_changed_front, Lively, KeptByRemains, joins_by_remains, calls_by_remains}
-use Rattle.fs_machine.proofs.FrontLemmas.{dials_by_remains}
+use Rattle.fs_machine.proofs.FrontLemmas.{dials_by_remains, parts_by_remains}
 use Rattle.fs_machine.proofs.FrontLemmas.{moves_by_front}
 use Rattle.fs_machine.proofs.RestLemmas.{hung_rest}
 use Rattle.fs_machine.proofs.LegLemmas.{roles_of, LegsStand}
@@ -150,6 +150,9 @@ remains_moves = record {
   joins = λ kind caller answerer {b = b} {s = s} can h.
       joins_by_remains Fit (λ event b t k. k) (λ rows b t k. k) (λ slot old new b t there remains k. put slot old new t there remains k)
       kind caller answerer b s h;
+  parts = λ slot row {b = b} {s = s} part h.
+      parts_by_remains Fit (λ event b t k. k) (λ rows b t k. k) (λ slot old new b t there remains k. put slot old new t there remains k)
+      row b s h;
   remains = λ slot old new {s = s} there remains h. put slot old new s there remains h;
   hung = λ named {s = s} h. hung_fit named s h;
   more = λ h. h;

@@ -21,7 +21,7 @@ use Rattle.fs_machine.proofs.StayLemmas.{state_told_kept, moved_there}
 use Rattle.fs_machine.proofs.ClosureLemmas.{hangs_up}
 use Rattle.fs_machine.proofs.HangLemmas.{dies, Falls, Cut, Unbridged, Rests, Parks, hangups_kept}
 use Rattle.fs_machine.proofs.FrontLemmas.{Front, front_of, orig_changed_front, KeptByRemains, joins_by_remains, calls_by_remains}
-use Rattle.fs_machine.proofs.FrontLemmas.{dials_by_remains, moves_by_front}
+use Rattle.fs_machine.proofs.FrontLemmas.{dials_by_remains, moves_by_front, parts_by_remains}
 use Rattle.fs_machine.proofs.SeenLemmas.{Seen, seen, put, Numbers, numbers_then, numbers_quietly, numbers_more, numbers_same, numbers_gone}
 use Rattle.fs_machine.proofs.SeenLemmas.{numbers_new, numbers_named}
 use Rattle.fs_machine.proofs.NameLemmas.{name_foreign, name_unheld, leg_chan, with_leg, leg_channels}
@@ -119,6 +119,9 @@ module _ (x : Seen) where
     joins = λ kind caller answerer {b = b} {s = s} can h.
         joins_by_remains (NumbersFrom x) (λ event b t k. k) (λ rows b t k. k)
         (λ slot old new b t there remains k. put_numbers (freed_by b) slot old new t there remains.uuid k) kind caller answerer b s h;
+    parts = λ slot row {b = b} {s = s} part h.
+        parts_by_remains (NumbersFrom x) (λ event b t k. k) (λ rows b t k. k)
+        (λ slot old new b t there remains k. put_numbers (freed_by b) slot old new t there remains.uuid k) row b s h;
     remains = λ slot old new {b = b} {s = s} there remains h. put_numbers (freed_by b) slot old new s there remains.uuid h;
     hung = λ named {b = b} {s = s} h. hung_numbers (freed_by b) named s h;
     more = λ {s = s} h. numbers_more x (seen s) h;

@@ -37,7 +37,7 @@ pub record IsApart (s : Switch) (slot : ℕ) : Type 0 where
   pub lone : (c : Chan) → chan_at s slot ≡ Some c → c.leg_of ≡ None
 
 -- a channel that names no origination, or the one that it named
-falls_lone : (hangs : ℕ → Bool) (slot : ℕ) (old new : Chan) → Falls hangs slot old new → old.leg_of ≡ None → new.leg_of ≡ None
+pub falls_lone : (hangs : ℕ → Bool) (slot : ℕ) (old new : Chan) → Falls hangs slot old new → old.leg_of ≡ None → new.leg_of ≡ None
 falls_lone hangs slot old new (Cut cause hung) lone = refl
 falls_lone hangs slot old new (Unbridged cause) lone = lone
 falls_lone hangs slot old new (Rests outlives live) lone = lone
@@ -165,7 +165,7 @@ no_leg : (leg_of : Option ℕ) → is_none leg_of ≡ true → leg_of ≡ None
 no_leg None is = refl
 no_leg (Some n) is = absurd (false≢true is)
 
-ready_lone : (found : Option Chan) → is_ready found ≡ true → (c : Chan) → found ≡ Some c → c.leg_of ≡ None
+pub ready_lone : (found : Option Chan) → is_ready found ≡ true → (c : Chan) → found ≡ Some c → c.leg_of ≡ None
 ready_lone found is c there =
     let both : (not (is_early c.state) && is_none c.leg_of) ≡ true = ap is_ready (sym there) ∙ is in
     no_leg c.leg_of (right_holds (not (is_early c.state)) (is_none c.leg_of) both)

@@ -49,6 +49,7 @@ use Rattle.fs_machine.specs.Bridging.{after_bridge_failure, after_bridge_win, gr
 use Rattle.fs_machine.specs.Attempts.{first_group, originate_begun, awaits, failed_for, won_for, death_of, with_group}
 use Rattle.fs_machine.specs.Dialing.{tried_by_slot}
 use Rattle.fs_machine.specs.Joining.{after_leaving}
+use Rattle.fs_machine.specs.Leaving.{after_departure}
 use Rattle.fs_machine.specs.Owing.{after_job_begin, after_job_end}
 use Rattle.fs_machine.specs.Step.{arrived}
 use Rattle.fs_machine.specs.Sound.{HasLeg}
@@ -137,6 +138,7 @@ pub record KeptByCalls (P : Fact) : Type 0 where
       chan_at s caller ≡ Some c → chan_at s answerer ≡ Some d → c.leg_of ≡ None → d.leg_of ≡ None →
       awaited_by c ≡ None → awaited_by d ≡ None → P b s → P b (joined_as kind caller answerer s)
   pub leaves : (slot : ℕ) {b : Stage} {s : Switch} → bridge_at s slot ≡ None → P b s → P b (after_leaving slot s)
+  pub departs : (slot : ℕ) {b : Stage} {s : Switch} → P b s → P b (after_departure slot s)
   pub more : {s : Switch} → P (Some 0) s → P (Some 1) s
   pub gone : (slot : ℕ) (old : Chan) {s : Switch} → chan_at s slot ≡ Some old → is_live old ≡ false → P (Some 0) s →
       P (Some 1) (with_chan slot None s)

@@ -28,7 +28,7 @@ use Rattle.fs_machine.proofs.LegLemmas.{Channels, roles_of, IsLegOf, LegsStand, 
 -- ---- whoever hangs up
 
 -- it is the leg that it was
-settles_leg : (hangs : ℕ → Bool) (slot : ℕ) (old new : Chan) (s : Switch) → chan_at s slot ≡ Some old → Settles hangs slot old new →
+pub settles_leg : (hangs : ℕ → Bool) (slot : ℕ) (old new : Chan) (s : Switch) → chan_at s slot ≡ Some old → Settles hangs slot old new →
     LegsStand (roles_of s) → LegsStand (roles_of (with_chan slot (Some new) s))
 settles_leg hangs slot old new s there (Freed cause) h = put_legs slot old (unbridged cause old) s there refl refl h
 settles_leg hangs slot old new s there (Resumes outlives live) h = put_legs slot old (at_rest old) s there refl refl h

@@ -46,6 +46,8 @@ use Rattle.fs_machine.specs.Bridging.{caller_of, group_dialed, goes_on, after_go
 use Rattle.fs_machine.specs.Bridging.{after_bridge_win, disposed}
 use Rattle.fs_machine.specs.Dialing.{tried_by_slot}
 use Rattle.fs_machine.specs.Joining.{after_leaving}
+use Rattle.fs_machine.specs.Leaving.{after_departure}
+use Rattle.fs_machine.proofs.LeaveLemmas.{departed_kept}
 use Rattle.fs_machine.proofs.FrontLemmas.{conn_unread}
 use Rattle.fs_machine.proofs.Kept.{Fact, Links, KeptByTouches, KeptByCalls, KeptByBirths, KeptByDials, raced, KeptByMoves}
 use Rattle.fs_machine.proofs.StayLemmas.{state_told_kept, moved_there, changed_there, orig_changed_channels}
@@ -54,7 +56,7 @@ use Rattle.fs_machine.proofs.Walk.{disposed_kept, group_made_kept}
 use Rattle.fs_machine.proofs.LegLemmas.{Channels, Roles, roles_of, IsLegOf, LegsStand, legs_cut, legs_follow, free_follows, put_legs}
 use Rattle.fs_machine.proofs.LegLemmas.{without_legs, given_up_legs, answered_legs}
 use Rattle.fs_machine.proofs.LegBirths.{pair_roles, pair_legs, GroupStands, group_stands, new_orig_legs, regrouped_legs}
-use Rattle.fs_machine.proofs.LegHangups.{hung_legs, winning_leg}
+use Rattle.fs_machine.proofs.LegHangups.{settles_leg, hung_legs, winning_leg}
 use Rattle.fs_machine.proofs.WonLemmas.{bridge_won_kept}
 
 -- ---- what draws no number of an origination
@@ -164,6 +166,17 @@ left_legs slot s h =
     let t : Switch = orig_given_up slot awaited s in
     changed_legs at_leisure slot t (record { leg = λ c. refl; live = λ c. refl })
     (legs_then s t (given_up_drawn slot awaited s) (given_up_legs slot awaited s) h)
+
+pub departed_drawn : (slot : ℕ) (s : Switch) → (after_departure slot s).drawn.origs ≡ s.drawn.origs
+departed_drawn slot s =
+    departed_kept (λ (t : Switch). t.drawn.origs ≡ s.drawn.origs) (λ event t k. k) (λ at old new t there settles k. k) (λ number t k. k)
+    (λ named t k. hung_drawn named t ∙ k) (λ at t k. left_drawn at t ∙ k) slot s refl
+
+departed_legs : (slot : ℕ) (s : Switch) → Stand (roles_of s) → Stand (roles_of (after_departure slot s))
+departed_legs slot s h =
+    departed_kept (λ (t : Switch). Stand (roles_of t)) (λ event t k. k)
+    (λ at old new t there settles k few. settles_leg (λ place. false) at old new t there settles (k few)) (λ number t k. k) hung_stand
+    left_legs slot s h
 
 -- ---- bridges
 
@@ -410,6 +423,7 @@ legs_calls = record {
   hung = λ named {s = s} h. hung_stand named s h;
   joined = λ kind caller answerer c d {s = s} can one two lone alone first second h. joined_legs kind caller answerer s h;
   leaves = λ slot {s = s} apart h. left_legs slot s h;
+  departs = λ slot {s = s} h. departed_legs slot s h;
   more = λ h. h;
   gone = λ slot old {s = s} there dead h few.
       legs_follow (roles_of s) (with_held s.channels slot None)

@@ -8,6 +8,7 @@ pub mod ShortLemmas
 pub mod StayLemmas
 pub mod ClosureLemmas
 pub mod HangLemmas
+pub mod LeaveLemmas
 pub mod JoinLemmas
 pub mod TryWalk
 pub mod Walk
@@ -54,6 +55,7 @@ pub mod LegHangups
 pub mod LegMoves
 pub mod OwnerLemmas
 pub mod OwnerHangups
+pub mod OwnerLeaves
 pub mod OwnerMoves
 pub mod WinnerMoves
 pub mod CauseMoves
@@ -66,6 +68,7 @@ pub mod KnownMoves
 pub mod StandingLemmas
 pub mod OwedLaws
 pub mod BondChanges
+pub mod BondLeaves
 pub mod BondMoves
 pub mod SoundLemmas
 pub mod QueueMoves

@@ -193,6 +193,7 @@ module _ (before : Switch) (Q : Fact) (kept : KeptByMoves before Q) (owns : (b :
       kept.calls.joined kind caller answerer c d can there other one two idle spare h.1,
     );
     leaves = λ slot lone h. ((calls_go b).leaves slot lone h.0, kept.calls.leaves slot lone h.1);
+    departs = λ slot h. ((calls_go b).departs slot h.0, kept.calls.departs slot h.1);
     more = λ {s = s} h. ((calls_go b).more {s = s} h.0, kept.calls.more h.1);
     gone = λ slot old {s = s} there dead h.
         ((calls_go b).gone slot old {s = s} there dead h.0, kept.calls.gone slot old there dead h.1);

@@ -37,6 +37,8 @@ use Rattle.fs_machine.specs.declared.originations.Call.{Call}
 use Rattle.fs_machine.specs.Attempts.{awaits, with_group}
 use Rattle.fs_machine.specs.Bridging.{goes_on, after_going_on, bridge_failed_from, after_bridge_failure, disposed, after_bridge_win}
 use Rattle.fs_machine.specs.Joining.{after_leaving}
+use Rattle.fs_machine.specs.Leaving.{after_departure}
+use Rattle.fs_machine.proofs.LeaveLemmas.{departed_kept}
 use Rattle.fs_machine.specs.Originations.{leg_end, pair_made, MadeGroup, group_made, won_by, after_winning}
 use Rattle.fs_machine.proofs.Kept.{Stage, Fact, KeptByTouches, KeptByCalls, KeptByBirths}
 use Rattle.fs_machine.proofs.NameLemmas.{leg_by}
@@ -265,6 +267,14 @@ left_loses slot s =
     changed_there (λ (u : Switch). Loses s u) at_leisure slot t
     (λ c is. on s t (with_chan slot (Some (at_leisure c)) t) refl refl refl (given_up_loses slot awaited s)) (given_up_loses slot awaited s)
 
+departed_loses : (slot : ℕ) (s : Switch) → Loses s (after_departure slot s)
+departed_loses slot s =
+    departed_kept (λ (t : Switch). Loses s t) (told_loses s)
+    (λ at old new t there settles h. on s t (with_chan at (Some new) t) refl refl refl h)
+    (λ number t h. on s t (without_bridge number t) refl refl refl h)
+    (λ named t h. loses_trans s t (after_hangups named t) h (hung_loses named t))
+    (λ at t h. loses_trans s t (after_leaving at t) h (left_loses at t)) slot s (self s)
+
 pub winning_loses : (winner : Winner) (slot : ℕ) (s : Switch) → Loses s (after_winning winner slot s)
 unfolding after_winning
 winning_loses winner slot s = moved_loses (won_by winner) slot s
@@ -294,6 +304,7 @@ calls_by_losses P loses more = record {
   joined = λ kind caller answerer c d {b = b} {s = s} can there other one two idle spare h.
       loses b s (joined_as kind caller answerer s) h (joined_loses kind caller answerer s);
   leaves = λ slot {b = b} {s = s} lone h. loses b s (after_leaving slot s) h (left_loses slot s);
+  departs = λ slot {b = b} {s = s} h. loses b s (after_departure slot s) h (departed_loses slot s);
   more = λ {s = s} h. more s h;
   gone = λ slot old {s = s} there dead h.
       more (with_chan slot None s) (loses (Some 0) s (with_chan slot None s) h (loses_none s (with_chan slot None s) refl refl refl));

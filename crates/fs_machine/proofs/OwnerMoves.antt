@@ -52,6 +52,8 @@ use Rattle.fs_machine.specs.Bridging.{caller_of, group_dialed, goes_on, after_go
 use Rattle.fs_machine.specs.Bridging.{after_bridge_win, disposed}
 use Rattle.fs_machine.specs.Dialing.{tried_by_slot}
 use Rattle.fs_machine.specs.Joining.{after_leaving}
+use Rattle.fs_machine.specs.Leaving.{after_departure}
+use Rattle.fs_state.specs.Leaving.{after_leaving_others}
 use Rattle.fs_machine.proofs.NameLemmas.{leg_chan, far_chan, pair_channels}
 use Rattle.fs_machine.proofs.Kept.{Stage, Fact, Links, Stays, KeptByTouches, KeptByCalls, KeptByBirths, KeptByDials, raced, KeptByMoves}
 use Rattle.fs_machine.proofs.Kept.{hold_in, IsApt, IsAtWork}
@@ -68,7 +70,8 @@ use Rattle.fs_machine.proofs.OwnerLemmas.{came_without, KeepsOwner, leg_keeps, c
 use Rattle.fs_machine.proofs.OwnerLemmas.{given_up_owned, given_up_none, begun_owned, dialed_owned}
 use Rattle.fs_machine.proofs.JoinLemmas.{rest_dials}
 use Rattle.fs_machine.proofs.OwnerHangups.{rest_owned, hung_owned}
-use Rattle.fs_machine.proofs.LegMoves.{orig_changed_drawn, hung_drawn, left_drawn, joined_drawn, group_drawn, conn_roles, won_roles}
+use Rattle.fs_machine.proofs.OwnerLeaves.{others_owned}
+use Rattle.fs_machine.proofs.LegMoves.{orig_changed_drawn, hung_drawn, left_drawn, departed_drawn, joined_drawn, group_drawn, conn_roles, won_roles}
 use Rattle.fs_machine.proofs.LegMoves.{same_next}
 
 -- ---- the fact
@@ -478,6 +481,11 @@ module _ (before : Switch) (stand : LegsStand (roles_of before)) (bonding : Kept
       bonds = bonding.calls.leaves slot {b = b} {s = s} apart h.bonds;
       owned = left_owned slot s h.owned;
       room = room_same b s (after_leaving slot s) (left_drawn slot s) h.room;
+    };
+    departs = λ slot {b = b} {s = s} h. record {
+      bonds = bonding.calls.departs slot {b = b} {s = s} h.bonds;
+      owned = left_owned slot (after_leaving_others slot s) (others_owned slot s h.bonds h.owned);
+      room = room_same b s (after_departure slot s) (departed_drawn slot s) h.room;
     };
     more = λ {s = s} h. record { bonds = bonding.calls.more {s = s} h.bonds; owned = h.owned; room = tt };
     gone = λ slot old {s = s} there dead h. record {

@@ -29,7 +29,7 @@ use Rattle.fs_machine.proofs.ClosureLemmas.{NoneAtZero, hangs_up, members_lived,
 use Rattle.fs_machine.proofs.HangLemmas.{dies, Falls, Cut, Unbridged, Rests, Parks, ends_kept, members_kept, survivals_kept, hangups_kept}
 use Rattle.fs_machine.proofs.NameLemmas.{leg_chan, far_chan, pair_channels}
 use Rattle.fs_machine.proofs.FrontLemmas.{Front, front_of, KeptByRemains, joins_by_remains, calls_by_remains, dials_by_remains}
-use Rattle.fs_machine.proofs.FrontLemmas.{moves_by_front}
+use Rattle.fs_machine.proofs.FrontLemmas.{moves_by_front, parts_by_remains}
 use Rattle.fs_machine.proofs.TieLemmas.{lives_as, lives_in, HungAs, hung_by, named_in, Ties, ties_put, ties_gone, ties_joined}
 
 -- ---- who hangs up, and who does not
@@ -308,6 +308,10 @@ remains_partners = record {
       joins_by_remains Partners (λ event b t k. record { ties = k.ties; zero = k.zero })
       (λ rows b t k. record { ties = k.ties; zero = k.zero }) (λ slot old new b t there remains k. put slot old new t there remains k)
       kind caller answerer b s h;
+  parts = λ slot row {b = b} {s = s} part h.
+      parts_by_remains Partners (λ event b t k. record { ties = k.ties; zero = k.zero })
+      (λ rows b t k. record { ties = k.ties; zero = k.zero }) (λ slot old new b t there remains k. put slot old new t there remains k)
+      row b s h;
   remains = λ slot old new {s = s} there remains h. put slot old new s there remains h;
   hung = λ named {s = s} h. record { ties = hung_ties named s h; zero = hung_zero named s h.zero };
   more = λ h. h;

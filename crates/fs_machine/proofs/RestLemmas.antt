@@ -40,6 +40,8 @@ use Rattle.fs_machine.specs.Bridging.{caller_of, group_dialed, goes_on, after_go
 use Rattle.fs_machine.specs.Bridging.{after_bridge_win}
 use Rattle.fs_machine.specs.Dialing.{tried_by_slot}
 use Rattle.fs_machine.specs.Joining.{after_leaving}
+use Rattle.fs_machine.specs.Leaving.{after_departure}
+use Rattle.fs_machine.proofs.LeaveLemmas.{departed_kept}
 use Rattle.fs_machine.specs.Work.{after_work}
 use Rattle.fs_machine.proofs.Kept.{Stage, Fact, KeptByTouches, KeptByCalls, KeptByBirths, DoesJob, KeptByDials, raced}
 use Rattle.fs_machine.proofs.NameLemmas.{leg_by}
@@ -126,6 +128,11 @@ joined_rest kind caller answerer s =
     let t : Switch = with_bridge caller answerer kind s in
     peer_rest answerer caller (with_peer caller answerer t) ∙ peer_rest caller answerer t
 
+departed_rest : (slot : ℕ) (s : Switch) → rest_of (after_departure slot s) ≡ rest_of s
+departed_rest slot s =
+    departed_kept (λ (t : Switch). rest_of t ≡ rest_of s) (λ event t h. h) (λ at old new t there settles h. h) (λ number t h. h)
+    (λ named t h. hung_rest named t ∙ h) (λ at t h. left_rest at t ∙ h) slot s refl
+
 -- ---- facts on the rest
 
 -- a fact that holds wherever the rest is the same is kept by what happens to channels
@@ -147,6 +154,7 @@ module _ (P : Fact) (same : (b : Stage) (t u : Switch) → P b t → rest_of u �
     joined = λ kind caller answerer c d {b = b} {s = s} can there other one two first second h.
         same b s _ h (joined_rest kind caller answerer s);
     leaves = λ slot {b = b} {s = s} apart h. same b s _ h (left_rest slot s);
+    departs = λ slot {b = b} {s = s} h. same b s _ h (departed_rest slot s);
     more = λ {s = s} h. more s h;
     gone = λ slot old there dead h. more _ (same _ _ _ h refl);
   }

@@ -18,6 +18,7 @@ use Rattle.fs_api.specs.declared.usages.Which.TheVariants as which
 use Rattle.fs_api.specs.Originates as originates
 use Rattle.fs_api.specs.Words.{quoted_word, behind_quoted}
 use Rattle.fs_api.specs.Readings as readings
+use Rattle.fs_api.specs.Transfers as transfers
 use Rattle.fs_api.specs.Readings.{api_named, api_of, expanded_api_of, without_expand}
 use Rattle.fs_app.specs.declared.application.Application.{Application}
 use Rattle.fs_app.specs.declared.application.Application.TheVariants as app
@@ -134,6 +135,8 @@ application_short name argument = assigned_short (assignment_named name) argumen
 
 abbrev pub NamesShort : Api → Type 0
 NamesShort (api.Originate url winner cid_name cid_number timeout) = IsShortWinner winner
+NamesShort (api.UuidTransfer uuid exten dialplan context) =
+    IsShortTarget (record { exten = exten; dialplan = dialplan; context = context })
 NamesShort _ = Unit {0}
 
 winner_by : (test : Bool) (x y : Option Winner) → (test ≡ true → IfSome x IsShortWinner) → (test ≡ false → IfSome y IsShortWinner) →
@@ -204,12 +207,44 @@ reading_short : (arguments : Text) → NamesShort (readings.uuid_getvar_of argum
 reading_short arguments =
     needs_short which.UuidGetvar (λ name. api.UuidGetvar (word_of arguments) (word_of name)) (behind_word arguments) (λ name. tt)
 
+named_word_short : (word : Text) → endpoints.is_short word ≡ true → IfSome (transfers.word_named word) (λ t. length t ≤ 256)
+named_word_short [] short = tt
+named_word_short (byte ∷ bytes) short = leb-true (length (byte ∷ bytes)) 256 short
+
+transfer_by : (test : Bool) (x y : Api) → (test ≡ true → NamesShort x) → (test ≡ false → NamesShort y) → NamesShort (if test then x else y)
+transfer_by true x y first second = first refl
+transfer_by false x y first second = second refl
+
+transferring_short : (arguments : Text) → NamesShort (transfers.uuid_transfer_of arguments)
+transferring_short arguments =
+    let behind : Text = behind_word arguments in
+    let exten : Text = word_of behind in
+    let dialplan : Text = word_of (behind_word behind) in
+    let context : Text = word_of (behind_word (behind_word behind)) in
+    transfer_by (transfers.is_exten exten && endpoints.is_short exten && endpoints.is_short dialplan && endpoints.is_short context) _ _
+    (λ all. short_of exten dialplan context all) (λ none. tt)
+  where
+    short_of : (exten dialplan context : Text) →
+        (transfers.is_exten exten && endpoints.is_short exten && endpoints.is_short dialplan && endpoints.is_short context) ≡ true →
+        IsShortTarget (record { exten = exten; dialplan = transfers.word_named dialplan; context = transfers.word_named context })
+    short_of exten dialplan context all =
+        let first : Bool = transfers.is_exten exten && endpoints.is_short exten in
+        let two : (first && endpoints.is_short dialplan) ≡ true =
+        left_holds (first && endpoints.is_short dialplan) (endpoints.is_short context) all in
+        let one : first ≡ true = left_holds first (endpoints.is_short dialplan) two in
+        record {
+          exten = leb-true (length exten) 256 (right_holds (transfers.is_exten exten) (endpoints.is_short exten) one);
+          dialplan = named_word_short dialplan (right_holds first (endpoints.is_short dialplan) two);
+          context = named_word_short context (right_holds (first && endpoints.is_short dialplan) (endpoints.is_short context) all);
+        }
+
 joining_short : (arguments : Text) → NamesShort (readings.uuid_bridge_of arguments)
 joining_short arguments =
     needs_short which.UuidBridge (λ other. api.UuidBridge (word_of arguments) (word_of other)) (behind_word arguments) (λ other. tt)
 
 -- whichever name it has
-command_short : (echoes expands gets sets hangs sleeps tries bridges exists reads kills : Bool) (name arguments : Text) → NamesShort
+command_short : (echoes expands gets sets hangs sleeps tries bridges exists reads kills parks sends : Bool) (name arguments : Text) →
+    NamesShort
     (if echoes then api.Echo arguments
     else (if expands then readings.needs which.Expand api.Expand arguments
     else (if gets then readings.global_getvar_of arguments
@@ -221,29 +256,40 @@ command_short : (echoes expands gets sets hangs sleeps tries bridges exists read
     else (if exists then readings.needs which.UuidExists readings.uuid_exists_of arguments
     else (if reads then readings.needs which.UuidGetvar readings.uuid_getvar_of arguments
     else (if kills then readings.needs which.UuidKill readings.uuid_kill_of arguments
-    else api.Unknown name)))))))))))
-command_short true expands gets sets hangs sleeps tries bridges exists reads kills name arguments = tt
-command_short false true gets sets hangs sleeps tries bridges exists reads kills name arguments =
+    else (if parks then readings.needs which.UuidPark readings.uuid_park_of arguments
+    else (if sends then transfers.uuid_transfer_of arguments
+    else api.Unknown name)))))))))))))
+command_short true expands gets sets hangs sleeps tries bridges exists reads kills parks sends name arguments =
+    tt
+command_short false true gets sets hangs sleeps tries bridges exists reads kills parks sends name arguments =
     needs_short which.Expand api.Expand arguments (λ text. tt)
-command_short false false true sets hangs sleeps tries bridges exists reads kills name arguments = getting_short arguments
-command_short false false false true hangs sleeps tries bridges exists reads kills name arguments =
+command_short false false true sets hangs sleeps tries bridges exists reads kills parks sends name arguments =
+    getting_short arguments
+command_short false false false true hangs sleeps tries bridges exists reads kills parks sends name arguments =
     needs_short which.GlobalSetvar readings.global_setvar_of arguments (λ text. tt)
-command_short false false false false true sleeps tries bridges exists reads kills name arguments = hanging_short arguments
-command_short false false false false false true tries bridges exists reads kills name arguments = sleeping_short (read_u64 (word_of arguments))
-command_short false false false false false false true bridges exists reads kills name arguments = originate_short arguments
-command_short false false false false false false false true exists reads kills name arguments =
+command_short false false false false true sleeps tries bridges exists reads kills parks sends name arguments =
+    hanging_short arguments
+command_short false false false false false true tries bridges exists reads kills parks sends name arguments =
+    sleeping_short (read_u64 (word_of arguments))
+command_short false false false false false false true bridges exists reads kills parks sends name arguments =
+    originate_short arguments
+command_short false false false false false false false true exists reads kills parks sends name arguments =
     needs_short which.UuidBridge readings.uuid_bridge_of arguments joining_short
-command_short false false false false false false false false true reads kills name arguments =
+command_short false false false false false false false false true reads kills parks sends name arguments =
     needs_short which.UuidExists readings.uuid_exists_of arguments (λ text. tt)
-command_short false false false false false false false false false true kills name arguments =
+command_short false false false false false false false false false true kills parks sends name arguments =
     needs_short which.UuidGetvar readings.uuid_getvar_of arguments reading_short
-command_short false false false false false false false false false false true name arguments =
+command_short false false false false false false false false false false true parks sends name arguments =
     needs_short which.UuidKill readings.uuid_kill_of arguments (λ text. tt)
-command_short false false false false false false false false false false false name arguments = tt
+command_short false false false false false false false false false false false true sends name arguments =
+    needs_short which.UuidPark readings.uuid_park_of arguments (λ text. tt)
+command_short false false false false false false false false false false false false true name arguments =
+    transferring_short arguments
+command_short false false false false false false false false false false false false false name arguments = tt
 
 named_short : (name arguments : Text) → NamesShort (api_named name arguments)
 unfolding api_named
-named_short name arguments = command_short _ _ _ _ _ _ _ _ _ _ _ name arguments
+named_short name arguments = command_short _ _ _ _ _ _ _ _ _ _ _ _ _ name arguments
 
 pub api_short : (text : Text) → NamesShort (api_of text)
 api_short text = named_short (word_of (without_spaces text)) (behind_word (without_spaces text))

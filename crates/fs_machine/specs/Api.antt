@@ -14,6 +14,7 @@ use Rattle.fs_api.specs.declared.api.Api.TheVariants as api
 use Rattle.fs_api.specs.Readings.{expanded_api_of}
 use Rattle.fs_api.specs.Usages.{usage_of}
 use Rattle.fs_chan.specs.declared.chan.Chan.{Chan}
+use Rattle.fs_chan.specs.Changes.{parked, transferred}
 use Rattle.fs_dial.specs.declared.fault.DialFault.{DialFault}
 use Rattle.fs_dial.specs.DialStrings.{Dial, dial_string}
 use Rattle.fs_orig.specs.declared.caller.Caller.{Caller}
@@ -25,6 +26,7 @@ use Rattle.fs_state.specs.Hangups.{after_hangup}
 use Rattle.fs_machine.specs.Done.{Done, says, no_answer_yet}
 use Rattle.fs_machine.specs.Hangups.{after_hangup_of_all}
 use Rattle.fs_machine.specs.Joining.{uuid_bridge_done}
+use Rattle.fs_machine.specs.Leaving.{sent_done}
 use Rattle.fs_machine.specs.Texts.{ok, yes, no, limit_passed, too_long_text, usage_text, api_not_found, no_channel, undefined}
 use Rattle.fs_machine.specs.Texts.{hupall_text, too_many_jobs, failed_text}
 use Rattle.fs_machine.specs.Attempts.{originate_begun}
@@ -107,6 +109,9 @@ done_plainly conn (api.Msleep milliseconds) s = msleep_done conn milliseconds s
 done_plainly conn (api.UuidExists uuid) s = says (told_whether (is_some (slot_named uuid s))) s
 done_plainly conn (api.UuidKill uuid cause) s = killed_as cause uuid s
 done_plainly conn (api.UuidBridge uuid other) s = uuid_bridge_done uuid other s
+done_plainly conn (api.UuidPark uuid) s = sent_done parked uuid s
+done_plainly conn (api.UuidTransfer uuid exten dialplan context) s =
+    sent_done (transferred (record { exten = exten; dialplan = dialplan; context = context })) uuid s
 done_plainly conn (api.UuidGetvar uuid name) s = says (variable_text name (chan_named uuid s)) s
 done_plainly conn (api.Hupall cause) s = hupall_done cause s
 done_plainly conn (api.Originate url winner cid_name cid_number timeout) s =

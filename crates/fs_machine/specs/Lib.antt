@@ -16,6 +16,7 @@ pub mod Jobs
 pub mod Done
 pub mod Hangups
 pub mod Joining
+pub mod Leaving
 pub mod Api
 pub mod Commands
 pub mod Step

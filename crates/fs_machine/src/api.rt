@@ -5,6 +5,7 @@ ghost use Rattle.std.specs.Option.{option_copied};
 ghost use Rattle.fs_vars.specs.Outputs.{IsTextRefusal};
 ghost use Rattle.fs_vars.specs.Expansion.{expanded};
 ghost use Rattle.fs_api.specs.declared.api.Api.TheVariants.{Expand};
+ghost use Rattle.fs_api.specs.Ranges.{IsInRange};
 ghost use Rattle.fs_dial.specs.DialStrings.{dial_of};
 ghost use Rattle.fs_state.specs.Drafts.{drafted};
 ghost use Rattle.fs_state.specs.Switch.{slot_named};
@@ -16,6 +17,7 @@ use crate::globals::set_global;
 use crate::hangups::hang_up_everyone;
 use crate::jobs::begin_sleep;
 use crate::joining::bridge_channels;
+use crate::leaving::{park_channel, target_of, transfer_channel};
 use crate::texts::{api_not_found, failed_text, hupall_text, says, usage_text};
 use fs_api::{Api, usage};
 use fs_chan::Chan;
@@ -28,6 +30,7 @@ use std::alloc::Global;
 
 /// Runs an api command of a connection, and gives its answer, unless that is owed.
 pub(crate) fn run_api(draft: &mut Draft<'_>, conn: u32, api: &Api) -> Result<Option<Txt>, Memory>
+    requires { IsInRange api.now }
     ensures base { draft.new.base ≡ draft.old.base }
     ensures done { IfOk result (ComesTo (spec.done_by conn api.now (drafted draft.old)) (drafted draft.new)) }
 {
@@ -72,6 +75,7 @@ fn expand_globally(alloc: Global, globals: &Vars, text: &[u8]) -> Result<Txt, Re
 
 // Runs an api command that expands no text.
 fn run_plainly(draft: &mut Draft<'_>, conn: u32, api: &Api) -> Result<Option<Txt>, Memory>
+    requires { IsInRange api.now }
     ensures base { draft.new.base ≡ draft.old.base }
     ensures done { IfOk result (ComesTo (spec.done_plainly conn api.now (drafted draft.old)) (drafted draft.new)) }
 {
@@ -85,6 +89,16 @@ fn run_plainly(draft: &mut Draft<'_>, conn: u32, api: &Api) -> Result<Option<Txt
         Api::UuidExists { uuid } => tell_whether(draft, uuid),
         Api::UuidKill { uuid, cause } => kill(draft, uuid, *cause),
         Api::UuidBridge { uuid, other } => bridge_channels(draft, uuid, other),
+        Api::UuidPark { uuid } => park_channel(draft, uuid),
+        Api::UuidTransfer {
+            uuid,
+            exten,
+            dialplan,
+            context,
+        } => {
+            let to = target_of(exten, dialplan.as_ref(), context.as_ref())?;
+            transfer_channel(draft, uuid, to)
+        }
         Api::UuidGetvar { uuid, name } => get_variable(draft, uuid, name),
         Api::Hupall { cause } => hang_up_all(draft, *cause),
         Api::Originate {

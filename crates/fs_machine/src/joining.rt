@@ -55,9 +55,9 @@ fn bridge_found(
     bridge_slots(draft, a, b, other)
 }
 
-// Answers that there is no such channel.
+/// Answers that there is no such channel.
 #[tactic(auto, unfolding(crate::specs::Texts::no_channel))]
-fn no_channel(alloc: Global) -> Result<Option<Txt>, Memory>
+pub(crate) fn no_channel(alloc: Global) -> Result<Option<Txt>, Memory>
     ensures { IfOk result (λ said. said ≡ Some texts.no_channel) }
 {
     says(alloc, b"-ERR No such channel!\n")
@@ -98,8 +98,8 @@ fn in_the_way(draft: &Draft<'_>, a: u16, b: u16) -> Option<&'static [u8]>
     }
 }
 
-// Whether the channel in a slot has begun, and is no leg of an origination that is not yet decided.
-fn is_ready(draft: &Draft<'_>, slot: u16) -> bool
+/// Whether the channel in a slot has begun, and is no leg of an origination that is not yet decided.
+pub(crate) fn is_ready(draft: &Draft<'_>, slot: u16) -> bool
     ensures { result ≡ spec.is_ready (chan_at (drafted draft.now) slot) }
 {
     match draft.chan(slot) {
@@ -146,8 +146,8 @@ fn legs_of_both(draft: &Draft<'_>, a: u16, b: u16) -> Result<Vec<u16>, Memory>
     Ok(legs)
 }
 
-// Gives up what the channel in a slot dialed; it runs and waits for nothing.
-fn leave(draft: &mut Draft<'_>, slot: u16) -> Result<(), Memory>
+/// Gives up what the channel in a slot dialed; it runs and waits for nothing.
+pub(crate) fn leave(draft: &mut Draft<'_>, slot: u16) -> Result<(), Memory>
     ensures { Brings result draft.old draft.new (spec.after_leaving slot (drafted draft.old)) }
 {
     let awaited = awaited_at(draft, slot);

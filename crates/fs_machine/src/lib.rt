@@ -18,6 +18,7 @@ mod jobs;
 mod joining;
 mod journal;
 mod laws;
+mod leaving;
 mod machine;
 mod originations;
 mod owing;

@@ -7,5 +7,6 @@ pub mod Switch
 pub mod Drafts
 pub mod Moves
 pub mod Hangups
+pub mod Leaving
 pub mod Bridging
 pub mod Posting

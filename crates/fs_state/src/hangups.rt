@@ -82,7 +82,7 @@ impl<'a> Draft<'a> {
     }
 
     /// Both legs of a bridge know of what it ended, and it stands no more.
-    fn end_bridge(&mut self, row: Row, cause: Cause) -> Result<(), Memory>
+    pub(crate) fn end_bridge(&mut self, row: Row, cause: Cause) -> Result<(), Memory>
         ensures { Brings result self.old self.new (spec.after_end row cause (drafted self.old)) }
     {
         self.drop_bridge(row.number)?;
@@ -133,7 +133,7 @@ impl<'a> Draft<'a> {
     }
 
     /// The end of a bridge is told, if there is one.
-    fn tell_end(&mut self, end: Option<(Row, Cause)>) -> Result<(), Memory>
+    pub(crate) fn tell_end(&mut self, end: Option<(Row, Cause)>) -> Result<(), Memory>
         ensures { Brings result self.old self.new (spec.with_end_told end (drafted self.old)) }
     {
         match end {
@@ -159,7 +159,7 @@ impl<'a> Draft<'a> {
     }
 
     /// The channel in a slot, if it lives, does what it does that outlives its bridge.
-    fn outlive(&mut self, slot: u16, after: After) -> Result<(), Memory>
+    pub(crate) fn outlive(&mut self, slot: u16, after: After) -> Result<(), Memory>
         ensures { Brings result self.old self.new (spec.after_survival after slot (drafted self.old)) }
     {
         if self.lives(slot) {

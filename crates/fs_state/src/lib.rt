@@ -17,6 +17,7 @@ mod gift;
 mod groups;
 mod hangups;
 mod job;
+mod leaving;
 mod lines;
 mod losses;
 mod moves;

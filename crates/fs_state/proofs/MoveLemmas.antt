@@ -10,7 +10,8 @@ use Rattle.fs_chan.specs.declared.chan.Chan.{Chan}
 use Rattle.fs_chan.specs.Work.{pending_of, without_first, after_taking, after_next}
 use Rattle.fs_places.proofs.HeldLemmas.{held_here, held_within}
 use Rattle.fs_state.specs.Switch.{Switch, chan_at, with_chan, with_event}
-use Rattle.fs_state.specs.Moves.{plain_event, with_coming_event, with_leaving_event, with_state_events, after_move_from, after_move, with_running}
+use Rattle.fs_state.specs.Moves.{plain_event, with_coming_event, with_leaving_event, with_state_events, after_move_from, after_move}
+use Rattle.fs_state.specs.Moves.{with_running}
 
 -- a number is itself
 same : (n : ℕ) → (n == n) ≡ true
@@ -19,8 +20,8 @@ same n = grind (arith, nat_tests)
 -- where the state stays nothing is told
 quiet : (state : State) (slot : ℕ) (s : Switch) → with_state_events state state slot s ≡ s
 quiet state slot s =
-    ap (λ (b : Bool). cond b s (with_event (plain_event ChannelState slot) (with_coming_event state slot (with_leaving_event state slot s))))
-    (same (state_number state))
+    let told = with_event (plain_event ChannelState slot) (with_coming_event state slot (with_leaving_event state slot s)) in
+    ap (λ (b : Bool). cond b s told) (same (state_number state))
 
 -- what is used up leaves the state
 same_without : (messages : List Action) (c : Chan) → (without_first messages c).state ≡ c.state

@@ -2,7 +2,7 @@
 ghost use Rattle.std.specs.Prelude.{◌≡◌, ◌≤◌, length, IfOk, unwrap_or};
 ghost use Rattle.std.specs.Option.{option_copied};
 ghost use Rattle.fs_places.specs.Places.{no_places, IsEmptyFrom};
-ghost use Rattle.fs_state.specs.Queues.{no_queues, requeued, events_in};
+ghost use Rattle.fs_state.specs.Queues.{no_queues, requeued};
 ghost use Rattle.fs_state.specs.Switch as spec;
 ghost use Rattle.fs_state.specs.Drafts.{after, Fits};
 
@@ -256,16 +256,6 @@ impl Core {
     {
         match self.conns.place_of(u64::from(number)) {
             Some(place) => self.queues.len(place),
-            None => 0,
-        }
-    }
-
-    /// How many of them tell of events.
-    pub fn events_waiting(&self, number: u32) -> usize
-        ensures { result ≡ events_in (spec.outgoing_for self.now number) }
-    {
-        match self.conns.place_of(u64::from(number)) {
-            Some(place) => self.queues.events(place),
             None => 0,
         }
     }

@@ -15,7 +15,9 @@ in_two position legs first all before behind =
 pub returns : goal.returns
 returns c =
     let legs = c.as_slice-legs.result.now in
-    let first = c.in_ok-add_living_slots.ensures ∙ ap (λ slots. slots ++ living_slots (take c.args.position legs)) c.new-slots.ensures.items in
+    let first =
+    c.in_ok-add_living_slots.ensures
+    ∙ ap (λ slots. slots ++ living_slots (take c.args.position legs)) c.new-slots.ensures.items in
     let rest = take_rest legs (c.args.position + 1) in
     let all = c.in_ok-add_living_slots-2.ensures ∙ ap (λ left. c.add_living_slots.new.slots.items ++ living_slots left) rest in
     in_two c.args.position legs c.add_living_slots.new.slots.items c.add_living_slots-2.new.slots.items first all

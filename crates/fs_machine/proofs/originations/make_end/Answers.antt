@@ -10,4 +10,5 @@ returns-clause-made c =
     let made = c.in_ok-chan.ensures ∙ ap (end_of c.args.call.now c.args.end) (c.in_ok-copy.ensures ∙ c.in_ok-uuid.ensures.identifier) in
     let base = c.in_ok-put_chan.ensures.0 ∙ c.in_ok-uuid.ensures.draft.0 in
     let P : Switch → Type 0 = λ s. drafted c.put_chan.new.self ≡ end_made_as (identifier_of s) c.args.call.now c.args.end s in
-    (base, subst P c.in_ok-uuid.ensures.draft.1 (c.in_ok-put_chan.ensures.1 ∙ ap (λ chan. with_chan c.args.end.slot (Some chan) before) made))
+    let put = c.in_ok-put_chan.ensures.1 ∙ ap (λ chan. with_chan c.args.end.slot (Some chan) before) made in
+    (base, subst P c.in_ok-uuid.ensures.draft.1 put)

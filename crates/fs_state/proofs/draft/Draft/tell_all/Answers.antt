@@ -32,7 +32,10 @@ loop-event-preserved c =
     let number : c.saturating_add-number.result ≡ min n (2 ^ 64 - 1) =
     omega (arith, c.saturating_add-number.ensures, c.loop-event.invariant.0) in
     let next : base.counts.all + (i + 1) + 1 ≡ n + 1 = omega arith in
-    let news : c.as_slice-news.result.now ≡ s.news = c.as_slice-news.ensures ∙ ap (λ (d : Delta). d.news) c.deref.ensures ∙ ap (λ (d : Drafted). d.delta.news) c.self.view_is in
+    let news : c.as_slice-news.result.now ≡ s.news =
+    c.as_slice-news.ensures
+    ∙ ap (λ (d : Delta). d.news) c.deref.ensures
+    ∙ ap (λ (d : Drafted). d.delta.news) c.self.view_is in
     let within : i < length s.news = omega (arith, c.loop-event-test.true, ap length news) in
     let tells : post ≡ told_of base s c.saturating_add-number.result (get_or s.news i event) =
     c.in_ok-post.ensures

@@ -13,7 +13,10 @@ returns-then-is_empty c =
     let base = c.args.self.now.base in
     let s = drafted c.args.self.now in
     let kept : c.self.inside.core.now ≡ base = ap (λ (d : Drafted). d.base) c.self.view_is in
-    let news : c.as_slice.result.now ≡ s.news = c.as_slice.ensures ∙ ap (λ (d : Delta). d.news) c.deref.ensures ∙ ap (λ (d : Drafted). d.delta.news) c.self.view_is in
+    let news : c.as_slice.result.now ≡ s.news =
+    c.as_slice.ensures
+    ∙ ap (λ (d : Delta). d.news) c.deref.ensures
+    ∙ ap (λ (d : Drafted). d.delta.news) c.self.view_is in
     elim c.then-is_empty.branch [
       | then-is_empty-via-then-is_empty w ↦
           let quiet : (length s.news == 0) ≡ true =

@@ -22,5 +22,6 @@ deliver_part-requires-3 c =
     let posted = c.args.delta.now.posted in
     let given = c.args.delta.now.given in
     let room : HaveRoom queues (frames_given (answered ++ (posted ++ given))) = record { each = c.requires.each } in
-    subst (λ q. HaveRoom q (frames_given given)) (sym (c.deliver_part-2.ensures.queues ∙ ap (delivered conns posted) c.deliver_part.ensures.queues))
+    subst (λ q. HaveRoom q (frames_given given))
+    (sym (c.deliver_part-2.ensures.queues ∙ ap (delivered conns posted) c.deliver_part.ensures.queues))
     (room_for_back conns posted given (delivered conns answered queues) (room_for_back conns answered (posted ++ given) queues room))

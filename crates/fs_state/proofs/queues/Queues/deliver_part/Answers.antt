@@ -18,9 +18,10 @@ loop-gift-preserved c =
     let split : drop i items ≡ gift ∷ drop (i + 1) items =
     drop_more items i gift within ∙ ap (λ g. g ∷ drop (i + 1) items) (sym c.gift-item.is) in
     let rest : drop (i + 1) (slice_set items i left) ≡ drop (i + 1) items = drop-set-lt (i + 1) items i left (omega arith) in
+    let there = (get_or items i gift).conn in
     let done : c.deliver_one.new.self ≡ delivered conns (gift ∷ []) queues =
     c.deliver_one.ensures
-    ∙ ap (λ frames. delivered conns (record { conn = (get_or items i gift).conn; frames = frames } ∷ []) queues) c.take_frames-frames.ensures
+    ∙ ap (λ frames. delivered conns (record { conn = there; frames = frames } ∷ []) queues) c.take_frames-frames.ensures
     ∙ ap (λ (g : Gift). delivered conns (g ∷ []) queues) (sym c.gift-item.is) in
     rw (rest, done) (
       subst (λ gifts. delivered conns gifts queues ≡ delivered conns c.args.gifts.now c.args.self.now) split c.loop-gift.invariant.0,

@@ -122,9 +122,9 @@ pub(crate) fn target_of(
 ) -> Result<Target3, Memory>
     requires { AreShort exten.now (option_copied dialplan) (option_copied context) }
     ensures to { IfOk result (λ to. to ≡ record {
-        exten = exten.now;
-        dialplan = option_copied dialplan.entry;
-        context = option_copied context.entry;
+      exten = exten.now;
+      dialplan = option_copied dialplan.entry;
+      context = option_copied context.entry;
     }) }
     ensures short { IfOk result IsShortTarget }
 {

@@ -56,7 +56,12 @@ impl<T: Drop> Sheet<T> {
 
     /// Writes over a table: something is to stand at a place, or nothing; past the last one nothing changes.
     #[tactic(auto, using(crate::proofs::PlaceLemmas::written_put))]
-    pub fn put_over(&mut self, kept: &Places<T>, place: usize, held: Option<T>) -> Result<(), Memory>
+    pub fn put_over(
+        &mut self,
+        kept: &Places<T>,
+        place: usize,
+        held: Option<T>,
+    ) -> Result<(), Memory>
         ensures ok { OnOk result
             (spec.written kept.now self.new ≡ with_held (spec.written kept.now self.old) place held) }
         ensures err { OnErr result (self.new ≡ self.old) }

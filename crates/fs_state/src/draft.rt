@@ -489,7 +489,9 @@ impl<'a> Draft<'a> {
         ensures { Brings result self.old self.new (spec.with_conn number conn (drafted self.old)) }
     {
         let core = self.core;
-        self.delta.conns.set_row(&core.conns, u64::from(number), conn)
+        self.delta
+            .conns
+            .set_row(&core.conns, u64::from(number), conn)
     }
 
     /// Opens a connection, whose number is the next.
@@ -500,7 +502,9 @@ impl<'a> Draft<'a> {
         let core = self.core;
         self.delta.drawn = self.delta.drawn.with_conn();
         let number = self.delta.drawn.conns;
-        self.delta.conns.add_row(&core.conns, u64::from(number), conn)?;
+        self.delta
+            .conns
+            .add_row(&core.conns, u64::from(number), conn)?;
         Ok(number)
     }
 
@@ -584,7 +588,11 @@ impl<'a> Draft<'a> {
     fn frames_given(&self) -> usize
         ensures { result ≡ min (frames_given (spec.all_given (drafted self.now))) (2 ^ 64 - 1) }
     {
-        let posted = self.delta.posted.frames().saturating_add(self.delta.given.frames());
+        let posted = self
+            .delta
+            .posted
+            .frames()
+            .saturating_add(self.delta.given.frames());
         self.delta.answered.frames().saturating_add(posted)
     }
 }

@@ -1,5 +1,5 @@
 -- What is answered to a text that is the command `echo`.
-use Rattle.std.proofs.Common.{◌≡◌, Bool, true, false, if◌then◌else◌, codes, Option, None, Some, refl}
+use Rattle.std.proofs.Common.{◌≡◌, Bool, true, false, if◌then◌else◌, codes, None, Some, refl}
 use Rattle.std.specs.Str.{bytes_eq}
 use Rattle.fs_text.specs.Words.{without_spaces, word_of, behind_word}
 use Rattle.fs_text.specs.Texts.{Text}

@@ -20,7 +20,7 @@ use Rattle.fs_api.specs.Words.{behind_quoted, quoted_word}
 use Rattle.fs_api.specs.Originates.{plain_word, originate_with, originate_to, originate_of}
 use Rattle.fs_api.specs.Readings.{needs, global_setvar_of, global_getvar_of, msleep_for, uuid_exists_of, uuid_kill_of, uuid_getvar_of}
 use Rattle.fs_api.specs.Readings.{uuid_bridge_of, uuid_park_of, hupall_of, api_named}
-use Rattle.fs_api.specs.Transfers.{word_named, is_exten, transfer_to, transfer_words, uuid_transfer_of}
+use Rattle.fs_api.specs.Transfers.{word_named, is_exten, uuid_transfer_of}
 use Rattle.fs_api.specs.Ranges.{IsShort, AreShort, IsInRange}
 
 -- what holds of both parts of a choice holds of the choice

@@ -1,5 +1,5 @@
 -- The limits that the numbers and texts of an api command keep.
-use Rattle.std.specs.Prelude.{ℕ, ◌≤◌, length, Option, IfSome}
+use Rattle.std.specs.Prelude.{◌≤◌, length, Option, IfSome}
 use Rattle.fs_text.specs.Texts.{Text}
 use Rattle.fs_orig.specs.Timeouts.{IsTimeout}
 use Rattle.fs_api.specs.declared.api.Api.{Api}

@@ -1,5 +1,5 @@
 -- How the arguments of `uuid_transfer` are read.
-use Rattle.std.specs.Prelude.{ℕ, ◌==◌, Bool, false, not, ◌&&◌, if◌then◌else◌, [], ◌∷◌, Option, None, Some}
+use Rattle.std.specs.Prelude.{◌==◌, Bool, false, not, ◌&&◌, if◌then◌else◌, [], ◌∷◌, Option, None, Some}
 use Rattle.fs_text.specs.Words.{word_of, behind_word}
 use Rattle.fs_text.specs.Texts.{Text}
 use Rattle.fs_orig.specs.Endpoints.{is_short}

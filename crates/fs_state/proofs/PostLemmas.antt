@@ -9,10 +9,9 @@ use Rattle.std.proofs.lemmas.List.{at_drop_more, get_or-drop, length-map, length
 use Rattle.std.proofs.lemmas.List.Elements.{filter_more}
 use Rattle.std.proofs.lemmas.List.Sums.{length-filter, count_by-le-length}
 use Rattle.fs_text.specs.Texts.{Text}
-use Rattle.fs_text.specs.declared.event_names.EventName.{EventName}
 use Rattle.fs_event.specs.declared.event.Event.{Event as Telling}
 use Rattle.fs_event.specs.Texts.{frame}
-use Rattle.fs_filter.specs.Subscriptions.{Subscription, HearsNothing, has_event, lets_through, wants}
+use Rattle.fs_filter.specs.Subscriptions.{Subscription, HearsNothing, lets_through, wants}
 use Rattle.fs_places.specs.declared.numbered.Numbered.{Numbered}
 use Rattle.fs_places.specs.Places.{held_in, first_place, IsEmptyFrom}
 use Rattle.fs_places.specs.Rows.{place_of}

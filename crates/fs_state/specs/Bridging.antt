@@ -1,19 +1,15 @@
 -- How two channels are joined by a bridge, and how one leaves what it was in.
-use Rattle.std.specs.Prelude.{ℕ, ◌==◌, Bool, not, ◌&&◌, if◌then◌else◌, [], List, ◌++◌, Option, None, Some, is_none, map}
-use Rattle.fs_text.specs.Texts.{Text}
-use Rattle.fs_text.specs.declared.causes.Cause.TheVariants.{NormalClearing, OriginatorCancel}
+use Rattle.std.specs.Prelude.{ℕ, ◌==◌, Bool, not, ◌&&◌, if◌then◌else◌, Option, None, Some, is_none}
 use Rattle.fs_text.specs.declared.event_names.EventName.TheVariants.{ChannelBridge}
 use Rattle.fs_bridge.specs.declared.row.Row.{Row}
 use Rattle.fs_bridge.specs.declared.row.BridgeKind.{BridgeKind}
-use Rattle.fs_bridge.specs.After.{after_bridge}
 use Rattle.fs_bridge.specs.Bridges.{next_row}
-use Rattle.fs_bridge.specs.Closure.{peer_in}
 use Rattle.fs_chan.specs.declared.chan.Chan.{Chan}
 use Rattle.fs_chan.specs.declared.peer.Peer.{Peer}
 use Rattle.fs_chan.specs.Bridging.{bridged}
 use Rattle.fs_state.specs.declared.event.Event.{Event}
 use Rattle.fs_state.specs.declared.event.Detail.TheVariants.{Bridge}
-use Rattle.fs_state.specs.Switch.{Switch, chan_at, bridge_at, next_bridge_number, with_bridge, with_event}
+use Rattle.fs_state.specs.Switch.{Switch, chan_at, bridge_at, with_bridge, with_event}
 use Rattle.fs_state.specs.Moves.{with_changed_chan}
 use Rattle.fs_state.specs.Hangups.{lives_at}
 

@@ -1,5 +1,5 @@
 -- A connection that is given what it subscribed, changed, is changed so.
-use Rattle.std.proofs.Common.{◌≡◌, ℕ, Option, None, Some, Bool, true, false, refl, ap, ◌∙◌, if◌then◌else◌}
+use Rattle.std.proofs.Common.{◌≡◌, ℕ, Option, None, Some, Bool, refl, ap, ◌∙◌, if◌then◌else◌}
 use Rattle.fs_text.specs.Texts.{Text}
 use Rattle.fs_cmd.specs.Frames.{no_keywords}
 use Rattle.fs_filter.specs.Asked.{Asked, is_known}

@@ -17,11 +17,11 @@ use Rattle.fs_chan.specs.declared.chan.Chan.{Chan}
 use Rattle.fs_chan.specs.declared.peer.Peer.{Peer}
 use Rattle.fs_chan.specs.Bridging.{awaited_by, unbridged, at_leisure}
 use Rattle.fs_chan.specs.Changes.{is_live, at_rest, parked}
-use Rattle.fs_places.specs.Places.{held_in, with_held}
+use Rattle.fs_places.specs.Places.{held_in}
 use Rattle.fs_state.specs.declared.event.Event.{Event}
 use Rattle.fs_state.specs.Switch.{Switch, chan_at, with_chan, bridge_at, without_bridge, with_event}
 use Rattle.fs_state.specs.Moves.{application_event, running_at, with_changed_chan, after_move, orig_given_up}
-use Rattle.fs_state.specs.Hangups.{lives, lives_at, has_peer, world_of, row_at, after_end, after_outliving, after_survival, after_hangups}
+use Rattle.fs_state.specs.Hangups.{lives_at, has_peer, world_of, row_at, after_end, after_outliving, after_survival, after_hangups}
 use Rattle.fs_state.specs.Leaving.{leaver, dropped_by, left_behind, after_parting, after_leaving_others}
 use Rattle.fs_machine.specs.Joining.{after_leaving}
 use Rattle.fs_machine.specs.Leaving.{after_departure}

@@ -11,7 +11,7 @@ use Rattle.fs_bridge.proofs.RowLemmas.{one_if, none_counted, none_found}
 use Rattle.fs_state.specs.declared.event.Event.{Event}
 use Rattle.fs_state.specs.Switch.{Switch, empty, at_moment}
 use Rattle.fs_machine.specs.declared.entry.Entry.{Entry}
-use Rattle.fs_machine.specs.BridgeEvents.{begins, ends, begun, ended, stands, WasDrawn, BridgesAreTold, events_in}
+use Rattle.fs_machine.specs.BridgeEvents.{begins, ends, begun, ended, WasDrawn, BridgesAreTold, events_in}
 use Rattle.fs_machine.specs.Events.{events_by, happened_from, events_of}
 use Rattle.fs_machine.specs.Runs.{run_from}
 use Rattle.fs_machine.specs.Step.{act_done, step}

@@ -1,10 +1,10 @@
 -- Each act tells of the bridges that begin and of those that end.
-use Rattle.std.proofs.Common.{◌≡◌, ℕ, ◌+◌, true, List, [], ◌∷◌, ◌++◌, Option, None, Some, refl, ap, ◌∙◌, arith}
+use Rattle.std.proofs.Common.{◌≡◌, ℕ, true, List, [], ◌∷◌, ◌++◌, Option, None, Some, refl, ap, ◌∙◌, arith}
 use Rattle.std.specs.Prelude.{unwrap_or}
 use Rattle.std.proofs.lemmas.List.Sums.{sum_by_push}
 use Rattle.fs_bridge.specs.declared.row.BridgeKind.{BridgeKind}
 use Rattle.fs_bridge.specs.declared.row.Row.{Row}
-use Rattle.fs_bridge.specs.Bridges.{has_number, next_row, joined}
+use Rattle.fs_bridge.specs.Bridges.{has_number, next_row}
 use Rattle.fs_bridge.proofs.RowLemmas.{one_if}
 use Rattle.fs_orig.specs.declared.winner.Winner.{Winner}
 use Rattle.fs_chan.specs.declared.chan.Chan.{Chan}

@@ -43,7 +43,7 @@ use Rattle.fs_state.specs.Switch.{next_job_number, with_new_job, without_job, wi
 use Rattle.fs_state.specs.Moves.{plain_event, application_event, running_at, with_changed_chan, after_move, orig_changed_from, orig_changed}
 use Rattle.fs_state.specs.Moves.{leg_changed, is_owner, given_up_by, orig_given_up}
 use Rattle.fs_state.specs.Hangups.{lives, lives_at, row_at, unbridge_event, after_end, after_outliving, after_survival, after_hangups}
-use Rattle.fs_state.specs.Leaving.{dropped_by, left_behind, after_parting, after_leaving_others}
+use Rattle.fs_state.specs.Leaving.{dropped_by, after_parting, after_leaving_others}
 use Rattle.fs_state.specs.Bridging.{can_join, bridge_event, peer_of, with_peer_from, with_peer, joined_as}
 use Rattle.fs_machine.specs.Texts.{made_text, failed_text}
 use Rattle.fs_machine.specs.Connections.{conn_changed_from, conn_changed, admitted, parted, owed_since, not_owed, with_subs_changed}

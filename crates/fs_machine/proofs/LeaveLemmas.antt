@@ -1,5 +1,5 @@
 -- A channel leaves what it was in and lives on, step by step: a fact is kept that bears each single step.
-use Rattle.std.proofs.Common.{◌≡◌, ℕ, Bool, true, false, if◌then◌else◌, List, [], ◌∷◌, Option, None, Some, is_some, inl, inr, refl, sym, ap}
+use Rattle.std.proofs.Common.{◌≡◌, ℕ, true, false, [], ◌∷◌, Option, None, Some, is_some, refl, sym, ap}
 use Rattle.std.proofs.Common.{◌∙◌, option_and_then}
 use Rattle.std.specs.Prelude.{option_to_list}
 use Rattle.std.proofs.lemmas.Bool.{false≢true}
@@ -25,7 +25,7 @@ use Rattle.fs_state.specs.Hangups.{row_at, unbridge_event, after_end, after_surv
 use Rattle.fs_state.specs.Leaving.{dropped_by, left_behind, after_parting, after_leaving_others}
 use Rattle.fs_machine.specs.Joining.{after_leaving}
 use Rattle.fs_machine.specs.Leaving.{after_departure}
-use Rattle.fs_machine.proofs.Kept.{hold_in, IsApt, Links, links_of, Stays}
+use Rattle.fs_machine.proofs.Kept.{hold_in, Links, links_of, Stays}
 use Rattle.fs_machine.proofs.ShortLemmas.{sent_short}
 use Rattle.fs_machine.proofs.StayLemmas.{free_links, rest_free, rest_links, park_lives, routing_lives}
 use Rattle.fs_machine.proofs.HangLemmas.{Settles, ends_kept_by, survivals_kept_by}

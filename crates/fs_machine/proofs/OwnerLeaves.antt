@@ -6,14 +6,13 @@ use Rattle.fs_text.specs.declared.event_names.EventName.TheVariants.{ChannelExec
 use Rattle.fs_bridge.specs.declared.after.After.{After}
 use Rattle.fs_bridge.specs.declared.after.After.TheVariants.{GoOn, Hangup, Park}
 use Rattle.fs_bridge.specs.declared.row.Row.{Row}
-use Rattle.fs_bridge.specs.Closure.{Members}
 use Rattle.fs_chan.specs.declared.chan.Chan.{Chan}
 use Rattle.fs_chan.specs.Bridging.{awaited_by, unbridged}
 use Rattle.fs_chan.specs.Changes.{at_rest, parked}
 use Rattle.fs_state.specs.declared.event.Event.{Event}
 use Rattle.fs_state.specs.Switch.{Switch, chan_at, with_chan, without_bridge, with_event}
 use Rattle.fs_state.specs.Moves.{application_event, running_at, with_changed_chan, after_move}
-use Rattle.fs_state.specs.Hangups.{lives_at, row_at, after_end, after_outliving, after_survival, after_hangups}
+use Rattle.fs_state.specs.Hangups.{lives_at, row_at, after_outliving, after_survival, after_hangups}
 use Rattle.fs_state.specs.Leaving.{dropped_by, left_behind, after_parting, after_leaving_others}
 use Rattle.fs_machine.proofs.StayLemmas.{moved_there, changed_there}
 use Rattle.fs_machine.proofs.HangLemmas.{Falls, Cut, Unbridged, Rests, Parks}

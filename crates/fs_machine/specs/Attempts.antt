@@ -1,7 +1,6 @@
 -- Originations that jobs and channels try: how they begin, and what comes of them.
 use Rattle.std.specs.Prelude.{ℕ, ◌+◌, Bool, if◌then◌else◌, List, [], ◌++◌, take, drop, Option, None, Some, unwrap_or, slice_get}
 use Rattle.std.specs.Option.{option_and_then}
-use Rattle.fs_text.specs.Texts.{Text}
 use Rattle.fs_text.specs.declared.causes.Cause.{Cause}
 use Rattle.fs_text.specs.declared.causes.Cause.TheVariants.{NoAnswer, LoseRace}
 use Rattle.fs_chan.specs.declared.chan.Chan.{Chan}

@@ -1,5 +1,5 @@
 -- What the commands of the event socket do.
-use Rattle.std.specs.Prelude.{ℕ, [], Bool, true, false, Option, None, Some, if◌then◌else◌}
+use Rattle.std.specs.Prelude.{ℕ, [], Option, None, Some, if◌then◌else◌}
 use Rattle.std.specs.Str.{bytes_eq}
 use Rattle.fs_text.specs.Texts.{Text}
 use Rattle.fs_cmd.specs.declared.command.Form.{Form}

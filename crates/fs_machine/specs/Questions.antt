@@ -1,5 +1,5 @@
 -- What is asked of a switch.
-use Rattle.std.specs.Prelude.{ℕ, Bool, Option, None, Some, is_some, count_by}
+use Rattle.std.specs.Prelude.{ℕ, Bool, Option, is_some, count_by}
 use Rattle.std.specs.Option.{option_and_then}
 use Rattle.fs_state.specs.declared.conn.Conn.{Conn}
 use Rattle.fs_state.specs.declared.conn.Parting.{Parting}

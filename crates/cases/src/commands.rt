@@ -37,15 +37,10 @@ fn tell_command(api: &Api, answer: &mut Answer) -> Result<(), Memory> {
         }
         Api::UuidGetvar { uuid, name } => answer.named("UuidGetvar", &[uuid, name]),
         Api::UuidPark { uuid } => answer.named("UuidPark", &[uuid]),
-        Api::UuidTransfer {
-            uuid,
-            exten,
-            dialplan,
-            context,
-        } => {
-            answer.named("UuidTransfer", &[uuid, exten]);
-            tell_word("dialplan", dialplan.as_ref(), answer);
-            tell_word("context", context.as_ref(), answer);
+        Api::UuidTransfer { uuid, to } => {
+            answer.named("UuidTransfer", &[uuid, &to.exten]);
+            tell_word("dialplan", to.dialplan.as_ref(), answer);
+            tell_word("context", to.context.as_ref(), answer);
         }
         Api::Hupall { cause } => {
             answer.named("Hupall", &[]);

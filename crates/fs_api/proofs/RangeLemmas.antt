@@ -9,7 +9,10 @@ use Rattle.fs_text.specs.Number.{read_u64}
 use Rattle.fs_text.specs.declared.memory.Memory.{Memory}
 use Rattle.fs_orig.specs.declared.winner.Winner.{Winner}
 use Rattle.fs_orig.specs.Timeouts.{IsTimeout, seconds_within}
-use Rattle.fs_orig.specs.Endpoints.{is_short}
+use Rattle.fs_chan.specs.declared.target.Target3.{Target3}
+use Rattle.fs_chan.specs.Changes.{IsShortTarget}
+use Rattle.fs_app.specs.Targets.{target_in}
+use Rattle.fs_app.proofs.TargetLemmas.{words_short}
 use Rattle.fs_api.specs.declared.api.Api.{Api}
 use Rattle.fs_api.specs.declared.api.Api.TheVariants.{Expand, UuidGetvar, UuidBridge}
 use Rattle.fs_api.specs.declared.usages.Which.{Which}
@@ -20,8 +23,8 @@ use Rattle.fs_api.specs.Words.{behind_quoted, quoted_word}
 use Rattle.fs_api.specs.Originates.{plain_word, originate_with, originate_to, originate_of}
 use Rattle.fs_api.specs.Readings.{needs, global_setvar_of, global_getvar_of, msleep_for, uuid_exists_of, uuid_kill_of, uuid_getvar_of}
 use Rattle.fs_api.specs.Readings.{uuid_bridge_of, uuid_park_of, hupall_of, api_named}
-use Rattle.fs_api.specs.Transfers.{word_named, is_exten, uuid_transfer_of}
-use Rattle.fs_api.specs.Ranges.{IsShort, AreShort, IsInRange}
+use Rattle.fs_api.specs.Transfers.{transfer_to, uuid_transfer_of}
+use Rattle.fs_api.specs.Ranges.{IsInRange}
 
 -- what holds of both parts of a choice holds of the choice
 either : {A : Type 0} (P : A → Type 0) (test : Bool) (x y : A) → (test ≡ true → P x) → (test ≡ false → P y) → P (if test then x else y)
@@ -64,34 +67,13 @@ hanging_in_range : (arguments : Text) → IsInRange (hupall_of arguments)
 hanging_in_range [] = tt
 hanging_in_range (byte ∷ bytes) = tt
 
-short_of : (text : Text) → is_short text ≡ true → IsShort text
-short_of text short = grind (arith, nat_tests)
-
-named_short : (word : Text) → is_short word ≡ true → IfSome (word_named word) IsShort
-named_short [] short = tt
-named_short (byte ∷ bytes) short = short_of (byte ∷ bytes) short
-
-transferred_short : (exten dialplan context : Text) → (is_exten exten && is_short exten && is_short dialplan && is_short context) ≡ true →
-    AreShort exten (word_named dialplan) (word_named context)
-transferred_short exten dialplan context all = by (is_exten exten) (is_short exten) refl (is_short dialplan) refl (is_short context) refl all
-  where
-    by : (first second : Bool) → is_short exten ≡ second → (third : Bool) → is_short dialplan ≡ third → (fourth : Bool) →
-        is_short context ≡ fourth → (first && second && third && fourth) ≡ true → AreShort exten (word_named dialplan) (word_named context)
-    by true true one true two true three all =
-        record { first = short_of exten one; second = named_short dialplan two; third = named_short context three }
-    by false second one third two fourth three all = absurd (cc)
-    by true false one third two fourth three all = absurd (cc)
-    by true true one false two fourth three all = absurd (cc)
-    by true true one true two false three all = absurd (cc)
+transferred_in_range : (uuid : Text) (to : Option Target3) → IfSome to IsShortTarget → IsInRange (transfer_to uuid to)
+transferred_in_range uuid None short = tt
+transferred_in_range uuid (Some to) short = short
 
 transferring_in_range : (arguments : Text) → IsInRange (uuid_transfer_of arguments)
 transferring_in_range arguments =
-    let behind : Text = behind_word arguments in
-    let exten : Text = word_of behind in
-    let dialplan : Text = word_of (behind_word behind) in
-    let context : Text = word_of (behind_word (behind_word behind)) in
-    either IsInRange (is_exten exten && is_short exten && is_short dialplan && is_short context) _ _
-    (transferred_short exten dialplan context) (λ _. tt)
+    transferred_in_range (word_of arguments) (target_in (behind_word arguments)) (words_short (behind_word arguments))
 
 hour_of : (n : ℕ) → nat_le n 3600000 ≡ true → n ≤ 3600000
 hour_of n within = grind (arith, nat_tests)

@@ -1,6 +1,7 @@
 //! The api commands.
 
 use crate::usages::Which;
+use fs_chan::Target3;
 use fs_orig::Winner;
 use fs_text::{Cause, Txt};
 
@@ -43,9 +44,7 @@ pub enum Api {
     /// A channel is to leave what it is in, and to be routed anew. A dialplan or context that is not given stays.
     UuidTransfer {
         uuid: Txt,
-        exten: Txt,
-        dialplan: Option<Txt>,
-        context: Option<Txt>,
+        to: Target3,
     },
     /// Two channels are to be joined.
     UuidBridge {
@@ -95,9 +94,7 @@ impl Drop for Api {
             Api::UuidPark { uuid: _uuid } => {}
             Api::UuidTransfer {
                 uuid: _uuid,
-                exten: _exten,
-                dialplan: _dialplan,
-                context: _context,
+                to: _to,
             } => {}
             Api::UuidBridge {
                 uuid: _uuid,

@@ -1,14 +1,15 @@
 -- What an application is asked to do, by its name and its argument.
-use Rattle.std.specs.Prelude.{ℕ, ◌==◌, nat_le, Bool, false, not, ◌||◌, ◌&&◌, if◌then◌else◌, [], ◌∷◌, Option, None, Some, codes}
+use Rattle.std.specs.Prelude.{ℕ, nat_le, ◌||◌, if◌then◌else◌, Option, None, Some, codes}
 use Rattle.std.specs.Str.{bytes_eq}
 use Rattle.fs_text.specs.Number.{read_u64}
-use Rattle.fs_text.specs.Words.{without_spaces, word_of, behind_word}
+use Rattle.fs_text.specs.Words.{without_spaces, word_of}
 use Rattle.fs_text.specs.Cause.{cause_or_clearing}
 use Rattle.fs_text.specs.Texts.{Text}
-use Rattle.fs_orig.specs.Endpoints.{is_short}
 use Rattle.fs_chan.specs.declared.assignment.Assignment.{Assignment}
 use Rattle.fs_chan.specs.Assignments.{assignment_named}
 use Rattle.fs_chan.specs.Changes as changes
+use Rattle.fs_chan.specs.declared.target.Target3.{Target3}
+use Rattle.fs_app.specs.Targets.{target_in}
 use Rattle.fs_app.specs.declared.application.Application.{Application}
 use Rattle.fs_app.specs.declared.application.Application.TheVariants as app
 
@@ -28,29 +29,10 @@ hangup_application argument = app.Hangup (cause_or_clearing (word_of (without_sp
 
 -- ---- routing
 
--- a word, if there is one
-abbrev pub word_named : Text → Option Text
-word_named [] = None
-word_named (byte ∷ bytes) = Some (byte ∷ bytes)
-
--- a word that can be an extension: it is there, and begins with no `-`
-abbrev pub is_exten : Text → Bool
-is_exten [] = false
-is_exten (byte ∷ bytes) = not (byte == 45)
-
--- to be routed to these words
-abbrev pub transfer_to : Text → Text → Text → Application
-transfer_to exten dialplan context =
-    app.Transfer (record { exten = exten; dialplan = word_named dialplan; context = word_named context })
-
--- the same where there is an extension, and each word has at most 256 bytes
-abbrev pub transfer : Text → Text → Text → Application
-transfer exten dialplan context =
-    if is_exten exten && is_short exten && is_short dialplan && is_short context then transfer_to exten dialplan context else app.Unknown
-
--- the first three words of a text that begins with no space
-abbrev pub transfer_application : Text → Application
-transfer_application text = transfer (word_of text) (word_of (behind_word text)) (word_of (behind_word (behind_word text)))
+-- a transfer to where words send a channel, if they send it anywhere
+abbrev pub transfer_to : Option Target3 → Application
+transfer_to None = app.Unknown
+transfer_to (Some to) = app.Transfer to
 
 -- ---- all of them
 
@@ -68,7 +50,7 @@ application_of name argument =
     else (if bytes_eq name (codes "hangup") then hangup_application argument
     else (if bytes_eq name (codes "bridge") then app.Bridge argument
     else (if bytes_eq name (codes "park") then app.Park
-    else (if bytes_eq name (codes "transfer") then transfer_application (without_spaces argument)
+    else (if bytes_eq name (codes "transfer") then transfer_to (target_in (without_spaces argument))
     else app.Unknown)))))))
 
 -- the texts of a transfer can stand in a profile

@@ -3,5 +3,7 @@
 
 mod application;
 mod reading;
+mod target;
 
 pub use application::Application;
+pub use target::target_in;

@@ -257,8 +257,7 @@ module _ (conn : ℕ) (P : Fact) (calls : KeptByCalls P) (commands : KeptByComma
   done_plainly_kept (api.UuidGetvar uuid name) short h = commands.spent h
   done_plainly_kept (api.UuidBridge uuid other) short h = bridged_kept uuid other h
   done_plainly_kept (api.UuidPark uuid) short h = sent_kept parked uuid (λ c live lone free. parked_stays c live lone free) h
-  done_plainly_kept (api.UuidTransfer uuid exten dialplan context) short h =
-      let to : Target3 = record { exten = exten; dialplan = dialplan; context = context } in
+  done_plainly_kept (api.UuidTransfer uuid to) short h =
       sent_kept (transferred to) uuid (λ c live lone free. transferred_stays to c short live lone free) h
   done_plainly_kept (api.Hupall cause) {s} short h = commands.spent (calls.hung (map (λ slot. (slot, cause)) (all_slots s)) h)
   done_plainly_kept (api.Originate url winner cid_name cid_number timeout) short h =

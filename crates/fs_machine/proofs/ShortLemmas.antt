@@ -24,6 +24,8 @@ use Rattle.fs_app.specs.declared.application.Application.{Application}
 use Rattle.fs_app.specs.declared.application.Application.TheVariants as app
 use Rattle.fs_app.specs.Applications as apps
 use Rattle.fs_app.specs.Applications.{application_of}
+use Rattle.fs_app.specs.Targets.{target_in}
+use Rattle.fs_app.proofs.TargetLemmas.{words_short}
 use Rattle.fs_chan.specs.declared.assignment.Assignment.{Assignment}
 use Rattle.fs_chan.specs.Assignments.{assignment_named}
 use Rattle.fs_chan.specs.declared.peer.Direction.{Direction}
@@ -75,30 +77,9 @@ sent_short to p short h = record {
 
 -- ---- applications
 
-word_short : (word : Text) → length word ≤ 256 → IfSome (apps.word_named word) (λ text. length text ≤ 256)
-word_short [] short = tt
-word_short (byte ∷ bytes) short = short
-
--- what holds of both applications, by what the test says, holds of the one that it chooses
-app_by : (test : Bool) (x y : Application) → (test ≡ true → apps.IsShortApplication x) → (test ≡ false → apps.IsShortApplication y) →
-    apps.IsShortApplication (if test then x else y)
-app_by true x y first second = first refl
-app_by false x y first second = second refl
-
-routing_short : (exten dialplan context : Text) → apps.IsShortApplication (apps.transfer exten dialplan context)
-routing_short exten dialplan context =
-    let first : Bool = apps.is_exten exten && endpoints.is_short exten in
-    let second : Bool = first && endpoints.is_short dialplan in
-    app_by (second && endpoints.is_short context) (apps.transfer_to exten dialplan context) app.Unknown
-    (λ all.
-    let both : second ≡ true = left_holds second (endpoints.is_short context) all in
-    let one : first ≡ true = left_holds first (endpoints.is_short dialplan) both in
-    record {
-      exten = leb-true (length exten) 256 (right_holds (apps.is_exten exten) (endpoints.is_short exten) one);
-      dialplan = word_short dialplan (leb-true (length dialplan) 256 (right_holds first (endpoints.is_short dialplan) both));
-      context = word_short context (leb-true (length context) 256 (right_holds second (endpoints.is_short context) all));
-    })
-    (λ none. tt)
+target_short : (to : Option Target3) → IfSome to IsShortTarget → apps.IsShortApplication (apps.transfer_to to)
+target_short None short = tt
+target_short (Some to) short = short
 
 -- whichever name it has
 app_short : (answers evals sleeps hangs_up bridges parks transfers : Bool) (argument : Text) →
@@ -109,7 +90,7 @@ app_short : (answers evals sleeps hangs_up bridges parks transfers : Bool) (argu
     else (if hangs_up then apps.hangup_application argument
     else (if bridges then app.Bridge argument
     else (if parks then app.Park
-    else (if transfers then apps.transfer_application (without_spaces argument)
+    else (if transfers then apps.transfer_to (target_in (without_spaces argument))
     else app.Unknown)))))))
 app_short true evals sleeps hangs_up bridges parks transfers argument = tt
 app_short false true sleeps hangs_up bridges parks transfers argument = tt
@@ -117,9 +98,7 @@ app_short false false true hangs_up bridges parks transfers argument = tt
 app_short false false false true bridges parks transfers argument = tt
 app_short false false false false true parks transfers argument = tt
 app_short false false false false false true transfers argument = tt
-app_short false false false false false false true argument =
-    let text = without_spaces argument in
-    routing_short (word_of text) (word_of (behind_word text)) (word_of (behind_word (behind_word text)))
+app_short false false false false false false true argument = target_short _ (words_short (without_spaces argument))
 app_short false false false false false false false argument = tt
 
 assigned_short : (assignment : Option Assignment) (argument : Text) (other : Application) →
@@ -135,8 +114,7 @@ application_short name argument = assigned_short (assignment_named name) argumen
 
 abbrev pub NamesShort : Api → Type 0
 NamesShort (api.Originate url winner cid_name cid_number timeout) = IsShortWinner winner
-NamesShort (api.UuidTransfer uuid exten dialplan context) =
-    IsShortTarget (record { exten = exten; dialplan = dialplan; context = context })
+NamesShort (api.UuidTransfer uuid to) = IsShortTarget to
 NamesShort _ = Unit {0}
 
 winner_by : (test : Bool) (x y : Option Winner) → (test ≡ true → IfSome x IsShortWinner) → (test ≡ false → IfSome y IsShortWinner) →
@@ -207,36 +185,12 @@ reading_short : (arguments : Text) → NamesShort (readings.uuid_getvar_of argum
 reading_short arguments =
     needs_short which.UuidGetvar (λ name. api.UuidGetvar (word_of arguments) (word_of name)) (behind_word arguments) (λ name. tt)
 
-named_word_short : (word : Text) → endpoints.is_short word ≡ true → IfSome (transfers.word_named word) (λ t. length t ≤ 256)
-named_word_short [] short = tt
-named_word_short (byte ∷ bytes) short = leb-true (length (byte ∷ bytes)) 256 short
-
-transfer_by : (test : Bool) (x y : Api) → (test ≡ true → NamesShort x) → (test ≡ false → NamesShort y) → NamesShort (if test then x else y)
-transfer_by true x y first second = first refl
-transfer_by false x y first second = second refl
+transferred_short : (uuid : Text) (to : Option Target3) → IfSome to IsShortTarget → NamesShort (transfers.transfer_to uuid to)
+transferred_short uuid None short = tt
+transferred_short uuid (Some to) short = short
 
 transferring_short : (arguments : Text) → NamesShort (transfers.uuid_transfer_of arguments)
-transferring_short arguments =
-    let behind : Text = behind_word arguments in
-    let exten : Text = word_of behind in
-    let dialplan : Text = word_of (behind_word behind) in
-    let context : Text = word_of (behind_word (behind_word behind)) in
-    transfer_by (transfers.is_exten exten && endpoints.is_short exten && endpoints.is_short dialplan && endpoints.is_short context) _ _
-    (λ all. short_of exten dialplan context all) (λ none. tt)
-  where
-    short_of : (exten dialplan context : Text) →
-        (transfers.is_exten exten && endpoints.is_short exten && endpoints.is_short dialplan && endpoints.is_short context) ≡ true →
-        IsShortTarget (record { exten = exten; dialplan = transfers.word_named dialplan; context = transfers.word_named context })
-    short_of exten dialplan context all =
-        let first : Bool = transfers.is_exten exten && endpoints.is_short exten in
-        let two : (first && endpoints.is_short dialplan) ≡ true =
-        left_holds (first && endpoints.is_short dialplan) (endpoints.is_short context) all in
-        let one : first ≡ true = left_holds first (endpoints.is_short dialplan) two in
-        record {
-          exten = leb-true (length exten) 256 (right_holds (transfers.is_exten exten) (endpoints.is_short exten) one);
-          dialplan = named_word_short dialplan (right_holds first (endpoints.is_short dialplan) two);
-          context = named_word_short context (right_holds (first && endpoints.is_short dialplan) (endpoints.is_short context) all);
-        }
+transferring_short arguments = transferred_short (word_of arguments) _ (words_short (behind_word arguments))
 
 joining_short : (arguments : Text) → NamesShort (readings.uuid_bridge_of arguments)
 joining_short arguments =

@@ -110,8 +110,7 @@ done_plainly conn (api.UuidExists uuid) s = says (told_whether (is_some (slot_na
 done_plainly conn (api.UuidKill uuid cause) s = killed_as cause uuid s
 done_plainly conn (api.UuidBridge uuid other) s = uuid_bridge_done uuid other s
 done_plainly conn (api.UuidPark uuid) s = sent_done parked uuid s
-done_plainly conn (api.UuidTransfer uuid exten dialplan context) s =
-    sent_done (transferred (record { exten = exten; dialplan = dialplan; context = context })) uuid s
+done_plainly conn (api.UuidTransfer uuid to) s = sent_done (transferred to) uuid s
 done_plainly conn (api.UuidGetvar uuid name) s = says (variable_text name (chan_named uuid s)) s
 done_plainly conn (api.Hupall cause) s = hupall_done cause s
 done_plainly conn (api.Originate url winner cid_name cid_number timeout) s =

@@ -2,13 +2,26 @@
 use Rattle.std.specs.Prelude.{ℕ, if◌then◌else◌, Option, None, Some}
 use Rattle.fs_text.specs.Texts.{Text}
 use Rattle.fs_chan.specs.declared.chan.Chan.{Chan}
+use Rattle.fs_chan.specs.Changes.{parked, transferred, IsShortTarget}
 use Rattle.fs_state.specs.Switch.{Switch, chan_at, slot_named}
 use Rattle.fs_state.specs.Moves.{after_move}
 use Rattle.fs_state.specs.Hangups.{lives_at}
 use Rattle.fs_state.specs.Leaving.{after_leaving_others}
+use Rattle.fs_machine.specs.declared.leaving.Onward.{Onward}
+use Rattle.fs_machine.specs.declared.leaving.Onward.TheVariants.{Park, Transfer}
 use Rattle.fs_machine.specs.Done.{Done, says}
 use Rattle.fs_machine.specs.Joining.{is_ready, after_leaving}
 use Rattle.fs_machine.specs.Texts.{ok, no_channel, not_ready}
+
+-- what becomes of a channel that is sent on
+abbrev pub moved_on : Onward → Chan → Chan
+moved_on Park = parked
+moved_on (Transfer to) = transferred to
+
+-- a channel can be routed where it is sent
+abbrev pub IsShortOnward : Onward → Type 0
+IsShortOnward Park = Unit {0}
+IsShortOnward (Transfer to) = IsShortTarget to
 
 -- the channel in a slot has left its bridge and the legs that it dialed, and runs and waits for nothing
 abbrev pub after_departure : ℕ → Switch → Switch

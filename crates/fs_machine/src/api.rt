@@ -17,7 +17,7 @@ use crate::globals::set_global;
 use crate::hangups::hang_up_everyone;
 use crate::jobs::begin_sleep;
 use crate::joining::bridge_channels;
-use crate::leaving::{park_channel, target_of, transfer_channel};
+use crate::leaving::{Onward, send_channel};
 use crate::texts::{api_not_found, failed_text, hupall_text, says, usage_text};
 use fs_api::{Api, usage};
 use fs_chan::Chan;
@@ -89,15 +89,10 @@ fn run_plainly(draft: &mut Draft<'_>, conn: u32, api: &Api) -> Result<Option<Txt
         Api::UuidExists { uuid } => tell_whether(draft, uuid),
         Api::UuidKill { uuid, cause } => kill(draft, uuid, *cause),
         Api::UuidBridge { uuid, other } => bridge_channels(draft, uuid, other),
-        Api::UuidPark { uuid } => park_channel(draft, uuid),
-        Api::UuidTransfer {
-            uuid,
-            exten,
-            dialplan,
-            context,
-        } => {
-            let to = target_of(exten, dialplan.as_ref(), context.as_ref())?;
-            transfer_channel(draft, uuid, to)
+        Api::UuidPark { uuid } => send_channel(draft, uuid, Onward::Park),
+        Api::UuidTransfer { uuid, to } => {
+            let to = to.copy()?;
+            send_channel(draft, uuid, Onward::Transfer(to))
         }
         Api::UuidGetvar { uuid, name } => get_variable(draft, uuid, name),
         Api::Hupall { cause } => hang_up_all(draft, *cause),

@@ -48,11 +48,9 @@ impl Api {
 pub fn echoed(text: &[u8]) -> Option<&[u8]>
     ensures { option_map (λ t. t.now) result ≡ spec.echoed text.now }
 {
-    let (name, arguments) = cut_word(without_spaces(text));
-    if name == b"echo".as_slice() {
-        Some(arguments)
-    } else {
-        None
+    match cut_word(without_spaces(text)) {
+        (b"echo", arguments) => Some(arguments),
+        _ => None,
     }
 }
 

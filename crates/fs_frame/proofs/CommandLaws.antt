@@ -95,7 +95,8 @@ pub IsCommandAt-head : (head more : List ℕ) (command : CommandLine) → IsHead
 IsCommandAt-head head more command is_head is = record {
   within = omega (arith, is.within, length-append head more);
   text = span_bytes-append head more command.text is.within ∙ is.text
-      ∙ ap (λ (bs : List ℕ). first_text (lines_of bs)) (sym (append-nil head)) ∙ first_text-head head [] is_head ∙ sym (first_text-head head more is_head);
+      ∙ ap (λ (bs : List ℕ). first_text (lines_of bs)) (sym (append-nil head)) ∙ first_text-head head [] is_head
+      ∙ sym (first_text-head head more is_head);
   end_within = omega (arith, is.end_within, length-append head more);
   end_is = is.end_is
       ∙ ap length

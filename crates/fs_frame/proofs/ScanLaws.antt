@@ -280,7 +280,8 @@ any-more lines line =
 
 -- the command line stays where it is
 IsCommandAt-more : (passed line : List ℕ) (command : CommandLine) → IsCommandAt passed command →
-    list_any has_text (lines_of passed) ≡ true → lines_of (passed ++ line) ≡ lines_of passed ++ line ∷ [] → IsCommandAt (passed ++ line) command
+    list_any has_text (lines_of passed) ≡ true → lines_of (passed ++ line) ≡ lines_of passed ++ line ∷ [] →
+    IsCommandAt (passed ++ line) command
 IsCommandAt-more passed line command is met lines = record {
   within = omega (arith, is.within, length-append passed line);
   text = rw (lines, first_text-append (lines_of passed) (line ∷ []), met) (span_bytes-append passed line command.text is.within ∙ is.text);

@@ -6,9 +6,7 @@ use crate::hearing::{tell_heard, tell_posted};
 use crate::plays::machine_of;
 use crate::table::Table;
 use fs_conn::play;
-use fs_doc::read_config;
 use fs_machine::{Entry, Journal, Machine, Reply};
-use fs_plan::Dialplan;
 use fs_state::{Detail, Event};
 use fs_text::{EventName, Memory};
 use std::alloc::Global;
@@ -35,17 +33,10 @@ pub(crate) fn tell_bridging(
     told: Told,
     answer: &mut Answer,
 ) -> Result<(), Memory> {
-    let mut files = table.files()?;
     let mut link = table.link(ROOM)?;
-    let Ok(config) = read_config(alloc, table.file()) else {
-        answer.line(&[b"no document"]);
+    let Some(mut machine) = machine_of(alloc, table, answer)? else {
         return Ok(());
     };
-    let Ok(plan) = Dialplan::build(alloc, &config, &mut files) else {
-        answer.line(&[b"no dialplan"]);
-        return Ok(());
-    };
-    let mut machine = Machine::new(alloc, config, plan)?;
     let _end = play(alloc, &mut machine, &mut link);
     let written = link.written();
     match told {

@@ -1,5 +1,7 @@
 //! Plays of one connection, with the events that they give.
 
+ghost use Rattle.std.specs.Prelude.{◌≡◌, [], IfOk, IfSome};
+
 use crate::answer::Answer;
 use crate::table::Table;
 use fs_conn::{End, play};
@@ -20,17 +22,10 @@ pub(crate) fn tell_play(
     counts: bool,
     answer: &mut Answer,
 ) -> Result<(), Memory> {
-    let mut files = table.files()?;
     let mut link = table.link(ROOM)?;
-    let Ok(config) = read_config(alloc, table.file()) else {
-        answer.line(&[b"no document"]);
+    let Some(mut machine) = machine_of(alloc, table, answer)? else {
         return Ok(());
     };
-    let Ok(plan) = Dialplan::build(alloc, &config, &mut files) else {
-        answer.line(&[b"no dialplan"]);
-        return Ok(());
-    };
-    let mut machine = Machine::new(alloc, config, plan)?;
     let end = play(alloc, &mut machine, &mut link);
     answer.lines(link.written());
     tell_end(&machine, end, answer);
@@ -45,7 +40,9 @@ pub(crate) fn machine_of(
     alloc: Global,
     table: &Table,
     answer: &mut Answer,
-) -> Result<Option<Machine>, Memory> {
+) -> Result<Option<Machine>, Memory>
+    ensures begun { IfOk result (λ made. IfSome made (λ machine. machine.journal ≡ [])) }
+{
     let mut files = table.files()?;
     let Ok(config) = read_config(alloc, table.file()) else {
         answer.line(&[b"no document"]);

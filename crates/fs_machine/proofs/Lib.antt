@@ -1,3 +1,4 @@
+pub mod ArgumentLemmas
 pub mod RunLemmas
 pub mod GroupLemmas
 pub mod FrameLemmas

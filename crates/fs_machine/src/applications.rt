@@ -1,6 +1,8 @@
 //! What applications do, and how a channel runs what is next.
 
-ghost use Rattle.std.specs.Prelude.{◌≡◌, IfOk};
+ghost use Rattle.std.specs.Prelude.{◌≡◌, true, Some, IfOk};
+ghost use Rattle.fs_vars.specs.Pairs.{Pairs};
+ghost use Rattle.fs_vars.specs.Expansion.{expanded};
 ghost use Rattle.fs_state.specs.Drafts.{drafted, Brings};
 ghost use Rattle.fs_state.specs.Moves.{after_move, after_answer, after_completion};
 ghost use Rattle.fs_chan.specs.Work.{after_next};
@@ -12,8 +14,11 @@ use crate::dialing::dial_bridge;
 use fs_app::Application;
 use fs_chan::{Action, Assignment, Chan};
 use fs_state::Draft;
-use fs_text::{Cause, Memory, State, Txt};
+use fs_text::{Cause, Memory, State, Txt, place_of};
 use fs_vars::{Refused, Scope, expand};
+
+/// The most bytes of an argument.
+const LONGEST_ARGUMENT: usize = 65_536;
 
 /// Runs what a channel is to run next, which is used up; a channel that has nothing to run is hung up.
 #[tactic(auto, unfolding(crate::specs::Applications::after_running))]
@@ -31,11 +36,14 @@ pub(crate) fn run_next(draft: &mut Draft<'_>, slot: u16) -> Result<(), Memory>
     execute_within(draft, slot, application, argument)
 }
 
-// Expands an argument over what a channel knows, unless it gets too long.
+// Expands an argument over what a channel knows, unless it gets too long. One that stands as it is written is shared.
 #[tactic(auto, unfolding(fs_vars::specs::Scopes::known_in))]
 fn argument_in(draft: &Draft<'_>, chan: &Chan, text: &Txt) -> Result<Option<Txt>, Memory>
     ensures { IfOk result (λ found. found ≡ spec.argument_in chan.now (drafted draft.now) text.now) }
 {
+    if is_plain(text.as_bytes()) {
+        return Ok(Some(text.copy()?));
+    }
     let scope = Scope {
         vars: &*chan.vars,
         profile: &*chan.profile,
@@ -46,6 +54,15 @@ fn argument_in(draft: &Draft<'_>, chan: &Chan, text: &Txt) -> Result<Option<Txt>
         Err(Refused::TooLong { .. }) => Ok(None),
         Err(Refused::Memory) => Err(Memory),
     }
+}
+
+// Whether an argument has nothing to expand, and is not too long.
+#[tactic(auto, using(crate::proofs::ArgumentLemmas::plain_stands))]
+fn is_plain(text: &[u8]) -> bool
+    ensures { result ≡ true
+        → (known : Pairs) → spec.unless_too_long (expanded known text.now) ≡ Some text.now }
+{
+    text.len() <= LONGEST_ARGUMENT && place_of(b'$', text) == text.len()
 }
 
 // Runs what a channel is to run next, which is used up, unless its argument is too long.

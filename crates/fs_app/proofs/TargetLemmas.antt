@@ -1,5 +1,5 @@
 -- Where words send a channel has texts that can stand in a profile.
-use Rattle.std.proofs.Common.{◌≡◌, ◌≤◌, Bool, true, false, ◌&&◌, if◌then◌else◌, [], ◌∷◌, length, Option, None, Some, IfSome, refl}
+use Rattle.std.proofs.Common.{◌≡◌, ◌≤◌, Bool, true, false, ◌&&◌, if◌then◌else◌, [], ◌∷◌, length, None, Some, IfSome, refl}
 use Rattle.std.proofs.lemmas.Bool.{leb-true}
 use Rattle.fs_text.specs.Words.{word_of, behind_word}
 use Rattle.fs_text.specs.Texts.{Text}

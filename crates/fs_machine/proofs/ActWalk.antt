@@ -40,7 +40,6 @@ use Rattle.fs_text.specs.declared.causes.Cause.TheVariants.{OriginatorCancel}
 use Rattle.fs_text.specs.declared.states.State.TheVariants.{CsExchangeMedia}
 use Rattle.fs_chan.specs.Changes.{in_state, is_live, parked, transferred}
 use Rattle.fs_chan.specs.declared.chan.Chan.{Chan}
-use Rattle.fs_chan.specs.declared.target.Target3.{Target3}
 use Rattle.fs_chan.specs.declared.wait.Wait.TheVariants.{Ready}
 use Rattle.fs_state.specs.Switch.{Switch, chan_at, job_of, slot_named, is_full_of_jobs}
 use Rattle.fs_state.specs.Moves.{plain_event, after_move}

@@ -11,9 +11,9 @@ use Rattle.fs_frame.specs.Lines.{text_of, has_text, lines_of, behind_command}
 use Rattle.fs_frame.specs.declared.length.Declared.{Declared}
 use Rattle.fs_frame.specs.declared.length.Declared.TheVariants.{Length, Malformed}
 
--- a blank: space or tab
+-- a blank: space, tab, CR or LF
 abbrev pub is_blank : ℕ → Bool
-is_blank byte = byte == 32 || byte == 9
+is_blank byte = byte == 32 || byte == 9 || byte == 13 || byte == 10
 
 -- the text without the blanks in front
 abbrev pub from_first : Text → Text

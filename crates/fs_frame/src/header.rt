@@ -132,9 +132,9 @@ fn up_to_last(text: &[u8]) -> &[u8]
     left
 }
 
-// Whether the byte is a space or a tab.
+// Whether the byte is a space, a tab, a CR or an LF.
 fn is_blank(byte: u8) -> bool
     ensures { result ≡ spec.is_blank byte }
 {
-    byte == b' ' || byte == b'\t'
+    byte == b' ' || byte == b'\t' || byte == b'\r' || byte == b'\n'
 }

@@ -1,5 +1,5 @@
 -- What bridges make of a channel: one that waits for the legs that it dialed, a leg of a bridge, and one whose bridge has ended.
-use Rattle.std.specs.Prelude.{ℕ, nat_eq, if◌then◌else◌, [], List, drop, Option, None, Some, option_map, codes}
+use Rattle.std.specs.Prelude.{ℕ, ◌==◌, nat_eq, if◌then◌else◌, [], List, length, drop, Option, None, Some, option_map, codes}
 use Rattle.std.specs.List.{filter_map, starts_with}
 use Rattle.fs_text.specs.declared.states.State.TheVariants.{CsExchangeMedia}
 use Rattle.fs_text.specs.declared.causes.Cause.{Cause}
@@ -52,9 +52,10 @@ at_leisure c = at_rest (record c { actions = [] })
 abbrev pub local_name : Text → Text
 local_name name = if starts_with nat_eq name (codes "nolocal:") then drop 8 name else name
 
--- the variable of a listed name, if it is there, under the name that a leg gets it by
+-- the variable of a listed name, if it is there, under the name that a leg gets it by; without such a name none
 abbrev pub exported_pair : Variables → Text → Option (Text × Text)
-exported_pair vars name = option_map (λ value. (local_name name, value)) (value_of vars.pairs name)
+exported_pair vars name =
+    if length (local_name name) == 0 then None else option_map (λ value. (local_name name, value)) (value_of vars.pairs name)
 
 -- the variables that are exported, in the order of their list
 abbrev pub exported_pairs : Variables → List (Text × Text)

@@ -102,7 +102,7 @@ fn exported_pairs(alloc: Global, vars: &Vars) -> Result<Headers, Memory>
     }
 }
 
-/// Puts the variable of a listed name behind all others, if it is there.
+/// Puts the variable of a listed name behind all others, if it is there and has a name on a leg.
 fn push_exported(
     alloc: Global,
     pairs: &mut Headers,
@@ -111,9 +111,12 @@ fn push_exported(
 ) -> Result<(), Memory>
     ensures ok { OnOk result (pairs.new ≡ pairs.old ++ option_to_list (spec.exported_pair vars.now listed.now)) }
 {
+    let name = local_name(listed);
+    if name.is_empty() {
+        return Ok(());
+    }
     if let Some(value) = vars.get(listed) {
-        let name = Txt::of(alloc, local_name(listed))?;
-        pairs.push(name, value.copy()?)?;
+        pairs.push(Txt::of(alloc, name)?, value.copy()?)?;
     }
     Ok(())
 }

@@ -1,0 +1,234 @@
+"""The api commands: how each is written, and what it answers.
+
+A command answers a text, or None where its answer is owed by the job that it began.
+"""
+
+import re
+from dataclasses import dataclass
+from typing import Callable
+
+import bridges
+from applications import may_be_routed, transfer
+from dialing import DialFault, read_dial_string
+from dialplan import Action
+from hangups import by_slot, hang_up, leave
+from originations import USUAL_SECONDS, Order, Route, originate
+from switch import DialJob, SleepJob
+from tables import State, cause_or, words_of
+from variables import LONGEST_NAME, ExpansionTooLong, expand, read_milliseconds, read_seconds, split_pair
+
+
+class WrongUsage(Exception):
+    """A needed word is missing, or a word is out of its range."""
+
+
+class Refused(Exception):
+    """The answer is an error with this text."""
+
+
+@dataclass(frozen=True)
+class Command:
+    usage: str
+    run: Callable
+    takes_text: bool = False
+
+
+COMMANDS = {}
+
+
+def command(name, usage="", takes_text=False):
+    """Makes a function the api command of this name, with the words behind the name or the whole text."""
+
+    def register(run):
+        COMMANDS[name] = Command(usage, run, takes_text)
+        return run
+
+    return register
+
+
+def answer(switch, text):
+    """What the api command answers that this text is."""
+    name = (words_of(text) or [""])[0]
+    if name not in COMMANDS:
+        return f"-ERR {name} Command not found!\n"
+    asked = COMMANDS[name]
+    rest = text.lstrip(" ")[len(name) :]
+    try:
+        return asked.run(switch, rest if asked.takes_text else words_of(rest))
+    except WrongUsage:
+        return f"-USAGE: {asked.usage}\n"
+    except Refused as refusal:
+        return f"-ERR {refusal}\n"
+
+
+def need(words, least):
+    if len(words) < least:
+        raise WrongUsage
+    return words
+
+
+def find(switch, name):
+    channel = switch.find(name)
+    if channel is None:
+        raise Refused("No such channel!")
+    return channel
+
+
+def find_ready(switch, name):
+    channel = find(switch, name)
+    if not channel.ready():
+        raise Refused("Channel not ready!")
+    return channel
+
+
+@command("echo", takes_text=True)
+def echo(_switch, text):
+    return text.lstrip(" ")
+
+
+@command("expand", "[uuid:U ]text*", takes_text=True)
+def expand_and_run(switch, text):
+    """What the text comes to is run as an api command. It is no expand again."""
+    if text.lstrip(" ") == "":
+        raise WrongUsage
+    try:
+        expanded = expand(text.lstrip(" "), lambda name: switch.globals.get(name, ""))
+    except ExpansionTooLong:
+        raise Refused("too long") from None
+    if words_of(expanded)[:1] == ["expand"]:
+        raise Refused("expand Command not found!")
+    return answer(switch, expanded)
+
+
+@command("global_getvar")
+def global_getvar(switch, words):
+    if words:
+        return switch.globals.get(words[0], "")
+    return "".join(f"{name}={value}\n" for name, value in switch.globals.values.items())
+
+
+@command("global_setvar", "<name>=<value>")
+def global_setvar(switch, words):
+    if not switch.globals.set(*split_pair(need(words, 1)[0])):
+        raise Refused("variable limit passed")
+    return "+OK\n"
+
+
+@command("msleep", "<milliseconds>")
+def msleep(switch, words):
+    milliseconds = read_milliseconds(need(words, 1)[0])
+    if milliseconds is None:
+        raise WrongUsage
+    switch.jobs[switch.begin_job()] = SleepJob(switch.now + milliseconds * 1000)
+
+
+@command("hupall")
+def hupall(switch, words):
+    """All live channels are hung up in one hangup, each of the one cause."""
+    cause = cause_or("NORMAL_CLEARING" if words else "MANAGER_REQUEST", words)
+    hang_up(switch, dict.fromkeys(switch.live_channels(), cause))
+    return f"+OK hangup all channels with cause {cause}\n"
+
+
+@command("uuid_exists", "<uuid>")
+def uuid_exists(switch, words):
+    return "true" if switch.find(need(words, 1)[0]) else "false"
+
+
+@command("uuid_getvar", "<uuid> <name>")
+def uuid_getvar(switch, words):
+    identifier, name = need(words, 2)[:2]
+    return find(switch, identifier).variables.get(name, "_undef_")
+
+
+@command("uuid_kill", "<uuid> [cause]")
+def uuid_kill(switch, words):
+    channel = find(switch, need(words, 1)[0])
+    hang_up(switch, {channel: cause_or("NORMAL_CLEARING", words[1:])})
+    return "+OK\n"
+
+
+@command("uuid_park", "<uuid>")
+def uuid_park(switch, words):
+    channel = find_ready(switch, need(words, 1)[0])
+    leave(switch, [channel])
+    if channel.live():
+        switch.park(channel)
+    return "+OK\n"
+
+
+@command("uuid_transfer", "<uuid> <exten> [dialplan] [context]")
+def uuid_transfer(switch, words):
+    identifier, *route = need(words, 2)[:4]
+    if not may_be_routed(route):
+        raise WrongUsage
+    transfer(switch, find_ready(switch, identifier), route)
+    return "+OK\n"
+
+
+@command("uuid_bridge", "<uuid> <other_uuid>")
+def uuid_bridge(switch, words):
+    """Both leave what they were in. Where one died of that, the other one stays as it is then."""
+    caller, other = bridgeable(switch, *need(words, 2)[:2])
+    leave(switch, [caller, other])
+    if not caller.live() or not other.live():
+        raise Refused("No such channel!")
+    bridges.join(switch, caller, other, bridges.Kind.JOINED)
+    for channel in by_slot([caller, other]):
+        switch.enter(channel, State.CS_EXCHANGE_MEDIA)
+    return f"+OK {other.identifier}\n"
+
+
+def bridgeable(switch, *identifiers):
+    """The two channels, unless something stands in the way of joining them."""
+    both = [find(switch, identifier) for identifier in identifiers]
+    if both[0] is both[1]:
+        raise Refused("Same channel!")
+    if not all(channel.ready() for channel in both):
+        raise Refused("Channel not ready!")
+    if not all(channel.answered for channel in both):
+        raise Refused("Channel not answered!")
+    if any(channel.bridge for channel in both):
+        raise Refused("Channel already bridged!")
+    return both
+
+
+USAGE_OF_ORIGINATE = "<call url> <exten>|&<app>(<args>) [dialplan] [context] [cid_name] [cid_num] [timeout]"
+
+
+@command("originate", USAGE_OF_ORIGINATE, takes_text=True)
+def originate_by_command(switch, text):
+    url, target, *rest = need(quoted_words(text), 2)
+    defaults = ["XML", "default", "", "", ""]
+    words = [target, *rest[:5], *defaults[len(rest) :]]
+    target, dialplan, context, name, number, seconds = map(without_quotes, words)
+    then = what_follows(target, dialplan, context)
+    try:
+        dial_string = read_dial_string(url)
+    except DialFault:
+        raise Refused("INVALID_NUMBER_FORMAT") from None
+    told = read_seconds(seconds) or read_seconds(dial_string.brace("originate_timeout")) or USUAL_SECONDS
+    job = switch.begin_job()
+    switch.jobs[job] = DialJob(originate(switch, Order(job, name, number, then), dial_string, told))
+
+
+def quoted_words(text):
+    """Words are separated by spaces outside of single quotes. A quote that is not closed runs to the end."""
+    return re.findall("(?:'[^']*'?|[^ '])+", text)
+
+
+def without_quotes(word):
+    """A word that is in quotes as a whole loses them."""
+    return re.sub("^'([^']*)'$", r"\1", word)
+
+
+def what_follows(target, dialplan, context):
+    """An application that the leg runs, or where it is routed. Arguments go up to the last `)`."""
+    measured = [dialplan, context] if target.startswith("&") else [target, dialplan, context]
+    if max(map(len, measured)) > LONGEST_NAME:
+        raise WrongUsage
+    if not target.startswith("&"):
+        return Route(target, dialplan, context)
+    application, _, arguments = target[1:].partition("(")
+    before, closing, _ = arguments.rpartition(")")
+    return Action(application, before if closing else arguments)

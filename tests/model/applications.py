@@ -1,0 +1,103 @@
+"""The applications that a channel runs as its actions."""
+
+from channels import Wait
+from dialing import DialFault, read_dial_string
+from dialplan import INLINE, assign
+from hangups import hang_up, leave
+from originations import USUAL_SECONDS, originate
+from races import fail_bridge
+from tables import State, cause_or, words_of
+from variables import LONGEST_NAME, ExpansionTooLong, expand, read_milliseconds, read_seconds
+
+TOLD_OF_ARGUMENT = 1024
+UNKNOWN_APPLICATION = "DESTINATION_OUT_OF_ORDER"
+
+
+def run_action(switch, channel, action):
+    """An argument that is too long uses the action up, and nothing is run."""
+    try:
+        argument = expand(action.data, switch.scope(channel))
+    except ExpansionTooLong:
+        hang_up(switch, {channel: "NORMAL_TEMPORARY_FAILURE"})
+        return
+    channel.running = (("Application", action.application), ("Application-Data", argument[:TOLD_OF_ARGUMENT]))
+    switch.tell("CHANNEL_EXECUTE", channel, channel.running)
+    if action.application in INLINE:
+        run_assignment(switch, channel, action.application, argument)
+    else:
+        APPLICATIONS.get(action.application, run_unknown)(switch, channel, argument)
+
+
+def run_assignment(switch, channel, application, argument):
+    assign(switch, channel, application, argument)
+    switch.complete(channel)
+
+
+def run_unknown(switch, channel, _argument):
+    hang_up(switch, {channel: UNKNOWN_APPLICATION})
+
+
+def run_answer(switch, channel, _argument):
+    switch.answer(channel)
+    switch.complete(channel)
+
+
+def run_sleep(switch, channel, argument):
+    """A sleep of no time, and one of what is no number, is over at once."""
+    milliseconds = read_milliseconds(argument)
+    if milliseconds:
+        channel.wait_for(Wait.SLEEP, wakes=switch.now + milliseconds * 1000)
+    else:
+        switch.complete(channel)
+
+
+def run_hangup(switch, channel, argument):
+    hang_up(switch, {channel: cause_or("NORMAL_CLEARING", words_of(argument))})
+
+
+def run_bridge(switch, channel, argument):
+    """A dial string with a fault is a failed bridge at once. Otherwise the channel waits for its legs."""
+    try:
+        dial_string = read_dial_string(argument)
+    except DialFault:
+        fail_bridge(switch, channel, "INVALID_NUMBER_FORMAT")
+        return
+    told = read_seconds(dial_string.brace("originate_timeout"))
+    own = read_seconds(channel.variables.get("call_timeout"))
+    channel.wait_for(Wait.LEGS, dialled=originate(switch, channel, dial_string, told or own or USUAL_SECONDS))
+
+
+def run_park(switch, channel, _argument):
+    switch.park(channel)
+
+
+def may_be_routed(words):
+    """An extension begins with no minus, and none of the three words is too long."""
+    short = all(len(word) <= LONGEST_NAME for word in words[:3])
+    return bool(words) and not words[0].startswith("-") and short
+
+
+def run_transfer(switch, channel, argument):
+    words = words_of(argument)
+    if may_be_routed(words):
+        transfer(switch, channel, words[:3])
+    else:
+        run_unknown(switch, channel, argument)
+
+
+def transfer(switch, channel, words):
+    """The channel leaves what it is in and, where it lives on, is routed. What is not named stays."""
+    leave(switch, [channel])
+    if channel.live():
+        channel.profile.route(*words)
+        switch.enter(channel, State.CS_ROUTING)
+
+
+APPLICATIONS = {
+    "answer": run_answer,
+    "sleep": run_sleep,
+    "hangup": run_hangup,
+    "bridge": run_bridge,
+    "park": run_park,
+    "transfer": run_transfer,
+}

@@ -1,0 +1,121 @@
+"""The hangup closure: who is hung up with whom, of what, and what is told of it.
+
+And how a channel leaves its bridge and its legs, and lives on.
+"""
+
+import bridges
+from channels import Wait
+from tables import State
+
+
+def by_slot(channels):
+    return sorted(channels, key=lambda channel: channel.slot)
+
+
+def hang_up(switch, causes):
+    """Hangs up these channels, each of its cause, and all whom they drag along."""
+    rounds = rounds_of({channel: cause for channel, cause in causes.items() if channel.live()})
+    members = {channel: cause for members_of_round in rounds for channel, cause in members_of_round.items()}
+    ended = ended_bridges(rounds)
+    survivors = outcomes_of_survivors(members, ended)
+    for bridge, cause in ended.items():
+        bridges.end(bridge, cause)
+    for channel in by_slot(members):
+        tell_bridge_of(switch, channel, ended)
+        hang_up_one(switch, channel, members[channel])
+    for channel in by_slot(survivors):
+        bridges.outlive(switch, channel, survivors[channel])
+
+
+def rounds_of(first):
+    """The rounds, each a cause by channel. A round has whom the one before drags and who is in none yet."""
+    rounds = []
+    members = set()
+    current = first
+    while current:
+        rounds.append(current)
+        members |= current.keys()
+        following = {}
+        for channel in by_slot(current):
+            for dragged, cause in dragged_by(channel, current[channel]):
+                if dragged.live() and dragged not in members:
+                    following.setdefault(dragged, cause)
+        current = following
+    return rounds
+
+
+def dragged_by(channel, cause):
+    """Its partner, the living legs that it waits for, and its peer where that is to hang up."""
+    yield channel.partner, cause
+    if channel.wait is Wait.LEGS:
+        for leg in channel.dialled.living():
+            yield leg.channel, "ORIGINATOR_CANCEL"
+    if channel.bridge:
+        outcome = channel.bridge.outcome(channel.peer, cause)
+        if outcome.hangs_up_with:
+            yield channel.peer, outcome.hangs_up_with
+
+
+def ended_bridges(rounds):
+    """The bridges that end, each of the cause of the leg in the earlier round, or in the lesser slot."""
+    ended = {}
+    for members in rounds:
+        for channel in by_slot(members):
+            if channel.bridge:
+                ended.setdefault(channel.bridge, members[channel])
+    return ended
+
+
+def outcomes_of_survivors(members, ended):
+    return {
+        leg: bridge.outcome(leg, cause)
+        for bridge, cause in ended.items()
+        for leg in bridge.legs()
+        if leg not in members
+    }
+
+
+def tell_bridge_of(switch, channel, ended):
+    """The end of a bridge is told once, in front of the first of its legs that is hung up."""
+    for bridge in [bridge for bridge in ended if channel in bridge.legs()]:
+        bridges.tell_end(switch, bridge, ended.pop(bridge))
+
+
+def hang_up_one(switch, channel, cause):
+    switch.tell("CHANNEL_HANGUP", channel, [("Hangup-Cause", cause)])
+    channel.cause = cause
+    channel.variables.set("hangup_cause", cause)
+    if channel.leg:
+        channel.leg.die(cause, switch.entry)
+        channel.leg = None
+    channel.drop_actions()
+    channel.wait_for(Wait.NOTHING)
+    switch.enter(channel, State.CS_HANGUP)
+
+
+def leave(switch, channels):
+    """These channels leave what they are in. Their legs are hung up in one hangup, of which they may die."""
+    dialling = [channel for channel in channels if channel.wait is Wait.LEGS]
+    legs = [leg.channel for channel in dialling for leg in channel.dialled.living()]
+    for channel in dialling:
+        channel.wait_for(Wait.NOTHING)
+    hang_up(switch, dict.fromkeys(legs, "ORIGINATOR_CANCEL"))
+    for channel in channels:
+        if channel.bridge:
+            leave_bridge(switch, channel)
+    for channel in channels:
+        channel.drop_actions()
+        channel.wait_for(Wait.NOTHING)
+
+
+def leave_bridge(switch, channel):
+    """A bridge that a leg leaves alive ends of NORMAL_CLEARING."""
+    bridge = channel.bridge
+    peer = channel.peer
+    outcome = bridge.outcome(peer, "NORMAL_CLEARING")
+    bridges.end(bridge, "NORMAL_CLEARING")
+    bridges.tell_end(switch, bridge, "NORMAL_CLEARING")
+    if outcome.hangs_up_with:
+        hang_up(switch, {peer: outcome.hangs_up_with})
+    else:
+        bridges.outlive(switch, peer, outcome)

@@ -1,0 +1,47 @@
+"""All kinds of random plays, and one that mixes them."""
+
+from dialplan import Document, Extension
+from layers import Layers
+from limits import Bytes, Limits, Room
+from rings import Rings
+from spelling import Spelling
+from times import Times
+from words import Words
+
+
+class Mixture(Layers):
+    """Documents of several kinds in one, commands of all kinds, and longer plays."""
+
+    fewest_commands = 10
+    most_commands = 60
+
+    def __init__(self, seed):
+        super().__init__(seed)
+        self.parts = [kind(f"mixed {seed}") for kind in (Words, Rings, Times, Bytes) if self.chance(0.6)]
+
+    def document(self):
+        """Half of the extensions of the parts get numbers of their own."""
+        contexts = {"other": [], **super().document().contexts}
+        for part in self.parts:
+            for context, extensions in part.document().contexts.items():
+                contexts[context] += [self.renamed(extension) for extension in extensions]
+        for extensions in contexts.values():
+            self.random.shuffle(extensions)
+        numbers = {extension.number for extensions in contexts.values() for extension in extensions}
+        self.numbers = sorted(numbers)
+        for part in self.parts:
+            part.numbers = self.numbers
+        return Document(contexts, slots=self.one_of(32, 32, 32, 64, 16, 8))
+
+    def renamed(self, extension):
+        own = extension.number + self.one_of("", "q")
+        return Extension(own, extension.actions, extension.continues)
+
+    def command(self, session):
+        if self.parts and self.chance(0.35):
+            return self.random.choice(self.parts).command(session)
+        return super().command(session)
+
+
+ALL = (Words, Layers, Rings, Times, Bytes, Limits, Spelling, Room, Mixture)
+KINDS = {kind.__name__.lower(): kind for kind in ALL}

@@ -1,0 +1,124 @@
+"""The play of one connection: its entries and what they cost, the clock, and the frames that are written."""
+
+from collections import deque
+from dataclasses import dataclass
+
+from commands import Connection
+from frames import AUTH_REQUEST, api_response, event_frame, event_headers
+from switch import Switch
+
+COST_OF_ENTRY = 64
+LARGEST_COST = 65600
+MOST_WAITING_EVENTS = 10000
+MOST_AT_ONE_MOMENT = 100000
+
+
+class PlayOver(Exception):
+    """The play ends with this status and this line on standard error."""
+
+    def __init__(self, status, line):
+        super().__init__(line)
+        self.status = status
+        self.line = line
+
+
+class Journal:
+    """An entry is made where the cost so far and that of the largest entry are within the limit."""
+
+    def __init__(self, limit):
+        self.limit = limit
+        self.cost = 0
+        self.cost_before_entry = 0
+
+    def enter(self, block_length=0):
+        if self.cost + LARGEST_COST > self.limit:
+            raise PlayOver(8, f"fsw: journal full {self.cost} {self.limit}")
+        self.cost_before_entry = self.cost
+        self.cost += COST_OF_ENTRY + block_length
+
+    def nearly_full(self):
+        """Over 15/16 of the limit were cost before the entry in hand."""
+        return self.cost_before_entry * 16 > self.limit * 15
+
+
+@dataclass(frozen=True)
+class Waiting:
+    """A frame that waits to be written."""
+
+    text: str
+    of_event: bool = False
+
+
+class Session:
+    def __init__(self, document):
+        self.journal = Journal(document.journal_limit)
+        self.switch = Switch(document, self.journal)
+        self.connection = Connection(self.switch)
+        self.waiting = deque()
+        self.waiting_events = 0
+        self.events_told = 0
+        self.written = []
+        self.enter(lambda: [AUTH_REQUEST])
+        self.run()
+
+    @property
+    def ended(self):
+        return self.connection.ended
+
+    def feed(self, line):
+        """One command, and all that is to be done behind it. Its block has two line ends."""
+        self.enter(lambda: self.connection.frames_for(line), len(line) + 2)
+        self.run()
+
+    def close(self):
+        """The end of the input, or of a connection that has ended, is an entry too."""
+        if not self.ended:
+            self.enter(lambda: [])
+            self.write_waiting()
+        self.journal.enter()
+
+    def enter(self, do, block_length=0):
+        """One entry, which may give replies. Its events go by what was subscribed before it."""
+        self.journal.enter(block_length)
+        self.switch.begin_entry()
+        subscription = self.connection.subscription
+        self.waiting.extend(Waiting(reply) for reply in do() or ())
+        for event in self.switch.events:
+            self.send(event, subscription)
+        if self.switch.answer_owed is not None:
+            self.waiting.append(Waiting(api_response(self.switch.answer_owed)))
+
+    def send(self, event, subscription):
+        """An event that the connection wants is lost where 10,000 of them wait."""
+        self.events_told += 1
+        if event.name not in subscription.names:
+            return
+        headers = event_headers(event, self.events_told, self.switch.now)
+        if subscription.wants(headers) and self.waiting_events < MOST_WAITING_EVENTS:
+            self.waiting_events += 1
+            self.waiting.append(Waiting(event_frame(headers), of_event=True))
+
+    def run(self):
+        """Does all that is due. While a reply is owed the clock goes on. Then what waits is written."""
+        self.settle()
+        while self.switch.jobs:
+            self.switch.advance()
+            self.settle()
+        self.write_waiting()
+
+    def settle(self):
+        """All that is to be done at this moment is done one after another, up to 100,000 things."""
+        done = 0
+        while (do := self.switch.next_work()) is not None:
+            if done == MOST_AT_ONE_MOMENT:
+                raise PlayOver(9, f"fsw: runaway {MOST_AT_ONE_MOMENT}")
+            done += 1
+            self.enter(do)
+
+    def write_waiting(self):
+        """Each frame that is taken is an entry of its own."""
+        while self.waiting:
+            self.journal.enter()
+            frame = self.waiting.popleft()
+            self.waiting_events -= frame.of_event
+            self.written.append(frame.text)

@@ -1,0 +1,223 @@
+"""The switch: its slots and jobs, what happens to a channel, and what each has to do at a moment."""
+
+from dataclasses import dataclass
+from functools import partial
+
+from applications import run_action
+from channels import Channel, Wait
+from dialplan import hunt
+from hangups import by_slot, hang_up
+from originations import Origination
+from races import conclude
+from tables import State, identifier
+from variables import OF_GLOBALS, ExpansionTooLong, Variables
+
+MOST_ROUTED = 70
+
+BUSY_STATES = (State.CS_NEW, State.CS_INIT, State.CS_ROUTING, State.CS_HANGUP, State.CS_REPORTING)
+
+
+@dataclass(frozen=True)
+class Event:
+    """What an entry tells of a channel, which is shown as the entry leaves it."""
+
+    name: str
+    channel: Channel
+    further: tuple = ()
+    with_variables: bool = False
+
+
+@dataclass(frozen=True)
+class SleepJob:
+    until: int
+
+    def due(self, now):
+        return max(now, self.until)
+
+    def work(self, switch, number):
+        switch.end_job(number, "+OK\n")
+
+
+@dataclass(frozen=True)
+class DialJob:
+    origination: Origination
+
+    def due(self, now):
+        return self.origination.due(now)
+
+    def work(self, switch, _number):
+        conclude(switch, self.origination)
+
+
+class Switch:
+    """One entry at a time changes it. The entry in hand collects its events, and an answer that was owed."""
+
+    def __init__(self, document, journal):
+        self.document = document
+        self.journal = journal
+        self.globals = Variables(OF_GLOBALS, document.global_values)
+        self.channels = {}
+        self.jobs = {}
+        self.now = 0
+        self.entry = 0
+        self.events = []
+        self.answer_owed = None
+        self.jobs_begun = 0
+        self.bridges_begun = 0
+        self.identifiers_drawn = 0
+
+    def begin_entry(self):
+        self.entry += 1
+        self.events = []
+        self.answer_owed = None
+
+    def tell(self, name, channel, further=(), with_variables=False):
+        self.events.append(Event(name, channel, tuple(further), with_variables))
+
+    def scope(self, channel):
+        """Where the names of a text are looked for that is expanded for this channel."""
+        return lambda name: channel.sought(name, self.globals)
+
+    def find(self, name):
+        """The live channel that has this identifier."""
+        return next((channel for channel in self.live_channels() if channel.identifier == name), None)
+
+    def live_channels(self):
+        return [channel for channel in self.channels.values() if channel.live()]
+
+    def free_slots(self):
+        return [slot for slot in range(1, self.document.slots + 1) if slot not in self.channels]
+
+    def draw_identifier(self):
+        self.identifiers_drawn += 1
+        return identifier(self.identifiers_drawn)
+
+    def add_pair(self, near, far):
+        near.partner = far
+        far.partner = near
+        self.channels[near.slot] = near
+        self.channels[far.slot] = far
+
+    def begin_job(self):
+        """The number of a job that is to be put into the list of jobs."""
+        self.jobs_begun += 1
+        return self.jobs_begun
+
+    def end_job(self, number, answer):
+        del self.jobs[number]
+        self.answer_owed = answer
+
+    def enter(self, channel, state):
+        """A change of state is told, and in front of it that the channel left CS_PARK or came there."""
+        if channel.state is state:
+            return
+        if channel.state is State.CS_PARK:
+            self.tell("CHANNEL_UNPARK", channel)
+        channel.state = state
+        if state is State.CS_PARK:
+            self.tell("CHANNEL_PARK", channel)
+        self.tell("CHANNEL_STATE", channel)
+
+    def park(self, channel):
+        """The channel drops its actions and waits for commands."""
+        channel.drop_actions()
+        channel.wait_for(Wait.COMMANDS)
+        self.enter(channel, State.CS_PARK)
+
+    def complete(self, channel):
+        """What the channel runs is over, and it goes on."""
+        self.tell("CHANNEL_EXECUTE_COMPLETE", channel, channel.running)
+        channel.running = None
+        channel.wait_for(Wait.NOTHING)
+
+    def answer(self, channel):
+        """The channel and then its partner are answered, where they were not."""
+        for answered in (channel, channel.partner):
+            if not answered.answered:
+                answered.answered = True
+                self.tell("CHANNEL_ANSWER", answered)
+                if answered.leg:
+                    answered.leg.answer(self.entry)
+
+    def due(self, channel):
+        """The next moment at which the channel has something to do, if it ever has by itself."""
+        if channel.state in BUSY_STATES:
+            return self.now
+        if channel.state is not State.CS_EXECUTE:
+            return None
+        if channel.wait is Wait.NOTHING:
+            return self.now
+        if channel.wait is Wait.SLEEP:
+            return max(self.now, channel.wakes)
+        return channel.dialled.due(self.now) if channel.wait is Wait.LEGS else None
+
+    def moments(self):
+        """The moments at which slots and then jobs have something to do, each with what does it."""
+        for channel in by_slot(self.channels.values()):
+            moment = self.due(channel)
+            if moment is not None:
+                yield moment, partial(work, self, channel)
+        for number, job in sorted(self.jobs.items()):
+            yield job.due(self.now), partial(job.work, self, number)
+
+    def next_work(self):
+        """What is to be done now: the least slot first, and jobs only where no slot has anything to do."""
+        return next((do for moment, do in self.moments() if moment <= self.now), None)
+
+    def advance(self):
+        """The clock goes on to the next moment at which there is something to do."""
+        self.now = min(moment for moment, _ in self.moments())
+
+
+def work(switch, channel):
+    """The one thing that a channel does in an entry of its own."""
+    if channel.state is State.CS_NEW:
+        switch.tell("CHANNEL_CREATE", channel)
+        switch.enter(channel, State.CS_INIT)
+    elif channel.state is State.CS_INIT:
+        far_end = channel.direction == "inbound"
+        switch.enter(channel, State.CS_ROUTING if far_end else State.CS_CONSUME_MEDIA)
+    elif channel.state is State.CS_ROUTING:
+        route(switch, channel)
+    elif channel.state is State.CS_EXECUTE:
+        go_on(switch, channel)
+    elif channel.state is State.CS_HANGUP:
+        cause = [("Hangup-Cause", channel.cause)]
+        switch.tell("CHANNEL_HANGUP_COMPLETE", channel, cause, with_variables=True)
+        switch.enter(channel, State.CS_REPORTING)
+    elif channel.state is State.CS_REPORTING:
+        switch.enter(channel, State.CS_DESTROY)
+        switch.tell("CHANNEL_DESTROY", channel)
+        del switch.channels[channel.slot]
+
+
+def route(switch, channel):
+    """The channel gets its actions by a hunt, or is hung up for the first reason that holds."""
+    if channel.routed == MOST_ROUTED:
+        hang_up(switch, {channel: "EXCHANGE_ROUTING_ERROR"})
+        return
+    try:
+        actions = hunt(switch, channel)
+        refused = None if actions else "NO_ROUTE_DESTINATION"
+    except ExpansionTooLong:
+        refused = "NORMAL_TEMPORARY_FAILURE"
+    if channel.profile.dialplan != "XML":
+        refused = "NO_ROUTE_DESTINATION"
+    if refused:
+        hang_up(switch, {channel: refused})
+        return
+    channel.routed += 1
+    channel.actions = actions
+    switch.enter(channel, State.CS_EXECUTE)
+
+
+def go_on(switch, channel):
+    """A channel that executes wakes, decides its race or runs its next action, and without one is hung up."""
+    if channel.wait is Wait.SLEEP:
+        switch.complete(channel)
+    elif channel.wait is Wait.LEGS:
+        conclude(switch, channel.dialled)
+    elif channel.actions:
+        run_action(switch, channel, channel.actions.pop(0))
+    else:
+        hang_up(switch, {channel: "NORMAL_CLEARING"})

@@ -26,6 +26,7 @@ class Words(Layers):
             (0.3, lambda: Action("unset", self.one_of("a", "hangup_after_bridge", "export_vars"))),
             (1, lambda: self.one_of(Action("log", "hi ${a}"), Action("eval", "${x:1}"), Action("frob", "z"))),
             (0.3, Action("bridge", "loopback/${destination_number}")),
+            (0.3, Action("export", "nolocal:=v")),
             (0.3, lambda: Action("set_global", "g=" + self.seconds())),
         )
         inline = made.application in INLINE and self.chance(0.1)

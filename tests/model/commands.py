@@ -6,7 +6,6 @@ import api
 from frames import NOTICE, Subscription, api_response, command_reply, known_names
 from tables import words_of
 
-PASSWORD = "ClueCon"
 NO_KEYWORDS = "-ERR no keywords supplied"
 UNKNOWN_COMMAND = "-ERR command not found"
 
@@ -40,7 +39,7 @@ class Connection:
         return [command_reply(text), NOTICE]
 
     def auth(self, password):
-        if password != PASSWORD:
+        if password != self.switch.document.password:
             return self.end("-ERR invalid")
         self.accepted = True
         return [command_reply("+OK accepted")]

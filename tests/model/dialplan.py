@@ -14,6 +14,8 @@ WRITTEN = {
     "\r": "&#13;",
 }
 
+USUAL_PASSWORD = "ClueCon"
+
 INLINE = ("set", "unset", "export", "set_global", "log", "eval")
 
 
@@ -41,6 +43,7 @@ class Document:
     slots: int = 32
     journal_limit: int = 67108864
     global_values: dict = field(default_factory=dict)
+    password: str = USUAL_PASSWORD
 
     def written(self):
         inside = [*self._globals(), *self._settings(), *self._dialplan()]
@@ -51,7 +54,11 @@ class Document:
             yield f'<X-PRE-PROCESS cmd="set" data="{attribute(name)}={attribute(value)}"/>'
 
     def _settings(self):
-        yield '<section name="configuration"><configuration name="switch.conf"><settings>'
+        yield '<section name="configuration">'
+        if self.password != USUAL_PASSWORD:
+            yield '<configuration name="event_socket.conf"><settings>'
+            yield f'<param name="password" value="{attribute(self.password)}"/></settings></configuration>'
+        yield '<configuration name="switch.conf"><settings>'
         yield f'<param name="max-sessions" value="{self.slots}"/>'
         yield f'<param name="journal-limit" value="{self.journal_limit}"/>'
         yield "</settings></configuration></section>"

@@ -5,6 +5,7 @@ from layers import Layers
 from limits import Bytes, Limits, Room
 from rings import Rings
 from spelling import Spelling
+from streams import Blocks, Streams
 from times import Times
 from words import Words
 
@@ -43,5 +44,5 @@ class Mixture(Layers):
         return super().command(session)
 
 
-ALL = (Words, Layers, Rings, Times, Bytes, Limits, Spelling, Room, Mixture)
+ALL = (Words, Layers, Rings, Times, Bytes, Limits, Spelling, Room, Mixture, Blocks, Streams)
 KINDS = {kind.__name__.lower(): kind for kind in ALL}

@@ -47,18 +47,17 @@ def made_play(kind, seed):
     chooser = kind(seed)
     document = chooser.document()
     session = Session(document)
-    lines = []
+    given = ""
     status, error = 0, ""
     try:
-        for line in chooser.commands(session):
-            lines.append(line)
-            session.feed(line)
+        for piece in chooser.pieces(session):
+            given += piece
+            session.feed(piece)
             if session.ended:
                 break
         session.close()
     except PlayOver as over:
         status, error = over.status, over.line
-    given = "".join(f"{line}\n\n" for line in lines)
     return Play(document.written(), given, Result("".join(session.written), status, error))
 
 

@@ -138,6 +138,13 @@ class Kind:
         if self.chance(0.5):
             yield "exit"
 
+    def pieces(self, session):
+        """The input, a block for each command."""
+        return map(self.block, self.commands(session))
+
+    def block(self, line):
+        return f"{line}\n\n"
+
     def chance(self, probability):
         return self.random.random() < probability
 

@@ -2,13 +2,15 @@
 
 from collections import deque
 from dataclasses import dataclass
+from functools import partial
 
+from blocks import LONGEST_BLOCK, BlockFault, Stream
 from commands import Connection
 from frames import AUTH_REQUEST, api_response, event_frame, event_headers
 from switch import Switch
 
 COST_OF_ENTRY = 64
-LARGEST_COST = 65600
+LARGEST_COST = COST_OF_ENTRY + LONGEST_BLOCK
 MOST_WAITING_EVENTS = 10000
 MOST_AT_ONE_MOMENT = 100000
 
@@ -53,6 +55,7 @@ class Session:
     def __init__(self, document):
         self.journal = Journal(document.journal_limit)
         self.switch = Switch(document, self.journal)
+        self.stream = Stream()
         self.connection = Connection(self.switch)
         self.waiting = deque()
         self.waiting_events = 0
@@ -65,10 +68,20 @@ class Session:
     def ended(self):
         return self.connection.ended
 
-    def feed(self, line):
-        """One command, and all that is to be done behind it. Its block has two line ends."""
-        self.enter(lambda: self.connection.frames_for(line), len(line) + 2)
-        self.run()
+    def feed(self, text):
+        """More of the input. Each command that is whole is done, and all that is to be done behind it."""
+        self.stream.feed(text)
+        while not self.ended and (block := self.next_block()) is not None:
+            self.enter(partial(self.connection.frames_for, block.line), block.length)
+            self.run()
+
+    def next_block(self):
+        """Where the block has a fault, the connection is closed as at the end of the input."""
+        try:
+            return self.stream.next_block()
+        except BlockFault as fault:
+            self.close()
+            raise PlayOver(10, f"fsw: {fault}") from None
 
     def close(self):
         """The end of the input, or of a connection that has ended, is an entry too."""

@@ -12,9 +12,9 @@ use std::alloc::Global;
 /// The most bytes that each word has.
 const LONGEST: usize = 256;
 
-/// Where the first three words of a text send a channel, as the application `transfer` has them: to an extension, and, as
-/// far as these words are there, in a context of a dialplan. Nowhere without an extension, by one that begins with `-`, and
-/// where a word has over 256 bytes. The text begins with no space.
+/// Where the first three words of a text send a channel, as the application `transfer` of FreeSWITCH has them: to an
+/// extension, and, as far as these words are there, in a context of a dialplan. Nowhere without an extension, by one
+/// that begins with `-`, and where a word has over 256 bytes. The text begins with no space.
 #[tactic(auto, using(crate::proofs::TargetLemmas::words_short))]
 pub fn target_in(alloc: Global, words: &[u8]) -> Result<Option<Target3>, Memory>
     ensures target { IfOk result (λ to. to ≡ spec.target_in words.now) }

@@ -50,8 +50,8 @@ impl<'a> Block<'a> {
         &self.bytes[start..start + len]
     }
 
-    /// The names and the values of the header lines, in order. Blanks round a value, which are spaces, tabs and CRs, are
-    /// left out of it, and a line without a colon is no header.
+    /// The names and the values of the header lines, in order. Blanks round a value, which are spaces, tabs and CRs,
+    /// are left out of it, and a line without a colon is no header.
     pub fn headers(&self) -> BlockHeaders<'a>
         ensures { result ≡ headers_of (bytes_of self.now) }
     {

@@ -11,8 +11,8 @@ use Rattle.fs_orig.specs.declared.winner.Winner.{Winner}
 use Rattle.fs_orig.specs.Timeouts.{IsTimeout, seconds_within}
 use Rattle.fs_chan.specs.declared.target.Target3.{Target3}
 use Rattle.fs_chan.specs.Changes.{IsShortTarget}
-use Rattle.fs_app.specs.Targets.{target_in}
-use Rattle.fs_app.proofs.TargetLemmas.{words_short}
+use Rattle.fs_chan.specs.Targets.{target_in}
+use Rattle.fs_chan.proofs.TargetLemmas.{words_short}
 use Rattle.fs_api.specs.declared.api.Api.{Api}
 use Rattle.fs_api.specs.declared.api.Api.TheVariants.{Expand, UuidGetvar, UuidBridge}
 use Rattle.fs_api.specs.declared.usages.Which.{Which}

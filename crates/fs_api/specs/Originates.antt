@@ -1,10 +1,9 @@
 -- How the arguments of `originate` are read.
 use Rattle.std.specs.Prelude.{ℕ, ◌==◌, ◌&&◌, Bool, if◌then◌else◌, [], ◌∷◌, Option, None, Some, unwrap_or, codes}
-use Rattle.fs_text.specs.Words.{before_byte, behind_byte}
+use Rattle.fs_text.specs.Words.{before_byte, behind_byte, is_short}
 use Rattle.fs_text.specs.Texts.{Text}
 use Rattle.fs_orig.specs.declared.winner.Winner.{Winner}
 use Rattle.fs_orig.specs.declared.winner.Winner.TheVariants.{App, Route}
-use Rattle.fs_orig.specs.Endpoints.{is_short}
 use Rattle.fs_orig.specs.Timeouts.{seconds_in}
 use Rattle.fs_api.specs.declared.api.Api.{Api}
 use Rattle.fs_api.specs.declared.api.Api.TheVariants.{Originate, Usage}

@@ -3,7 +3,7 @@ use Rattle.std.specs.Prelude.{Option, None, Some}
 use Rattle.fs_text.specs.Words.{word_of, behind_word}
 use Rattle.fs_text.specs.Texts.{Text}
 use Rattle.fs_chan.specs.declared.target.Target3.{Target3}
-use Rattle.fs_app.specs.Targets.{target_in}
+use Rattle.fs_chan.specs.Targets.{target_in}
 use Rattle.fs_api.specs.declared.api.Api.{Api}
 use Rattle.fs_api.specs.declared.api.Api.TheVariants.{UuidTransfer, Usage}
 use Rattle.fs_api.specs.declared.usages.Which.TheVariants as which

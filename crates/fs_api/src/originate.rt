@@ -8,11 +8,8 @@ use crate::api::Api;
 use crate::usages::Which;
 use crate::words::{cut_quoted, unquoted};
 use fs_orig::{Route, Winner, seconds_of};
-use fs_text::{Memory, Txt, cut_at};
+use fs_text::{Memory, Txt, cut_at, is_short};
 use std::alloc::Global;
-
-/// The most bytes that an extension, a dialplan and a context have.
-const LONGEST: usize = 256;
 
 /// What the arguments of `originate` are.
 ///
@@ -104,12 +101,12 @@ fn winner(
 ) -> Result<Option<Winner>, Memory>
     ensures { IfOk result (λ winner. winner ≡ spec.winner_of exten.now dialplan.now context.now) }
 {
-    if dialplan.len() > LONGEST || context.len() > LONGEST {
+    if !is_short(dialplan) || !is_short(context) {
         return Ok(None);
     }
     match exten {
         [b'&', text @ ..] => Ok(Some(application(alloc, text)?)),
-        exten if exten.len() > LONGEST => Ok(None),
+        exten if !is_short(exten) => Ok(None),
         exten => Ok(Some(Winner::Route(Route::new(
             Txt::of(alloc, exten)?,
             Txt::of(alloc, dialplan)?,

@@ -5,7 +5,7 @@ ghost use Rattle.fs_api.specs.Transfers as spec;
 
 use crate::api::Api;
 use crate::usages::Which;
-use fs_app::target_in;
+use fs_chan::target_in;
 use fs_text::{Memory, Txt, cut_word};
 use std::alloc::Global;
 

@@ -3,7 +3,7 @@
 ghost use Rattle.std.specs.Prelude.{◌≡◌, ◌≤◌, false, length};
 ghost use Rattle.fs_api.specs.Words as spec;
 
-use fs_text::{place_of, without_spaces};
+use fs_text::{offset_of, without_spaces};
 
 /// The first word, in which single quotes protect spaces, and what stands behind it and the spaces behind it.
 pub(crate) fn cut_quoted(text: &[u8]) -> (&[u8], &[u8])
@@ -20,11 +20,11 @@ fn quoted_len(text: &[u8]) -> usize
     ensures within { result ≤ length text.now }
 {
     let mut inside = false;
-    for (place, byte) in text.iter().enumerate() {
+    for (offset, byte) in text.iter().enumerate() {
         if *byte == b'\'' {
             inside = !inside;
         } else if *byte == b' ' && !inside {
-            return place;
+            return offset;
         }
     }
     text.len()
@@ -38,7 +38,7 @@ pub(crate) fn unquoted(word: &[u8]) -> &[u8]
         return word;
     };
     match inner {
-        [text @ .., _] if place_of(b'\'', inner) == text.len() => text,
+        [text @ .., _] if offset_of(b'\'', inner) == text.len() => text,
         _ => word,
     }
 }

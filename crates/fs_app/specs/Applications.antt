@@ -9,7 +9,7 @@ use Rattle.fs_chan.specs.declared.assignment.Assignment.{Assignment}
 use Rattle.fs_chan.specs.Assignments.{assignment_named}
 use Rattle.fs_chan.specs.Changes as changes
 use Rattle.fs_chan.specs.declared.target.Target3.{Target3}
-use Rattle.fs_app.specs.Targets.{target_in}
+use Rattle.fs_chan.specs.Targets.{target_in}
 use Rattle.fs_app.specs.declared.application.Application.{Application}
 use Rattle.fs_app.specs.declared.application.Application.TheVariants as app
 

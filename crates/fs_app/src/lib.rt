@@ -3,7 +3,5 @@
 
 mod application;
 mod reading;
-mod target;
 
 pub use application::Application;
-pub use target::target_in;

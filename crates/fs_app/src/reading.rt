@@ -2,11 +2,10 @@
 
 ghost use Rattle.std.specs.Prelude.{◌≡◌, IfOk};
 ghost use Rattle.fs_app.specs.Applications as spec;
-ghost use Rattle.fs_app.specs.Targets.{target_in};
+ghost use Rattle.fs_chan.specs.Targets.{target_in};
 
 use crate::application::Application;
-use crate::target::target_in;
-use fs_chan::Assignment;
+use fs_chan::{Assignment, target_in};
 use fs_text::{Cause, Memory, Txt, cut_word, read_u64, without_spaces};
 use std::alloc::Global;
 

@@ -7,7 +7,7 @@ ghost use Rattle.fs_book.specs.Passes.{seen, mine, met, parts, GivesParts, IsPas
 
 use crate::book::Book;
 use crate::pass::Pass;
-use crate::rule::{Count, Cut, Learn, Meet, Place};
+use crate::rule::{BookSeat, Count, Cut, Learn, Meet};
 use crate::tenure::TURN;
 use crate::turned::Turned;
 use std::marker::Brand;
@@ -27,7 +27,7 @@ impl<M: Turned> Book<M> {
     }
 
     // Gives so many parts to a new seat. The caller picks `N.number`, which is that many.
-    fn cut<N: Count>(&self, seat: &mut Place<M>, count: u64) -> Place<M>
+    fn cut<N: Count>(&self, seat: &mut BookSeat<M>, count: u64) -> BookSeat<M>
         requires own { seat.old.table_id ≡ self.now.desk.shared.table_id }
         requires rests { seat.old.me.0.stage ≡ Idle }
         requires number { count ≡ N.number }

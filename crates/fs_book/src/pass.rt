@@ -3,7 +3,7 @@
 ghost use Rattle.std.specs.Prelude.{◌≡◌, ◌<◌, length};
 ghost use Rattle.fs_book.specs.Turns.{tickets_of, Sound};
 
-use crate::rule::Place;
+use crate::rule::BookSeat;
 use crate::turned::Turned;
 
 /// What one caller knows of a book: the journal as far as it has seen it, which places of it are its own, and which
@@ -12,7 +12,7 @@ use crate::turned::Turned;
 /// A pass has some of the 2^62 parts of its book. It takes no bytes but for their number.
 #[derive(Drop)]
 pub struct Pass<M: Turned> {
-    pub(crate) seat: Place<M>,
+    pub(crate) seat: BookSeat<M>,
     pub(crate) parts: u64,
     ghost empty_handed: { length seat.me.1 ≡ 0 },
     ghost no_ticket: { tickets_of seat.me.0.stage ≡ 0 },

@@ -28,7 +28,7 @@ pub type Desk<M> = Table<
     Global,
 >;
 
-pub type Place<M> = Seat<Option<M>, View<<M as Turned>::Start, <M as Turned>::Logged>>;
+pub type BookSeat<M> = Seat<Option<M>, View<<M as Turned>::Start, <M as Turned>::Logged>>;
 
 // A ticket is drawn.
 pub struct Draw;

@@ -7,7 +7,7 @@ ghost use Rattle.fs_book.specs.Tenures.{IsIn};
 
 use crate::bells::Patience;
 use crate::book::Book;
-use crate::rule::{Add, Come, Draw, Leave, Place};
+use crate::rule::{Add, BookSeat, Come, Draw, Leave};
 use crate::turned::Turned;
 use std::sync::Wait;
 
@@ -18,7 +18,7 @@ pub const TURN: usize = 1;
 
 impl<M: Turned> Book<M> {
     // Draws a ticket, waits for its turn, and takes the state.
-    pub(crate) fn enter(&self, rt: &impl Wait, seat: &mut Place<M>) -> M
+    pub(crate) fn enter(&self, rt: &impl Wait, seat: &mut BookSeat<M>) -> M
         requires own { seat.old.table_id ≡ self.now.desk.shared.table_id }
         requires rests { (seat.old.me.1 ≡ []) × (seat.old.me.0.stage ≡ Idle) × (0 < seat.old.me.0.parts) }
         ensures same { (seat.new.table_id ≡ seat.old.table_id) × (seat.new.id ≡ seat.old.id) }
@@ -41,7 +41,7 @@ impl<M: Turned> Book<M> {
     }
 
     // Puts the state into the slot, which this caller still has.
-    fn put_back(&self, seat: &mut Place<M>, state: M)
+    fn put_back(&self, seat: &mut BookSeat<M>, state: M)
         requires own { seat.old.table_id ≡ self.now.desk.shared.table_id }
         requires carries { seat.old.me.1 ≡ (0, None) ∷ [] }
         ensures same { (seat.new.table_id ≡ seat.old.table_id) × (seat.new.id ≡ seat.old.id) }
@@ -52,7 +52,7 @@ impl<M: Turned> Book<M> {
     }
 
     // Gives the state back as it was, and passes the turn on.
-    pub(crate) fn leave(&self, seat: &mut Place<M>, state: M)
+    pub(crate) fn leave(&self, seat: &mut BookSeat<M>, state: M)
         requires own { seat.old.table_id ≡ self.now.desk.shared.table_id }
         requires out { (k : ℕ) × (seat.old.me.0.stage ≡ Out k) }
         requires some_part { 0 < seat.old.me.0.parts }
@@ -68,7 +68,7 @@ impl<M: Turned> Book<M> {
     }
 
     // Gives the state back with one entry more, and passes the turn on.
-    pub(crate) fn leave_longer(&self, seat: &mut Place<M>, state: M)
+    pub(crate) fn leave_longer(&self, seat: &mut BookSeat<M>, state: M)
         requires own { seat.old.table_id ≡ self.now.desk.shared.table_id }
         requires out { (k : ℕ) × (seat.old.me.0.stage ≡ Out k) }
         requires some_part { 0 < seat.old.me.0.parts }

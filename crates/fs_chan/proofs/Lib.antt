@@ -1,3 +1,4 @@
 pub mod HeaderLemmas
 pub mod NameLemmas
 pub mod WorkLemmas
+pub mod TargetLemmas

@@ -5,3 +5,4 @@ pub mod Changes
 pub mod Work
 pub mod Headers
 pub mod Bridging
+pub mod Targets

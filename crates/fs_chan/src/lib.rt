@@ -27,6 +27,6 @@ pub use moment::moment_after;
 pub use peer::{Direction, Peer};
 pub use profile::SharedProfile;
 pub use shared::SharedVars;
-pub use target::Target3;
+pub use target::{Target3, target_in};
 pub use wait::Wait;
 pub use work::due_law;

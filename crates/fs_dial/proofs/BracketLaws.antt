@@ -7,7 +7,7 @@ use Rattle.fs_dial.specs.declared.bracket.Bracket.TheVariants.{Brace, Square}
 use Rattle.fs_dial.specs.declared.fault.DialFault.{DialFault}
 use Rattle.fs_dial.specs.declared.guard.Guard.TheVariants.{Bare}
 use Rattle.fs_dial.specs.Results.{◌>>=◌}
-use Rattle.fs_dial.specs.Guards.{is_guard, from_mark, front_of, place}
+use Rattle.fs_dial.specs.Guards.{is_guard, from_mark, front_of, offset}
 use Rattle.fs_dial.specs.Pairs.{Pair, Pairs, pairs_at}
 use Rattle.fs_dial.specs.Brackets.{opener_of, closer_of, lead_of, Taken, closed_at, content_at, bracket_at, bracket_step, go_on}
 use Rattle.fs_dial.specs.Brackets.{brackets_within, brackets_at}
@@ -36,18 +36,18 @@ lead_short closer (a ∷ b ∷ x ∷ bytes) = by (a == 94 && b == 94 && not (x =
 -- ---- what is spelt is read
 
 closed_read : (at end separator : ℕ) (so_far pairs : List Pair) (content : List ℕ) (b : ℕ) (rest : List ℕ) →
-    Holds (place end (b ∷ rest)) separator content pairs
+    Holds (offset end (b ∷ rest)) separator content pairs
     → closed_at at end separator so_far (content ++ (b ∷ rest)) (b ∷ rest) ≡ Ok (so_far ++ pairs, rest)
 unfolding closed_at
 closed_read at end separator so_far pairs content b rest holds =
-    ap (λ held. pairs_at (place end (b ∷ rest)) separator so_far held >>= λ all. Ok (all, rest)) (front_is content (b ∷ rest))
-    ∙ ap (λ (r : Pairs). r >>= λ all. Ok (all, rest)) (content_read (place end (b ∷ rest)) separator content pairs so_far holds)
+    ap (λ held. pairs_at (offset end (b ∷ rest)) separator so_far held >>= λ all. Ok (all, rest)) (front_is content (b ∷ rest))
+    ∙ ap (λ (r : Pairs). r >>= λ all. Ok (all, rest)) (content_read (offset end (b ∷ rest)) separator content pairs so_far holds)
 
 inside_read : (shape : Bracket) (end : ℕ) (text rest : List ℕ) (pairs so_far : List Pair) (is : IsBracket shape end text rest pairs) →
     bracket_at shape end so_far is.inside ≡ Ok (so_far ++ pairs, rest)
 unfolding bracket_at content_at
 inside_read shape end text rest pairs so_far is =
-    let at = place end is.inside - 1 in
+    let at = offset end is.inside - 1 in
     let closer = closer_of shape in
     let whole : List ℕ = is.content ++ (closer ∷ rest) in
     let mark : from_mark closer Bare whole ≡ closer ∷ rest = passed closer is.content (closer ∷ rest) is.closes
@@ -139,16 +139,16 @@ closed_spelt shape at end separator so_far all text inside bytes rest opens lead
     let m = found_mark closer Bare bytes b behind mark in
     let held : front_of bytes (b ∷ behind) ≡ f.front = ap (λ l. front_of l (b ∷ behind)) f.whole ∙ front_is f.front (b ∷ behind) in
     let read =
-    bind_ok (pairs_at (place end (b ∷ behind)) separator so_far (front_of bytes (b ∷ behind))) (λ pairs. Ok (pairs, behind))
+    bind_ok (pairs_at (offset end (b ∷ behind)) separator so_far (front_of bytes (b ∷ behind))) (λ pairs. Ok (pairs, behind))
     (all, rest) e in
     let same = same_taken read.0 all behind rest read.2 in
     let ends : guard_over Bare f.front ≡ Bare = ap (guard_over Bare) (sym (append-nil f.front)) ∙ over closer f.front [] f.is in
     let whole : bytes ≡ f.front ++ (closer ∷ rest) = seam bytes f.front behind rest b closer f.whole m.same same.1 in
     let tail : ◌≡◌ {A = List ℕ} (closer ∷ rest) (b ∷ behind) = rw (m.same, same.1) refl in
-    let reads : pairs_at (place end (closer ∷ rest)) separator so_far f.front ≡ Ok all =
-    ap (λ l. pairs_at (place end l) separator so_far f.front) tail ∙ ap (pairs_at (place end (b ∷ behind)) separator so_far) (sym held)
+    let reads : pairs_at (offset end (closer ∷ rest)) separator so_far f.front ≡ Ok all =
+    ap (λ l. pairs_at (offset end l) separator so_far f.front) tail ∙ ap (pairs_at (offset end (b ∷ behind)) separator so_far) (sym held)
     ∙ read.1 ∙ ap (λ l. Ok l) same.0 in
-    let c = content_spelt (place end (closer ∷ rest)) separator so_far all f.front reads ends in
+    let c = content_spelt (offset end (closer ∷ rest)) separator so_far all f.front reads ends in
     record {
       pairs = c.pairs;
       is = record {
@@ -170,7 +170,7 @@ unfolding bracket_at content_at
 inside_spelt shape end so_far all text inside rest opens e =
     let closer = closer_of shape in
     let lead = lead_of closer inside in
-    closed_spelt shape (place end inside - 1) end lead.0 so_far all text inside lead.1 rest opens refl (from_mark closer Bare lead.1) refl e
+    closed_spelt shape (offset end inside - 1) end lead.0 so_far all text inside lead.1 rest opens refl (from_mark closer Bare lead.1) refl e
 
 -- a bracket was read, or none is there
 abbrev pub StepSpelt : Bracket → ℕ → List Pair → List Pair → List ℕ → Option (List ℕ) → Type 0

@@ -32,20 +32,20 @@ front_is front rest =
 
 -- ---- the first byte of a kind
 
-pub first_place : (p : ℕ → Bool) (before : List ℕ) (q : ℕ) (behind : List ℕ) → list_any p before ≡ false → p q ≡ true →
+pub first_offset : (p : ℕ → Bool) (before : List ℕ) (q : ℕ) (behind : List ℕ) → list_any p before ≡ false → p q ≡ true →
     position_or_len p (before ++ (q ∷ behind)) ≡ length before
-first_place p [] q behind none passes = rw passes refl
-first_place p (b ∷ before) q behind none passes =
+first_offset p [] q behind none passes = rw passes refl
+first_offset p (b ∷ before) q behind none passes =
     let parts = or_false (p b) (list_any p before) none in
-    let more = first_place p before q behind parts.1 passes in
+    let more = first_offset p before q behind parts.1 passes in
     let fails : p b ≡ false = parts.0 in
     rw fails (omega (arith, more))
 
-pub no_place : (p : ℕ → Bool) (bytes : List ℕ) → list_any p bytes ≡ false → position_or_len p bytes ≡ length bytes
-no_place p [] none = refl
-no_place p (b ∷ bytes) none =
+pub no_offset : (p : ℕ → Bool) (bytes : List ℕ) → list_any p bytes ≡ false → position_or_len p bytes ≡ length bytes
+no_offset p [] none = refl
+no_offset p (b ∷ bytes) none =
     let parts = or_false (p b) (list_any p bytes) none in
-    let more = no_place p bytes parts.1 in
+    let more = no_offset p bytes parts.1 in
     let fails : p b ≡ false = parts.0 in
     rw fails (omega (arith, more))
 

@@ -7,12 +7,12 @@ use Rattle.std.proofs.Math.Seq.{take-append_seam, drop-append_seam}
 use Rattle.fs_dial.specs.declared.bracket.Bracket.TheVariants.{Square}
 use Rattle.fs_dial.specs.declared.fault.DialFault.{DialFault}
 use Rattle.fs_dial.specs.Results.{◌>>=◌}
-use Rattle.fs_dial.specs.Guards.{place}
+use Rattle.fs_dial.specs.Guards.{offset}
 use Rattle.fs_dial.specs.Pairs.{Pair}
 use Rattle.fs_dial.specs.Brackets.{Taken, brackets_at}
 use Rattle.fs_dial.specs.Legs.{LegText, ends_leg, leg_on, endpoint_at, leg_at}
 use Rattle.fs_dial.specs.Spelling.{IsLeg}
-use Rattle.fs_dial.proofs.Cuts.{bind_ok, eqb-true, first_place, no_place, Cut, cut_at}
+use Rattle.fs_dial.proofs.Cuts.{bind_ok, eqb-true, first_offset, no_offset, Cut, cut_at}
 use Rattle.fs_dial.proofs.BracketLaws.{brackets_read, brackets_short, brackets_spelt}
 
 -- behind a leg is the end, or a byte that ends it
@@ -29,13 +29,13 @@ record CutSo (p : ℕ → Bool) (bytes front from : List ℕ) : Type 0 where
 cut_so : (endpoint rest : List ℕ) → list_any ends_leg endpoint ≡ false → Stops rest → CutSo ends_leg (endpoint ++ rest) endpoint rest
 cut_so endpoint [] none stops =
     let size : position_or_len ends_leg (endpoint ++ []) ≡ length endpoint = ap (position_or_len ends_leg) (append-nil endpoint)
-    ∙ no_place ends_leg endpoint none in
+    ∙ no_offset ends_leg endpoint none in
     record {
       front_is = ap (λ n. take n (endpoint ++ [])) size ∙ take-append_seam endpoint [];
       from_is = ap (λ n. drop n (endpoint ++ [])) size ∙ drop-append_seam endpoint [];
     }
 cut_so endpoint (b ∷ rest) none stops =
-    let size = first_place ends_leg endpoint b rest none stops in
+    let size = first_offset ends_leg endpoint b rest none stops in
     record {
       front_is = ap (λ n. take n (endpoint ++ (b ∷ rest))) size ∙ take-append_seam endpoint (b ∷ rest);
       from_is = ap (λ n. drop n (endpoint ++ (b ∷ rest))) size ∙ drop-append_seam endpoint (b ∷ rest);
@@ -48,11 +48,11 @@ leg_here at pairs [] rest some = absurd (some refl)
 leg_here at pairs (b ∷ endpoint) rest some = refl
 
 endpoint_read : (end : ℕ) (pairs : List Pair) (endpoint rest : List ℕ) → endpoint ≢ [] → list_any ends_leg endpoint ≡ false → Stops rest
-    → endpoint_at end pairs (endpoint ++ rest) ≡ Ok (record { at = place end (endpoint ++ rest); endpoint = endpoint; pairs = pairs }, rest)
+    → endpoint_at end pairs (endpoint ++ rest) ≡ Ok (record { at = offset end (endpoint ++ rest); endpoint = endpoint; pairs = pairs }, rest)
 unfolding endpoint_at
 endpoint_read end pairs endpoint rest some none stops =
     let whole : List ℕ = endpoint ++ rest in
-    let at = place end whole in
+    let at = offset end whole in
     let cut = cut_so endpoint rest none stops in
     ap (λ front. leg_on at pairs front (drop (position_or_len ends_leg whole) whole)) cut.front_is
     ∙ ap (leg_on at pairs endpoint) cut.from_is ∙ leg_here at pairs endpoint rest some
@@ -103,11 +103,11 @@ stops_here bytes front (b ∷ rest) cut = cut.here b rest refl
 -- an endpoint with these brackets before it
 made : (end : ℕ) (text bytes : List ℕ) (pairs : List Pair) (endpoint from : List ℕ) → brackets_at Square end text ≡ Ok (pairs, bytes) →
     Cut ends_leg bytes endpoint from → endpoint ≢ []
-    → LegSpelt end text from (record { at = place end bytes; endpoint = endpoint; pairs = pairs })
+    → LegSpelt end text from (record { at = offset end bytes; endpoint = endpoint; pairs = pairs })
 made end text bytes pairs endpoint from reads cut some = record {
   is = record {
     brackets = brackets_spelt Square end text (endpoint ++ from) pairs (reads ∙ ap (λ l. Ok (pairs, l)) cut.whole);
-    is_at = ap (place end) cut.whole;
+    is_at = ap (offset end) cut.whole;
     some = some;
     unbroken = cut.none;
   };
@@ -120,13 +120,13 @@ unfolding endpoint_at leg_on
 endpoint_spelt end text bytes rest pairs leg reads e =
     by (before_first ends_leg bytes) (drop (position_or_len ends_leg bytes) bytes) (cut_at ends_leg bytes) e
   where
-    by : (endpoint from : List ℕ) → Cut ends_leg bytes endpoint from → leg_on (place end bytes) pairs endpoint from ≡ Ok (leg, rest) →
+    by : (endpoint from : List ℕ) → Cut ends_leg bytes endpoint from → leg_on (offset end bytes) pairs endpoint from ≡ Ok (leg, rest) →
         LegSpelt end text rest leg
     by [] from cut e = absurd (cc)
     by (b ∷ endpoint) from cut e =
-        let same = same_leg (record { at = place end bytes; endpoint = b ∷ endpoint; pairs = pairs }) leg from rest e in
+        let same = same_leg (record { at = offset end bytes; endpoint = b ∷ endpoint; pairs = pairs }) leg from rest e in
         let P : LegText → Type 0 = λ l. LegSpelt end text rest l in
-        let Q : List ℕ → Type 0 = λ l. LegSpelt end text l (record { at = place end bytes; endpoint = b ∷ endpoint; pairs = pairs }) in
+        let Q : List ℕ → Type 0 = λ l. LegSpelt end text l (record { at = offset end bytes; endpoint = b ∷ endpoint; pairs = pairs }) in
         subst P same.0 (subst Q same.1 (made end text bytes pairs (b ∷ endpoint) from reads cut (λ none. absurd (cc))))
 
 pub leg_spelt : (end : ℕ) (text rest : List ℕ) (leg : LegText) → leg_at end text ≡ Ok (leg, rest) → LegSpelt end text rest leg

@@ -4,5 +4,5 @@ pub mod PairLaws
 pub mod BracketLaws
 pub mod LegLaws
 pub mod Whole
-pub mod PlaceLaws
+pub mod OffsetLaws
 pub mod ValueLaws

@@ -7,10 +7,10 @@ use Rattle.std.proofs.Math.Seq.{take-append_seam, drop-append_seam}
 use Rattle.fs_dial.specs.declared.fault.DialFault.{DialFault}
 use Rattle.fs_dial.specs.declared.guard.Guard.TheVariants.{Bare}
 use Rattle.fs_dial.specs.Results.{◌>>=◌}
-use Rattle.fs_dial.specs.Guards.{from_mark, front_of, place}
+use Rattle.fs_dial.specs.Guards.{from_mark, front_of, offset}
 use Rattle.fs_dial.specs.Pairs.{Pair, Pairs, is_equals, pair_on, pair_at, behind, pair_step, go_on, pairs_within, pairs_at}
 use Rattle.fs_dial.specs.Spelling.{Protects, IsPair, ArePairs, LastPair, NextPair, Holds}
-use Rattle.fs_dial.proofs.Cuts.{eqb-true, front_is, first_place, Cut, cut_at}
+use Rattle.fs_dial.proofs.Cuts.{eqb-true, front_is, first_offset, Cut, cut_at}
 use Rattle.fs_dial.proofs.Marks.{passed, found, guard_over, Before, before, Found, found_mark, over, over_mark}
 
 -- ---- one pair
@@ -29,7 +29,7 @@ named_read : (at separator : ℕ) (name value : List ℕ) → name ≢ [] → li
 unfolding pair_at
 named_read at separator name value named first =
     let whole : List ℕ = name ++ (61 ∷ value) in
-    let size = first_place is_equals name 61 value first equals_passes in
+    let size = first_offset is_equals name 61 value first equals_passes in
     let front : before_first is_equals whole ≡ name = ap (λ n. take n whole) size ∙ take-append_seam name (61 ∷ value) in
     let from : drop (position_or_len is_equals whole) whole ≡ 61 ∷ value = ap (λ n. drop n whole) size
     ∙ drop-append_seam name (61 ∷ value) in
@@ -71,13 +71,13 @@ abbrev pub Step : Type 0
 Step = Result (List Pair × Option (List ℕ)) DialFault
 
 step_read : (end separator : ℕ) (so_far : List Pair) (bytes front from : List ℕ) (pair : Pair) → from_mark separator Bare bytes ≡ from →
-    bytes ≡ front ++ from → pair_at (place end bytes) separator front ≡ Ok pair
+    bytes ≡ front ++ from → pair_at (offset end bytes) separator front ≡ Ok pair
     → pair_step end separator so_far bytes ≡ Ok (so_far ++ pair ∷ [], behind from)
 unfolding pair_step
 step_read end separator so_far bytes front from pair mark whole reads =
     let same : front_of bytes from ≡ front = ap (λ l. front_of l from) whole ∙ front_is front from in
     let taken : List ℕ → List ℕ →
-    Step = λ piece rest. (pair_at (place end bytes) separator piece >>= λ p. Ok (so_far ++ p ∷ [], behind rest)) in
+    Step = λ piece rest. (pair_at (offset end bytes) separator piece >>= λ p. Ok (so_far ++ p ∷ [], behind rest)) in
     ap (λ rest. taken (front_of bytes rest) rest) mark ∙ ap (λ piece. taken piece from) same
     ∙ ap (λ (r : Result Pair DialFault). r >>= λ p. Ok (so_far ++ p ∷ [], behind from)) reads
 
@@ -90,7 +90,7 @@ pairs_read end separator bytes pairs (LastPair piece pair protects is) (suc more
     ∙ passed separator piece [] protects in
     let step =
     step_read end separator so_far piece piece [] pair none (sym (append-nil piece))
-    (pair_read (place end piece) separator piece pair is) in
+    (pair_read (offset end piece) separator piece pair is) in
     ap (λ (r : Step). r >>= λ x. go_on (λ next rest. pairs_within more end separator next rest) x) step
 pairs_read end separator bytes pairs (NextPair piece rest pair others protects plain is are) (suc more) so_far enough =
     let whole : List ℕ = piece ++ (separator ∷ rest) in
@@ -98,7 +98,7 @@ pairs_read end separator bytes pairs (NextPair piece rest pair others protects p
     ∙ found separator rest plain in
     let step =
     step_read end separator so_far whole piece (separator ∷ rest) pair mark refl
-    (pair_read (place end whole) separator piece pair is) in
+    (pair_read (offset end whole) separator piece pair is) in
     let fewer : length rest < more = omega (arith, enough, length-append piece (separator ∷ rest)) in
     ap (λ (r : Step). r >>= λ x. go_on (λ next rest. pairs_within more end separator next rest) x) step
     ∙ pairs_read end separator rest others are more (so_far ++ pair ∷ []) fewer ∙ ap (λ l. Ok l) (append_assoc so_far (pair ∷ []) others)
@@ -125,23 +125,23 @@ pub record PairsSpelt (end separator : ℕ) (so_far all : List Pair) (bytes : Li
   pub all_are : all ≡ so_far ++ pairs
 
 last_spelt : (end separator : ℕ) (so_far all : List Pair) (bytes front : List ℕ) (pair : Pair) → bytes ≡ front ++ [] →
-    Protects separator front → pair_at (place end bytes) separator front ≡ Ok pair
+    Protects separator front → pair_at (offset end bytes) separator front ≡ Ok pair
     → so_far ++ pair ∷ [] ≡ all → PairsSpelt end separator so_far all bytes
 last_spelt end separator so_far all bytes front pair whole protects reads all_are =
     let same : bytes ≡ front = whole ∙ append-nil front in
     let P : List ℕ → Type 0 = λ l. ArePairs end separator l (pair ∷ []) in
-    let is = pair_spelt (place end front) separator front pair (ap (λ l. pair_at (place end l) separator front) (sym same) ∙ reads) in
+    let is = pair_spelt (offset end front) separator front pair (ap (λ l. pair_at (offset end l) separator front) (sym same) ∙ reads) in
     record { pairs = pair ∷ []; are = subst P (sym same) (LastPair front pair protects is); all_are = sym all_are }
 
 next_spelt : (end separator : ℕ) (so_far all : List Pair) (bytes front rest : List ℕ) (b : ℕ) (pair : Pair) → bytes ≡ front ++ (b ∷ rest) →
     Found separator b → Protects separator front
-    → pair_at (place end bytes) separator front ≡ Ok pair → PairsSpelt end separator (so_far ++ pair ∷ []) all rest →
+    → pair_at (offset end bytes) separator front ≡ Ok pair → PairsSpelt end separator (so_far ++ pair ∷ []) all rest →
     PairsSpelt end separator so_far all bytes
 next_spelt end separator so_far all bytes front rest b pair whole mark protects reads on =
     let same : bytes ≡ front ++ (separator ∷ rest) = whole ∙ ap (λ c. front ++ (c ∷ rest)) mark.same in
     let P : List ℕ → Type 0 = λ l. ArePairs end separator l (pair ∷ on.pairs) in
-    let is = pair_spelt (place end (front ++ (separator ∷ rest))) separator front pair
-    (ap (λ l. pair_at (place end l) separator front) (sym same) ∙ reads) in
+    let is = pair_spelt (offset end (front ++ (separator ∷ rest))) separator front pair
+    (ap (λ l. pair_at (offset end l) separator front) (sym same) ∙ reads) in
     record {
       pairs = pair ∷ on.pairs;
       are = subst P (sym same) (NextPair front rest pair on.pairs protects mark.plain is on.are);
@@ -163,17 +163,17 @@ Again more end separator all =
 
 one_more : (more end separator : ℕ) (so_far all : List Pair) (bytes from : List ℕ) → from_mark separator Bare bytes ≡ from →
     length bytes < suc more → guard_over Bare bytes ≡ Bare → Again more end separator all
-    → ((pair_at (place end bytes) separator (front_of bytes from) >>= λ p. Ok (so_far ++ p ∷ [], behind from)) >>= λ x. go_on
+    → ((pair_at (offset end bytes) separator (front_of bytes from) >>= λ p. Ok (so_far ++ p ∷ [], behind from)) >>= λ x. go_on
     (λ next rest. pairs_within more end separator next rest) x) ≡ Ok all
     → PairsSpelt end separator so_far all bytes
 one_more more end separator so_far all bytes from mark enough ends again e =
     let b = before separator Bare bytes from mark (λ _. ends) in
     let same : front_of bytes from ≡ b.front = ap (λ l. front_of l from) b.whole ∙ front_is b.front from in
-    by b (pair_at (place end bytes) separator b.front) refl from refl mark
-    (ap (λ piece. (pair_at (place end bytes) separator piece >>= λ p. Ok (so_far ++ p ∷ [], behind from)) >>= λ x. go_on
+    by b (pair_at (offset end bytes) separator b.front) refl from refl mark
+    (ap (λ piece. (pair_at (offset end bytes) separator piece >>= λ p. Ok (so_far ++ p ∷ [], behind from)) >>= λ x. go_on
     (λ next rest. pairs_within more end separator next rest) x) (sym same) ∙ e)
   where
-    by : (b : Before separator Bare bytes from) (r : Result Pair DialFault) → pair_at (place end bytes) separator b.front ≡ r →
+    by : (b : Before separator Bare bytes from) (r : Result Pair DialFault) → pair_at (offset end bytes) separator b.front ≡ r →
         (f : List ℕ) → from ≡ f → from_mark separator Bare bytes ≡ f
         → ((r >>= λ p. Ok (so_far ++ p ∷ [], behind f)) >>= λ x. go_on (λ next rest. pairs_within more end separator next rest) x) ≡ Ok
         all → PairsSpelt end separator so_far all bytes

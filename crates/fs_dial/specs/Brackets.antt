@@ -9,7 +9,7 @@ use Rattle.fs_dial.specs.declared.fault.DialKind.TheVariants as kind
 use Rattle.fs_dial.specs.declared.guard.Guard.TheVariants.{Bare}
 use Rattle.fs_dial.specs.declared.pair.RawPairs.{RawPairs}
 use Rattle.fs_dial.specs.Faults.{fault}
-use Rattle.fs_dial.specs.Guards.{from_mark, front_of, place}
+use Rattle.fs_dial.specs.Guards.{from_mark, front_of, offset}
 use Rattle.fs_dial.specs.Pairs.{Pair, pairs_at}
 
 unfoldable pub opener_of : Bracket → ℕ
@@ -41,15 +41,15 @@ taken_seen x = (x.0, x.1.now)
 unfoldable pub closed_at : ℕ → ℕ → ℕ → List Pair → List ℕ → List ℕ → Taken
 closed_at at end separator so_far bytes [] = fault at kind.Unclosed
 closed_at at end separator so_far bytes (b ∷ rest) =
-    pairs_at (place end (b ∷ rest)) separator so_far (front_of bytes (b ∷ rest)) >>= λ pairs. Ok (pairs, rest)
+    pairs_at (offset end (b ∷ rest)) separator so_far (front_of bytes (b ∷ rest)) >>= λ pairs. Ok (pairs, rest)
 
--- a bracket at a place, from behind its lead
+-- a bracket at an offset, from behind its lead
 unfoldable pub content_at : Bracket → ℕ → ℕ → List Pair → ℕ × List ℕ → Taken
 content_at shape at end so_far lead = closed_at at end lead.0 so_far lead.1 (from_mark (closer_of shape) Bare lead.1)
 
 -- a bracket, from behind its opening one
 unfoldable pub bracket_at : Bracket → ℕ → List Pair → List ℕ → Taken
-bracket_at shape end so_far bytes = content_at shape (place end bytes - 1) end so_far (lead_of (closer_of shape) bytes)
+bracket_at shape end so_far bytes = content_at shape (offset end bytes - 1) end so_far (lead_of (closer_of shape) bytes)
 
 -- the pairs so far with those of the bracket in front, and what stands behind it, if there is one
 unfoldable pub bracket_step : Bracket → ℕ → List Pair → List ℕ → Result (List Pair × Option (List ℕ)) DialFault

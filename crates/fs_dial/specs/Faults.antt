@@ -15,7 +15,7 @@ kind_name kind.BadPair = codes "BadPair"
 kind_name kind.TooMany = codes "TooMany"
 kind_name kind.Memory = codes "Memory"
 
--- the fault of a kind at a place
+-- the fault of a kind at an offset
 abbrev pub fault_at : ℕ → DialKind → DialFault
 fault_at at kind = record { at = at; kind = kind }
 
@@ -33,7 +33,7 @@ abbrev pub Answers : {X Y : Type 0} → (X → Y) → Result X DialStop → Resu
 Answers view (Ok x) read = read ≡ Ok (view x)
 Answers view (Err e) read = StopsSo e read
 
--- the same, where want of memory is a fault of its own with the place 0
+-- the same, where want of memory is a fault of its own with the offset 0
 abbrev pub Tells : {X Y : Type 0} → (X → Y) → Result X DialFault → Result Y DialFault → Type 0
 Tells view (Ok x) read = read ≡ Ok (view x)
 Tells view (Err f) read = (f ≡ record { at = 0; kind = kind.Memory }) ⊎ (read ≡ Err f)

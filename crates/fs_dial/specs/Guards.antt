@@ -29,8 +29,8 @@ abbrev pub front_of : List ℕ → List ℕ → List ℕ
 front_of bytes rest = take (length bytes - length rest) bytes
 
 -- where bytes begin that stand at the end of so many
-abbrev pub place : ℕ → List ℕ → ℕ
-place end bytes = end - length bytes
+abbrev pub offset : ℕ → List ℕ → ℕ
+offset end bytes = end - length bytes
 
 -- ---- without quotes and backslashes
 

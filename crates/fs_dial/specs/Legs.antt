@@ -9,7 +9,7 @@ use Rattle.fs_dial.specs.declared.fault.DialFault.{DialFault}
 use Rattle.fs_dial.specs.declared.fault.DialKind.TheVariants as kind
 use Rattle.fs_dial.specs.declared.leg.Leg.{Leg}
 use Rattle.fs_dial.specs.Faults.{fault}
-use Rattle.fs_dial.specs.Guards.{place}
+use Rattle.fs_dial.specs.Guards.{offset}
 use Rattle.fs_dial.specs.Pairs.{Pair}
 use Rattle.fs_dial.specs.Brackets.{brackets_at}
 
@@ -36,7 +36,7 @@ leg_on at pairs (b ∷ endpoint) rest = Ok (record { at = at; endpoint = b ∷ e
 -- a leg with these pairs, from behind its brackets: up to the next `,` or `|`
 unfoldable pub endpoint_at : ℕ → List Pair → List ℕ → Result (LegText × List ℕ) DialFault
 endpoint_at end pairs bytes =
-    leg_on (place end bytes) pairs (before_first ends_leg bytes) (drop (position_or_len ends_leg bytes) bytes)
+    leg_on (offset end bytes) pairs (before_first ends_leg bytes) (drop (position_or_len ends_leg bytes) bytes)
 
 unfoldable pub leg_at : ℕ → List ℕ → Result (LegText × List ℕ) DialFault
 leg_at end bytes = brackets_at Square end bytes >>= λ x. endpoint_at end x.0 x.1

@@ -6,5 +6,5 @@ pub mod Brackets
 pub mod Legs
 pub mod DialStrings
 pub mod Spelling
-pub mod Places
+pub mod Offsets
 pub mod Values

@@ -9,7 +9,7 @@ use Rattle.fs_dial.specs.declared.fault.DialKind.TheVariants as kind
 use Rattle.fs_dial.specs.declared.guard.Guard.TheVariants.{Bare}
 use Rattle.fs_dial.specs.declared.pair.RawPair.{RawPair}
 use Rattle.fs_dial.specs.Faults.{fault}
-use Rattle.fs_dial.specs.Guards.{from_mark, front_of, place, plain_of}
+use Rattle.fs_dial.specs.Guards.{from_mark, front_of, offset, plain_of}
 
 -- a pair as it is written: where it begins, what stands before and behind its first `=`, and what separates the pairs of its bracket
 pub record Pair : Type 0 where
@@ -53,7 +53,7 @@ behind (b ∷ rest) = Some rest
 -- the pairs so far with the next one, and what stands behind its separator
 unfoldable pub pair_step : ℕ → ℕ → List Pair → List ℕ → Result (List Pair × Option (List ℕ)) DialFault
 pair_step end separator so_far bytes =
-    pair_at (place end bytes) separator (front_of bytes (from_mark separator Bare bytes))
+    pair_at (offset end bytes) separator (front_of bytes (from_mark separator Bare bytes))
     >>= λ pair. Ok (so_far ++ pair ∷ [], behind (from_mark separator Bare bytes))
 
 abbrev pub Pairs : Type 0
@@ -69,7 +69,7 @@ pairs_within zero end separator so_far bytes = Ok so_far
 pairs_within (suc more) end separator so_far bytes =
     pair_step end separator so_far bytes >>= λ x. go_on (λ next rest. pairs_within more end separator next rest) x
 
--- the pairs so far with those of a bracket, whose content ends at a place; one that is empty holds none
+-- the pairs so far with those of a bracket, whose content ends at an offset; one that is empty holds none
 unfoldable pub pairs_at : ℕ → ℕ → List Pair → List ℕ → Pairs
 pairs_at end separator so_far [] = Ok so_far
 pairs_at end separator so_far (b ∷ bytes) = pairs_within (length (b ∷ bytes) + 1) end separator so_far (b ∷ bytes)

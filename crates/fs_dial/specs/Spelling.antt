@@ -3,13 +3,13 @@ use Rattle.std.specs.Prelude.{◌≡◌, ◌≢◌, ◌≤◌, ◌==◌, ℕ, �
 use Rattle.std.specs.List.{list_any}
 use Rattle.fs_dial.specs.declared.bracket.Bracket.{Bracket}
 use Rattle.fs_dial.specs.declared.bracket.Bracket.TheVariants.{Brace, Square}
-use Rattle.fs_dial.specs.Guards.{is_guard, place}
+use Rattle.fs_dial.specs.Guards.{is_guard, offset}
 use Rattle.fs_dial.specs.Pairs.{Pair, is_equals}
 use Rattle.fs_dial.specs.Brackets.{opener_of, closer_of, lead_of}
 use Rattle.fs_dial.specs.Legs.{LegText, ends_leg}
 use Rattle.fs_dial.specs.DialStrings.{Dial}
 
--- Each place below is told by the bytes that stand from it on, up to an end: the end of the text, or of a bracket's content.
+-- Each offset below is told by the bytes that stand from it on, up to an end: the end of the text, or of a bracket's content.
 
 -- ---- pairs
 
@@ -24,7 +24,7 @@ pub data Protects (mark : ℕ) : List ℕ → Type 0 where
   InQuotes : (inside bytes : List ℕ) → list_any is_quote inside ≡ false → Protects mark bytes →
       Protects mark (39 ∷ (inside ++ (39 ∷ bytes)))
 
--- a pair that begins at a place: a name, `=` and a value
+-- a pair that begins at an offset: a name, `=` and a value
 pub record IsPair (at separator : ℕ) (bytes : List ℕ) (pair : Pair) : Type 0 where
   pub is_at : pair.at ≡ at
   pub is_separated : pair.separator ≡ separator
@@ -34,10 +34,10 @@ pub record IsPair (at separator : ℕ) (bytes : List ℕ) (pair : Pair) : Type 0
 
 -- pairs with a separator between each two; a quote and a backslash never separate
 pub data ArePairs (end separator : ℕ) : List ℕ → List Pair → Type 0 where
-  LastPair : (bytes : List ℕ) (pair : Pair) → Protects separator bytes → IsPair (place end bytes) separator bytes pair →
+  LastPair : (bytes : List ℕ) (pair : Pair) → Protects separator bytes → IsPair (offset end bytes) separator bytes pair →
       ArePairs end separator bytes (pair ∷ [])
   NextPair : (bytes rest : List ℕ) (pair : Pair) (pairs : List Pair) → Protects separator bytes → is_guard separator ≡ false
-      → IsPair (place end (bytes ++ (separator ∷ rest))) separator bytes pair → ArePairs end separator rest pairs →
+      → IsPair (offset end (bytes ++ (separator ∷ rest))) separator bytes pair → ArePairs end separator rest pairs →
       ArePairs end separator (bytes ++ (separator ∷ rest)) (pair ∷ pairs)
 
 -- the content of a bracket is empty and holds no pairs, or it is pairs
@@ -55,7 +55,7 @@ pub record IsBracket (shape : Bracket) (end : ℕ) (text rest : List ℕ) (pairs
   pub opens : text ≡ opener_of shape ∷ inside
   pub lead : lead_of (closer_of shape) inside ≡ (separator, content ++ (closer_of shape ∷ rest))
   pub closes : Protects (closer_of shape) content
-  pub holds : Holds (place end (closer_of shape ∷ rest)) separator content pairs
+  pub holds : Holds (offset end (closer_of shape ∷ rest)) separator content pairs
 
 abbrev pub begins_with : ℕ → List ℕ → Bool
 begins_with byte [] = false
@@ -73,7 +73,7 @@ pub data AreBrackets (shape : Bracket) (end : ℕ) : (text rest : List ℕ) → 
 -- a leg stands in front of the rest: its brackets, and a byte or more up to the next `,` or `|`
 pub record IsLeg (end : ℕ) (text rest : List ℕ) (leg : LegText) : Type 0 where
   pub brackets : AreBrackets Square end text (leg.endpoint ++ rest) leg.pairs
-  pub is_at : leg.at ≡ place end (leg.endpoint ++ rest)
+  pub is_at : leg.at ≡ offset end (leg.endpoint ++ rest)
   pub some : leg.endpoint ≢ []
   pub unbroken : list_any ends_leg leg.endpoint ≡ false
 

@@ -54,7 +54,7 @@ fn split_lead(closer: u8, text: &[u8]) -> (u8, &[u8])
     }
 }
 
-/// Reads all brackets of a kind that stand in front, in a dial string that ends at a place.
+/// Reads all brackets of a kind that stand in front, in a dial string that ends at an offset.
 #[tactic(auto, unfolding(crate::specs::Brackets::brackets_at))]
 pub(crate) fn read_brackets(
     alloc: Global,

@@ -22,7 +22,7 @@ pub struct DialString<'a> {
 /// The dial string that a text is, each part a slice of the text, or the fault that is met first from the left.
 ///
 /// `{pairs}` may stand before all, and `[pairs]` before each leg. Legs of a group are separated by `,`, and groups by
-/// `|`. There are 64 legs at most. Want of memory is told at place 0.
+/// `|`. There are 64 legs at most. Want of memory is told at offset 0.
 #[tactic(auto, unfolding(crate::specs::DialStrings::dial_string))]
 pub fn parse(alloc: Global, text: &[u8]) -> Result<DialString<'_>, DialFault>
     ensures { Tells spec.dial_of result (spec.dial_string text.now) }
@@ -43,7 +43,7 @@ pub fn parse(alloc: Global, text: &[u8]) -> Result<DialString<'_>, DialFault>
     }
 }
 
-/// Reads a text that ends at a place.
+/// Reads a text that ends at an offset.
 #[tactic(auto, unfolding(crate::specs::DialStrings::dial_within))]
 fn read_dial_string(alloc: Global, end: usize, text: &[u8]) -> Result<DialString<'_>, DialStop>
     requires { length text.now ≤ end }
@@ -54,7 +54,7 @@ fn read_dial_string(alloc: Global, end: usize, text: &[u8]) -> Result<DialString
     Ok(DialString { pairs, groups })
 }
 
-/// Reads the groups of a dial string that ends at a place.
+/// Reads the groups of a dial string that ends at an offset.
 #[tactic(auto, unfolding(crate::specs::DialStrings::groups_at))]
 fn read_groups(alloc: Global, end: usize, text: &[u8]) -> Result<Groups<'_>, DialStop>
     requires { length text.now ≤ end }

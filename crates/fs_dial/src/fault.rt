@@ -67,7 +67,7 @@ pub(crate) enum DialStop {
 impl DialStop {
     ghost use Rattle.fs_dial.specs.Faults.{fault_at};
 
-    /// The fault of a kind at a place.
+    /// The fault of a kind at an offset.
     pub fn at(at: usize, kind: DialKind) -> DialStop
         ensures { result ≡ stop.Fault (fault_at at kind) }
     {

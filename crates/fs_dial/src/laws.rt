@@ -5,7 +5,7 @@ ghost use Rattle.std.specs.Prelude.{◌≡◌, ℕ, List, Ok};
 ghost use Rattle.fs_dial.specs.DialStrings.{Dial, dial_string};
 ghost use Rattle.fs_dial.specs.Pairs.{Pair, plain};
 ghost use Rattle.fs_dial.specs.Spelling.{Spells};
-ghost use Rattle.fs_dial.specs.Places.{DialStands};
+ghost use Rattle.fs_dial.specs.Offsets.{DialStands};
 ghost use Rattle.fs_dial.specs.Values.{Says};
 
 /// What is read of a text is spelt by it, what it spells is read, and it spells one dial string at most.
@@ -15,7 +15,7 @@ pub fn one_dial_string()
     ensures one { (text : List ℕ) (some other : Dial) → Spells text some → Spells text other → some ≡ other }
 {}
 
-/// Each part of the dial string that a text is stands in it at its place.
+/// Each part of the dial string that a text is stands in it at its offset.
 pub fn each_part_stands()
     ensures { (text : List ℕ) (dial : Dial) → Spells text dial → DialStands text dial }
 {}

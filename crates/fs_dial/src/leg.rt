@@ -107,7 +107,7 @@ impl<'a> Groups<'a> {
     }
 }
 
-/// Reads a leg in front of the text, in a dial string that ends at a place.
+/// Reads a leg in front of the text, in a dial string that ends at an offset.
 #[tactic(auto, unfolding(crate::specs::Legs::leg_at))]
 pub(crate) fn read_leg(alloc: Global, end: usize, text: &[u8]) -> Result<(Leg<'_>, &[u8]), DialStop>
     requires { length text.now ≤ end }
@@ -144,7 +144,7 @@ fn read_endpoint<'a>(
 
 /// How many bytes stand before the first `,` or `|`.
 fn endpoint_len(text: &[u8]) -> usize
-    ensures place { result ≡ position_or_len spec.ends_leg text.now }
+    ensures offset { result ≡ position_or_len spec.ends_leg text.now }
     ensures within { result ≤ length text.now }
 {
     memchr2(b',', b'|', text).unwrap_or(text.len())

@@ -7,7 +7,7 @@ ghost use Rattle.fs_dial.specs.Pairs as spec;
 
 use crate::fault::{DialFault, DialKind, DialStop};
 use crate::guard::{from_mark, plain};
-use fs_text::{Memory, Txt, place_of};
+use fs_text::{Memory, Txt, offset_of};
 use std::alloc::Global;
 use std::marker::Model;
 
@@ -76,12 +76,12 @@ impl<'a> RawPairs<'a> {
     }
 }
 
-/// Reads a pair that begins at a place.
+/// Reads a pair that begins at an offset.
 #[tactic(auto, unfolding(crate::specs::Pairs::pair_at))]
 fn read_pair(at: usize, separator: u8, text: &[u8]) -> Result<RawPair<'_>, DialFault>
     ensures { Gives spec.pair_of result (spec.pair_at at separator text.now) }
 {
-    let (name, from) = text.split_at(place_of(b'=', text));
+    let (name, from) = text.split_at(offset_of(b'=', text));
     cut_pair(at, separator, name, from)
 }
 
@@ -109,7 +109,7 @@ fn cut_pair<'a>(
     }
 }
 
-/// Adds the next pair of a bracket's content that ends at a place, and answers what stands behind its separator.
+/// Adds the next pair of a bracket's content that ends at an offset, and answers what stands behind its separator.
 #[tactic(auto, unfolding(crate::specs::Pairs::pair_step))]
 fn take_pair<'a>(
     pairs: &mut RawPairs<'a>,
@@ -130,7 +130,7 @@ fn take_pair<'a>(
     }
 }
 
-/// Adds the pairs of a bracket's content that ends at a place.
+/// Adds the pairs of a bracket's content that ends at an offset.
 #[tactic(auto, unfolding(crate::specs::Pairs::pairs_at))]
 pub(crate) fn take_pairs<'a>(
     pairs: &mut RawPairs<'a>,

@@ -39,7 +39,7 @@ impl<'a> Reading<'a> {
         }
     }
 
-    /// Adds the leg in front of the text, in a dial string that ends at a place, and answers what stands behind its
+    /// Adds the leg in front of the text, in a dial string that ends at an offset, and answers what stands behind its
     /// separator.
     #[tactic(auto, unfolding(crate::specs::DialStrings::leg_step, crate::specs::DialStrings::behind_leg))]
     pub fn take_leg(&mut self, end: usize, text: &'a [u8]) -> Result<Option<&'a [u8]>, DialStop>

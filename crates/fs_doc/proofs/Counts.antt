@@ -32,7 +32,7 @@ use Rattle.fs_doc.specs.Settings.{default_settings, number_within, core_of, with
 use Rattle.fs_doc.specs.Settings.{setting}
 use Rattle.fs_doc.specs.Elements.{has}
 use Rattle.fs_doc.specs.Attributes.{many_of, global_of}
-use Rattle.fs_doc.specs.Contents.{new_content, BeginResult, attribute_value, global_on, global_begun, param_on, param_begun, context_place}
+use Rattle.fs_doc.specs.Contents.{new_content, BeginResult, attribute_value, global_on, global_begun, param_on, param_begun, context_position}
 use Rattle.fs_doc.specs.Contents.{context_at, context_begun, extension_begun, condition_of, pattern_counted, pattern_begun, condition_on}
 use Rattle.fs_doc.specs.Contents.{condition_begun, case_begun, action_of, action_begun, element_begun, extension_ended, extended}
 use Rattle.fs_doc.specs.Contents.{condition_ended, element_ended, new_context, extension_of, plain_of, with_child_of}
@@ -230,24 +230,24 @@ one_condition : (count : Condition → ℕ) (k : Condition) (ks : List Condition
 one_condition count k ks = let parts = sum_by-append count ks (k ∷ []) in omega arith
 
 -- an extension in its context adds what it has, at most
-extension_added : (count : Extension → ℕ) (place : ℕ) (e : Extension) (contexts : List Context) →
-    in_all count (with_extension place e contexts) ≤ in_all count contexts + count e
-extension_added count place e [] = omega arith
+extension_added : (count : Extension → ℕ) (position : ℕ) (e : Extension) (contexts : List Context) →
+    in_all count (with_extension position e contexts) ≤ in_all count contexts + count e
+extension_added count position e [] = omega arith
 extension_added count zero e (context ∷ contexts) =
     let first = sum_by-cons (in_context count) (record context { extensions = context.extensions ++ e ∷ [] }) contexts in
     let second = sum_by-cons (in_context count) context contexts in
     let longer = one_longer count e context.extensions in
     omega arith
-extension_added count (suc place) e (context ∷ contexts) =
-    let first = sum_by-cons (in_context count) context (with_extension place e contexts) in
+extension_added count (suc position) e (context ∷ contexts) =
+    let first = sum_by-cons (in_context count) context (with_extension position e contexts) in
     let second = sum_by-cons (in_context count) context contexts in
-    let more = extension_added count place e contexts in
+    let more = extension_added count position e contexts in
     omega arith
 
-same_contexts : (place : ℕ) (e : Extension) (contexts : List Context) → length (with_extension place e contexts) ≡ length contexts
-same_contexts place e [] = refl
+same_contexts : (position : ℕ) (e : Extension) (contexts : List Context) → length (with_extension position e contexts) ≡ length contexts
+same_contexts position e [] = refl
 same_contexts zero e (context ∷ contexts) = refl
-same_contexts (suc place) e (context ∷ contexts) = ap suc (same_contexts place e contexts)
+same_contexts (suc position) e (context ∷ contexts) = ap suc (same_contexts position e contexts)
 
 -- ---- what tests tell
 
@@ -304,12 +304,12 @@ param_keeps c (Some s) ranged h = record {
   actions_most = h.actions_most;
 }
 
-context_keeps : (name : Text) (place : ℕ) (c : Content) → IsCounted c → Keeps (context_at name place c)
-context_keeps name place c h = by (nat_lt place (length c.contexts)) (nat_lt (length c.contexts) 256) refl
+context_keeps : (name : Text) (position : ℕ) (c : Content) → IsCounted c → Keeps (context_at name position c)
+context_keeps name position c h = by (nat_lt position (length c.contexts)) (nat_lt (length c.contexts) 256) refl
   where
     by : (s t : Bool) → nat_lt (length c.contexts) 256 ≡ t
-        → Keeps (cond s (Ok (level.Context, record c { context = place }))
-        (cond t (Ok (level.Context, record c { context = place; contexts = c.contexts ++ new_context name ∷ [] }))
+        → Keeps (cond s (Ok (level.Context, record c { context = position }))
+        (cond t (Ok (level.Context, record c { context = position; contexts = c.contexts ++ new_context name ∷ [] }))
         (Err faults.TooLarge)))
     by true t small = record {
       settings = h.settings;
@@ -501,7 +501,7 @@ begun_counted (kind.Param file) pairs c h =
     param_keeps c (setting file (attribute_value pairs (codes "name")) (attribute_value pairs (codes "value")) c.settings)
     (setting_ranged file (attribute_value pairs (codes "name")) (attribute_value pairs (codes "value")) c.settings h.settings) h
 begun_counted kind.Context pairs c h =
-    context_keeps (attribute_value pairs (codes "name")) (context_place (attribute_value pairs (codes "name")) c.contexts) c h
+    context_keeps (attribute_value pairs (codes "name")) (context_position (attribute_value pairs (codes "name")) c.contexts) c h
 begun_counted kind.Extension pairs c h = extension_keeps pairs c h
 begun_counted kind.Condition pairs c h = condition_on_keeps pairs c (many_of (attribute_value pairs (codes "regex"))) h
 begun_counted kind.Case pairs c h = case_keeps pairs c h

@@ -6,7 +6,7 @@ use Rattle.std.proofs.lemmas.Bool.{and_left, and_right, or_parts, ne_eqb, eqb-fa
 use Rattle.std.proofs.lemmas.List.{length-take-le, drop-drop}
 use Rattle.fs_text.specs.Words.{is_byte, halves_of}
 use Rattle.fs_text.specs.Texts.{Text}
-use Rattle.fs_text.proofs.Cuts.{place_within, cut_behind, none_cut}
+use Rattle.fs_text.proofs.Cuts.{offset_within, cut_behind, none_cut}
 use Rattle.fs_vars.specs.Pairs.{Pairs, value_of}
 use Rattle.fs_vars.specs.Expansion.{Piece, by_pieces, is_brace}
 use Rattle.fs_vars.proofs.ExpansionLemmas.{by_pieces-front}
@@ -93,9 +93,9 @@ module _ (globals : Pairs) where
           let both : ◌≡◌ {A = List ℕ × List ℕ} (before_first is_brace more, after_first is_brace more) (name, rest) = cc in
           let before : before_first is_brace more ≡ name = ap (λ (x : List ℕ × List ℕ). x.0) both in
           let behind : after_first is_brace more ≡ rest = ap (λ (x : List ℕ × List ℕ). x.1) both in
-          let place : length (before_first is_brace more) ≡ n = length-take-le n more (place_within is_brace more) in
+          let offset : length (before_first is_brace more) ≡ n = length-take-le n more (offset_within is_brace more) in
           let past : drop (length (before_first is_brace more) + 4) text ≡ rest =
-          ap (λ k. drop k text) (omega (arith, place)) ∙ sym (drop-drop (n + 1) 3 text) ∙ behind in
+          ap (λ k. drop k text) (omega (arith, offset)) ∙ sym (drop-drop (n + 1) 3 text) ∙ behind in
           replaced-front text (record { text = unwrap_or (value_of globals (global_name text)) []; len = length (global_name text) + 4 })
           (has_bytes text start) (rw (start, some)) (omega arith)
           ∙ ap (λ bytes. unwrap_or (value_of globals bytes) [] ++ replaced globals (drop (length (global_name text) + 4) text)) before

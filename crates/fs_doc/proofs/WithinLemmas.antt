@@ -3,7 +3,7 @@ use Rattle.std.proofs.Common.{◌≡◌, ◌==◌, ℕ, zero, suc, ◌+◌, Bool
 use Rattle.std.proofs.Common.{IfOk, subst, arith}
 use Rattle.std.specs.Str.{bytes_eq}
 use Rattle.fs_text.specs.Texts.{Text}
-use Rattle.fs_xml.specs.Bytes.{is_blank, past, place}
+use Rattle.fs_xml.specs.Bytes.{is_blank, past, offset}
 use Rattle.fs_xml.specs.Tags.{BodyText}
 use Rattle.fs_xml.specs.Markup.{Mark, Comment, End, Start}
 use Rattle.fs_xml.specs.Results.{◌>>=◌}
@@ -100,8 +100,8 @@ at_mark_keeps end r [] h = by (is_outside r.opened && r.content.done)
     by true = h
     by false = tt
 at_mark_keeps end r (b ∷ rest) h =
-    after KeepsNext (mark_read r.content.done (is_outside r.opened) end (place end (b ∷ rest)) rest) _
-    (λ x. then KeepsRead KeepsNext (mark_entered (place end (b ∷ rest)) x.0 r) _ (mark_keeps (place end (b ∷ rest)) x.0 r h)
+    after KeepsNext (mark_read r.content.done (is_outside r.opened) end (offset end (b ∷ rest)) rest) _
+    (λ x. then KeepsRead KeepsNext (mark_entered (offset end (b ∷ rest)) x.0 r) _ (mark_keeps (offset end (b ∷ rest)) x.0 r h)
     (λ next kept. kept))
 
 round_keeps : (end : ℕ) (r : ReadSoFar) (bytes : Text) → IsCounted r.content → IfOk (round end r bytes) KeepsNext

@@ -108,7 +108,7 @@ case_fault name text = if bytes_eq name (codes "expression") then expression_fau
 
 -- ---- the attributes of a tag
 
--- an element's tag: its kind, its place, the globals that are set before it, and its attributes as they are written
+-- an element's tag: its kind, where it stands, the globals that are set before it, and its attributes as they are written
 pub record Tagged : Type 0 where
   pub kind : Kind
   pub tag : ℕ
@@ -161,13 +161,13 @@ unfoldable pub text_read : Tagged → Written → Result Text DocFault
 text_read e a = text_on a.at (value_read (is_foreign e.kind) e.globals a.end a.value)
 
 -- an unknown command is told at the tag, and all else at the name of the attribute
-abbrev pub fault_place : ℕ → ℕ → DocKind → ℕ
-fault_place tag name fault.UnknownElement = tag
-fault_place tag name _ = name
+abbrev pub fault_offset : ℕ → ℕ → DocKind → ℕ
+fault_offset tag name fault.UnknownElement = tag
+fault_offset tag name _ = name
 
 abbrev pub unless_fault : {X : Type 0} → ℕ → ℕ → Option DocKind → X → Result X DocFault
 unless_fault tag name None x = Ok x
-unless_fault tag name (Some kind) x = faults.fault (fault_place tag name kind) kind
+unless_fault tag name (Some kind) x = faults.fault (fault_offset tag name kind) kind
 
 -- the attributes so far with one more
 unfoldable pub attribute_read : Tagged → Pairs → Written → Result Pairs DocFault

@@ -77,26 +77,26 @@ param_begun file pairs c =
 
 -- ---- the dialplan
 
--- the place of the context of a name, or of a new one
-abbrev pub context_place : Text → List Context → ℕ
-context_place name contexts = position_or_len (λ context. bytes_eq context.name name) contexts
+-- the position of the context of a name, or of a new one
+abbrev pub context_position : Text → List Context → ℕ
+context_position name contexts = position_or_len (λ context. bytes_eq context.name name) contexts
 
 -- a context of this name, still without extensions
 abbrev pub new_context : Text → Context
 new_context name = record { name = name; extensions = [] }
 
--- at the place behind all others a new context begins
+-- at the position behind all others a new context begins
 abbrev pub context_at : Text → ℕ → Content → BeginResult
-context_at name place c =
-    if nat_lt place (length c.contexts) then Ok (level.Context, record c { context = place })
+context_at name position c =
+    if nat_lt position (length c.contexts) then Ok (level.Context, record c { context = position })
     else if nat_lt (length c.contexts) 256
-    then Ok (level.Context, record c { context = place; contexts = c.contexts ++ new_context name ∷ [] })
+    then Ok (level.Context, record c { context = position; contexts = c.contexts ++ new_context name ∷ [] })
     else Err fault.TooLarge
 
 -- a name that is new is a new context
 unfoldable pub context_begun : Pairs → Content → BeginResult
 context_begun pairs c =
-    context_at (attribute_value pairs (codes "name")) (context_place (attribute_value pairs (codes "name")) c.contexts) c
+    context_at (attribute_value pairs (codes "name")) (context_position (attribute_value pairs (codes "name")) c.contexts) c
 
 -- an extension of this name, which may say that the hunt goes on behind it, still without conditions
 abbrev pub extension_of : Pairs → Extension

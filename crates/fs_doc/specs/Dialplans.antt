@@ -17,11 +17,11 @@ Extension = ExtensionDef Text
 abbrev pub Condition : Type 0
 Condition = ConditionDef Text
 
--- the context at a place has one more extension, behind its others
+-- the context at a position has one more extension, behind its others
 abbrev pub with_extension : ℕ → Extension → List Context → List Context
-with_extension place extension [] = []
+with_extension position extension [] = []
 with_extension zero extension (context ∷ contexts) = record context { extensions = context.extensions ++ extension ∷ [] } ∷ contexts
-with_extension (suc place) extension (context ∷ contexts) = context ∷ with_extension place extension contexts
+with_extension (suc position) extension (context ∷ contexts) = context ∷ with_extension position extension contexts
 
 -- a test with one more child
 abbrev pub with_case : Text → Text → Test Text → Test Text

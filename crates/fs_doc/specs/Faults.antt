@@ -22,7 +22,7 @@ kind_name kind.UnknownElement = codes "UnknownElement"
 kind_name kind.BadSetting = codes "BadSetting"
 kind_name kind.Memory = codes "Memory"
 
--- the fault of a kind at a place
+-- the fault of a kind at an offset
 abbrev pub fault_at : ℕ → DocKind → DocFault
 fault_at at kind = record { at = at; kind = kind }
 
@@ -30,7 +30,7 @@ fault_at at kind = record { at = at; kind = kind }
 abbrev pub fault : {X : Type 0} → ℕ → DocKind → Result X DocFault
 fault at kind = Err (fault_at at kind)
 
--- what is read, or the fault of this kind at this place
+-- what is read, or the fault of this kind at this offset
 abbrev pub or_at : {X : Type 0} → ℕ → Result X DocKind → Result X DocFault
 or_at at (Ok x) = Ok x
 or_at at (Err kind) = fault at kind
@@ -45,7 +45,7 @@ abbrev pub DocGives : {X Y : Type 0} → (X → Y) → Result X DocStop → Resu
 DocGives view (Ok x) read = read ≡ Ok (view x)
 DocGives view (Err e) read = DocStops e read
 
--- the same, where want of memory is a fault of its own with the place 0
+-- the same, where want of memory is a fault of its own with the offset 0
 abbrev pub ConfigGives : {X Y : Type 0} → (X → Y) → Result X DocFault → Result Y DocFault → Type 0
 ConfigGives view (Ok x) read = read ≡ Ok (view x)
 ConfigGives view (Err f) read = (f ≡ record { at = 0; kind = kind.Memory }) ⊎ (read ≡ Err f)

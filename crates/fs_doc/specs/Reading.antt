@@ -6,7 +6,7 @@ use Rattle.std.specs.List.{starts_with, position_or_len}
 use Rattle.fs_text.specs.Words.{is_byte}
 use Rattle.fs_text.specs.Texts.{Text}
 use Rattle.fs_vars.specs.Variables.{Variables}
-use Rattle.fs_xml.specs.Bytes.{is_blank, past, place}
+use Rattle.fs_xml.specs.Bytes.{is_blank, past, offset}
 use Rattle.fs_xml.specs.Tags.{BodyText}
 use Rattle.fs_xml.specs.Markup.{Mark, Comment, End, Start, Marks, mark_at}
 use Rattle.fs_xml.specs.Results.{◌>>=◌}
@@ -56,13 +56,13 @@ text_kind _ = kind.TextContent
 -- what stands behind blanks is markup
 abbrev pub blank_text : ℕ → Level → Text → Result Text DocFault
 blank_text end level [] = Ok []
-blank_text end level (b ∷ rest) = if b == 60 then Ok (b ∷ rest) else fault (place end (b ∷ rest)) (text_kind level)
+blank_text end level (b ∷ rest) = if b == 60 then Ok (b ∷ rest) else fault (offset end (b ∷ rest)) (text_kind level)
 
 -- what stands from the first `<` on
 abbrev pub any_text : Text → Text
 any_text bytes = drop (position_or_len (is_byte 60) bytes) bytes
 
--- what stands behind the text in front: in a foreign place there may be any text, elsewhere blanks
+-- what stands behind the text in front: in a foreign element there may be any text, elsewhere blanks
 unfoldable pub text_at : ℕ → Level → Text → Result Text DocFault
 text_at end level.Foreign bytes = Ok (any_text bytes)
 text_at end level bytes = blank_text end level (past is_blank bytes)
@@ -78,7 +78,7 @@ abbrev pub mark_or : Bool → ℕ → ℕ → Marks → Result (Mark × Text) Do
 mark_or done end at (Ok x) = Ok x
 mark_or done end at (Err stop) = Err (stop_fault done end at stop)
 
--- the markup behind a `<` at a place; outside of all elements there is no end tag
+-- the markup behind a `<` at an offset; outside of all elements there is no end tag
 unfoldable pub mark_read : Bool → Bool → ℕ → ℕ → Text → Result (Mark × Text) DocFault
 mark_read done outside end at bytes =
     if outside && starts_with nat_eq bytes (codes "/") then fault at kind.BadTag else mark_or done end at (mark_at end bytes)
@@ -90,7 +90,7 @@ abbrev pub with_element : Ending → Text → List Opened → Level × Content �
 with_element Opens name opened x = record { opened = record { level = x.0; name = name } ∷ opened; content = x.1 }
 with_element Closes name opened x = record { opened = opened; content = element_ended x.0 x.1 }
 
--- the element is judged: its place, its attributes, and then what it adds
+-- the element is judged: its level, its attributes, and then what it adds
 unfoldable pub element_read : ℕ → Text → BodyText → Level → Content → Result (Level × Content) DocFault
 element_read at name body level c =
     or_at at (kind_in level c.done name) >>= λ kind.
@@ -138,8 +138,8 @@ Nexts = Result Next DocFault
 unfoldable pub at_mark : ℕ → ReadSoFar → Text → Nexts
 at_mark end r [] = if is_outside r.opened && r.content.done then Ok (Over r.content) else fault end kind.Truncated
 at_mark end r (b ∷ rest) =
-    mark_read r.content.done (is_outside r.opened) end (place end (b ∷ rest)) rest >>= λ x.
-    (mark_entered (place end (b ∷ rest)) x.0 r >>= λ next. Ok (On next x.1))
+    mark_read r.content.done (is_outside r.opened) end (offset end (b ∷ rest)) rest >>= λ x.
+    (mark_entered (offset end (b ∷ rest)) x.0 r >>= λ next. Ok (On next x.1))
 
 -- the text in front, and the markup behind it
 unfoldable pub round : ℕ → ReadSoFar → Text → Nexts

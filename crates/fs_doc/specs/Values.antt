@@ -45,6 +45,6 @@ Replaces globals old text new rest = new ++ rest_replaced globals rest ≡ old +
 abbrev pub plain_len : Text → ℕ
 plain_len text = position_or_len (is_byte 36) text
 
--- the text of a value, whose entities are decoded first; in a foreign place a `<` is allowed and nothing is replaced
+-- the text of a value, whose entities are decoded first; in a foreign element a `<` is allowed and nothing is replaced
 unfoldable pub value_read : Bool → Pairs → ℕ → Text → Values
 value_read foreign globals end value = value_text foreign end value >>= λ text. Ok (if foreign then text else replaced globals text)

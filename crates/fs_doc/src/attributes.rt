@@ -17,7 +17,7 @@ use fs_vars::Vars;
 use fs_xml::{Attr, ValueFault, ValueStop};
 use std::alloc::Global;
 
-/// An element's start tag: its kind, its place, the globals that are set before it, and its attributes.
+/// An element's start tag: its kind, where it stands, the globals that are set before it, and its attributes.
 #[derive(Clone, Copy)]
 pub(crate) struct Element<'e, 'a> {
     pub kind: Kind,
@@ -213,8 +213,8 @@ fn written_as<'e, 'a>(name: &[u8], attrs: &'e [Attr<'a>]) -> Option<&'e Attr<'a>
 }
 
 /// Where a fault of an attribute is told: an unknown command at the tag, all else at the attribute's name.
-fn fault_place(tag: usize, name: usize, kind: DocKind) -> usize
-    ensures { result ≡ judged.fault_place tag name kind }
+fn fault_offset(tag: usize, name: usize, kind: DocKind) -> usize
+    ensures { result ≡ judged.fault_offset tag name kind }
 {
     match kind {
         DocKind::UnknownElement => tag,
@@ -266,7 +266,7 @@ impl<'e, 'a> Element<'e, 'a> {
         }
         let text = self.text(alloc, attr)?;
         if let Some(kind) = self.value_fault(alloc, attr.name, text.as_bytes())? {
-            return Err(DocStop::at(fault_place(self.tag, attr.at, kind), kind));
+            return Err(DocStop::at(fault_offset(self.tag, attr.at, kind), kind));
         }
         given.push(attr.name, text)?;
         Ok(())

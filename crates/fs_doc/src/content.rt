@@ -34,7 +34,7 @@ pub struct Content {
     pub globals: Vars,
     pub settings: Settings,
     pub contexts: Listed<ContextDef<Txt>>,
-    /// The place of the context that was opened last.
+    /// The position of the context that was opened last.
     pub context: usize,
     /// The open extension, without the open condition.
     pub extension: Option<ExtensionDef<Txt>>,
@@ -175,8 +175,8 @@ impl Content {
     {
         let contexts = self.contexts.as_slice();
         let len = contexts.len();
-        let place = context_place(given.bytes(b"name"), contexts);
-        if place >= len {
+        let position = context_position(given.bytes(b"name"), contexts);
+        if position >= len {
             if len >= MOST_CONTEXTS {
                 return Err(DocStop::at(at, DocKind::TooLarge));
             }
@@ -184,7 +184,7 @@ impl Content {
             let extensions = Listed::new(alloc);
             self.contexts.push(ContextDef { name, extensions })?;
         }
-        self.context = place;
+        self.context = position;
         Ok(Level::Context)
     }
 
@@ -349,19 +349,19 @@ fn section_level(name: &[u8]) -> Level
     }
 }
 
-/// The place of the context of a name, or their number where there is none.
-fn context_place(name: &[u8], contexts: &[ContextDef<Txt>]) -> usize
-    ensures place { result ≡ contents.context_place name.now contexts.now }
+/// The position of the context of a name, or their number where there is none.
+fn context_position(name: &[u8], contexts: &[ContextDef<Txt>]) -> usize
+    ensures position { result ≡ contents.context_position name.now contexts.now }
     ensures within { result ≤ length contexts.now }
 {
-    let mut place = 0;
-    while place < contexts.len() {
-        if contexts[place].name.as_bytes() == name {
-            return place;
+    let mut position = 0;
+    while position < contexts.len() {
+        if contexts[position].name.as_bytes() == name {
+            return position;
         }
-        place += 1;
+        position += 1;
     }
-    place
+    position
 }
 
 /// A condition of this test, without actions.

@@ -93,17 +93,17 @@ pub struct PlanAction {
     pub inline: bool,
 }
 
-/// Puts an extension behind those of the context at a place.
+/// Puts an extension behind those of the context at a position.
 pub(crate) fn add_extension(
     contexts: &mut Vec<ContextDef<Txt>>,
-    place: usize,
+    position: usize,
     extension: ExtensionDef<Txt>,
 ) -> Result<(), Memory>
-    ensures added { OnOk result (contexts.new.items ≡ with_extension place extension contexts.old.items) }
+    ensures added { OnOk result (contexts.new.items ≡ with_extension position extension contexts.old.items) }
     ensures err { OnErr result (contexts.new.items ≡ contexts.old.items) }
 {
-    if place < contexts.len() {
-        contexts[place].extensions.push(extension)?;
+    if position < contexts.len() {
+        contexts[position].extensions.push(extension)?;
     }
     Ok(())
 }

@@ -12,7 +12,7 @@ use crate::content::Content;
 use crate::element::Level;
 use crate::fault::{DocFault, DocKind, DocStop};
 use crate::state::State;
-use fs_text::place_of;
+use fs_text::offset_of;
 use fs_xml::{Markup, MarkupStop, TagStop, past_blanks, read_markup};
 use std::alloc::Global;
 
@@ -23,8 +23,8 @@ const MOST_BYTES: usize = 1_048_576;
 ///
 /// Bytes that are all blanks are the empty configuration. Otherwise one `document` stands behind an optional
 /// declaration, among blanks and comments. The document is read from its start, each tag as a whole; at an element its
-/// name and place are judged first, then its attributes in their order, then a malformed or a missing one, and last a
-/// limit or a setting. Want of memory is told at place 0.
+/// name and level are judged first, then its attributes in their order, then a malformed or a missing one, and last a
+/// limit or a setting. Want of memory is told at offset 0.
 #[tactic(auto, unfolding(crate::specs::Reading::config_of))]
 pub fn read_config(alloc: Global, bytes: &[u8]) -> Result<Config, DocFault>
     ensures { ConfigGives views.configuration_of result (reading.config_of bytes.now) }
@@ -94,7 +94,7 @@ fn round<'a>(
     read_mark(alloc, end, state, rest)
 }
 
-/// What stands behind the text in front: in a foreign place there may be any text, elsewhere blanks.
+/// What stands behind the text in front: in a foreign element there may be any text, elsewhere blanks.
 #[tactic(auto, unfolding(crate::specs::Reading::text_at))]
 fn past_text(end: usize, level: Level, text: &[u8]) -> Result<&[u8], DocStop>
     requires { length text.now ≤ end }
@@ -112,7 +112,7 @@ fn past_any_text(text: &[u8]) -> &[u8]
     ensures rest { result.now ≡ reading.any_text text.now }
     ensures within { length result.now ≤ length text.now }
 {
-    let (_, rest) = text.split_at(place_of(b'<', text));
+    let (_, rest) = text.split_at(offset_of(b'<', text));
     rest
 }
 

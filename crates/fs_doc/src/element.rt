@@ -7,7 +7,7 @@ use crate::fault::DocKind;
 use crate::given::Given;
 use crate::settings::ConfigFile;
 
-/// What may stand at a place: the inside of an element.
+/// What may stand at a level: the inside of an element.
 #[derive(Clone, Copy, Debug, PartialEq, Eq)]
 pub enum Level {
     /// Outside of the document.
@@ -26,7 +26,7 @@ pub enum Level {
     Cases,
     /// An element that has to be empty.
     Empty,
-    /// A place where nothing is judged but the markup.
+    /// A level where nothing is judged but the markup.
     Foreign,
 }
 

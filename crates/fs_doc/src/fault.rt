@@ -33,7 +33,7 @@ pub enum DocKind {
     ExpressionVariable,
     /// `break` has none of its four values.
     UnknownBreak,
-    /// There is no such element, or none at that place.
+    /// There is no such element, or none at that level.
     UnknownElement,
     /// A parameter is out of its range.
     BadSetting,
@@ -91,7 +91,7 @@ pub(crate) enum DocStop {
 impl DocStop {
     ghost use Rattle.fs_doc.specs.Faults.{fault_at};
 
-    /// The fault of a kind at a place.
+    /// The fault of a kind at an offset.
     pub fn at(at: usize, kind: DocKind) -> DocStop
         ensures { result ≡ stop.Fault (fault_at at kind) }
     {

@@ -6,7 +6,7 @@ ghost use Rattle.fs_doc.specs.GlobalLaws as laws;
 ghost use Rattle.fs_doc.specs.Values as values;
 ghost use Rattle.fs_doc.specs.Values.{replaced};
 
-use fs_text::{Memory, place_of, split_at_byte};
+use fs_text::{Memory, offset_of, split_at_byte};
 use fs_vars::Vars;
 use std::alloc::Global;
 
@@ -46,10 +46,10 @@ fn step<'a>(globals: &Vars, out: &mut Vec<u8>, text: &'a [u8]) -> Result<Option<
 
 /// How many bytes stand before the first `$`.
 fn plain_len(text: &[u8]) -> usize
-    ensures place { result ≡ values.plain_len text.now }
+    ensures offset { result ≡ values.plain_len text.now }
     ensures within { result ≤ length text.now }
 {
-    place_of(b'$', text)
+    offset_of(b'$', text)
 }
 
 /// Adds what the `$` in front stands for, if there is one.

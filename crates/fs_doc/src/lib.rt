@@ -1,7 +1,7 @@
 //! Configurations out of documents: the XML files that FreeSWITCH is configured by.
 //!
 //! A document is read in one pass, with the open elements on a stack. Everything in it is judged strictly: what is not
-//! in the grammar is a fault, of which kind and place are told.
+//! in the grammar is a fault, of which kind and offset are told.
 #![tactic(auto)]
 
 mod attributes;

@@ -54,14 +54,14 @@ impl<T: Drop> Listed<T> {
 impl Listed<ContextDef<Txt>> {
     ghost use Rattle.fs_doc.specs.Dialplans.{with_extension};
 
-    /// Puts an extension behind those of the context at a place.
+    /// Puts an extension behind those of the context at a position.
     pub(crate) fn add_extension(
         &mut self,
-        place: usize,
+        position: usize,
         extension: ExtensionDef<Txt>,
     ) -> Result<(), Memory>
-        ensures { OnOk result (self.new ≡ with_extension place extension self.old) }
+        ensures { OnOk result (self.new ≡ with_extension position extension self.old) }
     {
-        add_extension(&mut self.held, place, extension)
+        add_extension(&mut self.held, position, extension)
     }
 }

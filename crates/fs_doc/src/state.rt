@@ -62,7 +62,7 @@ impl<'a> State<'a> {
         }
     }
 
-    /// Enters the markup that stands at a place.
+    /// Enters the markup that stands at an offset.
     #[tactic(auto, unfolding(crate::specs::Reading::mark_entered))]
     pub fn enter(&mut self, alloc: Global, at: usize, mark: Markup<'a>) -> Result<(), DocStop>
         ensures { Leaves self.new result (reading.mark_entered at (mark_of mark.entry) (reading_of self.old)) }

@@ -10,8 +10,8 @@ use fs_vars::Vars;
 use fs_xml::{ValueStop, decode};
 use std::alloc::Global;
 
-/// The text of a value that ends at a place: its entities are decoded, and then the globals replaced. In a foreign
-/// place a `<` is allowed, and nothing is replaced.
+/// The text of a value that ends at an offset: its entities are decoded, and then the globals replaced. In a foreign
+/// element a `<` is allowed, and nothing is replaced.
 #[tactic(auto, unfolding(crate::specs::Values::value_read))]
 pub(crate) fn read_value(
     alloc: Global,

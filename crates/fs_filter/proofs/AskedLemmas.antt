@@ -15,28 +15,28 @@ pub any_text : (p : Text → Bool) (words : List (Bor Text)) → list_any (λ wo
 any_text p [] = refl
 any_text p (word ∷ words) = ap (λ rest. p word.now || rest) (any_text p words)
 
--- the place of the first that passes
-pub text_place : (p : Text → Bool) (words : List (Bor Text)) → position_or_len (λ word. p word.now) words ≡ position_or_len p (texts words)
-text_place p [] = refl
-text_place p (word ∷ words) = ap (λ rest. cond (not (p word.now)) (1 + rest) 0) (text_place p words)
+-- the position of the first that passes
+pub text_position : (p : Text → Bool) (words : List (Bor Text)) → position_or_len (λ word. p word.now) words ≡ position_or_len p (texts words)
+text_position p [] = refl
+text_position p (word ∷ words) = ap (λ rest. cond (not (p word.now)) (1 + rest) 0) (text_position p words)
 
--- the place, or the length where none passes
-pub place_is : (p : Bor Text → Bool) (words : List (Bor Text)) → unwrap_or (position p words) (length words) ≡ position_or_len p words
-place_is p words = by (position_or_len p words) (length words) (prefix_len-le-length (λ word. not (p word)) words)
+-- the position, or the length where none passes
+pub position_is : (p : Bor Text → Bool) (words : List (Bor Text)) → unwrap_or (position p words) (length words) ≡ position_or_len p words
+position_is p words = by (position_or_len p words) (length words) (prefix_len-le-length (λ word. not (p word)) words)
   where
-    by : (place len : ℕ) → place ≤ len → unwrap_or (cond (ltb place len) (Some place) None) len ≡ place
-    by place len h = grind (arith, nat_tests)
+    by : (position len : ℕ) → position ≤ len → unwrap_or (cond (ltb position len) (Some position) None) len ≡ position
+    by position len h = grind (arith, nat_tests)
 
 -- what stands before the first `CUSTOM` and behind it
-pub cut_at_custom : (words : List (Bor Text)) (place : ℕ) (names from : List (Bor Text)) (subclasses : Option (Bor (List (Bor Text)))) →
-    place ≡ position_or_len is_custom (texts words) → names ≡ take place words → from ≡ drop place words →
+pub cut_at_custom : (words : List (Bor Text)) (position : ℕ) (names from : List (Bor Text)) (subclasses : Option (Bor (List (Bor Text)))) →
+    position ≡ position_or_len is_custom (texts words) → names ≡ take position words → from ≡ drop position words →
     option_map (λ s. texts s.now) subclasses ≡ behind_first (texts from) →
     record { names = texts names; subclasses = option_map (λ s. texts s.now) subclasses } ≡ asked_of (texts words)
-cut_at_custom words place names from subclasses is front back behind =
+cut_at_custom words position names from subclasses is front back behind =
     let first : texts names ≡ take (position_or_len is_custom (texts words)) (texts words) =
-    ap texts front ∙ sym (take-map (λ word. word.now) place words) ∙ ap (λ n. take n (texts words)) is in
+    ap texts front ∙ sym (take-map (λ word. word.now) position words) ∙ ap (λ n. take n (texts words)) is in
     let rest : texts from ≡ drop (position_or_len is_custom (texts words)) (texts words) =
-    ap texts back ∙ sym (drop-map (λ word. word.now) place words) ∙ ap (λ n. drop n (texts words)) is in
+    ap texts back ∙ sym (drop-map (λ word. word.now) position words) ∙ ap (λ n. drop n (texts words)) is in
     rw (first, behind, rest) refl
 
 -- where no `CUSTOM` stands there, a known name is one of the names

@@ -42,7 +42,7 @@ impl<'a> Asked<'a> {
     pub fn of(words: &'a [&'a [u8]]) -> Asked<'a>
         ensures { result ≡ asked_of (texts words.now) }
     {
-        let (names, from) = words.split_at(place_of_custom(words));
+        let (names, from) = words.split_at(position_of_custom(words));
         Asked {
             names,
             subclasses: behind_first(from),
@@ -79,8 +79,8 @@ impl<'a> Asked<'a> {
     }
 }
 
-// The place of the first `CUSTOM`, or the number of words where none stands there.
-fn place_of_custom(words: &[&[u8]]) -> usize
+// The position of the first `CUSTOM`, or the number of words where none stands there.
+fn position_of_custom(words: &[&[u8]]) -> usize
     ensures { result ≡ position_or_len (λ word. is_custom word.now) words.now }
 {
     words

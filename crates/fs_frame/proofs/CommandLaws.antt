@@ -176,7 +176,7 @@ without_text bytes text_len len goes empty = record {
 
 -- ---- a search for the command line
 
--- the bytes from this place on have the command line of all of them
+-- the bytes from this offset on have the command line of all of them
 pub record StandsAhead (bytes : List ℕ) (start : ℕ) : Type 0 where
   pub within : start ≤ length bytes
   pub line_is : first_text (lines_of (drop start bytes)) ≡ first_text (lines_of bytes)

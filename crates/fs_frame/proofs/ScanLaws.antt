@@ -48,19 +48,19 @@ position_or_len-searched p (suc searched) (byte ∷ bytes) none =
     rw parts.0 (omega (arith, position_or_len-searched p searched bytes parts.1))
 
 -- so a search may begin there
-pub position_or_len-from : (searched place : ℕ) (bytes : List ℕ) → searched ≤ position_or_len is_lf bytes →
-    place ≡ position_or_len is_lf (take (length bytes - searched) (drop searched bytes)) → searched + place ≡ position_or_len is_lf bytes
-position_or_len-from searched place bytes none found =
-    let rest : place ≡ position_or_len is_lf (drop searched bytes) = rw (take_rest bytes searched) at found in
+pub position_or_len-from : (searched offset : ℕ) (bytes : List ℕ) → searched ≤ position_or_len is_lf bytes →
+    offset ≡ position_or_len is_lf (take (length bytes - searched) (drop searched bytes)) → searched + offset ≡ position_or_len is_lf bytes
+position_or_len-from searched offset bytes none found =
+    let rest : offset ≡ position_or_len is_lf (drop searched bytes) = rw (take_rest bytes searched) at found in
     rw rest (position_or_len-searched is_lf searched bytes none)
 
 pub searched-le-length : (searched : ℕ) (bytes : List ℕ) → searched ≤ position_or_len is_lf bytes → searched ≤ length bytes
 searched-le-length searched bytes none = omega (arith, position_or_len-le-length is_lf bytes)
 
-pub place-le-length : (searched place : ℕ) (bytes : List ℕ) → searched ≤ position_or_len is_lf bytes →
-    place ≡ position_or_len is_lf (take (length bytes - searched) (drop searched bytes)) → searched + place ≤ length bytes
-place-le-length searched place bytes none found =
-    omega (arith, position_or_len-from searched place bytes none found, position_or_len-le-length is_lf bytes)
+pub offset-le-length : (searched offset : ℕ) (bytes : List ℕ) → searched ≤ position_or_len is_lf bytes →
+    offset ≡ position_or_len is_lf (take (length bytes - searched) (drop searched bytes)) → searched + offset ≤ length bytes
+offset-le-length searched offset bytes none found =
+    omega (arith, position_or_len-from searched offset bytes none found, position_or_len-le-length is_lf bytes)
 
 -- a CR at the end is left out of the text
 pub ends_with_cr : (n : ℕ) (bytes : List ℕ) → length bytes ≡ suc n → get_or bytes n 0 ≡ 13 → without_cr bytes ≡ take n bytes
@@ -124,29 +124,29 @@ pub lf_at : (bytes : List ℕ) (has : HasLf bytes) → position_or_len is_lf byt
 lf_at bytes has =
     ap (λ (bs : List ℕ). position_or_len is_lf bs) has.split ∙ position_or_len-append is_lf has.content 10 has.more has.no_lf refl
 
--- nothing stands behind the place of the first LF, so there is none
-pub no_line : (bytes behind : List ℕ) (place : ℕ) → place ≡ position_or_len is_lf bytes → behind ≡ drop place bytes → length behind ≡ 0 →
+-- nothing stands behind the offset of the first LF, so there is none
+pub no_line : (bytes behind : List ℕ) (offset : ℕ) → offset ≡ position_or_len is_lf bytes → behind ≡ drop offset bytes → length behind ≡ 0 →
     list_any is_lf bytes ≡ false
-no_line bytes behind place at back ended = step (first_lf bytes)
+no_line bytes behind offset at back ended = step (first_lf bytes)
   where
     step : HasLf bytes ⊎ (list_any is_lf bytes ≡ false) → list_any is_lf bytes ≡ false
     step (inr none) = none
     step (inl has) =
         absurd (omega
-        (arith, lf_at bytes has, ap length has.split, length-append has.content (10 ∷ has.more), ap length back, length-drop place bytes))
+        (arith, lf_at bytes has, ap length has.split, length-append has.content (10 ∷ has.more), ap length back, length-drop offset bytes))
 
 -- something stands there, so the bytes go on with a line
-pub goes_on : (bytes content behind : List ℕ) (place text_len : ℕ) → place ≡ position_or_len is_lf bytes → content ≡ take place bytes →
-    behind ≡ drop place bytes → length behind ≢ 0 →
+pub goes_on : (bytes content behind : List ℕ) (offset text_len : ℕ) → offset ≡ position_or_len is_lf bytes → content ≡ take offset bytes →
+    behind ≡ drop offset bytes → length behind ≢ 0 →
     without_cr content ≡ take text_len content → text_len ≤ length content → GoesOn bytes text_len (length content + 1)
-goes_on bytes content behind place text_len at front back some text within = step (first_lf bytes)
+goes_on bytes content behind offset text_len at front back some text within = step (first_lf bytes)
   where
     step : HasLf bytes ⊎ (list_any is_lf bytes ≡ false) → GoesOn bytes text_len (length content + 1)
-    step (inr none) = absurd (some (omega (arith, position_or_len-none is_lf bytes none, ap length back, length-drop place bytes)))
+    step (inr none) = absurd (some (omega (arith, position_or_len-none is_lf bytes none, ap length back, length-drop offset bytes)))
     step (inl has) =
-        let len : place ≡ length has.content = at ∙ lf_at bytes has in
-        let same : content ≡ has.content = front ∙ ap (λ (bs : List ℕ). take place bs) has.split
-        ∙ take_at has.content (10 ∷ has.more) place (sym len) in
+        let len : offset ≡ length has.content = at ∙ lf_at bytes has in
+        let same : content ≡ has.content = front ∙ ap (λ (bs : List ℕ). take offset bs) has.split
+        ∙ take_at has.content (10 ∷ has.more) offset (sym len) in
         record {
           content = content;
           more = has.more;
@@ -482,15 +482,15 @@ passes_command bytes scan next command text_len len scanned goes met some at is 
     rw (drop_at hand.passed hand.line scan.passed hand.passed_len, width)
     (ap (λ (bs : List ℕ). take text_len bs) hand.line_is ∙ take-append-le text_len hand.content (10 ∷ []) hand.text_within
     ∙ sym hand.text) in
-    let place : CommandLine = record { text = span; end = scan.passed + len } in
-    let passed : IsPassed (hand.passed ++ hand.line) (Some place) =
-    IsPassed-command hand.passed hand.line place (passed_by bytes scan text_len len None hand scanned met) hand.is_line
+    let offset : CommandLine = record { text = span; end = scan.passed + len } in
+    let passed : IsPassed (hand.passed ++ hand.line) (Some offset) =
+    IsPassed-command hand.passed hand.line offset (passed_by bytes scan text_len len None hand scanned met) hand.is_line
     (some_text hand.content hand.line text_len hand.text hand.text_within some)
     (omega (arith, hand.passed_len, content_len, length-append hand.passed hand.line)) text
     (sym (behind_len bytes scan text_len len hand)) in
     rw (is, at) (
       goes_behind bytes scan
-          (record { passed = scan.passed + len; searched = 0; command = Some place }) text_len len hand passed refl refl,
+          (record { passed = scan.passed + len; searched = 0; command = Some offset }) text_len len hand passed refl refl,
       refl,
     )
 

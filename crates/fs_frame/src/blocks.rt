@@ -8,7 +8,7 @@ use fs_text::Memory;
 use std::alloc::Global;
 use std::marker::Model;
 
-/// How many bytes a new buffer has place for.
+/// How many bytes a new buffer has offset for.
 const FIRST_BYTES: usize = 4_096;
 
 /// A buffer that cuts a stream of bytes into blocks, in whatever pieces the bytes come.

@@ -7,7 +7,7 @@ ghost use Rattle.fs_frame.specs.Lines.{is_lf, without_cr};
 ghost use Rattle.fs_frame.specs.Front.{GoesOn, IsScanned, IsBehind, IsCommandAt, behind_end};
 
 use crate::span::{CommandLine, Span};
-use fs_text::place_of;
+use fs_text::offset_of;
 
 const LF: u8 = b'\n';
 
@@ -145,10 +145,10 @@ pub fn next_line(bytes: &[u8], searched: usize) -> Option<Line>
 // How many bytes stand before the first LF, or all where there is none.
 fn line_end(bytes: &[u8], searched: usize) -> usize
     requires { searched ≤ position_or_len is_lf bytes.now }
-    ensures place { result ≡ position_or_len is_lf bytes.now }
+    ensures offset { result ≡ position_or_len is_lf bytes.now }
     ensures within { result ≤ length bytes.now }
 {
-    searched + place_of(LF, &bytes[searched..])
+    searched + offset_of(LF, &bytes[searched..])
 }
 
 // How many bytes of a line's content are its text.

@@ -1,8 +1,8 @@
 -- What the endpoint of a leg comes to.
-use Rattle.std.specs.Prelude.{ℕ, ◌≤◌, nat_le, Bool, not, ◌&&◌, if◌then◌else◌, [], ◌∷◌, length, unwrap_or, codes}
+use Rattle.std.specs.Prelude.{◌≤◌, not, ◌&&◌, if◌then◌else◌, [], ◌∷◌, length, unwrap_or, codes}
 use Rattle.std.specs.Str.{bytes_eq}
 use Rattle.fs_text.specs.Cause.{cause_of_name}
-use Rattle.fs_text.specs.Words.{before_byte, behind_byte}
+use Rattle.fs_text.specs.Words.{before_byte, behind_byte, is_short}
 use Rattle.fs_text.specs.Texts.{Text}
 use Rattle.fs_text.specs.declared.causes.Cause.TheVariants.{NoRouteDestination, DestinationOutOfOrder, InvalidNumberFormat}
 use Rattle.fs_text.specs.declared.causes.Cause.TheVariants.{NormalUnspecified}
@@ -26,13 +26,9 @@ part_or otherwise (byte ∷ bytes) = byte ∷ bytes
 
 -- ---- each kind
 
--- the endpoint `error` with the name of a cause
+-- the endpoint `error` with the name of a cause, which is all that stands behind the slash
 abbrev pub error_of : Text → Endpoint
 error_of name = Dead (unwrap_or (cause_of_name name) NormalUnspecified)
-
--- the part has at most 256 bytes
-abbrev pub is_short : Text → Bool
-is_short part = nat_le (length part) 256
 
 -- an extension of a context, where these are within their lengths and the dialplan is `XML`
 abbrev pub loopback_to : Text → Text → Text → Endpoint
@@ -48,7 +44,7 @@ loopback_of parts = loopback_to (first_part parts) (first_part (other_parts part
 
 unfoldable pub endpoint_of : Text → Endpoint
 endpoint_of text =
-    if bytes_eq (first_part text) (codes "error") then error_of (first_part (other_parts text))
+    if bytes_eq (first_part text) (codes "error") then error_of (other_parts text)
     else (if bytes_eq (first_part text) (codes "loopback") then loopback_of (other_parts text)
     else Dead DestinationOutOfOrder)
 

@@ -3,11 +3,8 @@
 ghost use Rattle.std.specs.Prelude.{◌≡◌, IfOk};
 ghost use Rattle.fs_orig.specs.Endpoints as spec;
 
-use fs_text::{Cause, Memory, Txt, cut_at};
+use fs_text::{Cause, Memory, Txt, cut_at, is_short};
 use std::alloc::Global;
-
-/// The most bytes that an extension, a context and a dialplan have.
-const LONGEST: usize = 256;
 
 /// What the endpoint of a leg comes to, as far as its text says.
 #[derive(Drop)]
@@ -22,10 +19,10 @@ pub enum Endpoint {
 impl Endpoint {
     /// The endpoint that a text is: `error/CAUSE` or `loopback/EXTENSION/CONTEXT/DIALPLAN`.
     ///
-    /// In this order it is dead: by the cause that it names, or by NORMAL_UNSPECIFIED where there is no such cause; by
-    /// DESTINATION_OUT_OF_ORDER where it is of another kind; by INVALID_NUMBER_FORMAT where its extension is empty or a
-    /// part has over 256 bytes; by NO_ROUTE_DESTINATION where it names another dialplan than `XML`. A context that it
-    /// does not name is `default`.
+    /// In this order it is dead: by the cause whose name is all that stands behind `error/`, or by NORMAL_UNSPECIFIED
+    /// where there is no such cause; by DESTINATION_OUT_OF_ORDER where it is of another kind; by INVALID_NUMBER_FORMAT
+    /// where its extension is empty or a part has over 256 bytes; by NO_ROUTE_DESTINATION where it names another
+    /// dialplan than `XML`. A context that it does not name is `default`.
     #[tactic(auto, unfolding(crate::specs::Endpoints::endpoint_of))]
     pub fn of(alloc: Global, text: &[u8]) -> Result<Endpoint, Memory>
         ensures endpoint { IfOk result (λ endpoint. endpoint ≡ spec.endpoint_of text.now) }
@@ -33,7 +30,7 @@ impl Endpoint {
     {
         let (kind, parts) = cut_at(b'/', text);
         if kind == b"error".as_slice() {
-            Ok(error_of(cut_at(b'/', parts).0))
+            Ok(error_of(parts))
         } else if kind == b"loopback".as_slice() {
             loopback_of(alloc, parts)
         } else {
@@ -88,13 +85,6 @@ fn loopback_to(
         exten: Txt::of(alloc, exten)?,
         context: Txt::of(alloc, part_or(b"default", context))?,
     })
-}
-
-// Whether a part has at most 256 bytes.
-fn is_short(part: &[u8]) -> bool
-    ensures { result ≡ spec.is_short part.now }
-{
-    part.len() <= LONGEST
 }
 
 // A part, or another text where it is empty.

@@ -4,7 +4,7 @@
 
 mod caller;
 mod changes;
-mod dialled;
+mod dialed;
 mod endpoint;
 mod leg;
 mod living;

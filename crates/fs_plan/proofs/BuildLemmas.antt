@@ -70,9 +70,9 @@ first_numbered P extension condition texts h = record {
   found = record { extension_is = refl; condition_is = refl; is = h.found };
 }
 
--- ---- lists by places
+-- ---- lists by positions
 
--- what comes of two lists, one behind the other, by the places of their elements
+-- what comes of two lists, one behind the other, by the positions of their elements
 parts-append : {A B : Type 0} (f : ℕ × A → List B) (n : ℕ) (xs ys : List A) →
     flat_map f (enumerate_from n (xs ++ ys)) ≡ flat_map f (enumerate_from n xs) ++ flat_map f (enumerate_from (n + length xs) ys)
 parts-append f n [] ys = let e : n ≡ n + 0 = omega arith in ap (λ k. flat_map f (enumerate_from k ys)) e
@@ -82,11 +82,11 @@ parts-append f n (x ∷ xs) ys =
     ∙ ap (λ k. flat_map f (enumerate_from (n + 1) xs) ++ flat_map f (enumerate_from k ys)) e)
     ∙ sym (append_assoc (f (n, x)) _ _)
 
--- what comes of the element at a place stands behind what comes of those before it
+-- what comes of the element at a position stands behind what comes of those before it
 parts_at : {A B : Type 0} (f : ℕ × A → List B) (n : ℕ) (xs : List A) (i at : ℕ) (x : A) → at ≡ n + i → i < length xs → x ≡ get_or xs i x →
     flat_map f (enumerate_from n xs) ≡ flat_map f (enumerate_from n (take i xs))
     ++ (f (at, x) ++ flat_map f (enumerate_from (at + 1) (drop (suc i) xs)))
-parts_at f n xs i at x place within is =
+parts_at f n xs i at x position within is =
     let rest : drop i xs ≡ x ∷ drop (suc i) xs = drop-cons xs i x within ∙ ap (λ y. y ∷ drop (suc i) xs) (sym is) in
     let whole : xs ≡ take i xs ++ x ∷ drop (suc i) xs = sym (take-append-drop i xs) ∙ ap (λ ys. take i xs ++ ys) rest in
     let long : n + length (take i xs) ≡ at = omega (arith, length-take-le i xs (omega arith)) in
@@ -96,7 +96,7 @@ parts_at f n xs i at x place within is =
 -- with one more element
 parts_more : {A B : Type 0} (f : ℕ × A → List B) (n : ℕ) (xs : List A) (i at : ℕ) (x : A) → at ≡ n + i → i < length xs → x ≡ get_or xs i x →
     flat_map f (enumerate_from n (take (i + 1) xs)) ≡ flat_map f (enumerate_from n (take i xs)) ++ f (at, x)
-parts_more f n xs i at x place within is =
+parts_more f n xs i at x position within is =
     let more : take (i + 1) xs ≡ take i xs ++ x ∷ [] = take_more xs i x within ∙ ap (λ y. take i xs ++ y ∷ []) (sym is) in
     let long : n + length (take i xs) ≡ at = omega (arith, length-take-le i xs (omega arith)) in
     ap (λ ys. flat_map f (enumerate_from n ys)) more ∙ parts-append f n (take i xs) (x ∷ [])
@@ -204,9 +204,9 @@ sizes_same unbuilt.Memory extension condition sizes = refl
 
 -- ---- extensions
 
--- numbers end at 32 bits, and so places may end at 64
-capped : (n place : ℕ) → number_of (min (n + place) 18446744073709551615) ≡ number_of (n + place)
-capped n place = omega arith
+-- numbers end at 32 bits, and so positions may end at 64
+capped : (n position : ℕ) → number_of (min (n + position) 18446744073709551615) ≡ number_of (n + position)
+capped n position = omega arith
 
 pub extensions_more : (before : ℕ) (extensions : List Extension) (i : ℕ) (extension : Extension) (number : ℕ)
     (conditions : List Condition) →

@@ -43,9 +43,9 @@ patterns_of (Many wanted children) = expressions_of children
 
 -- ---- numbers
 
--- the number of what stands at a place, from 1 on, as far as 32 bits go
+-- the number of what stands at a position, from 1 on, as far as 32 bits go
 abbrev pub number_of : ℕ → ℕ
-number_of place = min (place + 1) 4294967295
+number_of position = min (position + 1) 4294967295
 
 -- a pattern, with the number of its extension and that of its condition
 pub record NumberedPattern : Type 0 where
@@ -64,12 +64,12 @@ numbered_patterns extension condition texts = map (λ text. record { text = text
 -- the patterns of the conditions of the extension of a number
 abbrev pub patterns_within : ℕ → List Condition → List NumberedPattern
 patterns_within number conditions =
-    flat_map (λ (place, condition). numbered_patterns number (number_of place) (patterns_of condition.test)) (enumerate_from 0 conditions)
+    flat_map (λ (position, condition). numbered_patterns number (number_of position) (patterns_of condition.test)) (enumerate_from 0 conditions)
 
 -- the patterns of extensions, where so many stand before them
 abbrev pub patterns_from : ℕ → List Extension → List NumberedPattern
 patterns_from before extensions =
-    flat_map (λ (place, extension). patterns_within (number_of place) extension.conditions) (enumerate_from before extensions)
+    flat_map (λ (position, extension). patterns_within (number_of position) extension.conditions) (enumerate_from before extensions)
 
 -- the extensions of all contexts, in order
 abbrev pub extensions_in : List Context → List Extension

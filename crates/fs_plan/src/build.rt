@@ -10,11 +10,13 @@ use fs_ports::Patterns;
 use fs_text::{Memory, Txt};
 use std::alloc::Global;
 
-/// The number of what stands at a place, from 1 on.
-fn number_of(place: usize) -> u32
-    ensures { result ≡ spec.number_of place }
+/// The number of what stands at a position, from 1 on.
+fn number_of(position: usize) -> u32
+    ensures { result ≡ spec.number_of position }
 {
-    u32::try_from(place).unwrap_or(u32::MAX).saturating_add(1)
+    u32::try_from(position)
+        .unwrap_or(u32::MAX)
+        .saturating_add(1)
 }
 
 /// Copies actions.
@@ -130,10 +132,10 @@ fn conditions<P: Patterns>(
         × (P.next_load patterns.new ≡ P.next_load patterns.old) }
 {
     let mut built = Listed::new(alloc);
-    for (place, given) in list.iter().enumerate() {
+    for (position, given) in list.iter().enumerate() {
         match condition(alloc, given, patterns) {
             Ok(condition) => built.push(condition)?,
-            Err(why) => return Err(why.at(extension, number_of(place))),
+            Err(why) => return Err(why.at(extension, number_of(position))),
         }
     }
     Ok(built)
@@ -155,8 +157,8 @@ fn extensions<P: Patterns>(
         × (P.next_load patterns.new ≡ P.next_load patterns.old) }
 {
     let mut built = Listed::new(alloc);
-    for (place, given) in list.iter().enumerate() {
-        let number = number_of(before.saturating_add(place));
+    for (position, given) in list.iter().enumerate() {
+        let number = number_of(before.saturating_add(position));
         let conditions = conditions(alloc, number, given.conditions.as_slice(), patterns)?;
         built.push(ExtensionDef {
             name: given.name.copy()?,

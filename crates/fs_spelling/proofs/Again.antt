@@ -8,7 +8,7 @@ use Rattle.std.proofs.lemmas.Slice.Eq.{bytes_eq-Decides}
 use Rattle.std.proofs.lemmas.Bool.Decides.{nat_tests}
 use Rattle.fs_text.specs.Texts.{Text}
 use Rattle.fs_xml.specs.Results.{◌>>=◌}
-use Rattle.fs_xml.specs.Bytes.{place}
+use Rattle.fs_xml.specs.Bytes.{offset}
 use Rattle.fs_xml.specs.Tags.{BodyText}
 use Rattle.fs_xml.specs.Markup.{Mark, Comment, End, Start, mark_at}
 use Rattle.fs_xml.specs.declared.attribute.Ending.{Ending}
@@ -41,7 +41,7 @@ round_goes : (end : ℕ) (r : ReadSoFar) (before bytes rest : Text) (mark : Mark
     → round end r (before ++ ((60 ∷ bytes) ++ rest)) ≡ Ok (On next rest)
 unfolding round at_mark
 round_goes end r before bytes rest mark next filler reads enters =
-    let at = place end (60 ∷ (bytes ++ rest)) in
+    let at = offset end (60 ∷ (bytes ++ rest)) in
     ap (λ (t : Result Text DocFault). t >>= λ behind. at_mark end r behind)
     (text_read end (level_in r.opened) before (60 ∷ (bytes ++ rest)) filler refl)
     ∙ ap (λ (m : Result (Mark × Text) DocFault). m >>= λ x. (mark_entered at x.0 r >>= λ n. Ok (On n x.1))) (reads at)

@@ -10,7 +10,7 @@ use Rattle.fs_text.specs.Words.{is_byte, halves_of}
 use Rattle.fs_text.proofs.Cuts.{cut_behind, halved}
 use Rattle.fs_xml.specs.declared.stop.TagStop.TheVariants.{Bad}
 use Rattle.fs_xml.specs.declared.attribute.Ending.TheVariants.{Opens, Closes}
-use Rattle.fs_xml.specs.Bytes.{is_blank, is_quote, is_mark, is_name_byte, begins_name, past, name_of, place}
+use Rattle.fs_xml.specs.Bytes.{is_blank, is_quote, is_mark, is_name_byte, begins_name, past, name_of, offset}
 use Rattle.fs_xml.specs.Attributes.{Written, TagPart, Has, Ends, Broken, TagParts, tag_end, broken_at, valued_on, valued_at, quoted_at}
 use Rattle.fs_xml.specs.Attributes.{equals_at, named_at, slash_at, part_on, part_at}
 use Rattle.fs_xml.proofs.ByteLemmas.{run_past}
@@ -61,25 +61,25 @@ part_behind end before bytes apart blank stops =
 quoted_read : (end at : ℕ) (name : List ℕ) (quote : ℕ) (value rest : List ℕ) → is_quote quote ≡ true →
     halves_of quote (value ++ (quote ∷ rest)) ≡ Some (value, rest)
     → quoted_at end at name (quote ∷ (value ++ (quote ∷ rest)))
-    ≡ Ok (Has (record { at = at; name = name; value = value; end = place end rest - 1 }), rest)
+    ≡ Ok (Has (record { at = at; name = name; value = value; end = offset end rest - 1 }), rest)
 unfolding quoted_at valued_at
 quoted_read end at name quote value rest quotes parts = rw quotes (ap (valued_on end at name) parts)
 
 equals_read : (end at : ℕ) (name behind : List ℕ) (quote : ℕ) (value rest : List ℕ) → AreBlank behind → is_quote quote ≡ true →
     halves_of quote (value ++ (quote ∷ rest)) ≡ Some (value, rest)
     → equals_at end at name (61 ∷ (behind ++ (quote ∷ (value ++ (quote ∷ rest)))))
-    ≡ Ok (Has (record { at = at; name = name; value = value; end = place end rest - 1 }), rest)
+    ≡ Ok (Has (record { at = at; name = name; value = value; end = offset end rest - 1 }), rest)
 unfolding equals_at
 equals_read end at name behind quote value rest blank quotes parts =
     ap (quoted_at end at name) (past_run is_blank behind (quote ∷ (value ++ (quote ∷ rest))) blank (quote_stops quote quotes).0)
     ∙ quoted_read end at name quote value rest quotes parts
 
 named_read : (end : ℕ) (name gap more : List ℕ) → IsName name → AreBlank gap →
-    named_at end (name ++ (gap ++ (61 ∷ more))) ≡ equals_at end (place end (name ++ (gap ++ (61 ∷ more)))) name (61 ∷ more)
+    named_at end (name ++ (gap ++ (61 ∷ more))) ≡ equals_at end (offset end (name ++ (gap ++ (61 ∷ more)))) name (61 ∷ more)
 unfolding named_at
 named_read end name gap more is blank =
     let whole = name ++ (gap ++ (61 ∷ more)) in
-    let at = place end whole in
+    let at = offset end whole in
     let stops = gap_stops gap (61 ∷ more) blank equals_stops.0 in
     let passes = name_passes name is in
     ap (λ n. equals_at end at n (past is_blank (past is_name_byte whole))) (the_run is_name_byte name (gap ++ (61 ∷ more)) passes stops)
@@ -90,11 +90,11 @@ pub spelt_attribute : (end : ℕ) (bytes rest : List ℕ) (pair : Pair) → IsAt
 spelt_attribute end bytes rest pair is =
     let more = is.gap_behind ++ (is.quote ∷ (pair.value ++ (is.quote ∷ rest))) in
     let behind = pair.name ++ (is.gap ++ (61 ∷ more)) in
-    let at = place end behind in
+    let at = offset end behind in
     let whole : bytes ++ rest ≡ is.before ++ behind =
     ap (λ b. b ++ rest) is.whole ∙ seam is.before pair.name is.gap is.gap_behind is.quote pair.value rest in
     record {
-      written = record { at = at; name = pair.name; value = pair.value; end = place end rest - 1 };
+      written = record { at = at; name = pair.name; value = pair.value; end = offset end rest - 1 };
       read = ap (part_at end) whole
           ∙ part_behind end is.before behind is.apart is.before_blank (name_stops pair.name (is.gap ++ (61 ∷ more)) is.is_name)
           ∙ name_read end pair.name (is.gap ++ (61 ∷ more)) is.is_name
@@ -136,7 +136,7 @@ valued_taken : (end at : ℕ) (name : List ℕ) (quote : ℕ) (bytes rest : List
     → valued_on end at name found ≡ was_read (Has a, rest) → Quoted end at name (quote ∷ bytes) rest a
 valued_taken end at name quote bytes rest a None is quotes e = absurd (cc)
 valued_taken end at name quote bytes rest a (Some x) is quotes e =
-    let w : Written = record { at = at; name = name; value = x.0; end = place end x.1 - 1 } in
+    let w : Written = record { at = at; name = name; value = x.0; end = offset end x.1 - 1 } in
     let both = same_read (Has w, x.1) (Has a, rest) e in
     let piece : Has w ≡ Has a = ap (λ (y : TagPart × List ℕ). y.0) both in
     let it : w ≡ a = cc in
@@ -213,11 +213,11 @@ part_taken end glued (b ∷ bytes) rest a e = by (b == 62) (b == 47) (begins_nam
   where
     by : (s t u g : Bool) → begins_name b ≡ u → glued ≡ g
         → cond s (was_read (Ends Opens, bytes)) (cond t (slash_at bytes)
-        (cond u (cond g (broken_at (place end (b ∷ bytes)) (b ∷ bytes)) (named_at end (b ∷ bytes))) (Err Bad))) ≡ was_read (Has a, rest)
+        (cond u (cond g (broken_at (offset end (b ∷ bytes)) (b ∷ bytes)) (named_at end (b ∷ bytes))) (Err Bad))) ≡ was_read (Has a, rest)
         → Named end glued (b ∷ bytes) rest a
     by true t u g begins is h = let piece : Ends Opens ≡ Has a = no_other (Ends Opens) bytes rest a h in absurd (cc)
     by false true u g begins is h = absurd (no_slash bytes rest a h)
-    by false false true true begins is h = absurd (no_malformed (place end (b ∷ bytes)) (b ∷ bytes) rest a h)
+    by false false true true begins is h = absurd (no_malformed (offset end (b ∷ bytes)) (b ∷ bytes) rest a h)
     by false false true false begins is h = record { apart = is; first = b; others = bytes; whole = refl; begins = begins; named = h }
     by false false false g begins is h = absurd (cc)
 
@@ -250,7 +250,7 @@ read_attribute end text rest a e =
     let name = name_of body in
     let behind = past is_name_byte body in
     let gap = take_while is_blank behind in
-    let equals = equals_taken end (place end body) name (past is_blank behind) rest a part.named in
+    let equals = equals_taken end (offset end body) name (past is_blank behind) rest a part.named in
     let quoted = equals.quoted in
     let is_name = name_is body part.first part.others part.whole part.begins in
     let tail = gap ++ (61 ∷ (equals.gap ++ (quoted.quote ∷ (a.value ++ (quoted.quote ∷ rest))))) in

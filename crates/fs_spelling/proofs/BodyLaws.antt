@@ -10,7 +10,7 @@ use Rattle.fs_xml.specs.declared.stop.TagStop.TheVariants.{Bad}
 use Rattle.fs_xml.specs.declared.attribute.Ending.{Ending}
 use Rattle.fs_xml.specs.declared.attribute.Ending.TheVariants.{Opens, Closes}
 use Rattle.fs_xml.specs.Results.{◌>>=◌}
-use Rattle.fs_xml.specs.Bytes.{is_blank, is_quote, is_mark, is_name_byte, begins_name, past, place}
+use Rattle.fs_xml.specs.Bytes.{is_blank, is_quote, is_mark, is_name_byte, begins_name, past, offset}
 use Rattle.fs_xml.specs.Attributes.{Written, TagPart, Has, Ends, Broken, TagParts, tag_end, broken_at, valued_on, valued_at, quoted_at}
 use Rattle.fs_xml.specs.Attributes.{equals_at, named_at, slash_at, part_on, part_at}
 use Rattle.fs_xml.specs.Tags.{BodyText, Step, step_of, Bodies, go_on, body_step, body_within, body_at}
@@ -171,7 +171,7 @@ no_value : (end at : ℕ) (name rest : List ℕ) (ending : Ending) (found : Opti
     valued_on end at name found ≡ was_read (Ends ending, rest) → ⊥
 no_value end at name rest ending None e = cc
 no_value end at name rest ending (Some x) e =
-    let w : Written = record { at = at; name = name; value = x.0; end = place end x.1 - 1 } in
+    let w : Written = record { at = at; name = name; value = x.0; end = offset end x.1 - 1 } in
     let piece : Has w ≡ Ends ending = ap (λ (y : TagPart × List ℕ). y.0) (same_read (Has w, x.1) (Ends ending, rest) e) in
     cc
 
@@ -201,7 +201,7 @@ end_taken_on end glued (b ∷ bytes) rest ending e = by (b == 62) (b == 47) (beg
   where
     by : (s t u g : Bool) → (b == 62) ≡ s → (b == 47) ≡ t
         → cond s (was_read (Ends Opens, bytes)) (cond t (slash_at bytes)
-        (cond u (cond g (broken_at (place end (b ∷ bytes)) (b ∷ bytes)) (named_at end (b ∷ bytes))) (Err Bad)))
+        (cond u (cond g (broken_at (offset end (b ∷ bytes)) (b ∷ bytes)) (named_at end (b ∷ bytes))) (Err Bad)))
         ≡ was_read (Ends ending, rest)
         → b ∷ bytes ≡ ending_text ending ++ rest
     by true t u g is it h =
@@ -211,9 +211,9 @@ end_taken_on end glued (b ∷ bytes) rest ending e = by (b == 62) (b == 47) (beg
         let after : bytes ≡ rest = ap (λ (x : TagPart × List ℕ). x.1) both in
         ap (λ c. c ∷ bytes) (eqb-true b 62 is) ∙ ap (λ r. ending_text Opens ++ r) after ∙ ap (λ f. ending_text f ++ rest) same
     by false true u g is it h = ap (λ c. c ∷ bytes) (eqb-true b 47 it) ∙ slash_taken bytes rest ending h
-    by false false true true is it h = absurd (no_end (place end (b ∷ bytes)) (b ∷ bytes) rest ending h)
+    by false false true true is it h = absurd (no_end (offset end (b ∷ bytes)) (b ∷ bytes) rest ending h)
     by false false true false is it h =
-        absurd (no_equals end (place end (b ∷ bytes)) (take_while is_name_byte (b ∷ bytes))
+        absurd (no_equals end (offset end (b ∷ bytes)) (take_while is_name_byte (b ∷ bytes))
         (past is_blank (past is_name_byte (b ∷ bytes))) rest ending h)
     by false false false g is it h = absurd (cc)
 

@@ -25,11 +25,11 @@ use Rattle.fs_doc.specs.Contents.{element_begun}
 use Rattle.fs_doc.specs.Reading.{element_read}
 use Rattle.fs_spelling.specs.Values.{SpellsValue}
 use Rattle.fs_spelling.specs.Readings.{pair_of}
-use Rattle.fs_spelling.specs.Documents.{unplaced, tag_of, text_with_globals, Say, SayNoMore, SayOneMore, Begins}
+use Rattle.fs_spelling.specs.Documents.{loose, tag_of, text_with_globals, Say, SayNoMore, SayOneMore, Begins}
 use Rattle.fs_spelling.proofs.Binds.{bind_ok}
 use Rattle.fs_spelling.proofs.ValueLaws as values
 
--- ---- places do not matter
+-- ---- offsets do not matter
 
 -- the text of a value does not depend on where it ends
 text_anywhere : (raw : Bool) (end other : ℕ) (v t : Text) → value_text raw end v ≡ Ok t → value_text raw other v ≡ Ok t
@@ -51,24 +51,24 @@ may_anywhere foreign globals end other v = by (value_text foreign end v) (value_
         let never : Err f ≡ Ok t = sym is ∙ both in absurd (cc)
     by (Err f) (Err g) is other_is = refl
 
-may_unplaced : (globals : Pairs) (name : Text) (attrs : List Written) →
-    may_on globals (written_as name attrs) ≡ may_on globals (written_as name (map unplaced (map pair_of attrs)))
-may_unplaced globals name [] = refl
-may_unplaced globals name (a ∷ attrs) = by (bytes_eq a.name name) (may_unplaced globals name attrs)
+may_loose : (globals : Pairs) (name : Text) (attrs : List Written) →
+    may_on globals (written_as name attrs) ≡ may_on globals (written_as name (map loose (map pair_of attrs)))
+may_loose globals name [] = refl
+may_loose globals name (a ∷ attrs) = by (bytes_eq a.name name) (may_loose globals name attrs)
   where
-    by : (t : Bool) → may_on globals (written_as name attrs) ≡ may_on globals (written_as name (map unplaced (map pair_of attrs)))
+    by : (t : Bool) → may_on globals (written_as name attrs) ≡ may_on globals (written_as name (map loose (map pair_of attrs)))
         → may_on globals (cond t (Some a) (written_as name attrs))
-        ≡ may_on globals (cond t (Some (unplaced (pair_of a))) (written_as name (map unplaced (map pair_of attrs))))
+        ≡ may_on globals (cond t (Some (loose (pair_of a))) (written_as name (map loose (map pair_of attrs))))
     by true more = may_anywhere false globals a.end 0 a.value
     by false more = more
 
--- the tag without its places
+-- the tag without its offsets
 abbrev bare : Tagged → Tagged
 bare e = tag_of e.kind e.globals (map pair_of e.attrs)
 
 may_bare : (e : Tagged) → application_may e ≡ application_may (bare e)
 unfolding application_may
-may_bare e = may_unplaced e.globals (codes "application") e.attrs
+may_bare e = may_loose e.globals (codes "application") e.attrs
 
 inline_bare : (e : Tagged) (name text : Text) → inline_fault e name text ≡ inline_fault (bare e) name text
 unfolding inline_fault
@@ -228,10 +228,10 @@ at_kind at (Err f) k e = absurd (cc)
 abbrev begun_read : Level × Content → Result (Level × Content) DocKind
 begun_read x = Ok x
 
-abbrev placed_read : Level × Content → Result (Level × Content) DocFault
-placed_read x = Ok x
+abbrev offset_read : Level × Content → Result (Level × Content) DocFault
+offset_read x = Ok x
 
-same_begun : (x y : Level × Content) → placed_read x ≡ placed_read y → x ≡ y
+same_begun : (x y : Level × Content) → offset_read x ≡ offset_read y → x ≡ y
 same_begun x y e = cc
 
 -- the pairs are all there, and none is malformed

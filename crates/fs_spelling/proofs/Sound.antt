@@ -6,7 +6,7 @@ use Rattle.std.specs.Str.{bytes_eq}
 use Rattle.std.proofs.lemmas.Slice.Eq.{bytes_eq-Decides}
 use Rattle.fs_text.specs.Texts.{Text}
 use Rattle.fs_xml.specs.Results.{◌>>=◌}
-use Rattle.fs_xml.specs.Bytes.{place}
+use Rattle.fs_xml.specs.Bytes.{offset}
 use Rattle.fs_xml.specs.Tags.{BodyText}
 use Rattle.fs_xml.specs.Markup.{Mark, Comment, End, Start, Marks, mark_at}
 use Rattle.fs_xml.specs.declared.attribute.Ending.{Ending}
@@ -287,7 +287,7 @@ onward : (end more : ℕ) (content : Content) (opened : List Opened) (c : Conten
     → Found (text ++ rest) content
 unfolding at_mark Onward
 onward end more content opened c text rest before b bytes next again reached whole is filler e h =
-    let at = place end (b ∷ bytes) in
+    let at = offset end (b ∷ bytes) in
     let first =
     bind_ok (mark_read c.done (is_outside opened) end at bytes)
     (λ x. mark_entered at x.0 (state opened c) >>= λ n. next_read (On n x.1)) next e in

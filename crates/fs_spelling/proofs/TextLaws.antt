@@ -7,8 +7,8 @@ use Rattle.std.proofs.Math.Seq.{drop-append_seam}
 use Rattle.std.proofs.lemmas.Bool.{or_parts, eqb-true}
 use Rattle.fs_text.specs.Words.{is_byte}
 use Rattle.fs_text.specs.Texts.{Text}
-use Rattle.fs_text.proofs.Cuts.{first_behind, none_before, place_here, place_on}
-use Rattle.fs_xml.specs.Bytes.{is_blank, past, place}
+use Rattle.fs_text.proofs.Cuts.{first_behind, none_before, offset_here, offset_on}
+use Rattle.fs_xml.specs.Bytes.{is_blank, past, offset}
 use Rattle.fs_xml.proofs.ByteLemmas.{run_past}
 use Rattle.fs_doc.specs.declared.fault.DocFault.{DocFault}
 use Rattle.fs_doc.specs.declared.element.Level.{Level}
@@ -38,17 +38,17 @@ blank_read end outer text rest blank begins =
     here [] b = refl
     here (b ∷ r) is = rw is refl
 
-none_place : (p : ℕ → Bool) (text : Text) → list_any p text ≡ false → position_or_len p (text ++ []) ≡ length text
-none_place p [] none = refl
-none_place p (b ∷ text) none =
+none_offset : (p : ℕ → Bool) (text : Text) → list_any p text ≡ false → position_or_len p (text ++ []) ≡ length text
+none_offset p [] none = refl
+none_offset p (b ∷ text) none =
     let parts = or_parts (p b) (list_any p text) none in
-    place_on p b (text ++ []) parts.0 ∙ ap suc (none_place p text parts.1)
+    offset_on p b (text ++ []) parts.0 ∙ ap suc (none_offset p text parts.1)
 
 any_read : (text rest : Text) → list_any (is_byte 60) text ≡ false → BeginsMark rest → any_text (text ++ rest) ≡ rest
-any_read text [] none begins = ap (λ n. drop n (text ++ [])) (none_place (is_byte 60) text none) ∙ drop-append_seam text []
+any_read text [] none begins = ap (λ n. drop n (text ++ [])) (none_offset (is_byte 60) text none) ∙ drop-append_seam text []
 any_read text (b ∷ rest) none begins =
-    let place_is = first_behind (is_byte 60) text b rest none (ap (λ c. c == 60) begins) in
-    ap (λ n. drop n (text ++ (b ∷ rest))) place_is ∙ drop-append_seam text (b ∷ rest)
+    let offset_is = first_behind (is_byte 60) text b rest none (ap (λ c. c == 60) begins) in
+    ap (λ n. drop n (text ++ (b ∷ rest))) offset_is ∙ drop-append_seam text (b ∷ rest)
 
 pub text_read : (end : ℕ) (outer : Level) (text rest : Text) → IsFiller outer text → BeginsMark rest →
     text_at end outer (text ++ rest) ≡ Ok rest
@@ -89,7 +89,7 @@ mark_taken : (end : ℕ) (outer : Level) (bytes rest : Text) → blank_text end 
 mark_taken end outer [] rest e = (same_text [] rest e, tt)
 mark_taken end outer (b ∷ bytes) rest e = by (b == 60) refl e
   where
-    by : (t : Bool) → (b == 60) ≡ t → cond t (texted (b ∷ bytes)) (fault (place end (b ∷ bytes)) (text_kind outer)) ≡ texted rest →
+    by : (t : Bool) → (b == 60) ≡ t → cond t (texted (b ∷ bytes)) (fault (offset end (b ∷ bytes)) (text_kind outer)) ≡ texted rest →
         (b ∷ bytes ≡ rest) × (b ≡ 60)
     by true is h = (same_text (b ∷ bytes) rest h, eqb-true b 60 is)
     by false is h = absurd (cc)
@@ -111,9 +111,9 @@ rest_begins (b ∷ bytes) = by (is_byte 60 b) refl (rest_begins bytes)
     by : (t : Bool) → is_byte 60 b ≡ t → BeginsMark (any_text bytes) → BeginsMark (any_text (b ∷ bytes))
     by true passes more =
         let P : ℕ → Type 0 =
-        λ n. BeginsMark (drop n (b ∷ bytes)) in subst P (sym (place_here (is_byte 60) b bytes passes)) (eqb-true b 60 passes)
+        λ n. BeginsMark (drop n (b ∷ bytes)) in subst P (sym (offset_here (is_byte 60) b bytes passes)) (eqb-true b 60 passes)
     by false fails more =
-        let P : ℕ → Type 0 = λ n. BeginsMark (drop n (b ∷ bytes)) in subst P (sym (place_on (is_byte 60) b bytes fails)) more
+        let P : ℕ → Type 0 = λ n. BeginsMark (drop n (b ∷ bytes)) in subst P (sym (offset_on (is_byte 60) b bytes fails)) more
 
 pub text_taken : (end : ℕ) (outer : Level) (bytes rest : Text) → text_at end outer bytes ≡ Ok rest → TakesText outer bytes rest
 unfolding text_at

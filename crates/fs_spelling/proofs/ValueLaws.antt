@@ -8,7 +8,7 @@ use Rattle.fs_text.specs.Words.{is_byte, halves_of}
 use Rattle.fs_text.proofs.Cuts.{cut_behind, halved}
 use Rattle.fs_xml.specs.declared.stop.ValueFault.TheVariants.{Raw}
 use Rattle.fs_xml.specs.Results.{◌>>=◌}
-use Rattle.fs_xml.specs.Bytes.{place}
+use Rattle.fs_xml.specs.Bytes.{offset}
 use Rattle.fs_xml.specs.Entities.{entity, is_special, Decoded, character_added, entity_on, entity_at, special_at, value_step, Values}
 use Rattle.fs_xml.specs.Entities.{value_on, value_within, value_text}
 use Rattle.fs_spelling.specs.Values.{SpellsValue, Nothing, Plain, Mark, Entity}
@@ -21,8 +21,8 @@ plain_step : (raw : Bool) (end : ℕ) (so_far : List ℕ) (b : ℕ) (value : Lis
 unfolding value_step
 plain_step raw end so_far b value plain =
     let n = position_or_len is_special value in
-    let place_is : position_or_len is_special (b ∷ value) ≡ suc n = rw plain (omega arith) in
-    ap (λ k. special_at raw end (so_far ++ take k (b ∷ value)) (drop k (b ∷ value))) place_is
+    let offset_is : position_or_len is_special (b ∷ value) ≡ suc n = rw plain (omega arith) in
+    ap (λ k. special_at raw end (so_far ++ take k (b ∷ value)) (drop k (b ∷ value))) offset_is
     ∙ ap (λ text. special_at raw end text (drop n value)) (sym (append_assoc so_far (b ∷ []) (take n value)))
 
 -- `&` and `<` are read at once
@@ -30,8 +30,8 @@ special_step : (raw : Bool) (end : ℕ) (so_far : List ℕ) (b : ℕ) (value : L
     → value_step raw end so_far (b ∷ value) ≡ special_at raw end so_far (b ∷ value)
 unfolding value_step
 special_step raw end so_far b value special =
-    let place_is : position_or_len is_special (b ∷ value) ≡ 0 = rw special refl in
-    ap (λ k. special_at raw end (so_far ++ take k (b ∷ value)) (drop k (b ∷ value))) place_is
+    let offset_is : position_or_len is_special (b ∷ value) ≡ 0 = rw special refl in
+    ap (λ k. special_at raw end (so_far ++ take k (b ∷ value)) (drop k (b ∷ value))) offset_is
     ∙ ap (λ text. special_at raw end text (b ∷ value)) (append-nil so_far)
 
 -- nothing is left
@@ -50,7 +50,7 @@ entity_step : (raw : Bool) (end : ℕ) (so_far name value : List ℕ) (c : ℕ) 
     → value_step raw end so_far (38 ∷ (name ++ (59 ∷ value))) ≡ Ok (so_far ++ encode_utf8 c, Some value)
 unfolding special_at entity_at
 entity_step raw end so_far name value c plain is =
-    let at = place end (38 ∷ (name ++ (59 ∷ value))) in
+    let at = offset end (38 ∷ (name ++ (59 ∷ value))) in
     special_step raw end so_far 38 (name ++ (59 ∷ value)) refl
     ∙ ap (entity_on so_far at) (cut_behind 59 name value plain)
     ∙ ap (λ found. character_added so_far at found value) is
@@ -124,7 +124,7 @@ Onward more raw end step = step >>= λ x. value_on (λ next rest. value_within m
 from_character : (more : ℕ) (raw : Bool) (end : ℕ) (so_far name value whole : List ℕ) (found : Option ℕ) → entity name ≡ found →
     list_any (is_byte 59) name ≡ false
     → ((rest : List ℕ) → Reads more raw end rest)
-    → Onward more raw end (character_added so_far (place end (38 ∷ (name ++ (59 ∷ value)))) found value) ≡ Ok whole
+    → Onward more raw end (character_added so_far (offset end (38 ∷ (name ++ (59 ∷ value)))) found value) ≡ Ok whole
     → Said raw so_far (38 ∷ (name ++ (59 ∷ value))) whole
 unfolding Reads
 from_character more raw end so_far name value whole None is plain again e = absurd (cc)
@@ -133,12 +133,12 @@ from_character more raw end so_far name value whole (Some c) is plain again e =
 
 from_halves : (more : ℕ) (raw : Bool) (end : ℕ) (so_far value whole : List ℕ) (found : Option (List ℕ × List ℕ)) →
     halves_of 59 value ≡ found
-    → ((rest : List ℕ) → Reads more raw end rest) → Onward more raw end (entity_on so_far (place end (38 ∷ value)) found) ≡ Ok whole
+    → ((rest : List ℕ) → Reads more raw end rest) → Onward more raw end (entity_on so_far (offset end (38 ∷ value)) found) ≡ Ok whole
     → Said raw so_far (38 ∷ value) whole
 from_halves more raw end so_far value whole None is again e = absurd (cc)
 from_halves more raw end so_far value whole (Some x) is again e =
     let parts = halved 59 value x.0 x.1 is in
-    let P : List ℕ → Type 0 = λ v. Onward more raw end (entity_on so_far (place end (38 ∷ v)) (Some x)) ≡ Ok whole in
+    let P : List ℕ → Type 0 = λ v. Onward more raw end (entity_on so_far (offset end (38 ∷ v)) (Some x)) ≡ Ok whole in
     let Q : List ℕ → Type 0 = λ v. Said raw so_far (38 ∷ v) whole in
     subst Q (sym parts.1) (from_character more raw end so_far x.0 x.1 whole (entity x.0) refl parts.0 again (subst P parts.1 e))
 

@@ -20,15 +20,15 @@ use Rattle.fs_spelling.specs.Tags.{Pair, AreBlank, IsTag, IsEndTag, IsComment}
 
 -- ---- attributes
 
--- an attribute without places
-abbrev pub unplaced : Pair → Written
-unplaced pair = record { at = 0; name = pair.name; value = pair.value; end = 0 }
+-- an attribute without offsets
+abbrev pub loose : Pair → Written
+loose pair = record { at = 0; name = pair.name; value = pair.value; end = 0 }
 
--- an element's tag without places
+-- an element's tag without offsets
 abbrev pub tag_of : Kind → Pairs → List Pair → Tagged
-tag_of kind globals pairs = record { kind = kind; tag = 0; globals = globals; attrs = map unplaced pairs }
+tag_of kind globals pairs = record { kind = kind; tag = 0; globals = globals; attrs = map loose pairs }
 
--- the globals are put into a decoded value, but not in a foreign place
+-- the globals are put into a decoded value, but not in a foreign element
 abbrev pub text_with_globals : Tagged → Text → Text
 text_with_globals e decoded = if is_foreign e.kind then decoded else replaced e.globals decoded
 
@@ -52,7 +52,7 @@ pub record Begins (outer : Level) (c : Content) (name : Text) (pairs : List Pair
   pub needed : has_needed kind texts ≡ true
   pub begins : element_begun kind texts c ≡ Ok (inner, d)
 
--- what may stand between markup: in a foreign place any text, elsewhere blanks
+-- what may stand between markup: in a foreign element any text, elsewhere blanks
 abbrev pub IsFiller : Level → Text → Type 0
 IsFiller level.Foreign text = list_any (is_byte 60) text ≡ false
 IsFiller _ text = AreBlank text

@@ -6,11 +6,11 @@ use Rattle.fs_xml.specs.Tags.{BodyText}
 use Rattle.fs_xml.specs.Markup.{Mark, Comment, End, Start, mark_at}
 use Rattle.fs_spelling.specs.Tags.{Pair, IsAttribute, IsBody, IsTag, IsEndTag, IsComment}
 
--- a name and a value, without their places
+-- a name and a value, without their offsets
 abbrev pub pair_of : Written → Pair
 pair_of a = record { name = a.name; value = a.value }
 
--- an attribute that is read, with its places
+-- an attribute that is read, with its offsets
 pub record ReadsAttribute (end : ℕ) (text rest : List ℕ) (pair : Pair) : Type 0 where
   pub written : Written
   pub read : part_at end text ≡ Ok (Has written, rest)
@@ -30,7 +30,7 @@ pub record TakesBody (so_far : List Written) (text : List ℕ) (body : BodyText)
   pub attrs_are : body.attrs ≡ so_far ++ attrs
   pub is : IsBody bytes (map pair_of attrs) body.ending
 
--- a tag that is read, with the places of its attributes
+-- a tag that is read, with the offsets of its attributes
 pub record ReadsTag (end : ℕ) (text name : List ℕ) (pairs : List Pair) (ending : Ending) (rest : List ℕ) : Type 0 where
   pub attrs : List Written
   pub same : map pair_of attrs ≡ pairs

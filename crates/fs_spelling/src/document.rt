@@ -2,7 +2,7 @@
 
 ghost use Rattle.fs_spelling.specs.Laws as laws;
 
-/// An element is read as it begins: its kind is the one of its name at its place, its attributes say their texts, and
+/// An element is read as it begins: its kind is the one of its name at its level, its attributes say their texts, and
 /// what it adds is added.
 pub fn one_element()
     ensures read { laws.ElementReadIsSpelt }

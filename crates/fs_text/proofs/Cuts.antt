@@ -10,26 +10,26 @@ use Rattle.std.proofs.lemmas.Bool.Decides.{nat_tests}
 use Rattle.std.proofs.lemmas.Bool.{or_parts, lt-ltb, le-ltb, ltb-false}
 use Rattle.fs_text.specs.Words.{is_byte, halves_of}
 
--- ---- its place
+-- ---- its offset
 
--- the place is within the text, or at its end
-pub place_within : (p : ℕ → Bool) (text : List ℕ) → position_or_len p text ≤ length text
-place_within p [] = omega arith
-place_within p (b ∷ text) = by (p b) (place_within p text)
+-- the offset is within the text, or at its end
+pub offset_within : (p : ℕ → Bool) (text : List ℕ) → position_or_len p text ≤ length text
+offset_within p [] = omega arith
+offset_within p (b ∷ text) = by (p b) (offset_within p text)
   where
     by : (t : Bool) → position_or_len p text ≤ length text → cond (not t) (1 + position_or_len p text) 0 ≤ length (b ∷ text)
     by true h = omega arith
     by false h = omega arith
 
 -- where a byte passes the search is over
-pub place_here : (p : ℕ → Bool) (b : ℕ) (text : List ℕ) → p b ≡ true → position_or_len p (b ∷ text) ≡ 0
-place_here p b text passes = rw passes refl
+pub offset_here : (p : ℕ → Bool) (b : ℕ) (text : List ℕ) → p b ≡ true → position_or_len p (b ∷ text) ≡ 0
+offset_here p b text passes = rw passes refl
 
 -- and where it does not it goes on
-pub place_on : (p : ℕ → Bool) (b : ℕ) (text : List ℕ) → p b ≡ false → position_or_len p (b ∷ text) ≡ suc (position_or_len p text)
-place_on p b text fails = rw fails (omega arith)
+pub offset_on : (p : ℕ → Bool) (b : ℕ) (text : List ℕ) → p b ≡ false → position_or_len p (b ∷ text) ≡ suc (position_or_len p text)
+offset_on p b text fails = rw fails (omega arith)
 
--- a place before the end is found exactly where a byte passes
+-- an offset before the end is found exactly where a byte passes
 pub found : (p : ℕ → Bool) (text : List ℕ) → list_any p text ≡ ltb (position_or_len p text) (length text)
 found p [] = refl
 found p (b ∷ text) = by (p b) (found p text)
@@ -39,13 +39,13 @@ found p (b ∷ text) = by (p b) (found p text)
     by true h = sym (lt-ltb 0 (length (b ∷ text)) (omega arith))
     by false h = h ∙ grind (arith, nat_tests)
 
--- where the place is the end, none passes
-pub none_found : (p : ℕ → Bool) (text : List ℕ) (place : ℕ) → place ≡ position_or_len p text → length text ≤ place → list_any p text ≡ false
-none_found p text place is h = found p text ∙ le-ltb _ _ (rw (← is) h)
+-- where the offset is the end, none passes
+pub none_found : (p : ℕ → Bool) (text : List ℕ) (offset : ℕ) → offset ≡ position_or_len p text → length text ≤ offset → list_any p text ≡ false
+none_found p text offset is h = found p text ∙ le-ltb _ _ (rw (← is) h)
 
 -- where it is before the end, one passes
-pub one_found : (p : ℕ → Bool) (text : List ℕ) (place : ℕ) → place ≡ position_or_len p text → place < length text → list_any p text ≡ true
-one_found p text place is h = found p text ∙ lt-ltb _ _ (rw (← is) h)
+pub one_found : (p : ℕ → Bool) (text : List ℕ) (offset : ℕ) → offset ≡ position_or_len p text → offset < length text → list_any p text ≡ true
+one_found p text offset is h = found p text ∙ lt-ltb _ _ (rw (← is) h)
 
 -- the first that passes stands behind those that do not
 pub first_behind : (p : ℕ → Bool) (front : List ℕ) (b : ℕ) (rest : List ℕ) → list_any p front ≡ false → p b ≡ true →
@@ -70,13 +70,13 @@ found_behind p (a ∷ front) b rest passes = by (p a) (found_behind p front b re
 pub behind_one : (n : ℕ) (text : List ℕ) → take (length (drop n text) - 1) (drop 1 (drop n text)) ≡ drop (n + 1) text
 behind_one n text = take_rest (drop n text) 1 ∙ drop-drop 1 n text
 
--- what is behind the first of what begins at its place
-pub behind_is : (p : ℕ → Bool) (text : List ℕ) (place : ℕ) (from : List ℕ) → place ≡ position_or_len p text → from ≡ drop place text →
+-- what is behind the first of what begins at its offset
+pub behind_is : (p : ℕ → Bool) (text : List ℕ) (offset : ℕ) (from : List ℕ) → offset ≡ position_or_len p text → from ≡ drop offset text →
     take (length from - 1) (drop 1 from) ≡ after_first p text
-behind_is p text place from is back =
-    ap (λ rest. take (length rest - 1) (drop 1 rest)) back ∙ behind_one place text ∙ ap (λ n. drop (n + 1) text) is
+behind_is p text offset from is back =
+    ap (λ rest. take (length rest - 1) (drop 1 rest)) back ∙ behind_one offset text ∙ ap (λ n. drop (n + 1) text) is
 
--- for a function that cuts a text at a place that was found
+-- for a function that cuts a text at an offset that was found
 pub ruleset word_rules = (behind_one, prefix_len-le-length)
 
 -- none that passes stands before it
@@ -85,8 +85,8 @@ none_before p [] = refl
 none_before p (b ∷ text) = by (p b) refl (none_before p text)
   where
     by : (t : Bool) → p b ≡ t → list_any p (before_first p text) ≡ false → list_any p (before_first p (b ∷ text)) ≡ false
-    by true passes more = ap (λ n. list_any p (take n (b ∷ text))) (place_here p b text passes)
-    by false fails more = ap (λ n. list_any p (take n (b ∷ text))) (place_on p b text fails) ∙ rw (fails, more) refl
+    by true passes more = ap (λ n. list_any p (take n (b ∷ text))) (offset_here p b text passes)
+    by false fails more = ap (λ n. list_any p (take n (b ∷ text))) (offset_on p b text fails) ∙ rw (fails, more) refl
 
 -- nothing stands behind it where none passes
 pub nothing_after : (p : ℕ → Bool) (text : List ℕ) → list_any p text ≡ false → after_first p text ≡ []
@@ -105,21 +105,21 @@ after_behind p front b rest none passes =
 
 -- ---- its halves
 
--- there are none where the place is the end
-pub no_halves : (byte : ℕ) (text : List ℕ) (place : ℕ) → place ≡ position_or_len (is_byte byte) text → length text ≤ place →
+-- there are none where the offset is the end
+pub no_halves : (byte : ℕ) (text : List ℕ) (offset : ℕ) → offset ≡ position_or_len (is_byte byte) text → length text ≤ offset →
     None ≡ halves_of byte text
 unfolding halves_of
-no_halves byte text place is end = rw (none_found (is_byte byte) text place is end) refl
+no_halves byte text offset is end = rw (none_found (is_byte byte) text offset is end) refl
 
 -- and where it is not, they are what stands before and behind it
-pub halves_are : (byte : ℕ) (text : List ℕ) (place : ℕ) (before from : List ℕ) → place ≡ position_or_len (is_byte byte) text →
-    place < length text
-    → before ≡ take place text → from ≡ drop place text → Some (before, take (length from - 1) (drop 1 from)) ≡ halves_of byte text
+pub halves_are : (byte : ℕ) (text : List ℕ) (offset : ℕ) (before from : List ℕ) → offset ≡ position_or_len (is_byte byte) text →
+    offset < length text
+    → before ≡ take offset text → from ≡ drop offset text → Some (before, take (length from - 1) (drop 1 from)) ≡ halves_of byte text
 unfolding halves_of
-halves_are byte text place before from is below front back =
-    let behind = behind_is (is_byte byte) text place from is back in
+halves_are byte text offset before from is below front back =
+    let behind = behind_is (is_byte byte) text offset from is back in
     let ahead : before ≡ before_first (is_byte byte) text = front ∙ ap (λ n. take n text) is in
-    rw (one_found (is_byte byte) text place is below, behind, ahead) refl
+    rw (one_found (is_byte byte) text offset is below, behind, ahead) refl
 
 same_byte : (byte : ℕ) → is_byte byte byte ≡ true
 same_byte byte = grind (arith, nat_tests)
@@ -160,11 +160,11 @@ put_together byte (b ∷ text) some = by (is_byte byte b) refl some (put_togethe
         → b ∷ text ≡ before_first (is_byte byte) (b ∷ text) ++ (byte ∷ after_first (is_byte byte) (b ∷ text))
     by true passes h more =
         let same : b ≡ byte = grind (arith, nat_tests) in
-        ap (λ c. c ∷ text) same ∙ sym (ap (parted byte (b ∷ text)) (place_here (is_byte byte) b text passes))
+        ap (λ c. c ∷ text) same ∙ sym (ap (parted byte (b ∷ text)) (offset_here (is_byte byte) b text passes))
     by false fails h more =
         let n = position_or_len (is_byte byte) text in
         ap (λ rest. b ∷ rest) (more h) ∙ ap (λ rest. b ∷ (take n text ++ (byte ∷ rest))) (sym (drop_one_more n b text))
-        ∙ sym (ap (parted byte (b ∷ text)) (place_on (is_byte byte) b text fails))
+        ∙ sym (ap (parted byte (b ∷ text)) (offset_on (is_byte byte) b text fails))
 
 -- a text that is cut is put together of what stands before and behind the byte
 pub halved : (byte : ℕ) (text before behind : List ℕ) → halves_of byte text ≡ Some (before, behind) →

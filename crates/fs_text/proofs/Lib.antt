@@ -2,7 +2,7 @@ pub mod Cuts
 pub mod EscapeLemmas
 pub mod IdLemmas
 pub mod NumberLemmas
-pub mod Places
+pub mod Offsets
 pub mod TableLemmas
 pub mod TheTables
 pub mod NamingLemmas

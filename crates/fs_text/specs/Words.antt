@@ -1,5 +1,5 @@
 -- How a text is cut at a byte, and into words.
-use Rattle.std.specs.Prelude.{ℕ, ◌==◌, Bool, not, if◌then◌else◌, List, drop, Option, None, Some}
+use Rattle.std.specs.Prelude.{ℕ, ◌==◌, nat_le, Bool, not, if◌then◌else◌, List, drop, length, Option, None, Some}
 use Rattle.std.specs.List.{before_first, after_first, position_or_len, list_any}
 
 -- the byte is this one
@@ -44,3 +44,7 @@ word_of text = before_byte 32 text
 -- what stands behind that word and the spaces behind it
 abbrev pub behind_word : List ℕ → List ℕ
 behind_word text = without_spaces (behind_byte 32 text)
+
+-- it can be an extension, a context or a dialplan of a channel: it has at most 256 bytes
+abbrev pub is_short : List ℕ → Bool
+is_short word = nat_le (length word) 256

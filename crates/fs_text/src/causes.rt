@@ -55,7 +55,7 @@ pub enum Cause {
     PickedOff,
 }
 
-/// The table of causes; a cause's row stands at the place of its variant.
+/// The table of causes; a cause's row stands at the position of its variant.
 static CAUSES: [Row<Cause>; 20] = [
     (UnallocatedNumber, 1, "UNALLOCATED_NUMBER"),
     (NoRouteDestination, 3, "NO_ROUTE_DESTINATION"),

@@ -43,7 +43,7 @@ pub enum EventName {
     Shutdown,
 }
 
-/// The table of event names; the row of each stands at the place of its variant.
+/// The table of event names; the row of each stands at the position of its variant.
 static EVENT_NAMES: [Row<EventName>; 15] = [
     (Custom, 1, "CUSTOM"),
     (ChannelCreate, 2, "CHANNEL_CREATE"),

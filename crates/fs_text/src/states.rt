@@ -40,7 +40,7 @@ pub enum State {
     CsDestroy,
 }
 
-/// The table of states; a state's row stands at the place of its variant.
+/// The table of states; a state's row stands at the position of its variant.
 static STATES: [Row<State>; 13] = [
     (CsNew, 0, "CS_NEW"),
     (CsInit, 1, "CS_INIT"),

@@ -5,7 +5,7 @@ use Rattle.std.proofs.Common.{◌∙◌, subst, arith, Option, None, Some}
 use Rattle.std.specs.List.{starts_with, list_any, position_or_len, before_first}
 use Rattle.std.proofs.lemmas.List.{length-take-le, take_at}
 use Rattle.fs_text.specs.Texts.{Text}
-use Rattle.fs_text.proofs.Cuts.{place_within}
+use Rattle.fs_text.proofs.Cuts.{offset_within}
 use Rattle.std.proofs.lemmas.Bool.{false≢true, and_right, and_left, and_parts, or_parts, eqb-true, eqb-false, ne_eqb}
 use Rattle.memchr.specs.Find.{is_byte2}
 use Rattle.fs_vars.specs.Pairs.{Pairs}
@@ -182,7 +182,7 @@ reference_is (b ∷ c ∷ text) h =
     let dollar : 36 ≡ b = eqb-true 36 b start.0 in
     let brace : 123 ≡ c = eqb-true 123 c (and_parts (nat_eq 123 c) true start.1).0 in
     let count : length (inside_of (b ∷ c ∷ text)) + 3 ≡ suc (suc (position_or_len is_brace text + 1)) =
-    omega (arith, length-take-le (position_or_len is_brace text) text (place_within is_brace text)) in
+    omega (arith, length-take-le (position_or_len is_brace text) text (offset_within is_brace text)) in
     rw (count, brace_ends text parts.1) (λ i. sym dollar i ∷ sym brace i ∷ (inside_of (b ∷ c ∷ text) ++ codes "}"))
 
 -- and lies within its text

@@ -9,7 +9,7 @@ ghost use Rattle.fs_vars.specs.Pieces.{GivesPiece, TakesPiece};
 
 use crate::reference::value_asked;
 use crate::scope::Scope;
-use fs_text::place_of;
+use fs_text::offset_of;
 use memchr::memchr2;
 use std::marker::Model;
 
@@ -137,7 +137,7 @@ fn closed_len(text: &[u8]) -> Option<usize>
     ensures within { IfSome result (λ len. len ≤ length text.now) }
 {
     let rest = &text[2..];
-    let inside = place_of(b'}', rest);
+    let inside = offset_of(b'}', rest);
     if inside < rest.len() {
         Some(inside + 3)
     } else {

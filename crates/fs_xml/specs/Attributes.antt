@@ -10,7 +10,7 @@ use Rattle.fs_xml.specs.declared.attribute.Ending.TheVariants.{Opens, Closes}
 use Rattle.fs_xml.specs.declared.stop.TagStop.{TagStop}
 use Rattle.fs_xml.specs.declared.stop.TagStop.TheVariants.{Cut, Bad}
 use Rattle.std.specs.Borrow.{Bor}
-use Rattle.fs_xml.specs.Bytes.{is_blank, is_quote, is_name_byte, begins_name, past, name_of, place}
+use Rattle.fs_xml.specs.Bytes.{is_blank, is_quote, is_name_byte, begins_name, past, name_of, offset}
 
 -- an attribute as it is written: where its name begins, its name, its value between the quotes, and where the value ends
 pub record Written : Type 0 where
@@ -58,7 +58,7 @@ broken_at at bytes = tag_end None bytes >>= λ rest. Ok (Broken at, rest)
 abbrev pub valued_on : ℕ → ℕ → List ℕ → Option (List ℕ × List ℕ) → TagParts
 valued_on end at name None = Err Cut
 valued_on end at name (Some halves) =
-    Ok (Has (record { at = at; name = name; value = halves.0; end = place end halves.1 - 1 }), halves.1)
+    Ok (Has (record { at = at; name = name; value = halves.0; end = offset end halves.1 - 1 }), halves.1)
 
 -- the value up to its quote
 unfoldable pub valued_at : ℕ → ℕ → List ℕ → ℕ → List ℕ → TagParts
@@ -76,7 +76,7 @@ equals_at end at name (b ∷ rest) = if b == 61 then quoted_at end at name (past
 
 -- an attribute, from its name on
 unfoldable pub named_at : ℕ → List ℕ → TagParts
-named_at end bytes = equals_at end (place end bytes) (name_of bytes) (past is_blank (past is_name_byte bytes))
+named_at end bytes = equals_at end (offset end bytes) (name_of bytes) (past is_blank (past is_name_byte bytes))
 
 -- the `>` behind a `/`
 unfoldable pub slash_at : List ℕ → TagParts
@@ -89,7 +89,7 @@ part_on end glued [] = Err Cut
 part_on end glued (b ∷ rest) =
     if b == 62 then Ok (Ends Opens, rest)
     else if b == 47 then slash_at rest
-    else if begins_name b then (if glued then broken_at (place end (b ∷ rest)) (b ∷ rest) else named_at end (b ∷ rest))
+    else if begins_name b then (if glued then broken_at (offset end (b ∷ rest)) (b ∷ rest) else named_at end (b ∷ rest))
     else Err Bad
 
 unfoldable pub part_at : ℕ → List ℕ → TagParts

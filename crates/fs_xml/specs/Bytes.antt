@@ -32,5 +32,5 @@ abbrev pub name_of : List ℕ → List ℕ
 name_of bytes = take_while is_name_byte bytes
 
 -- where bytes begin that stand at the end of so many
-abbrev pub place : ℕ → List ℕ → ℕ
-place end bytes = end - length bytes
+abbrev pub offset : ℕ → List ℕ → ℕ
+offset end bytes = end - length bytes

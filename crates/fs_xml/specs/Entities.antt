@@ -12,7 +12,7 @@ use Rattle.fs_xml.specs.declared.stop.ValueFault.{ValueFault}
 use Rattle.fs_xml.specs.declared.stop.ValueFault.TheVariants.{Raw, BadEntity}
 use Rattle.fs_xml.specs.declared.stop.ValueStop.{ValueStop}
 use Rattle.fs_xml.specs.Answers.{ValueGives}
-use Rattle.fs_xml.specs.Bytes.{place}
+use Rattle.fs_xml.specs.Bytes.{offset}
 
 -- ---- one entity
 
@@ -94,7 +94,7 @@ entity_at so_far at bytes = entity_on so_far at (halves_of 59 bytes)
 unfoldable pub special_at : Bool → ℕ → List ℕ → List ℕ → Decoded
 special_at raw end so_far [] = Ok (so_far, None)
 special_at raw end so_far (b ∷ rest) =
-    if b == 38 then entity_at so_far (place end (b ∷ rest)) rest
+    if b == 38 then entity_at so_far (offset end (b ∷ rest)) rest
     else if raw then Ok (so_far ++ b ∷ [], Some rest)
     else Err Raw
 
@@ -116,6 +116,6 @@ value_within zero raw end so_far bytes = Err Raw
 value_within (suc more) raw end so_far bytes =
     value_step raw end so_far bytes >>= λ x. value_on (λ next rest. value_within more raw end next rest) x
 
--- the text of a value that ends at a place
+-- the text of a value that ends at an offset
 unfoldable pub value_text : Bool → ℕ → List ℕ → Values
 value_text raw end bytes = value_within (length bytes + 1) raw end [] bytes

@@ -9,7 +9,7 @@ use crate::bytes::{begins_name, is_quote, past_blanks, split_name};
 use crate::stop::TagStop;
 use fs_text::split_at_byte;
 
-/// An attribute as it is written in a tag. The places are those of the document that the tag stands in.
+/// An attribute as it is written in a tag. The offsets are those of the document that the tag stands in.
 #[derive(Clone, Copy, Debug)]
 pub struct Attr<'a> {
     /// Where its name begins.
@@ -39,7 +39,7 @@ pub enum Part<'a> {
     Malformed(usize),
 }
 
-/// Reads the next part of a tag of a document that ends at a place.
+/// Reads the next part of a tag of a document that ends at an offset.
 #[tactic(auto, unfolding(crate::specs::Attributes::part_at))]
 pub(crate) fn read_part(end: usize, text: &[u8]) -> Result<(Part<'_>, &[u8]), TagStop>
     requires { length text.now ≤ end }

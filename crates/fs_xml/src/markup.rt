@@ -21,7 +21,7 @@ pub enum Markup<'a> {
     Start(&'a [u8], Body<'a>),
 }
 
-/// Reads the markup whose `<` stands in front of the text, in a document that ends at a place.
+/// Reads the markup whose `<` stands in front of the text, in a document that ends at an offset.
 ///
 /// A comment goes from `<!--` to the next `-->`. An end tag is `</`, a name, blanks and `>`. A start tag is `<`, a
 /// name, attributes, and `>` or `/>`. An attribute is a blank, a name, `=` and a value in quotes, with blanks round the

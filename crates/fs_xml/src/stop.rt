@@ -52,7 +52,7 @@ impl<T: Drop> From<AllocFailed<T>> for MarkupStop {
 pub enum ValueFault {
     /// A `<` stands in it.
     Raw,
-    /// What begins with the `&` at this place is no entity.
+    /// What begins with the `&` at this offset is no entity.
     BadEntity { at: usize },
 }
 

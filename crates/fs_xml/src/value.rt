@@ -12,7 +12,7 @@ use fs_text::split_at_byte;
 use memchr::memchr2;
 use std::alloc::Global;
 
-/// The text that a value says, which ends at a place of its document.
+/// The text that a value says, which ends at an offset of its document.
 ///
 /// `&lt;`, `&gt;`, `&amp;`, `&quot;`, `&apos;`, `&#N;` and `&#xH;` stand for their characters, of which a number may
 /// name any Unicode scalar value but 0. A `<` is a fault unless `raw` says that it stands for itself.
@@ -48,7 +48,7 @@ fn step<'a>(
 
 /// How many bytes stand before the first `&` or `<`.
 fn plain_len(value: &[u8]) -> usize
-    ensures place { result ≡ position_or_len entities.is_special value.now }
+    ensures offset { result ≡ position_or_len entities.is_special value.now }
     ensures within { result ≤ length value.now }
 {
     memchr2(b'&', b'<', value).unwrap_or(value.len())

@@ -1,4 +1,4 @@
-use Rattle.fs_dial.proofs.PlaceLaws.{dial_stands}
+use Rattle.fs_dial.proofs.OffsetLaws.{dial_stands}
 use Rattle.fs_dial.proofs.laws.each_part_stands.Goals as goal
 
 pub returns : goal.returns

@@ -4,9 +4,9 @@ use Rattle.fs_doc.proofs.dialplan.add_extension.Goals as goal
 
 pub returns-in_ok-push-clause-added : goal.returns-in_ok-push-clause-added
 returns-in_ok-push-clause-added c =
-    added c.args.contexts.now.items c.args.place c.index_mut.result.now c.args.extension c.push.new.self c.index_mut.ensures.value
+    added c.args.contexts.now.items c.args.position c.index_mut.result.now c.args.extension c.push.new.self c.index_mut.ensures.value
     c.in_ok-push.ensures.ok
 
-pub returns-else-place-len-clause-added : goal.returns-else-place-len-clause-added
-returns-else-place-len-clause-added c =
-    none_added c.args.contexts.now.items c.args.place c.args.extension (omega (arith, c.len.ensures, c.if-place-len.false))
+pub returns-else-position-len-clause-added : goal.returns-else-position-len-clause-added
+returns-else-position-len-clause-added c =
+    none_added c.args.contexts.now.items c.args.position c.args.extension (omega (arith, c.len.ensures, c.if-position-len.false))

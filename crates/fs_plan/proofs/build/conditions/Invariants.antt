@@ -3,10 +3,10 @@ use Rattle.fs_plan.specs.Building.{HaveReadings, patterns_within}
 use Rattle.fs_plan.proofs.build.conditions.Given as goal
 
 -- the conditions so far are built, and nothing was counted
-abbrev pub invariant-loop-place : goal.invariant-loop-place
-invariant-loop-place g l = record {
-  built : l.built ≡ take l.place l.list;
-  read : HaveReadings (patterns_within l.extension (take l.place l.list));
+abbrev pub invariant-loop-position : goal.invariant-loop-position
+invariant-loop-position g l = record {
+  built : l.built ≡ take l.position l.list;
+  read : HaveReadings (patterns_within l.extension (take l.position l.list));
   sizes : g.P.Store.sizes l.patterns ≡ g.P.Store.sizes l.fn.patterns;
   counts : g.P.Store.counts l.patterns ≡ g.P.Store.counts l.fn.patterns;
   loads : g.P.Store.next_load l.patterns ≡ g.P.Store.next_load l.fn.patterns;

@@ -3,13 +3,13 @@ use Rattle.std.proofs.lemmas.Grind.{common_steps}
 use Rattle.fs_plan.proofs.BuildLemmas.{extensions_more}
 use Rattle.fs_plan.proofs.build.extensions.Goals as goal
 
-pub loop-place-preserved : goal.loop-place-preserved
-loop-place-preserved g c = record {
+pub loop-position-preserved : goal.loop-position-preserved
+loop-position-preserved g c = record {
   built = grind (arith, common_steps);
   read =
-      extensions_more c.args.before c.args.list.now c.loop-place.place c.index-list-place.result c.number_of-number.result
+      extensions_more c.args.before c.args.list.now c.loop-position.position c.index-list-position.result c.number_of-number.result
       c.as_slice.result.now (omega arith)
-      c.index-list-place.is (omega arith) (search rules) c.in_ok-conditions.ensures.read c.loop-place.invariant.read;
+      c.index-list-position.is (omega arith) (search rules) c.in_ok-conditions.ensures.read c.loop-position.invariant.read;
   sizes = search rules;
   counts = search rules;
   loads = search rules;

@@ -7,10 +7,10 @@ use Rattle.fs_vars.proofs.pieces.closed_len.Goals as goal
 
 pub returns-then-inside-rest-clause-found : goal.returns-then-inside-rest-clause-found
 returns-then-inside-rest-clause-found c =
-    sym (one_found is_brace _ c.place_of-inside.result c.place_of-inside.ensures c.if-inside-rest.true)
+    sym (one_found is_brace _ c.offset_of-inside.result c.offset_of-inside.ensures c.if-inside-rest.true)
     ∙ ap (list_any is_brace) (take_rest c.args.text.now 2)
 
 pub returns-else-inside-rest-clause-found : goal.returns-else-inside-rest-clause-found
 returns-else-inside-rest-clause-found c =
-    sym (none_found is_brace _ c.place_of-inside.result c.place_of-inside.ensures c.if-inside-rest.false)
+    sym (none_found is_brace _ c.offset_of-inside.result c.offset_of-inside.ensures c.if-inside-rest.false)
     ∙ ap (list_any is_brace) (take_rest c.args.text.now 2)

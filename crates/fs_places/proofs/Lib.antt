@@ -1,6 +1,0 @@
-pub mod PlaceLemmas
-pub mod RowLemmas
-pub mod HeldLemmas
-pub mod TableLemmas
-pub mod NumberLemmas
-pub mod LeastLemmas

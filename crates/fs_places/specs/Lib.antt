@@ -1,5 +1,0 @@
-pub mod Places
-pub mod Rows
-pub mod Least
-pub mod Sheets
-pub mod Overlays

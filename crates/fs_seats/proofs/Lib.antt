@@ -1,0 +1,6 @@
+pub mod SeatLemmas
+pub mod RowLemmas
+pub mod HeldLemmas
+pub mod TableLemmas
+pub mod NumberLemmas
+pub mod LeastLemmas

@@ -1,0 +1,5 @@
+pub mod Seats
+pub mod Rows
+pub mod Least
+pub mod Sheets
+pub mod Overlays

@@ -24,7 +24,7 @@ pub one_back : {X : Type 0} (x : X) (xs ys : List X) → IsOneOf x ys → IsOneO
 one_back x [] ys is = is
 one_back x (first ∷ xs) ys is = inr (one_back x xs ys is)
 
-one_insert : {X : Type 0} (x : X) (xs : List X) (i : ℕ) (y : X) → IsOneOf x (insert xs i y) → (x ≡ y) ⊎ IsOneOf x xs
+pub one_insert : {X : Type 0} (x : X) (xs : List X) (i : ℕ) (y : X) → IsOneOf x (insert xs i y) → (x ≡ y) ⊎ IsOneOf x xs
 one_insert x xs i y is =
     elim (one_parts x (take i xs) (y ∷ drop i xs) is) [
       | inl h ↦ inr (subst (λ all. IsOneOf x all) (take-append-drop i xs) (one_front x (take i xs) (drop i xs) h))
@@ -39,7 +39,7 @@ one_case : {T : Type 0} (x : ℕ × T) (things : List (ℕ × T)) (i : ℕ) (thi
 one_case x things i thing true is = inr is
 one_case x things i thing false is = one_insert x things i thing is
 
-one_placed : {T : Type 0} (x : ℕ × T) (things : List (ℕ × T)) (thing : ℕ × T) → IsOneOf x (placed things thing) →
+pub one_placed : {T : Type 0} (x : ℕ × T) (things : List (ℕ × T)) (thing : ℕ × T) → IsOneOf x (placed things thing) →
     (x ≡ thing) ⊎ IsOneOf x things
 unfolding placed
 one_placed x things thing is =

@@ -1,6 +1,11 @@
 pub mod DragLemmas
+pub mod EndLemmas
+pub mod FirstLemmas
+pub mod ListedLemmas
 pub mod OnceLemmas
+pub mod OutliveLemmas
 pub mod RoundLemmas
 pub mod RowLemmas
 pub mod SettledLemmas
 pub mod SurvivorLemmas
+pub mod WayLemmas

@@ -12,7 +12,7 @@ use Rattle.fs_bridge.specs.Orders.{has_slot, placed, in_order}
 use Rattle.fs_bridge.specs.Closure.{Member, Members, drags, may_join, round_after, with_rounds, members_of}
 use Rattle.fs_bridge.specs.Hangups.{NobodyTwice}
 
-none_behind : (b : Bool) → b ≡ (b || false)
+pub none_behind : (b : Bool) → b ≡ (b || false)
 none_behind true = refl
 none_behind false = refl
 

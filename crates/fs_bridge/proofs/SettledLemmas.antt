@@ -1,5 +1,5 @@
 -- Whoever lives and is dragged by one who hangs up, hangs up.
-use Rattle.std.proofs.Common.{◌≡◌, ℕ, zero, suc, ◌+◌, ◌<◌, ◌≤◌, Bool, true, false, ◌||◌, ◌&&◌, not, cond, eqb, [], ◌∷◌, ◌++◌, map, length}
+use Rattle.std.proofs.Common.{◌≡◌, ℕ, zero, suc, ◌+◌, ◌<◌, ◌≤◌, Bool, true, false, ◌||◌, ◌&&◌, not, cond, eqb, List, [], ◌∷◌, ◌++◌, map, length}
 use Rattle.std.proofs.Common.{get_or, filter, flat_map, ◌⊎◌, inl, inr, refl, ap, sym, subst, ◌∙◌, arith, Any}
 use Rattle.std.specs.Prelude.{◌==◌, All}
 use Rattle.std.specs.List.{list_any, IsDistinct, AllByRecursion}
@@ -27,26 +27,26 @@ or_right : (a b : Bool) → b ≡ true → (a || b) ≡ true
 or_right true b is = refl
 or_right false b is = is
 
-and_left : (a b : Bool) → (a && b) ≡ true → a ≡ true
+pub and_left : (a b : Bool) → (a && b) ≡ true → a ≡ true
 and_left true b is = refl
 and_left false b is = is
 
-both : (a b : Bool) → a ≡ true → b ≡ false → (a && not b) ≡ true
+pub both : (a b : Bool) → a ≡ true → b ≡ false → (a && not b) ≡ true
 both true false a b = refl
 both true true a b = absurd (true≢false b)
 both false b' a b = absurd (true≢false (sym a))
 
 -- ---- who is a member
 
-has_front : (slot : ℕ) (xs ys : Members) → has_slot slot xs ≡ true → has_slot slot (xs ++ ys) ≡ true
+pub has_front : (slot : ℕ) (xs ys : Members) → has_slot slot xs ≡ true → has_slot slot (xs ++ ys) ≡ true
 has_front slot xs ys is =
     list_any-append (λ (m : Member). m.0 == slot) xs ys ∙ or_left (has_slot slot xs) (has_slot slot ys) is
 
-has_back : (slot : ℕ) (xs ys : Members) → has_slot slot ys ≡ true → has_slot slot (xs ++ ys) ≡ true
+pub has_back : (slot : ℕ) (xs ys : Members) → has_slot slot ys ≡ true → has_slot slot (xs ++ ys) ≡ true
 has_back slot xs ys is =
     list_any-append (λ (m : Member). m.0 == slot) xs ys ∙ or_right (has_slot slot xs) (has_slot slot ys) is
 
-has_either : (slot : ℕ) (xs ys : Members) → has_slot slot (xs ++ ys) ≡ true → (has_slot slot xs ≡ true) ⊎ (has_slot slot ys ≡ true)
+pub has_either : (slot : ℕ) (xs ys : Members) → has_slot slot (xs ++ ys) ≡ true → (has_slot slot xs ≡ true) ⊎ (has_slot slot ys ≡ true)
 has_either slot xs ys is =
     or_cases (has_slot slot xs) (has_slot slot ys) (sym (list_any-append (λ (m : Member). m.0 == slot) xs ys) ∙ is)
 
@@ -261,11 +261,11 @@ rounds_live w (suc more) members round slot h is =
     rounds_live w more (members ++ round_after w members round) (round_after w members round) slot (next_settles w members round h) is
 
 -- whoever is one of them stands in a slot that they have
-pub one_stands : (m : Member) (ms : Members) → IsOneOf m ms → has_slot m.0 ms ≡ true
-one_stands m [] is = absurd is
-one_stands m (d ∷ ms) (inl same) =
-    or_left (d.0 == m.0) (has_slot m.0 ms) (ap (λ other. other.0 == m.0) (sym same) ∙ nat_eq_equiv.refl m.0)
-one_stands m (d ∷ ms) (inr is) = or_right (d.0 == m.0) (has_slot m.0 ms) (one_stands m ms is)
+pub one_stands : {T : Type 0} (x : ℕ × T) (xs : List (ℕ × T)) → IsOneOf x xs → has_slot x.0 xs ≡ true
+one_stands x [] is = absurd is
+one_stands x (y ∷ xs) (inl same) =
+    or_left (y.0 == x.0) (has_slot x.0 xs) (ap (λ other. other.0 == x.0) (sym same) ∙ nat_eq_equiv.refl x.0)
+one_stands x (y ∷ xs) (inr is) = or_right (y.0 == x.0) (has_slot x.0 xs) (one_stands x xs is)
 
 -- ---- those who are named
 

@@ -46,12 +46,12 @@ new_case : {T : Type 0} (things : List (ℕ × T)) (i : ℕ) (thing : ℕ × T) 
 new_case things i thing true is = absurd (true≢false is)
 new_case things i thing false is = one_back thing (take i things) (thing ∷ drop i things) (inl refl)
 
-new_placed : {T : Type 0} (things : List (ℕ × T)) (thing : ℕ × T) → has_slot thing.0 things ≡ false → IsOneOf thing (placed things thing)
+pub new_placed : {T : Type 0} (things : List (ℕ × T)) (thing : ℕ × T) → has_slot thing.0 things ≡ false → IsOneOf thing (placed things thing)
 unfolding placed
 new_placed things thing is =
     new_case things (count_by (λ other. nat_lt other.0 thing.0) things) thing (has_slot thing.0 things) is
 
-kept_fold : {T : Type 0} (x : ℕ × T) (before things : List (ℕ × T)) → IsOneOf x before → IsOneOf x (fold placed before things)
+pub kept_fold : {T : Type 0} (x : ℕ × T) (before things : List (ℕ × T)) → IsOneOf x before → IsOneOf x (fold placed before things)
 kept_fold x before [] is = is
 kept_fold x before (thing ∷ things) is = kept_fold x (placed before thing) things (kept_placed x before thing is)
 

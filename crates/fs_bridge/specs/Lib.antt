@@ -1,7 +1,9 @@
 pub mod After
 pub mod Bridges
 pub mod Closure
+pub mod Endings
 pub mod Hangups
 pub mod Laws
 pub mod Orders
+pub mod Rounds
 pub mod Worlds

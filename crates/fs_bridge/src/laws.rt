@@ -3,6 +3,7 @@
 
 ghost use Rattle.fs_bridge.specs.Laws as laws;
 ghost use Rattle.fs_bridge.specs.Hangups as hangups;
+ghost use Rattle.fs_bridge.specs.Endings as endings;
 
 /// Law: who is part of a bridge once one is joined, and once one has ended.
 pub fn bridges_law()
@@ -18,4 +19,21 @@ pub fn closure_law()
     ensures once { hangups.NobodyTwice }
     ensures members { hangups.RoundsAreMembers }
     ensures survivors { hangups.NoSurvivorHangsUp }
+{}
+
+/// Law: whoever hangs up is in one round, of one cause: that of the least slot of the round before which drags the
+/// channel, and for one slot that of the first of partner, origination and peer. Whoever is in a round hangs up.
+pub fn rounds_law()
+    ensures each { endings.EachIsInARound }
+    ensures all { endings.EachOfARoundHangsUp }
+    ensures one { endings.OneRoundAndCause }
+{}
+
+/// Law: a bridge ends exactly where one of its legs hangs up, of the cause of the leg that died first, and once. Who
+/// is left by a leg that hangs up, and does not hang up, outlives its bridge, and nobody else.
+pub fn endings_law()
+    ensures ends { endings.EndsWithALeg }
+    ensures first { endings.EachEndsOfTheFirst }
+    ensures once { endings.NoBridgeEndsTwice }
+    ensures survivors { endings.SurvivorsAreLeft }
 {}

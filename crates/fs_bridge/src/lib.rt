@@ -13,6 +13,6 @@ mod row;
 pub use after::{After, after_bridge};
 pub use bridges::Bridges;
 pub use closure::{Closure, closure_of_hangup, left_by};
-pub use laws::{bridges_law, closure_law};
+pub use laws::{bridges_law, closure_law, endings_law, rounds_law};
 pub use lines::Lines;
 pub use row::{BridgeKind, Row};

@@ -11,81 +11,81 @@ use Rattle.fs_orig.specs.Legs as legs
 use Rattle.fs_orig.specs.Legs.{lives, position_in}
 use Rattle.fs_orig.specs.Changes.{rings, with_leg_answer, with_leg_death, with_leg, with_changed_leg, with_death}
 use Rattle.fs_orig.proofs.Positions.{passes, position_is_first, position_is_none}
-use Rattle.fs_places.specs.declared.numbered.Numbered.{Numbered}
-use Rattle.fs_places.specs.Places.{held_in, with_held, least_free}
-use Rattle.fs_places.specs.Rows.{has_number, place_of, row_of, with_held_at, with_row, without_row, with_new_row}
-use Rattle.fs_places.proofs.HeldLemmas.{held_here, held_there, at_each}
-use Rattle.fs_places.proofs.RowLemmas.{AreDistinct, place_stands, place_within, free_least}
-use Rattle.fs_places.proofs.TableLemmas.{row_found, row_written}
+use Rattle.fs_seats.specs.declared.numbered.Numbered.{Numbered}
+use Rattle.fs_seats.specs.Seats.{held_in, with_held, least_free}
+use Rattle.fs_seats.specs.Rows.{has_number, seat_of, row_of, with_held_at, with_row, without_row, with_new_row}
+use Rattle.fs_seats.proofs.HeldLemmas.{held_here, held_there, at_each}
+use Rattle.fs_seats.proofs.RowLemmas.{AreDistinct, seat_stands, seat_within, free_least}
+use Rattle.fs_seats.proofs.TableLemmas.{row_found, row_written}
 use Rattle.fs_state.specs.Moves.{leg_changed_at, leg_changed}
 
 abbrev pub Origs : Type 0
 Origs = List (Option (Numbered Orig))
 
 -- what is known of a living leg: the number of its origination, and its slot
-pub record Seat : Type 0 where
+pub record Berth : Type 0 where
   pub number : ℕ
   pub slot : Option ℕ
 
-abbrev pub seated : ℕ → Option ℕ → Seat
-seated number slot = record { number = number; slot = slot }
+abbrev pub berthed : ℕ → Option ℕ → Berth
+berthed number slot = record { number = number; slot = slot }
 
-abbrev pub seat_if : Bool → ℕ → Option ℕ → Option Seat
-seat_if true number slot = Some (seated number slot)
-seat_if false number slot = None
+abbrev pub berth_if : Bool → ℕ → Option ℕ → Option Berth
+berth_if true number slot = Some (berthed number slot)
+berth_if false number slot = None
 
-abbrev pub seat_of : ℕ → Option OrigLeg → Option Seat
-seat_of number None = None
-seat_of number (Some leg) = seat_if (lives leg) number leg.slot
+abbrev pub berth_of : ℕ → Option OrigLeg → Option Berth
+berth_of number None = None
+berth_of number (Some leg) = berth_if (lives leg) number leg.slot
 
 -- the living leg at a position of an origination
-abbrev pub seat_in : ℕ → Option (Numbered Orig) → Option Seat
-seat_in position None = None
-seat_in position (Some row) = seat_of row.number (slice_get row.held.legs position)
+abbrev pub berth_in : ℕ → Option (Numbered Orig) → Option Berth
+berth_in position None = None
+berth_in position (Some row) = berth_of row.number (slice_get row.held.legs position)
 
-abbrev pub seat_at : Origs → ℕ → ℕ → Option Seat
-seat_at origs place position = seat_in position (held_in origs place)
+abbrev pub berth_at : Origs → ℕ → ℕ → Option Berth
+berth_at origs seat position = berth_in position (held_in origs seat)
 
--- the seat of a leg in a slot
-abbrev pub in_slot : ℕ → ℕ → Seat
-in_slot number slot = seated number (Some slot)
+-- the berth of a leg in a slot
+abbrev pub in_slot : ℕ → ℕ → Berth
+in_slot number slot = berthed number (Some slot)
 
--- whoever lives in the new one lived in the old one, and was seated as now
+-- whoever lives in the new one lived in the old one, and was berthed as now
 abbrev pub FewerIn : Option (Numbered Orig) → Option (Numbered Orig) → Type 0
-FewerIn old new = (position : ℕ) (seat : Seat) → seat_in position new ≡ Some seat → seat_in position old ≡ Some seat
+FewerIn old new = (position : ℕ) (berth : Berth) → berth_in position new ≡ Some berth → berth_in position old ≡ Some berth
 
 abbrev pub Fewer : Origs → Origs → Type 0
-Fewer old new = (place : ℕ) → FewerIn (held_in old place) (held_in new place)
+Fewer old new = (seat : ℕ) → FewerIn (held_in old seat) (held_in new seat)
 
--- the seat is of this number
-pub seat_its : (number : ℕ) (leg : Option OrigLeg) (seat : Seat) → seat_of number leg ≡ Some seat → seat.number ≡ number
-seat_its number None seat h = absurd (none-some seat h)
-seat_its number (Some leg) seat h = by (lives leg) h
+-- the berth is of this number
+pub berth_its : (number : ℕ) (leg : Option OrigLeg) (berth : Berth) → berth_of number leg ≡ Some berth → berth.number ≡ number
+berth_its number None berth h = absurd (none-some berth h)
+berth_its number (Some leg) berth h = by (lives leg) h
   where
-    by : (test : Bool) → seat_if test number leg.slot ≡ Some seat → seat.number ≡ number
-    by true h = sym (ap (λ (x : Seat). x.number) (same_Some (seated number leg.slot) seat h))
-    by false h = absurd (none-some seat h)
+    by : (test : Bool) → berth_if test number leg.slot ≡ Some berth → berth.number ≡ number
+    by true h = sym (ap (λ (x : Berth). x.number) (same_Some (berthed number leg.slot) berth h))
+    by false h = absurd (none-some berth h)
 
-pub seat_number : (position : ℕ) (held : Option (Numbered Orig)) (seat : Seat) → seat_in position held ≡ Some seat →
-    has_number seat.number held ≡ true
-seat_number position None seat h = absurd (none-some seat h)
-seat_number position (Some row) seat h = eq-eqb row.number seat.number (sym (seat_its row.number (slice_get row.held.legs position) seat h))
+pub berth_number : (position : ℕ) (held : Option (Numbered Orig)) (berth : Berth) → berth_in position held ≡ Some berth →
+    has_number berth.number held ≡ true
+berth_number position None berth h = absurd (none-some berth h)
+berth_number position (Some row) berth h = eq-eqb row.number berth.number (sym (berth_its row.number (slice_get row.held.legs position) berth h))
 
--- who has a seat in a slot lives there, and has it if he does
-seat_lives : (number slot : ℕ) (leg : Option OrigLeg) → seat_of number leg ≡ Some (in_slot number slot) →
+-- who has a berth in a slot lives there, and has it if he does
+berth_lives : (number slot : ℕ) (leg : Option OrigLeg) → berth_of number leg ≡ Some (in_slot number slot) →
     passes (legs.lives_in slot) leg ≡ true
-seat_lives number slot None h = absurd (none-some (in_slot number slot) h)
-seat_lives number slot (Some leg) h = by (lives leg) leg.slot h
+berth_lives number slot None h = absurd (none-some (in_slot number slot) h)
+berth_lives number slot (Some leg) h = by (lives leg) leg.slot h
   where
-    by : (test : Bool) (which : Option ℕ) → seat_if test number which ≡ Some (in_slot number slot) → (test && legs.is_at slot which) ≡ true
+    by : (test : Bool) (which : Option ℕ) → berth_if test number which ≡ Some (in_slot number slot) → (test && legs.is_at slot which) ≡ true
     by true which h =
-        ap (legs.is_at slot) (ap (λ (x : Seat). x.slot) (same_Some (seated number which) (in_slot number slot) h)) ∙ eq-eqb slot slot refl
+        ap (legs.is_at slot) (ap (λ (x : Berth). x.slot) (same_Some (berthed number which) (in_slot number slot) h)) ∙ eq-eqb slot slot refl
     by false which h = absurd (none-some (in_slot number slot) h)
 
-lives_seated : (number slot : ℕ) (leg : OrigLeg) → legs.lives_in slot leg ≡ true → seat_of number (Some leg) ≡ Some (in_slot number slot)
-lives_seated number slot leg = by (lives leg) leg.slot
+lives_berthed : (number slot : ℕ) (leg : OrigLeg) → legs.lives_in slot leg ≡ true → berth_of number (Some leg) ≡ Some (in_slot number slot)
+lives_berthed number slot leg = by (lives leg) leg.slot
   where
-    by : (test : Bool) (which : Option ℕ) → (test && legs.is_at slot which) ≡ true → seat_if test number which ≡ Some (in_slot number slot)
+    by : (test : Bool) (which : Option ℕ) → (test && legs.is_at slot which) ≡ true → berth_if test number which ≡ Some (in_slot number slot)
     by true None h = absurd (true≢false (sym h))
     by true (Some other) h = ap (λ (n : ℕ). Some (in_slot number n)) (eqb-true other slot h)
     by false which h = absurd (true≢false (sym h))
@@ -109,46 +109,46 @@ set_there (leg ∷ more) (suc first) (suc other) new apart = set_there more firs
 -- a change by which no leg comes to life or moves
 abbrev pub Spares : (OrigLeg → OrigLeg) → Type 0
 Spares change =
-    (number : ℕ) (leg : OrigLeg) (seat : Seat) → seat_of number (Some (change leg)) ≡ Some seat → seat_of number (Some leg) ≡ Some seat
+    (number : ℕ) (leg : OrigLeg) (berth : Berth) → berth_of number (Some (change leg)) ≡ Some berth → berth_of number (Some leg) ≡ Some berth
 
-pub answer_spares : (place : ℕ) → Spares (with_leg_answer place)
-answer_spares place number leg seat = by (rings leg)
+pub answer_spares : (seat : ℕ) → Spares (with_leg_answer seat)
+answer_spares seat number leg berth = by (rings leg)
   where
-    by : (test : Bool) → seat_of number (Some (if test then record leg { answered = Some place } else leg)) ≡ Some seat →
-        seat_of number (Some leg) ≡ Some seat
+    by : (test : Bool) → berth_of number (Some (if test then record leg { answered = Some seat } else leg)) ≡ Some berth →
+        berth_of number (Some leg) ≡ Some berth
     by true h = h
     by false h = h
 
--- who died has no seat
-no_seat : (place : ℕ) (cause : Cause) (number : ℕ) (leg : OrigLeg) (seat : Seat) →
-    seat_of number (Some (with_leg_death place cause leg)) ≡ Some seat → ⊥
-no_seat place cause number leg seat = by (lives leg) refl
+-- who died has no berth
+no_berth : (seat : ℕ) (cause : Cause) (number : ℕ) (leg : OrigLeg) (berth : Berth) →
+    berth_of number (Some (with_leg_death seat cause leg)) ≡ Some berth → ⊥
+no_berth seat cause number leg berth = by (lives leg) refl
   where
     by : (test : Bool) → lives leg ≡ test →
-        seat_of number (Some (if test then record leg { died = Some place; cause = Some cause } else leg)) ≡ Some seat → ⊥
-    by true is h = none-some seat h
-    by false is h = none-some seat (sym (ap (λ (b : Bool). seat_if b number leg.slot) is) ∙ h)
+        berth_of number (Some (if test then record leg { died = Some seat; cause = Some cause } else leg)) ≡ Some berth → ⊥
+    by true is h = none-some berth h
+    by false is h = none-some berth (sym (ap (λ (b : Bool). berth_if b number leg.slot) is) ∙ h)
 
-pub death_spares : (place : ℕ) (cause : Cause) → Spares (with_leg_death place cause)
-death_spares place cause number leg seat h = absurd (no_seat place cause number leg seat h)
+pub death_spares : (seat : ℕ) (cause : Cause) → Spares (with_leg_death seat cause)
+death_spares seat cause number leg berth h = absurd (no_berth seat cause number leg berth h)
 
-changed_spares : (change : OrigLeg → OrigLeg) → Spares change → (first : ℕ) (these : List OrigLeg) (number position : ℕ) (seat : Seat) →
-    seat_of number (slice_get (with_changed_leg change first these) position) ≡ Some seat → seat_of number (slice_get these position) ≡ Some
-    seat
-changed_spares change spares first these number position seat = by (slice_get these first) refl
+changed_spares : (change : OrigLeg → OrigLeg) → Spares change → (first : ℕ) (these : List OrigLeg) (number position : ℕ) (berth : Berth) →
+    berth_of number (slice_get (with_changed_leg change first these) position) ≡ Some berth → berth_of number (slice_get these position) ≡ Some
+    berth
+changed_spares change spares first these number position berth = by (slice_get these first) refl
   where
     at : (old : OrigLeg) → slice_get these first ≡ Some old → (position ≡ first) ⊎ (position ≡ first → ⊥) →
-        seat_of number (slice_get (slice_set these first (change old)) position) ≡ Some seat →
-        seat_of number (slice_get these position) ≡ Some seat
+        berth_of number (slice_get (slice_set these first (change old)) position) ≡ Some berth →
+        berth_of number (slice_get these position) ≡ Some berth
     at old is (inl same) h =
         let now : slice_get (slice_set these first (change old)) position ≡ Some (change old) =
         ap (slice_get (slice_set these first (change old))) same ∙ set_here these first old (change old) is in
-        ap (seat_of number) (ap (slice_get these) same ∙ is) ∙ spares number old seat (sym (ap (seat_of number) now) ∙ h)
-    at old is (inr other) h = sym (ap (seat_of number) (set_there these first position (change old) other)) ∙ h
+        ap (berth_of number) (ap (slice_get these) same ∙ is) ∙ spares number old berth (sym (ap (berth_of number) now) ∙ h)
+    at old is (inr other) h = sym (ap (berth_of number) (set_there these first position (change old) other)) ∙ h
 
     by : (found : Option OrigLeg) → slice_get these first ≡ found →
-        seat_of number (slice_get (with_leg change first found these) position) ≡ Some seat →
-        seat_of number (slice_get these position) ≡ Some seat
+        berth_of number (slice_get (with_leg change first found these) position) ≡ Some berth →
+        berth_of number (slice_get these position) ≡ Some berth
     by None is h = h
     by (Some old) is h = at old is (cases_eq position first) h
 
@@ -160,52 +160,52 @@ as_row number o = Some (record { number = number; held = o })
 
 pub touched_spares : (change : OrigLeg → OrigLeg) → Spares change → (slot number : ℕ) (o : Orig) →
     FewerIn (as_row number o) (as_row number (leg_changed (λ p x. record x { legs = with_changed_leg change p x.legs }) slot o))
-touched_spares change spares slot number o position seat = by (position_in slot o.legs)
+touched_spares change spares slot number o position berth = by (position_in slot o.legs)
   where
     by : (first : Option ℕ) →
-        seat_of number (slice_get (leg_changed_at (λ p x. record x { legs = with_changed_leg change p x.legs }) first o).legs position) ≡
-        Some seat →
-        seat_of number (slice_get o.legs position) ≡ Some seat
+        berth_of number (slice_get (leg_changed_at (λ p x. record x { legs = with_changed_leg change p x.legs }) first o).legs position) ≡
+        Some berth →
+        berth_of number (slice_get o.legs position) ≡ Some berth
     by None h = h
-    by (Some first) h = changed_spares change spares first o.legs number position seat h
+    by (Some first) h = changed_spares change spares first o.legs number position berth h
 
--- where a slot seats one leg at most, none sits there behind a death
-none_left : (number slot place : ℕ) (cause : Cause) (o : Orig) →
-    ((p q : ℕ) → seat_of number (slice_get o.legs p) ≡ Some (in_slot number slot) →
-    seat_of number (slice_get o.legs q) ≡ Some (in_slot number slot) → p ≡ q) →
+-- where a slot berths one leg at most, none sits there behind a death
+none_left : (number slot seat : ℕ) (cause : Cause) (o : Orig) →
+    ((p q : ℕ) → berth_of number (slice_get o.legs p) ≡ Some (in_slot number slot) →
+    berth_of number (slice_get o.legs q) ≡ Some (in_slot number slot) → p ≡ q) →
     (position : ℕ) →
-    seat_of number (slice_get (leg_changed (λ p. with_death p place cause) slot o).legs position) ≡ Some (in_slot number slot) → ⊥
-none_left number slot place cause o apart position = by (position_in slot o.legs) refl
+    berth_of number (slice_get (leg_changed (λ p. with_death p seat cause) slot o).legs position) ≡ Some (in_slot number slot) → ⊥
+none_left number slot seat cause o apart position = by (position_in slot o.legs) refl
   where
     met : (first : ℕ) (old : Option OrigLeg) → slice_get o.legs first ≡ old → passes (legs.lives_in slot) old ≡ true →
         (position ≡ first) ⊎ (position ≡ first → ⊥) →
-        seat_of number (slice_get (with_leg (with_leg_death place cause) first old o.legs) position) ≡ Some (in_slot number slot) → ⊥
+        berth_of number (slice_get (with_leg (with_leg_death seat cause) first old o.legs) position) ≡ Some (in_slot number slot) → ⊥
     met first None there passing either h = true≢false (sym passing)
     met first (Some old) there passing (inl same) h =
-        let now : slice_get (slice_set o.legs first (with_leg_death place cause old)) position ≡ Some (with_leg_death place cause old) =
-        ap (slice_get (slice_set o.legs first (with_leg_death place cause old))) same
-        ∙ set_here o.legs first old (with_leg_death place cause old) there in
-        no_seat place cause number old (in_slot number slot) (sym (ap (seat_of number) now) ∙ h)
+        let now : slice_get (slice_set o.legs first (with_leg_death seat cause old)) position ≡ Some (with_leg_death seat cause old) =
+        ap (slice_get (slice_set o.legs first (with_leg_death seat cause old))) same
+        ∙ set_here o.legs first old (with_leg_death seat cause old) there in
+        no_berth seat cause number old (in_slot number slot) (sym (ap (berth_of number) now) ∙ h)
     met first (Some old) there passing (inr other) h =
         other
-        (apart position first (sym (ap (seat_of number) (set_there o.legs first position (with_leg_death place cause old) other)) ∙ h)
-        (ap (seat_of number) there ∙ lives_seated number slot old passing))
+        (apart position first (sym (ap (berth_of number) (set_there o.legs first position (with_leg_death seat cause old) other)) ∙ h)
+        (ap (berth_of number) there ∙ lives_berthed number slot old passing))
 
     by : (first : Option ℕ) → position_in slot o.legs ≡ first →
-        seat_of number (slice_get (leg_changed_at (λ p. with_death p place cause) first o).legs position) ≡ Some (in_slot number slot) → ⊥
+        berth_of number (slice_get (leg_changed_at (λ p. with_death p seat cause) first o).legs position) ≡ Some (in_slot number slot) → ⊥
     by None none h =
         both_ways (passes (legs.lives_in slot) (slice_get o.legs position)) (position_is_none (legs.lives_in slot) o.legs position none)
-        (seat_lives number slot (slice_get o.legs position) h)
+        (berth_lives number slot (slice_get o.legs position) h)
     by (Some first) is h =
         met first (slice_get o.legs first) refl (position_is_first (legs.lives_in slot) o.legs first is).here (cases_eq position first) h
 
 -- ---- one origination of a table is changed, or is gone
 
 -- the row of an origination that is there
-abbrev pub HasPlace : Origs → ℕ → Orig → Type 0
-HasPlace origs number o = (place : ℕ) × (place_of origs number ≡ Some place) × (held_in origs place ≡ as_row number o)
+abbrev pub HasSeat : Origs → ℕ → Orig → Type 0
+HasSeat origs number o = (seat : ℕ) × (seat_of origs number ≡ Some seat) × (held_in origs seat ≡ as_row number o)
 
-pub row_there : (origs : Origs) (number : ℕ) (o : Orig) → row_of origs number ≡ Some o → HasPlace origs number o
+pub row_there : (origs : Origs) (number : ℕ) (o : Orig) → row_of origs number ≡ Some o → HasSeat origs number o
 row_there origs number o is =
     let found = row_found origs number o is in
     let named : as_row found.1.number o ≡ as_row number o = ap (λ (n : ℕ). as_row n o) found.2.numbered in
@@ -216,89 +216,89 @@ pub changed_fewer : (origs : Origs) (number : ℕ) (o new : Orig) → row_of ori
 changed_fewer origs number o new is fewer =
     let row = row_there origs number o is in
     subst (Fewer origs) (sym (row_written origs number row.0 new row.1))
-    (at_each origs row.0 (as_row number new) FewerIn (place_within origs number row.0 row.1)
+    (at_each origs row.0 (as_row number new) FewerIn (seat_within origs number row.0 row.1)
     (subst (λ (held : Option (Numbered Orig)). FewerIn held (as_row number new)) (sym row.2) fewer)
-    (λ held position seat h. h))
+    (λ held position berth h. h))
 
 pub without_fewer : (origs : Origs) (number : ℕ) → Fewer origs (without_row origs number)
-without_fewer origs number = by (place_of origs number) refl
+without_fewer origs number = by (seat_of origs number) refl
   where
-    by : (found : Option ℕ) → place_of origs number ≡ found → Fewer origs (with_held_at origs None found)
-    by None is = λ place position seat h. h
+    by : (found : Option ℕ) → seat_of origs number ≡ found → Fewer origs (with_held_at origs None found)
+    by None is = λ seat position berth h. h
     by (Some at) is =
-        at_each origs at None FewerIn (place_within origs number at is) (λ position seat h. absurd (none-some seat h))
-        (λ held position seat h. h)
+        at_each origs at None FewerIn (seat_within origs number at is) (λ position berth h. absurd (none-some berth h))
+        (λ held position berth h. h)
 
 -- a death leaves no leg of this origination in the slot
-pub death_leaves_none : (origs : Origs) (number : ℕ) (o : Orig) (slot place : ℕ) (cause : Cause) → AreDistinct origs →
+pub death_leaves_none : (origs : Origs) (number : ℕ) (o : Orig) (slot seat : ℕ) (cause : Cause) → AreDistinct origs →
     row_of origs number ≡ Some o →
-    ((at p q : ℕ) (seat : Seat) → seat_at origs at p ≡ Some seat → seat_at origs at q ≡ Some seat → p ≡ q) →
+    ((at p q : ℕ) (berth : Berth) → berth_at origs at p ≡ Some berth → berth_at origs at q ≡ Some berth → p ≡ q) →
     (at position : ℕ) →
-    seat_at (with_row origs number (leg_changed (λ p. with_death p place cause) slot o)) at position ≡ Some (in_slot number slot) → ⊥
-death_leaves_none origs number o slot place cause distinct is apart at position has = by (cases_eq at row.0)
+    berth_at (with_row origs number (leg_changed (λ p. with_death p seat cause) slot o)) at position ≡ Some (in_slot number slot) → ⊥
+death_leaves_none origs number o slot seat cause distinct is apart at position has = by (cases_eq at row.0)
   where
     dead : Orig
-    dead = leg_changed (λ p. with_death p place cause) slot o
+    dead = leg_changed (λ p. with_death p seat cause) slot o
 
-    row : (p : ℕ) × (place_of origs number ≡ Some p) × (held_in origs p ≡ as_row number o)
+    row : (p : ℕ) × (seat_of origs number ≡ Some p) × (held_in origs p ≡ as_row number o)
     row = row_there origs number o is
 
-    now : seat_at (with_held origs row.0 (as_row number dead)) at position ≡ Some (in_slot number slot)
-    now = subst (λ (rows : Origs). seat_at rows at position ≡ Some (in_slot number slot)) (row_written origs number row.0 dead row.1) has
+    now : berth_at (with_held origs row.0 (as_row number dead)) at position ≡ Some (in_slot number slot)
+    now = subst (λ (rows : Origs). berth_at rows at position ≡ Some (in_slot number slot)) (row_written origs number row.0 dead row.1) has
 
     by : (at ≡ row.0) ⊎ (at ≡ row.0 → ⊥) → ⊥
     by (inl same) =
-        none_left number slot place cause o
-        (λ p q first second. apart row.0 p q (in_slot number slot) (ap (seat_in p) row.2 ∙ first) (ap (seat_in q) row.2 ∙ second)) position
-        (sym (ap (seat_in position)
+        none_left number slot seat cause o
+        (λ p q first second. apart row.0 p q (in_slot number slot) (ap (berth_in p) row.2 ∙ first) (ap (berth_in q) row.2 ∙ second)) position
+        (sym (ap (berth_in position)
         (ap (held_in (with_held origs row.0 (as_row number dead))) same
-        ∙ held_here origs row.0 (as_row number dead) (place_within origs number row.0 row.1))) ∙ now)
+        ∙ held_here origs row.0 (as_row number dead) (seat_within origs number row.0 row.1))) ∙ now)
     by (inr other) =
-        let was : seat_at origs at position ≡ Some (in_slot number slot) =
-        sym (ap (seat_in position) (held_there origs row.0 at (as_row number dead) other)) ∙ now in
-        other (distinct number at row.0 (seat_number position (held_in origs at) (in_slot number slot) was)
-        (place_stands origs number row.0 row.1))
+        let was : berth_at origs at position ≡ Some (in_slot number slot) =
+        sym (ap (berth_in position) (held_there origs row.0 at (as_row number dead) other)) ∙ now in
+        other (distinct number at row.0 (berth_number position (held_in origs at) (in_slot number slot) was)
+        (seat_stands origs number row.0 row.1))
 
 -- ---- the legs of an origination are others
 
 -- a leg that lives is one of the new ones, or of another origination
-pub changed_or_old : (origs : Origs) (number : ℕ) (o new : Orig) (row : HasPlace origs number o) (place position : ℕ) (seat : Seat) →
-    seat_at (with_row origs number new) place position ≡ Some seat →
-    ((place ≡ row.0) × (seat_of number (slice_get new.legs position) ≡ Some seat)) ⊎ ((place ≡ row.0 → ⊥) × (seat_at origs place position ≡
-    Some seat))
-changed_or_old origs number o new row place position seat has = by (cases_eq place row.0)
+pub changed_or_old : (origs : Origs) (number : ℕ) (o new : Orig) (row : HasSeat origs number o) (seat position : ℕ) (berth : Berth) →
+    berth_at (with_row origs number new) seat position ≡ Some berth →
+    ((seat ≡ row.0) × (berth_of number (slice_get new.legs position) ≡ Some berth)) ⊎ ((seat ≡ row.0 → ⊥) × (berth_at origs seat position ≡
+    Some berth))
+changed_or_old origs number o new row seat position berth has = by (cases_eq seat row.0)
   where
-    now : seat_at (with_held origs row.0 (as_row number new)) place position ≡ Some seat
-    now = subst (λ (rows : Origs). seat_at rows place position ≡ Some seat) (row_written origs number row.0 new row.1) has
+    now : berth_at (with_held origs row.0 (as_row number new)) seat position ≡ Some berth
+    now = subst (λ (rows : Origs). berth_at rows seat position ≡ Some berth) (row_written origs number row.0 new row.1) has
 
-    by : (place ≡ row.0) ⊎ (place ≡ row.0 → ⊥) →
-        ((place ≡ row.0) × (seat_of number (slice_get new.legs position) ≡ Some seat)) ⊎ ((place ≡ row.0 → ⊥) ×
-        (seat_at origs place position ≡ Some seat))
+    by : (seat ≡ row.0) ⊎ (seat ≡ row.0 → ⊥) →
+        ((seat ≡ row.0) × (berth_of number (slice_get new.legs position) ≡ Some berth)) ⊎ ((seat ≡ row.0 → ⊥) ×
+        (berth_at origs seat position ≡ Some berth))
     by (inl same) =
-        let here : held_in (with_held origs row.0 (as_row number new)) place ≡ as_row number new =
+        let here : held_in (with_held origs row.0 (as_row number new)) seat ≡ as_row number new =
         ap (held_in (with_held origs row.0 (as_row number new))) same
-        ∙ held_here origs row.0 (as_row number new) (place_within origs number row.0 row.1) in
-        inl (same, sym (ap (seat_in position) here) ∙ now)
-    by (inr other) = inr (other, sym (ap (seat_in position) (held_there origs row.0 place (as_row number new) other)) ∙ now)
+        ∙ held_here origs row.0 (as_row number new) (seat_within origs number row.0 row.1) in
+        inl (same, sym (ap (berth_in position) here) ∙ now)
+    by (inr other) = inr (other, sym (ap (berth_in position) (held_there origs row.0 seat (as_row number new) other)) ∙ now)
 
 -- ---- one origination more
 
 -- a leg that lives is one of its, or was there
-pub new_or_old : (origs : Origs) (next : ℕ) (o : Orig) (place position : ℕ) (seat : Seat) →
-    seat_at (with_new_row origs next o) place position ≡ Some seat →
-    (seat_of next (slice_get o.legs position) ≡ Some seat) ⊎ (seat_at origs place position ≡ Some seat)
-new_or_old origs next o place position seat = by (least_free origs 0) refl
+pub new_or_old : (origs : Origs) (next : ℕ) (o : Orig) (seat position : ℕ) (berth : Berth) →
+    berth_at (with_new_row origs next o) seat position ≡ Some berth →
+    (berth_of next (slice_get o.legs position) ≡ Some berth) ⊎ (berth_at origs seat position ≡ Some berth)
+new_or_old origs next o seat position berth = by (least_free origs 0) refl
   where
-    at : (put : ℕ) → least_free origs 0 ≡ Some put → (place ≡ put) ⊎ (place ≡ put → ⊥) →
-        seat_at (with_held origs put (as_row next o)) place position ≡ Some seat →
-        (seat_of next (slice_get o.legs position) ≡ Some seat) ⊎ (seat_at origs place position ≡ Some seat)
+    at : (put : ℕ) → least_free origs 0 ≡ Some put → (seat ≡ put) ⊎ (seat ≡ put → ⊥) →
+        berth_at (with_held origs put (as_row next o)) seat position ≡ Some berth →
+        (berth_of next (slice_get o.legs position) ≡ Some berth) ⊎ (berth_at origs seat position ≡ Some berth)
     at put free (inl same) h =
-        let new : held_in (with_held origs put (as_row next o)) place ≡ as_row next o =
+        let new : held_in (with_held origs put (as_row next o)) seat ≡ as_row next o =
         ap (held_in (with_held origs put (as_row next o))) same ∙ held_here origs put (as_row next o) (free_least origs put free).1 in
-        inl (sym (ap (seat_in position) new) ∙ h)
-    at put free (inr other) h = inr (sym (ap (seat_in position) (held_there origs put place (as_row next o) other)) ∙ h)
+        inl (sym (ap (berth_in position) new) ∙ h)
+    at put free (inr other) h = inr (sym (ap (berth_in position) (held_there origs put seat (as_row next o) other)) ∙ h)
 
-    by : (found : Option ℕ) → least_free origs 0 ≡ found → seat_at (with_held_at origs (as_row next o) found) place position ≡ Some seat →
-        (seat_of next (slice_get o.legs position) ≡ Some seat) ⊎ (seat_at origs place position ≡ Some seat)
+    by : (found : Option ℕ) → least_free origs 0 ≡ found → berth_at (with_held_at origs (as_row next o) found) seat position ≡ Some berth →
+        (berth_of next (slice_get o.legs position) ≡ Some berth) ⊎ (berth_at origs seat position ≡ Some berth)
     by None is h = inr h
-    by (Some put) is h = at put is (cases_eq place put) h
+    by (Some put) is h = at put is (cases_eq seat put) h

@@ -1,4 +1,4 @@
-pub mod QueueLemmas
+pub mod OutboxLemmas
 pub mod LossLemmas
 pub mod MoveLemmas
 pub mod SlotLemmas

@@ -1,4 +1,4 @@
--- What a connection has lost, by the place at which its loss stands.
+-- What a connection has lost, by the seat at which its loss stands.
 use Rattle.std.proofs.Common.{◌≡◌, ℕ, zero, suc, ◌+◌, ◌<◌, Bool, true, false, cond, if◌then◌else◌, [], ◌∷◌, ◌++◌, length}
 use Rattle.std.proofs.Common.{get_or, None, Some, refl, sym, ap, ◌∙◌, arith}
 use Rattle.std.specs.List.{position, position_from, slice_set}

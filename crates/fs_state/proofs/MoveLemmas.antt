@@ -8,7 +8,7 @@ use Rattle.fs_text.specs.declared.event_names.EventName.TheVariants.{ChannelStat
 use Rattle.fs_chan.specs.declared.action.Action.{Action}
 use Rattle.fs_chan.specs.declared.chan.Chan.{Chan}
 use Rattle.fs_chan.specs.Work.{pending_of, without_first, after_taking, after_next}
-use Rattle.fs_places.proofs.HeldLemmas.{held_here, held_within}
+use Rattle.fs_seats.proofs.HeldLemmas.{held_here, held_within}
 use Rattle.fs_state.specs.Switch.{Switch, chan_at, with_chan, with_event}
 use Rattle.fs_state.specs.Moves.{plain_event, with_coming_event, with_leaving_event, with_state_events, after_move_from, after_move}
 use Rattle.fs_state.specs.Moves.{with_running}

@@ -12,9 +12,9 @@ use Rattle.fs_text.specs.Texts.{Text}
 use Rattle.fs_event.specs.declared.event.Event.{Event as Telling}
 use Rattle.fs_event.specs.Texts.{frame}
 use Rattle.fs_filter.specs.Subscriptions.{Subscription, HearsNothing, lets_through, wants}
-use Rattle.fs_places.specs.declared.numbered.Numbered.{Numbered}
-use Rattle.fs_places.specs.Places.{held_in, first_place, IsEmptyFrom}
-use Rattle.fs_places.specs.Rows.{place_of}
+use Rattle.fs_seats.specs.declared.numbered.Numbered.{Numbered}
+use Rattle.fs_seats.specs.Seats.{held_in, first_seat, IsEmptyFrom}
+use Rattle.fs_seats.specs.Rows.{seat_of}
 use Rattle.fs_state.specs.declared.conn.Conn.{Conn}
 use Rattle.fs_state.specs.declared.event.Event.{Event}
 use Rattle.fs_state.specs.declared.gift.Gift.{Gift}
@@ -28,36 +28,36 @@ use Rattle.fs_state.specs.Posting.{told, room_for, frames_within, gifts_of, with
 
 -- ---- what nobody hears nobody wants
 
--- the connections that stand at places
-abbrev Places : Type 0
-Places = List (Option (Numbered Conn))
+-- the connections that stand at seats
+abbrev Seats : Type 0
+Seats = List (Option (Numbered Conn))
 
 unheard_at : (telling : Telling) (held : Option (Numbered Conn)) → hears_at telling.name telling.subclass held ≡ false →
     wants_at telling held ≡ false
 unheard_at telling None none = refl
 unheard_at telling (Some row) none = ap (λ b. b && lets_through row.held.subs.filters telling.headers) none
 
-unheard_from : (telling : Telling) (conns : Places) (k : ℕ) →
-    is_some (first_place (hears_at telling.name telling.subclass) conns k) ≡ false →
-    is_some (first_place (wants_at telling) conns k) ≡ false
+unheard_from : (telling : Telling) (conns : Seats) (k : ℕ) →
+    is_some (first_seat (hears_at telling.name telling.subclass) conns k) ≡ false →
+    is_some (first_seat (wants_at telling) conns k) ≡ false
 unheard_from telling [] k none = refl
 unheard_from telling (held ∷ conns) k none = by (hears_at telling.name telling.subclass held) refl (unheard_from telling conns (k + 1))
   where
     by : (b : Bool) → hears_at telling.name telling.subclass held ≡ b →
-        (is_some (first_place (hears_at telling.name telling.subclass) conns (k + 1)) ≡ false →
-        is_some (first_place (wants_at telling) conns (k + 1)) ≡ false) →
-        is_some (first_place (wants_at telling) (held ∷ conns) k) ≡ false
+        (is_some (first_seat (hears_at telling.name telling.subclass) conns (k + 1)) ≡ false →
+        is_some (first_seat (wants_at telling) conns (k + 1)) ≡ false) →
+        is_some (first_seat (wants_at telling) (held ∷ conns) k) ≡ false
     by true is rest =
-        let heard : is_some (first_place (hears_at telling.name telling.subclass) (held ∷ conns) k) ≡ true =
-        ap (λ b. is_some (if b then Some k else first_place (hears_at telling.name telling.subclass) conns (k + 1))) is in
+        let heard : is_some (first_seat (hears_at telling.name telling.subclass) (held ∷ conns) k) ≡ true =
+        ap (λ b. is_some (if b then Some k else first_seat (hears_at telling.name telling.subclass) conns (k + 1))) is in
         absurd (true≢false (sym heard ∙ none))
     by false is rest =
-        let behind : is_some (first_place (hears_at telling.name telling.subclass) conns (k + 1)) ≡ false =
-        sym (ap (λ b. is_some (if b then Some k else first_place (hears_at telling.name telling.subclass) conns (k + 1))) is) ∙ none in
-        ap (λ b. is_some (if b then Some k else first_place (wants_at telling) conns (k + 1))) (unheard_at telling held is)
+        let behind : is_some (first_seat (hears_at telling.name telling.subclass) conns (k + 1)) ≡ false =
+        sym (ap (λ b. is_some (if b then Some k else first_seat (hears_at telling.name telling.subclass) conns (k + 1))) is) ∙ none in
+        ap (λ b. is_some (if b then Some k else first_seat (wants_at telling) conns (k + 1))) (unheard_at telling held is)
         ∙ rest behind
 
-unheard : (conns : Places) (telling : Telling) → is_heard conns telling.name telling.subclass ≡ false → is_wanted conns telling ≡ false
+unheard : (conns : Seats) (telling : Telling) → is_heard conns telling.name telling.subclass ≡ false → is_wanted conns telling ≡ false
 unheard conns telling none = unheard_from telling conns 0 none
 
 -- an event that nobody hears is not told
@@ -75,7 +75,7 @@ told_wanted before s number event telling is wanted =
     ∙ sym (ap (λ b. if b then Some (telling_of before s number event) else None) (ap (is_wanted before.conns) (sym is) ∙ wanted))
 
 -- where nobody hears anything none is
-deaf_filter : (conns : Places) (all : List Telling) → AreDeaf conns → filter (is_wanted conns) all ≡ []
+deaf_filter : (conns : Seats) (all : List Telling) → AreDeaf conns → filter (is_wanted conns) all ≡ []
 deaf_filter conns [] deaf = refl
 deaf_filter conns (telling ∷ all) deaf =
     ap (λ b. cond b (telling ∷ filter (is_wanted conns) all) (filter (is_wanted conns) all))
@@ -266,17 +266,17 @@ pub posted_deaf : (before : Switch) (all : List Telling) (row : Numbered Conn) (
     posted_to before all row s ≡ s
 posted_deaf before all row s deaf =
     posted_none before all row s
-    (nothing_if (is_some (place_of s.conns row.number)) (wanted_by row.held.subs all) (ap (map frame) (deaf_wanted row.held.subs all deaf)))
+    (nothing_if (is_some (seat_of s.conns row.number)) (wanted_by row.held.subs all) (ap (map frame) (deaf_wanted row.held.subs all deaf)))
 
 -- nor by one that is not there any more
 pub posted_gone : (before : Switch) (all : List Telling) (row : Numbered Conn) (s : Switch) →
-    is_some (place_of s.conns row.number) ≡ false → posted_to before all row s ≡ s
+    is_some (seat_of s.conns row.number) ≡ false → posted_to before all row s ≡ s
 posted_gone before all row s gone =
     posted_none before all row s (ap (λ b. if b then wanted_by row.held.subs all else []) gone)
 
 -- one that is there wants what it has subscribed
 pub posted_there : (before : Switch) (all : List Telling) (row : Numbered Conn) (s : Switch) →
-    is_some (place_of s.conns row.number) ≡ true →
+    is_some (seat_of s.conns row.number) ≡ true →
     posted_to before all row s
     ≡ with_lost row.number (length (wanted_by row.held.subs all) - room_for before row.number)
     (with_post row.number (frames_within (room_for before row.number) (wanted_by row.held.subs all)) s)
@@ -287,12 +287,12 @@ posted_there before all row s there =
 
 -- ---- one connection after another
 
-pub over_next : (before : Switch) (all : List Telling) (conns : Places) (place : ℕ) (s : Switch) → place < length conns →
-    posted_over before all (drop place conns) s
-    ≡ posted_over before all (drop (place + 1) conns) (posted_at before all (held_in conns place) s)
-over_next before all conns place s within = at_drop_more (λ left. posted_over before all left s) conns place None within
+pub over_next : (before : Switch) (all : List Telling) (conns : Seats) (seat : ℕ) (s : Switch) → seat < length conns →
+    posted_over before all (drop seat conns) s
+    ≡ posted_over before all (drop (seat + 1) conns) (posted_at before all (held_in conns seat) s)
+over_next before all conns seat s within = at_drop_more (λ left. posted_over before all left s) conns seat None within
 
-over_none : (before : Switch) (all : List Telling) (left : Places) (s : Switch) → ((k : ℕ) → held_in left k ≡ None) →
+over_none : (before : Switch) (all : List Telling) (left : Seats) (s : Switch) → ((k : ℕ) → held_in left k ≡ None) →
     posted_over before all left s ≡ s
 over_none before all [] s none = refl
 over_none before all (held ∷ left) s none =
@@ -300,20 +300,20 @@ over_none before all (held ∷ left) s none =
     ∙ over_none before all left s (λ k. none (suc k))
 
 -- where nothing stands any more
-pub over_empty : (before : Switch) (all : List Telling) (conns : Places) (from : ℕ) (s : Switch) → IsEmptyFrom from conns →
+pub over_empty : (before : Switch) (all : List Telling) (conns : Seats) (from : ℕ) (s : Switch) → IsEmptyFrom from conns →
     posted_over before all (drop from conns) s ≡ s
 over_empty before all conns from s empty =
     over_none before all (drop from conns) s (λ k. get_or-drop from conns k None ∙ empty.each (from + k) (omega arith))
 
 -- where nothing is told
-over_nothing : (before : Switch) (conns : Places) (s : Switch) → posted_over before [] conns s ≡ s
+over_nothing : (before : Switch) (conns : Seats) (s : Switch) → posted_over before [] conns s ≡ s
 over_nothing before [] s = refl
 over_nothing before (None ∷ conns) s = over_nothing before conns s
 over_nothing before (Some row ∷ conns) s =
-    ap (posted_over before [] conns) (posted_none before [] row s (nothing_if (is_some (place_of s.conns row.number)) [] refl))
+    ap (posted_over before [] conns) (posted_none before [] row s (nothing_if (is_some (seat_of s.conns row.number)) [] refl))
     ∙ over_nothing before conns s
 
-pub over_untold : (before : Switch) (all : List Telling) (conns : Places) (s : Switch) → (length all == 0) ≡ true →
+pub over_untold : (before : Switch) (all : List Telling) (conns : Seats) (s : Switch) → (length all == 0) ≡ true →
     posted_over before all conns s ≡ s
 over_untold before all conns s none =
     ap (λ (some : List Telling). posted_over before some conns s) (none_there all none) ∙ over_nothing before conns s
@@ -323,14 +323,14 @@ pub ruleset over_rules = (over_next, over_empty, over_untold)
 -- ---- all of them
 
 -- what is posted of some events to connections, as far as these are there
-abbrev gifts_over : Switch → Places → List Telling → Places → List Gift
+abbrev gifts_over : Switch → Seats → List Telling → Seats → List Gift
 gifts_over before there all [] = []
 gifts_over before there all (None ∷ conns) = gifts_over before there all conns
 gifts_over before there all (Some row ∷ conns) =
     posts_of row.number (take (room_for before row.number) (wanted_of there all row)) ++ gifts_over before there all conns
 
 -- what they have lost then
-abbrev losses_over : Switch → Places → List Telling → Places → Losses → Losses
+abbrev losses_over : Switch → Seats → List Telling → Seats → Losses → Losses
 losses_over before there all [] losses = losses
 losses_over before there all (None ∷ conns) losses = losses_over before there all conns losses
 losses_over before there all (Some row ∷ conns) losses =
@@ -341,7 +341,7 @@ gifts_posts : (conn : ℕ) (texts : List Text) → gifts_of conn (map outgoing.E
 gifts_posts conn [] = refl
 gifts_posts conn (text ∷ texts) = refl
 
-over_done : (before : Switch) (all : List Telling) (conns : Places) (s : Switch) →
+over_done : (before : Switch) (all : List Telling) (conns : Seats) (s : Switch) →
     posted_over before all conns s
     ≡ record s { posted = s.posted ++ gifts_over before s.conns all conns; losses = losses_over before s.conns all conns s.losses }
 over_done before all [] s = sym (ap (λ (gifts : List Gift). record s { posted = gifts }) (append-nil s.posted))
@@ -356,12 +356,12 @@ over_done before all (Some row ∷ conns) s =
     ∙ ap (λ (gifts : List Gift). record s { posted = gifts; losses = losses })
     (append_assoc s.posted (posts_of row.number texts) (gifts_over before s.conns all conns))
 
-from_gifts : (before s : Switch) (conns : Places) → gifts_over before s.conns (tellings before s) conns ≡ posts_from before s conns
+from_gifts : (before s : Switch) (conns : Seats) → gifts_over before s.conns (tellings before s) conns ≡ posts_from before s conns
 from_gifts before s [] = refl
 from_gifts before s (None ∷ conns) = from_gifts before s conns
 from_gifts before s (Some row ∷ conns) = ap (λ gifts. posts_at before s row ++ gifts) (from_gifts before s conns)
 
-from_losses : (before s : Switch) (conns : Places) (losses : Losses) →
+from_losses : (before s : Switch) (conns : Seats) (losses : Losses) →
     losses_over before s.conns (tellings before s) conns losses ≡ losses_from before s conns losses
 from_losses before s [] losses = refl
 from_losses before s (None ∷ conns) losses = from_losses before s conns losses
@@ -372,28 +372,28 @@ from_losses before s (Some row ∷ conns) losses =
 -- ---- what nobody wants may be left out
 
 -- one of these connections wants an event
-abbrev wants_any : Telling → Places → Bool
+abbrev wants_any : Telling → Seats → Bool
 wants_any telling [] = false
 wants_any telling (held ∷ conns) = wants_at telling held || wants_any telling conns
 
-any_place : (telling : Telling) (conns : Places) (k : ℕ) → is_some (first_place (wants_at telling) conns k) ≡ wants_any telling conns
-any_place telling [] k = refl
-any_place telling (held ∷ conns) k = by (wants_at telling held) (any_place telling conns (k + 1))
+any_seat : (telling : Telling) (conns : Seats) (k : ℕ) → is_some (first_seat (wants_at telling) conns k) ≡ wants_any telling conns
+any_seat telling [] k = refl
+any_seat telling (held ∷ conns) k = by (wants_at telling held) (any_seat telling conns (k + 1))
   where
-    by : (b : Bool) → is_some (first_place (wants_at telling) conns (k + 1)) ≡ wants_any telling conns →
-        is_some (if b then Some k else first_place (wants_at telling) conns (k + 1)) ≡ (b || wants_any telling conns)
+    by : (b : Bool) → is_some (first_seat (wants_at telling) conns (k + 1)) ≡ wants_any telling conns →
+        is_some (if b then Some k else first_seat (wants_at telling) conns (k + 1)) ≡ (b || wants_any telling conns)
     by true rest = refl
     by false rest = rest
 
 -- each event that one of these connections wants is told
-abbrev AreTold : (Telling → Bool) → Places → Type 0
+abbrev AreTold : (Telling → Bool) → Seats → Type 0
 AreTold is_told conns = (telling : Telling) → wants_any telling conns ≡ true → is_told telling ≡ true
 
-told_first : (is_told : Telling → Bool) (row : Numbered Conn) (conns : Places) → AreTold is_told (Some row ∷ conns) →
+told_first : (is_told : Telling → Bool) (row : Numbered Conn) (conns : Seats) → AreTold is_told (Some row ∷ conns) →
     (telling : Telling) → wants row.held.subs telling ≡ true → is_told telling ≡ true
 told_first is_told row conns each telling wanted = each telling (ap (λ b. b || wants_any telling conns) wanted)
 
-told_rest : (is_told : Telling → Bool) (held : Option (Numbered Conn)) (conns : Places) → AreTold is_told (held ∷ conns) →
+told_rest : (is_told : Telling → Bool) (held : Option (Numbered Conn)) (conns : Seats) → AreTold is_told (held ∷ conns) →
     AreTold is_told conns
 told_rest is_told held conns each telling wanted = each telling (by (wants_at telling held))
   where
@@ -420,13 +420,13 @@ filter_told is_told subs (telling ∷ all) each = by (is_told telling) refl (fil
         ∙ sym (ap (λ w. cond w (telling ∷ filter (wants subs) all) (filter (wants subs) all))
         (unwanted (wants subs telling) refl is))
 
-wanted_told : (there : Places) (is_told : Telling → Bool) (all : List Telling) (row : Numbered Conn) →
+wanted_told : (there : Seats) (is_told : Telling → Bool) (all : List Telling) (row : Numbered Conn) →
     ((telling : Telling) → wants row.held.subs telling ≡ true → is_told telling ≡ true) →
     wanted_of there (filter is_told all) row ≡ wanted_of there all row
 wanted_told there is_told all row each =
-    ap (λ some. if is_some (place_of there row.number) then map frame some else []) (filter_told is_told row.held.subs all each)
+    ap (λ some. if is_some (seat_of there row.number) then map frame some else []) (filter_told is_told row.held.subs all each)
 
-gifts_told : (before : Switch) (there : Places) (is_told : Telling → Bool) (all : List Telling) (conns : Places) →
+gifts_told : (before : Switch) (there : Seats) (is_told : Telling → Bool) (all : List Telling) (conns : Seats) →
     AreTold is_told conns →
     gifts_over before there (filter is_told all) conns ≡ gifts_over before there all conns
 gifts_told before there is_told all [] each = refl
@@ -438,7 +438,7 @@ gifts_told before there is_told all (Some row ∷ conns) each =
     ∙ ap (λ gifts. posts_of row.number (take (room_for before row.number) (wanted_of there all row)) ++ gifts)
     (gifts_told before there is_told all conns (told_rest is_told (Some row) conns each))
 
-losses_told : (before : Switch) (there : Places) (is_told : Telling → Bool) (all : List Telling) (conns : Places) (losses : Losses) →
+losses_told : (before : Switch) (there : Seats) (is_told : Telling → Bool) (all : List Telling) (conns : Seats) (losses : Losses) →
     AreTold is_told conns →
     losses_over before there (filter is_told all) conns losses ≡ losses_over before there all conns losses
 losses_told before there is_told all [] losses each = refl
@@ -454,8 +454,8 @@ losses_told before there is_told all (Some row ∷ conns) losses each =
 
 -- ---- so all is posted
 
-each_told : (conns : Places) → AreTold (is_wanted conns) conns
-each_told conns telling wanted = any_place telling conns 0 ∙ wanted
+each_told : (conns : Seats) → AreTold (is_wanted conns) conns
+each_told conns telling wanted = any_seat telling conns 0 ∙ wanted
 
 pub all_posted : (before s : Switch) →
     posted_over before (told before s) before.conns (record s { posted = [] }) ≡ with_posts before s

@@ -2,12 +2,12 @@
 use Rattle.std.specs.Prelude.{◌≡◌, ℕ, ◌++◌, Option, None, Result, unwrap_or, OnOk, []}
 use Rattle.fs_bridge.specs.Bridges.{BridgeRows}
 use Rattle.fs_chan.specs.declared.chan.Chan.{Chan}
-use Rattle.fs_places.specs.Sheets.{written}
-use Rattle.fs_places.specs.Overlays.{taken_back}
+use Rattle.fs_seats.specs.Sheets.{written}
+use Rattle.fs_seats.specs.Overlays.{taken_back}
 use Rattle.fs_state.specs.declared.delta.Delta.{Delta}
-use Rattle.fs_state.specs.declared.delta.QueueChange.TheVariants.{Unchanged}
+use Rattle.fs_state.specs.declared.delta.OutboxChange.TheVariants.{Unchanged}
 use Rattle.fs_state.specs.Losses.{Losses}
-use Rattle.fs_state.specs.Queues.{requeued, HaveRoom, frames_given}
+use Rattle.fs_state.specs.Outboxes.{outboxes_after, all_of, HaveRoom, frames_given}
 use Rattle.fs_state.specs.Switch.{Switch, chan_at, with_chan}
 
 -- the switch with all of these changes
@@ -19,14 +19,15 @@ after s d = record s {
   origs = written s.origs d.origs;
   jobs = written s.jobs d.jobs;
   conns = written s.conns d.conns;
-  queues = requeued d.queue s.queues;
+  outboxes = outboxes_after d.outbox s.outboxes;
   drawn = d.drawn;
   moment = d.moment;
   losses = unwrap_or d.losses s.losses;
   news = d.news;
-  answered = d.answered;
+  replies = d.replies;
   posted = d.posted;
-  given = d.given;
+  late = d.late;
+  notices = d.notices;
 }
 
 -- a change of nothing, whatever was drawn and whenever
@@ -38,14 +39,15 @@ IsBlank d = d ≡ record {
   origs = [];
   jobs = [];
   conns = [];
-  queue = Unchanged;
+  outbox = Unchanged;
   drawn = d.drawn;
   moment = d.moment;
   losses = None;
   news = [];
-  answered = [];
+  replies = [];
   posted = [];
-  given = [];
+  late = [];
+  notices = [];
 }
 
 -- what a change still has once it was made: what happens, and what is given
@@ -57,7 +59,7 @@ rest_of d = record d {
   origs = [];
   jobs = [];
   conns = [];
-  queue = Unchanged;
+  outbox = Unchanged;
   losses = None;
 }
 
@@ -94,6 +96,6 @@ with_losses_in d losses = record (drafted d) { losses = losses }
 abbrev pub chan_taken_back : Drafted → ℕ → Option Chan
 chan_taken_back d slot = taken_back (record { kept = d.base.channels; sheet = d.delta.channels }) slot
 
--- what is given has room in the queues
+-- what is given has room in the outboxes
 pub record Fits (s : Switch) (d : Delta) : Type 0 where
-  pub room : HaveRoom (requeued d.queue s.queues) (frames_given (d.answered ++ (d.posted ++ d.given)))
+  pub room : HaveRoom (outboxes_after d.outbox s.outboxes) (frames_given (all_of d))

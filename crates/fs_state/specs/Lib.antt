@@ -2,7 +2,7 @@ pub mod Drawn
 pub mod Counts
 pub mod Losses
 pub mod Frames
-pub mod Queues
+pub mod Outboxes
 pub mod Switch
 pub mod Drafts
 pub mod Moves
@@ -10,3 +10,4 @@ pub mod Hangups
 pub mod Leaving
 pub mod Bridging
 pub mod Posting
+pub mod Moving

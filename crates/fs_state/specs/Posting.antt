@@ -22,9 +22,9 @@ use Rattle.fs_chan.specs.declared.action.Action.{Action}
 use Rattle.fs_chan.specs.declared.chan.Chan.{Chan}
 use Rattle.fs_chan.specs.Changes.{in_state}
 use Rattle.fs_chan.specs.Headers.{channel_headers}
-use Rattle.fs_places.specs.declared.numbered.Numbered.{Numbered}
-use Rattle.fs_places.specs.Places.{first_place}
-use Rattle.fs_places.specs.Rows.{place_of}
+use Rattle.fs_seats.specs.declared.numbered.Numbered.{Numbered}
+use Rattle.fs_seats.specs.Seats.{first_seat}
+use Rattle.fs_seats.specs.Rows.{seat_of}
 use Rattle.fs_state.specs.declared.conn.Conn.{Conn}
 use Rattle.fs_state.specs.declared.event.Event.{Event}
 use Rattle.fs_state.specs.declared.event.Detail.{Detail}
@@ -32,7 +32,7 @@ use Rattle.fs_state.specs.declared.event.Detail.TheVariants as detail
 use Rattle.fs_state.specs.declared.gift.Gift.{Gift}
 use Rattle.fs_state.specs.declared.outgoing.Outgoing.TheVariants as outgoing
 use Rattle.fs_state.specs.Losses.{Losses, with_loss}
-use Rattle.fs_state.specs.Queues.{Frames, events_in}
+use Rattle.fs_state.specs.Outboxes.{Frames, events_in}
 use Rattle.fs_state.specs.Switch.{Switch, chan_at, outgoing_for}
 
 -- ---- the whole of an event: before the entry the switch stands as in the first argument, and behind it as in the second
@@ -68,7 +68,7 @@ uuid_of (Some c) = c.uuid
 abbrev pub first_headers : Switch → ℕ → EventName → Pairs
 first_headers s number name =
     (codes "Event-Name", event_name name)
-    ∷ (codes "Core-UUID", core_id.uuid s.config.settings.core_uuid 0)
+    ∷ (codes "Core-UUID", core_id.uuid s.settings.core_uuid 0)
     ∷ (codes "Event-Sequence", decimal number)
     ∷ (codes "Event-Date-Timestamp", decimal s.moment)
     ∷ []
@@ -163,7 +163,7 @@ posts_of conn (text ∷ texts) = record { conn = conn; frames = map outgoing.Eve
 
 -- a connection is told what it wants of these; if it is not among the ones that are there, nothing
 abbrev pub wanted_of : List (Option (Numbered Conn)) → List Telling → Numbered Conn → List Text
-wanted_of there told row = if is_some (place_of there row.number) then wanted_by row.held.subs told else []
+wanted_of there told row = if is_some (seat_of there row.number) then wanted_by row.held.subs told else []
 
 -- a connection that was there before the entry is told what it wanted before the entry; if the entry leaves it closed, nothing
 abbrev pub wanted_at : Switch → Switch → Numbered Conn → List Text
@@ -177,7 +177,7 @@ posts_at before s row = posts_of row.number (take (room_behind (outgoing_for bef
 abbrev pub lost_at : Switch → Switch → Numbered Conn → ℕ
 lost_at before s row = length (wanted_at before s row) - room_behind (outgoing_for before row.number)
 
--- what is posted to the connections at these places
+-- what is posted to the connections at these seats
 abbrev pub posts_from : Switch → Switch → List (Option (Numbered Conn)) → List Gift
 posts_from before s [] = []
 posts_from before s (None ∷ conns) = posts_from before s conns
@@ -187,14 +187,14 @@ posts_from before s (Some row ∷ conns) = posts_at before s row ++ posts_from b
 abbrev pub with_loss_of : ℕ → ℕ → Losses → Losses
 with_loss_of conn lost losses = if lost == 0 then losses else with_loss conn lost losses
 
--- with what the connections at these places lose
+-- with what the connections at these seats lose
 abbrev pub losses_from : Switch → Switch → List (Option (Numbered Conn)) → Losses → Losses
 losses_from before s [] losses = losses
 losses_from before s (None ∷ conns) losses = losses_from before s conns losses
 losses_from before s (Some row ∷ conns) losses =
     losses_from before s conns (with_loss_of row.number (lost_at before s row) losses)
 
--- what an entry posts, by the places of the connections that were there before it
+-- what an entry posts, by the seats of the connections that were there before it
 unfoldable pub posts : Switch → Switch → List Gift
 posts before s = posts_from before s before.conns
 
@@ -208,25 +208,25 @@ with_posts before s = record s { posted = posts before s; losses = losses_after 
 
 -- ---- how it is posted: what nobody wants is not told at all
 
--- the connection that stands at a place, if one does, wants an event
+-- the connection that stands at a seat, if one does, wants an event
 abbrev pub wants_at : Telling → Option (Numbered Conn) → Bool
 wants_at telling None = false
 wants_at telling (Some row) = wants row.held.subs telling
 
 -- some connection wants it
 abbrev pub is_wanted : List (Option (Numbered Conn)) → Telling → Bool
-is_wanted conns telling = is_some (first_place (wants_at telling) conns 0)
+is_wanted conns telling = is_some (first_seat (wants_at telling) conns 0)
 
--- the connection that stands at a place has subscribed the events of a name, of CUSTOM events those with a subclass
+-- the connection that stands at a seat has subscribed the events of a name, of CUSTOM events those with a subclass
 abbrev pub hears_at : EventName → Text → Option (Numbered Conn) → Bool
 hears_at name subclass None = false
 hears_at name subclass (Some row) = has_event row.held.subs name subclass
 
 -- some connection has
 abbrev pub is_heard : List (Option (Numbered Conn)) → EventName → Text → Bool
-is_heard conns name subclass = is_some (first_place (hears_at name subclass) conns 0)
+is_heard conns name subclass = is_some (first_seat (hears_at name subclass) conns 0)
 
--- the connection that stands at a place has subscribed nothing
+-- the connection that stands at a seat has subscribed nothing
 abbrev pub IsDeaf : Option (Numbered Conn) → Type 0
 IsDeaf held = (name : EventName) (subclass : Text) → hears_at name subclass held ≡ false
 
@@ -270,12 +270,12 @@ posted_to before all row s =
     with_lost row.number (length (wanted_of s.conns all row) - room_for before row.number)
     (with_post row.number (frames_within (room_for before row.number) (wanted_of s.conns all row)) s)
 
--- so is the one that stands at a place, if one does
+-- so is the one that stands at a seat, if one does
 abbrev pub posted_at : Switch → List Telling → Option (Numbered Conn) → Switch → Switch
 posted_at before all None s = s
 posted_at before all (Some row) s = posted_to before all row s
 
--- so are those that stand at places, one after another
+-- so are those that stand at seats, one after another
 abbrev pub posted_over : Switch → List Telling → List (Option (Numbered Conn)) → Switch → Switch
 posted_over before all [] s = s
 posted_over before all (held ∷ conns) s = posted_over before all conns (posted_at before all held s)

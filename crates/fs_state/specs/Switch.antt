@@ -5,6 +5,8 @@ use Rattle.std.specs.Str.{bytes_eq}
 use Rattle.fs_text.specs.CoreId as core_id
 use Rattle.fs_text.specs.Texts.{Text}
 use Rattle.fs_vars.specs.Variables.{Variables}
+use Rattle.fs_doc.specs.declared.settings.Settings.{Settings}
+use Rattle.fs_doc.specs.Dialplans.{Context}
 use Rattle.fs_doc.specs.Reading.{Configuration}
 use Rattle.fs_chan.specs.declared.chan.Chan.{Chan}
 use Rattle.fs_chan.specs.Changes.{is_live}
@@ -12,9 +14,9 @@ use Rattle.fs_bridge.specs.declared.row.Row.{Row}
 use Rattle.fs_bridge.specs.declared.row.BridgeKind.{BridgeKind}
 use Rattle.fs_bridge.specs.Bridges.{BridgeRows, no_bridges, part_of, joined, unbridged}
 use Rattle.fs_orig.specs.declared.orig.Orig.{Orig}
-use Rattle.fs_places.specs.declared.numbered.Numbered.{Numbered}
-use Rattle.fs_places.specs.Places.{no_places, held_in, with_held, first_place, least_free}
-use Rattle.fs_places.specs.Rows.{place_of, row_of, with_row, without_row, with_new_row}
+use Rattle.fs_seats.specs.declared.numbered.Numbered.{Numbered}
+use Rattle.fs_seats.specs.Seats.{no_seats, held_in, with_held, first_seat, least_free}
+use Rattle.fs_seats.specs.Rows.{seat_of, row_of, with_row, without_row, with_new_row}
 use Rattle.fs_state.specs.declared.conn.Conn.{Conn}
 use Rattle.fs_state.specs.declared.drawn.Drawn.{Drawn}
 use Rattle.fs_state.specs.declared.event.Event.{Event}
@@ -25,14 +27,16 @@ use Rattle.fs_state.specs.Drawn.{none_drawn}
 use Rattle.fs_state.specs.Counts.{Tallies, no_tallies, with_events_counted}
 use Rattle.fs_state.specs.declared.outgoing.Outgoing.TheVariants.{Reply}
 use Rattle.fs_state.specs.Losses.{Losses, no_losses}
-use Rattle.fs_state.specs.Queues.{Frames, texts_of, no_queues, queue_at, without_first_frame, without_frames, delivered}
+use Rattle.fs_state.specs.Outboxes.{Frames, texts_of, no_outboxes, outbox_at, without_first_frame, without_frames, delivered}
 
 -- A switch between entries, and while an entry is done. Channels stand at their slots, from 1 on; all else has a number. What happens in
 -- the entry in hand, and what it gives to connections, is kept until the entry is over: the reply to its own command, then what it posts
--- of its events, then all else.
+-- of its events, then replies that were owed, then notices.
 pub record Switch : Type 0 where
-  -- what it was configured by
-  pub config : Configuration
+  -- what never changes
+  pub settings : Settings
+  -- the contexts in force
+  pub contexts : List Context
   -- what is there
   pub globals : Variables
   pub channels : List (Option Chan)
@@ -40,7 +44,7 @@ pub record Switch : Type 0 where
   pub origs : List (Option (Numbered Orig))
   pub jobs : List (Option (Numbered Job))
   pub conns : List (Option (Numbered Conn))
-  pub queues : List Frames
+  pub outboxes : List Frames
   -- how far it has come
   pub drawn : Drawn
   pub moment : ℕ
@@ -52,21 +56,23 @@ pub record Switch : Type 0 where
   pub losses : Losses
   -- the entry in hand
   pub news : List Event
-  pub answered : List Gift
+  pub replies : List Gift
   pub posted : List Gift
-  pub given : List Gift
+  pub late : List Gift
+  pub notices : List Gift
 
 -- a switch to which nothing has happened
 abbrev pub empty : Configuration → Switch
 empty config = record {
-  config = config;
+  settings = config.settings;
+  contexts = config.contexts;
   globals = config.globals;
-  channels = no_places (config.settings.max_sessions + 1);
+  channels = no_seats (config.settings.max_sessions + 1);
   bridges = no_bridges;
-  origs = no_places 1280;
-  jobs = no_places 1024;
-  conns = no_places config.settings.max_connections;
-  queues = no_queues config.settings.max_connections;
+  origs = no_seats 1280;
+  jobs = no_seats 1024;
+  conns = no_seats config.settings.max_connections;
+  outboxes = no_outboxes config.settings.max_connections;
   drawn = none_drawn;
   moment = 0;
   entries = 0;
@@ -75,9 +81,10 @@ empty config = record {
   counts = no_tallies;
   losses = no_losses;
   news = [];
-  answered = [];
+  replies = [];
   posted = [];
-  given = [];
+  late = [];
+  notices = [];
 }
 
 -- ---- the numbers that are drawn
@@ -96,7 +103,7 @@ with_next_identifier s = record s { drawn = numbers.with_identifier s.drawn }
 
 -- the identifier that was drawn last
 abbrev pub identifier_of : Switch → Text
-identifier_of s = core_id.uuid s.config.settings.core_uuid s.drawn.identifiers
+identifier_of s = core_id.uuid s.settings.core_uuid s.drawn.identifiers
 
 -- ---- what is there
 
@@ -128,7 +135,7 @@ is_called uuid (Some c) = bytes_eq c.uuid uuid
 
 -- the channel in some slot has it
 abbrev pub is_held : Text → Switch → Bool
-is_held uuid s = is_some (first_place (is_called uuid) s.channels 0)
+is_held uuid s = is_some (first_seat (is_called uuid) s.channels 0)
 
 -- the bridge that a slot is a leg of
 abbrev pub bridge_at : Switch → ℕ → Option Row
@@ -174,11 +181,11 @@ without_job number s = record s { jobs = without_row s.jobs number }
 abbrev pub with_new_job : Job → Switch → Switch
 with_new_job job s = record s { drawn = numbers.with_job s.drawn; jobs = with_new_row s.jobs (next_job_number s) job }
 
--- what stands at a place for a job
+-- what stands at a seat for a job
 abbrev pub job_at : Switch → ℕ → Option (Numbered Job)
-job_at s place = held_in s.jobs place
+job_at s seat = held_in s.jobs seat
 
--- each place for a job is taken
+-- each seat for a job is taken
 abbrev pub is_full_of_jobs : Switch → Bool
 is_full_of_jobs s = is_none (least_free s.jobs 0)
 
@@ -194,36 +201,36 @@ with_conn number conn s = record s { conns = with_row s.conns number conn }
 abbrev pub with_new_conn : Conn → Switch → Switch
 with_new_conn conn s = record s { drawn = numbers.with_conn s.drawn; conns = with_new_row s.conns (numbers.with_conn s.drawn).conns conn }
 
--- each place for a connection is taken
+-- each seat for a connection is taken
 abbrev pub is_full_of_conns : Switch → Bool
 is_full_of_conns s = is_none (least_free s.conns 0)
 
--- the frames that wait at a place, if it is one
+-- the frames that wait at a seat, if it is one
 abbrev pub waiting_at : List Frames → Option ℕ → Frames
-waiting_at queues None = []
-waiting_at queues (Some place) = queue_at queues place
+waiting_at outboxes None = []
+waiting_at outboxes (Some seat) = outbox_at outboxes seat
 
 -- the frames that wait for a connection
 abbrev pub outgoing_for : Switch → ℕ → Frames
-outgoing_for s number = waiting_at s.queues (place_of s.conns number)
+outgoing_for s number = waiting_at s.outboxes (seat_of s.conns number)
 
 -- their texts
 abbrev pub waiting_for : Switch → ℕ → List Text
 waiting_for s number = texts_of (outgoing_for s number)
 
--- what a change does to the frames at a place, if it is one
+-- what a change does to the frames at a seat, if it is one
 abbrev pub changed_at : (ℕ → List Frames → List Frames) → Option ℕ → List Frames → List Frames
-changed_at change None queues = queues
-changed_at change (Some place) queues = change place queues
+changed_at change None outboxes = outboxes
+changed_at change (Some seat) outboxes = change seat outboxes
 
 -- the first frame that waits for a connection is taken
 abbrev pub with_frame_taken : ℕ → Switch → Switch
-with_frame_taken number s = record s { queues = changed_at without_first_frame (place_of s.conns number) s.queues }
+with_frame_taken number s = record s { outboxes = changed_at without_first_frame (seat_of s.conns number) s.outboxes }
 
 -- a connection is gone, and with it the frames that wait for it
 abbrev pub without_conn : ℕ → Switch → Switch
 without_conn number s =
-    record s { conns = without_row s.conns number; queues = changed_at without_frames (place_of s.conns number) s.queues }
+    record s { conns = without_row s.conns number; outboxes = changed_at without_frames (seat_of s.conns number) s.outboxes }
 
 -- ---- the entry in hand
 
@@ -239,27 +246,32 @@ with_event event s = record s { news = s.news ++ event ∷ [] }
 abbrev pub gift_of : ℕ → Text → Gift
 gift_of conn text = record { conn = conn; frames = Reply text ∷ [] }
 
--- a frame is given to a connection, behind the events of the entry
-abbrev pub with_gift : ℕ → Text → Switch → Switch
-with_gift conn text s = record s { given = s.given ++ gift_of conn text ∷ [] }
+-- a connection gets a frame at once, before the events of the entry
+abbrev pub with_frame_now : ℕ → Text → Switch → Switch
+with_frame_now conn text s = record s { replies = s.replies ++ gift_of conn text ∷ [] }
 
--- a command is answered at once, before the events of the entry
-abbrev pub with_answer : ℕ → Text → Switch → Switch
-with_answer conn text s = record s { answered = s.answered ++ gift_of conn text ∷ [] }
+-- it gets a reply that was owed, behind the events of the entry
+abbrev pub with_late_reply : ℕ → Text → Switch → Switch
+with_late_reply conn text s = record s { late = s.late ++ gift_of conn text ∷ [] }
+
+-- it gets a notice, behind all else
+abbrev pub with_notice : ℕ → Text → Switch → Switch
+with_notice conn text s = record s { notices = s.notices ++ gift_of conn text ∷ [] }
 
 -- all that the entry gives, in order
 abbrev pub all_given : Switch → List Gift
-all_given s = s.answered ++ (s.posted ++ s.given)
+all_given s = s.replies ++ (s.posted ++ (s.late ++ s.notices))
 
 -- the entry is over, at this cost; a count stands still at 2^64 - 1
 abbrev pub after_entry : ℕ → Switch → Switch
 after_entry cost s = record s {
-  queues = delivered s.conns (all_given s) s.queues;
+  outboxes = delivered s.conns (all_given s) s.outboxes;
   entries = min (s.entries + 1) (2 ^ 64 - 1);
   cost = min (s.cost + cost) (2 ^ 64 - 1);
   counts = with_events_counted s.news s.counts;
   news = [];
-  answered = [];
+  replies = [];
   posted = [];
-  given = [];
+  late = [];
+  notices = [];
 }

@@ -2,11 +2,11 @@
 ghost use Rattle.std.specs.Prelude.{◌≡◌, IfOk};
 ghost use Rattle.fs_state.specs.Drafts.{IsBlank};
 
-use crate::delta::{Delta, QueueChange};
+use crate::delta::{Delta, OutboxChange};
 use crate::drawn::Drawn;
 use crate::event::Events;
 use crate::gift::Gifts;
-use fs_places::{Boxed, Sheet};
+use fs_seats::{Boxed, Sheet};
 use fs_text::Memory;
 use std::alloc::Global;
 use std::marker::Model;
@@ -62,13 +62,14 @@ fn unchanged(alloc: Global) -> Delta
         origs: Sheet::new(alloc),
         jobs: Sheet::new(alloc),
         conns: Sheet::new(alloc),
-        queue: QueueChange::Unchanged,
+        outbox: OutboxChange::Unchanged,
         drawn: Drawn::none(),
         moment: 0,
         losses: None,
         news: Events::new(alloc),
-        answered: Gifts::new(alloc),
+        replies: Gifts::new(alloc),
         posted: Gifts::new(alloc),
-        given: Gifts::new(alloc),
+        late: Gifts::new(alloc),
+        notices: Gifts::new(alloc),
     }
 }

@@ -91,7 +91,7 @@ fn zeros(alloc: Global, count: usize) -> Result<Vec<u64>, Memory>
     ensures { IfOk result (λ zeros. zeros.items ≡ spec.zeros count) }
 {
     let mut zeros = Vec::new(alloc);
-    for _place in 0..count {
+    for _seat in 0..count {
         zeros.push(0)?;
     }
     Ok(zeros)

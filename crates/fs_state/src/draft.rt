@@ -1,22 +1,22 @@
 //! A draft: a switch that is kept, and what is to change of it.
 ghost use Rattle.std.specs.Prelude.{◌≡◌, ◌≢◌, ◌≤◌, Option, Some, None, length, slice_get, MatchOption, IfOk};
 ghost use Rattle.std.specs.Option.{option_copied};
-ghost use Rattle.fs_places.specs.Overlays.{over};
-ghost use Rattle.fs_places.specs.Places.{IsEmptyFrom};
+ghost use Rattle.fs_seats.specs.Overlays.{over};
+ghost use Rattle.fs_seats.specs.Seats.{IsEmptyFrom};
 ghost use Rattle.fs_chan.specs.declared.chan.Chan.{Chan};
-ghost use Rattle.fs_places.specs.Rows as rows;
-ghost use Rattle.fs_state.specs.declared.delta.QueueChange.TheVariants as change;
+ghost use Rattle.fs_seats.specs.Rows as rows;
+ghost use Rattle.fs_state.specs.declared.delta.OutboxChange.TheVariants as change;
 ghost use Rattle.fs_state.specs.Drawn as numbers;
 ghost use Rattle.fs_state.specs.Switch as spec;
 ghost use Rattle.fs_bridge.specs.Bridges.{BridgeRows};
 ghost use Rattle.fs_state.specs.Drafts.{Brings, after, drafted, chan_in, with_chan_in, chan_taken_back};
 ghost use Rattle.std.specs.Prelude.{◌-◌, ◌^◌, ◌<◌, min};
 ghost use Rattle.fs_state.specs.Drafts.{with_bridges_in, Fits};
-ghost use Rattle.fs_state.specs.Queues.{frames_given};
+ghost use Rattle.fs_state.specs.Outboxes.{frames_given};
 
 use crate::blank::Blank;
 use crate::conn::Conn;
-use crate::delta::{Delta, QueueChange};
+use crate::delta::{Delta, OutboxChange};
 use crate::drawn::Drawn;
 use crate::event::Event;
 use crate::job::Job;
@@ -25,9 +25,9 @@ use crate::outgoing::Outgoing;
 use crate::switch::Core;
 use fs_bridge::{BridgeKind, Bridges, Row};
 use fs_chan::Chan;
-use fs_doc::Config;
+use fs_doc::Settings;
 use fs_orig::Orig;
-use fs_places::{Boxed, Numbered, Overlay, Rows, Table};
+use fs_seats::{Boxed, Numbered, Overlay, Rows, Table};
 use fs_text::{Memory, Txt};
 use fs_vars::Vars;
 use std::alloc::Global;
@@ -58,7 +58,7 @@ impl<'a> Draft<'a> {
     pub fn new(core: &'a Core, blank: Blank) -> Draft<'a>
         ensures base { result.base ≡ core.entry.now }
         ensures drafted { drafted result ≡ core.entry.now }
-        ensures queue { result.delta.queue ≡ change.Unchanged }
+        ensures outbox { result.delta.outbox ≡ change.Unchanged }
     {
         let mut delta = blank.into_delta();
         delta.drawn = core.drawn;
@@ -72,12 +72,12 @@ impl<'a> Draft<'a> {
         core.alloc
     }
 
-    /// What the switch was configured by.
-    pub fn config(&self) -> &Config
-        ensures { result.now ≡ (drafted self.now).config }
+    /// The settings of the switch.
+    pub fn settings(&self) -> &Settings
+        ensures { result.now ≡ (drafted self.now).settings }
     {
         let core = self.core;
-        &core.config
+        core.settings()
     }
 
     // ---- the tables, as they are to be
@@ -91,7 +91,7 @@ impl<'a> Draft<'a> {
         Overlay::of(&core.channels, &self.delta.channels)
     }
 
-    /// The originations by their places.
+    /// The originations by their seats.
     fn origs(&self) -> Overlay<'_, Numbered<Orig>>
         ensures { result ≡ over self.now.base.origs self.now.delta.origs }
     {
@@ -99,7 +99,7 @@ impl<'a> Draft<'a> {
         Overlay::of(&core.origs, &self.delta.origs)
     }
 
-    /// The jobs by their places.
+    /// The jobs by their seats.
     fn jobs(&self) -> Overlay<'_, Numbered<Job>>
         ensures { result ≡ over self.now.base.jobs self.now.delta.jobs }
     {
@@ -107,7 +107,7 @@ impl<'a> Draft<'a> {
         Overlay::of(&core.jobs, &self.delta.jobs)
     }
 
-    /// The connections by their places.
+    /// The connections by their seats.
     pub(crate) fn conns(&self) -> Overlay<'_, Numbered<Conn>>
         ensures { result ≡ over self.now.base.conns self.now.delta.conns }
     {
@@ -144,7 +144,7 @@ impl<'a> Draft<'a> {
     pub fn advance(&mut self, now: u64)
         ensures base { self.new.base ≡ self.old.base }
         ensures advanced { drafted self.new ≡ spec.at_moment now (drafted self.old) }
-        ensures queue { self.new.delta.queue ≡ self.old.delta.queue }
+        ensures outbox { self.new.delta.outbox ≡ self.old.delta.outbox }
     {
         self.delta.moment = self.delta.moment.max(now);
     }
@@ -156,18 +156,25 @@ impl<'a> Draft<'a> {
         self.delta.news.push(event)
     }
 
-    /// A command of the connection of a number is answered at once, before the events of the entry.
-    pub fn answer_command(&mut self, conn: u32, frame: Txt) -> Result<(), Memory>
-        ensures { Brings result self.old self.new (spec.with_answer conn frame (drafted self.old)) }
+    /// The connection of a number gets a frame at once, before the events of the entry: the reply to its command.
+    pub fn give_now(&mut self, conn: u32, frame: Txt) -> Result<(), Memory>
+        ensures { Brings result self.old self.new (spec.with_frame_now conn frame (drafted self.old)) }
     {
-        self.delta.answered.push(conn, frame)
+        self.delta.replies.push(conn, frame)
     }
 
-    /// A frame is given to the connection of a number, behind the events of the entry.
-    pub fn give(&mut self, conn: u32, frame: Txt) -> Result<(), Memory>
-        ensures { Brings result self.old self.new (spec.with_gift conn frame (drafted self.old)) }
+    /// It gets a reply that was owed, behind the events of the entry.
+    pub fn give_late(&mut self, conn: u32, frame: Txt) -> Result<(), Memory>
+        ensures { Brings result self.old self.new (spec.with_late_reply conn frame (drafted self.old)) }
     {
-        self.delta.given.push(conn, frame)
+        self.delta.late.push(conn, frame)
+    }
+
+    /// It gets a notice, behind all else.
+    pub fn give_notice(&mut self, conn: u32, frame: Txt) -> Result<(), Memory>
+        ensures { Brings result self.old self.new (spec.with_notice conn frame (drafted self.old)) }
+    {
+        self.delta.notices.push(conn, frame)
     }
 
     // ---- the numbers that are drawn
@@ -193,7 +200,7 @@ impl<'a> Draft<'a> {
     {
         self.delta.drawn = self.delta.drawn.with_identifier();
         let core = self.core;
-        let core_id = core.config.settings().core_uuid;
+        let core_id = core.settings().core_uuid;
         core_id.uuid(core.alloc, self.delta.drawn.identifiers)
     }
 
@@ -252,7 +259,7 @@ impl<'a> Draft<'a> {
     }
 
     /// How many slots are filled, at most: from this one on there is no channel.
-    #[tactic(auto, using(fs_places::proofs::PlaceLemmas::written_length))]
+    #[tactic(auto, using(fs_seats::proofs::SeatLemmas::written_length))]
     pub fn filled_slots(&self) -> u16
         ensures within { result ≤ length (drafted self.now).channels }
         ensures empty { IsEmptyFrom result (drafted self.now).channels }
@@ -261,7 +268,7 @@ impl<'a> Draft<'a> {
     }
 
     /// How many slots there are, with slot 0.
-    #[tactic(auto, using(fs_places::proofs::PlaceLemmas::written_length))]
+    #[tactic(auto, using(fs_seats::proofs::SeatLemmas::written_length))]
     pub fn slots(&self) -> u16
         ensures { result ≡ length (drafted self.now).channels }
     {
@@ -269,7 +276,7 @@ impl<'a> Draft<'a> {
     }
 
     /// The least free slot from one on.
-    #[tactic(auto, using(fs_places::proofs::PlaceLemmas::written_length))]
+    #[tactic(auto, using(fs_seats::proofs::SeatLemmas::written_length))]
     pub fn free_slot(&self, from: u16) -> Option<u16>
         ensures { result ≡ spec.free_slot from (drafted self.now) }
     {
@@ -278,7 +285,7 @@ impl<'a> Draft<'a> {
     }
 
     /// The least slot whose channel is live and has this identifier.
-    #[tactic(auto, using(fs_places::proofs::PlaceLemmas::first_rules, crate::proofs::SlotLemmas::first_of_all))]
+    #[tactic(auto, using(fs_seats::proofs::SeatLemmas::first_rules, crate::proofs::SlotLemmas::first_of_all))]
     pub fn slot_named(&self, uuid: &[u8]) -> Option<u16>
         ensures { result ≡ spec.slot_named uuid.now (drafted self.now) }
     {
@@ -301,7 +308,7 @@ impl<'a> Draft<'a> {
     }
 
     /// Whether the channel in some slot has this identifier, live or not.
-    #[tactic(auto, using(fs_places::proofs::PlaceLemmas::filled_rules))]
+    #[tactic(auto, using(fs_seats::proofs::SeatLemmas::filled_rules))]
     pub fn is_held(&self, uuid: &[u8]) -> bool
         ensures { result ≡ spec.is_held uuid.now (drafted self.now) }
     {
@@ -453,21 +460,21 @@ impl<'a> Draft<'a> {
         self.delta.jobs.drop_row(&core.jobs, number)
     }
 
-    /// Whether each place for a job is taken.
+    /// Whether each seat for a job is taken.
     pub fn is_full_of_jobs(&self) -> bool
         ensures { result ≡ spec.is_full_of_jobs (drafted self.now) }
     {
         self.jobs().least_free(0).is_none()
     }
 
-    /// What stands at a place for a job; past the last one stands nothing.
-    pub fn job_at(&self, place: usize) -> Option<&Numbered<Job>>
-        ensures { option_copied result ≡ spec.job_at (drafted self.now) place }
+    /// What stands at a seat for a job; past the last one stands nothing.
+    pub fn job_at(&self, seat: usize) -> Option<&Numbered<Job>>
+        ensures { option_copied result ≡ spec.job_at (drafted self.now) seat }
     {
-        self.jobs().lend(place)
+        self.jobs().lend(seat)
     }
 
-    /// How many places for jobs are filled, at most: from this one on there is no job.
+    /// How many seats for jobs are filled, at most: from this one on there is no job.
     pub fn filled_jobs(&self) -> usize
         ensures within { result ≤ length (drafted self.now).jobs }
         ensures empty { IsEmptyFrom result (drafted self.now).jobs }
@@ -508,7 +515,7 @@ impl<'a> Draft<'a> {
         Ok(number)
     }
 
-    /// Whether each place for a connection is taken.
+    /// Whether each seat for a connection is taken.
     pub fn is_full(&self) -> bool
         ensures { result ≡ spec.is_full_of_conns (drafted self.now) }
     {
@@ -516,69 +523,69 @@ impl<'a> Draft<'a> {
     }
 
     /// How many connections there may be.
-    pub fn conn_places(&self) -> usize
+    pub fn conn_seats(&self) -> usize
         ensures { result ≡ length (drafted self.now).conns }
     {
         self.conns().len()
     }
 
-    // ---- frames that wait; a draft changes one queue at most
+    // ---- frames that wait; a draft changes one outbox at most
 
     /// How many frames wait for the connection of a number.
     pub fn waiting(&self, number: u32) -> usize
-        requires { self.now.delta.queue ≡ change.Unchanged }
+        requires { self.now.delta.outbox ≡ change.Unchanged }
         ensures { result ≡ length (spec.waiting_for (drafted self.now) number) }
     {
         let core = self.core;
-        match self.conns().place_of(u64::from(number)) {
-            Some(place) => core.queues.len(place),
+        match self.conns().seat_of(u64::from(number)) {
+            Some(seat) => core.outboxes.len(seat),
             None => 0,
         }
     }
 
     /// The frame that waits first for the connection of a number.
     pub fn first_frame(&self, number: u32) -> Option<&Txt>
-        requires { self.now.delta.queue ≡ change.Unchanged }
+        requires { self.now.delta.outbox ≡ change.Unchanged }
         ensures { option_copied result ≡ slice_get (spec.waiting_for (drafted self.now) number) 0 }
     {
         let core = self.core;
-        let place = self.conns().place_of(u64::from(number))?;
-        Some(core.queues.first(place)?.text())
+        let seat = self.conns().seat_of(u64::from(number))?;
+        Some(core.outboxes.first(seat)?.text())
     }
 
     /// The frame that waits first for the connection of a number is taken, if there is one.
     pub fn take_frame(&mut self, number: u32)
-        requires { self.old.delta.queue ≡ change.Unchanged }
+        requires { self.old.delta.outbox ≡ change.Unchanged }
         ensures base { self.new.base ≡ self.old.base }
         ensures taken { drafted self.new ≡ spec.with_frame_taken number (drafted self.old) }
     {
-        if let Some(place) = self.conns().place_of(u64::from(number)) {
-            self.delta.queue = QueueChange::Taken { place };
+        if let Some(seat) = self.conns().seat_of(u64::from(number)) {
+            self.delta.outbox = OutboxChange::Taken { seat };
         }
     }
 
     /// The connection of a number is gone, and with it the frames that wait for it.
     pub fn drop_conn(&mut self, number: u32) -> Result<(), Memory>
-        requires { self.old.delta.queue ≡ change.Unchanged }
+        requires { self.old.delta.outbox ≡ change.Unchanged }
         ensures { Brings result self.old self.new (spec.without_conn number (drafted self.old)) }
     {
         let core = self.core;
-        if let Some(place) = self.conns().place_of(u64::from(number)) {
-            self.delta.queue = QueueChange::Cleared { place };
+        if let Some(seat) = self.conns().seat_of(u64::from(number)) {
+            self.delta.outbox = OutboxChange::Cleared { seat };
         }
         self.delta.conns.drop_row(&core.conns, u64::from(number))
     }
 
     // ---- the end
 
-    /// What is to change. It is refused, as for want of memory, where queues might come to have 2^63 frames.
-    #[tactic(auto, using(crate::proofs::QueueLemmas::room_counted, crate::proofs::QueueLemmas::room_requeued))]
+    /// What is to change. It is refused, as for want of memory, where outboxes might come to have 2^63 frames.
+    #[tactic(auto, using(crate::proofs::OutboxLemmas::room_counted, crate::proofs::OutboxLemmas::room_after))]
     pub fn finish(self) -> Result<Boxed<Delta>, Memory>
         ensures delta { IfOk result (λ delta. after self.entry.base delta ≡ drafted self.entry) }
         ensures fits { IfOk result (λ delta. Fits self.entry.base delta) }
     {
         let core = self.core;
-        if !core.queues.have_room(self.frames_given()) {
+        if !core.outboxes.have_room(self.frames_given()) {
             return Err(Memory);
         }
         Ok(self.delta)
@@ -588,11 +595,9 @@ impl<'a> Draft<'a> {
     fn frames_given(&self) -> usize
         ensures { result ≡ min (frames_given (spec.all_given (drafted self.now))) (2 ^ 64 - 1) }
     {
-        let posted = self
-            .delta
-            .posted
-            .frames()
-            .saturating_add(self.delta.given.frames());
-        self.delta.answered.frames().saturating_add(posted)
+        let delta = &self.delta;
+        let behind = delta.late.frames().saturating_add(delta.notices.frames());
+        let posted = delta.posted.frames().saturating_add(behind);
+        delta.replies.frames().saturating_add(posted)
     }
 }

@@ -1,6 +1,6 @@
 //! What an entry gives to connections.
 ghost use Rattle.std.specs.Prelude.{◌≡◌, ◌-◌, ◌^◌, min, [], ◌∷◌, ◌++◌, OnOk, OnErr};
-ghost use Rattle.fs_state.specs.Queues.{frames_given};
+ghost use Rattle.fs_state.specs.Outboxes.{frames_given};
 ghost use Rattle.fs_state.specs.Switch.{gift_of};
 
 use crate::outgoing::{Frames, Outgoing};

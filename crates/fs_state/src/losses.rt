@@ -54,8 +54,8 @@ impl Losses {
     pub fn of(&self, conn: u32) -> u64
         ensures { result ≡ spec.lost_in conn self.now }
     {
-        match self.place_of(u64::from(conn)) {
-            Some(place) => self.losses[place].events,
+        match self.position_of(u64::from(conn)) {
+            Some(position) => self.losses[position].events,
             None => 0,
         }
     }
@@ -66,20 +66,20 @@ impl Losses {
         ensures ok { OnOk result (self.new ≡ spec.with_loss conn more self.old) }
         ensures err { OnErr result (self.new ≡ self.old) }
     {
-        match self.place_of(conn) {
-            Some(place) => {
-                let events = self.losses[place].events.saturating_add(more);
-                self.losses[place] = Loss { conn, events };
+        match self.position_of(conn) {
+            Some(position) => {
+                let events = self.losses[position].events.saturating_add(more);
+                self.losses[position] = Loss { conn, events };
             }
             None => self.losses.push(Loss { conn, events: more })?,
         }
         Ok(())
     }
 
-    /// The place at which the loss of a connection stands, if it had one.
-    fn place_of(&self, conn: u64) -> Option<usize>
-        ensures place { result ≡ position (spec.is_of conn) self.now }
-        ensures bound { IfSome result (λ place. place < length self.now) }
+    /// The position at which the loss of a connection stands, if it had one.
+    fn position_of(&self, conn: u64) -> Option<usize>
+        ensures position { result ≡ position (spec.is_of conn) self.now }
+        ensures bound { IfSome result (λ position. position < length self.now) }
     {
         self.losses.iter().position(|loss| loss.conn == conn)
     }

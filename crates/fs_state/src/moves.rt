@@ -10,7 +10,7 @@ ghost use Rattle.fs_state.specs.Moves as spec;
 use crate::draft::Draft;
 use crate::event::{Detail, Event};
 use fs_chan::{Action, Chan, Target3};
-use fs_places::Boxed;
+use fs_seats::Boxed;
 use fs_text::{Cause, EventName, Memory, State};
 
 impl<'a> Draft<'a> {
@@ -83,25 +83,15 @@ impl<'a> Draft<'a> {
         }
     }
 
-    /// Puts a channel into a slot that came there from a state, and tells of that.
-    pub fn put_moved(&mut self, slot: u16, old: State, chan: Boxed<Chan>) -> Result<(), Memory>
-        ensures { Brings result self.old self.new (spec.put_moved slot old chan (drafted self.old)) }
-    {
-        let new = chan.state;
-        self.put_chan(slot, Some(chan))?;
-        self.tell_state(slot, old, new)
-    }
-
     /// The channel in a slot comes into a state.
     pub fn enter(&mut self, slot: u16, state: State) -> Result<(), Memory>
         ensures { Brings result self.old self.new (spec.after_move (chan.in_state state) slot (drafted self.old)) }
     {
-        let Some(mut chan) = self.own_chan(slot)? else {
+        let Some(mut moving) = self.take_up(slot)? else {
             return Ok(());
         };
-        let old = chan.state;
-        chan.enter(state);
-        self.put_moved(slot, old, chan)
+        moving.chan.enter(state);
+        self.put_back(moving)
     }
 
     /// The channel in a slot is to be routed to a target.
@@ -109,24 +99,22 @@ impl<'a> Draft<'a> {
         requires { chan.IsShortTarget to }
         ensures { Brings result self.old self.new (spec.after_move (chan.transferred to) slot (drafted self.old)) }
     {
-        let Some(mut chan) = self.own_chan(slot)? else {
+        let Some(mut moving) = self.take_up(slot)? else {
             return Ok(());
         };
-        let old = chan.state;
-        chan.transfer(to)?;
-        self.put_moved(slot, old, chan)
+        moving.chan.transfer(to)?;
+        self.put_back(moving)
     }
 
     /// The channel in a slot comes to CS_PARK and rests there.
     pub fn park(&mut self, slot: u16) -> Result<(), Memory>
         ensures { Brings result self.old self.new (spec.after_move chan.parked slot (drafted self.old)) }
     {
-        let Some(mut chan) = self.own_chan(slot)? else {
+        let Some(mut moving) = self.take_up(slot)? else {
             return Ok(());
         };
-        let old = chan.state;
-        chan.park();
-        self.put_moved(slot, old, chan)
+        moving.chan.park();
+        self.put_back(moving)
     }
 
     /// A channel begins.
@@ -171,25 +159,23 @@ impl<'a> Draft<'a> {
         ensures { Brings result self.old self.new
             (spec.after_move (λ c. spec.with_running action (after_next c)) slot (drafted self.old)) }
     {
-        let Some(mut chan) = self.own_chan(slot)? else {
+        let Some(mut moving) = self.take_up(slot)? else {
             return Ok(());
         };
-        let old = chan.state;
-        run_next(&mut chan, action);
-        self.put_moved(slot, old, chan)
+        run_next(&mut moving.chan, action);
+        self.put_back(moving)
     }
 
     /// The running application of the channel in a slot is over.
     pub fn complete(&mut self, slot: u16) -> Result<(), Memory>
         ensures { Brings result self.old self.new (spec.after_completion slot (drafted self.old)) }
     {
-        let Some(mut chan) = self.own_chan(slot)? else {
+        let Some(mut moving) = self.take_up(slot)? else {
             return self.tell_application(EventName::ChannelExecuteComplete, None, slot);
         };
-        let old = chan.state;
-        let running = chan.running.take();
-        chan.go_on();
-        self.put_moved(slot, old, chan)?;
+        let running = moving.chan.running.take();
+        moving.chan.go_on();
+        self.put_back(moving)?;
         self.tell_application(EventName::ChannelExecuteComplete, running, slot)
     }
 

@@ -1,8 +1,8 @@
 //! What an entry posts of its events.
 ghost use Rattle.std.specs.Prelude.{◌≡◌, [], ◌-◌, true, is_some, count_by, length, IfOk};
 ghost use Rattle.fs_filter.specs.Subscriptions.{wants};
-ghost use Rattle.fs_places.specs.Places.{held_in};
-ghost use Rattle.fs_places.specs.Rows.{place_of};
+ghost use Rattle.fs_seats.specs.Seats.{held_in};
+ghost use Rattle.fs_seats.specs.Rows.{seat_of};
 ghost use Rattle.fs_state.specs.Drafts.{drafted, Brings, with_losses_in};
 ghost use Rattle.fs_state.specs.Losses.{Losses, with_loss};
 ghost use Rattle.fs_state.specs.Posting as spec;
@@ -17,7 +17,7 @@ use crate::post::Post;
 use crate::switch::Core;
 use fs_event::Event as Telling;
 use fs_filter::SharedSubs;
-use fs_places::{Numbered, Rows, Table};
+use fs_seats::{Numbered, Rows, Table};
 use fs_text::{EventName, Memory};
 use std::alloc::Global;
 
@@ -104,19 +104,19 @@ impl<'a> Draft<'a> {
             return Ok(());
         }
         let core = self.core;
-        for place in 0..core.conns.filled() {
-            self.post_at(place, told)?;
+        for seat in 0..core.conns.filled() {
+            self.post_at(seat, told)?;
         }
         Ok(())
     }
 
-    /// The connection that stood at a place before the entry, if one did, is posted what it wants of these.
-    fn post_at(&mut self, place: usize, told: &[Post]) -> Result<(), Memory>
+    /// The connection that stood at a seat before the entry, if one did, is posted what it wants of these.
+    fn post_at(&mut self, seat: usize, told: &[Post]) -> Result<(), Memory>
         ensures { Brings result self.old self.new
-            (spec.posted_at self.old.base told.now (held_in self.old.base.conns place) (drafted self.old)) }
+            (spec.posted_at self.old.base told.now (held_in self.old.base.conns seat) (drafted self.old)) }
     {
         let core = self.core;
-        match core.conns.get(place) {
+        match core.conns.get(seat) {
             Some(row) => self.post_to(row, told),
             None => Ok(()),
         }
@@ -140,9 +140,9 @@ impl<'a> Draft<'a> {
 
     /// Whether the connection of a number is there.
     fn is_there(&self, number: u64) -> bool
-        ensures { result ≡ is_some (place_of (drafted self.now).conns number) }
+        ensures { result ≡ is_some (seat_of (drafted self.now).conns number) }
     {
-        self.conns().place_of(number).is_some()
+        self.conns().seat_of(number).is_some()
     }
 
     /// For how many events there was room, before the entry, behind the frames that waited for a connection.
@@ -150,8 +150,8 @@ impl<'a> Draft<'a> {
         ensures { result ≡ spec.room_for self.now.base number }
     {
         let core = self.core;
-        match core.conns.place_of(number) {
-            Some(place) => MOST_EVENTS.saturating_sub(core.queues.events(place)),
+        match core.conns.seat_of(number) {
+            Some(seat) => MOST_EVENTS.saturating_sub(core.outboxes.events(seat)),
             None => MOST_EVENTS,
         }
     }
@@ -215,66 +215,66 @@ impl Core {
     fn is_deaf(&self) -> bool
         ensures { result ≡ true → spec.AreDeaf self.now.conns }
     {
-        for place in 0..self.conns.filled() {
-            if !self.is_deaf_at(place) {
+        for seat in 0..self.conns.filled() {
+            if !self.is_deaf_at(seat) {
                 return false;
             }
         }
         true
     }
 
-    /// Whether the connection that stands at a place, if one does, has subscribed nothing, as far as that is seen at
+    /// Whether the connection that stands at a seat, if one does, has subscribed nothing, as far as that is seen at
     /// once.
-    fn is_deaf_at(&self, place: usize) -> bool
-        ensures { result ≡ true → spec.IsDeaf (held_in self.now.conns place) }
+    fn is_deaf_at(&self, seat: usize) -> bool
+        ensures { result ≡ true → spec.IsDeaf (held_in self.now.conns seat) }
     {
-        match self.conns.get(place) {
+        match self.conns.get(seat) {
             Some(row) => row.held.subs.is_idle(),
             None => true,
         }
     }
 
     /// Whether some connection has subscribed the events of a name, of `CUSTOM` events those with a subclass.
-    #[tactic(auto, using(fs_places::proofs::PlaceLemmas::filled_rules))]
+    #[tactic(auto, using(fs_seats::proofs::SeatLemmas::filled_rules))]
     fn hears(&self, name: EventName, subclass: &[u8]) -> bool
         ensures { result ≡ spec.is_heard self.now.conns name subclass.now }
     {
-        for place in 0..self.conns.filled() {
-            if self.hears_at(place, name, subclass) {
+        for seat in 0..self.conns.filled() {
+            if self.hears_at(seat, name, subclass) {
                 return true;
             }
         }
         false
     }
 
-    /// Whether the connection that stands at a place has.
-    fn hears_at(&self, place: usize, name: EventName, subclass: &[u8]) -> bool
-        ensures { result ≡ spec.hears_at name subclass.now (held_in self.now.conns place) }
+    /// Whether the connection that stands at a seat has.
+    fn hears_at(&self, seat: usize, name: EventName, subclass: &[u8]) -> bool
+        ensures { result ≡ spec.hears_at name subclass.now (held_in self.now.conns seat) }
     {
-        match self.conns.get(place) {
+        match self.conns.get(seat) {
             Some(row) => row.held.subs.hears(name, subclass),
             None => false,
         }
     }
 
     /// Whether some connection wants an event.
-    #[tactic(auto, using(fs_places::proofs::PlaceLemmas::filled_rules))]
+    #[tactic(auto, using(fs_seats::proofs::SeatLemmas::filled_rules))]
     fn wants(&self, telling: &Telling) -> bool
         ensures { result ≡ spec.is_wanted self.now.conns telling.now }
     {
-        for place in 0..self.conns.filled() {
-            if self.wants_at(place, telling) {
+        for seat in 0..self.conns.filled() {
+            if self.wants_at(seat, telling) {
                 return true;
             }
         }
         false
     }
 
-    /// Whether the connection that stands at a place does.
-    fn wants_at(&self, place: usize, telling: &Telling) -> bool
-        ensures { result ≡ spec.wants_at telling.now (held_in self.now.conns place) }
+    /// Whether the connection that stands at a seat does.
+    fn wants_at(&self, seat: usize, telling: &Telling) -> bool
+        ensures { result ≡ spec.wants_at telling.now (held_in self.now.conns seat) }
     {
-        match self.conns.get(place) {
+        match self.conns.get(seat) {
             Some(row) => row.held.subs.wants(telling),
             None => false,
         }

@@ -1,7 +1,7 @@
 //! A switch as it is seen at a moment, of which nothing changes.
 ghost use Rattle.std.specs.Prelude.{◌≡◌, ◌≤◌, length};
 ghost use Rattle.std.specs.Option.{option_copied};
-ghost use Rattle.fs_places.specs.Places.{IsEmptyFrom};
+ghost use Rattle.fs_seats.specs.Seats.{IsEmptyFrom};
 ghost use Rattle.fs_state.specs.Switch as spec;
 
 use crate::conn::Conn;
@@ -9,7 +9,7 @@ use crate::job::Job;
 use crate::switch::Core;
 use fs_chan::Chan;
 use fs_orig::Orig;
-use fs_places::{Numbered, Table};
+use fs_seats::{Numbered, Table};
 use std::marker::Model;
 
 /// A switch that is kept, as it stands at a moment. A contract sees it as that switch.
@@ -76,15 +76,15 @@ impl<'a> Seen<'a> {
         core.job(number)
     }
 
-    /// What stands at a place for a job; past the last one stands nothing.
-    pub fn job_at(&self, place: usize) -> Option<&Numbered<Job>>
-        ensures { option_copied result ≡ spec.job_at self.now place }
+    /// What stands at a seat for a job; past the last one stands nothing.
+    pub fn job_at(&self, seat: usize) -> Option<&Numbered<Job>>
+        ensures { option_copied result ≡ spec.job_at self.now seat }
     {
         let core = self.core;
-        core.job_at(place)
+        core.job_at(seat)
     }
 
-    /// How many places for jobs are filled, at most: from this one on there is no job.
+    /// How many seats for jobs are filled, at most: from this one on there is no job.
     pub fn filled_jobs(&self) -> usize
         ensures within { result ≤ length self.now.jobs }
         ensures empty { IsEmptyFrom result self.now.jobs }
@@ -109,7 +109,7 @@ impl<'a> Seen<'a> {
         core.waiting(number)
     }
 
-    /// Whether each place for a connection is taken.
+    /// Whether each seat for a connection is taken.
     pub fn is_full(&self) -> bool
         ensures { result ≡ spec.is_full_of_conns self.now }
     {
@@ -118,10 +118,10 @@ impl<'a> Seen<'a> {
     }
 
     /// How many connections there may be.
-    pub fn conn_places(&self) -> usize
+    pub fn conn_seats(&self) -> usize
         ensures { result ≡ length self.now.conns }
     {
         let core = self.core;
-        core.conn_places()
+        core.conn_seats()
     }
 }

@@ -1,28 +1,30 @@
 //! The state of a switch between two entries.
+ghost use Rattle.std.specs.Arc.{arc_value};
 ghost use Rattle.std.specs.Prelude.{◌≡◌, ◌≤◌, length, IfOk, unwrap_or};
 ghost use Rattle.std.specs.Option.{option_copied};
-ghost use Rattle.fs_places.specs.Places.{no_places, IsEmptyFrom};
-ghost use Rattle.fs_state.specs.Queues.{no_queues, requeued};
+ghost use Rattle.fs_seats.specs.Seats.{no_seats, IsEmptyFrom};
+ghost use Rattle.fs_state.specs.Outboxes.{no_outboxes, outboxes_after};
 ghost use Rattle.fs_state.specs.Switch as spec;
-ghost use Rattle.fs_state.specs.Drafts.{after, Fits};
+ghost use Rattle.fs_state.specs.Drafts.{after, rest_of, Fits};
 
 use crate::blank::Blank;
 use crate::conn::Conn;
 use crate::counts::Counts;
-use crate::delta::{Delta, QueueChange};
+use crate::delta::{Delta, OutboxChange};
 use crate::drawn::Drawn;
 use crate::job::Job;
 use crate::losses::Losses;
-use crate::queues::Queues;
+use crate::outboxes::Outboxes;
 use fs_bridge::Bridges;
 use fs_chan::Chan;
-use fs_doc::Config;
+use fs_doc::{Config, Settings};
 use fs_orig::Orig;
-use fs_places::{Boxed, Numbered, Places, Rows, Table};
+use fs_seats::{Boxed, Numbered, Rows, Seats, Table};
 use fs_text::Memory;
 use fs_vars::Vars;
 use std::alloc::Global;
 use std::marker::Model;
+use std::sync::Arc;
 
 /// How many originations there may be: one for each job and each slot.
 const ORIGS: usize = 1_280;
@@ -32,14 +34,14 @@ const JOBS: usize = 1_024;
 /// The state of a switch between two entries. A contract sees it as the record of what is there.
 pub struct Core {
     pub(crate) alloc: Global,
-    pub(crate) config: Config,
+    pub(crate) config: Arc<Config>,
     pub(crate) globals: Boxed<Vars>,
-    pub(crate) channels: Places<Boxed<Chan>>,
+    pub(crate) channels: Seats<Boxed<Chan>>,
     pub(crate) bridges: Bridges,
-    pub(crate) origs: Places<Numbered<Orig>>,
-    pub(crate) jobs: Places<Numbered<Job>>,
-    pub(crate) conns: Places<Numbered<Conn>>,
-    pub(crate) queues: Queues,
+    pub(crate) origs: Seats<Numbered<Orig>>,
+    pub(crate) jobs: Seats<Numbered<Job>>,
+    pub(crate) conns: Seats<Numbered<Conn>>,
+    pub(crate) outboxes: Outboxes,
     pub(crate) drawn: Drawn,
     pub(crate) moment: u64,
     pub(crate) entries: u64,
@@ -60,7 +62,7 @@ impl Drop for Core {
             origs: _origs,
             jobs: _jobs,
             conns: _conns,
-            queues: _queues,
+            outboxes: _outboxes,
             drawn: _drawn,
             moment: _moment,
             entries: _entries,
@@ -73,20 +75,22 @@ impl Drop for Core {
 }
 
 impl Model for Core {
+    ghost use Rattle.std.specs.Arc.{arc_value};
     ghost use Rattle.std.specs.Prelude.{◌<◌, ◌^◌, [], length};
     ghost use Rattle.fs_state.specs.Switch.{Switch};
 
     ghost Value = { Switch };
 
     ghost view = { λ c. record {
-      config = c.config;
+      settings = (arc_value c.config).settings;
+      contexts = (arc_value c.config).contexts;
       globals = c.globals;
       channels = c.channels;
       bridges = c.bridges;
       origs = c.origs;
       jobs = c.jobs;
       conns = c.conns;
-      queues = c.queues;
+      outboxes = c.outboxes;
       drawn = c.drawn;
       moment = c.moment;
       entries = c.entries;
@@ -95,9 +99,10 @@ impl Model for Core {
       counts = c.counts;
       losses = c.losses;
       news = [];
-      answered = [];
+      replies = [];
       posted = [];
-      given = [];
+      late = [];
+      notices = [];
     } };
 
     ghost invariant = { λ c. length c.channels < 2 ^ 16 };
@@ -105,9 +110,9 @@ impl Model for Core {
 
 impl Core {
     /// A switch to which nothing has happened.
-    #[tactic(auto, using(crate::proofs::SlotLemmas::no_places_length))]
-    pub fn new(alloc: Global, config: Config) -> Result<Core, Memory>
-        ensures { IfOk result (λ core. core ≡ spec.empty config) }
+    #[tactic(auto, using(crate::proofs::SlotLemmas::no_seats_length))]
+    pub fn new(alloc: Global, config: Arc<Config>) -> Result<Core, Memory>
+        ensures { IfOk result (λ core. core ≡ spec.empty (arc_value config)) }
     {
         config.within();
         let settings = config.settings();
@@ -116,7 +121,7 @@ impl Core {
         let counts = Counts::new(alloc)?;
         let globals = Boxed::of(alloc, config.globals().copy()?)?;
         let (channels, origs, jobs) = call_tables(alloc, slots)?;
-        let (conns, queues) = conn_tables(alloc, conns)?;
+        let (conns, outboxes) = conn_tables(alloc, conns)?;
         Ok(Core {
             alloc,
             config,
@@ -126,7 +131,7 @@ impl Core {
             origs,
             jobs,
             conns,
-            queues,
+            outboxes,
             drawn: Drawn::none(),
             moment: 0,
             entries: 0,
@@ -138,13 +143,13 @@ impl Core {
     }
 
     /// Does what an entry changes, at its cost. It takes no memory, and leaves a blank for the next draft.
-    #[tactic(auto, using(fs_places::proofs::PlaceLemmas::written_length))]
+    #[tactic(auto, using(fs_seats::proofs::SeatLemmas::written_length))]
     pub fn apply(&mut self, mut delta: Boxed<Delta>, cost: u64) -> Blank
         requires { Fits self.old delta }
         ensures { self.new ≡ spec.after_entry cost (after self.old delta) }
     {
-        delta.move_into(self);
-        self.queues.deliver(&self.conns, &mut delta);
+        self.take(&mut delta);
+        self.outboxes.deliver(&self.conns, &mut delta);
         self.counts.count_all(delta.news.as_slice());
         delta.news.clear();
         self.entries = self.entries.saturating_add(1);
@@ -157,11 +162,11 @@ impl Core {
         self.alloc
     }
 
-    /// What the switch was configured by.
-    pub fn config(&self) -> &Config
-        ensures { result.now ≡ self.now.config }
+    /// The settings of the switch.
+    pub fn settings(&self) -> &Settings
+        ensures { result.now ≡ self.now.settings }
     {
-        &self.config
+        self.config.settings()
     }
 
     /// The moment of the last entry, in microseconds.
@@ -221,14 +226,14 @@ impl Core {
         self.jobs.row(number)
     }
 
-    /// What stands at a place for a job; past the last one stands nothing.
-    pub fn job_at(&self, place: usize) -> Option<&Numbered<Job>>
-        ensures { option_copied result ≡ spec.job_at self.now place }
+    /// What stands at a seat for a job; past the last one stands nothing.
+    pub fn job_at(&self, seat: usize) -> Option<&Numbered<Job>>
+        ensures { option_copied result ≡ spec.job_at self.now seat }
     {
-        self.jobs.get(place)
+        self.jobs.get(seat)
     }
 
-    /// How many places for jobs are filled, at most: from this one on there is no job.
+    /// How many seats for jobs are filled, at most: from this one on there is no job.
     pub fn filled_jobs(&self) -> usize
         ensures within { result ≤ length self.now.jobs }
         ensures empty { IsEmptyFrom result self.now.jobs }
@@ -237,7 +242,7 @@ impl Core {
     }
 
     /// How many connections there may be.
-    pub fn conn_places(&self) -> usize
+    pub fn conn_seats(&self) -> usize
         ensures { result ≡ length self.now.conns }
     {
         self.conns.len()
@@ -254,8 +259,8 @@ impl Core {
     pub fn waiting(&self, number: u32) -> usize
         ensures { result ≡ length (spec.waiting_for self.now number) }
     {
-        match self.conns.place_of(u64::from(number)) {
-            Some(place) => self.queues.len(place),
+        match self.conns.seat_of(u64::from(number)) {
+            Some(seat) => self.outboxes.len(seat),
             None => 0,
         }
     }
@@ -274,8 +279,34 @@ impl Core {
         &self.counts
     }
 
+    /// Makes the changes of what is there, without memory. What happens, and what is given, is left in them.
+    #[tactic(auto, using(fs_seats::proofs::SeatLemmas::written_length))]
+    fn take(&mut self, delta: &mut Delta)
+        ensures core { record self.new {
+          news = delta.old.news;
+          replies = delta.old.replies;
+          posted = delta.old.posted;
+          late = delta.old.late;
+          notices = delta.old.notices;
+        }
+            ≡ after self.old delta.old }
+        ensures left { delta.new ≡ rest_of delta.old }
+    {
+        self.take_globals(delta.globals.take());
+        delta.channels.move_into(&mut self.channels);
+        self.take_bridges(delta.bridges.take());
+        delta.origs.move_into(&mut self.origs);
+        delta.jobs.move_into(&mut self.jobs);
+        delta.conns.move_into(&mut self.conns);
+        self.change_outboxes(delta.outbox);
+        delta.outbox = OutboxChange::Unchanged;
+        self.drawn = delta.drawn;
+        self.moment = delta.moment;
+        self.take_losses(delta.losses.take());
+    }
+
     /// Has other globals, where there are any.
-    pub(crate) fn take_globals(&mut self, globals: Option<Boxed<Vars>>)
+    fn take_globals(&mut self, globals: Option<Boxed<Vars>>)
         ensures { self.new ≡ record self.old { globals = unwrap_or globals self.old.globals } }
     {
         if let Some(globals) = globals {
@@ -284,7 +315,7 @@ impl Core {
     }
 
     /// Has other bridges, where there are any.
-    pub(crate) fn take_bridges(&mut self, bridges: Option<Bridges>)
+    fn take_bridges(&mut self, bridges: Option<Bridges>)
         ensures { self.new ≡ record self.old { bridges = unwrap_or bridges self.old.bridges } }
     {
         if let Some(bridges) = bridges {
@@ -293,7 +324,7 @@ impl Core {
     }
 
     /// Has other losses, where there are any.
-    pub(crate) fn take_losses(&mut self, losses: Option<Losses>)
+    fn take_losses(&mut self, losses: Option<Losses>)
         ensures { self.new ≡ record self.old { losses = unwrap_or losses self.old.losses } }
     {
         if let Some(losses) = losses {
@@ -302,39 +333,39 @@ impl Core {
     }
 
     /// Changes the frames that wait.
-    pub(crate) fn requeue(&mut self, change: QueueChange)
-        ensures { self.new ≡ record self.old { queues = requeued change self.old.queues } }
+    fn change_outboxes(&mut self, change: OutboxChange)
+        ensures { self.new ≡ record self.old { outboxes = outboxes_after change self.old.outboxes } }
     {
         match change {
-            QueueChange::Unchanged => {}
-            QueueChange::Taken { place } => self.queues.take_first(place),
-            QueueChange::Cleared { place } => self.queues.clear(place),
+            OutboxChange::Unchanged => {}
+            OutboxChange::Taken { seat } => self.outboxes.take_first(seat),
+            OutboxChange::Cleared { seat } => self.outboxes.clear(seat),
         }
     }
 }
 
 /// What calls are made of: channels, originations and jobs.
 type CallTables = (
-    Places<Boxed<Chan>>,
-    Places<Numbered<Orig>>,
-    Places<Numbered<Job>>,
+    Seats<Boxed<Chan>>,
+    Seats<Numbered<Orig>>,
+    Seats<Numbered<Job>>,
 );
 
 /// Tables for calls, with nothing in them.
 fn call_tables(alloc: Global, slots: usize) -> Result<CallTables, Memory>
-    ensures { IfOk result (λ tables. tables ≡ (no_places slots, no_places 1280, no_places 1024)) }
+    ensures { IfOk result (λ tables. tables ≡ (no_seats slots, no_seats 1280, no_seats 1024)) }
 {
-    let channels = Places::empty(alloc, slots)?;
-    let origs = Places::empty(alloc, ORIGS)?;
-    let jobs = Places::empty(alloc, JOBS)?;
+    let channels = Seats::empty(alloc, slots)?;
+    let origs = Seats::empty(alloc, ORIGS)?;
+    let jobs = Seats::empty(alloc, JOBS)?;
     Ok((channels, origs, jobs))
 }
 
 /// Tables for connections and what waits for them, with nothing in them.
-fn conn_tables(alloc: Global, count: usize) -> Result<(Places<Numbered<Conn>>, Queues), Memory>
-    ensures { IfOk result (λ tables. tables ≡ (no_places count, no_queues count)) }
+fn conn_tables(alloc: Global, count: usize) -> Result<(Seats<Numbered<Conn>>, Outboxes), Memory>
+    ensures { IfOk result (λ tables. tables ≡ (no_seats count, no_outboxes count)) }
 {
-    let conns = Places::empty(alloc, count)?;
-    let queues = Queues::new(alloc, count)?;
-    Ok((conns, queues))
+    let conns = Seats::empty(alloc, count)?;
+    let outboxes = Outboxes::new(alloc, count)?;
+    Ok((conns, outboxes))
 }

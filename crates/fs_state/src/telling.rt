@@ -42,7 +42,7 @@ impl<'a> Draft<'a> {
         ensures { OnOk result (told.new ≡ told.old ++ spec.first_headers (drafted self.now) number name) }
     {
         let alloc = self.alloc();
-        let core_id = self.config().settings().core_uuid;
+        let core_id = self.settings().core_uuid;
         told.put(b"Event-Name", Txt::of(alloc, name.name().as_bytes())?)?;
         told.put(b"Core-UUID", core_id.uuid(alloc, 0)?)?;
         told.put(b"Event-Sequence", decimal(alloc, number)?)?;

@@ -1,5 +1,5 @@
 use Rattle.std.proofs.Common.{◌≡◌, ◌-◌, ◌^◌, min, take}
-use Rattle.fs_state.specs.Queues.{frames_given}
+use Rattle.fs_state.specs.Outboxes.{frames_given}
 use Rattle.fs_state.proofs.gift.frames_of.Given as goal
 
 abbrev pub invariant-loop-gift : goal.invariant-loop-gift

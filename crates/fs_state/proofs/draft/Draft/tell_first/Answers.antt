@@ -15,7 +15,6 @@ returns c =
       c.name.ensures,
       c.in_ok-uuid.ensures,
       c.settings.ensures,
-      c.config.ensures,
       c.in_ok-decimal.ensures,
       c.in_ok-decimal-2.ensures,
       c.moment.ensures,

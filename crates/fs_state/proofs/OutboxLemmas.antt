@@ -1,0 +1,134 @@
+-- That the outboxes have room for what is given.
+use Rattle.std.proofs.Common.{◌≡◌, ℕ, ◌+◌, ◌-◌, ◌^◌, ◌<◌, ◌≤◌, ◌==◌, min, Bool, true, false, List, [], ◌∷◌, ◌++◌, length, drop, get_or}
+use Rattle.std.proofs.Common.{Option, None, Some, refl, sym, subst, arith}
+use Rattle.std.specs.List.{slice_set, All}
+use Rattle.std.proofs.lemmas.List.{get_or-set_same, get_or-set_other, length-set, length-append, length-drop}
+use Rattle.std.proofs.lemmas.List.Elements.{All-replicate}
+use Rattle.std.proofs.lemmas.List.Sums.{sum_by-cons, sum_by-append}
+use Rattle.std.proofs.lemmas.Bool.{eqb-true}
+use Rattle.std.proofs.lemmas.Bool.Decides.{nat_tests}
+use Rattle.fs_state.specs.declared.delta.OutboxChange.{OutboxChange}
+use Rattle.fs_state.specs.declared.delta.OutboxChange.TheVariants.{Unchanged, Taken, Cleared}
+use Rattle.fs_seats.specs.declared.numbered.Numbered.{Numbered}
+use Rattle.fs_seats.specs.Rows.{seat_of}
+use Rattle.fs_state.specs.declared.conn.Conn.{Conn}
+use Rattle.fs_state.specs.declared.gift.Gift.{Gift}
+use Rattle.fs_state.specs.Frames.{Frames}
+use Rattle.fs_state.specs.Outboxes.{outbox_at, with_outbox, with_gift_delivered, outboxes_after, with_frames_at, frames_given}
+use Rattle.fs_state.specs.Outboxes.{delivered, HaveRoom, AreWithin, no_outboxes, without_first_frame, without_frames, with_frames}
+
+-- less fits where more does
+pub room_less : (outboxes : List Frames) (n m : ℕ) → n ≤ m → HaveRoom outboxes m → HaveRoom outboxes n
+room_less outboxes n m less h = record { each = λ k d within. omega (arith, less, h.each k d within) }
+
+-- what holds of each outbox, and of another one that is put at a seat, holds of each then
+all_with : (P : Frames → Type 0) (seat : ℕ) (outbox : Frames) (outboxes : List Frames) → (seat < length outboxes → P outbox) → All P outboxes →
+    All P (with_outbox seat outbox outboxes)
+all_with P seat outbox outboxes put h = each
+  where
+    at : (k : ℕ) (d : Frames) → k < length outboxes → (b : Bool) → (k == seat) ≡ b → P (get_or (slice_set outboxes seat outbox) k d)
+    at k d there true e =
+        let same : k ≡ seat = eqb-true k seat e in
+        let here : seat < length outboxes = subst (λ p. p < length outboxes) same there in
+        subst (λ p. P (get_or (slice_set outboxes seat outbox) p d)) (sym same)
+        (subst P (sym (get_or-set_same outboxes seat outbox d here)) (put here))
+    at k d there false e =
+        subst P (sym (get_or-set_other outboxes seat k outbox d (λ same. grind (arith, nat_tests, e, same)))) (h k d there)
+
+    each : (k : ℕ) (d : Frames) → k < length (slice_set outboxes seat outbox) → P (get_or (slice_set outboxes seat outbox) k d)
+    each k d within = at k d (subst (λ len. k < len) (length-set outboxes seat outbox) within) (k == seat) refl
+
+-- with another outbox at a seat, where it has so many frames more at most
+room_with : (seat : ℕ) (outbox : Frames) (outboxes : List Frames) (n more : ℕ) → length outbox ≤ length (outbox_at outboxes seat) + more →
+    HaveRoom outboxes (more + n) → HaveRoom (with_outbox seat outbox outboxes) n
+room_with seat outbox outboxes n more shorter h = record {
+  each = all_with (λ q. length q + n < 2 ^ 63) seat outbox outboxes (λ here. omega (arith, shorter, h.each seat [] here))
+      (λ k d within. omega (arith, h.each k d within));
+}
+
+-- ---- gifts
+
+given_more : (gift : Gift) (gifts : List Gift) → frames_given (gift ∷ gifts) ≡ length gift.frames + frames_given gifts
+given_more gift gifts = sum_by-cons (λ g. length g.frames) gift gifts
+
+pub room_for_gift : (outboxes : List Frames) (gift : Gift) (gifts : List Gift) → HaveRoom outboxes (frames_given (gift ∷ gifts)) →
+    HaveRoom outboxes (length gift.frames)
+room_for_gift outboxes gift gifts h =
+    room_less outboxes (length gift.frames) (frames_given (gift ∷ gifts)) (omega (arith, given_more gift gifts)) h
+
+-- and after that for the gifts behind it
+room_after_at : (at : Option ℕ) (outboxes : List Frames) (gift : Gift) (gifts : List Gift) → HaveRoom outboxes (frames_given (gift ∷ gifts)) →
+    HaveRoom (with_frames_at at gift.frames outboxes) (frames_given gifts)
+room_after_at None outboxes gift gifts h =
+    room_less outboxes (frames_given gifts) (frames_given (gift ∷ gifts)) (omega (arith, given_more gift gifts)) h
+room_after_at (Some seat) outboxes gift gifts h =
+    room_with seat (outbox_at outboxes seat ++ gift.frames) outboxes (frames_given gifts) (length gift.frames)
+    (omega (arith, length-append (outbox_at outboxes seat) gift.frames))
+    (subst (HaveRoom outboxes) (given_more gift gifts) h)
+
+pub room_after_gift : (conns : List (Option (Numbered Conn))) (gift : Gift) (gifts : List Gift) (outboxes : List Frames) →
+    HaveRoom outboxes (frames_given (gift ∷ gifts)) →
+    HaveRoom (with_gift_delivered conns gift outboxes) (frames_given gifts)
+room_after_gift conns gift gifts outboxes h = room_after_at (seat_of conns gift.conn) outboxes gift gifts h
+
+-- ---- gifts in several parts
+
+pub given_append : (front back : List Gift) → frames_given (front ++ back) ≡ frames_given front + frames_given back
+given_append front back = sum_by-append (λ g. length g.frames) front back
+
+-- there is room for the first part
+pub room_for_front : (outboxes : List Frames) (front back : List Gift) → HaveRoom outboxes (frames_given (front ++ back)) →
+    HaveRoom outboxes (frames_given front)
+room_for_front outboxes front back h =
+    room_less outboxes (frames_given front) (frames_given (front ++ back)) (omega (arith, given_append front back)) h
+
+-- and after that for the second
+pub room_for_back : (conns : List (Option (Numbered Conn))) (front back : List Gift) (outboxes : List Frames) →
+    HaveRoom outboxes (frames_given (front ++ back)) →
+    HaveRoom (delivered conns front outboxes) (frames_given back)
+room_for_back conns [] back outboxes h = h
+room_for_back conns (gift ∷ front) back outboxes h =
+    room_for_back conns front back (with_gift_delivered conns gift outboxes) (room_after_gift conns gift (front ++ back) outboxes h)
+
+-- ---- the end of a draft
+
+-- what is counted as far as 64 bits go, where it fits
+pub room_counted : (outboxes : List Frames) (count : ℕ) → HaveRoom outboxes (min count (2 ^ 64 - 1)) → HaveRoom outboxes count
+room_counted outboxes count h = record { each = λ k d within. omega (arith, h.each k d within) }
+
+-- taking frames out leaves room
+pub room_after : (change : OutboxChange) (outboxes : List Frames) (n : ℕ) → HaveRoom outboxes n → HaveRoom (outboxes_after change outboxes) n
+room_after Unchanged outboxes n h = h
+room_after (Taken seat) outboxes n h =
+    room_with seat (drop 1 (outbox_at outboxes seat)) outboxes n 0 (omega (arith, length-drop 1 (outbox_at outboxes seat)))
+    (room_less outboxes (0 + n) n (omega arith) h)
+room_after (Cleared seat) outboxes n h = room_with seat [] outboxes n 0 (omega arith) (room_less outboxes (0 + n) n (omega arith) h)
+
+-- ---- how many frames an outbox has at most
+
+pub within_none : (count : ℕ) → AreWithin (no_outboxes count) 0
+unfolding no_outboxes
+within_none count = record { each = All-replicate (λ outbox. length outbox ≤ 0) count [] (omega arith) }
+
+pub within_taken : (seat : ℕ) (outboxes : List Frames) (most : ℕ) → AreWithin outboxes most →
+    AreWithin (without_first_frame seat outboxes) most
+within_taken seat outboxes most h = record {
+  each = all_with (λ q. length q ≤ most) seat (drop 1 (outbox_at outboxes seat)) outboxes
+      (λ here. omega (arith, length-drop 1 (outbox_at outboxes seat), h.each seat [] here)) h.each;
+}
+
+pub within_cleared : (seat : ℕ) (outboxes : List Frames) (most : ℕ) → AreWithin outboxes most → AreWithin (without_frames seat outboxes) most
+within_cleared seat outboxes most h = record { each = all_with (λ q. length q ≤ most) seat [] outboxes (λ here. omega arith) h.each }
+
+-- with as many frames more as are put behind one, as far as 64 bits go
+pub within_given : (seat : ℕ) (frames : Frames) (outboxes : List Frames) (most : ℕ) → HaveRoom outboxes (length frames) →
+    AreWithin outboxes most → AreWithin (with_frames seat frames outboxes) (min (most + length frames) (2 ^ 64 - 1))
+within_given seat frames outboxes most room h = record {
+  each = all_with (λ q. length q ≤ min (most + length frames) (2 ^ 64 - 1)) seat (outbox_at outboxes seat ++ frames) outboxes
+      (λ here. omega (arith, length-append (outbox_at outboxes seat) frames, h.each seat [] here, room.each seat [] here))
+      (λ k d within. omega (arith, h.each k d within, room.each k d within));
+}
+
+-- so outboxes have room for as many as are wanting to 2^63
+pub room_within : (outboxes : List Frames) (most count : ℕ) → AreWithin outboxes most → count + most < 2 ^ 63 → HaveRoom outboxes count
+room_within outboxes most count h less = record { each = λ k d within. omega (arith, less, h.each k d within) }

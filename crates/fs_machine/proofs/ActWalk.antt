@@ -54,25 +54,25 @@ use Rattle.fs_machine.specs.Texts.{ok, too_many_jobs, made_text, no_channel, not
 use Rattle.fs_machine.specs.Connections.{phase_at, conn_changed, admitted, subs_at}
 use Rattle.fs_machine.specs.Attempts.{after_verdict_on}
 use Rattle.fs_machine.specs.Jobs.{sleep_begun, after_job_work, job_done_from, job_done}
-use Rattle.fs_machine.specs.Done.{Done, says, no_answer_yet}
-use Rattle.fs_machine.specs.Joining.{in_the_way, after_leaving, both_left, both_in_media, joined_done, bridged_unless, bridge_done_at}
+use Rattle.fs_machine.specs.Done.{Done, says, no_reply_yet}
+use Rattle.fs_machine.specs.Joining.{in_the_way, after_leaving, both_in_media, joined_done, bridged_unless, bridge_done_at}
 use Rattle.fs_machine.specs.Joining.{uuid_bridge_done, is_ready}
 use Rattle.fs_machine.specs.Leaving.{after_departure, after_arrival, sent_at, sent_done}
 use Rattle.fs_state.specs.Leaving.{after_leaving_others}
 use Rattle.fs_machine.proofs.LeaveLemmas.{left_free, parked_stays, transferred_stays}
 use Rattle.fs_machine.proofs.BondLeaves.{departed_lone}
 use Rattle.fs_machine.specs.Hangups.{all_slots}
-use Rattle.fs_machine.specs.Api.{kill_done, msleep_done, dialled, originate_done, done_plainly}
+use Rattle.fs_machine.specs.Api.{kill_done, msleep_done, dialed, originate_done, done_plainly}
 use Rattle.fs_machine.specs.Api.{done_by}
 use Rattle.fs_machine.specs.Commands.{with_reply, after_dismissal, after_password, with_response_of, command_done_in, command_done}
 use Rattle.fs_machine.specs.Commands.{after_asking, unless_unknown, after_subscribing, after_unsubscribing, after_silence, after_deletion}
 use Rattle.fs_machine.specs.Commands.{with_filter_added, with_filters_deleted}
 use Rattle.fs_machine.specs.Step.{after_close, act_done}
-use Rattle.fs_machine.proofs.Kept.{hold_in, Stays, Fact, KeptByCalls, DoesJob, KeptByJobs, KeptByDials, LeavesBy, IsShortWinner}
-use Rattle.fs_machine.proofs.Kept.{KeptByCommands, KeptByMoves}
+use Rattle.fs_machine.proofs.Kept.{IsApart, hold_in, Stays, Fact, KeptByCalls, DoesJob, KeptByJobs, KeptByDials, LeavesBy, IsShortWinner}
+use Rattle.fs_machine.proofs.Kept.{WasApart, KeptByApi, KeptByCommands, api_among, KeptByMoves}
 use Rattle.fs_machine.proofs.ShortLemmas.{NamesShort, api_short, expanded_short}
-use Rattle.fs_machine.proofs.DialLemmas.{dialled_groups}
-use Rattle.fs_machine.proofs.JoinLemmas.{IsApart, apart_now, apart_hung, apart_left, DialsNone, left_dials, left_dials_still, CanMeet}
+use Rattle.fs_machine.proofs.DialLemmas.{dialed_groups}
+use Rattle.fs_machine.proofs.JoinLemmas.{apart_now, apart_hung, apart_left, DialsNone, left_dials, left_dials_still, CanMeet}
 use Rattle.fs_machine.proofs.JoinLemmas.{meets_now, join_meets, media_meets, ready_lone}
 use Rattle.fs_machine.proofs.JoinLemmas.{media_stays}
 use Rattle.fs_machine.proofs.StayLemmas.{moved_plain}
@@ -84,55 +84,56 @@ use Rattle.fs_machine.proofs.RestLemmas.{hung_rest, does_same}
 
 module _ (before : Switch) (P : Fact) (calls : KeptByCalls P) (dials : KeptByDials before P) (jobs : KeptByJobs before P) where
   job_tried_kept : (number conn orig : ℕ) (winner : Winner) (caller : Caller) →
-      DoesJob before number conn (work.Originate orig winner caller) → P (Some 0) before →
+      DoesJob before number conn (work.Originate orig winner caller) → P None before → P (Some 0) before →
       P (Some 0) (after_verdict_on (record { orig = orig; party = party.Job number conn winner caller }) before)
-  job_tried_kept number conn orig winner caller does h =
+  job_tried_kept number conn orig winner caller does early h =
       verdict_kept before P calls (record { orig = orig; party = party.Job number conn winner caller })
       (λ s. DoesJob s number conn (work.Originate orig winner caller)) (λ named can. does_same can (hung_rest named before))
-      (λ cause s can k. jobs.failed number conn winner caller orig cause can k)
+      (λ cause s can over k. jobs.failed number conn winner caller orig cause can over k)
       (λ leg slots can won k. jobs.wins number conn winner caller orig leg slots can won k)
-      (λ o group is next k. dials.regroups orig o group caller is (record { group = group; next = next; filled = λ some. some }) k)
-      does h
+      (λ o group is next enters k.
+      dials.regroups orig o group caller is (record { group = group; next = next; enters = enters; filled = λ some. some }) k)
+      does early h
 
-  job_works_kept : (what : JobWork) (number conn : ℕ) → DoesJob before number conn what → P (Some 0) before →
+  job_works_kept : (what : JobWork) (number conn : ℕ) → DoesJob before number conn what → P None before → P (Some 0) before →
       P (Some 0) (after_job_work what number conn before)
-  job_works_kept (work.Sleep until) number conn does h = jobs.woken number conn until ok does h
-  job_works_kept (work.Originate orig winner caller) number conn does h = job_tried_kept number conn orig winner caller does h
+  job_works_kept (work.Sleep until) number conn does early h = jobs.woken number conn until ok does h
+  job_works_kept (work.Originate orig winner caller) number conn does early h = job_tried_kept number conn orig winner caller does early h
 
-  pub job_kept : (number : ℕ) → P (Some 0) before → P (Some 0) (job_done number before)
+  pub job_kept : (number : ℕ) → P None before → P (Some 0) before → P (Some 0) (job_done number before)
   unfolding job_done
-  job_kept number h = by (job_of before number) refl
+  job_kept number early h = by (job_of before number) refl
     where
       by : (found : Option Job) → job_of before number ≡ found → P (Some 0) (job_done_from number found before)
       by None is = h
-      by (Some job) is = job_works_kept job.work number job.conn (record { there = is }) h
+      by (Some job) is = job_works_kept job.work number job.conn (record { there = is }) early h
 
 -- ---- commands
 
--- a command may make a leg, which is a pair of channels
-module _ (conn : ℕ) (P : Fact) (calls : KeptByCalls P) (commands : KeptByCommands conn P) where
+-- an api command may make a leg, which is a pair of channels
+module _ (conn : ℕ) (P : Fact) (calls : KeptByCalls P) (commands : KeptByApi conn P) where
   done_either : (test : Bool) (x y : Done) → P (Some 0) x.state → P (Some 0) y.state → P (Some 0) (if test then x else y).state
   done_either true x y first second = first
   done_either false x y first second = second
 
   killed_kept : (cause : Cause) (slot : Option ℕ) {s : Switch} → P None s → P (Some 0) (kill_done cause slot s).state
   killed_kept cause None h = commands.spent h
-  killed_kept cause (Some slot) h = commands.spent (calls.hung ((slot, cause) ∷ []) h)
+  killed_kept cause (Some slot) h = calls.hung ((slot, cause) ∷ []) h (commands.spent h)
 
   slept_kept : (milliseconds : ℕ) {s : Switch} → P None s → P (Some 0) (msleep_done conn milliseconds s).state
   slept_kept milliseconds {s} h = by (is_full_of_jobs s) refl
     where
       by : (full : Bool) → is_full_of_jobs s ≡ full →
-          P (Some 0) (if full then says too_many_jobs s else no_answer_yet (sleep_begun conn milliseconds s)).state
+          P (Some 0) (if full then says too_many_jobs s else no_reply_yet (sleep_begun conn milliseconds s)).state
       by true is = commands.spent h
       by false is = commands.sleeps (moment_after s.moment (milliseconds * 1000)) is h
 
-  dialled_kept : (url : Text) (read : Result Dial DialFault) → dial_string url ≡ read → (winner : Winner) (caller : Caller)
+  dialed_kept : (url : Text) (read : Result Dial DialFault) → dial_string url ≡ read → (winner : Winner) (caller : Caller)
       (timeout : Option ℕ) {s : Switch} → IsShortWinner winner → is_full_of_jobs s ≡ false → P None s →
-      P (Some 0) (dialled conn read winner caller timeout s).state
-  dialled_kept url (Err fault) is winner caller timeout short room h = commands.spent h
-  dialled_kept url (Ok dial) is winner caller timeout short room h =
-      commands.originates (plans_of dial) winner caller (option_or timeout (braces_timeout dial)) (dialled_groups url dial is) short room
+      P (Some 0) (dialed conn read winner caller timeout s).state
+  dialed_kept url (Err fault) is winner caller timeout short room h = commands.spent h
+  dialed_kept url (Ok dial) is winner caller timeout short room h =
+      commands.originates (plans_of dial) winner caller (option_or timeout (braces_timeout dial)) (dialed_groups url dial is) short room
       h
 
   originated_kept : (url : Text) (winner : Winner) (caller : Caller) (timeout : Option ℕ) {s : Switch} → IsShortWinner winner → P None s →
@@ -140,21 +141,13 @@ module _ (conn : ℕ) (P : Fact) (calls : KeptByCalls P) (commands : KeptByComma
   originated_kept url winner caller timeout {s} short h = by (is_full_of_jobs s) refl
     where
       by : (full : Bool) → is_full_of_jobs s ≡ full →
-          P (Some 0) (if full then says too_many_jobs s else dialled conn (dial_string url) winner caller timeout s).state
+          P (Some 0) (if full then says too_many_jobs s else dialed conn (dial_string url) winner caller timeout s).state
       by true is = commands.spent h
-      by false is = dialled_kept url (dial_string url) refl winner caller timeout short is h
-
-  -- two channels that leave what they were in
-  left_kept : (a b : ℕ) {s : Switch} → IsApart s a → IsApart s b → P (Some 0) s → P (Some 0) (both_left a b s)
-  left_kept a b {s} first second h =
-      let named : Members = map (λ slot. (slot, OriginatorCancel)) (legs_at s a ++ legs_at s b) in
-      let t : Switch = after_hangups named s in
-      calls.leaves b (apart_left b a t (apart_hung b named s second)).bridge
-      (calls.leaves a (apart_hung a named s first).bridge (calls.hung named h))
+      by false is = dialed_kept url (dial_string url) refl winner caller timeout short is h
 
   media_kept : (slot : ℕ) {s : Switch} → CanMeet s slot → P (Some 0) s → P (Some 0) (after_move (in_state CsExchangeMedia) slot s)
   media_kept slot {s} meets h =
-      moved_plain (P (Some 0)) (λ name at t k. calls.touches.told (plain_event name at) tt k) (in_state CsExchangeMedia) slot s
+      moved_plain (P (Some 0)) (λ name at t plain k. calls.touches.told (plain_event name at) plain k) (in_state CsExchangeMedia) slot s
       (λ c there. calls.touches.changed slot c (in_state CsExchangeMedia c) there (media_stays s slot meets c there) h) h
 
   both_media_kept : (a b : ℕ) {s : Switch} → CanMeet s a → CanMeet s b → P (Some 0) s → P (Some 0) (both_in_media a b s)
@@ -167,17 +160,18 @@ module _ (conn : ℕ) (P : Fact) (calls : KeptByCalls P) (commands : KeptByComma
       by true = media_kept b (media_meets b a s second) (media_kept a first h)
       by false = media_kept a (media_meets a b s first) (media_kept b second h)
 
-  join_kept : (a b : ℕ) {s : Switch} → CanMeet s a → CanMeet s b → P (Some 0) s → P (Some 0) (after_join Joined a b s)
-  join_kept a b {s} first second h = by (can_join a b s) refl
+  join_kept : (a b : ℕ) {s : Switch} → CanMeet s a → CanMeet s b → WasApart P a → WasApart P b → P (Some 0) s →
+      P (Some 0) (after_join Joined a b s)
+  join_kept a b {s} first second was other h = by (can_join a b s) refl
     where
       by : (test : Bool) → can_join a b s ≡ test → P (Some 0) (if test then joined_as Joined a b s else s)
       by true is = calls.joined Joined a b first.chan second.chan is first.there second.there first.lone second.lone first.free
-          second.free h
+          second.free was other h
       by false is = h
 
   joined_kept : (a b : ℕ) (other : Text) {s : Switch} → IsApart s a → IsApart s b → DialsNone s a → DialsNone s b →
-      P (Some 0) s → P (Some 0) (joined_done a b other s).state
-  joined_kept a b other {s} first second one_dials two_dials h = by (lives_at s a) refl (lives_at s b) refl
+      WasApart P a → WasApart P b → P (Some 0) s → P (Some 0) (joined_done a b other s).state
+  joined_kept a b other {s} first second one_dials two_dials one_was two_was h = by (lives_at s a) refl (lives_at s b) refl
     where
       by : (one : Bool) → lives_at s a ≡ one → (two : Bool) → lives_at s b ≡ two →
           P (Some 0)
@@ -185,7 +179,7 @@ module _ (conn : ℕ) (P : Fact) (calls : KeptByCalls P) (commands : KeptByComma
       by true live true alive =
           let meets : CanMeet s a = meets_now s a live first one_dials in
           let met : CanMeet s b = meets_now s b alive second two_dials in
-          both_media_kept a b (join_meets Joined a b a s meets) (join_meets Joined a b b s met) (join_kept a b meets met h)
+          both_media_kept a b (join_meets Joined a b a s meets) (join_meets Joined a b b s met) (join_kept a b meets met one_was two_was h)
       by true live false dead = h
       by false dead two alive = h
 
@@ -204,7 +198,8 @@ module _ (conn : ℕ) (P : Fact) (calls : KeptByCalls P) (commands : KeptByComma
           joined_kept a b other (apart_left a b (after_leaving a t) (apart_left a a t one))
           (apart_left b b (after_leaving a t) (apart_left b a t two))
           (left_dials_still a b (after_leaving a t) (left_dials a t)) (left_dials b (after_leaving a t))
-          (left_kept a b apart.0 apart.1 (commands.spent h))
+          (record { past = s; first = h; apart = apart.0.bridge }) (record { past = s; first = h; apart = apart.1.bridge })
+          (calls.leaves a b apart.0 apart.1 h (commands.spent h))
 
       by : (first second : Option ℕ) → P (Some 0) (bridge_done_at first second other s).state
       by (Some a) (Some b) = way a b (in_the_way a b s) refl
@@ -214,18 +209,19 @@ module _ (conn : ℕ) (P : Fact) (calls : KeptByCalls P) (commands : KeptByComma
 
   -- a channel leaves what it was in, and goes elsewhere
   arrived_kept : (change : Chan → Chan) (slot : ℕ) {s : Switch} →
-      ((c : Chan) → chan_at s slot ≡ Some c → is_live c ≡ true → Stays c (change c)) → P (Some 0) s →
+      ((c : Chan) → chan_at s slot ≡ Some c → is_live c ≡ true → Stays (Some 0) c (change c)) → P (Some 0) s →
       P (Some 0) (after_arrival change slot s)
   arrived_kept change slot {s} stays h = by (lives_at s slot) refl
     where
       by : (live : Bool) → lives_at s slot ≡ live → P (Some 0) (if live then after_move change slot s else s)
       by true live =
-          moved_plain (P (Some 0)) (λ name at t k. calls.touches.told (plain_event name at) tt k) change slot s
+          moved_plain (P (Some 0)) (λ name at t plain k. calls.touches.told (plain_event name at) plain k) change slot s
           (λ c there. calls.touches.changed slot c (change c) there (stays c there (sym (ap lives there) ∙ live)) h) h
       by false dead = h
 
   sent_kept : (change : Chan → Chan) (uuid : Text) →
-      ((c : Chan) → is_live c ≡ true → c.leg_of ≡ None → hold_in c.wait ≡ Ready → Stays c (change c)) → {s : Switch} → P None s →
+      ((c : Chan) → is_live c ≡ true → c.leg_of ≡ None → hold_in c.wait ≡ Ready → Stays (Some 0) c (change c)) → {s : Switch} →
+      P None s →
       P (Some 0) (sent_done change uuid s).state
   unfolding sent_done
   sent_kept change uuid stays {s} h = by (slot_named uuid s)
@@ -236,7 +232,7 @@ module _ (conn : ℕ) (P : Fact) (calls : KeptByCalls P) (commands : KeptByComma
           arrived_kept change slot
           (λ c there live.
           stays c live (departed_lone slot slot s (ready_lone (chan_at s slot) is) c there) (left_free slot (after_leaving_others slot s) c there))
-          (calls.departs slot (commands.spent h))
+          (calls.departs slot h (commands.spent h))
       ready slot false is = commands.spent h
 
       by : (found : Option ℕ) → P (Some 0) (sent_at change found s).state
@@ -258,30 +254,32 @@ module _ (conn : ℕ) (P : Fact) (calls : KeptByCalls P) (commands : KeptByComma
   done_plainly_kept (api.UuidPark uuid) short h = sent_kept parked uuid (λ c live lone free. parked_stays c live lone free) h
   done_plainly_kept (api.UuidTransfer uuid to) short h =
       sent_kept (transferred to) uuid (λ c live lone free. transferred_stays to c short live lone free) h
-  done_plainly_kept (api.Hupall cause) {s} short h = commands.spent (calls.hung (map (λ slot. (slot, cause)) (all_slots s)) h)
+  done_plainly_kept (api.Hupall cause) {s} short h = calls.hung (map (λ slot. (slot, cause)) (all_slots s)) h (commands.spent h)
   done_plainly_kept (api.Originate url winner cid_name cid_number timeout) short h =
       originated_kept url winner (record { name = cid_name; number = cid_number }) timeout short h
   done_plainly_kept (api.Usage which) short h = commands.spent h
   done_plainly_kept (api.Unknown name) short h = commands.spent h
 
-  done_kept : (what : Api) {s : Switch} → NamesShort what → P None s → P (Some 0) (done_by conn what s).state
+  pub done_kept : (what : Api) {s : Switch} → NamesShort what → P None s → P (Some 0) (done_by conn what s).state
   done_kept (api.Expand text) {s} short h =
       let given : Text = expanded s.globals.pairs text in
       done_either (nat_lt 65536 (length given)) _ _ (commands.spent h) (done_plainly_kept (expanded_api_of given) (expanded_short given) h)
   done_kept other short h = done_plainly_kept other short h
 
+-- a command may be one of these
+module _ (conn : ℕ) (P : Fact) (calls : KeptByCalls P) (commands : KeptByCommands conn P) where
   responded_kept : (answer : Option Text) {s : Switch} → P (Some 0) s → P (Some 0) (with_response_of conn answer s)
   responded_kept None h = h
-  responded_kept (Some answer) h = commands.answered (api_reply answer) h
+  responded_kept (Some answer) h = commands.gave (api_reply answer) h
 
   replied_kept : (text : Text) {s : Switch} → P (Some 0) s → P (Some 0) (with_reply conn text s)
-  replied_kept text h = commands.answered (reply text []) h
+  replied_kept text h = commands.gave (reply text []) h
 
   dismissed_kept : (why : Parting) (text : Text) {s : Switch} → LeavesBy why → P (Some 0) s → P (Some 0) (after_dismissal conn why text s)
-  dismissed_kept why text leaves h = commands.gave notice (commands.answered (reply text []) (commands.parted why leaves h))
+  dismissed_kept why text leaves h = commands.noticed notice (commands.gave (reply text []) (commands.parted why leaves h))
 
   offered_kept : (given : Text) {s : Switch} → phase_at s conn ≡ phase.Fresh → P (Some 0) s → P (Some 0) (after_password conn given s)
-  offered_kept given {s} fresh h = by (bytes_eq given s.config.settings.password)
+  offered_kept given {s} fresh h = by (bytes_eq given s.settings.password)
     where
       by : (same : Bool) →
           P (Some 0)
@@ -335,7 +333,8 @@ module _ (conn : ℕ) (P : Fact) (calls : KeptByCalls P) (commands : KeptByComma
       by phase.Ready is (command.Auth given) = replied_kept not_found (commands.spent h)
       by phase.Ready is command.Exit = dismissed_kept parting.Exit bye tt (commands.spent h)
       by phase.Ready is (command.Api text) =
-          responded_kept (done_by conn (api_of text) s).answer (done_kept (api_of text) (api_short text) h)
+          responded_kept (done_by conn (api_of text) s).reply
+          (done_kept conn P calls (api_among commands) (api_of text) (api_short text) h)
       by phase.Ready is (command.Event form names) = subscribed_kept form names (commands.spent h)
       by phase.Ready is (command.Nixevent names) = unsubscribed_kept names (commands.spent h)
       by phase.Ready is command.Noevents = silenced_kept (commands.spent h)
@@ -369,4 +368,4 @@ module _ (before : Switch) (P : Fact) (kept : KeptByMoves before P) where
   acted_kept (act.Take conn) h = kept.calls.more (kept.visits.taken conn (spent h))
   acted_kept (act.Close conn how) h = kept.calls.more (closed_kept how conn (spent h))
   acted_kept (act.Work slot) h = worked_kept before P kept.calls kept.dials slot h
-  acted_kept (act.Job number) h = kept.calls.more (job_kept before P kept.calls kept.dials kept.jobs number (spent h))
+  acted_kept (act.Job number) h = kept.calls.more (job_kept before P kept.calls kept.dials kept.jobs number h (spent h))

@@ -5,7 +5,6 @@ use Rattle.std.proofs.lemmas.Bool.{eqb-true, false≢true}
 use Rattle.std.proofs.lemmas.Option.{none-some, same_Some}
 use Rattle.fs_text.specs.Cause.{cause_name}
 use Rattle.fs_text.specs.declared.causes.Cause.{Cause}
-use Rattle.fs_text.specs.declared.causes.Cause.TheVariants.{NormalTemporaryFailure}
 use Rattle.fs_text.specs.declared.states.State.TheVariants.{CsHangup, CsPark}
 use Rattle.fs_bridge.specs.declared.row.BridgeKind.{BridgeKind}
 use Rattle.fs_bridge.specs.declared.row.BridgeKind.TheVariants.{Dial}
@@ -20,8 +19,8 @@ use Rattle.fs_orig.specs.declared.orig.Owner.{Owner}
 use Rattle.fs_orig.specs.declared.orig.Owner.TheVariants as owner
 use Rattle.fs_orig.specs.Changes.{with_answer, with_death}
 use Rattle.fs_orig.specs.Legs.{is_at}
-use Rattle.fs_places.specs.Places.{held_in}
-use Rattle.fs_places.proofs.HeldLemmas.{held_here, held_within}
+use Rattle.fs_seats.specs.Seats.{held_in}
+use Rattle.fs_seats.proofs.HeldLemmas.{held_here, held_within}
 use Rattle.fs_state.specs.Switch.{Switch, chan_at, with_chan, with_bridge, orig_of, without_orig, with_event}
 use Rattle.fs_state.specs.Moves.{with_state_events, with_changed_chan_from, with_changed_chan, after_move_from, after_move}
 use Rattle.fs_state.specs.Moves.{orig_changed_from, orig_changed, leg_changed, its_leg_changed, is_owner, given_up_by, orig_given_up}
@@ -34,14 +33,14 @@ use Rattle.fs_machine.specs.Bridging.{goes_on, after_going_on, bridge_failed_fro
 use Rattle.fs_machine.specs.Joining.{after_leaving}
 use Rattle.fs_machine.specs.Leaving.{after_departure}
 use Rattle.fs_machine.proofs.LeaveLemmas.{departed_kept}
-use Rattle.fs_machine.proofs.Kept.{hold_in, Links, Stays, KeptByTouches}
+use Rattle.fs_machine.proofs.Kept.{Stage, hold_in, Links, Stays, KeptByTouches}
 use Rattle.fs_machine.proofs.StayLemmas.{exchange_lives, moved_there, changed_there, state_told_kept, orig_changed_channels}
 use Rattle.fs_machine.proofs.JoinLemmas.{rest_dials}
 use Rattle.fs_machine.proofs.TieLemmas.{lives_as}
 use Rattle.fs_machine.proofs.HangLemmas.{Settles, Freed, Resumes, Halts, hangups_kept_by}
 use Rattle.fs_machine.proofs.ClosureLemmas.{hangs_up}
 use Rattle.fs_machine.proofs.CutLemmas.{DeadAt, hangup_kills}
-use Rattle.fs_machine.proofs.WonLemmas.{answerer_lives, bridge_won_kept}
+use Rattle.fs_machine.proofs.WonLemmas.{answerer_lives, joinable_won_kept}
 use Rattle.fs_machine.proofs.Walk.{disposed_kept}
 use Rattle.fs_machine.proofs.OwnerLemmas.{KeepsOwner, leg_keeps}
 use Rattle.fs_machine.proofs.BondTables.{NoSlot}
@@ -66,7 +65,7 @@ held_awaits (Legs orig) = refl
 held_awaits Bridged = refl
 held_awaits _ = refl
 
-stays_awaits : (old new : Chan) → Stays old new → AwaitsNoMore old new
+stays_awaits : {b : Stage} (old new : Chan) → Stays b old new → AwaitsNoMore old new
 stays_awaits old new stays number is = (
   sym (held_awaits old.wait) ∙ sym (ap (λ (l : Links). awaited_in l.hold) stays.links) ∙ held_awaits new.wait ∙ is,
   λ live. stays.live ∙ live,
@@ -127,9 +126,9 @@ module _ (open_at : ℕ → Type 0) where
     told = λ event plain h. h;
     globals = λ globals h. h;
     changed = λ slot old new {s = s} there stays h. put slot old new s there (stays_awaits old new stays) h;
-    answers = λ place slot number {s = s} h.
-        orig_changed_await (leg_changed (λ position. with_answer position place) slot) number s
-        (leg_keeps (λ position. with_answer position place) slot (λ position o. refl)) h;
+    answers = λ seat slot number {s = s} h.
+        orig_changed_await (leg_changed (λ position. with_answer position seat) slot) number s
+        (leg_keeps (λ position. with_answer position seat) slot (λ position o. refl)) h;
   }
 
   -- ---- hangups
@@ -291,10 +290,9 @@ won_joins slot leg s can h =
     media_await leg (joined_as Dial slot leg s)
     (peer_await NoSlot leg slot (with_peer slot leg t) (peer_closes slot leg t (answerer_lives slot leg s can) h))
 
-pub won_await : (slot leg : ℕ) (s : Switch) → AwaitsBut slot s → Awaits (after_bridge_win slot leg s)
-won_await slot leg s h =
-    bridge_won_kept (AwaitsBut slot) Awaits (touches_await (λ at. at ≡ slot)) slot leg (won_joins slot leg)
-    (λ t k. failed_await NormalTemporaryFailure slot t k) s h
+pub won_await : (slot leg : ℕ) (s : Switch) → can_join slot leg s ≡ true → AwaitsBut slot s → Awaits (after_bridge_win slot leg s)
+won_await slot leg s can h =
+    joinable_won_kept (AwaitsBut slot) Awaits (touches_await (λ at. at ≡ slot)) slot leg (won_joins slot leg) s can h
 
 pub joined_await : (kind : BridgeKind) (caller answerer : ℕ) (s : Switch) → Awaits s → Awaits (joined_as kind caller answerer s)
 joined_await kind caller answerer s h =
@@ -312,7 +310,7 @@ left_await_all slot s h =
 
 pub departed_await : (slot : ℕ) (s : Switch) → Awaits s → Awaits (after_departure slot s)
 departed_await slot s h =
-    departed_kept Awaits (λ event t k. k) (λ at old new t there how k. settled_await NoSlot (λ place. false) at old new t there how k)
+    departed_kept Awaits (λ event t k. k) (λ at old new t there how k. settled_await NoSlot (λ seat. false) at old new t there how k)
     (λ number t k. k) (hung_await NoSlot) left_await_all slot s h
 
 -- what a slot waited for is gone

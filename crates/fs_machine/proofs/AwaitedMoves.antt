@@ -17,8 +17,8 @@ use Rattle.fs_orig.specs.declared.winner.Winner.{Winner}
 use Rattle.fs_orig.specs.declared.winner.Winner.TheVariants.{App, Route}
 use Rattle.fs_orig.specs.Changes.{new_orig, may_enter_next, at_next_group}
 use Rattle.fs_orig.specs.Plans.{all_behind}
-use Rattle.fs_places.specs.Places.{held_in, with_held}
-use Rattle.fs_places.specs.Rows.{row_of, with_new_row}
+use Rattle.fs_seats.specs.Seats.{held_in, with_held}
+use Rattle.fs_seats.specs.Rows.{row_of, with_new_row}
 use Rattle.fs_state.specs.declared.conn.Conn.{Conn}
 use Rattle.fs_state.specs.declared.conn.Parting.TheVariants as parting
 use Rattle.fs_state.specs.declared.job.JobWork.{JobWork}
@@ -26,7 +26,7 @@ use Rattle.fs_state.specs.declared.job.JobWork.TheVariants.{Sleep, Originate}
 use Rattle.fs_state.specs.Switch.{Switch, chan_at, without_orig, next_orig_number, next_job_number, with_new_job, without_job}
 use Rattle.fs_state.specs.Moves.{after_move}
 use Rattle.fs_state.proofs.LegTables.{Origs}
-use Rattle.fs_machine.specs.declared.originations.Call.{Call}
+use Rattle.fs_machine.specs.declared.call.Call.{Call}
 use Rattle.fs_machine.specs.Texts.{made_text, failed_text}
 use Rattle.fs_machine.specs.Connections.{conn_changed, admitted, parted, owed_since, not_owed, with_subs_changed}
 use Rattle.fs_machine.specs.Originations.{seconds, pair_made, MadeGroup, group_made, won_by, after_winning}
@@ -35,16 +35,18 @@ use Rattle.fs_machine.specs.Bridging.{caller_of, group_dialed}
 use Rattle.fs_machine.specs.Dialing.{tried_by_slot}
 use Rattle.fs_machine.specs.Owing.{after_job_begin, after_job_end}
 use Rattle.fs_chan.specs.Moments.{moment_after}
-use Rattle.fs_machine.proofs.Kept.{hold_in, Fact, KeptByTouches, KeptByCalls, KeptByBirths, DoesJob, raced, KeptByJobs, KeptByDials}
-use Rattle.fs_machine.proofs.Kept.{KeptByCommands, KeptByMoves}
+use Rattle.fs_machine.proofs.Kept.{Stage, hold_in, Fact, KeptByTouches, KeptByCalls, KeptByBirths, DoesJob, raced, KeptByJobs, KeptByDials}
+use Rattle.fs_machine.proofs.Kept.{apart_by, KeptByCommands, KeptByMoves}
+use Rattle.fs_machine.proofs.JoinLemmas.{both_left_kept}
 use Rattle.fs_machine.proofs.StayLemmas.{moved_there}
 use Rattle.fs_machine.proofs.NameLemmas.{leg_chan, far_chan, pair_channels}
 use Rattle.fs_machine.proofs.FrontLemmas.{conn_unread}
 use Rattle.fs_machine.proofs.Walk.{group_made_kept}
-use Rattle.fs_machine.proofs.LegLemmas.{Channels, Roles, roles_of}
+use Rattle.fs_machine.proofs.LegLemmas.{Channels, Roles, roles_of, LegsStand}
 use Rattle.fs_machine.proofs.LegBirths.{pair_roles, pair_spares}
 use Rattle.fs_machine.proofs.OwnerLemmas.{KeepsOwner}
-use Rattle.fs_machine.proofs.BondTables.{NoSlot, Stood, stood}
+use Rattle.fs_machine.proofs.BondTables.{Bonds, NoSlot, Stood, stood}
+use Rattle.fs_machine.proofs.JoinableLemmas.{winner_joins}
 use Rattle.fs_machine.proofs.AwaitedTables.{HasOwner, Await, awaits_none, new_await, left_await, rows_await, stay_new, gone_await}
 use Rattle.fs_machine.proofs.AwaitedLemmas.{Awaits, touches_await, moved_await, orig_changed_await, hung_await, failed_await, won_await}
 use Rattle.fs_machine.proofs.AwaitedLemmas.{joined_await, left_await_all, departed_await, without_await}
@@ -163,7 +165,7 @@ free_wait (Legs orig) is = absurd (cc)
 free_wait Bridged is = refl
 free_wait _ is = refl
 
-free_dials : (c : Chan) → hold_in c.wait ≡ Ready → awaited_by c ≡ None
+pub free_dials : (c : Chan) → hold_in c.wait ≡ Ready → awaited_by c ≡ None
 free_dials c is = free_wait c.wait is
 
 -- ---- jobs and connections
@@ -198,7 +200,8 @@ winning_origs winner slot s = moved_there (λ (t : Switch). t.origs ≡ s.origs)
 
 -- ---- every move
 
-module _ (before : Switch) (Q : Fact) (kept : KeptByMoves before Q)
+module _ (before : Switch) (stand : LegsStand (roles_of before)) (Q : Fact) (kept : KeptByMoves before Q)
+    (bonds : (b : Stage) (t : Switch) → Q b t → Bonds t)
     (jobs_own : (t : Switch) → Q (Some 0) t → (job conn orig : ℕ) (winner : Winner) (caller : Caller) →
     DoesJob t job conn (Originate orig winner caller) → (slot : ℕ) → HasOwner t.origs orig slot → ⊥)
     (fresh : (t : Switch) → Q None t → row_of t.origs (next_orig_number t) ≡ None)
@@ -215,24 +218,28 @@ module _ (before : Switch) (Q : Fact) (kept : KeptByMoves before Q)
       kept.calls.touches.changed slot old new there stays h.0,
       (touches_await NoSlot).changed slot old new {b = b} {s = s} there stays h.1,
     );
-    answers = λ place slot number {b = b} {s = s} h. (
-      kept.calls.touches.answers place slot number h.0,
-      (touches_await NoSlot).answers place slot number {b = b} {s = s} h.1,
+    answers = λ seat slot number {b = b} {s = s} h. (
+      kept.calls.touches.answers seat slot number h.0,
+      (touches_await NoSlot).answers seat slot number {b = b} {s = s} h.1,
     );
   }
 
   calls_wait : KeptByCalls Waiting
   calls_wait = record {
     touches = touches_wait;
-    hung = λ named {s = s} h. (kept.calls.hung named h.0, hung_await NoSlot named s h.1);
-    joined = λ kind caller answerer c d {s = s} can there other one two first second h. (
-      kept.calls.joined kind caller answerer c d can there other one two first second h.0,
+    hung = λ named {s = s} early h. (kept.calls.hung named early.0 h.0, hung_await NoSlot named s h.1);
+    joined = λ kind caller answerer c d {s = s} can there other one two first second was were h. (
+      kept.calls.joined kind caller answerer c d can there other one two first second (apart_by caller was (λ t k. k.0))
+          (apart_by answerer were (λ t k. k.0)) h.0,
       joined_await kind caller answerer s h.1,
     );
-    leaves = λ slot {s = s} lone h. (kept.calls.leaves slot lone h.0, left_await_all slot s h.1);
-    departs = λ slot {s = s} h. (kept.calls.departs slot h.0, departed_await slot s h.1);
+    leaves = λ one other {s = s} first second early h. (
+      kept.calls.leaves one other first second early.0 h.0,
+      both_left_kept Awaits (hung_await NoSlot) (λ slot t apart k. left_await_all slot t k) one other s first second h.1,
+    );
+    departs = λ slot {s = s} early h. (kept.calls.departs slot early.0 h.0, departed_await slot s h.1);
     more = λ h. (kept.calls.more h.0, h.1);
-    gone = λ slot old {s = s} there dead h. (kept.calls.gone slot old there dead h.0, left_await NoSlot s.channels s.origs slot h.1);
+    gone = λ slot old {s = s} there dead early h. (kept.calls.gone slot old there dead early.0 h.0, left_await NoSlot s.channels s.origs slot h.1);
   }
 
   -- ---- jobs
@@ -243,8 +250,8 @@ module _ (before : Switch) (Q : Fact) (kept : KeptByMoves before Q)
       kept.jobs.woken number conn until answer does h.0,
       ended_await number conn answer s h.1,
     );
-    failed = λ job conn winner caller orig cause {s = s} does h. (
-      kept.jobs.failed job conn winner caller orig cause does h.0,
+    failed = λ job conn winner caller orig cause {s = s} does over h. (
+      kept.jobs.failed job conn winner caller orig cause does over h.0,
       ended_await job conn (failed_text cause) (without_orig orig s)
           (unowned_await orig s (jobs_own s h.0 job conn orig winner caller does) h.1),
     );
@@ -286,13 +293,14 @@ module _ (before : Switch) (Q : Fact) (kept : KeptByMoves before Q)
       kept.dials.regroups number o plans caller there next h.0,
       regrouped_await number plans caller s h.1,
     );
-    fails = λ slot orig cause {s = s} waits h. (
-      kept.dials.fails slot orig cause waits h.0,
+    fails = λ slot orig cause {s = s} waits over h. (
+      kept.dials.fails slot orig cause waits over h.0,
       failed_await cause slot (without_orig orig s) (without_await slot orig s waits h.1),
     );
     wins = λ slot orig leg slots waits won h. (
       kept.dials.wins slot orig leg slots waits won h.0,
       won_await slot (unwrap_or leg.slot 0) (without_orig orig (raced slots before))
+          (winner_joins before slot orig leg slots stand won (bonds (Some 0) (raced slots before) h.0) h.1 waits)
           (without_await slot orig (raced slots before) waits h.1),
     );
   }
@@ -318,8 +326,8 @@ module _ (before : Switch) (Q : Fact) (kept : KeptByMoves before Q)
   commands_wait : (conn : ℕ) → KeptByCommands conn Waiting
   commands_wait conn = record {
     spent = λ h. ((kept.commands conn).spent h.0, h.1);
+    noticed = λ frame h. ((kept.commands conn).noticed frame h.0, h.1);
     gave = λ frame h. ((kept.commands conn).gave frame h.0, h.1);
-    answered = λ frame h. ((kept.commands conn).answered frame h.0, h.1);
     asked = λ change {s = s} h. ((kept.commands conn).asked change h.0, conn_await (with_subs_changed change) conn s h.1);
     admitted = λ {s = s} new h. ((kept.commands conn).admitted new h.0, conn_await admitted conn s h.1);
     parted = λ why {s = s} leaves h. ((kept.commands conn).parted why leaves h.0, conn_await (parted why) conn s h.1);

@@ -7,10 +7,10 @@ use Rattle.fs_chan.specs.Bridging.{awaited_by}
 use Rattle.fs_chan.specs.Changes.{is_live}
 use Rattle.fs_orig.specs.declared.orig.Orig.{Orig}
 use Rattle.fs_orig.specs.declared.orig.Owner.TheVariants as owner
-use Rattle.fs_places.specs.Places.{held_in, with_held}
-use Rattle.fs_places.specs.Rows.{row_of, with_row, without_row, with_new_row}
-use Rattle.fs_places.proofs.RowLemmas.{row_of-with_row_same, row_of-with_row_other, row_of-without_row_other, row_of-with_new_row_other}
-use Rattle.fs_places.proofs.TableLemmas.{row_found, IsWrittenOrKept, written_or_kept, kept_without}
+use Rattle.fs_seats.specs.Seats.{held_in, with_held}
+use Rattle.fs_seats.specs.Rows.{row_of, with_row, without_row, with_new_row}
+use Rattle.fs_seats.proofs.RowLemmas.{row_of-with_row_same, row_of-with_row_other, row_of-without_row_other, row_of-with_new_row_other}
+use Rattle.fs_seats.proofs.TableLemmas.{row_found, IsWrittenOrKept, written_or_kept, kept_without}
 use Rattle.fs_state.proofs.LegTables.{Origs}
 use Rattle.fs_machine.proofs.LegLemmas.{Channels}
 use Rattle.fs_machine.proofs.BondTables.{NoSlot, Stood, stood}
@@ -37,58 +37,58 @@ awaits_none old new none number is = absurd (none-some number (sym none ∙ is))
 
 -- ---- channels
 
-pub put_await : (open_at : ℕ → Type 0) (channels : Channels) (origs : Origs) (place : ℕ) (old new : Chan) →
-    held_in channels place ≡ Some old →
-    AwaitsNoMore old new → Await open_at channels origs → Await open_at (with_held channels place (Some new)) origs
-put_await open_at channels origs place old new there fewer h = record {
+pub put_await : (open_at : ℕ → Type 0) (channels : Channels) (origs : Origs) (seat : ℕ) (old new : Chan) →
+    held_in channels seat ≡ Some old →
+    AwaitsNoMore old new → Await open_at channels origs → Await open_at (with_held channels seat (Some new)) origs
+put_await open_at channels origs seat old new there fewer h = record {
   own = λ slot number c is waits.
       let was = before slot number c is waits in h.own slot number was.0 was.1 was.2.0;
   live = λ slot number c is waits.
       let was = before slot number c is waits in was.2.1 (h.live slot number was.0 was.1 was.2.0);
 }
   where
-    before : (slot number : ℕ) (c : Chan) → held_in (with_held channels place (Some new)) slot ≡ Some c → awaited_by c ≡ Some number →
+    before : (slot number : ℕ) (c : Chan) → held_in (with_held channels seat (Some new)) slot ≡ Some c → awaited_by c ≡ Some number →
         (d : Chan) × (held_in channels slot ≡ Some d) × ((awaited_by d ≡ Some number) × (is_live d ≡ true → is_live c ≡ true))
-    before slot number c is waits = by (stood channels place old new slot c there is)
+    before slot number c is waits = by (stood channels seat old new slot c there is)
       where
         either : (was : Chan) → held_in channels slot ≡ Some was →
-            ((slot ≡ place) × (was ≡ old) × (c ≡ new)) ⊎ ((slot ≡ place → ⊥) × (c ≡ was)) →
+            ((slot ≡ seat) × (was ≡ old) × (c ≡ new)) ⊎ ((slot ≡ seat → ⊥) × (c ≡ was)) →
             (d : Chan) × (held_in channels slot ≡ Some d) × ((awaited_by d ≡ Some number) × (is_live d ≡ true → is_live c ≡ true))
         either was at (inl here) =
             let kept = fewer number (sym (ap awaited_by here.2) ∙ waits) in
             (was, at, (ap awaited_by here.1 ∙ kept.0, λ live. ap is_live here.2 ∙ kept.1 (sym (ap is_live here.1) ∙ live)))
         either was at (inr other) = (was, at, (sym (ap awaited_by other.1) ∙ waits, λ live. ap is_live other.1 ∙ live))
 
-        by : Stood channels place old new slot c →
+        by : Stood channels seat old new slot c →
             (d : Chan) × (held_in channels slot ≡ Some d) × ((awaited_by d ≡ Some number) × (is_live d ≡ true → is_live c ≡ true))
         by s = either s.was s.there s.how
 
 -- something comes to a slot that waits for nothing
-pub new_await : (open_at : ℕ → Type 0) (channels : Channels) (origs : Origs) (place : ℕ) (new : Chan) → awaited_by new ≡ None →
-    Await open_at channels origs → Await open_at (with_held channels place (Some new)) origs
-new_await open_at channels origs place new none h = record {
-  own = λ slot number c is waits. own slot number c waits (written_or_kept channels place (Some new) slot c is);
-  live = λ slot number c is waits. live slot number c waits (written_or_kept channels place (Some new) slot c is);
+pub new_await : (open_at : ℕ → Type 0) (channels : Channels) (origs : Origs) (seat : ℕ) (new : Chan) → awaited_by new ≡ None →
+    Await open_at channels origs → Await open_at (with_held channels seat (Some new)) origs
+new_await open_at channels origs seat new none h = record {
+  own = λ slot number c is waits. own slot number c waits (written_or_kept channels seat (Some new) slot c is);
+  live = λ slot number c is waits. live slot number c waits (written_or_kept channels seat (Some new) slot c is);
 }
   where
     no : (number : ℕ) (c : Chan) → Some new ≡ Some c → awaited_by c ≡ Some number → ⊥
     no number c same waits = none-some number (sym none ∙ (ap awaited_by (same_Some new c same) ∙ waits))
 
-    own : (slot number : ℕ) (c : Chan) → awaited_by c ≡ Some number → IsWrittenOrKept channels place (Some new) slot c →
+    own : (slot number : ℕ) (c : Chan) → awaited_by c ≡ Some number → IsWrittenOrKept channels seat (Some new) slot c →
         open_at slot ⊎ HasOwner origs number slot
     own slot number c waits (inl here) = absurd (no number c here.1 waits)
     own slot number c waits (inr kept) = h.own slot number c kept.1 waits
 
-    live : (slot number : ℕ) (c : Chan) → awaited_by c ≡ Some number → IsWrittenOrKept channels place (Some new) slot c → is_live c ≡ true
+    live : (slot number : ℕ) (c : Chan) → awaited_by c ≡ Some number → IsWrittenOrKept channels seat (Some new) slot c → is_live c ≡ true
     live slot number c waits (inl here) = absurd (no number c here.1 waits)
     live slot number c waits (inr kept) = h.live slot number c kept.1 waits
 
 -- one goes
-pub left_await : (open_at : ℕ → Type 0) (channels : Channels) (origs : Origs) (place : ℕ) → Await open_at channels origs →
-    Await open_at (with_held channels place None) origs
-left_await open_at channels origs place h = record {
-  own = λ slot number c is waits. h.own slot number c (kept_without channels place slot c is).1 waits;
-  live = λ slot number c is waits. h.live slot number c (kept_without channels place slot c is).1 waits;
+pub left_await : (open_at : ℕ → Type 0) (channels : Channels) (origs : Origs) (seat : ℕ) → Await open_at channels origs →
+    Await open_at (with_held channels seat None) origs
+left_await open_at channels origs seat h = record {
+  own = λ slot number c is waits. h.own slot number c (kept_without channels seat slot c is).1 waits;
+  live = λ slot number c is waits. h.live slot number c (kept_without channels seat slot c is).1 waits;
 }
 
 -- a slot is closed whose channel waits for nothing

@@ -11,12 +11,12 @@ use Rattle.fs_bridge.specs.Closure.{peer_in}
 use Rattle.fs_chan.specs.declared.chan.Chan.{Chan}
 use Rattle.fs_chan.specs.Bridging.{bridged}
 use Rattle.fs_chan.specs.Changes.{is_live}
-use Rattle.fs_places.specs.Places.{held_in, with_held}
-use Rattle.fs_places.proofs.HeldLemmas.{IsFree, held_here, held_there, held_within}
-use Rattle.fs_places.proofs.TableLemmas.{IsWrittenOrKept, written_or_kept, kept_without, still_there, not_free, one_there}
+use Rattle.fs_seats.specs.Seats.{held_in, with_held}
+use Rattle.fs_seats.proofs.HeldLemmas.{IsFree, held_here, held_there, held_within}
+use Rattle.fs_seats.proofs.TableLemmas.{IsWrittenOrKept, written_or_kept, kept_without, still_there, not_free, one_there}
 use Rattle.fs_state.specs.Switch.{Switch}
 use Rattle.fs_state.specs.Bridging.{peer_of}
-use Rattle.fs_machine.specs.declared.originations.Call.{Call}
+use Rattle.fs_machine.specs.declared.call.Call.{Call}
 use Rattle.fs_machine.specs.Originations.{leg_end, pair_made}
 use Rattle.fs_machine.proofs.Kept.{IsApt}
 use Rattle.fs_machine.proofs.LegLemmas.{Channels}
@@ -35,33 +35,33 @@ as_bonds t u channels same h =
 abbrev AllApt : Channels → Type 0
 AllApt channels = (slot : ℕ) (c : Chan) → held_in channels slot ≡ Some c → IsApt c
 
-apt_put : (channels : Channels) (place : ℕ) (old new : Chan) → held_in channels place ≡ Some old → IsApt new → AllApt channels →
-    AllApt (with_held channels place (Some new))
-apt_put channels place old new there apt h slot d is = by (stood channels place old new slot d there is)
+apt_put : (channels : Channels) (seat : ℕ) (old new : Chan) → held_in channels seat ≡ Some old → IsApt new → AllApt channels →
+    AllApt (with_held channels seat (Some new))
+apt_put channels seat old new there apt h slot d is = by (stood channels seat old new slot d there is)
   where
-    by : Stood channels place old new slot d → IsApt d
+    by : Stood channels seat old new slot d → IsApt d
     by was = how was.how
       where
-        how : ((slot ≡ place) × (was.was ≡ old) × (d ≡ new)) ⊎ ((slot ≢ place) × (d ≡ was.was)) → IsApt d
+        how : ((slot ≡ seat) × (was.was ≡ old) × (d ≡ new)) ⊎ ((slot ≢ seat) × (d ≡ was.was)) → IsApt d
         how (inl e) = subst IsApt (sym e.2) apt
         how (inr e) = subst IsApt (sym e.1) (h slot was.was was.there)
 
 -- and names the peer that it named
-pub same_put : (channels : Channels) (bridges : BridgeRows) (place : ℕ) (old new : Chan) → held_in channels place ≡ Some old → IsApt new →
+pub same_put : (channels : Channels) (bridges : BridgeRows) (seat : ℕ) (old new : Chan) → held_in channels seat ≡ Some old → IsApt new →
     new.uuid ≡ old.uuid → new.peer ≡ old.peer → (is_live old ≡ true → is_live new ≡ true) → BondsIn channels bridges →
-    BondsIn (with_held channels place (Some new)) bridges
-same_put channels bridges place old new there apt uuid peer live h = record {
-  apt = apt_put channels place old new there apt h.apt;
+    BondsIn (with_held channels seat (Some new)) bridges
+same_put channels bridges seat old new there apt uuid peer live h = record {
+  apt = apt_put channels seat old new there apt h.apt;
   rows = h.rows;
-  legs = λ slot row part. peer_put channels place old new slot (peer_in row slot) there (λ same. (live, peer)) (λ same. uuid)
+  legs = λ slot row part. peer_put channels seat old new slot (peer_in row slot) there (λ same. (live, peer)) (λ same. uuid)
       (h.legs slot row part);
-  back = λ slot d is some. back_of slot d (stood channels place old new slot d there is) some;
+  back = λ slot d is some. back_of slot d (stood channels seat old new slot d there is) some;
 }
   where
-    back_of : (slot : ℕ) (d : Chan) → Stood channels place old new slot d → is_some d.peer ≡ true → is_some (part_of slot bridges) ≡ true
+    back_of : (slot : ℕ) (d : Chan) → Stood channels seat old new slot d → is_some d.peer ≡ true → is_some (part_of slot bridges) ≡ true
     back_of slot d was some = how was.how
       where
-        how : ((slot ≡ place) × (was.was ≡ old) × (d ≡ new)) ⊎ ((slot ≢ place) × (d ≡ was.was)) → is_some (part_of slot bridges) ≡ true
+        how : ((slot ≡ seat) × (was.was ≡ old) × (d ≡ new)) ⊎ ((slot ≢ seat) × (d ≡ was.was)) → is_some (part_of slot bridges) ≡ true
         how (inl e) =
             h.back slot was.was was.there
             (ap is_some (ap (λ (c : Chan). c.peer) e.1 ∙ (sym peer ∙ ap (λ (c : Chan). c.peer) (sym e.2))) ∙ some)
@@ -70,60 +70,60 @@ same_put channels bridges place old new there apt uuid peer live h = record {
 -- ---- channels come and go
 
 -- one comes into a free slot, and names no peer
-free_put : (channels : Channels) (bridges : BridgeRows) (place : ℕ) (new : Chan) → held_in channels place ≡ None → IsApt new →
-    new.peer ≡ None → BondsIn channels bridges → BondsIn (with_held channels place (Some new)) bridges
-free_put channels bridges place new free apt peerless h = record {
-  apt = λ slot d is. apt_of slot d (written_or_kept channels place (Some new) slot d is);
+free_put : (channels : Channels) (bridges : BridgeRows) (seat : ℕ) (new : Chan) → held_in channels seat ≡ None → IsApt new →
+    new.peer ≡ None → BondsIn channels bridges → BondsIn (with_held channels seat (Some new)) bridges
+free_put channels bridges seat new free apt peerless h = record {
+  apt = λ slot d is. apt_of slot d (written_or_kept channels seat (Some new) slot d is);
   rows = h.rows;
   legs = λ slot row part.
       let n : NamesPeer channels slot (peer_in row slot) = h.legs slot row part in
       record {
         chan = n.chan;
-        there = still_there channels place (Some new) slot n.chan (not_free channels place slot n.chan free n.there) n.there;
+        there = still_there channels seat (Some new) slot n.chan (not_free channels seat slot n.chan free n.there) n.there;
         live = n.live;
         peer = n.peer;
-        peer_there = still_there channels place (Some new) (peer_in row slot) n.peer
-            (not_free channels place (peer_in row slot) n.peer free n.peer_there) n.peer_there;
+        peer_there = still_there channels seat (Some new) (peer_in row slot) n.peer
+            (not_free channels seat (peer_in row slot) n.peer free n.peer_there) n.peer_there;
         names = n.names;
       };
-  back = λ slot d is some. back_of slot d (written_or_kept channels place (Some new) slot d is) some;
+  back = λ slot d is some. back_of slot d (written_or_kept channels seat (Some new) slot d is) some;
 }
   where
-    apt_of : (slot : ℕ) (d : Chan) → IsWrittenOrKept channels place (Some new) slot d → IsApt d
+    apt_of : (slot : ℕ) (d : Chan) → IsWrittenOrKept channels seat (Some new) slot d → IsApt d
     apt_of slot d (inl here) = subst IsApt (same_Some new d here.1) apt
     apt_of slot d (inr kept) = h.apt slot d kept.1
 
-    back_of : (slot : ℕ) (d : Chan) → IsWrittenOrKept channels place (Some new) slot d → is_some d.peer ≡ true →
+    back_of : (slot : ℕ) (d : Chan) → IsWrittenOrKept channels seat (Some new) slot d → is_some d.peer ≡ true →
         is_some (part_of slot bridges) ≡ true
     back_of slot d (inl here) some =
         absurd (false≢true (sym (ap is_some (ap (λ (c : Chan). c.peer) (sym (same_Some new d here.1)) ∙ peerless)) ∙ some))
     back_of slot d (inr kept) some = h.back slot d kept.1 some
 
 -- one that does not live is gone
-pub gone_put : (channels : Channels) (bridges : BridgeRows) (place : ℕ) (old : Chan) → held_in channels place ≡ Some old →
-    is_live old ≡ false → BondsIn channels bridges → BondsIn (with_held channels place None) bridges
-gone_put channels bridges place old there dead h = record {
-  apt = λ slot d is. h.apt slot d (kept_without channels place slot d is).1;
+pub gone_put : (channels : Channels) (bridges : BridgeRows) (seat : ℕ) (old : Chan) → held_in channels seat ≡ Some old →
+    is_live old ≡ false → BondsIn channels bridges → BondsIn (with_held channels seat None) bridges
+gone_put channels bridges seat old there dead h = record {
+  apt = λ slot d is. h.apt slot d (kept_without channels seat slot d is).1;
   rows = h.rows;
   legs = λ slot row part.
       let other : ℕ = peer_in row slot in
       let n : NamesPeer channels slot other = h.legs slot row part in
       record {
         chan = n.chan;
-        there = still_there channels place None slot n.chan (lives slot row part) n.there;
+        there = still_there channels seat None slot n.chan (lives slot row part) n.there;
         live = n.live;
         peer = n.peer;
-        peer_there = still_there channels place None other n.peer
+        peer_there = still_there channels seat None other n.peer
             (lives other row (leg_part bridges slot other row h.rows part (peer_leg row slot))) n.peer_there;
         names = n.names;
       };
-  back = λ slot d is some. h.back slot d (kept_without channels place slot d is).1 some;
+  back = λ slot d is some. h.back slot d (kept_without channels seat slot d is).1 some;
 }
   where
-    lives : (slot : ℕ) (row : Row) → part_of slot bridges ≡ Some row → slot ≢ place
+    lives : (slot : ℕ) (row : Row) → part_of slot bridges ≡ Some row → slot ≢ seat
     lives slot row part same =
         let n : NamesPeer channels slot (peer_in row slot) = h.legs slot row part in
-        let is : old ≡ n.chan = one_there channels place slot old n.chan there n.there same in
+        let is : old ≡ n.chan = one_there channels seat slot old n.chan there n.there same in
         true≢false (sym n.live ∙ (ap is_live (sym is) ∙ dead))
 
 -- the two of a pair name no peers

@@ -21,7 +21,7 @@ use Rattle.fs_chan.specs.Bridging.{awaited_in, awaited_by, unbridged}
 use Rattle.fs_chan.specs.Changes.{is_live, at_rest, parked, hung_up}
 use Rattle.fs_orig.specs.declared.orig.Orig.{Orig}
 use Rattle.fs_orig.specs.Changes.{with_death}
-use Rattle.fs_places.specs.Places.{held_in, with_held}
+use Rattle.fs_seats.specs.Seats.{held_in, with_held}
 use Rattle.fs_state.specs.Switch.{Switch, chan_at, with_chan, bridge_at, without_bridge, with_event, orig_of}
 use Rattle.fs_state.specs.Moves.{with_changed_chan_from, with_changed_chan, after_move, after_one_hangup, its_leg_changed, leg_changed}
 use Rattle.fs_state.specs.Moves.{application_event, running_at, with_state_events, orig_changed_from, hangup_event, orig_given_up}
@@ -34,7 +34,8 @@ use Rattle.fs_state.specs.Hangups.{world_of, living_of, lives_at, has_peer, Ende
 use Rattle.fs_state.specs.Hangups.{with_end_told, untold_by}
 use Rattle.fs_state.specs.Hangups.{after_member, after_members, after_outliving, after_survival, after_survivals, after_closure}
 use Rattle.fs_state.specs.Hangups.{after_hangups}
-use Rattle.fs_machine.proofs.Kept.{hold_in, is_idle, IsApt}
+use Rattle.fs_machine.specs.Sound.{is_idle}
+use Rattle.fs_machine.proofs.Kept.{hold_in, IsApt}
 use Rattle.fs_machine.proofs.StayLemmas.{differing_kept, state_told_kept, changed_there, moved_there}
 use Rattle.fs_machine.proofs.JoinLemmas.{DialsNone, rest_dials}
 use Rattle.fs_machine.proofs.LegLemmas.{Channels}
@@ -108,10 +109,10 @@ changed_bridges change slot s = by (chan_at s slot)
     by (Some c) = refl
 
 -- where nothing stands in a slot, it need not be open
-none_open : (open_at rest : ℕ → Type 0) (channels : Channels) (bridges : BridgeRows) (place : ℕ) → held_in channels place ≡ None →
-    ((slot : ℕ) → open_at slot → (slot ≡ place) ⊎ rest slot) → ((slot : ℕ) → rest slot → open_at slot) →
+none_open : (open_at rest : ℕ → Type 0) (channels : Channels) (bridges : BridgeRows) (seat : ℕ) → held_in channels seat ≡ None →
+    ((slot : ℕ) → open_at slot → (slot ≡ seat) ⊎ rest slot) → ((slot : ℕ) → rest slot → open_at slot) →
     OpenBonds open_at channels bridges → OpenBonds rest channels bridges
-none_open open_at rest channels bridges place none split whole h = record {
+none_open open_at rest channels bridges seat none split whole h = record {
   apt = h.apt;
   rows = h.rows;
   legs = h.legs;
@@ -148,19 +149,19 @@ nothing_apt d none lone = record {
   held = λ some. absurd (false≢true (sym (ap is_some none) ∙ some));
 }
 
-freed_bonds : (open_at rest : ℕ → Type 0) (cause : Cause) (place : ℕ) (t : Switch) → part_of place t.bridges ≡ None →
-    ((slot : ℕ) → open_at slot → (slot ≡ place) ⊎ rest slot) → ((slot : ℕ) → rest slot → open_at slot) →
+freed_bonds : (open_at rest : ℕ → Type 0) (cause : Cause) (seat : ℕ) (t : Switch) → part_of seat t.bridges ≡ None →
+    ((slot : ℕ) → open_at slot → (slot ≡ seat) ⊎ rest slot) → ((slot : ℕ) → rest slot → open_at slot) →
     OpenBonds open_at t.channels t.bridges →
-    OpenBonds rest (with_changed_chan (unbridged cause) place t).channels (with_changed_chan (unbridged cause) place t).bridges
-freed_bonds open_at rest cause place t none split whole h = by (chan_at t place) refl
+    OpenBonds rest (with_changed_chan (unbridged cause) seat t).channels (with_changed_chan (unbridged cause) seat t).bridges
+freed_bonds open_at rest cause seat t none split whole h = by (chan_at t seat) refl
   where
-    by : (found : Option Chan) → chan_at t place ≡ found →
-        OpenBonds rest (with_changed_chan_from (unbridged cause) place found t).channels
-        (with_changed_chan_from (unbridged cause) place found t).bridges
-    by None is = none_open open_at rest t.channels t.bridges place is split whole h
+    by : (found : Option Chan) → chan_at t seat ≡ found →
+        OpenBonds rest (with_changed_chan_from (unbridged cause) seat found t).channels
+        (with_changed_chan_from (unbridged cause) seat found t).bridges
+    by None is = none_open open_at rest t.channels t.bridges seat is split whole h
     by (Some c) is =
-        lone_put open_at rest t.channels t.bridges place c (unbridged cause c) is none
-        (peerless_apt c (unbridged cause c) refl refl refl refl (λ none. none) (h.apt place c is)) refl split whole h
+        lone_put open_at rest t.channels t.bridges seat c (unbridged cause c) is none
+        (peerless_apt c (unbridged cause c) refl refl refl refl (λ none. none) (h.apt seat c is)) refl split whole h
 
 -- bridges that stood when the hangup began have ended
 pub record Ending (s t : Switch) : Type 0 where
@@ -271,20 +272,51 @@ all_end (e ∷ ended) s t fit stood h =
         (rest.less e.0 (end_gone s t fit e.0 e.1 at.0 at.1 h))
     by x (inr one) rest = rest.gone x one
 
+-- a bridge that stands is one of those that end, or stands still
+ends_part : (s : Switch) → RowsFit s.bridges → (slot : ℕ) (row : Row) → bridge_at s slot ≡ Some row → (ended : List Ended) (t : Switch) →
+    ((e : Ended) → IsOneOf e ended → (at : ℕ) × (bridge_at s at ≡ Some e.0)) → Ending s t → bridge_at t slot ≡ Some row →
+    ((e : Ended) × IsOneOf e ended × (e.0 ≡ row)) ⊎ (bridge_at (after_ends ended t) slot ≡ Some row)
+ends_part s fit slot row was [] t stood h part = inr part
+ends_part s fit slot row was (e ∷ ended) t stood h part =
+    by
+    (λ still. ends_part s fit slot row was ended (after_end e.0 e.1 t) (λ x one. stood x (inr one))
+    (end_bonds s t fit e.0 e.1 at.0 at.1 h) still) (has_number e.0.number row) refl
+  where
+    at : (seat : ℕ) × (bridge_at s seat ≡ Some e.0)
+    at = stood e (inl refl)
+
+    later : ((x : Ended) × IsOneOf x ended × (x.0 ≡ row)) ⊎ (bridge_at (after_ends ended (after_end e.0 e.1 t)) slot ≡ Some row) →
+        ((x : Ended) × IsOneOf x (e ∷ ended) × (x.0 ≡ row)) ⊎ (bridge_at (after_ends ended (after_end e.0 e.1 t)) slot ≡ Some row)
+    later (inl found) = inl (found.0, inr found.1, found.2)
+    later (inr there) = inr there
+
+    by : ((bridge_at (after_end e.0 e.1 t) slot ≡ Some row) →
+        ((x : Ended) × IsOneOf x ended × (x.0 ≡ row)) ⊎ (bridge_at (after_ends ended (after_end e.0 e.1 t)) slot ≡ Some row)) →
+        (test : Bool) → has_number e.0.number row ≡ test →
+        ((x : Ended) × IsOneOf x (e ∷ ended) × (x.0 ≡ row)) ⊎ (bridge_at (after_ends ended (after_end e.0 e.1 t)) slot ≡ Some row)
+    by rest true is = inl (e, inl refl, fit.numbers at.0 slot e.0 row at.1 was (sym (eqb-true row.number e.0.number is)))
+    by rest false is =
+        later
+        (rest
+        (ap (part_of slot)
+        (changed_bridges (unbridged e.1) e.0.answerer (with_changed_chan (unbridged e.1) e.0.caller (without_bridge e.0.number t))
+        ∙ changed_bridges (unbridged e.1) e.0.caller (without_bridge e.0.number t))
+        ∙ stays_part e.0.number slot t.bridges row h.bonds.rows.sound part is))
+
 -- ---- whoever hangs up, and whoever does not
 
 -- a channel in a slot is no leg of an origination
 abbrev pub LoneIn : Channels → ℕ → Type 0
 LoneIn channels slot = (c : Chan) → held_in channels slot ≡ Some c → c.leg_of ≡ None
 
-pub lone_kept : (channels : Channels) (slot place : ℕ) (old new : Chan) → held_in channels place ≡ Some old →
-    (old.leg_of ≡ None → new.leg_of ≡ None) → LoneIn channels slot → LoneIn (with_held channels place (Some new)) slot
-lone_kept channels slot place old new there keeps h c is = by (stood channels place old new slot c there is)
+pub lone_kept : (channels : Channels) (slot seat : ℕ) (old new : Chan) → held_in channels seat ≡ Some old →
+    (old.leg_of ≡ None → new.leg_of ≡ None) → LoneIn channels slot → LoneIn (with_held channels seat (Some new)) slot
+lone_kept channels slot seat old new there keeps h c is = by (stood channels seat old new slot c there is)
   where
-    by : Stood channels place old new slot c → c.leg_of ≡ None
+    by : Stood channels seat old new slot c → c.leg_of ≡ None
     by was = how was.how
       where
-        how : ((slot ≡ place) × (was.was ≡ old) × (c ≡ new)) ⊎ ((slot ≢ place) × (c ≡ was.was)) → c.leg_of ≡ None
+        how : ((slot ≡ seat) × (was.was ≡ old) × (c ≡ new)) ⊎ ((slot ≢ seat) × (c ≡ was.was)) → c.leg_of ≡ None
         how (inl e) =
             ap (λ (d : Chan). d.leg_of) e.2 ∙ keeps (ap (λ (d : Chan). d.leg_of) (sym e.1) ∙ h was.was was.there)
         how (inr e) = ap (λ (d : Chan). d.leg_of) e.1 ∙ h was.was was.there
@@ -293,11 +325,11 @@ lone_kept channels slot place old new there keeps h c is = by (stood channels pl
 abbrev AreLone : List (ℕ × After) → Switch → Type 0
 AreLone survivors t = (one : ℕ × After) → IsOneOf one survivors → LoneIn t.channels one.0
 
-freed_lone : (survivors : List (ℕ × After)) (cause : Cause) (place : ℕ) (t : Switch) → AreLone survivors t →
-    AreLone survivors (with_changed_chan (unbridged cause) place t)
-freed_lone survivors cause place t h =
-    changed_there (AreLone survivors) (unbridged cause) place t
-    (λ c is one among. lone_kept t.channels one.0 place c (unbridged cause c) is (λ none. none) (h one among)) h
+freed_lone : (survivors : List (ℕ × After)) (cause : Cause) (seat : ℕ) (t : Switch) → AreLone survivors t →
+    AreLone survivors (with_changed_chan (unbridged cause) seat t)
+freed_lone survivors cause seat t h =
+    changed_there (AreLone survivors) (unbridged cause) seat t
+    (λ c is one among. lone_kept t.channels one.0 seat c (unbridged cause c) is (λ none. none) (h one among)) h
 
 ends_lone : (survivors : List (ℕ × After)) (ended : List Ended) (t : Switch) → AreLone survivors t → AreLone survivors (after_ends ended t)
 ends_lone survivors [] t h = h
@@ -329,15 +361,15 @@ hung_bridges cause slot s = by (chan_at s slot)
 
 -- a channel in no bridge comes to name no peer
 module _ (survivors : List (ℕ × After)) (bridges : BridgeRows) where
-  put_ended : (place : ℕ) (old new : Chan) (t : Switch) → chan_at t place ≡ Some old → part_of place bridges ≡ None → IsApt new →
+  put_ended : (seat : ℕ) (old new : Chan) (t : Switch) → chan_at t seat ≡ Some old → part_of seat bridges ≡ None → IsApt new →
       new.peer ≡ None → (old.leg_of ≡ None → new.leg_of ≡ None) → AllEnd survivors bridges t →
-      AllEnd survivors bridges (with_chan place (Some new) t)
-  put_ended place old new t there none apt peerless keeps h = record {
-    bonds = closed (with_held t.channels place (Some new)) t.bridges
-        (lone_put NoSlot NoSlot t.channels t.bridges place old new there (ap (part_of place) h.same ∙ none) apt peerless
+      AllEnd survivors bridges (with_chan seat (Some new) t)
+  put_ended seat old new t there none apt peerless keeps h = record {
+    bonds = closed (with_held t.channels seat (Some new)) t.bridges
+        (lone_put NoSlot NoSlot t.channels t.bridges seat old new there (ap (part_of seat) h.same ∙ none) apt peerless
         (λ slot no. absurd no) (λ slot no. absurd no) (opened t.channels t.bridges h.bonds));
     same = h.same;
-    lone = λ one among. lone_kept t.channels one.0 place old new there keeps (h.lone one among);
+    lone = λ one among. lone_kept t.channels one.0 seat old new there keeps (h.lone one among);
   }
 
   told_ended : (event : Event) (t : Switch) → AllEnd survivors bridges t → AllEnd survivors bridges (with_event event t)
@@ -459,9 +491,9 @@ module _ (named : Members) (s : Switch) (h : Bonds s) where
           let same : row ≡ part.0 = same_Some row part.0 (sym (all.ending.less one.0 row is) ∙ part.1) in
           absurd (out_of_ended one.0 row (subst (HasEnded named s) (sym same) part.2) is)
 
-  closure_bonds : Bonds (after_closure (closure_of (world_of s) (living_of s named)) s)
+  closure_ended : AllEnd e.survivors (after_ends e.ended s).bridges (after_closure (closure_of (world_of s) (living_of s named)) s)
   unfolding e
-  closure_bonds =
+  closure_ended =
       let u : Switch = after_ends e.ended s in
       let v : Switch = after_members e.ended e.members u in
       let lone : AreLone e.survivors u =
@@ -469,10 +501,26 @@ module _ (named : Members) (s : Switch) (h : Bonds s) where
       let first : AllEnd e.survivors u.bridges u = record { bonds = all.ending.bonds; same = refl; lone = lone } in
       let second : AllEnd e.survivors u.bridges v =
       members_ended e.survivors u.bridges e.ended e.members u (λ m one. member_out m one) first in
-      let third : AllEnd e.survivors u.bridges (after_survivals e.survivors v) =
-      survivals_ended e.survivors u.bridges e.survivors v (λ one among. (among, survivor_out one among)) second in
-      third.bonds
+      survivals_ended e.survivors u.bridges e.survivors v (λ one among. (among, survivor_out one among)) second
+
+  -- a bridge that stood has ended, or stands
+  closure_part : (slot : ℕ) (row : Row) → bridge_at s slot ≡ Some row →
+      HasEnded named s row ⊎ (bridge_at (after_closure (closure_of (world_of s) (living_of s named)) s) slot ≡ Some row)
+  unfolding e
+  closure_part slot row part =
+      by (ends_part s h.rows slot row part e.ended s (λ x one. end_stands named s x one) (record { bonds = h; less = λ at r is. is }) part)
+    where
+      by : ((x : Ended) × IsOneOf x (closure_of (world_of s) (living_of s named)).ended × (x.0 ≡ row))
+          ⊎ (bridge_at (after_ends (closure_of (world_of s) (living_of s named)).ended s) slot ≡ Some row) →
+          HasEnded named s row ⊎ (bridge_at (after_closure (closure_of (world_of s) (living_of s named)) s) slot ≡ Some row)
+      by (inl ended) = inl (record { end = ended.0; one = ended.1; is = ended.2 })
+      by (inr still) = inr (ap (part_of slot) closure_ended.same ∙ still)
 
 pub hung_bonds : (named : Members) (s : Switch) → Bonds s → Bonds (after_hangups named s)
 unfolding after_hangups
-hung_bonds named s h = closure_bonds named s h
+hung_bonds named s h = (closure_ended named s h).bonds
+
+pub hung_part : (named : Members) (s : Switch) → Bonds s → (slot : ℕ) (row : Row) → bridge_at s slot ≡ Some row →
+    HasEnded named s row ⊎ (bridge_at (after_hangups named s) slot ≡ Some row)
+unfolding after_hangups
+hung_part named s h slot row part = closure_part named s h slot row part

@@ -17,7 +17,7 @@ use Rattle.fs_chan.specs.declared.chan.Chan.{Chan}
 use Rattle.fs_chan.specs.declared.peer.Peer.{Peer}
 use Rattle.fs_chan.specs.Bridging.{awaited_by, unbridged, at_leisure}
 use Rattle.fs_chan.specs.Changes.{is_live, at_rest, parked}
-use Rattle.fs_places.specs.Places.{held_in}
+use Rattle.fs_seats.specs.Seats.{held_in}
 use Rattle.fs_state.specs.declared.event.Event.{Event}
 use Rattle.fs_state.specs.Switch.{Switch, chan_at, with_chan, bridge_at, without_bridge, with_event}
 use Rattle.fs_state.specs.Moves.{application_event, running_at, with_changed_chan, after_move, orig_given_up}
@@ -45,38 +45,38 @@ abbrev pub Holds : (Chan → Type 0) → Switch → ℕ → Type 0
 Holds Q t slot = (c : Chan) → chan_at t slot ≡ Some c → Q c
 
 -- and stays where it holds of whatever a channel becomes of which it held
-pub holds_put : (Q : Chan → Type 0) (t : Switch) (slot place : ℕ) (old new : Chan) → chan_at t place ≡ Some old → (Q old → Q new) →
-    Holds Q t slot → Holds Q (with_chan place (Some new) t) slot
-holds_put Q t slot place old new there keeps h c is = by (stood t.channels place old new slot c there is)
+pub holds_put : (Q : Chan → Type 0) (t : Switch) (slot seat : ℕ) (old new : Chan) → chan_at t seat ≡ Some old → (Q old → Q new) →
+    Holds Q t slot → Holds Q (with_chan seat (Some new) t) slot
+holds_put Q t slot seat old new there keeps h c is = by (stood t.channels seat old new slot c there is)
   where
-    by : Stood t.channels place old new slot c → Q c
+    by : Stood t.channels seat old new slot c → Q c
     by was = how was.how
       where
-        how : ((slot ≡ place) × (was.was ≡ old) × (c ≡ new)) ⊎ ((slot ≢ place) × (c ≡ was.was)) → Q c
+        how : ((slot ≡ seat) × (was.was ≡ old) × (c ≡ new)) ⊎ ((slot ≢ seat) × (c ≡ was.was)) → Q c
         how (inl e) = subst Q (sym e.2) (keeps (subst Q e.1 (h was.was was.there)))
         how (inr e) = subst Q (sym e.1) (h was.was was.there)
 
 pub holds_hung : (Q : Chan → Type 0) →
-    ((hangs : ℕ → Bool) (place : ℕ) (old new : Chan) → Falls hangs place old new → Q old → Q new) →
+    ((hangs : ℕ → Bool) (seat : ℕ) (old new : Chan) → Falls hangs seat old new → Q old → Q new) →
     (slot : ℕ) (named : Members) (t : Switch) → Holds Q t slot → Holds Q (after_hangups named t) slot
 holds_hung Q keeps slot named t h =
     hangups_kept named t (λ (u : Switch). Holds Q u slot) (λ event u k. k)
-    (λ place old new u there falls k. holds_put Q u slot place old new there (keeps (λ at. hangs_up at named t) place old new falls) k)
+    (λ seat old new u there falls k. holds_put Q u slot seat old new there (keeps (λ at. hangs_up at named t) seat old new falls) k)
     (λ number u k. k)
-    (λ cause place leg number u k.
-    subst (λ (all : Channels). (c : Chan) → held_in all slot ≡ Some c → Q c) (sym (orig_changed_channels (dies cause place leg) number u)) k)
+    (λ cause seat leg number u k.
+    subst (λ (all : Channels). (c : Chan) → held_in all slot ≡ Some c → Q c) (sym (orig_changed_channels (dies cause seat leg) number u)) k)
     (λ number u k. k) h
 
-holds_freed : (Q : Chan → Type 0) (cause : Cause) → ((c : Chan) → Q c → Q (unbridged cause c)) → (slot : ℕ) (row : Row) (s : Switch) →
+pub holds_freed : (Q : Chan → Type 0) (cause : Cause) → ((c : Chan) → Q c → Q (unbridged cause c)) → (slot : ℕ) (row : Row) (s : Switch) →
     Holds Q s slot → Holds Q (after_end row cause s) slot
 holds_freed Q cause keeps slot row s h =
     one row.answerer (with_changed_chan (unbridged cause) row.caller (without_bridge row.number s))
     (one row.caller (without_bridge row.number s) h)
   where
-    one : (place : ℕ) (t : Switch) → Holds Q t slot → Holds Q (with_changed_chan (unbridged cause) place t) slot
-    one place t k =
-        changed_there (λ (u : Switch). Holds Q u slot) (unbridged cause) place t
-        (λ c is. holds_put Q t slot place c (unbridged cause c) is (keeps c) k) k
+    one : (seat : ℕ) (t : Switch) → Holds Q t slot → Holds Q (with_changed_chan (unbridged cause) seat t) slot
+    one seat t k =
+        changed_there (λ (u : Switch). Holds Q u slot) (unbridged cause) seat t
+        (λ c is. holds_put Q t slot seat c (unbridged cause c) is (keeps c) k) k
 
 -- ---- who is off
 
@@ -90,11 +90,11 @@ pub record IsOff (c : Chan) : Type 0 where
   pub lone : c.leg_of ≡ None
   pub dials : awaited_by c ≡ None
 
-peerless_falls : (hangs : ℕ → Bool) (place : ℕ) (old new : Chan) → Falls hangs place old new → IsPeerless old → IsPeerless new
-peerless_falls hangs place old new (Cut cause hung) h = refl
-peerless_falls hangs place old new (Unbridged cause) h = refl
-peerless_falls hangs place old new (Rests outlives live) h = h
-peerless_falls hangs place old new (Parks outlives live) h = h
+peerless_falls : (hangs : ℕ → Bool) (seat : ℕ) (old new : Chan) → Falls hangs seat old new → IsPeerless old → IsPeerless new
+peerless_falls hangs seat old new (Cut cause hung) h = refl
+peerless_falls hangs seat old new (Unbridged cause) h = refl
+peerless_falls hangs seat old new (Rests outlives live) h = h
+peerless_falls hangs seat old new (Parks outlives live) h = h
 
 rest_off : (c : Chan) → IsOff c → IsOff (at_rest c)
 rest_off c h = record { peerless = h.peerless; lone = h.lone; dials = rest_dials c.socket c.state }
@@ -102,11 +102,11 @@ rest_off c h = record { peerless = h.peerless; lone = h.lone; dials = rest_dials
 park_off : (c : Chan) → IsOff c → IsOff (parked c)
 park_off c h = record { peerless = h.peerless; lone = h.lone; dials = rest_dials c.socket CsPark }
 
-off_falls : (hangs : ℕ → Bool) (place : ℕ) (old new : Chan) → Falls hangs place old new → IsOff old → IsOff new
-off_falls hangs place old new (Cut cause hung) h = record { peerless = refl; lone = refl; dials = refl }
-off_falls hangs place old new (Unbridged cause) h = record { peerless = refl; lone = h.lone; dials = h.dials }
-off_falls hangs place old new (Rests outlives live) h = rest_off old h
-off_falls hangs place old new (Parks outlives live) h = park_off old h
+off_falls : (hangs : ℕ → Bool) (seat : ℕ) (old new : Chan) → Falls hangs seat old new → IsOff old → IsOff new
+off_falls hangs seat old new (Cut cause hung) h = record { peerless = refl; lone = refl; dials = refl }
+off_falls hangs seat old new (Unbridged cause) h = record { peerless = refl; lone = h.lone; dials = h.dials }
+off_falls hangs seat old new (Rests outlives live) h = rest_off old h
+off_falls hangs seat old new (Parks outlives live) h = park_off old h
 
 no_peer : (peer : Option Peer) → (is_some peer ≡ true → ⊥) → peer ≡ None
 no_peer None none = refl
@@ -262,28 +262,28 @@ departed_bonds slot s h =
 abbrev pub IsLone : Chan → Type 0
 IsLone c = c.leg_of ≡ None
 
-lone_falls : (hangs : ℕ → Bool) (place : ℕ) (old new : Chan) → Falls hangs place old new → IsLone old → IsLone new
-lone_falls hangs place old new (Cut cause hung) h = refl
-lone_falls hangs place old new (Unbridged cause) h = h
-lone_falls hangs place old new (Rests outlives live) h = h
-lone_falls hangs place old new (Parks outlives live) h = h
+lone_falls : (hangs : ℕ → Bool) (seat : ℕ) (old new : Chan) → Falls hangs seat old new → IsLone old → IsLone new
+lone_falls hangs seat old new (Cut cause hung) h = refl
+lone_falls hangs seat old new (Unbridged cause) h = h
+lone_falls hangs seat old new (Rests outlives live) h = h
+lone_falls hangs seat old new (Parks outlives live) h = h
 
-lone_settles : (hangs : ℕ → Bool) (place : ℕ) (old new : Chan) → Settles hangs place old new → IsLone old → IsLone new
-lone_settles hangs place old new (Freed cause) h = h
-lone_settles hangs place old new (Resumes outlives live) h = h
-lone_settles hangs place old new (Halts outlives live) h = h
+lone_settles : (hangs : ℕ → Bool) (seat : ℕ) (old new : Chan) → Settles hangs seat old new → IsLone old → IsLone new
+lone_settles hangs seat old new (Freed cause) h = h
+lone_settles hangs seat old new (Resumes outlives live) h = h
+lone_settles hangs seat old new (Halts outlives live) h = h
 
-left_lone : (slot place : ℕ) (s : Switch) → Holds IsLone s slot → Holds IsLone (after_leaving place s) slot
-left_lone slot place s h =
-    let awaited : Option ℕ = option_and_then awaited_by (chan_at s place) in
-    let t : Switch = orig_given_up place awaited s in
-    let k : Holds IsLone t slot = given_up_kept (λ (u : Switch). Holds IsLone u slot) (λ number u k. k) place awaited s h in
-    changed_there (λ (u : Switch). Holds IsLone u slot) at_leisure place t
-    (λ c is. holds_put IsLone t slot place c (at_leisure c) is (λ none. none) k) k
+left_lone : (slot seat : ℕ) (s : Switch) → Holds IsLone s slot → Holds IsLone (after_leaving seat s) slot
+left_lone slot seat s h =
+    let awaited : Option ℕ = option_and_then awaited_by (chan_at s seat) in
+    let t : Switch = orig_given_up seat awaited s in
+    let k : Holds IsLone t slot = given_up_kept (λ (u : Switch). Holds IsLone u slot) (λ number u k. k) seat awaited s h in
+    changed_there (λ (u : Switch). Holds IsLone u slot) at_leisure seat t
+    (λ c is. holds_put IsLone t slot seat c (at_leisure c) is (λ none. none) k) k
 
 -- it is none behind whoever leaves
-pub departed_lone : (slot place : ℕ) (s : Switch) → Holds IsLone s slot → Holds IsLone (after_departure place s) slot
-departed_lone slot place s h =
+pub departed_lone : (slot seat : ℕ) (s : Switch) → Holds IsLone s slot → Holds IsLone (after_departure seat s) slot
+departed_lone slot seat s h =
     departed_kept (λ (t : Switch). Holds IsLone t slot) (λ event t k. k)
     (λ at old new t there how k. holds_put IsLone t slot at old new there (lone_settles (λ any. false) at old new how) k) (λ number t k. k)
-    (λ named t k. holds_hung IsLone lone_falls slot named t k) (λ at t k. left_lone slot at t k) place s h
+    (λ named t k. holds_hung IsLone lone_falls slot named t k) (λ at t k. left_lone slot at t k) seat s h

@@ -68,33 +68,43 @@ members_end w ended (first ∷ members) m row (inl same) is =
 members_end w ended (first ∷ members) m row (inr one) is = members_end w (ended_by w ended first) members m row one is
 
 end_row : (w : World) (ended : List Ended) (m : Member) (e : Ended) → IsOneOf e (ended_by w ended m) →
-    IsOneOf e ended ⊎ ((slot : ℕ) × (w.row slot ≡ Some e.0))
+    IsOneOf e ended ⊎ (w.row m.0 ≡ Some e.0)
 end_row w ended m e is = by (w.row m.0) refl is
   where
     last : (row : Row) → w.row m.0 ≡ Some row → IsOneOf e ended ⊎ IsOneOf e ((row, m.1) ∷ []) →
-        IsOneOf e ended ⊎ ((slot : ℕ) × (w.row slot ≡ Some e.0))
+        IsOneOf e ended ⊎ (w.row m.0 ≡ Some e.0)
     last row there (inl old) = inl old
-    last row there (inr (inl same)) = inr (m.0, there ∙ ap (λ (x : Ended). Some x.0) (sym same))
+    last row there (inr (inl same)) = inr (there ∙ ap (λ (x : Ended). Some x.0) (sym same))
     last row there (inr (inr none)) = absurd none
 
     either : (row : Row) → w.row m.0 ≡ Some row → (test : Bool) → IsOneOf e (if test then ended else ended ++ (row, m.1) ∷ []) →
-        IsOneOf e ended ⊎ ((slot : ℕ) × (w.row slot ≡ Some e.0))
+        IsOneOf e ended ⊎ (w.row m.0 ≡ Some e.0)
     either row there true one = inl one
     either row there false one = last row there (one_parts e ended ((row, m.1) ∷ []) one)
 
     by : (found : Option Row) → w.row m.0 ≡ found → IsOneOf e (with_end m.1 ended found) →
-        IsOneOf e ended ⊎ ((slot : ℕ) × (w.row slot ≡ Some e.0))
+        IsOneOf e ended ⊎ (w.row m.0 ≡ Some e.0)
     by None there one = inl one
     by (Some row) there one = either row there (has_ended row.caller ended) one
 
+-- a bridge that ends is that of one of the members
+record IsEndOf (w : World) (members : Members) (e : Ended) : Type 0 where
+  by : Member
+  one : IsOneOf by members
+  row : w.row by.0 ≡ Some e.0
+
 ends_rows : (w : World) (ended : List Ended) (members : Members) (e : Ended) → IsOneOf e (fold (ended_by w) ended members) →
-    IsOneOf e ended ⊎ ((slot : ℕ) × (w.row slot ≡ Some e.0))
+    IsOneOf e ended ⊎ IsEndOf w members e
 ends_rows w ended [] e is = inl is
-ends_rows w ended (m ∷ members) e is =
-    elim (ends_rows w (ended_by w ended m) members e is) [
-      | inl old ↦ end_row w ended m e old
-      | inr new ↦ inr new
-    ]
+ends_rows w ended (m ∷ members) e is = later (ends_rows w (ended_by w ended m) members e is)
+  where
+    first : IsOneOf e ended ⊎ (w.row m.0 ≡ Some e.0) → IsOneOf e ended ⊎ IsEndOf w (m ∷ members) e
+    first (inl old) = inl old
+    first (inr its) = inr (record { by = m; one = inl refl; row = its })
+
+    later : IsOneOf e (ended_by w ended m) ⊎ IsEndOf w members e → IsOneOf e ended ⊎ IsEndOf w (m ∷ members) e
+    later (inl old) = first (end_row w ended m e old)
+    later (inr new) = inr (record { by = new.by; one = inr new.one; row = new.row })
 
 -- ---- as a switch has it
 
@@ -106,14 +116,25 @@ row_seen s slot row is = by (has_peer (chan_at s slot)) is
     by true e = e
     by false e = absurd (none-some row e)
 
--- a bridge that ends by a hangup stands until then
+-- a bridge that ends by a hangup is that of one who hangs up
+pub record EndsBy (named : Members) (s : Switch) (row : Row) : Type 0 where
+  pub by : Member
+  pub one : IsOneOf by (members_of (world_of s) (living_of s named))
+  pub its : row_at s by.0 ≡ Some row
+
+pub end_by : (named : Members) (s : Switch) (e : Ended) → IsOneOf e (closure_of (world_of s) (living_of s named)).ended →
+    EndsBy named s e.0
+end_by named s e is =
+    elim (ends_rows (world_of s) [] (members_of (world_of s) (living_of s named)) e is) [
+      | inl none ↦ absurd none
+      | inr some ↦ record { by = some.by; one = some.one; its = some.row }
+    ]
+
+-- it stands until then
 pub end_stands : (named : Members) (s : Switch) (e : Ended) → IsOneOf e (closure_of (world_of s) (living_of s named)).ended →
     (slot : ℕ) × (bridge_at s slot ≡ Some e.0)
 end_stands named s e is =
-    elim (ends_rows (world_of s) [] (members_of (world_of s) (living_of s named)) e is) [
-      | inl none ↦ absurd none
-      | inr some ↦ (some.0, row_seen s some.0 e.0 some.1)
-    ]
+    let ends : EndsBy named s e.0 = end_by named s e is in (ends.by.0, row_seen s ends.by.0 e.0 ends.its)
 
 -- it ends, of some cause
 pub record HasEnded (named : Members) (s : Switch) (row : Row) : Type 0 where

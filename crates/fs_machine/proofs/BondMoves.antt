@@ -6,7 +6,6 @@ use Rattle.std.proofs.lemmas.List.{set-set}
 use Rattle.std.proofs.lemmas.Option.{none-some, same_Some}
 use Rattle.fs_text.specs.Cause.{cause_name}
 use Rattle.fs_text.specs.declared.causes.Cause.{Cause}
-use Rattle.fs_text.specs.declared.causes.Cause.TheVariants.{NormalTemporaryFailure}
 use Rattle.fs_bridge.specs.declared.row.BridgeKind.{BridgeKind}
 use Rattle.fs_bridge.specs.declared.row.BridgeKind.TheVariants.{Dial}
 use Rattle.fs_bridge.specs.Bridges.{joined, next_row}
@@ -23,10 +22,10 @@ use Rattle.fs_orig.specs.declared.winner.Winner.TheVariants.{App, Route}
 use Rattle.fs_orig.specs.Changes.{with_answer, at_next_group}
 use Rattle.fs_orig.specs.Legs.{is_at}
 use Rattle.fs_orig.specs.Plans.{all_behind}
-use Rattle.fs_places.specs.Places.{held_in, with_held}
-use Rattle.fs_places.proofs.HeldLemmas.{held_here, held_within}
-use Rattle.fs_places.proofs.TableLemmas.{still_there, not_free}
-use Rattle.fs_state.proofs.LegTables.{seated}
+use Rattle.fs_seats.specs.Seats.{held_in, with_held}
+use Rattle.fs_seats.proofs.HeldLemmas.{held_here, held_within}
+use Rattle.fs_seats.proofs.TableLemmas.{still_there, not_free}
+use Rattle.fs_state.proofs.LegTables.{berthed}
 use Rattle.fs_state.specs.Switch.{Switch, chan_at, with_chan, bridge_at, with_bridge, next_orig_number, with_event}
 use Rattle.fs_state.specs.Switch.{without_orig}
 use Rattle.fs_state.specs.Moves.{with_changed_chan_from, after_move_from, after_move, orig_changed, leg_changed}
@@ -45,7 +44,7 @@ use Rattle.fs_machine.proofs.StayLemmas.{WorksAt, is_at_work, exchange_lives, ex
 use Rattle.fs_machine.proofs.StayLemmas.{changed_there}
 use Rattle.fs_machine.proofs.StayLemmas.{orig_changed_channels}
 use Rattle.fs_machine.proofs.HangLemmas.{given_up_kept}
-use Rattle.fs_machine.proofs.JoinLemmas.{rest_dials}
+use Rattle.fs_machine.proofs.JoinLemmas.{both_left_kept, rest_dials}
 use Rattle.fs_machine.proofs.NameLemmas.{leg_chan, far_chan, pair_channels}
 use Rattle.fs_machine.proofs.Walk.{disposed_kept, group_made_kept}
 use Rattle.fs_machine.proofs.WonLemmas.{joins_apart, caller_lone, answerer_lone, caller_lives, answerer_lives, bridge_won_kept}
@@ -62,14 +61,14 @@ use Rattle.fs_machine.proofs.BondChanges.{as_bonds, same_put, gone_put, pair_bon
 abbrev PeerlessIn : Channels → ℕ → Type 0
 PeerlessIn channels slot = (c : Chan) → held_in channels slot ≡ Some c → c.peer ≡ None
 
-peerless_kept : (channels : Channels) (slot place : ℕ) (old new : Chan) → held_in channels place ≡ Some old →
-    (old.peer ≡ None → new.peer ≡ None) → PeerlessIn channels slot → PeerlessIn (with_held channels place (Some new)) slot
-peerless_kept channels slot place old new there keeps h c is = by (stood channels place old new slot c there is)
+peerless_kept : (channels : Channels) (slot seat : ℕ) (old new : Chan) → held_in channels seat ≡ Some old →
+    (old.peer ≡ None → new.peer ≡ None) → PeerlessIn channels slot → PeerlessIn (with_held channels seat (Some new)) slot
+peerless_kept channels slot seat old new there keeps h c is = by (stood channels seat old new slot c there is)
   where
-    by : Stood channels place old new slot c → c.peer ≡ None
+    by : Stood channels seat old new slot c → c.peer ≡ None
     by was = how was.how
       where
-        how : ((slot ≡ place) × (was.was ≡ old) × (c ≡ new)) ⊎ ((slot ≢ place) × (c ≡ was.was)) → c.peer ≡ None
+        how : ((slot ≡ seat) × (was.was ≡ old) × (c ≡ new)) ⊎ ((slot ≢ seat) × (c ≡ was.was)) → c.peer ≡ None
         how (inl e) = ap (λ (d : Chan). d.peer) e.2 ∙ keeps (ap (λ (d : Chan). d.peer) (sym e.1) ∙ h was.was was.there)
         how (inr e) = ap (λ (d : Chan). d.peer) e.1 ∙ h was.was was.there
 
@@ -104,16 +103,16 @@ awaits_lone s slot orig is h c there =
 
 -- ---- what happens to channels
 
-bonds_touches : KeptByTouches Bonding
+pub bonds_touches : KeptByTouches Bonding
 bonds_touches = record {
   told = λ event plain h. h;
   globals = λ globals h. h;
   changed = λ slot old new {s = s} there stays h.
       same_put s.channels s.bridges slot old new there (stays.apt (h.apt slot old there)) (ap (λ (l : Links). l.uuid) stays.links)
       (ap (λ (l : Links). l.peer) stays.links) (λ live. stays.live ∙ live) h;
-  answers = λ place slot number {s = s} h.
-      as_front s (orig_changed (leg_changed (λ position. with_answer position place) slot) number s)
-      (orig_changed_front (leg_changed (λ position. with_answer position place) slot) number s) h;
+  answers = λ seat slot number {s = s} h.
+      as_front s (orig_changed (leg_changed (λ position. with_answer position seat) slot) number s)
+      (orig_changed_front (leg_changed (λ position. with_answer position seat) slot) number s) h;
 }
   where
     as_front : (t u : Switch) → front_of u ≡ front_of t → Bonds t → Bonds u
@@ -236,13 +235,14 @@ module _ (kind : BridgeKind) (caller answerer : ℕ) (c d : Chan) (s : Switch) (
 bonds_calls : KeptByCalls Bonding
 bonds_calls = record {
   touches = bonds_touches;
-  hung = λ named {s = s} h. hung_bonds named s h;
-  joined = λ kind caller answerer c d {s = s} can there other one two first second h.
+  hung = λ named {s = s} early h. hung_bonds named s h;
+  joined = λ kind caller answerer c d {s = s} can there other one two first second was were h.
       joined_bonds kind caller answerer c d s can there other one two h;
-  leaves = λ slot {s = s} none h. left_bonds slot s none h;
-  departs = λ slot {s = s} h. departed_bonds slot s h;
+  leaves = λ one other {s = s} first second early h.
+      both_left_kept Bonds hung_bonds (λ slot t apart k. left_bonds slot t apart.bridge k) one other s first second h;
+  departs = λ slot {s = s} early h. departed_bonds slot s h;
   more = λ h. h;
-  gone = λ slot old {s = s} there dead h. gone_put s.channels s.bridges slot old there dead h;
+  gone = λ slot old {s = s} there dead early h. gone_put s.channels s.bridges slot old there dead h;
 }
 
 bonds_births : KeptByBirths Bonding
@@ -293,15 +293,15 @@ dialed_touches : (slot : ℕ) → KeptByTouches (λ b s. Dialed slot s)
 dialed_touches slot = record {
   told = λ event plain h. record { bonds = h.bonds; peerless = h.peerless; lone = h.lone };
   globals = λ globals h. record { bonds = h.bonds; peerless = h.peerless; lone = h.lone };
-  changed = λ place old new {s = s} there stays h. record {
-    bonds = bonds_touches.changed place old new {b = None} {s = s} there stays h.bonds;
-    peerless = peerless_kept s.channels slot place old new there (λ none. ap (λ (l : Links). l.peer) stays.links ∙ none) h.peerless;
-    lone = lone_kept s.channels slot place old new there (λ none. ap (λ (l : Links). l.leg_of) stays.links ∙ none) h.lone;
+  changed = λ seat old new {b = b} {s = s} there stays h. record {
+    bonds = bonds_touches.changed seat old new {b = b} {s = s} there stays h.bonds;
+    peerless = peerless_kept s.channels slot seat old new there (λ none. ap (λ (l : Links). l.peer) stays.links ∙ none) h.peerless;
+    lone = lone_kept s.channels slot seat old new there (λ none. ap (λ (l : Links). l.leg_of) stays.links ∙ none) h.lone;
   };
-  answers = λ place leg number {s = s} h.
-      let same = sym (orig_changed_channels (leg_changed (λ position. with_answer position place) leg) number s) in
+  answers = λ seat leg number {s = s} h.
+      let same = sym (orig_changed_channels (leg_changed (λ position. with_answer position seat) leg) number s) in
       record {
-        bonds = bonds_touches.answers place leg number {b = None} {s = s} h.bonds;
+        bonds = bonds_touches.answers seat leg number {b = None} {s = s} h.bonds;
         peerless = subst (λ (all : Channels). PeerlessIn all slot) same h.peerless;
         lone = subst (λ (all : Channels). LoneIn all slot) same h.lone;
       };
@@ -319,7 +319,7 @@ bridge_won_bonds : (slot leg : ℕ) (s : Switch) → Dialed slot s → Bonds (af
 bridge_won_bonds slot leg s h =
     bridge_won_kept (Dialed slot) (λ (t : Switch). Bonds t) (dialed_touches slot) slot leg
     (λ t can k. joins t can k (chan_lives t slot (caller_lives slot leg t can)) (chan_lives t leg (answerer_lives slot leg t can)))
-    (λ t k. failed_bonds NormalTemporaryFailure slot t k.peerless k.bonds) s h
+    (λ t cannot k. k.bonds) s h
   where
     joins : (t : Switch) → can_join slot leg t ≡ true → Dialed slot t → (c : Chan) × (chan_at t slot ≡ Some c) →
         (d : Chan) × (chan_at t leg ≡ Some d) → Bonds (after_move in_media leg (joined_as Dial slot leg t))
@@ -400,7 +400,7 @@ winner_peerless : (before : Switch) (orig : ℕ) (leg : OrigLeg) (slots : List �
     HasWon before orig leg slots → Bonds (raced slots before) → (c : Chan) →
     chan_at (raced slots before) (unwrap_or leg.slot 0) ≡ Some c → c.peer ≡ None
 winner_peerless before orig leg slots stand won h c there =
-    let stands : IsLegOf (raced slots before).channels (seated orig leg.slot) = winning_leg before orig leg slots won stand in
+    let stands : IsLegOf (raced slots before).channels (berthed orig leg.slot) = winning_leg before orig leg slots won stand in
     let at : chan_at (raced slots before) (unwrap_or leg.slot 0) ≡ Some stands.chan =
     ap (λ (slot : Option ℕ). chan_at (raced slots before) (unwrap_or slot 0)) stands.is ∙ stands.there in
     let names : c.leg_of ≡ Some orig = ap (λ (d : Chan). d.leg_of) (same_Some c stands.chan (sym there ∙ at)) ∙ stands.names in
@@ -422,7 +422,7 @@ bonds_dials before = record {
   regroups = λ number o plans caller {s = s} there next h.
       regrouped_bonds number (group_made plans caller number s)
       (group_made_kept Bonding bonds_births plans caller number {n = 0} {s = s} h);
-  fails = λ slot orig cause {s = s} waits h. failed_bonds cause slot (without_orig orig s) (awaits_peerless s slot orig waits h) h;
+  fails = λ slot orig cause {s = s} waits over h. failed_bonds cause slot (without_orig orig s) (awaits_peerless s slot orig waits h) h;
   wins = λ slot orig leg slots waits won h.
       bridge_won_bonds slot (unwrap_or leg.slot 0) (without_orig orig (raced slots before))
       (record {

@@ -7,8 +7,8 @@ use Rattle.fs_bridge.specs.Bridges.{BridgeRows, part_of}
 use Rattle.fs_bridge.specs.Closure.{peer_in}
 use Rattle.fs_chan.specs.declared.chan.Chan.{Chan}
 use Rattle.fs_chan.specs.Changes.{is_live}
-use Rattle.fs_places.specs.Places.{held_in, with_held}
-use Rattle.fs_places.proofs.HeldLemmas.{held_here, held_there, held_within}
+use Rattle.fs_seats.specs.Seats.{held_in, with_held}
+use Rattle.fs_seats.proofs.HeldLemmas.{held_here, held_there, held_within}
 use Rattle.fs_state.specs.Switch.{Switch}
 use Rattle.fs_machine.proofs.Kept.{Fact, IsApt}
 use Rattle.fs_machine.proofs.LegLemmas.{Channels}
@@ -76,53 +76,53 @@ closed channels bridges h = record {
 -- ---- one channel is changed
 
 -- what stands at a slot then stood there, or is the new channel
-pub record Stood (channels : Channels) (place : ℕ) (old new : Chan) (slot : ℕ) (d : Chan) : Type 0 where
+pub record Stood (channels : Channels) (seat : ℕ) (old new : Chan) (slot : ℕ) (d : Chan) : Type 0 where
   pub was : Chan
   pub there : held_in channels slot ≡ Some was
-  pub how : ((slot ≡ place) × (was ≡ old) × (d ≡ new)) ⊎ ((slot ≢ place) × (d ≡ was))
+  pub how : ((slot ≡ seat) × (was ≡ old) × (d ≡ new)) ⊎ ((slot ≢ seat) × (d ≡ was))
 
-pub stood : (channels : Channels) (place : ℕ) (old new : Chan) (slot : ℕ) (d : Chan) → held_in channels place ≡ Some old →
-    held_in (with_held channels place (Some new)) slot ≡ Some d → Stood channels place old new slot d
-stood channels place old new slot d there is = by (cases_eq slot place)
+pub stood : (channels : Channels) (seat : ℕ) (old new : Chan) (slot : ℕ) (d : Chan) → held_in channels seat ≡ Some old →
+    held_in (with_held channels seat (Some new)) slot ≡ Some d → Stood channels seat old new slot d
+stood channels seat old new slot d there is = by (cases_eq slot seat)
   where
-    by : (slot ≡ place) ⊎ (slot ≡ place → ⊥) → Stood channels place old new slot d
+    by : (slot ≡ seat) ⊎ (slot ≡ seat → ⊥) → Stood channels seat old new slot d
     by (inl same) =
-        let here : held_in (with_held channels place (Some new)) slot ≡ Some new =
-        ap (held_in (with_held channels place (Some new))) same
-        ∙ held_here channels place (Some new) (held_within channels place old there) in
+        let here : held_in (with_held channels seat (Some new)) slot ≡ Some new =
+        ap (held_in (with_held channels seat (Some new))) same
+        ∙ held_here channels seat (Some new) (held_within channels seat old there) in
         record {
           was = old;
           there = ap (held_in channels) same ∙ there;
           how = inl (same, refl, same_Some d new (sym is ∙ here));
         }
     by (inr other) =
-        record { was = d; there = sym (held_there channels place slot (Some new) other) ∙ is; how = inr (other, refl) }
+        record { was = d; there = sym (held_there channels seat slot (Some new) other) ∙ is; how = inr (other, refl) }
 
 -- what stood at a slot is the old channel, and the new one stands there, or it stands there still
-pub record Stands (channels : Channels) (place : ℕ) (old new : Chan) (slot : ℕ) (c : Chan) : Type 0 where
+pub record Stands (channels : Channels) (seat : ℕ) (old new : Chan) (slot : ℕ) (c : Chan) : Type 0 where
   pub now : Chan
-  pub there : held_in (with_held channels place (Some new)) slot ≡ Some now
-  pub how : ((slot ≡ place) × (c ≡ old) × (now ≡ new)) ⊎ (now ≡ c)
+  pub there : held_in (with_held channels seat (Some new)) slot ≡ Some now
+  pub how : ((slot ≡ seat) × (c ≡ old) × (now ≡ new)) ⊎ (now ≡ c)
 
-pub stands : (channels : Channels) (place : ℕ) (old new : Chan) (slot : ℕ) (c : Chan) → held_in channels place ≡ Some old →
-    held_in channels slot ≡ Some c → Stands channels place old new slot c
-stands channels place old new slot c there is = by (cases_eq slot place)
+pub stands : (channels : Channels) (seat : ℕ) (old new : Chan) (slot : ℕ) (c : Chan) → held_in channels seat ≡ Some old →
+    held_in channels slot ≡ Some c → Stands channels seat old new slot c
+stands channels seat old new slot c there is = by (cases_eq slot seat)
   where
-    by : (slot ≡ place) ⊎ (slot ≡ place → ⊥) → Stands channels place old new slot c
+    by : (slot ≡ seat) ⊎ (slot ≡ seat → ⊥) → Stands channels seat old new slot c
     by (inl same) = record {
       now = new;
-      there = ap (held_in (with_held channels place (Some new))) same
-          ∙ held_here channels place (Some new) (held_within channels place old there);
+      there = ap (held_in (with_held channels seat (Some new))) same
+          ∙ held_here channels seat (Some new) (held_within channels seat old there);
       how = inl (same, same_Some c old (sym is ∙ (ap (held_in channels) same ∙ there)), refl);
     }
-    by (inr other) = record { now = c; there = held_there channels place slot (Some new) other ∙ is; how = inr refl }
+    by (inr other) = record { now = c; there = held_there channels seat slot (Some new) other ∙ is; how = inr refl }
 
 -- a pair stays, where the channel that is changed is not its first, or lives on and names the same peer, and is not its second, or keeps
 -- its identifier
-pub peer_put : (channels : Channels) (place : ℕ) (old new : Chan) (slot other : ℕ) → held_in channels place ≡ Some old →
-    (slot ≡ place → (is_live old ≡ true → is_live new ≡ true) × (new.peer ≡ old.peer)) → (other ≡ place → new.uuid ≡ old.uuid) →
-    NamesPeer channels slot other → NamesPeer (with_held channels place (Some new)) slot other
-peer_put channels place old new slot other there first second h = record {
+pub peer_put : (channels : Channels) (seat : ℕ) (old new : Chan) (slot other : ℕ) → held_in channels seat ≡ Some old →
+    (slot ≡ seat → (is_live old ≡ true → is_live new ≡ true) × (new.peer ≡ old.peer)) → (other ≡ seat → new.uuid ≡ old.uuid) →
+    NamesPeer channels slot other → NamesPeer (with_held channels seat (Some new)) slot other
+peer_put channels seat old new slot other there first second h = record {
   chan = a.now;
   there = a.there;
   live = live a.how;
@@ -131,61 +131,61 @@ peer_put channels place old new slot other there first second h = record {
   names = peer a.how ∙ (h.names ∙ ap (λ uuid. Some (record { slot = other; uuid = uuid })) (sym (uuid b.how)));
 }
   where
-    a : Stands channels place old new slot h.chan
-    a = stands channels place old new slot h.chan there h.there
+    a : Stands channels seat old new slot h.chan
+    a = stands channels seat old new slot h.chan there h.there
 
-    b : Stands channels place old new other h.peer
-    b = stands channels place old new other h.peer there h.peer_there
+    b : Stands channels seat old new other h.peer
+    b = stands channels seat old new other h.peer there h.peer_there
 
-    live : ((slot ≡ place) × (h.chan ≡ old) × (a.now ≡ new)) ⊎ (a.now ≡ h.chan) → is_live a.now ≡ true
+    live : ((slot ≡ seat) × (h.chan ≡ old) × (a.now ≡ new)) ⊎ (a.now ≡ h.chan) → is_live a.now ≡ true
     live (inl is) = ap is_live is.2 ∙ (first is.0).0 (ap is_live (sym is.1) ∙ h.live)
     live (inr is) = ap is_live is ∙ h.live
 
-    peer : ((slot ≡ place) × (h.chan ≡ old) × (a.now ≡ new)) ⊎ (a.now ≡ h.chan) → a.now.peer ≡ h.chan.peer
+    peer : ((slot ≡ seat) × (h.chan ≡ old) × (a.now ≡ new)) ⊎ (a.now ≡ h.chan) → a.now.peer ≡ h.chan.peer
     peer (inl is) = ap (λ (c : Chan). c.peer) is.2 ∙ (first is.0).1 ∙ sym (ap (λ (c : Chan). c.peer) is.1)
     peer (inr is) = ap (λ (c : Chan). c.peer) is
 
-    uuid : ((other ≡ place) × (h.peer ≡ old) × (b.now ≡ new)) ⊎ (b.now ≡ h.peer) → b.now.uuid ≡ h.peer.uuid
+    uuid : ((other ≡ seat) × (h.peer ≡ old) × (b.now ≡ new)) ⊎ (b.now ≡ h.peer) → b.now.uuid ≡ h.peer.uuid
     uuid (inl is) = ap (λ (c : Chan). c.uuid) is.2 ∙ second is.0 ∙ sym (ap (λ (c : Chan). c.uuid) is.1)
     uuid (inr is) = ap (λ (c : Chan). c.uuid) is
 
 -- nobody of a bridge is in a slot that is part of none
-pub apart_leg : (bridges : BridgeRows) (place slot : ℕ) (row : Row) → part_of place bridges ≡ None → part_of slot bridges ≡ Some row →
-    slot ≡ place → ⊥
-apart_leg bridges place slot row none part same = none-some row (sym none ∙ (ap (λ at. part_of at bridges) (sym same) ∙ part))
+pub apart_leg : (bridges : BridgeRows) (seat slot : ℕ) (row : Row) → part_of seat bridges ≡ None → part_of slot bridges ≡ Some row →
+    slot ≡ seat → ⊥
+apart_leg bridges seat slot row none part same = none-some row (sym none ∙ (ap (λ at. part_of at bridges) (sym same) ∙ part))
 
-pub apart_peer : (bridges : BridgeRows) (place slot : ℕ) (row : Row) → RowsFit bridges → part_of place bridges ≡ None →
-    part_of slot bridges ≡ Some row → peer_in row slot ≡ place → ⊥
-apart_peer bridges place slot row fit none part same =
-    apart_leg bridges place (peer_in row slot) row none (leg_part bridges slot (peer_in row slot) row fit part (peer_leg row slot)) same
+pub apart_peer : (bridges : BridgeRows) (seat slot : ℕ) (row : Row) → RowsFit bridges → part_of seat bridges ≡ None →
+    part_of slot bridges ≡ Some row → peer_in row slot ≡ seat → ⊥
+apart_peer bridges seat slot row fit none part same =
+    apart_leg bridges seat (peer_in row slot) row none (leg_part bridges slot (peer_in row slot) row fit part (peer_leg row slot)) same
 
 -- a channel that is part of no bridge comes to name no peer
-pub lone_put : (open_at rest : ℕ → Type 0) (channels : Channels) (bridges : BridgeRows) (place : ℕ) (old new : Chan) →
-    held_in channels place ≡ Some old → part_of place bridges ≡ None → IsApt new → new.peer ≡ None →
-    ((slot : ℕ) → open_at slot → (slot ≡ place) ⊎ rest slot) → ((slot : ℕ) → rest slot → open_at slot) →
-    OpenBonds open_at channels bridges → OpenBonds rest (with_held channels place (Some new)) bridges
-lone_put open_at rest channels bridges place old new there none apt peerless split whole h = record {
-  apt = λ slot d is. apt_of slot d (stood channels place old new slot d there is);
+pub lone_put : (open_at rest : ℕ → Type 0) (channels : Channels) (bridges : BridgeRows) (seat : ℕ) (old new : Chan) →
+    held_in channels seat ≡ Some old → part_of seat bridges ≡ None → IsApt new → new.peer ≡ None →
+    ((slot : ℕ) → open_at slot → (slot ≡ seat) ⊎ rest slot) → ((slot : ℕ) → rest slot → open_at slot) →
+    OpenBonds open_at channels bridges → OpenBonds rest (with_held channels seat (Some new)) bridges
+lone_put open_at rest channels bridges seat old new there none apt peerless split whole h = record {
+  apt = λ slot d is. apt_of slot d (stood channels seat old new slot d there is);
   rows = h.rows;
-  legs = λ slot row part. peer_put channels place old new slot (peer_in row slot) there
-      (λ same. absurd (apart_leg bridges place slot row none part same))
-      (λ same. absurd (apart_peer bridges place slot row h.rows none part same)) (h.legs slot row part);
+  legs = λ slot row part. peer_put channels seat old new slot (peer_in row slot) there
+      (λ same. absurd (apart_leg bridges seat slot row none part same))
+      (λ same. absurd (apart_peer bridges seat slot row h.rows none part same)) (h.legs slot row part);
   out = λ slot is. h.out slot (whole slot is);
-  back = λ slot d is some. back_of slot d (stood channels place old new slot d there is) some;
+  back = λ slot d is some. back_of slot d (stood channels seat old new slot d there is) some;
 }
   where
-    apt_of : (slot : ℕ) (d : Chan) → Stood channels place old new slot d → IsApt d
+    apt_of : (slot : ℕ) (d : Chan) → Stood channels seat old new slot d → IsApt d
     apt_of slot d was = by was.how
       where
-        by : ((slot ≡ place) × (was.was ≡ old) × (d ≡ new)) ⊎ ((slot ≢ place) × (d ≡ was.was)) → IsApt d
+        by : ((slot ≡ seat) × (was.was ≡ old) × (d ≡ new)) ⊎ ((slot ≢ seat) × (d ≡ was.was)) → IsApt d
         by (inl is) = subst IsApt (sym is.2) apt
         by (inr is) = subst IsApt (sym is.1) (h.apt slot was.was was.there)
 
-    back_of : (slot : ℕ) (d : Chan) → Stood channels place old new slot d → is_some d.peer ≡ true →
+    back_of : (slot : ℕ) (d : Chan) → Stood channels seat old new slot d → is_some d.peer ≡ true →
         rest slot ⊎ (is_some (part_of slot bridges) ≡ true)
     back_of slot d was some = by was.how
       where
-        opened_at : slot ≢ place → open_at slot ⊎ (is_some (part_of slot bridges) ≡ true) →
+        opened_at : slot ≢ seat → open_at slot ⊎ (is_some (part_of slot bridges) ≡ true) →
             rest slot ⊎ (is_some (part_of slot bridges) ≡ true)
         opened_at other (inr part) = inr part
         opened_at other (inl is) =
@@ -194,7 +194,7 @@ lone_put open_at rest channels bridges place old new there none apt peerless spl
               | inr left ↦ inl left
             ]
 
-        by : ((slot ≡ place) × (was.was ≡ old) × (d ≡ new)) ⊎ ((slot ≢ place) × (d ≡ was.was)) →
+        by : ((slot ≡ seat) × (was.was ≡ old) × (d ≡ new)) ⊎ ((slot ≢ seat) × (d ≡ was.was)) →
             rest slot ⊎ (is_some (part_of slot bridges) ≡ true)
         by (inl is) = absurd (false≢true (sym (ap is_some (ap (λ (c : Chan). c.peer) is.2 ∙ peerless)) ∙ some))
         by (inr is) =

@@ -1,7 +1,7 @@
 -- Two facts that each bear every move do so together.
 use Rattle.std.proofs.Common.{ℕ}
 use Rattle.fs_state.specs.Switch.{Switch}
-use Rattle.fs_machine.proofs.Kept.{Fact, KeptByTouches, KeptByCalls, KeptByJobs, KeptByDials, KeptByCommands, KeptByVisits, KeptByMoves}
+use Rattle.fs_machine.proofs.Kept.{apart_by, Fact, KeptByTouches, KeptByCalls, KeptByJobs, KeptByDials, KeptByCommands, KeptByVisits, KeptByMoves}
 
 abbrev pub Both : Fact → Fact → Fact
 Both P Q b s = P b s × Q b s
@@ -12,29 +12,32 @@ module _ (P Q : Fact) where
     told = λ event plain h. (p.told event plain h.0, q.told event plain h.1);
     globals = λ globals h. (p.globals globals h.0, q.globals globals h.1);
     changed = λ slot old new there stays h. (p.changed slot old new there stays h.0, q.changed slot old new there stays h.1);
-    answers = λ place slot number h. (p.answers place slot number h.0, q.answers place slot number h.1);
+    answers = λ seat slot number h. (p.answers seat slot number h.0, q.answers seat slot number h.1);
   }
 
   both_calls : KeptByCalls P → KeptByCalls Q → KeptByCalls (Both P Q)
   both_calls p q = record {
     touches = both_touches p.touches q.touches;
-    hung = λ named h. (p.hung named h.0, q.hung named h.1);
-    joined = λ kind caller answerer c d can there other one two idle spare h. (
-      p.joined kind caller answerer c d can there other one two idle spare h.0,
-      q.joined kind caller answerer c d can there other one two idle spare h.1,
+    hung = λ named early h. (p.hung named early.0 h.0, q.hung named early.1 h.1);
+    joined = λ kind caller answerer c d can there other one two idle spare was were h. (
+      p.joined kind caller answerer c d can there other one two idle spare (apart_by caller was (λ s k. k.0))
+          (apart_by answerer were (λ s k. k.0)) h.0,
+      q.joined kind caller answerer c d can there other one two idle spare (apart_by caller was (λ s k. k.1))
+          (apart_by answerer were (λ s k. k.1)) h.1,
     );
-    leaves = λ slot lone h. (p.leaves slot lone h.0, q.leaves slot lone h.1);
-    departs = λ slot h. (p.departs slot h.0, q.departs slot h.1);
+    leaves = λ one other first second early h.
+        (p.leaves one other first second early.0 h.0, q.leaves one other first second early.1 h.1);
+    departs = λ slot early h. (p.departs slot early.0 h.0, q.departs slot early.1 h.1);
     more = λ h. (p.more h.0, q.more h.1);
-    gone = λ slot old there dead h. (p.gone slot old there dead h.0, q.gone slot old there dead h.1);
+    gone = λ slot old there dead early h. (p.gone slot old there dead early.0 h.0, q.gone slot old there dead early.1 h.1);
   }
 
   module _ (before : Switch) where
     both_jobs : KeptByJobs before P → KeptByJobs before Q → KeptByJobs before (Both P Q)
     both_jobs p q = record {
       woken = λ number conn until answer does h. (p.woken number conn until answer does h.0, q.woken number conn until answer does h.1);
-      failed = λ job conn winner caller orig cause does h.
-          (p.failed job conn winner caller orig cause does h.0, q.failed job conn winner caller orig cause does h.1);
+      failed = λ job conn winner caller orig cause does over h.
+          (p.failed job conn winner caller orig cause does over h.0, q.failed job conn winner caller orig cause does over h.1);
       wins = λ job conn winner caller orig leg slots does won h.
           (p.wins job conn winner caller orig leg slots does won h.0, q.wins job conn winner caller orig leg slots does won h.1);
     }
@@ -46,15 +49,15 @@ module _ (P Q : Fact) where
           (p.dials slot c groups timeout there works are h.0, q.dials slot c groups timeout there works are h.1);
       regroups = λ number o plans caller there are h.
           (p.regroups number o plans caller there are h.0, q.regroups number o plans caller there are h.1);
-      fails = λ slot orig cause waits h. (p.fails slot orig cause waits h.0, q.fails slot orig cause waits h.1);
+      fails = λ slot orig cause waits over h. (p.fails slot orig cause waits over h.0, q.fails slot orig cause waits over h.1);
       wins = λ slot orig leg slots waits won h. (p.wins slot orig leg slots waits won h.0, q.wins slot orig leg slots waits won h.1);
     }
 
   both_commands : (conn : ℕ) → KeptByCommands conn P → KeptByCommands conn Q → KeptByCommands conn (Both P Q)
   both_commands conn p q = record {
     spent = λ h. (p.spent h.0, q.spent h.1);
+    noticed = λ frame h. (p.noticed frame h.0, q.noticed frame h.1);
     gave = λ frame h. (p.gave frame h.0, q.gave frame h.1);
-    answered = λ frame h. (p.answered frame h.0, q.answered frame h.1);
     asked = λ change h. (p.asked change h.0, q.asked change h.1);
     admitted = λ fresh h. (p.admitted fresh h.0, q.admitted fresh h.1);
     parted = λ why leaves h. (p.parted why leaves h.0, q.parted why leaves h.1);

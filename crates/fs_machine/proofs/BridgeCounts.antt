@@ -1,16 +1,20 @@
 -- What is told of bridges tells how often each number was drawn, and which bridges stand.
 use Rattle.std.proofs.Common.{◌≡◌, ℕ, zero, suc, ◌+◌, ◌≤◌, ◌<◌, ◌==◌, Bool, true, false, not, if◌then◌else◌, List, [], ◌∷◌, ◌++◌}
-use Rattle.std.proofs.Common.{count_by, Option, None, Some, option_to_list, inl, inr, refl, sym, ap, subst, ◌∙◌}
+use Rattle.std.specs.Prelude.{◌&&◌}
+use Rattle.std.proofs.Common.{count_by, Option, None, Some, option_to_list, ◌⊎◌, inl, inr, refl, sym, ap, subst, ◌∙◌}
 use Rattle.std.proofs.Common.{arith, true≢false}
 use Rattle.std.specs.List.{find}
 use Rattle.std.proofs.lemmas.Bool.{eqb-true, or_cases, false≢true}
 use Rattle.std.proofs.lemmas.Cmp.{nat_eq_equiv}
-use Rattle.std.proofs.lemmas.List.Sums.{sum_by_push}
+use Rattle.std.proofs.lemmas.List.{append_assoc}
+use Rattle.std.proofs.lemmas.List.Elements.{All-push}
+use Rattle.std.proofs.lemmas.List.Sums.{sum_by-append, sum_by_push}
 use Rattle.fs_text.specs.declared.causes.Cause.{Cause}
 use Rattle.fs_text.specs.declared.causes.Cause.TheVariants.{NormalClearing}
 use Rattle.fs_text.specs.declared.states.State.TheVariants.{CsHangup}
 use Rattle.fs_text.specs.declared.event_names.EventName.{EventName}
-use Rattle.fs_text.specs.declared.event_names.EventName.TheVariants.{ChannelExecuteComplete}
+use Rattle.fs_text.specs.declared.event_names.EventName.TheVariants.{ChannelExecuteComplete, ChannelBridge, ChannelUnbridge}
+use Rattle.fs_text.specs.EventName.{event_number}
 use Rattle.fs_bridge.specs.declared.after.After.{After}
 use Rattle.fs_bridge.specs.declared.after.After.TheVariants.{GoOn, Hangup, Park}
 use Rattle.fs_bridge.specs.declared.row.Row.{Row}
@@ -19,7 +23,6 @@ use Rattle.fs_bridge.specs.Closure.{Member, Members, Ends, closure_of}
 use Rattle.fs_bridge.specs.Hangups.{IsOneOf}
 use Rattle.fs_bridge.specs.Orders.{has_slot}
 use Rattle.fs_bridge.proofs.RowLemmas.{one_if}
-use Rattle.fs_chan.specs.declared.action.Action.{Action}
 use Rattle.fs_chan.specs.declared.chan.Chan.{Chan}
 use Rattle.fs_chan.specs.Bridging.{awaited_by, unbridged as let_go}
 use Rattle.fs_chan.specs.Changes.{is_live, at_rest, parked, hung_up}
@@ -30,17 +33,21 @@ use Rattle.fs_state.specs.declared.event.Detail.TheVariants as detail
 use Rattle.fs_state.specs.declared.event.Event.{Event}
 use Rattle.fs_state.specs.Switch.{Switch, chan_at, with_chan, bridge_at, without_bridge, orig_of, with_event}
 use Rattle.fs_state.specs.Moves.{with_changed_chan_from, with_changed_chan, after_move, plain_event, with_state_events, hangup_event}
-use Rattle.fs_state.specs.Moves.{application_told, application_event, running_at, orig_changed_from, leg_changed, its_leg_changed, is_owner}
+use Rattle.fs_state.specs.Counts.{is_named}
+use Rattle.fs_state.specs.Bridging.{bridge_event}
+use Rattle.fs_state.specs.Moves.{application_event, running_at, orig_changed_from, leg_changed, its_leg_changed, is_owner}
 use Rattle.fs_state.specs.Moves.{given_up_by, orig_given_up, after_hangup_from, after_one_hangup, after_completion}
 use Rattle.fs_state.specs.Hangups.{lives_at, world_of, living_of, Ended, after_end, after_ends, unbridge_event, is_leg_of, with_end_told}
 use Rattle.fs_state.specs.Hangups.{untold_by, after_member, after_members, after_outliving, after_survival, after_survivals, after_closure}
 use Rattle.fs_state.specs.Hangups.{after_hangups}
 use Rattle.fs_state.specs.Leaving.{after_parting}
-use Rattle.fs_machine.specs.BridgeEvents.{tells_begin, tells_end, begins, ends, begun, ended}
+use Rattle.fs_machine.specs.BridgeEvents.{tells_begin, tells_end, begins, ends, begun, ended, EndsStandBehind}
+use Rattle.fs_machine.specs.EventNames.{can_tell, AreNamed}
 use Rattle.fs_machine.proofs.Kept.{IsOfNoBridge, TellsNoBridge}
-use Rattle.fs_machine.proofs.StayLemmas.{state_plain_kept, moved_plain}
+use Rattle.fs_machine.proofs.StayLemmas.{application_plain, state_plain_kept, moved_plain}
 use Rattle.fs_machine.proofs.BondRows.{RowsFit, unbridged_fit}
 use Rattle.fs_machine.proofs.ListCounts.{counts_front, counts_found, counts_none, counts_kept, counts_part, counts_apart, one_passes}
+use Rattle.fs_machine.proofs.ListCounts.{stands_pushed}
 use Rattle.fs_machine.proofs.EndLemmas.{is_end_of, ends_of_number, rows_of_number, AreEnds, closure_ends}
 
 -- ---- how often a number is drawn
@@ -113,8 +120,11 @@ abbrev pub tidings_of : Switch → Tidings
 tidings_of s = record { bridges = s.bridges; news = s.news }
 
 -- One event tells of each number that was drawn, and the bridge of each one stands, or its end is told, or so many are still to be told.
+-- Each event is well named, and each end stands behind the beginning.
 pub record TellsIn (past : List Event) (more : ℕ → ℕ) (now : Tidings) : Type 0 where
   pub rows : RowsFit now.bridges
+  pub named : AreNamed (past ++ now.news)
+  pub behind : EndsStandBehind (past ++ now.news)
   pub begin : (number : ℕ) → begun number past + begun number now.news ≡ drawn_times number now.bridges.drawn
   pub end : (number : ℕ) →
       ended number past + ended number now.news + (rows_of_number number now.bridges + more number)
@@ -139,6 +149,8 @@ as_many : (past : List Event) (more other : ℕ → ℕ) (s : Switch) → ((numb
     TellsBut past other s
 as_many past more other s same h = record {
   rows = h.rows;
+  named = h.named;
+  behind = h.behind;
   begin = h.begin;
   end = λ number. let is = same number in let all = h.end number in omega (arith, is, all);
 }
@@ -152,30 +164,103 @@ pub ended_push : (number : ℕ) (events : List Event) (event : Event) →
     ended number (events ++ event ∷ []) ≡ ended number events + one_if (ends number event)
 ended_push number events event = sum_by_push (λ (e : Event). one_if (ends number e)) events event
 
-no_begin : (number : ℕ) (what : Detail) → IsOfNoBridge what → tells_begin number what ≡ false
-no_begin number (detail.Bridge row) none = absurd none
-no_begin number (detail.Unbridge row cause) none = absurd none
-no_begin number _ none = refl
+-- ---- one more event
 
-no_end : (number : ℕ) (what : Detail) → IsOfNoBridge what → tells_end number what ≡ false
-no_end number (detail.Bridge row) none = absurd none
-no_end number (detail.Unbridge row cause) none = absurd none
-no_end number _ none = refl
+-- an event that is told has its name
+has_name : (name : EventName) → (event_number name == event_number name) ≡ true
+has_name name = nat_eq_equiv.refl (event_number name)
+
+never : (test : Bool) → (test && false) ≡ false
+never true = refl
+never false = refl
+
+-- that of a bridge
+pub bridge_begins : (number : ℕ) (row : Row) → begins number (bridge_event row) ≡ has_number number row
+bridge_begins number row = ap (λ b. b && has_number number row) (has_name ChannelBridge)
+
+pub bridge_ends : (number : ℕ) (row : Row) → ends number (bridge_event row) ≡ false
+bridge_ends number row = never (is_named ChannelUnbridge (bridge_event row))
+
+unbridge_begins : (number : ℕ) (e : Ended) → begins number (unbridge_event e) ≡ false
+unbridge_begins number e = never (is_named ChannelBridge (unbridge_event e))
+
+unbridge_ends : (number : ℕ) (e : Ended) → ends number (unbridge_event e) ≡ is_end_of number e
+unbridge_ends number e = ap (λ b. b && is_end_of number e) (has_name ChannelUnbridge)
+
+-- and of none
+none_begins : (number : ℕ) (what : Detail) → IsOfNoBridge what → tells_begin number what ≡ false
+none_begins number (detail.Bridge row) none = absurd none
+none_begins number (detail.Unbridge row cause) none = absurd none
+none_begins number _ none = refl
+
+none_ends : (number : ℕ) (what : Detail) → IsOfNoBridge what → tells_end number what ≡ false
+none_ends number (detail.Bridge row) none = absurd none
+none_ends number (detail.Unbridge row cause) none = absurd none
+none_ends number _ none = refl
+
+no_begin : (number : ℕ) (event : Event) → TellsNoBridge event → begins number event ≡ false
+no_begin number event none =
+    ap (λ b. is_named ChannelBridge event && b) (none_begins number event.detail none.1) ∙ never (is_named ChannelBridge event)
+
+no_end : (number : ℕ) (event : Event) → TellsNoBridge event → ends number event ≡ false
+no_end number event none =
+    ap (λ b. is_named ChannelUnbridge event && b) (none_ends number event.detail none.1) ∙ never (is_named ChannelUnbridge event)
+
+-- it is well named
+pub named_push : (past news : List Event) (event : Event) → can_tell event.name event.detail ≡ true → AreNamed (past ++ news) →
+    AreNamed (past ++ (news ++ event ∷ []))
+named_push past news event can h =
+    subst AreNamed (append_assoc past news (event ∷ []))
+    (All-push (λ (e : Event). can_tell e.name e.detail ≡ true) (past ++ news) event h can)
+
+-- the end that it tells stands behind the beginning
+pub behind_push : (past news : List Event) (event : Event) → ((number : ℕ) → ends number event ≡ true → begun number (past ++ news) ≡ 1) →
+    EndsStandBehind (past ++ news) → EndsStandBehind (past ++ (news ++ event ∷ []))
+behind_push past news event begin h =
+    subst EndsStandBehind (append_assoc past news (event ∷ []))
+    (λ number front back other is ends. by number front other ends (stands_pushed (past ++ news) event front other back is))
+  where
+    by : (number : ℕ) (front : List Event) (other : Event) → ends number other ≡ true →
+        ((front ≡ past ++ news) × (other ≡ event)) ⊎ ((rest : List Event) × (past ++ news ≡ front ++ other ∷ rest)) →
+        begun number front ≡ 1
+    by number front other is (inl last) = ap (begun number) last.0 ∙ begin number (ap (ends number) (sym last.1) ∙ is)
+    by number front other is (inr sooner) = h number front sooner.0 other sooner.1 is
+
+-- by an event so many fewer are still to be told
+told_by : (past : List Event) (more less : ℕ → ℕ) (event : Event) (s : Switch) → can_tell event.name event.detail ≡ true →
+    ((number : ℕ) → begins number event ≡ false) → ((number : ℕ) → more number ≡ less number + one_if (ends number event)) →
+    TellsBut past more s → TellsBut past less (with_event event s)
+told_by past more less event s can none fewer h = record {
+  rows = h.rows;
+  named = named_push past s.news event can h.named;
+  behind = behind_push past s.news event (λ number is. begun_before number is) h.behind;
+  begin = λ number.
+      let all = h.begin number in
+      let push = begun_push number s.news event ∙ ap (λ b. begun number s.news + one_if b) (none number) in
+      omega (arith, all, push);
+  end = λ number.
+      let all = h.end number in
+      let push = ended_push number s.news event in
+      let left = fewer number in
+      omega (arith, all, push, left);
+}
+  where
+    begun_before : (number : ℕ) → ends number event ≡ true → begun number (past ++ s.news) ≡ 1
+    begun_before number is =
+        let both : begun number (past ++ s.news) ≡ begun number past + begun number s.news =
+        sum_by-append (λ (e : Event). one_if (begins number e)) past s.news in
+        let begin = h.begin number in
+        let end = h.end number in
+        let most = drawn_most number s.bridges.drawn in
+        let left = fewer number ∙ ap (λ b. less number + one_if b) is in
+        omega (arith, both, begin, end, most, left)
 
 -- what is told of no bridge
 pub told_tells : (past : List Event) (more : ℕ → ℕ) (event : Event) (s : Switch) → TellsNoBridge event → TellsBut past more s →
     TellsBut past more (with_event event s)
-told_tells past more event s none h = record {
-  rows = h.rows;
-  begin = λ number.
-      let all = h.begin number in
-      let push = begun_push number s.news event ∙ ap (λ b. begun number s.news + one_if b) (no_begin number event.detail none) in
-      omega (arith, all, push);
-  end = λ number.
-      let all = h.end number in
-      let push = ended_push number s.news event ∙ ap (λ b. ended number s.news + one_if b) (no_end number event.detail none) in
-      omega (arith, all, push);
-}
+told_tells past more event s none h =
+    told_by past more more event s none.0 (λ number. no_begin number event none)
+    (λ number. let told = ap one_if (no_end number event none) in omega (arith, told)) h
 
 pub same_tells : (past : List Event) (more : ℕ → ℕ) (t u : Switch) → tidings_of u ≡ tidings_of t → TellsBut past more t →
     TellsBut past more u
@@ -211,14 +296,10 @@ given_up_tidings slot (Some number) s = by (orig_of s number)
     by None = refl
     by (Some o) = either (is_owner slot o.owner) _ refl
 
-application_plain : (found : Option Action) → IsOfNoBridge (application_told found)
-application_plain None = tt
-application_plain (Some action) = tt
-
 module _ (past : List Event) (more : ℕ → ℕ) where
-  plain_tells : (name : EventName) (slot : ℕ) (s : Switch) → TellsBut past more s →
+  plain_tells : (name : EventName) (slot : ℕ) (s : Switch) → TellsNoBridge (plain_event name slot) → TellsBut past more s →
       TellsBut past more (with_event (plain_event name slot) s)
-  plain_tells name slot s h = told_tells past more (plain_event name slot) s tt h
+  plain_tells name slot s plain h = told_tells past more (plain_event name slot) s plain h
 
   pub moved_tells : (change : Chan → Chan) (slot : ℕ) (s : Switch) → TellsBut past more s → TellsBut past more (after_move change slot s)
   moved_tells change slot s h =
@@ -242,13 +323,13 @@ module _ (past : List Event) (more : ℕ → ℕ) where
           (same_tells past more told (orig_given_up slot (awaited_by c) left)
           (given_up_tidings slot (awaited_by c) left ∙ its_leg_tidings (λ position. with_death position s.entries cause) slot c.leg_of told)
           (state_plain_kept (TellsBut past more) plain_tells c.state CsHangup slot {s = cut}
-          (told_tells past more (hangup_event cause slot) (with_chan slot (Some (hung_up cause c)) s) tt
+          (told_tells past more (hangup_event cause slot) (with_chan slot (Some (hung_up cause c)) s) (refl, tt)
           (same_tells past more s (with_chan slot (Some (hung_up cause c)) s) refl h))))
 
   pub completed_tells : (slot : ℕ) (s : Switch) → TellsBut past more s → TellsBut past more (after_completion slot s)
   completed_tells slot s h =
       told_tells past more (application_event ChannelExecuteComplete (running_at slot s) slot) (after_move at_rest slot s)
-      (application_plain (running_at slot s)) (moved_tells at_rest slot s h)
+      (application_plain (running_at slot s) slot) (moved_tells at_rest slot s h)
 
   outlives_tells : (what : After) (slot : ℕ) (s : Switch) → TellsBut past more s → TellsBut past more (after_outliving what slot s)
   outlives_tells GoOn slot s h = completed_tells slot s h
@@ -298,6 +379,8 @@ module _ (past : List Event) where
       ∙ changed_tidings (let_go e.1) e.0.caller t)
       (record {
         rows = unbridged_fit e.0.number s.bridges h.rows;
+        named = h.named;
+        behind = h.behind;
         begin = h.begin;
         end = λ number. by number (e.0.number == number) refl;
       })
@@ -389,20 +472,14 @@ module _ (past : List Event) where
           let all = apart number in
           let none = ap (λ (found : Option Ended). ends_of_number number (option_to_list found)) is in
           omega (arith, all, none)) h
-      by (Some e) is = record {
-        rows = h.rows;
-        begin = λ number.
-            let all = h.begin number in
-            let push = begun_push number s.news (unbridge_event e) in
-            omega (arith, all, push);
-        end = λ number.
-            let all = h.end number in
-            let push = ended_push number s.news (unbridge_event e) in
-            let rest = apart number in
-            let some = ap (λ (found : Option Ended). ends_of_number number (option_to_list found)) is in
-            let single = counts_front (is_end_of number) e [] in
-            omega (arith, all, push, rest, some, single);
-      }
+      by (Some e) is =
+          told_by past (untold over) (untold (untold_by slot over)) (unbridge_event e) s refl (λ number. unbridge_begins number e)
+          (λ number.
+          let rest = apart number in
+          let some = ap (λ (found : Option Ended). ends_of_number number (option_to_list found)) is in
+          let single = counts_front (is_end_of number) e [] in
+          let told = ap one_if (unbridge_ends number e) in
+          omega (arith, rest, some, single, told)) h
 
   -- each of them has a leg among these members, and no slot is a leg of two
   record AreToldBy (over : List Ended) (members : Members) : Type 0 where
@@ -461,16 +538,6 @@ module _ (past : List Event) where
   parted_tells slot row s part h =
       let e : Ended = (row, NormalClearing) in
       let there = counts_found (has_leg slot) (has_number row.number) s.bridges.rows row part (nat_eq_equiv.refl row.number) in
-      let k = end_tells (λ number. 0) e s there h in
-      let t : Switch = after_end row NormalClearing s in
-      record {
-        rows = k.rows;
-        begin = λ number.
-            let all = k.begin number in
-            let push = begun_push number t.news (unbridge_event e) in
-            omega (arith, all, push);
-        end = λ number.
-            let all = k.end number in
-            let push = ended_push number t.news (unbridge_event e) in
-            omega (arith, all, push);
-      }
+      told_by past (λ number. 0 + one_if (is_end_of number e)) (λ number. 0) (unbridge_event e) (after_end row NormalClearing s) refl
+      (λ number. unbridge_begins number e) (λ number. let told = ap one_if (unbridge_ends number e) in omega (arith, told))
+      (end_tells (λ number. 0) e s there h)

@@ -1,8 +1,10 @@
--- In every run one event tells of each bridge that it begins, and one of each that stands no more that it has ended.
+-- In every run one event tells of each bridge that it begins, and behind that one of each that stands no more that it has ended; each
+-- event can tell what it tells.
 use Rattle.std.proofs.Common.{◌≡◌, ℕ, ◌+◌, ◌≤◌, true, false, List, [], ◌∷◌, ◌++◌, Option, None, Some, is_some}
 use Rattle.std.proofs.Common.{◌⊎◌, inl, inr, refl, sym, ap, subst, ◌∙◌, arith, true≢false}
 use Rattle.std.proofs.lemmas.Bool.{false≢true, cases_eq}
 use Rattle.std.proofs.lemmas.List.{append-nil, append_assoc}
+use Rattle.std.proofs.lemmas.List.Elements.{All-nil}
 use Rattle.std.proofs.lemmas.List.Sums.{sum_by-append}
 use Rattle.fs_doc.specs.Reading.{Configuration}
 use Rattle.fs_bridge.specs.Bridges.{BridgeRows, has_number, numbered}
@@ -11,14 +13,15 @@ use Rattle.fs_bridge.proofs.RowLemmas.{one_if, none_counted, none_found}
 use Rattle.fs_state.specs.declared.event.Event.{Event}
 use Rattle.fs_state.specs.Switch.{Switch, empty, at_moment}
 use Rattle.fs_machine.specs.declared.entry.Entry.{Entry}
-use Rattle.fs_machine.specs.BridgeEvents.{begins, ends, begun, ended, WasDrawn, BridgesAreTold, events_in}
+use Rattle.fs_machine.specs.BridgeEvents.{begins, ends, begun, ended, WasDrawn, BridgesAreTold, EndsStandBehind, events_in}
+use Rattle.fs_machine.specs.EventNames.{can_tell, AreNamed}
 use Rattle.fs_machine.specs.Events.{events_by, happened_from, events_of}
 use Rattle.fs_machine.specs.Runs.{run_from}
 use Rattle.fs_machine.specs.Step.{act_done, step}
 use Rattle.fs_machine.proofs.ActWalk.{acted_kept}
 use Rattle.fs_machine.proofs.BondRows.{RowsFit}
 use Rattle.fs_machine.proofs.EventLemmas.{events_first}
-use Rattle.fs_machine.proofs.ListCounts.{found_passes, counts_found}
+use Rattle.fs_machine.proofs.ListCounts.{found_passes, counts_found, some_stands}
 use Rattle.fs_machine.proofs.StandingLemmas.{none_fit}
 use Rattle.fs_machine.proofs.EndLemmas.{rows_of_number}
 use Rattle.fs_machine.proofs.BridgeCounts.{drawn_times, drawn_later, drawn_never, drawn_once, drawn_most, Tells}
@@ -27,13 +30,19 @@ use Rattle.fs_machine.proofs.BridgeMoves.{Telling, telling_moves}
 -- ---- runs
 
 -- the events of entries tell so, and none is left in hand
-record HasTold (past : List Event) (s : Switch) : Type 0 where
-  told : Tells past s
-  over : s.news ≡ []
+pub record HasTold (past : List Event) (s : Switch) : Type 0 where
+  pub told : Tells past s
+  pub over : s.news ≡ []
 
 nothing_told : (config : Configuration) → HasTold [] (empty config)
 nothing_told config = record {
-  told = record { rows = none_fit; begin = λ number. refl; end = λ number. refl };
+  told = record {
+    rows = none_fit;
+    named = All-nil (λ (event : Event). can_tell event.name event.detail ≡ true);
+    behind = λ number front back event is ends. absurd (some_stands front event back is);
+    begin = λ number. refl;
+    end = λ number. refl;
+  };
   over = refl;
 }
 
@@ -42,6 +51,8 @@ past_told : (past : List Event) (s t : Switch) → Tells past s → t.bridges �
 past_told past s t h same over = record {
   told = record {
     rows = subst RowsFit (sym same) h.rows;
+    named = subst AreNamed all_past h.named;
+    behind = subst EndsStandBehind all_past h.behind;
     begin = λ number.
         let all = h.begin number in
         let both : begun number (past ++ s.news) ≡ begun number past + begun number s.news =
@@ -62,6 +73,9 @@ past_told past s t h same over = record {
   };
   over = over;
 }
+  where
+    all_past : past ++ s.news ≡ (past ++ s.news) ++ t.news
+    all_past = sym (ap (λ news. (past ++ s.news) ++ news) over ∙ append-nil (past ++ s.news))
 
 step_told : (past : List Event) (s : Switch) (entry : Entry) → HasTold past s → HasTold (past ++ events_by s entry) (step s entry).state
 unfolding step events_by
@@ -70,28 +84,28 @@ step_told past s entry h =
     let t : Switch = (act_done entry.act now).state in
     past_told past t (step s entry).state
     (acted_kept now (Telling past) (telling_moves past now) entry.act
-    (record { rows = h.told.rows; begin = h.told.begin; end = h.told.end })) refl refl
+    (record { rows = h.told.rows; named = h.told.named; behind = h.told.behind; begin = h.told.begin; end = h.told.end })) refl refl
 
-run_told : (place : ℕ) (past : List Event) (s : Switch) (entries : List Entry) → HasTold past s →
-    HasTold (past ++ events_of (happened_from place s entries)) (run_from s entries)
-run_told place past s [] h = subst (λ events. HasTold events s) (sym (append-nil past)) h
-run_told place past s (entry ∷ entries) h =
+run_told : (seat : ℕ) (past : List Event) (s : Switch) (entries : List Entry) → HasTold past s →
+    HasTold (past ++ events_of (happened_from seat s entries)) (run_from s entries)
+run_told seat past s [] h = subst (λ events. HasTold events s) (sym (append-nil past)) h
+run_told seat past s (entry ∷ entries) h =
     let t : Switch = (step s entry).state in
     subst (λ events. HasTold events (run_from t entries))
-    (append_assoc past (events_by s entry) (events_of (happened_from (place + 1) t entries))
-    ∙ ap (λ events. past ++ events) (sym (events_first place s entry entries)))
-    (run_told (place + 1) (past ++ events_by s entry) t entries (step_told past s entry h))
+    (append_assoc past (events_by s entry) (events_of (happened_from (seat + 1) t entries))
+    ∙ ap (λ events. past ++ events) (sym (events_first seat s entry entries)))
+    (run_told (seat + 1) (past ++ events_by s entry) t entries (step_told past s entry h))
 
 -- ---- as the definition has it
 
 module _ (past : List Event) (s : Switch) (h : HasTold past s) where
-  begun_as : (number : ℕ) → begun number past ≡ drawn_times number s.bridges.drawn
+  pub begun_as : (number : ℕ) → begun number past ≡ drawn_times number s.bridges.drawn
   begun_as number =
       let all = h.told.begin number in
       let none : begun number s.news ≡ 0 = ap (begun number) h.over in
       omega (arith, all, none)
 
-  ended_as : (number : ℕ) → ended number past + rows_of_number number s.bridges ≡ drawn_times number s.bridges.drawn
+  pub ended_as : (number : ℕ) → ended number past + rows_of_number number s.bridges ≡ drawn_times number s.bridges.drawn
   ended_as number =
       let all = h.told.end number in
       let none : ended number s.news ≡ 0 = ap (ended number) h.over in
@@ -121,6 +135,15 @@ module _ (past : List Event) (s : Switch) (h : HasTold past s) where
           let late : number ≤ s.bridges.drawn → ⊥ = λ last. never (record { first = first; last = last }) in
           drawn_later number s.bridges.drawn (omega (arith, late))
 
+  events_as : past ++ s.news ≡ past
+  events_as = ap (λ news. past ++ news) h.over ∙ append-nil past
+
+  pub all_named : AreNamed past
+  all_named = subst AreNamed events_as h.told.named
+
+  all_behind : EndsStandBehind past
+  all_behind = subst EndsStandBehind events_as h.told.behind
+
   all_told : BridgesAreTold s past
   all_told = record {
     begin = λ number drawn. begun_as number ∙ drawn_once number s.bridges.drawn drawn.first drawn.last;
@@ -144,7 +167,18 @@ module _ (past : List Event) (s : Switch) (h : HasTold past s) where
         );
   }
 
+pub run_has_told : (config : Configuration) (entries : List Entry) → HasTold (events_in config entries) (run_from (empty config) entries)
+run_has_told config entries = run_told 0 [] (empty config) entries (nothing_told config)
+
+pub events_are_named : (config : Configuration) (entries : List Entry) → AreNamed (events_in config entries)
+events_are_named config entries =
+    all_named (events_in config entries) (run_from (empty config) entries) (run_has_told config entries)
+
 pub bridges_are_told : (config : Configuration) (entries : List Entry) →
     BridgesAreTold (run_from (empty config) entries) (events_in config entries)
 bridges_are_told config entries =
-    all_told (events_in config entries) (run_from (empty config) entries) (run_told 0 [] (empty config) entries (nothing_told config))
+    all_told (events_in config entries) (run_from (empty config) entries) (run_has_told config entries)
+
+pub ends_stand_behind : (config : Configuration) (entries : List Entry) → EndsStandBehind (events_in config entries)
+ends_stand_behind config entries =
+    all_behind (events_in config entries) (run_from (empty config) entries) (run_has_told config entries)

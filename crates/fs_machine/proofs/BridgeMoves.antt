@@ -1,5 +1,6 @@
 -- Each act tells of the bridges that begin and of those that end.
-use Rattle.std.proofs.Common.{◌≡◌, ℕ, true, List, [], ◌∷◌, ◌++◌, Option, None, Some, refl, ap, ◌∙◌, arith}
+use Rattle.std.proofs.Common.{◌≡◌, ℕ, ◌+◌, true, List, [], ◌∷◌, ◌++◌, Option, None, Some, refl, sym, ap, ◌∙◌, arith}
+use Rattle.std.proofs.lemmas.Bool.{false≢true}
 use Rattle.std.specs.Prelude.{unwrap_or}
 use Rattle.std.proofs.lemmas.List.Sums.{sum_by_push}
 use Rattle.fs_bridge.specs.declared.row.BridgeKind.{BridgeKind}
@@ -13,13 +14,15 @@ use Rattle.fs_text.specs.Texts.{Text}
 use Rattle.fs_state.specs.declared.event.Event.{Event}
 use Rattle.fs_state.specs.Switch.{Switch, chan_at, with_bridge}
 use Rattle.fs_state.specs.Bridging.{bridge_event, can_join, peer_of, with_peer_from, with_peer, joined_as}
-use Rattle.fs_machine.specs.declared.originations.Call.{Call}
+use Rattle.fs_machine.specs.declared.call.Call.{Call}
+use Rattle.fs_machine.specs.BridgeEvents.{begun, ended}
 use Rattle.fs_machine.specs.Originations.{leg_end, far_end, named_end_made, end_made, pair_made, won_by, after_winning}
 use Rattle.fs_machine.proofs.Kept.{Stage, Fact, KeptByBirths, raced, KeptByMoves}
 use Rattle.fs_machine.proofs.WonLemmas.{joins_apart, caller_lone, answerer_lone}
 use Rattle.fs_machine.proofs.FrontLemmas.{Front, front_of, KeptByRemains, calls_by_remains, dials_by_remains, moves_by_front}
 use Rattle.fs_machine.proofs.BondRows.{joined_fit}
-use Rattle.fs_machine.proofs.BridgeCounts.{Tidings, tidings_of, drawn_next, Tells, changed_tidings, begun_push, ended_push, told_tells}
+use Rattle.fs_machine.proofs.BridgeCounts.{Tidings, tidings_of, drawn_next, Tells, changed_tidings, begun_push, ended_push, bridge_begins}
+use Rattle.fs_machine.proofs.BridgeCounts.{bridge_ends, named_push, behind_push, told_tells}
 use Rattle.fs_machine.proofs.BridgeCounts.{same_tells, moved_tells, hung_tells, parted_tells}
 
 abbrev pub Telling : List Event → Fact
@@ -43,14 +46,18 @@ joined_tells past kind caller answerer s can h =
     (record {
       rows = joined_fit caller answerer kind s.bridges (caller_lone caller answerer s can) (answerer_lone caller answerer s can)
           (joins_apart caller answerer s can) h.rows;
+      named = named_push past s.news (bridge_event row) refl h.named;
+      behind = behind_push past s.news (bridge_event row) (λ number is. absurd (false≢true (sym (bridge_ends number row) ∙ is))) h.behind;
       begin = λ number.
           let all = h.begin number in
-          let push = begun_push number s.news (bridge_event row) in
+          let push = begun_push number s.news (bridge_event row)
+          ∙ ap (λ b. begun number s.news + one_if b) (bridge_begins number row) in
           let next = drawn_next number s.bridges.drawn in
           omega (arith, all, push, next);
       end = λ number.
           let all = h.end number in
-          let push = ended_push number s.news (bridge_event row) in
+          let push = ended_push number s.news (bridge_event row)
+          ∙ ap (λ b. ended number s.news + one_if b) (bridge_ends number row) in
           let next = drawn_next number s.bridges.drawn in
           let more = sum_by_push (λ (r : Row). one_if (has_number number r)) s.bridges.rows row in
           omega (arith, all, push, next, more);

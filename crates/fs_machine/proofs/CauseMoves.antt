@@ -23,10 +23,10 @@ use Rattle.fs_orig.specs.Changes.{rings, with_leg_answer, with_leg_death, with_l
 use Rattle.fs_orig.specs.Changes.{at_next_group}
 use Rattle.fs_orig.specs.Endpoints.{endpoint_of}
 use Rattle.fs_orig.specs.Meaning.{IsWithCauses}
-use Rattle.fs_places.specs.declared.numbered.Numbered.{Numbered}
-use Rattle.fs_places.specs.Places.{held_in, least_free}
-use Rattle.fs_places.specs.Rows.{place_of, row_of}
-use Rattle.fs_places.proofs.RowLemmas.{each_put_at}
+use Rattle.fs_seats.specs.declared.numbered.Numbered.{Numbered}
+use Rattle.fs_seats.specs.Seats.{held_in, least_free}
+use Rattle.fs_seats.specs.Rows.{seat_of, row_of}
+use Rattle.fs_seats.proofs.RowLemmas.{each_put_at}
 use Rattle.fs_state.specs.declared.conn.Conn.{Conn}
 use Rattle.fs_state.specs.declared.conn.Parting.TheVariants as parting
 use Rattle.fs_state.specs.declared.job.JobWork.{JobWork}
@@ -35,7 +35,7 @@ use Rattle.fs_state.specs.Switch.{Switch, chan_at, orig_of, next_orig_number, ne
 use Rattle.fs_state.specs.Switch.{without_orig, with_bridge}
 use Rattle.fs_state.specs.Moves.{orig_changed_from, orig_changed, leg_changed_at, leg_changed, after_move, orig_given_up}
 use Rattle.fs_state.proofs.LegTables.{Origs, row_there, set_here, set_there}
-use Rattle.fs_machine.specs.declared.originations.Call.{Call}
+use Rattle.fs_machine.specs.declared.call.Call.{Call}
 use Rattle.fs_machine.specs.Texts.{made_text, failed_text}
 use Rattle.fs_machine.specs.Connections.{conn_changed, admitted, parted, owed_since, not_owed, with_subs_changed}
 use Rattle.fs_machine.specs.Originations.{set_all, no_variables, own_uuid, call_with, is_misnamed, seconds, made_dead, is_congested}
@@ -61,6 +61,7 @@ use Rattle.fs_machine.specs.Bridging.{after_bridge_win}
 use Rattle.fs_machine.specs.Dialing.{tried_by_slot}
 use Rattle.fs_machine.specs.Joining.{after_leaving}
 use Rattle.fs_machine.specs.Leaving.{after_departure}
+use Rattle.fs_machine.proofs.JoinLemmas.{both_left_kept}
 use Rattle.fs_machine.proofs.LeaveLemmas.{departed_kept}
 use Rattle.fs_machine.proofs.NameLemmas.{leg_by}
 use Rattle.fs_machine.proofs.StayLemmas.{moved_there, changed_there}
@@ -83,7 +84,7 @@ ToldIn None = Unit {0}
 ToldIn (Some row) = IsTold row.held
 
 abbrev pub AllTold : Origs → Type 0
-AllTold origs = (place : ℕ) → ToldIn (held_in origs place)
+AllTold origs = (seat : ℕ) → ToldIn (held_in origs seat)
 
 abbrev pub Told : Fact
 Told b s = AllTold s.origs
@@ -111,24 +112,24 @@ changed_told change keeps number s h = by (orig_of s number) refl
     by : (found : Option Orig) → orig_of s number ≡ found → AllTold (orig_changed_from change number found s).origs
     by None is = h
     by (Some o) is =
-        each_put_at ToldIn s.origs (Some (record { number = number; held = change o })) (place_of s.origs number) h
+        each_put_at ToldIn s.origs (Some (record { number = number; held = change o })) (seat_of s.origs number) h
         (keeps o (told_there s.origs number o is h))
 
 -- a change of a leg
 abbrev KeepsCause : (OrigLeg → OrigLeg) → Type 0
 KeepsCause change = (leg : OrigLeg) → HasCause (Some leg) → HasCause (Some (change leg))
 
-answer_keeps : (place : ℕ) → KeepsCause (with_leg_answer place)
-answer_keeps place leg has = by (rings leg)
+answer_keeps : (seat : ℕ) → KeepsCause (with_leg_answer seat)
+answer_keeps seat leg has = by (rings leg)
   where
-    by : (test : Bool) → HasCause (Some (if test then record leg { answered = Some place } else leg))
+    by : (test : Bool) → HasCause (Some (if test then record leg { answered = Some seat } else leg))
     by true = has
     by false = has
 
-death_keeps : (place : ℕ) (cause : Cause) → KeepsCause (with_leg_death place cause)
-death_keeps place cause leg has = by (lives leg)
+death_keeps : (seat : ℕ) (cause : Cause) → KeepsCause (with_leg_death seat cause)
+death_keeps seat cause leg has = by (lives leg)
   where
-    by : (test : Bool) → HasCause (Some (if test then record leg { died = Some place; cause = Some cause } else leg))
+    by : (test : Bool) → HasCause (Some (if test then record leg { died = Some seat; cause = Some cause } else leg))
     by true = λ died. refl
     by false = has
 
@@ -164,19 +165,19 @@ touched_told change keeps slot o h = by (position_in slot o.legs)
     by None = h
     by (Some first) = leg_told change keeps first o h
 
-answers_told : (place slot number : ℕ) (s : Switch) → AllTold s.origs →
-    AllTold (orig_changed (leg_changed (λ position. with_answer position place) slot) number s).origs
-answers_told place slot number s h =
-    changed_told (leg_changed (λ position. with_answer position place) slot)
-    (touched_told (with_leg_answer place) (answer_keeps place) slot) number s h
+answers_told : (seat slot number : ℕ) (s : Switch) → AllTold s.origs →
+    AllTold (orig_changed (leg_changed (λ position. with_answer position seat) slot) number s).origs
+answers_told seat slot number s h =
+    changed_told (leg_changed (λ position. with_answer position seat) slot)
+    (touched_told (with_leg_answer seat) (answer_keeps seat) slot) number s h
 
-dies_told : (cause : Cause) (place slot number : ℕ) (s : Switch) → AllTold s.origs →
-    AllTold (orig_changed (dies cause place slot) number s).origs
-dies_told cause place slot number s h =
-    changed_told (dies cause place slot) (touched_told (with_leg_death place cause) (death_keeps place cause) slot) number s h
+dies_told : (cause : Cause) (seat slot number : ℕ) (s : Switch) → AllTold s.origs →
+    AllTold (orig_changed (dies cause seat slot) number s).origs
+dies_told cause seat slot number s h =
+    changed_told (dies cause seat slot) (touched_told (with_leg_death seat cause) (death_keeps seat cause) slot) number s h
 
 without_told : (number : ℕ) (s : Switch) → AllTold s.origs → AllTold (without_orig number s).origs
-without_told number s h = each_put_at ToldIn s.origs None (place_of s.origs number) h tt
+without_told number s h = each_put_at ToldIn s.origs None (seat_of s.origs number) h tt
 
 -- ---- what channels do
 
@@ -185,7 +186,7 @@ touches_told = record {
   told = λ event plain h. h;
   globals = λ globals h. h;
   changed = λ slot old new there stays h. h;
-  answers = λ place slot number {s = s} h. answers_told place slot number s h;
+  answers = λ seat slot number {s = s} h. answers_told seat slot number s h;
 }
 
 moved_told : (change : Chan → Chan) (slot : ℕ) (s : Switch) → AllTold s.origs → AllTold (after_move change slot s).origs
@@ -243,8 +244,7 @@ failed_told cause slot s h = by (chan_at s slot)
 bridge_won_told : (slot leg : ℕ) (s : Switch) → AllTold s.origs → AllTold (after_bridge_win slot leg s).origs
 bridge_won_told slot leg s h =
     bridge_won_kept (λ (t : Switch). AllTold t.origs) (λ (t : Switch). AllTold t.origs) touches_told slot leg
-    (λ u can k. moved_told in_media leg (joined_as Dial slot leg u) (joined_told Dial slot leg u k))
-    (λ u k. failed_told NormalTemporaryFailure slot u k) s h
+    (λ u can k. moved_told in_media leg (joined_as Dial slot leg u) (joined_told Dial slot leg u k)) (λ u cannot k. k) s h
 
 -- ---- legs are made
 
@@ -380,7 +380,7 @@ regroups_told number o plans caller s there are h =
 told_jobs : (before : Switch) → KeptByJobs before Told
 told_jobs before = record {
   woken = λ number conn until answer {s = s} does h. ended_told number conn answer s h;
-  failed = λ job conn winner caller orig cause {s = s} does h.
+  failed = λ job conn winner caller orig cause {s = s} does over h.
       ended_told job conn (failed_text cause) (without_orig orig s) (without_told orig s h);
   wins = λ job conn winner caller orig leg slots does won h.
       let t : Switch = after_winning winner (unwrap_or leg.slot 0) (raced slots before) in
@@ -393,7 +393,7 @@ told_dials before = record {
   spent = λ h. h;
   dials = λ slot c groups timeout {s = s} there works are h. dials_told slot c groups timeout s are h;
   regroups = λ number o plans caller {s = s} there are h. regroups_told number o plans caller s there are h;
-  fails = λ slot orig cause {s = s} waits h. failed_told cause slot (without_orig orig s) (without_told orig s h);
+  fails = λ slot orig cause {s = s} waits over h. failed_told cause slot (without_orig orig s) (without_told orig s h);
   wins = λ slot orig leg slots waits won h.
       bridge_won_told slot (unwrap_or leg.slot 0) (without_orig orig (raced slots before)) (without_told orig (raced slots before) h);
 }
@@ -402,19 +402,20 @@ pub told_moves : (before : Switch) → KeptByMoves before Told
 told_moves before = record {
   calls = record {
     touches = touches_told;
-    hung = λ named {s = s} h. hung_told named s h;
-    joined = λ kind caller answerer c d {s = s} can there other one two first second h. joined_told kind caller answerer s h;
-    leaves = λ slot {s = s} lone h. left_told slot s h;
-    departs = λ slot {s = s} h. departed_told slot s h;
+    hung = λ named {s = s} early h. hung_told named s h;
+    joined = λ kind caller answerer c d {s = s} can there other one two first second was were h. joined_told kind caller answerer s h;
+    leaves = λ one other {s = s} first second early h.
+        both_left_kept (λ (t : Switch). AllTold t.origs) hung_told (λ slot t apart k. left_told slot t k) one other s first second h;
+    departs = λ slot {s = s} early h. departed_told slot s h;
     more = λ h. h;
-    gone = λ slot old there dead h. h;
+    gone = λ slot old there dead early h. h;
   };
   jobs = told_jobs before;
   dials = told_dials before;
   commands = λ conn. record {
     spent = λ h. h;
+    noticed = λ frame h. h;
     gave = λ frame h. h;
-    answered = λ frame h. h;
     asked = λ change {s = s} h. conn_told (with_subs_changed change) conn s h;
     admitted = λ {s = s} fresh h. conn_told admitted conn s h;
     parted = λ why {s = s} leaves h. conn_told (parted why) conn s h;

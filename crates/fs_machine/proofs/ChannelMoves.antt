@@ -13,13 +13,13 @@ use Rattle.fs_orig.specs.declared.leg.OrigLeg.{OrigLeg}
 use Rattle.fs_orig.specs.declared.winner.Winner.{Winner}
 use Rattle.fs_orig.specs.declared.winner.Winner.TheVariants.{App, Route}
 use Rattle.fs_orig.specs.Endpoints.{IsShortAddress}
-use Rattle.fs_places.specs.Places.{held_in, with_held}
-use Rattle.fs_places.proofs.RowLemmas.{each_put}
+use Rattle.fs_seats.specs.Seats.{held_in, with_held}
+use Rattle.fs_seats.proofs.RowLemmas.{each_put}
 use Rattle.fs_state.specs.declared.job.JobWork.TheVariants.{Originate}
 use Rattle.fs_state.specs.Switch.{Switch, chan_at, with_chan, with_next_identifier, identifier_of}
 use Rattle.fs_state.specs.Moves.{after_move_from, after_move, orig_changed}
 use Rattle.fs_state.specs.Hangups.{after_hangups}
-use Rattle.fs_machine.specs.declared.originations.Call.{Call}
+use Rattle.fs_machine.specs.declared.call.Call.{Call}
 use Rattle.fs_machine.specs.declared.originations.End.{End}
 use Rattle.fs_machine.specs.Originations.{target_of, end_of, leg_end, far_end, pair_made, leg_uuid, is_misnamed, won_by, after_winning}
 use Rattle.fs_machine.proofs.Kept.{Stage, Fact, Remains, DoesJob, raced, IsShortWinner, KeptByBirths, KeptByMoves}
@@ -83,8 +83,8 @@ hung_fit named s h =
     (λ slot old new t there falls k. put_fit slot new t
     (falls_fit (λ at. hangs_up at named s) slot old new falls (fit_there t slot old there k)) k)
     (λ number t k. k)
-    (λ cause place leg number t k. same_fit (front_of t) (front_of (orig_changed (dies cause place leg) number t))
-    (orig_changed_front (dies cause place leg) number t) k) (λ number t k. k) h
+    (λ cause seat leg number t k. same_fit (front_of t) (front_of (orig_changed (dies cause seat leg) number t))
+    (orig_changed_front (dies cause seat leg) number t) k) (λ number t k. k) h
 
 -- whoever is in media lived before
 media_fit : (slot : ℕ) (s : Switch) → Lively s slot → AllFit s.channels → AllFit (after_move in_media slot s).channels
@@ -110,7 +110,7 @@ pair_fit call orig a b s short named h =
     (each_put FitsIn (with_held s.channels a (Some leg)) b (Some far)
     (each_put FitsIn s.channels a (Some leg) h
     (end_fit call (leg_end orig a b) (leg_uuid call.uuid s) short (leg_uuid_short call.uuid s named)))
-    (end_fit call (far_end a b) (identifier_of (with_next_identifier t)) short (uuid_short t.config.settings.core_uuid drawn)))
+    (end_fit call (far_end a b) (identifier_of (with_next_identifier t)) short (uuid_short t.settings.core_uuid drawn)))
 
 -- ---- a leg wins
 
@@ -166,7 +166,7 @@ remains_moves = record {
 births_fit : KeptByBirths Fit
 births_fit = record {
   spent = λ h. h;
-  pair = λ call orig a b {s = s} short named first second h. pair_fit call orig a b s short named h;
+  pair = λ call orig a b {s = s} short named first second h. pair_fit call orig a b s short.address named h;
 }
 
 fit_same : (b : Stage) (t u : Switch) → Fit b t → front_of u ≡ front_of t → Fit b u

@@ -3,8 +3,8 @@ use Rattle.std.proofs.Common.{◌≡◌, ◌≢◌, ℕ, ◌==◌, Bool, true, f
 use Rattle.std.proofs.Common.{subst, ◌∙◌}
 use Rattle.std.specs.Option.{option_and_then}
 use Rattle.std.proofs.lemmas.Option.{none-some}
-use Rattle.fs_places.specs.Rows.{place_of, row_of, with_row}
-use Rattle.fs_places.proofs.RowLemmas.{row_none, row_of-with_row_same}
+use Rattle.fs_seats.specs.Rows.{seat_of, row_of, with_row}
+use Rattle.fs_seats.proofs.RowLemmas.{row_none, row_of-with_row_same}
 use Rattle.fs_state.specs.declared.conn.Conn.{Conn}
 use Rattle.fs_state.specs.declared.conn.Phase.{Phase}
 use Rattle.fs_state.specs.declared.conn.Phase.TheVariants.{Fresh, Ready, Ending, Closed}
@@ -39,11 +39,11 @@ ending_at s conn owed there none = by (conn_of s conn) refl
 
 -- a connection that is there is changed
 changed_at : (s : Switch) (conn : ℕ) (c d : Conn) → conn_of s conn ≡ Some c → row_of (with_row s.conns conn d) conn ≡ Some d
-changed_at s conn c d is = by (place_of s.conns conn) refl
+changed_at s conn c d is = by (seat_of s.conns conn) refl
   where
-    by : (found : Option ℕ) → place_of s.conns conn ≡ found → row_of (with_row s.conns conn d) conn ≡ Some d
+    by : (found : Option ℕ) → seat_of s.conns conn ≡ found → row_of (with_row s.conns conn d) conn ≡ Some d
     by None none = absurd (none-some c (sym (row_none s.conns conn none) ∙ is))
-    by (Some place) there = row_of-with_row_same s.conns conn place d there
+    by (Some seat) there = row_of-with_row_same s.conns conn seat d there
 
 abbrev owed_in : Option Conn → Bool
 owed_in found = is_some (option_and_then owed_of found)

@@ -13,7 +13,7 @@ use Rattle.fs_bridge.proofs.OnceLemmas.{has_order}
 use Rattle.fs_bridge.proofs.SurvivorLemmas.{IsTold, one_told, left_case}
 use Rattle.fs_bridge.proofs.SettledLemmas.{AreSlots, dragged_hang_up, all_members_live}
 use Rattle.fs_chan.specs.declared.chan.Chan.{Chan}
-use Rattle.fs_places.proofs.HeldLemmas.{held_within}
+use Rattle.fs_seats.proofs.HeldLemmas.{held_within}
 use Rattle.fs_state.specs.Switch.{Switch, chan_at}
 use Rattle.fs_state.specs.Hangups.{lives, lives_at, world_of, living_of}
 
@@ -55,12 +55,12 @@ pub same_members : (named : Members) (s : Switch) (slot : ℕ) →
 same_members named s slot = has_order slot [] (members_of (world_of s) (living_of s named))
 
 -- a member in that slot
-record HasMember (slot : ℕ) (members : Members) : Type 0 where
-  member : Member
-  one : IsOneOf member members
-  at : member.0 ≡ slot
+pub record HasMember (slot : ℕ) (members : Members) : Type 0 where
+  pub member : Member
+  pub one : IsOneOf member members
+  pub at : member.0 ≡ slot
 
-has_member : (slot : ℕ) (members : Members) → has_slot slot members ≡ true → HasMember slot members
+pub has_member : (slot : ℕ) (members : Members) → has_slot slot members ≡ true → HasMember slot members
 has_member slot [] is = absurd (false≢true is)
 has_member slot (m ∷ members) is =
     elim (or_cases (m.0 == slot) (has_slot slot members) is) [

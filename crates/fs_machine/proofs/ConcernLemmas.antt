@@ -4,9 +4,9 @@ use Rattle.std.proofs.Common.{take, Option, None, Some, is_none, ◌⊎◌, inl,
 use Rattle.std.proofs.lemmas.Bool.{both_ways, eq-eqb, ne_eqb, cases_eq}
 use Rattle.std.proofs.lemmas.Option.{same_Some, none-some}
 use Rattle.fs_doc.specs.Reading.{Configuration}
-use Rattle.fs_places.specs.Places.{least_free}
-use Rattle.fs_places.specs.Rows.{place_of, row_of, with_new_row}
-use Rattle.fs_places.proofs.RowLemmas.{row_none, row_of-without_row_other, row_of-with_new_row_same, row_of-with_new_row_other}
+use Rattle.fs_seats.specs.Seats.{least_free}
+use Rattle.fs_seats.specs.Rows.{seat_of, row_of, with_new_row}
+use Rattle.fs_seats.proofs.RowLemmas.{row_none, row_of-without_row_other, row_of-with_new_row_same, row_of-with_new_row_other}
 use Rattle.fs_cmd.specs.Frames.{auth_request}
 use Rattle.fs_state.specs.declared.conn.Phase.{Phase}
 use Rattle.fs_state.specs.declared.conn.Phase.TheVariants.{Fresh, Ready, Ending, Closed}
@@ -21,7 +21,7 @@ use Rattle.fs_machine.specs.declared.refusal.Refusal.TheVariants as refusal
 use Rattle.fs_machine.specs.Entries.{cost_of}
 use Rattle.fs_machine.specs.Connections.{phase_of, phase_at}
 use Rattle.fs_machine.specs.Questions.{owed_to}
-use Rattle.fs_machine.specs.Step.{reads, is_closed, busy, refused_where, refused_act, refusal_of, places_for_conns, new_conn, arrived}
+use Rattle.fs_machine.specs.Step.{reads, is_closed, busy, refused_where, refused_act, refusal_of, seats_for_conns, new_conn, arrived}
 use Rattle.fs_machine.specs.Step.{act_done, step}
 use Rattle.fs_machine.specs.Runs.{run_from, IsRunFrom}
 use Rattle.fs_machine.specs.Frames.{frames_among, given_in, given_by, handed_in, command_in}
@@ -108,7 +108,7 @@ others conn s entry orderly none apart =
       actor = others_actor conn entry.act (at_moment entry.moment s) apart;
       commands = others_command conn entry.act (at_moment entry.moment s) apart;
       handed = others_handed conn entry.act s (at_moment entry.moment s) apart;
-      phase = spares.settles.phase;
+      phase = inl (record { phase = spares.settles.phase; parting = spares.settles.parting });
       owed = spares.settles.owed;
       frames =
           closed_waits (cost_of entry.act) (with_posts s (act_done entry.act (at_moment entry.moment s)).state) conn
@@ -172,7 +172,7 @@ own conn s entry orderly none actor = record {
 
 -- ---- the act by which it comes
 
--- where not each place is taken a connection that comes is there
+-- where not each seat is taken a connection that comes is there
 new_there : (s : Switch) → Ordered s → s.drawn.conns < 2 ^ 32 - 1 → is_full_of_conns s ≡ false →
     row_of (with_new_row s.conns (numbers.with_conn s.drawn).conns new_conn) (numbers.with_conn s.drawn).conns ≡ Some new_conn
 new_there s ordered room free = by (least_free s.conns 0) refl free
@@ -191,18 +191,19 @@ comes moment s orderly none =
     let new : ℕ = (numbers.with_conn s.drawn).conns in
     let ordered : Ordered (at_moment moment s) = (advanced_orderly moment s orderly).ordered in
     let room : s.drawn.conns < 2 ^ 32 - 1 = room_left s orderly (not_full s (record { moment = moment; act = Arrive }) none) in
-    let nowhere : place_of s.conns new ≡ None = number_new s orderly.ordered room in
+    let nowhere : seat_of s.conns new ≡ None = number_new s orderly.ordered room in
     let there : conn_of (arrived (at_moment moment s)).state new ≡ Some new_conn =
     new_there s orderly.ordered room
-    (none_refused (is_full_of_conns s) (refusal.TooMany (places_for_conns s)) None
+    (none_refused (is_full_of_conns s) (refusal.TooMany (seats_for_conns s)) None
     (not_refused s (record { moment = moment; act = Arrive }) none)).0 in
     let t : Switch = (arrived (at_moment moment s)).state in
     let given : given_in new (with_posts s t) ≡ auth_request ∷ [] =
     ap (λ found. if is_closed (phase_of found) then [] else frames_among new (all_given (with_posts s t))) there
-    ∙ ap (λ gifts. frames_among new (gifts ++ (posts s t ++ (s.given ++ gift_of new auth_request ∷ [])))) orderly.answered
-    ∙ ap (λ gifts. frames_among new (posts s t ++ (gifts ++ gift_of new auth_request ∷ []))) orderly.given
-    ∙ among_append new (posts s t) (gift_of new auth_request ∷ [])
-    ∙ ap (λ texts. texts ++ frames_among new (gift_of new auth_request ∷ [])) (posts_gone s t new nowhere)
+    ∙ ap (λ gifts. frames_among new ((gifts ++ gift_of new auth_request ∷ []) ++ (posts s t ++ (s.late ++ s.notices)))) orderly.replies
+    ∙ ap (λ gifts. frames_among new (gift_of new auth_request ∷ (posts s t ++ (gifts ++ s.notices)))) orderly.late
+    ∙ ap (λ gifts. frames_among new (gift_of new auth_request ∷ (posts s t ++ gifts))) orderly.notices
+    ∙ ap (λ texts. (if new == new then auth_request ∷ [] else []) ++ texts)
+    (among_append new (posts s t) [] ∙ ap (λ texts. texts ++ []) (posts_gone s t new nowhere))
     ∙ ap (λ b. (if b then auth_request ∷ [] else []) ++ []) (eq-eqb new new refl) in
     record {
       act = refl;

@@ -1,6 +1,6 @@
--- No act changes what a switch was configured by, its clock, its place in the journal, its cost or its counts.
+-- No act changes the settings of a switch, its clock, its place in the journal, its cost or its counts.
 use Rattle.std.proofs.Common.{◌≡◌, ℕ, unwrap_or, refl, ap, ◌∙◌}
-use Rattle.fs_doc.specs.Reading.{Configuration}
+use Rattle.fs_doc.specs.declared.settings.Settings.{Settings}
 use Rattle.fs_state.specs.Counts.{Tallies}
 use Rattle.fs_state.specs.Switch.{Switch}
 use Rattle.fs_machine.specs.declared.entry.Act.{Act}
@@ -12,23 +12,23 @@ use Rattle.fs_machine.proofs.FrontLemmas.{Front, front_of, moves_by_front}
 use Rattle.fs_machine.proofs.ActWalk.{acted_kept}
 
 pub record Constants : Type 0 where
-  pub config : Configuration
+  pub settings : Settings
   pub moment : ℕ
   pub entries : ℕ
   pub cost : ℕ
   pub counts : Tallies
 
 abbrev pub constants_of : Switch → Constants
-constants_of s = record { config = s.config; moment = s.moment; entries = s.entries; cost = s.cost; counts = s.counts }
+constants_of s = record { settings = s.settings; moment = s.moment; entries = s.entries; cost = s.cost; counts = s.counts }
 
 abbrev Same : Switch → Fact
 Same s b t = constants_of t ≡ constants_of s
 
 in_rest : Rest → Constants
-in_rest r = record { config = r.config; moment = r.moment; entries = r.entries; cost = r.cost; counts = r.counts }
+in_rest r = record { settings = r.settings; moment = r.moment; entries = r.entries; cost = r.cost; counts = r.counts }
 
 in_front : Front → Constants
-in_front f = record { config = f.config; moment = f.moment; entries = f.entries; cost = f.cost; counts = f.counts }
+in_front f = record { settings = f.settings; moment = f.moment; entries = f.entries; cost = f.cost; counts = f.counts }
 
 by_rest : (s t : Switch) → rest_of t ≡ rest_of s → constants_of t ≡ constants_of s
 unfolding in_rest

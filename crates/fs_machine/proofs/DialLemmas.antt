@@ -52,8 +52,8 @@ plans_filled dial each k group there =
         subst (λ (g : List LegPlan). IsSome (slice_get g 0)) (same_Some (map (leg_plan dial.pairs) legs) group e)
         (some_map (leg_plan dial.pairs) legs 0 (each k legs is))
 
-pub dialled_groups : (url : Text) (dial : Dial) → dial_string url ≡ Ok dial → AreGroups (plans_of dial)
-dialled_groups url dial is =
+pub dialed_groups : (url : Text) (dial : Dial) → dial_string url ≡ Ok dial → AreGroups (plans_of dial)
+dialed_groups url dial is =
     let spelt = read_is_spelt url dial is in
     record {
       some = some_map (λ legs. map (leg_plan dial.pairs) legs) dial.groups 0 (first_there _ spelt.rest dial.groups spelt.legs);

@@ -16,11 +16,11 @@ use Rattle.fs_orig.specs.declared.verdict.Verdict.{Verdict}
 use Rattle.fs_orig.specs.declared.verdict.Verdict.TheVariants as verdict
 use Rattle.fs_orig.specs.Verdicts as verdicts
 use Rattle.fs_orig.proofs.VerdictLemmas.{then_expires, timeout_due}
-use Rattle.fs_places.specs.declared.numbered.Numbered.{Numbered}
-use Rattle.fs_places.specs.Places.{held_in}
-use Rattle.fs_places.proofs.RowLemmas.{place_found, none_found}
-use Rattle.fs_places.specs.Least.{lesser}
-use Rattle.fs_places.proofs.LeastLemmas.{lesser_is, least_held, least_never}
+use Rattle.fs_seats.specs.declared.numbered.Numbered.{Numbered}
+use Rattle.fs_seats.specs.Seats.{held_in}
+use Rattle.fs_seats.proofs.RowLemmas.{seat_found, none_found}
+use Rattle.fs_seats.specs.Least.{lesser}
+use Rattle.fs_seats.proofs.LeastLemmas.{lesser_is, least_held, least_never}
 use Rattle.fs_state.specs.declared.job.Job.{Job}
 use Rattle.fs_state.specs.declared.job.JobWork.{JobWork}
 use Rattle.fs_state.specs.declared.job.JobWork.TheVariants.{Sleep, Originate}
@@ -44,10 +44,10 @@ use Rattle.fs_machine.proofs.OwedLaws.{job_is_known}
 
 -- each job is the one of its number
 pub record AreKnown (s : Switch) : Type 0 where
-  pub known : (place : ℕ) (row : Numbered Job) → held_in s.jobs place ≡ Some row → job_of s row.number ≡ Some row.held
+  pub known : (seat : ℕ) (row : Numbered Job) → held_in s.jobs seat ≡ Some row → job_of s row.number ≡ Some row.held
 
 known_in : (s : Switch) → Sound (books_of s) → AreKnown s
-known_in s h = record { known = λ place job is. job_is_known s place job h is }
+known_in s h = record { known = λ seat job is. job_is_known s seat job h is }
 
 -- behind every run they are so
 pub run_is_known : (config : Configuration) (entries : List Entry) → IsWithin config → IsRunFrom (empty config) entries →
@@ -63,7 +63,7 @@ now_accepted (Some (At moment)) is = absurd (cc)
 
 slot_works : (s : Switch) (slot : ℕ) → due_slot s ≡ Some slot → refused_act (Work slot) s ≡ None
 slot_works s slot is =
-    let found = place_found (is_due s) s.channels 0 slot is in
+    let found = seat_found (is_due s) s.channels 0 slot is in
     let same : found.0 ≡ slot = omega (arith, found.1) in
     now_accepted (slot_due slot s) (subst (λ n. is_now (slot_due n s) ≡ true) same found.2)
 
@@ -80,10 +80,10 @@ job_works s number are is = let found = least_held (due_number s) s.jobs number 
         (now_accepted (job_due row.number s) (ap is_now due ∙ now))
     by row known false now e = absurd (none-some number e)
 
-    at : (place : ℕ) (held : Option (Numbered Job)) → held_in s.jobs place ≡ held → due_number s held ≡ Some number →
+    at : (seat : ℕ) (held : Option (Numbered Job)) → held_in s.jobs seat ≡ held → due_number s held ≡ Some number →
         not_due (job_due number s) ≡ None
-    at place None there e = absurd (none-some number e)
-    at place (Some row) there e = by row (are.known place row there) (is_now (work_due s row.held.work)) refl e
+    at seat None there e = absurd (none-some number e)
+    at seat (Some row) there e = by row (are.known seat row there) (is_now (work_due s row.held.work)) refl e
 
 slot_among : (slot job moment : Option ℕ) (n : ℕ) →
     actor_or actor.Slot slot (actor_or actor.Job job (later_or_never moment)) ≡ actor.Slot n → slot ≡ Some n
@@ -191,23 +191,23 @@ IsDue (actor.Job number) = Unit {0}
 IsDue (actor.Later moment) = ⊥
 IsDue actor.Never = ⊥
 
-slot_is_due : (s : Switch) (place : ℕ) → is_due s (held_in s.channels place) ≡ true → IsDue (due_among_all s)
-slot_is_due s place due = by (due_slot s) refl
+slot_is_due : (s : Switch) (seat : ℕ) → is_due s (held_in s.channels seat) ≡ true → IsDue (due_among_all s)
+slot_is_due s seat due = by (due_slot s) refl
   where
     by : (found : Option ℕ) → due_slot s ≡ found →
         IsDue (actor_or actor.Slot found
         (actor_or actor.Job (due_job s) (later_or_never (lesser (first_chan_moment s) (first_job_moment s)))))
     by (Some slot) is = tt
-    by None is = absurd (both_ways (is_due s (held_in s.channels place)) (none_found (is_due s) refl s.channels 0 is place) due)
+    by None is = absurd (both_ways (is_due s (held_in s.channels seat)) (none_found (is_due s) refl s.channels 0 is seat) due)
 
-job_is_due : (s : Switch) (place number : ℕ) → due_number s (held_in s.jobs place) ≡ Some number → IsDue (due_among_all s)
-job_is_due s place number due = by (due_slot s) (due_job s) refl
+job_is_due : (s : Switch) (seat number : ℕ) → due_number s (held_in s.jobs seat) ≡ Some number → IsDue (due_among_all s)
+job_is_due s seat number due = by (due_slot s) (due_job s) refl
   where
     by : (slot job : Option ℕ) → due_job s ≡ job →
         IsDue (actor_or actor.Slot slot (actor_or actor.Job job (later_or_never (lesser (first_chan_moment s) (first_job_moment s)))))
     by (Some slot) job is = tt
     by None (Some job) is = tt
-    by None None is = absurd (none-some number (sym (least_never (due_number s) s.jobs refl is place) ∙ due))
+    by None None is = absurd (none-some number (sym (least_never (due_number s) s.jobs refl is seat) ∙ due))
 
 due_behind : (s : Switch) (now moment : ℕ) → due_among_all (record s { moment = now }) ≡ actor.Later moment →
     IsDue (due_among_all (record s { moment = moment }))

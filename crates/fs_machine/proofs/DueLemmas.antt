@@ -7,9 +7,9 @@ use Rattle.fs_chan.specs.Bridging.{awaited_by}
 use Rattle.fs_chan.proofs.WorkLemmas.{is_to_come, to_come_at}
 use Rattle.fs_orig.specs.declared.orig.Orig.{Orig}
 use Rattle.fs_orig.specs.Verdicts as verdicts
-use Rattle.fs_places.specs.declared.numbered.Numbered.{Numbered}
-use Rattle.fs_places.specs.Least.{lesser}
-use Rattle.fs_places.proofs.LeastLemmas.{IsAfter, lesser_after, least_after}
+use Rattle.fs_seats.specs.declared.numbered.Numbered.{Numbered}
+use Rattle.fs_seats.specs.Least.{lesser}
+use Rattle.fs_seats.proofs.LeastLemmas.{IsAfter, lesser_after, least_after}
 use Rattle.fs_state.specs.declared.job.Job.{Job}
 use Rattle.fs_state.specs.declared.job.JobWork.{JobWork}
 use Rattle.fs_state.specs.declared.job.JobWork.TheVariants.{Sleep, Originate}

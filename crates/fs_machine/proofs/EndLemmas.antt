@@ -171,6 +171,10 @@ module _ (named : Members) (s : Switch) (fit : RowsFit s.bridges) where
               let same : e.0 ≡ some.0.0 = same_Some e.0 some.0.0 (sym (is_part slot e one leg) ∙ part) in
               ap (has_number some.0.0.number) same ∙ nat_eq_equiv.refl some.0.0.number
 
+  pub closure_once : (number : ℕ) → ends_of_number number (closure_of (world_of s) (living_of s named)).ended ≤ 1
+  unfolding ended members
+  closure_once number = are.once number
+
   pub closure_ends :
       AreEnds s.bridges (closure_of (world_of s) (living_of s named)).members (closure_of (world_of s) (living_of s named)).ended
   unfolding ended members

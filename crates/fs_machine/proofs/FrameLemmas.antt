@@ -47,13 +47,13 @@ take_owes s moment taker conn = refl
 -- a connection that reads commands and is owed no reply gives one, unless the journal is full
 pub command_refused : (s : Switch) (moment conn : ℕ) (block : Text) → reads (phase_at s conn) ≡ true → owes s conn ≡ false →
     refusal_of s (record { moment = moment; act = Command conn block }) ≡ refused_where (is_full s)
-    (refusal.JournalFull s.cost s.config.settings.journal_limit) None
+    (refusal.JournalFull s.cost s.settings.journal_limit) None
 unfolding refusal_of
 command_refused s moment conn block is_reading owes_none =
-    ap (λ test. refused_where (is_full s) (refusal.JournalFull s.cost s.config.settings.journal_limit)
+    ap (λ test. refused_where (is_full s) (refusal.JournalFull s.cost s.settings.journal_limit)
     (refused_where (not test) refusal.Gone (busy (owed_to s conn)))) is_reading
-    ∙ ap (refused_where (is_full s) (refusal.JournalFull s.cost s.config.settings.journal_limit)) (not_busy (owed_to s conn) owes_none)
+    ∙ ap (refused_where (is_full s) (refusal.JournalFull s.cost s.settings.journal_limit)) (not_busy (owed_to s conn) owes_none)
   where
     not_busy : (since : Option ℕ) → is_some since ≡ false → busy since ≡ None
     not_busy None none = refl
-    not_busy (Some place) none = absurd (cc)
+    not_busy (Some seat) none = absurd (cc)

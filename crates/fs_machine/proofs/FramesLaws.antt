@@ -5,8 +5,8 @@ use Rattle.std.proofs.Common.{take-append-drop, arith}
 use Rattle.std.proofs.lemmas.Bool.{both_ways, eqb-true, eqb-false, cases_eq, or_parts, not-false}
 use Rattle.std.proofs.lemmas.List.{nil_from_length}
 use Rattle.fs_doc.specs.Reading.{Configuration}
-use Rattle.fs_places.specs.Rows.{place_of}
-use Rattle.fs_places.proofs.RowLemmas.{place_stands, place_of-without_row_same}
+use Rattle.fs_seats.specs.Rows.{seat_of}
+use Rattle.fs_seats.proofs.RowLemmas.{seat_stands, seat_of-without_row_same}
 use Rattle.fs_text.specs.Texts.{Text}
 use Rattle.fs_state.specs.Frames.{texts_of}
 use Rattle.fs_state.specs.Posting.{with_posts}
@@ -29,7 +29,7 @@ use Rattle.fs_machine.proofs.WaitingLemmas.{Ordered, none_closed, some_open, kee
 use Rattle.fs_machine.proofs.WaitingLemmas.{posted_ordered, none_in_all}
 use Rattle.fs_machine.proofs.WaitingLemmas.{nothing_given, taken_ordered, taken_same, taken_other, without_ordered, without_same}
 use Rattle.fs_machine.proofs.WaitingLemmas.{without_other, arrived_waits}
-use Rattle.fs_machine.proofs.OrderLemmas.{Orderly, acted_ordered, acted_config, acted_drawn, acted_gone, none_refused, not_full}
+use Rattle.fs_machine.proofs.OrderLemmas.{Orderly, acted_ordered, acted_settings, acted_drawn, acted_gone, none_refused, not_full}
 use Rattle.fs_machine.proofs.OrderLemmas.{not_refused, room_left, advanced_orderly, entry_orderly, run_orderly, empty_waits, empty_orderly}
 
 -- ---- one act
@@ -48,7 +48,7 @@ Follows before conn act s =
 record Drops (before : Switch) (conn : ℕ) (act : Act) (s : Switch) : Type 0 where
   handed : handed_in conn act s ≡ []
   given : given_in conn (posted_by before act s) ≡ []
-  gone : place_of (act_done act s).state.conns conn ≡ None
+  gone : seat_of (act_done act s).state.conns conn ≡ None
   drawn : conn ≤ (act_done act s).state.drawn.conns
 
 -- an act that hands out nothing, and leaves what waits
@@ -76,7 +76,7 @@ take_follows before conn taker s orderly = by (taker == conn) refl
     ordered = posted_ordered before (with_frame_taken taker s) (taken_ordered taker s orderly.ordered)
 
     nothing : all_given t ≡ []
-    nothing = none_in_all before (with_frame_taken taker s) orderly.answered orderly.news orderly.given
+    nothing = none_in_all before (with_frame_taken taker s) orderly.replies orderly.news orderly.late orderly.notices
 
     none : given_in conn t ≡ []
     none = nothing_given t conn nothing
@@ -129,19 +129,19 @@ sent_follows before conn gone s orderly none =
 
 -- a connection that is open has a number that was drawn
 open_drawn : (s : Switch) (conn : ℕ) → Ordered s → is_closed (phase_at s conn) ≡ false → conn ≤ s.drawn.conns
-open_drawn s conn ordered is_open = by (place_of s.conns conn) refl
+open_drawn s conn ordered is_open = by (seat_of s.conns conn) refl
   where
-    by : (found : Option ℕ) → place_of s.conns conn ≡ found → conn ≤ s.drawn.conns
+    by : (found : Option ℕ) → seat_of s.conns conn ≡ found → conn ≤ s.drawn.conns
     by None is = absurd (both_ways (is_closed (phase_at s conn)) is_open (none_closed s conn is))
-    by (Some place) is = ordered.within conn place (place_stands s.conns conn place is)
+    by (Some seat) is = ordered.within conn seat (seat_stands s.conns conn seat is)
 
 -- one whose link failed is gone
 failed_drops : (before : Switch) (conn : ℕ) (s : Switch) → Orderly s → refused_act (Close conn Failed) s ≡ None →
     Drops before conn (Close conn Failed) s
 failed_drops before conn s orderly none = record {
   handed = refl;
-  given = none_given (posted_by before (Close conn Failed) s) conn (place_of-without_row_same s.conns conn orderly.ordered.distinct);
-  gone = place_of-without_row_same s.conns conn orderly.ordered.distinct;
+  given = none_given (posted_by before (Close conn Failed) s) conn (seat_of-without_row_same s.conns conn orderly.ordered.distinct);
+  gone = seat_of-without_row_same s.conns conn orderly.ordered.distinct;
   drawn = open_drawn s conn orderly.ordered (none_refused (is_closed (phase_at s conn)) refusal.Gone None none).0;
 }
 
@@ -188,7 +188,7 @@ handed_advanced conn now _ s = refl
 pub record Lost (conn : ℕ) (s : Switch) (entry : Entry) : Type 0 where
   pub handed : handed_in conn entry.act s ≡ []
   pub given : given_by conn s entry ≡ []
-  pub gone : place_of (step s entry).state.conns conn ≡ None
+  pub gone : seat_of (step s entry).state.conns conn ≡ None
   pub drawn : conn ≤ (step s entry).state.drawn.conns
 
 -- the same of the entry of an act
@@ -222,23 +222,23 @@ entry_follows conn s entry orderly none =
 -- ---- a connection that is gone
 
 -- nothing waits for it
-pub none_waits : (s : Switch) (conn : ℕ) → place_of s.conns conn ≡ None → waiting_for s conn ≡ []
-none_waits s conn none = ap (λ found. texts_of (waiting_at s.queues found)) none
+pub none_waits : (s : Switch) (conn : ℕ) → seat_of s.conns conn ≡ None → waiting_for s conn ≡ []
+none_waits s conn none = ap (λ found. texts_of (waiting_at s.outboxes found)) none
 
 -- and nothing is handed out to it
-none_handed : (conn : ℕ) (act : Act) (s : Switch) → place_of s.conns conn ≡ None → handed_in conn act s ≡ []
+none_handed : (conn : ℕ) (act : Act) (s : Switch) → seat_of s.conns conn ≡ None → handed_in conn act s ≡ []
 none_handed conn (Take taker) s none =
     whichever (λ (texts : List Text). texts ≡ []) (taker == conn) (take 1 (waiting_for s conn)) []
     (ap (take 1) (none_waits s conn none)) refl
 none_handed conn _ s none = refl
 
 -- an entry leaves it gone
-entry_gone : (conn : ℕ) (s : Switch) (entry : Entry) → Orderly s → refusal_of s entry ≡ None → place_of s.conns conn ≡ None →
+entry_gone : (conn : ℕ) (s : Switch) (entry : Entry) → Orderly s → refusal_of s entry ≡ None → seat_of s.conns conn ≡ None →
     conn ≤ s.drawn.conns → Lost conn s entry
 unfolding step given_by
 entry_gone conn s entry orderly none nowhere below =
     let room : s.drawn.conns < 2 ^ 32 - 1 = room_left s orderly (not_full s entry none) in
-    let later : place_of (act_done entry.act (at_moment entry.moment s)).state.conns conn ≡ None =
+    let later : seat_of (act_done entry.act (at_moment entry.moment s)).state.conns conn ≡ None =
     acted_gone entry.act (at_moment entry.moment s) conn (advanced_orderly entry.moment s orderly).ordered room nowhere below in
     record {
       handed = none_handed conn entry.act s nowhere;
@@ -251,9 +251,9 @@ entry_gone conn s entry orderly none nowhere below =
 record StaysGone (conn : ℕ) (s : Switch) (entries : List Entry) : Type 0 where
   given : frames_from conn s entries ≡ []
   handed : handed_from conn s entries ≡ []
-  gone : place_of (run_from s entries).conns conn ≡ None
+  gone : seat_of (run_from s entries).conns conn ≡ None
 
-stays_gone : (conn : ℕ) (s : Switch) (entries : List Entry) → Orderly s → IsRunFrom s entries → place_of s.conns conn ≡ None →
+stays_gone : (conn : ℕ) (s : Switch) (entries : List Entry) → Orderly s → IsRunFrom s entries → seat_of s.conns conn ≡ None →
     conn ≤ s.drawn.conns → StaysGone conn s entries
 stays_gone conn s [] orderly run nowhere below = record { given = refl; handed = refl; gone = nowhere }
 stays_gone conn s (entry ∷ entries) orderly run nowhere below =
@@ -359,7 +359,7 @@ close_gives_none : (s : Switch) (moment conn : ℕ) → Orderly s → given_by c
 unfolding given_by
 close_gives_none s moment conn orderly =
     let t : Switch = without_conn conn (at_moment moment s) in
-    nothing_given (with_posts s t) conn (none_in_all s t orderly.answered orderly.news orderly.given)
+    nothing_given (with_posts s t) conn (none_in_all s t orderly.replies orderly.news orderly.late orderly.notices)
 
 -- a connection that can be closed so is open
 close_open : (s : Switch) (moment conn : ℕ) → refusal_of s (record { moment = moment; act = Close conn Sent }) ≡ None →
@@ -434,16 +434,16 @@ handed_unfailed config entries conn limit run unfailed =
     ap (λ frames. frames ++ frames_from conn (empty config) entries) (sym (empty_waits config conn))
     ∙ waits_on conn (empty config) entries (empty_orderly config limit) run unfailed
 
--- ---- what the switch was configured by
+-- ---- the settings
 
-pub config_step : (s : Switch) (entry : Entry) → (step s entry).state.config ≡ s.config
+pub settings_step : (s : Switch) (entry : Entry) → (step s entry).state.settings ≡ s.settings
 unfolding step
-config_step s entry = acted_config entry.act (at_moment entry.moment s)
+settings_step s entry = acted_settings entry.act (at_moment entry.moment s)
 
--- no entry changes it
-pub config_run : (s : Switch) (entries : List Entry) → (run_from s entries).config ≡ s.config
-config_run s [] = refl
-config_run s (entry ∷ entries) = config_run (step s entry).state entries ∙ config_step s entry
+-- no entry changes them
+pub settings_run : (s : Switch) (entries : List Entry) → (run_from s entries).settings ≡ s.settings
+settings_run s [] = refl
+settings_run s (entry ∷ entries) = settings_run (step s entry).state entries ∙ settings_step s entry
 
 -- ---- single steps behind a run
 
@@ -451,13 +451,13 @@ config_run s (entry ∷ entries) = config_run (step s entry).state entries ∙ c
 pub closed_waits_not : (config : Configuration) (entries : List Entry) (conn : ℕ) → config.settings.journal_limit ≤ 1073741824 →
     IsRunFrom (empty config) entries →
     is_closed (phase_at (run_from (empty config) entries) conn) ≡ true → waiting_for (run_from (empty config) entries) conn ≡ []
-closed_waits_not config entries conn limit run gone = by (place_of (run_from (empty config) entries).conns conn) refl
+closed_waits_not config entries conn limit run gone = by (seat_of (run_from (empty config) entries).conns conn) refl
   where
-    by : (found : Option ℕ) → place_of (run_from (empty config) entries).conns conn ≡ found →
+    by : (found : Option ℕ) → seat_of (run_from (empty config) entries).conns conn ≡ found →
         waiting_for (run_from (empty config) entries) conn ≡ []
     by None is = none_waits (run_from (empty config) entries) conn is
-    by (Some place) is = absurd (both_ways (is_closed (phase_at (run_from (empty config) entries) conn))
-        (some_open (run_from (empty config) entries) conn place
+    by (Some seat) is = absurd (both_ways (is_closed (phase_at (run_from (empty config) entries) conn))
+        (some_open (run_from (empty config) entries) conn seat
         (run_orderly (empty config) entries (empty_orderly config limit) run).ordered.opened is) gone)
 
 -- a frame that is taken leaves the others, and the phase of the connection
@@ -468,7 +468,7 @@ take_leaves s moment conn orderly =
     let t : Switch = with_frame_taken conn (at_moment moment s) in
     closed_quietly 64 (with_posts s t) conn
     (posted_ordered s t (taken_ordered conn (at_moment moment s) (advanced_orderly moment s orderly).ordered))
-    (none_in_all s t orderly.answered orderly.news orderly.given)
+    (none_in_all s t orderly.replies orderly.news orderly.late orderly.notices)
     ∙ taken_same conn (at_moment moment s) (advanced_orderly moment s orderly).ordered
 
 take_leaves_phase : (s : Switch) (moment conn : ℕ) →

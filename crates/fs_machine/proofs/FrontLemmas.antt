@@ -5,10 +5,11 @@ use Rattle.std.proofs.lemmas.Bool.{cases_eq}
 use Rattle.std.proofs.lemmas.Option.{same_Some}
 use Rattle.fs_text.specs.Texts.{Text}
 use Rattle.fs_vars.specs.Variables.{Variables}
-use Rattle.fs_doc.specs.Reading.{Configuration}
+use Rattle.fs_doc.specs.Dialplans.{Context}
+use Rattle.fs_doc.specs.declared.settings.Settings.{Settings}
 use Rattle.fs_text.specs.Cause.{cause_name}
 use Rattle.fs_text.specs.declared.causes.Cause.{Cause}
-use Rattle.fs_text.specs.declared.causes.Cause.TheVariants.{NormalTemporaryFailure, NormalClearing}
+use Rattle.fs_text.specs.declared.causes.Cause.TheVariants.{NormalClearing}
 use Rattle.fs_text.specs.declared.event_names.EventName.TheVariants.{ChannelExecuteComplete}
 use Rattle.fs_bridge.specs.declared.row.BridgeKind.{BridgeKind}
 use Rattle.fs_bridge.specs.declared.row.BridgeKind.TheVariants.{Dial}
@@ -28,10 +29,10 @@ use Rattle.fs_orig.specs.declared.winner.Winner.{Winner}
 use Rattle.fs_orig.specs.declared.orig.Owner.TheVariants as owner
 use Rattle.fs_orig.specs.Changes.{with_answer, at_next_group}
 use Rattle.fs_orig.specs.Plans.{all_behind}
-use Rattle.fs_places.specs.Places.{held_in, with_held}
-use Rattle.fs_places.proofs.HeldLemmas.{held_here, held_there, held_within}
-use Rattle.fs_places.specs.declared.numbered.Numbered.{Numbered}
-use Rattle.fs_places.specs.Rows.{with_row}
+use Rattle.fs_seats.specs.Seats.{held_in, with_held}
+use Rattle.fs_seats.proofs.HeldLemmas.{held_here, held_there, held_within}
+use Rattle.fs_seats.specs.declared.numbered.Numbered.{Numbered}
+use Rattle.fs_seats.specs.Rows.{with_row}
 use Rattle.fs_state.specs.declared.conn.Conn.{Conn}
 use Rattle.fs_state.specs.declared.conn.Parting.TheVariants as parting
 use Rattle.fs_state.specs.declared.event.Event.{Event}
@@ -60,6 +61,7 @@ use Rattle.fs_machine.proofs.Kept.{KeptByDials}
 use Rattle.fs_machine.proofs.Kept.{raced}
 use Rattle.fs_machine.proofs.Kept.{HasWon, KeptByMoves}
 use Rattle.fs_machine.proofs.StayLemmas.{application_plain, moved_plain, changed_there, park_lives}
+use Rattle.fs_machine.proofs.JoinLemmas.{both_left_kept}
 use Rattle.fs_machine.proofs.LeaveLemmas.{others_left}
 use Rattle.fs_machine.proofs.BondLemmas.{row_seen}
 use Rattle.fs_machine.proofs.Walk.{disposed_kept, group_made_kept}
@@ -68,7 +70,8 @@ use Rattle.fs_machine.proofs.WonLemmas.{answerer_lives, bridge_won_kept}
 
 -- what is left of a switch without connections, jobs, originations and what they are given
 pub record Front : Type 0 where
-  pub config : Configuration
+  pub settings : Settings
+  pub contexts : List Context
   pub globals : Variables
   pub channels : List (Option Chan)
   pub bridges : BridgeRows
@@ -81,7 +84,8 @@ pub record Front : Type 0 where
 
 abbrev pub front_of : Switch → Front
 front_of s = record {
-  config = s.config;
+  settings = s.settings;
+  contexts = s.contexts;
   globals = s.globals;
   channels = s.channels;
   bridges = s.bridges;
@@ -119,7 +123,7 @@ owing_front conn work s = conn_changed_front (owed_since s.entries) conn (with_n
 ended_front : (number conn : ℕ) (answer : Text) (s : Switch) → front_of (after_job_end number conn answer s) ≡ front_of s
 ended_front number conn answer s = conn_changed_front not_owed conn (without_job number s)
 
-given_up_front : (slot : ℕ) (awaited : Option ℕ) (s : Switch) → front_of (orig_given_up slot awaited s) ≡ front_of s
+pub given_up_front : (slot : ℕ) (awaited : Option ℕ) (s : Switch) → front_of (orig_given_up slot awaited s) ≡ front_of s
 given_up_front slot None s = refl
 given_up_front slot (Some number) s = by (orig_of s number)
   where
@@ -147,7 +151,7 @@ pub record KeptByRemains (P : Fact) : Type 0 where
   pub gone : (slot : ℕ) (old : Chan) {s : Switch} → chan_at s slot ≡ Some old → is_live old ≡ false → P (Some 0) s →
       P (Some 1) (with_chan slot None s)
 
-pub stays_remains : (old new : Chan) → Stays old new → Remains old new
+pub stays_remains : {b : Stage} (old new : Chan) → Stays b old new → Remains old new
 stays_remains old new stays = record {
   uuid = ap (λ (l : Links). l.uuid) stays.links;
   partner = ap (λ (l : Links). l.partner) stays.links;
@@ -156,26 +160,26 @@ stays_remains old new stays = record {
 }
 
 -- a slot stays lively where its channel lives on
-lively_put : (s : Switch) (slot place : ℕ) (old new : Chan) → chan_at s place ≡ Some old → is_live new ≡ is_live old → Lively s slot →
-    Lively (with_chan place (Some new) s) slot
-lively_put s slot place old new there live h c is = by (cases_eq slot place)
+lively_put : (s : Switch) (slot seat : ℕ) (old new : Chan) → chan_at s seat ≡ Some old → is_live new ≡ is_live old → Lively s slot →
+    Lively (with_chan seat (Some new) s) slot
+lively_put s slot seat old new there live h c is = by (cases_eq slot seat)
   where
-    by : (slot ≡ place) ⊎ (slot ≡ place → ⊥) → is_live c ≡ true
+    by : (slot ≡ seat) ⊎ (slot ≡ seat → ⊥) → is_live c ≡ true
     by (inl same) =
-        let here : held_in (with_held s.channels place (Some new)) slot ≡ Some new =
-        ap (held_in (with_held s.channels place (Some new))) same
-        ∙ held_here s.channels place (Some new) (held_within s.channels place old there) in
+        let here : held_in (with_held s.channels seat (Some new)) slot ≡ Some new =
+        ap (held_in (with_held s.channels seat (Some new))) same
+        ∙ held_here s.channels seat (Some new) (held_within s.channels seat old there) in
         ap is_live (same_Some c new (sym is ∙ here)) ∙ live ∙ h old (ap (held_in s.channels) same ∙ there)
-    by (inr other) = h c (sym (held_there s.channels place slot (Some new) other) ∙ is)
+    by (inr other) = h c (sym (held_there s.channels seat slot (Some new) other) ∙ is)
 
-lively_peer : (slot place other : ℕ) (s : Switch) → Lively s slot → Lively (with_peer place other s) slot
-lively_peer slot place other s h = by (chan_at s other)
+lively_peer : (slot seat other : ℕ) (s : Switch) → Lively s slot → Lively (with_peer seat other s) slot
+lively_peer slot seat other s h = by (chan_at s other)
   where
-    by : (found : Option Chan) → Lively (with_peer_from place other found s) slot
+    by : (found : Option Chan) → Lively (with_peer_from seat other found s) slot
     by None = h
     by (Some d) =
-        changed_there (λ (t : Switch). Lively t slot) (bridged (peer_of other d)) place s
-        (λ c there. lively_put s slot place c (bridged (peer_of other d) c) there refl h) h
+        changed_there (λ (t : Switch). Lively t slot) (bridged (peer_of other d)) seat s
+        (λ c there. lively_put s slot seat c (bridged (peer_of other d) c) there refl h) h
 
 lively_join : (kind : BridgeKind) (a b slot : ℕ) (s : Switch) → Lively s slot → Lively (joined_as kind a b s) slot
 lively_join kind a b slot s h = lively_peer slot b a (with_peer a b (with_bridge a b kind s))
@@ -230,8 +234,8 @@ module _ (before : Switch) (P : Fact) (same : (b : Stage) (t u : Switch) → P b
     told = kept.told;
     globals = kept.globals;
     changed = λ slot old new there stays h. kept.remains slot old new there (stays_remains old new stays) h;
-    answers = λ place slot number {b = b} {s = s} h.
-        same b s _ h (orig_changed_front (leg_changed (λ position. with_answer position place) slot) number s);
+    answers = λ seat slot number {b = b} {s = s} h.
+        same b s _ h (orig_changed_front (leg_changed (λ position. with_answer position seat) slot) number s);
   }
 
   changed_remains : (change : Chan → Chan) (slot : ℕ) (b : Stage) (s : Switch) → ((c : Chan) → Remains c (change c)) → P b s →
@@ -242,7 +246,7 @@ module _ (before : Switch) (P : Fact) (same : (b : Stage) (t u : Switch) → P b
   moved_remains : (change : Chan → Chan) (slot : ℕ) (b : Stage) (s : Switch) →
       ((c : Chan) → chan_at s slot ≡ Some c → Remains c (change c)) → P b s → P b (after_move change slot s)
   moved_remains change slot b s remains h =
-      moved_plain (P b) (λ name at t k. kept.told (plain_event name at) tt k) change slot s
+      moved_plain (P b) (λ name at t plain k. kept.told (plain_event name at) plain k) change slot s
       (λ c there. kept.remains slot c (change c) there (remains c there) h) h
 
   -- ---- bridges
@@ -260,7 +264,7 @@ module _ (before : Switch) (P : Fact) (same : (b : Stage) (t u : Switch) → P b
     where
       on : (after : After) → lives_at s slot ≡ true → P b (after_outliving after slot s)
       on GoOn live =
-          kept.told (application_event ChannelExecuteComplete (running_at slot s) slot) (application_plain (running_at slot s))
+          kept.told (application_event ChannelExecuteComplete (running_at slot s) slot) (application_plain (running_at slot s) slot)
           (moved_remains at_rest slot b s (λ c there. record { uuid = refl; partner = refl; live = refl; short = λ short. short }) h)
       on Park live =
           moved_remains parked slot b s
@@ -285,12 +289,14 @@ module _ (before : Switch) (P : Fact) (same : (b : Stage) (t u : Switch) → P b
   pub calls_by_remains : KeptByCalls P
   calls_by_remains = record {
     touches = touches;
-    hung = kept.hung;
-    joined = λ kind caller answerer c d {b = b} {s = s} can there other one two first second h. kept.joins kind caller answerer can h;
-    leaves = λ slot {b = b} {s = s} apart h. left_remains slot b s h;
-    departs = λ slot {b = b} {s = s} h. departed_remains slot b s h;
+    hung = λ named early h. kept.hung named h;
+    joined = λ kind caller answerer c d can there other one two first second was were h. kept.joins kind caller answerer can h;
+    leaves = λ one other {s = s} first second early h.
+        both_left_kept (P (Some 0)) (λ named t k. kept.hung named k) (λ slot t apart k. left_remains slot (Some 0) t k) one other s
+        first second h;
+    departs = λ slot {s = s} early h. departed_remains slot (Some 0) s h;
     more = kept.more;
-    gone = kept.gone;
+    gone = λ slot old there dead early h. kept.gone slot old there dead h;
   }
 
   -- ---- channels that dial
@@ -305,7 +311,7 @@ module _ (before : Switch) (P : Fact) (same : (b : Stage) (t u : Switch) → P b
       on : (onward : Bool) → P (Some 0) (after_going_on onward cause slot (disposed (cause_name cause) slot s))
       on true =
           kept.told (application_event ChannelExecuteComplete (running_at slot (disposed (cause_name cause) slot s)) slot)
-          (application_plain (running_at slot (disposed (cause_name cause) slot s)))
+          (application_plain (running_at slot (disposed (cause_name cause) slot s)) slot)
           (moved_remains at_rest slot (Some 0) (disposed (cause_name cause) slot s)
           (λ c there. record { uuid = refl; partner = refl; live = refl; short = λ short. short }) told)
       on false = kept.hung ((slot, cause) ∷ []) told
@@ -318,8 +324,8 @@ module _ (before : Switch) (P : Fact) (same : (b : Stage) (t u : Switch) → P b
   at_one = record {
     told = λ event plain h. touches.told event plain h;
     globals = λ globals h. touches.globals globals h;
-    changed = λ slot old new there stays h. touches.changed slot old new there stays h;
-    answers = λ place slot number h. touches.answers place slot number h;
+    changed = λ slot old new there stays h. kept.remains slot old new there (stays_remains old new stays) h;
+    answers = λ seat slot number h. touches.answers seat slot number h;
   }
 
   won_remains : (slot leg : ℕ) (s : Switch) → P (Some 0) s → P (Some 0) (after_bridge_win slot leg s)
@@ -327,7 +333,7 @@ module _ (before : Switch) (P : Fact) (same : (b : Stage) (t u : Switch) → P b
       bridge_won_kept (P (Some 0)) (P (Some 0)) at_one slot leg
       (λ u can k. media leg (joined_as Dial slot leg u)
       (lively_join Dial slot leg leg u (lively_now u leg (answerer_lives slot leg u can))) (kept.joins Dial slot leg can k))
-      (λ u k. failed_remains NormalTemporaryFailure slot u k) s h
+      (λ u cannot k. k) s h
 
   dialed_remains : (slot : ℕ) (c : Chan) (groups : List (List LegPlan)) (timeout : ℕ) (s : Switch) → P None s →
       P (Some 0)
@@ -350,7 +356,7 @@ module _ (before : Switch) (P : Fact) (same : (b : Stage) (t u : Switch) → P b
     dials = λ slot c groups timeout {s = s} there works are h. dialed_remains slot c groups timeout s h;
     regroups = λ number o plans caller {s = s} there next h. regroups_same number (group_made plans caller number s)
         (group_made_kept P births plans caller number {n = 0} {s = s} h);
-    fails = λ slot orig cause {s = s} waits h. failed_remains cause slot (without_orig orig s)
+    fails = λ slot orig cause {s = s} waits over h. failed_remains cause slot (without_orig orig s)
         (same (Some 0) s (without_orig orig s) h refl);
     wins = λ slot orig leg slots waits won h.
         won_remains slot (unwrap_or leg.slot 0) (without_orig orig (raced slots before))
@@ -396,7 +402,7 @@ module _ (before : Switch) (P : Fact) (same : (b : Stage) (t u : Switch) → P b
     calls = calls;
     jobs = record {
       woken = λ number conn until answer {s = s} does h. ended_same number conn answer s h;
-      failed = λ job conn winner caller orig cause {s = s} does h. over_same job conn orig (failed_text cause) s h;
+      failed = λ job conn winner caller orig cause {s = s} does over h. over_same job conn orig (failed_text cause) s h;
       wins = λ job conn winner caller orig leg slots does won h.
           over_same job conn orig (made_text leg.uuid) (after_winning winner (unwrap_or leg.slot 0) (raced slots before))
           (wins job conn winner caller orig leg slots does won h);
@@ -404,8 +410,8 @@ module _ (before : Switch) (P : Fact) (same : (b : Stage) (t u : Switch) → P b
     dials = dials;
     commands = λ conn. record {
       spent = births.spent;
+      noticed = λ frame h. same _ _ _ h refl;
       gave = λ frame h. same _ _ _ h refl;
-      answered = λ frame h. same _ _ _ h refl;
       asked = λ change {n = n} {s = s} h. changed_same (with_subs_changed change) conn n s h;
       admitted = λ {n = n} {s = s} fresh h. changed_same admitted conn n s h;
       parted = λ why {n = n} {s = s} leaves h. changed_same (parted why) conn n s h;

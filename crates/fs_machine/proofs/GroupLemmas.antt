@@ -12,20 +12,20 @@ abbrev pub behind : List OrigLeg → MadeGroup → MadeGroup
 behind legs group = record { state = group.state; legs = legs ++ group.legs }
 
 -- one leg more
-pub group_there : (plans : List LegPlan) (place : ℕ) (default : LegPlan) (legs : List OrigLeg) (leg : OrigLeg) (caller : Caller) (orig : ℕ)
-    (s t : Switch) → place < length plans → ComesTo (leg_made (get_or plans place default) caller orig s) t leg →
-    behind legs (group_made (drop place plans) caller orig s)
-    ≡ behind (legs ++ leg ∷ []) (group_made (drop (place + 1) plans) caller orig t)
-group_there plans place default legs leg caller orig s t within is =
-    at_drop_more (λ left. behind legs (group_made left caller orig s)) plans place default within
-    ∙ ap (λ made. behind legs (with_first made.leg (group_made (drop (place + 1) plans) caller orig made.state))) is
+pub group_there : (plans : List LegPlan) (seat : ℕ) (default : LegPlan) (legs : List OrigLeg) (leg : OrigLeg) (caller : Caller) (orig : ℕ)
+    (s t : Switch) → seat < length plans → ComesTo (leg_made (get_or plans seat default) caller orig s) t leg →
+    behind legs (group_made (drop seat plans) caller orig s)
+    ≡ behind (legs ++ leg ∷ []) (group_made (drop (seat + 1) plans) caller orig t)
+group_there plans seat default legs leg caller orig s t within is =
+    at_drop_more (λ left. behind legs (group_made left caller orig s)) plans seat default within
+    ∙ ap (λ made. behind legs (with_first made.leg (group_made (drop (seat + 1) plans) caller orig made.state))) is
     ∙ ap (λ all. record { state = rest.state; legs = all }) (sym (append_assoc legs (leg ∷ []) rest.legs))
   where
     rest : MadeGroup
-    rest = group_made (drop (place + 1) plans) caller orig t
+    rest = group_made (drop (seat + 1) plans) caller orig t
 
-pub group_done : (plans : List LegPlan) (place : ℕ) (legs : List OrigLeg) (caller : Caller) (orig : ℕ) (s : Switch) → length plans ≤ place →
-    behind legs (group_made (drop place plans) caller orig s) ≡ record { state = s; legs = legs }
-group_done plans place legs caller orig s past =
-    at_drop_all (λ left. behind legs (group_made left caller orig s)) plans place past
+pub group_done : (plans : List LegPlan) (seat : ℕ) (legs : List OrigLeg) (caller : Caller) (orig : ℕ) (s : Switch) → length plans ≤ seat →
+    behind legs (group_made (drop seat plans) caller orig s) ≡ record { state = s; legs = legs }
+group_done plans seat legs caller orig s past =
+    at_drop_all (λ left. behind legs (group_made left caller orig s)) plans seat past
     ∙ ap (λ all. record { state = s; legs = all }) (append-nil legs)

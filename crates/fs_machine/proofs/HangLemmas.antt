@@ -27,7 +27,7 @@ use Rattle.fs_machine.proofs.StayLemmas.{state_told_kept, differing_kept, moved_
 
 -- the living leg of a slot dies
 abbrev pub dies : Cause → ℕ → ℕ → Orig → Orig
-dies cause place slot = leg_changed (λ position. with_death position place cause) slot
+dies cause seat slot = leg_changed (λ position. with_death position seat cause) slot
 
 -- what a channel becomes by a hangup: it is hung up, its bridge has ended, or it outlives its bridge
 pub data Falls (hangs : ℕ → Bool) (slot : ℕ) (c : Chan) : Chan → Type 0 where
@@ -151,13 +151,13 @@ module _ (hangs : ℕ → Bool) (P : Switch → Type 0) (told : (event : Event) 
     (falls : (slot : ℕ) (old new : Chan) (s : Switch) → chan_at s slot ≡ Some old → Falls hangs slot old new → P s →
     P (with_chan slot (Some new) s))
     (ends : (number : ℕ) (s : Switch) → P s → P (without_bridge number s))
-    (legs : (cause : Cause) (place slot number : ℕ) (s : Switch) → P s →
-    P (orig_changed (dies cause place slot) number s))
+    (legs : (cause : Cause) (seat slot number : ℕ) (s : Switch) → P s →
+    P (orig_changed (dies cause seat slot) number s))
     (gives_up : (number : ℕ) (s : Switch) → P s → P (without_orig number s)) where
-  its_leg_kept : (cause : Cause) (place slot : ℕ) (leg_of : Option ℕ) (s : Switch) → P s →
-      P (its_leg_changed (λ position. with_death position place cause) slot leg_of s)
-  its_leg_kept cause place slot None s h = h
-  its_leg_kept cause place slot (Some number) s h = legs cause place slot number s h
+  its_leg_kept : (cause : Cause) (seat slot : ℕ) (leg_of : Option ℕ) (s : Switch) → P s →
+      P (its_leg_changed (λ position. with_death position seat cause) slot leg_of s)
+  its_leg_kept cause seat slot None s h = h
+  its_leg_kept cause seat slot (Some number) s h = legs cause seat slot number s h
 
   one_hung_kept : (cause : Cause) (slot : ℕ) (s : Switch) → hangs slot ≡ true → P s → P (after_one_hangup cause slot s)
   one_hung_kept cause slot s hung h = by (chan_at s slot) refl
@@ -199,8 +199,8 @@ module _ (named : Members) (before : Switch) (P : Switch → Type 0) (told : (ev
     (falls : (slot : ℕ) (old new : Chan) (s : Switch) → chan_at s slot ≡ Some old →
     Falls (λ at. hangs_up at named before) slot old new → P s → P (with_chan slot (Some new) s))
     (ends : (number : ℕ) (s : Switch) → P s → P (without_bridge number s))
-    (legs : (cause : Cause) (place slot number : ℕ) (s : Switch) → P s →
-    P (orig_changed (dies cause place slot) number s))
+    (legs : (cause : Cause) (seat slot number : ℕ) (s : Switch) → P s →
+    P (orig_changed (dies cause seat slot) number s))
     (gives_up : (number : ℕ) (s : Switch) → P s → P (without_orig number s)) where
   pub hangups_kept : P before → P (after_hangups named before)
   unfolding after_hangups

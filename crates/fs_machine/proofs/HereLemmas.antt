@@ -5,10 +5,10 @@ use Rattle.std.proofs.lemmas.Bool.{cases_eq, le-ltb}
 use Rattle.std.proofs.lemmas.Option.{none-some}
 use Rattle.fs_doc.specs.Reading.{Configuration}
 use Rattle.fs_doc.specs.Limits.{IsWithin}
-use Rattle.fs_places.specs.declared.numbered.Numbered.{Numbered}
-use Rattle.fs_places.specs.Places.{no_places, least_free}
-use Rattle.fs_places.specs.Rows.{row_of, with_new_row}
-use Rattle.fs_places.proofs.RowLemmas.{row_none, row_gone, places_same, row_of-with_new_row, row_of-with_new_row_other}
+use Rattle.fs_seats.specs.declared.numbered.Numbered.{Numbered}
+use Rattle.fs_seats.specs.Seats.{no_seats, least_free}
+use Rattle.fs_seats.specs.Rows.{row_of, with_new_row}
+use Rattle.fs_seats.proofs.RowLemmas.{row_none, row_gone, seats_same, row_of-with_new_row, row_of-with_new_row_other}
 use Rattle.fs_state.specs.declared.conn.Conn.{Conn}
 use Rattle.fs_state.specs.Drawn as numbers
 use Rattle.fs_state.specs.Switch.{Switch, empty, conn_of, at_moment}
@@ -27,10 +27,10 @@ abbrev pub ClosesNone : Act → Type 0
 ClosesNone (Close conn how) = ⊥
 ClosesNone _ = Unit {0}
 
--- connections that are kept in their places, and whose input does not end
+-- connections that are kept in their seats, and whose input does not end
 keeps_here : {who : Option ℕ} → (conn : ℕ) (s t : Switch) → Keeps who false s t → IsHere conn s → IsHere conn t
 keeps_here conn s t keeps here = record {
-  there = λ none. here.there (row_none s.conns conn (sym (places_same s.conns t.conns keeps.numbers conn) ∙ row_gone t.conns conn none));
+  there = λ none. here.there (row_none s.conns conn (sym (seats_same s.conns t.conns keeps.numbers conn) ∙ row_gone t.conns conn none));
   hears = keeps.hears refl conn here.hears;
 }
 
@@ -87,15 +87,15 @@ here_step conn s entry such here =
 
 -- ---- the first connection
 
--- there is a place for it
-has_place : (count : ℕ) → 1 ≤ count → is_none (least_free (no_places {T = Numbered Conn} count) 0) ≡ false
-unfolding no_places
-has_place zero some = absurd (omega (arith, some))
-has_place (suc count) some = refl
+-- there is a seat for it
+has_seat : (count : ℕ) → 1 ≤ count → is_none (least_free (no_seats {T = Numbered Conn} count) 0) ≡ false
+unfolding no_seats
+has_seat zero some = absurd (omega (arith, some))
+has_seat (suc count) some = refl
 
 -- it takes that
-first_row : (count : ℕ) → 1 ≤ count → row_of (with_new_row (no_places {T = Numbered Conn} count) 1 new_conn) 1 ≡ Some new_conn
-unfolding no_places
+first_row : (count : ℕ) → 1 ≤ count → row_of (with_new_row (no_seats {T = Numbered Conn} count) 1 new_conn) 1 ≡ Some new_conn
+unfolding no_seats
 first_row zero some = absurd (omega (arith, some))
 first_row (suc count) some = refl
 
@@ -104,13 +104,13 @@ pub arrival_accepted : (config : Configuration) (moment : ℕ) → IsWithin conf
     refusal_of (empty config) (record { moment = moment; act = Arrive }) ≡ None
 unfolding refusal_of
 arrival_accepted config moment within =
-    let places = config.settings.max_connections in
+    let seats = config.settings.max_connections in
     ap (λ full. refused_where full (refusal.JournalFull 0 config.settings.journal_limit)
-    (refused_where (is_none (least_free (no_places {T = Numbered Conn} places) 0))
-    (refusal.TooMany (min (length (no_places {T = Numbered Conn} places)) (2 ^ 16 - 1))) None))
+    (refused_where (is_none (least_free (no_seats {T = Numbered Conn} seats) 0))
+    (refusal.TooMany (min (length (no_seats {T = Numbered Conn} seats)) (2 ^ 16 - 1))) None))
     (le-ltb config.settings.journal_limit (0 + 65600) (omega (arith, within.settings.journal.0)))
-    ∙ ap (λ full. refused_where full (refusal.TooMany (min (length (no_places {T = Numbered Conn} places)) (2 ^ 16 - 1))) None)
-    (has_place places within.settings.connections.0)
+    ∙ ap (λ full. refused_where full (refusal.TooMany (min (length (no_seats {T = Numbered Conn} seats)) (2 ^ 16 - 1))) None)
+    (has_seat seats within.settings.connections.0)
 
 -- and then it is here
 pub arrival_here : (config : Configuration) (moment : ℕ) → IsWithin config →

@@ -8,12 +8,12 @@ use Rattle.fs_chan.specs.Bridging.{unbridged, in_media}
 use Rattle.fs_chan.specs.Changes.{at_rest, parked, hung_up}
 use Rattle.fs_orig.specs.declared.winner.Winner.{Winner}
 use Rattle.fs_orig.specs.declared.winner.Winner.TheVariants.{App, Route}
-use Rattle.fs_places.specs.Places.{held_in}
-use Rattle.fs_places.proofs.HeldLemmas.{IsFree, held_there}
+use Rattle.fs_seats.specs.Seats.{held_in}
+use Rattle.fs_seats.proofs.HeldLemmas.{IsFree, held_there}
 use Rattle.fs_state.specs.Switch.{Switch, chan_at, with_chan, with_next_identifier, identifier_of}
 use Rattle.fs_state.specs.Moves.{after_move_from, after_move, orig_changed}
 use Rattle.fs_state.specs.Hangups.{after_hangups}
-use Rattle.fs_machine.specs.declared.originations.Call.{Call}
+use Rattle.fs_machine.specs.declared.call.Call.{Call}
 use Rattle.fs_machine.specs.declared.originations.End.{End}
 use Rattle.fs_machine.specs.Originations.{end_of, end_made, named_end_made, leg_end, far_end, pair_made, is_misnamed, won_by, after_winning}
 use Rattle.fs_machine.proofs.Kept.{Stage, Fact, KeptByBirths, raced, KeptByMoves}
@@ -72,7 +72,7 @@ module _ (x : Seen) where
   front_numbers more t u same h = subst (λ (f : Front). Numbers more x (seen_in f)) (sym same) h
     where
       seen_in : Front → Seen
-      seen_in f = record { channels = f.channels; identifiers = f.identifiers; config = f.config }
+      seen_in f = record { channels = f.channels; identifiers = f.identifiers; settings = f.settings }
 
   falls_numbers : (hangs : ℕ → Bool) (more slot : ℕ) (old new : Chan) (s : Switch) → chan_at s slot ≡ Some old →
       Falls hangs slot old new → Numbers more x (seen s) → Numbers more x (seen (with_chan slot (Some new) s))
@@ -84,9 +84,9 @@ module _ (x : Seen) where
   hung_numbers : (more : ℕ) (named : Members) (s : Switch) → Numbers more x (seen s) → Numbers more x (seen (after_hangups named s))
   hung_numbers more named s h =
       hangups_kept named s (λ (t : Switch). Numbers more x (seen t)) (λ event t k. k)
-      (λ place old new t there falls k. falls_numbers (λ at. hangs_up at named s) more place old new t there falls k) (λ number t k. k)
-      (λ cause place leg number t k. front_numbers more t (orig_changed (dies cause place leg) number t)
-      (orig_changed_front (dies cause place leg) number t) k)
+      (λ seat old new t there falls k. falls_numbers (λ at. hangs_up at named s) more seat old new t there falls k) (λ number t k. k)
+      (λ cause seat leg number t k. front_numbers more t (orig_changed (dies cause seat leg) number t)
+      (orig_changed_front (dies cause seat leg) number t) k)
       (λ number t k. k) h
 
   won_numbers : (winner : Winner) (slot : ℕ) (s : Switch) → Numbers 0 x (seen s) → Numbers 0 x (seen (after_winning winner slot s))

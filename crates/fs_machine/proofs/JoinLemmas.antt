@@ -1,10 +1,12 @@
 -- Two channels that are to be joined by a command: nothing stands in the way, they leave what they were in, and come into media.
-use Rattle.std.proofs.Common.{◌≡◌, ℕ, ◌==◌, Bool, true, false, not, ◌&&◌, ◌||◌, if◌then◌else◌, List, [], ◌∷◌, filter, Option, None, Some}
+use Rattle.std.proofs.Common.{◌≡◌, ℕ, ◌==◌, Bool, true, false, not, ◌&&◌, ◌||◌, if◌then◌else◌, List, [], ◌∷◌, ◌++◌, map, filter, Option}
+use Rattle.std.proofs.Common.{None, Some}
 use Rattle.std.proofs.Common.{is_none, is_some, option_and_then, ◌⊎◌, inl, inr, refl, sym, ap, ◌∙◌, true≢false}
 use Rattle.std.specs.List.{find}
 use Rattle.std.proofs.lemmas.Bool.{cases_eq, false≢true}
 use Rattle.std.proofs.lemmas.Option.{none-some, same_Some}
 use Rattle.fs_text.specs.Texts.{Text}
+use Rattle.fs_text.specs.declared.causes.Cause.TheVariants.{OriginatorCancel}
 use Rattle.fs_text.specs.declared.states.State.{State}
 use Rattle.fs_text.specs.declared.states.State.TheVariants.{CsPark, CsExchangeMedia}
 use Rattle.fs_bridge.specs.declared.row.Row.{Row}
@@ -15,26 +17,21 @@ use Rattle.fs_chan.specs.declared.chan.Chan.{Chan}
 use Rattle.fs_chan.specs.Bridging.{awaited_in, awaited_by, bridged, at_leisure}
 use Rattle.fs_chan.specs.Changes.{is_live, in_state, wait_at_rest}
 use Rattle.fs_orig.specs.declared.orig.Orig.{Orig}
-use Rattle.fs_places.specs.Places.{held_in, with_held}
-use Rattle.fs_places.proofs.HeldLemmas.{held_here, held_there, held_within}
+use Rattle.fs_seats.specs.Seats.{held_in, with_held}
+use Rattle.fs_seats.proofs.HeldLemmas.{held_here, held_there, held_within}
 use Rattle.fs_state.specs.Switch.{Switch, chan_at, with_chan, bridge_at, with_bridge, without_bridge, orig_of}
 use Rattle.fs_state.specs.Moves.{with_changed_chan_from, after_move, orig_changed_from, orig_changed, orig_given_up}
-use Rattle.fs_state.specs.Hangups.{after_hangups, lives, lives_at}
+use Rattle.fs_state.specs.Hangups.{legs_at, after_hangups, lives, lives_at}
 use Rattle.fs_state.specs.Bridging.{can_join, peer_of, with_peer_from, with_peer, joined_as, after_join}
-use Rattle.fs_machine.specs.Joining.{is_early, is_ready, is_answered, in_the_way, after_leaving}
+use Rattle.fs_machine.specs.Joining.{is_early, is_ready, is_answered, in_the_way, after_leaving, both_left}
 use Rattle.fs_machine.specs.Texts.{same_channel, not_ready, not_answered, already_bridged}
 use Rattle.fs_machine.proofs.ShortLemmas.{left_holds, right_holds}
-use Rattle.fs_machine.proofs.Kept.{Stays}
-use Rattle.fs_machine.proofs.StayLemmas.{exchange_lives, moved_there, changed_there}
+use Rattle.fs_machine.proofs.Kept.{Stage, Stays, IsApart}
+use Rattle.fs_machine.proofs.StayLemmas.{exchange_lives, same_vars, moved_there, changed_there}
 use Rattle.fs_machine.proofs.ClosureLemmas.{hangs_up}
 use Rattle.fs_machine.proofs.HangLemmas.{dies, Falls, Cut, Unbridged, Rests, Parks, given_up_kept, hangups_kept}
 
 -- ---- what is apart from others
-
--- a slot is in no bridge, and its channel is no leg of an origination that is not yet decided
-pub record IsApart (s : Switch) (slot : ℕ) : Type 0 where
-  pub bridge : bridge_at s slot ≡ None
-  pub lone : (c : Chan) → chan_at s slot ≡ Some c → c.leg_of ≡ None
 
 -- a channel that names no origination, or the one that it named
 pub falls_lone : (hangs : ℕ → Bool) (slot : ℕ) (old new : Chan) → Falls hangs slot old new → old.leg_of ≡ None → new.leg_of ≡ None
@@ -43,17 +40,17 @@ falls_lone hangs slot old new (Unbridged cause) lone = lone
 falls_lone hangs slot old new (Rests outlives live) lone = lone
 falls_lone hangs slot old new (Parks outlives live) lone = lone
 
-apart_put : (s : Switch) (slot place : ℕ) (old new : Chan) → chan_at s place ≡ Some old → (old.leg_of ≡ None → new.leg_of ≡ None) →
-    IsApart s slot → IsApart (with_chan place (Some new) s) slot
-apart_put s slot place old new there keeps h = record { bridge = h.bridge; lone = λ c is. by c is (cases_eq slot place) }
+apart_put : (s : Switch) (slot seat : ℕ) (old new : Chan) → chan_at s seat ≡ Some old → (old.leg_of ≡ None → new.leg_of ≡ None) →
+    IsApart s slot → IsApart (with_chan seat (Some new) s) slot
+apart_put s slot seat old new there keeps h = record { bridge = h.bridge; lone = λ c is. by c is (cases_eq slot seat) }
   where
-    by : (c : Chan) → held_in (with_held s.channels place (Some new)) slot ≡ Some c → (slot ≡ place) ⊎ (slot ≡ place → ⊥) → c.leg_of ≡ None
+    by : (c : Chan) → held_in (with_held s.channels seat (Some new)) slot ≡ Some c → (slot ≡ seat) ⊎ (slot ≡ seat → ⊥) → c.leg_of ≡ None
     by c is (inl same) =
-        let here : held_in (with_held s.channels place (Some new)) slot ≡ Some new =
-        ap (held_in (with_held s.channels place (Some new))) same
-        ∙ held_here s.channels place (Some new) (held_within s.channels place old there) in
+        let here : held_in (with_held s.channels seat (Some new)) slot ≡ Some new =
+        ap (held_in (with_held s.channels seat (Some new))) same
+        ∙ held_here s.channels seat (Some new) (held_within s.channels seat old there) in
         ap (λ (d : Chan). d.leg_of) (same_Some c new (sym is ∙ here)) ∙ keeps (h.lone old (ap (held_in s.channels) same ∙ there))
-    by c is (inr other) = h.lone c (sym (held_there s.channels place slot (Some new) other) ∙ is)
+    by c is (inr other) = h.lone c (sym (held_there s.channels seat slot (Some new) other) ∙ is)
 
 none_found : (test keep : Row → Bool) (rows : List Row) → find test rows ≡ None → find test (filter keep rows) ≡ None
 none_found test keep [] none = none
@@ -80,20 +77,29 @@ apart_changed change number slot s h = by (orig_of s number)
 pub apart_hung : (slot : ℕ) (named : Members) (s : Switch) → IsApart s slot → IsApart (after_hangups named s) slot
 apart_hung slot named s h =
     hangups_kept named s (λ (t : Switch). IsApart t slot) (λ event t k. record { bridge = k.bridge; lone = k.lone })
-    (λ place old new t there falls k. apart_put t slot place old new there (falls_lone (λ at. hangs_up at named s) place old new falls) k)
-    (λ number t k. apart_ends number slot t k) (λ cause place leg number t k. apart_changed (dies cause place leg) number slot t k)
+    (λ seat old new t there falls k. apart_put t slot seat old new there (falls_lone (λ at. hangs_up at named s) seat old new falls) k)
+    (λ number t k. apart_ends number slot t k) (λ cause seat leg number t k. apart_changed (dies cause seat leg) number slot t k)
     (λ number t k. record { bridge = k.bridge; lone = k.lone }) h
 
-given_up_apart : (slot place : ℕ) (awaited : Option ℕ) (s : Switch) → IsApart s slot → IsApart (orig_given_up place awaited s) slot
-given_up_apart slot place awaited s h =
-    given_up_kept (λ (t : Switch). IsApart t slot) (λ number t k. record { bridge = k.bridge; lone = k.lone }) place awaited s h
+given_up_apart : (slot seat : ℕ) (awaited : Option ℕ) (s : Switch) → IsApart s slot → IsApart (orig_given_up seat awaited s) slot
+given_up_apart slot seat awaited s h =
+    given_up_kept (λ (t : Switch). IsApart t slot) (λ number t k. record { bridge = k.bridge; lone = k.lone }) seat awaited s h
 
-pub apart_left : (slot place : ℕ) (s : Switch) → IsApart s slot → IsApart (after_leaving place s) slot
-apart_left slot place s h =
-    let t : Switch = orig_given_up place (option_and_then awaited_by (chan_at s place)) s in
-    let k : IsApart t slot = given_up_apart slot place (option_and_then awaited_by (chan_at s place)) s h in
-    changed_there (λ (u : Switch). IsApart u slot) at_leisure place t
-    (λ c there. apart_put t slot place c (at_leisure c) there (λ none. none) k) k
+pub apart_left : (slot seat : ℕ) (s : Switch) → IsApart s slot → IsApart (after_leaving seat s) slot
+apart_left slot seat s h =
+    let t : Switch = orig_given_up seat (option_and_then awaited_by (chan_at s seat)) s in
+    let k : IsApart t slot = given_up_apart slot seat (option_and_then awaited_by (chan_at s seat)) s h in
+    changed_there (λ (u : Switch). IsApart u slot) at_leisure seat t
+    (λ c there. apart_put t slot seat c (at_leisure c) there (λ none. none) k) k
+
+-- two leave what they were in: a fact is kept that bears hangups, and whoever is apart and leaves
+pub both_left_kept : (P : Switch → Type 0) (hung : (named : Members) (s : Switch) → P s → P (after_hangups named s))
+    (left : (slot : ℕ) (s : Switch) → IsApart s slot → P s → P (after_leaving slot s)) (a b : ℕ) (s : Switch) → IsApart s a → IsApart s b →
+    P s → P (both_left a b s)
+both_left_kept P hung left a b s first second h =
+    let named : Members = map (λ slot. (slot, OriginatorCancel)) (legs_at s a ++ legs_at s b) in
+    let t : Switch = after_hangups named s in
+    left b (after_leaving a t) (apart_left b a t (apart_hung b named s second)) (left a t (apart_hung a named s first) (hung named s h))
 
 -- ---- what waits for no legs
 
@@ -122,28 +128,28 @@ left_dials slot s = by (chan_at t slot) refl
         ap awaited_by (same_Some c (at_leisure d) (sym there ∙ here)) ∙ rest_dials d.socket d.state
 
 -- a channel that dials nothing stays so, where the one that is changed does
-pub dials_put : (s : Switch) (slot place : ℕ) (old new : Chan) → chan_at s place ≡ Some old →
-    (awaited_by old ≡ None → awaited_by new ≡ None) → DialsNone s slot → DialsNone (with_chan place (Some new) s) slot
-dials_put s slot place old new there keeps h c is = by (cases_eq slot place)
+pub dials_put : (s : Switch) (slot seat : ℕ) (old new : Chan) → chan_at s seat ≡ Some old →
+    (awaited_by old ≡ None → awaited_by new ≡ None) → DialsNone s slot → DialsNone (with_chan seat (Some new) s) slot
+dials_put s slot seat old new there keeps h c is = by (cases_eq slot seat)
   where
-    by : (slot ≡ place) ⊎ (slot ≡ place → ⊥) → awaited_by c ≡ None
+    by : (slot ≡ seat) ⊎ (slot ≡ seat → ⊥) → awaited_by c ≡ None
     by (inl same) =
-        let here : held_in (with_held s.channels place (Some new)) slot ≡ Some new =
-        ap (held_in (with_held s.channels place (Some new))) same
-        ∙ held_here s.channels place (Some new) (held_within s.channels place old there) in
+        let here : held_in (with_held s.channels seat (Some new)) slot ≡ Some new =
+        ap (held_in (with_held s.channels seat (Some new))) same
+        ∙ held_here s.channels seat (Some new) (held_within s.channels seat old there) in
         ap awaited_by (same_Some c new (sym is ∙ here)) ∙ keeps (h old (ap (held_in s.channels) same ∙ there))
-    by (inr other) = h c (sym (held_there s.channels place slot (Some new) other) ∙ is)
+    by (inr other) = h c (sym (held_there s.channels seat slot (Some new) other) ∙ is)
 
-given_up_dials : (slot place : ℕ) (awaited : Option ℕ) (s : Switch) → DialsNone s slot → DialsNone (orig_given_up place awaited s) slot
-given_up_dials slot place awaited s h = given_up_kept (λ (t : Switch). DialsNone t slot) (λ number t k. k) place awaited s h
+given_up_dials : (slot seat : ℕ) (awaited : Option ℕ) (s : Switch) → DialsNone s slot → DialsNone (orig_given_up seat awaited s) slot
+given_up_dials slot seat awaited s h = given_up_kept (λ (t : Switch). DialsNone t slot) (λ number t k. k) seat awaited s h
 
 -- and where another one leaves
-pub left_dials_still : (slot place : ℕ) (s : Switch) → DialsNone s slot → DialsNone (after_leaving place s) slot
-left_dials_still slot place s h =
-    let t : Switch = orig_given_up place (option_and_then awaited_by (chan_at s place)) s in
-    let k : DialsNone t slot = given_up_dials slot place (option_and_then awaited_by (chan_at s place)) s h in
-    changed_there (λ (u : Switch). DialsNone u slot) at_leisure place t
-    (λ c there. dials_put t slot place c (at_leisure c) there (λ none. rest_dials c.socket c.state) k) k
+pub left_dials_still : (slot seat : ℕ) (s : Switch) → DialsNone s slot → DialsNone (after_leaving seat s) slot
+left_dials_still slot seat s h =
+    let t : Switch = orig_given_up seat (option_and_then awaited_by (chan_at s seat)) s in
+    let k : DialsNone t slot = given_up_dials slot seat (option_and_then awaited_by (chan_at s seat)) s h in
+    changed_there (λ (u : Switch). DialsNone u slot) at_leisure seat t
+    (λ c there. dials_put t slot seat c (at_leisure c) there (λ none. rest_dials c.socket c.state) k) k
 
 -- ---- nothing stands in the way
 
@@ -210,18 +216,18 @@ meets_now s slot live apart dials = by (chan_at s slot) refl live
     by None is live = absurd (false≢true live)
     by (Some c) is live = record { chan = c; there = is; live = live; lone = apart.lone c is; free = dials c is }
 
-meet_put : (s : Switch) (slot place : ℕ) (old new : Chan) → chan_at s place ≡ Some old → (is_live old ≡ true → is_live new ≡ true) →
+meet_put : (s : Switch) (slot seat : ℕ) (old new : Chan) → chan_at s seat ≡ Some old → (is_live old ≡ true → is_live new ≡ true) →
     (old.leg_of ≡ None → new.leg_of ≡ None) → (awaited_by old ≡ None → awaited_by new ≡ None) → CanMeet s slot →
-    CanMeet (with_chan place (Some new) s) slot
-meet_put s slot place old new there lives lone free h = by (cases_eq slot place)
+    CanMeet (with_chan seat (Some new) s) slot
+meet_put s slot seat old new there lives lone free h = by (cases_eq slot seat)
   where
-    by : (slot ≡ place) ⊎ (slot ≡ place → ⊥) → CanMeet (with_chan place (Some new) s) slot
+    by : (slot ≡ seat) ⊎ (slot ≡ seat → ⊥) → CanMeet (with_chan seat (Some new) s) slot
     by (inl same) =
         let is : h.chan ≡ old = same_Some h.chan old (sym h.there ∙ (ap (held_in s.channels) same ∙ there)) in
         record {
           chan = new;
-          there = ap (held_in (with_held s.channels place (Some new))) same
-              ∙ held_here s.channels place (Some new) (held_within s.channels place old there);
+          there = ap (held_in (with_held s.channels seat (Some new))) same
+              ∙ held_here s.channels seat (Some new) (held_within s.channels seat old there);
           live = lives (ap is_live (sym is) ∙ h.live);
           lone = lone (ap (λ (d : Chan). d.leg_of) (sym is) ∙ h.lone);
           free = free (ap awaited_by (sym is) ∙ h.free);
@@ -229,20 +235,20 @@ meet_put s slot place old new there lives lone free h = by (cases_eq slot place)
     by (inr other) =
         record {
           chan = h.chan;
-          there = held_there s.channels place slot (Some new) other ∙ h.there;
+          there = held_there s.channels seat slot (Some new) other ∙ h.there;
           live = h.live;
           lone = h.lone;
           free = h.free;
         }
 
-peer_meets : (slot place other : ℕ) (s : Switch) → CanMeet s slot → CanMeet (with_peer place other s) slot
-peer_meets slot place other s h = by (chan_at s other)
+peer_meets : (slot seat other : ℕ) (s : Switch) → CanMeet s slot → CanMeet (with_peer seat other s) slot
+peer_meets slot seat other s h = by (chan_at s other)
   where
-    by : (found : Option Chan) → CanMeet (with_peer_from place other found s) slot
+    by : (found : Option Chan) → CanMeet (with_peer_from seat other found s) slot
     by None = h
     by (Some d) =
-        changed_there (λ (t : Switch). CanMeet t slot) (bridged (peer_of other d)) place s
-        (λ c there. meet_put s slot place c (bridged (peer_of other d) c) there (λ live. live) (λ lone. lone) (λ free. refl) h) h
+        changed_there (λ (t : Switch). CanMeet t slot) (bridged (peer_of other d)) seat s
+        (λ c there. meet_put s slot seat c (bridged (peer_of other d) c) there (λ live. live) (λ lone. lone) (λ free. refl) h) h
 
 joined_meets : (kind : BridgeKind) (a b slot : ℕ) (s : Switch) → CanMeet s slot → CanMeet (joined_as kind a b s) slot
 joined_meets kind a b slot s h =
@@ -259,14 +265,15 @@ join_meets kind a b slot s h = by (can_join a b s)
     by true = joined_meets kind a b slot s h
     by false = h
 
-pub media_meets : (slot place : ℕ) (s : Switch) → CanMeet s slot → CanMeet (after_move (in_state CsExchangeMedia) place s) slot
-media_meets slot place s h =
+pub media_meets : (slot seat : ℕ) (s : Switch) → CanMeet s slot → CanMeet (after_move (in_state CsExchangeMedia) seat s) slot
+media_meets slot seat s h =
     moved_there (λ (t : Switch). CanMeet t slot)
-    (λ event t k. record { chan = k.chan; there = k.there; live = k.live; lone = k.lone; free = k.free }) (in_state CsExchangeMedia) place s
-    (λ c there. meet_put s slot place c (in_state CsExchangeMedia c) there (λ live. exchange_lives) (λ lone. lone) (λ free. free) h) h
+    (λ event t k. record { chan = k.chan; there = k.there; live = k.live; lone = k.lone; free = k.free }) (in_state CsExchangeMedia) seat s
+    (λ c there. meet_put s slot seat c (in_state CsExchangeMedia c) there (λ live. exchange_lives) (λ lone. lone) (λ free. free) h) h
 
 -- one that can meet another comes into media
-pub media_stays : (s : Switch) (slot : ℕ) → CanMeet s slot → (c : Chan) → chan_at s slot ≡ Some c → Stays c (in_state CsExchangeMedia c)
+pub media_stays : {b : Stage} (s : Switch) (slot : ℕ) → CanMeet s slot → (c : Chan) → chan_at s slot ≡ Some c →
+    Stays b c (in_state CsExchangeMedia c)
 media_stays s slot meets c there =
     let is : meets.chan ≡ c = same_Some meets.chan c (sym meets.there ∙ there) in
     let lone : c.leg_of ≡ None = ap (λ (d : Chan). d.leg_of) (sym is) ∙ meets.lone in
@@ -274,6 +281,7 @@ media_stays s slot meets c there =
       links = refl;
       live = exchange_lives ∙ sym (ap is_live (sym is) ∙ meets.live);
       short = λ short. short;
+      vars = same_vars c.vars c.vars refl;
       apt = λ apt. record {
         outbound = apt.outbound;
         idle = λ some. absurd (false≢true (sym (ap is_some lone) ∙ some));

@@ -1,4 +1,4 @@
--- Commands, work and jobs keep all connections in their places, with what waits for them, and end no input.
+-- Commands, work and jobs keep all connections in their seats, with what waits for them, and end no input.
 use Rattle.std.proofs.Common.{◌≡◌, ◌≢◌, ℕ, Bool, true, false, List, length, Option, None, Some, unwrap_or, option_and_then, ◌⊎◌, inl, inr}
 use Rattle.std.proofs.Common.{refl, sym, ap, subst, ◌∙◌}
 use Rattle.std.proofs.lemmas.Bool.{cases_eq}
@@ -11,12 +11,12 @@ use Rattle.fs_orig.specs.declared.leg.OrigLeg.{OrigLeg}
 use Rattle.fs_orig.specs.declared.orig.Owner.TheVariants as owner
 use Rattle.fs_orig.specs.declared.plan.LegPlan.{LegPlan}
 use Rattle.fs_orig.specs.declared.winner.Winner.{Winner}
-use Rattle.fs_places.specs.declared.numbered.Numbered.{Numbered}
-use Rattle.fs_places.specs.Places.{held_in}
-use Rattle.fs_places.specs.Rows.{has_number, place_of, row_of, with_row}
-use Rattle.fs_places.proofs.RowLemmas.{each_put_at, length_put_at, SameNumbers, held_of, row_at, row_none, numbers-with_row}
-use Rattle.fs_places.proofs.RowLemmas.{row_of-with_row_same, row_of-with_row_other}
-use Rattle.fs_state.specs.Queues.{Frames}
+use Rattle.fs_seats.specs.declared.numbered.Numbered.{Numbered}
+use Rattle.fs_seats.specs.Seats.{held_in}
+use Rattle.fs_seats.specs.Rows.{has_number, seat_of, row_of, with_row}
+use Rattle.fs_seats.proofs.RowLemmas.{each_put_at, length_put_at, SameNumbers, held_of, row_at, row_none, numbers-with_row}
+use Rattle.fs_seats.proofs.RowLemmas.{row_of-with_row_same, row_of-with_row_other}
+use Rattle.fs_state.specs.Outboxes.{Frames}
 use Rattle.fs_state.specs.declared.conn.Conn.{Conn}
 use Rattle.fs_state.specs.declared.conn.Phase.TheVariants.{Fresh}
 use Rattle.fs_state.specs.declared.conn.Parting.{Parting}
@@ -24,7 +24,7 @@ use Rattle.fs_state.specs.declared.conn.Parting.TheVariants as parting
 use Rattle.fs_state.specs.declared.job.JobWork.{JobWork}
 use Rattle.fs_state.specs.declared.job.JobWork.TheVariants.{Sleep, Originate}
 use Rattle.fs_state.specs.Switch.{Switch, conn_of, next_orig_number, next_job_number, is_full_of_jobs, with_new_job, without_job}
-use Rattle.fs_state.specs.Switch.{without_orig, with_gift, with_answer}
+use Rattle.fs_state.specs.Switch.{without_orig, with_frame_now, with_notice}
 use Rattle.fs_machine.specs.declared.entry.Act.{Act}
 use Rattle.fs_machine.specs.declared.entry.Act.TheVariants as act
 use Rattle.fs_machine.specs.declared.entry.Closing.TheVariants as closing
@@ -46,16 +46,16 @@ use Rattle.fs_machine.proofs.ActWalk.{job_kept, commanded_kept}
 -- the connections of a switch, with what waits for them and what numbers them
 pub record Sockets : Type 0 where
   pub conns : List (Option (Numbered Conn))
-  pub queues : List Frames
+  pub outboxes : List Frames
   pub drawn : ℕ
 
 abbrev pub sockets_of : Switch → Sockets
-sockets_of s = record { conns = s.conns; queues = s.queues; drawn = s.drawn.conns }
+sockets_of s = record { conns = s.conns; outboxes = s.outboxes; drawn = s.drawn.conns }
 
 -- the rest tells them
 sockets_same : (s t : Switch) → rest_of t ≡ rest_of s → sockets_of t ≡ sockets_of s
 sockets_same s t same =
-    ap (λ (r : Rest). let sockets : Sockets = record { conns = r.conns; queues = r.queues; drawn = r.conns_drawn } in sockets) same
+    ap (λ (r : Rest). let sockets : Sockets = record { conns = r.conns; outboxes = r.outboxes; drawn = r.conns_drawn } in sockets) same
 
 -- a connection that is there, and is gone
 abbrev pub is_shut : Option (Numbered Conn) → Bool
@@ -64,15 +64,20 @@ is_shut (Some row) = is_closed row.held.phase
 
 -- there is no such connection
 abbrev pub AreOpen : List (Option (Numbered Conn)) → Type 0
-AreOpen rows = (place : ℕ) → is_shut (held_in rows place) ≡ false
+AreOpen rows = (seat : ℕ) → is_shut (held_in rows seat) ≡ false
 
--- a connection stays in its phase, and is owed nothing if it was owed nothing
+-- a connection stays in its phase, has parted for what it had parted for, and is owed nothing if it was owed nothing
 pub record Settles (old new : Option Conn) : Type 0 where
   pub phase : phase_of new ≡ phase_of old
+  pub parting : option_and_then parting_of new ≡ option_and_then parting_of old
   pub owed : option_and_then owed_of old ≡ None → option_and_then owed_of new ≡ None
 
 pub settles_same : (old new : Option Conn) → new ≡ old → Settles old new
-settles_same old new same = record { phase = ap phase_of same; owed = λ none. ap (option_and_then owed_of) same ∙ none }
+settles_same old new same = record {
+  phase = ap phase_of same;
+  parting = ap (option_and_then parting_of) same;
+  owed = λ none. ap (option_and_then owed_of) same ∙ none;
+}
 
 -- its input has not ended
 abbrev pub Hears : Option Conn → Type 0
@@ -86,8 +91,8 @@ hears_same old new same heard = subst Hears (sym same) heard
 -- act it is. No input ends, unless one may.
 pub record Keeps (who : Option ℕ) (may_end : Bool) (s t : Switch) : Type 0 where
   pub numbers : SameNumbers s.conns t.conns
-  pub places : length t.conns ≡ length s.conns
-  pub queues : t.queues ≡ s.queues
+  pub seats : length t.conns ≡ length s.conns
+  pub outboxes : t.outboxes ≡ s.outboxes
   pub drawn : t.drawn.conns ≡ s.drawn.conns
   pub opened : AreOpen s.conns → AreOpen t.conns
   pub others : (number : ℕ) → (who ≡ Some number → ⊥) → Settles (conn_of s number) (conn_of t number)
@@ -95,11 +100,11 @@ pub record Keeps (who : Option ℕ) (may_end : Bool) (s t : Switch) : Type 0 whe
 
 pub keeps_same : {who : Option ℕ} {may_end : Bool} → (s t : Switch) → sockets_of t ≡ sockets_of s → Keeps who may_end s t
 keeps_same s t same = record {
-  numbers = λ number place. ap (λ (x : Sockets). has_number number (held_in x.conns place)) same;
-  places = ap (λ (x : Sockets). length x.conns) same;
-  queues = ap (λ (x : Sockets). x.queues) same;
+  numbers = λ number seat. ap (λ (x : Sockets). has_number number (held_in x.conns seat)) same;
+  seats = ap (λ (x : Sockets). length x.conns) same;
+  outboxes = ap (λ (x : Sockets). x.outboxes) same;
   drawn = ap (λ (x : Sockets). x.drawn) same;
-  opened = λ each place. ap (λ (x : Sockets). is_shut (held_in x.conns place)) same ∙ each place;
+  opened = λ each seat. ap (λ (x : Sockets). is_shut (held_in x.conns seat)) same ∙ each seat;
   others = λ number apart. settles_same (conn_of s number) (conn_of t number) (ap (λ (x : Sockets). row_of x.conns number) same);
   hears = λ none number. hears_same (conn_of s number) (conn_of t number) (ap (λ (x : Sockets). row_of x.conns number) same);
 }
@@ -110,13 +115,14 @@ keeps_refl s = keeps_same s s refl
 pub keeps_trans : {who : Option ℕ} {may_end : Bool} → (s t u : Switch) → Keeps who may_end s t → Keeps who may_end t u →
     Keeps who may_end s u
 keeps_trans s t u first second = record {
-  numbers = λ number place. second.numbers number place ∙ first.numbers number place;
-  places = second.places ∙ first.places;
-  queues = second.queues ∙ first.queues;
+  numbers = λ number seat. second.numbers number seat ∙ first.numbers number seat;
+  seats = second.seats ∙ first.seats;
+  outboxes = second.outboxes ∙ first.outboxes;
   drawn = second.drawn ∙ first.drawn;
   opened = λ each. second.opened (first.opened each);
   others = λ number apart. record {
     phase = (second.others number apart).phase ∙ (first.others number apart).phase;
+    parting = (second.others number apart).parting ∙ (first.others number apart).parting;
     owed = λ none. (second.others number apart).owed ((first.others number apart).owed none);
   };
   hears = λ none number heard. second.hears none number (first.hears none number heard);
@@ -134,20 +140,20 @@ open_held (Some row) c shut is = subst (λ (d : Conn). is_closed d.phase ≡ fal
 
 row_open : (rows : List (Option (Numbered Conn))) (number : ℕ) (c : Conn) → AreOpen rows → row_of rows number ≡ Some c →
     is_closed c.phase ≡ false
-row_open rows number c each is = by (place_of rows number) refl
+row_open rows number c each is = by (seat_of rows number) refl
   where
-    by : (found : Option ℕ) → place_of rows number ≡ found → is_closed c.phase ≡ false
+    by : (found : Option ℕ) → seat_of rows number ≡ found → is_closed c.phase ≡ false
     by None none = absurd (none-some c (sym (row_none rows number none) ∙ is))
-    by (Some place) there = open_held (held_in rows place) c (each place) (sym (row_at rows number place there) ∙ is)
+    by (Some seat) there = open_held (held_in rows seat) c (each seat) (sym (row_at rows number seat there) ∙ is)
 
 -- one that is there and is changed has what it is changed to
-row_changed : (rows : List (Option (Numbered Conn))) (number : ℕ) (c d : Conn) → row_of rows number ≡ Some c →
+pub row_changed : (rows : List (Option (Numbered Conn))) (number : ℕ) (c d : Conn) → row_of rows number ≡ Some c →
     row_of (with_row rows number d) number ≡ Some d
-row_changed rows number c d is = by (place_of rows number) refl
+row_changed rows number c d is = by (seat_of rows number) refl
   where
-    by : (found : Option ℕ) → place_of rows number ≡ found → row_of (with_row rows number d) number ≡ Some d
+    by : (found : Option ℕ) → seat_of rows number ≡ found → row_of (with_row rows number d) number ≡ Some d
     by None none = absurd (none-some c (sym (row_none rows number none) ∙ is))
-    by (Some place) there = row_of-with_row_same rows number place d there
+    by (Some seat) there = row_of-with_row_same rows number seat d there
 
 -- what holds of its change, and of what stays the same, holds of each connection
 row_holds : (Holds : Option Conn → Option Conn → Type 0) → ((old new : Option Conn) → new ≡ old → Holds old new) →
@@ -177,11 +183,11 @@ conn_changed_keeps {who} {may_end} change stays hears number settles s = by (con
     by None is = keeps_refl s
     by (Some c) is = record {
       numbers = numbers-with_row s.conns number (change c);
-      places = length_put_at s.conns (Some (record { number = number; held = change c })) (place_of s.conns number);
-      queues = refl;
+      seats = length_put_at s.conns (Some (record { number = number; held = change c })) (seat_of s.conns number);
+      outboxes = refl;
       drawn = refl;
       opened = λ each. each_put_at (λ held. is_shut held ≡ false) s.conns (Some (record { number = number; held = change c }))
-          (place_of s.conns number) each
+          (seat_of s.conns number) each
           (stays c (row_open s.conns number c each is));
       others = λ other apart. row_holds Settles settles_same s.conns number c (change c) is other
           (λ same. settles (λ own. apart (own ∙ ap Some same)) c);
@@ -221,7 +227,7 @@ ended_keeps : {who : Option ℕ} → (number conn : ℕ) (answer : Text) (s : Sw
 ended_keeps number conn answer s =
     keeps_on s (conn_changed not_owed conn (without_job number s)) (after_job_end number conn answer s)
     (keeps_trans s (without_job number s) (conn_changed not_owed conn (without_job number s)) (keeps_same s (without_job number s) refl)
-    (conn_changed_keeps not_owed (λ c h. h) (λ none c heard. heard) conn (λ apart c. record { phase = refl; owed = λ none. refl })
+    (conn_changed_keeps not_owed (λ c h. h) (λ none c heard. heard) conn (λ apart c. record { phase = refl; parting = refl; owed = λ none. refl })
     (without_job number s)))
     refl
 
@@ -262,7 +268,7 @@ module _ (s : Switch) where
   jobs_keep = record {
     woken = λ number conn until answer {s = t} does h. keeps_trans s t (after_job_end number conn answer t) h
         (ended_keeps number conn answer t);
-    failed = λ job conn winner caller orig cause {s = t} does h. over_keeps job conn orig (failed_text cause) t t refl h;
+    failed = λ job conn winner caller orig cause {s = t} does over h. over_keeps job conn orig (failed_text cause) t t refl h;
     wins = λ job conn winner caller orig leg slots does won h. wins_keep job conn orig winner leg (raced slots s) h;
   }
 
@@ -271,11 +277,11 @@ module _ (s : Switch) where
 
 -- the commands of a connection
 module _ (conn : ℕ) (s : Switch) where
-  gave_keeps : (frame : Text) {t : Switch} → Keeps (Some conn) false s t → Keeps (Some conn) false s (with_gift conn frame t)
-  gave_keeps frame {t} h = keeps_on s t (with_gift conn frame t) h refl
+  noticed_keeps : (frame : Text) {t : Switch} → Keeps (Some conn) false s t → Keeps (Some conn) false s (with_notice conn frame t)
+  noticed_keeps frame {t} h = keeps_on s t (with_notice conn frame t) h refl
 
-  answered_keeps : (frame : Text) {t : Switch} → Keeps (Some conn) false s t → Keeps (Some conn) false s (with_answer conn frame t)
-  answered_keeps frame {t} h = keeps_on s t (with_answer conn frame t) h refl
+  gave_keeps : (frame : Text) {t : Switch} → Keeps (Some conn) false s t → Keeps (Some conn) false s (with_frame_now conn frame t)
+  gave_keeps frame {t} h = keeps_on s t (with_frame_now conn frame t) h refl
 
   asked_keeps : (change : Subscription → Subscription) {t : Switch} → Keeps (Some conn) false s t →
       Keeps (Some conn) false s (conn_changed (with_subs_changed change) conn t)
@@ -310,8 +316,8 @@ module _ (conn : ℕ) (s : Switch) where
   commands_keep : KeptByCommands conn (KeepsFrom (Some conn) s)
   commands_keep = record {
     spent = λ h. h;
+    noticed = λ frame h. noticed_keeps frame h;
     gave = λ frame h. gave_keeps frame h;
-    answered = λ frame h. answered_keeps frame h;
     asked = λ change h. asked_keeps change h;
     admitted = λ fresh h. admitted_keeps fresh h;
     parted = λ why leaves h. leaves_keeps why leaves h;
@@ -325,7 +331,7 @@ work_keeps : (slot : ℕ) (s : Switch) → Keeps None false s (after_work slot s
 work_keeps slot s = keeps_same s (after_work slot s) (sockets_same s (after_work slot s) (worked_rest slot s))
 
 job_done_keeps : (number : ℕ) (s : Switch) → Keeps None false s (job_done number s)
-job_done_keeps number s = job_kept s (KeepsFrom None s) (calls_keep None s) (dials_keep s) (jobs_keep s) number (keeps_refl s)
+job_done_keeps number s = job_kept s (KeepsFrom None s) (calls_keep None s) (dials_keep s) (jobs_keep s) number (keeps_refl s) (keeps_refl s)
 
 commanded_keeps : (conn : ℕ) (command : Command) (s : Switch) → Keeps (Some conn) false s (command_done conn command s)
 commanded_keeps conn command s =

@@ -1,11 +1,10 @@
 -- What a fact on switches has to bear for every entry to keep it: a case for each move that entries are made of.
-use Rattle.std.proofs.Common.{◌≡◌, ℕ, ◌+◌, Bool, true, false, List, slice_get, Option, None, Some, IsSome, unwrap_or}
+use Rattle.std.proofs.Common.{◌≡◌, ℕ, ◌+◌, true, false, List, slice_get, Option, None, Some, IsSome, unwrap_or, ◌⊎◌}
 use Rattle.std.specs.Prelude.{is_some}
 use Rattle.fs_text.specs.Texts.{Text}
-use Rattle.fs_text.specs.declared.states.State.{State}
-use Rattle.fs_text.specs.declared.states.State.TheVariants.{CsNew, CsInit, CsConsumeMedia}
 use Rattle.fs_text.specs.declared.causes.Cause.{Cause}
 use Rattle.fs_text.specs.declared.causes.Cause.TheVariants.{LoseRace}
+use Rattle.fs_vars.specs.Pairs.{value_of}
 use Rattle.fs_vars.specs.Variables.{Variables}
 use Rattle.fs_filter.specs.Subscriptions.{Subscription}
 use Rattle.fs_bridge.specs.declared.row.BridgeKind.{BridgeKind}
@@ -23,10 +22,10 @@ use Rattle.fs_orig.specs.declared.orig.Orig.{Orig}
 use Rattle.fs_orig.specs.declared.plan.LegPlan.{LegPlan}
 use Rattle.fs_orig.specs.declared.winner.Winner.{Winner}
 use Rattle.fs_orig.specs.declared.winner.Winner.TheVariants.{App, Route}
-use Rattle.fs_orig.specs.Changes.{with_answer}
+use Rattle.fs_orig.specs.Changes.{with_answer, may_enter_next}
 use Rattle.fs_orig.specs.Endpoints.{IsShortAddress}
 use Rattle.fs_orig.specs.Verdicts.{next_group}
-use Rattle.fs_places.proofs.HeldLemmas.{IsFree}
+use Rattle.fs_seats.proofs.HeldLemmas.{IsFree}
 use Rattle.fs_state.specs.declared.conn.Phase.TheVariants.{Fresh}
 use Rattle.fs_state.specs.declared.conn.Parting.{Parting}
 use Rattle.fs_state.specs.declared.conn.Parting.TheVariants as parting
@@ -37,25 +36,28 @@ use Rattle.fs_state.specs.declared.job.JobWork.{JobWork}
 use Rattle.fs_state.specs.declared.job.JobWork.TheVariants as work
 use Rattle.fs_state.specs.Switch.{Switch, chan_at, with_chan, bridge_at, is_full_of_jobs, job_of, without_conn, with_frame_taken}
 use Rattle.fs_state.specs.Switch.{with_event}
-use Rattle.fs_state.specs.Switch.{next_orig_number, orig_of, without_orig, with_gift, with_answer as with_reply_now}
+use Rattle.fs_state.specs.Switch.{next_orig_number, orig_of, without_orig, with_frame_now, with_notice}
 use Rattle.fs_state.specs.Moves.{orig_changed, leg_changed}
-use Rattle.fs_state.specs.Hangups.{after_hangups, after_hangups_for}
+use Rattle.fs_state.specs.Hangups.{lives_at, after_hangups, after_hangups_for}
 use Rattle.fs_state.specs.Bridging.{can_join, joined_as}
 use Rattle.fs_machine.specs.declared.attempts.Party.TheVariants as party
-use Rattle.fs_machine.specs.declared.originations.Call.{Call}
+use Rattle.fs_machine.specs.declared.attempts.WonLeg.{WonLeg}
+use Rattle.fs_machine.specs.declared.call.Call.{Call}
+use Rattle.fs_machine.specs.EventNames.{can_tell}
 use Rattle.fs_machine.specs.Connections.{phase_at, conn_changed, admitted, parted, with_subs_changed}
 use Rattle.fs_machine.specs.Originations.{pair_made, is_misnamed, target_of, group_made}
 use Rattle.fs_machine.specs.Bridging.{after_bridge_failure, after_bridge_win, group_dialed}
-use Rattle.fs_machine.specs.Attempts.{first_group, originate_begun, awaits, failed_for, won_for, death_of, with_group}
+use Rattle.fs_machine.specs.Attempts.{first_group, originate_begun, awaits, failed_for, won_in, won_for, death_of, with_group}
 use Rattle.fs_machine.specs.Dialing.{tried_by_slot}
-use Rattle.fs_machine.specs.Joining.{after_leaving}
+use Rattle.fs_machine.specs.Joining.{both_left}
 use Rattle.fs_machine.specs.Leaving.{after_departure}
 use Rattle.fs_machine.specs.Owing.{after_job_begin, after_job_end}
 use Rattle.fs_machine.specs.Step.{arrived}
-use Rattle.fs_machine.specs.Sound.{HasLeg}
+use Rattle.fs_machine.specs.Sound.{is_idle, HasLeg}
+use Rattle.fs_machine.proofs.LimitLemmas.{AreLimited, cause_key}
 
--- How far an entry has come: nothing has begun in it that draws a number, or such a thing may have, and so many slots at most were freed
--- that are not filled again. An identifier is drawn only for a slot that is filled.
+-- How far an entry has come: nothing has begun in it that draws a number, and no bridge has ended; or such a thing may have, and so many
+-- slots at most were freed that are not filled again. An identifier is drawn only for a slot that is filled.
 abbrev pub Stage : Type 0
 Stage = Option ℕ
 
@@ -82,13 +84,6 @@ pub record Links : Type 0 where
 abbrev pub links_of : Chan → Links
 links_of c = record { uuid = c.uuid; partner = c.partner; peer = c.peer; leg_of = c.leg_of; hold = hold_in c.wait }
 
--- a leg of an origination that is not yet decided is in one of these states
-abbrev pub is_idle : State → Bool
-is_idle CsNew = true
-is_idle CsInit = true
-is_idle CsConsumeMedia = true
-is_idle _ = false
-
 -- such a leg is outbound, has nothing to run and waits for no legs of its own, and a leg of a bridge is none of these, and waits for the
 -- end of the bridge
 pub record IsApt (c : Chan) : Type 0 where
@@ -105,12 +100,18 @@ pub record Remains (old new : Chan) : Type 0 where
   pub live : is_live new ≡ is_live old
   pub short : HasShortFields old.profile → HasShortFields new.profile
 
--- a channel keeps what others know of it, lives just if it lived, and its texts stay within their limits
-pub record Stays (old new : Chan) : Type 0 where
+-- variables keep their limits, and once a bridge may have ended in the entry, the one stays that tells of what
+pub record KeepsVars (b : Stage) (old new : Variables) : Type 0 where
+  pub limits : AreLimited old → AreLimited new
+  pub cause : is_some b ≡ true → value_of new.pairs cause_key ≡ value_of old.pairs cause_key
+
+-- a channel keeps what others know of it, lives just if it lived, and its texts and variables stay within their limits
+pub record Stays (b : Stage) (old new : Chan) : Type 0 where
   pub links : links_of new ≡ links_of old
   pub live : is_live new ≡ is_live old
   pub short : HasShortFields old.profile → HasShortFields new.profile
   pub apt : IsApt old → IsApt new
+  pub vars : KeepsVars b old.vars new.vars
 
 -- an event tells neither that a bridge begins nor that one has ended
 abbrev pub IsOfNoBridge : Detail → Type 0
@@ -118,35 +119,57 @@ IsOfNoBridge (detail.Bridge row) = ⊥
 IsOfNoBridge (detail.Unbridge row cause) = ⊥
 IsOfNoBridge _ = Unit {0}
 
+-- and its name can tell what it tells
 abbrev pub TellsNoBridge : Event → Type 0
-TellsNoBridge event = IsOfNoBridge event.detail
+TellsNoBridge event = (can_tell event.name event.detail ≡ true) × IsOfNoBridge event.detail
+
+-- a slot is in no bridge, and its channel is no leg of an origination that is not yet decided
+pub record IsApart (s : Switch) (slot : ℕ) : Type 0 where
+  pub bridge : bridge_at s slot ≡ None
+  pub lone : (c : Chan) → chan_at s slot ≡ Some c → c.leg_of ≡ None
 
 -- what happens to a channel and leaves it what it is to others
 pub record KeptByTouches (P : Fact) : Type 0 where
   pub told : (event : Event) {b : Stage} {s : Switch} → TellsNoBridge event → P b s → P b (with_event event s)
   pub globals : (globals : Variables) {b : Stage} {s : Switch} → P b s → P b (record s { globals = globals })
-  pub changed : (slot : ℕ) (old new : Chan) {b : Stage} {s : Switch} → chan_at s slot ≡ Some old → Stays old new → P b s →
+  pub changed : (slot : ℕ) (old new : Chan) {b : Stage} {s : Switch} → chan_at s slot ≡ Some old → Stays b old new → P b s →
       P b (with_chan slot (Some new) s)
-  pub answers : (place slot number : ℕ) {b : Stage} {s : Switch} → P b s →
-      P b (orig_changed (leg_changed (λ position. with_answer position place) slot) number s)
+  pub answers : (seat slot number : ℕ) {b : Stage} {s : Switch} → P b s →
+      P b (orig_changed (leg_changed (λ position. with_answer position seat) slot) number s)
+
+-- a slot was in no bridge before anything had begun in the entry
+pub record WasApart (P : Fact) (slot : ℕ) : Type 0 where
+  pub past : Switch
+  pub first : P None past
+  pub apart : bridge_at past slot ≡ None
+
+-- so it was by what a fact tells
+pub apart_by : {P Q : Fact} (slot : ℕ) → WasApart P slot → ((s : Switch) → P None s → Q None s) → WasApart Q slot
+apart_by slot was tells = record { past = was.past; first = tells was.past was.first; apart = was.apart }
 
 -- what channels do, and what is done to them
 pub record KeptByCalls (P : Fact) : Type 0 where
   pub touches : KeptByTouches P
-  pub hung : (named : Members) {b : Stage} {s : Switch} → P b s → P b (after_hangups named s)
-  pub joined : (kind : BridgeKind) (caller answerer : ℕ) (c d : Chan) {b : Stage} {s : Switch} → can_join caller answerer s ≡ true →
+  pub hung : (named : Members) {s : Switch} → P None s → P (Some 0) s → P (Some 0) (after_hangups named s)
+  pub joined : (kind : BridgeKind) (caller answerer : ℕ) (c d : Chan) {n : ℕ} {s : Switch} → can_join caller answerer s ≡ true →
       chan_at s caller ≡ Some c → chan_at s answerer ≡ Some d → c.leg_of ≡ None → d.leg_of ≡ None →
-      awaited_by c ≡ None → awaited_by d ≡ None → P b s → P b (joined_as kind caller answerer s)
-  pub leaves : (slot : ℕ) {b : Stage} {s : Switch} → bridge_at s slot ≡ None → P b s → P b (after_leaving slot s)
-  pub departs : (slot : ℕ) {b : Stage} {s : Switch} → P b s → P b (after_departure slot s)
+      awaited_by c ≡ None → awaited_by d ≡ None → WasApart P caller → WasApart P answerer → P (Some n) s →
+      P (Some n) (joined_as kind caller answerer s)
+  pub leaves : (one other : ℕ) {s : Switch} → IsApart s one → IsApart s other → P None s → P (Some 0) s → P (Some 0) (both_left one other s)
+  pub departs : (slot : ℕ) {s : Switch} → P None s → P (Some 0) s → P (Some 0) (after_departure slot s)
   pub more : {s : Switch} → P (Some 0) s → P (Some 1) s
-  pub gone : (slot : ℕ) (old : Chan) {s : Switch} → chan_at s slot ≡ Some old → is_live old ≡ false → P (Some 0) s →
+  pub gone : (slot : ℕ) (old : Chan) {s : Switch} → chan_at s slot ≡ Some old → is_live old ≡ false → P None s → P (Some 0) s →
       P (Some 1) (with_chan slot None s)
+
+-- the texts and the variables of a call keep their limits
+pub record IsShortCall (call : Call) : Type 0 where
+  pub address : IsShortAddress call.exten call.context
+  pub vars : AreLimited call.vars
 
 -- how channels are born: each pair fills two slots, and draws no more identifiers than that
 pub record KeptByBirths (P : Fact) : Type 0 where
   pub spent : {s : Switch} → P None s → P (Some 0) s
-  pub pair : (call : Call) (orig a b : ℕ) {n : ℕ} {s : Switch} → IsShortAddress call.exten call.context →
+  pub pair : (call : Call) (orig a b : ℕ) {n : ℕ} {s : Switch} → IsShortCall call →
       is_misnamed call.uuid s ≡ false →
       IsFree Chan s.channels 1 a →
       IsFree Chan s.channels (a + 1) b →
@@ -162,15 +185,36 @@ pub record DoesJob (s : Switch) (number conn : ℕ) (what : JobWork) : Type 0 wh
 abbrev pub raced : List ℕ → Switch → Switch
 raced slots s = after_hangups_for LoseRace slots s
 
--- a leg lived when the entry began, and did not die as those in these slots lost
+-- a leg that has won, where there is a channel of it
+abbrev pub won_of : OrigLeg → WonLeg
+won_of leg = won_in leg (unwrap_or leg.slot 0)
+
+-- a leg lived when the entry began, and did not die as those in these slots lost, and each other one did
 pub record HasWon (before : Switch) (orig : ℕ) (leg : OrigLeg) (slots : List ℕ) : Type 0 where
   pub has : HasLeg before orig leg
   pub survives : death_of (chan_at (raced slots before) (unwrap_or leg.slot 0)) ≡ None
+  pub others : (other : OrigLeg) (slot : ℕ) (one : HasLeg before orig other) → other.slot ≡ Some slot →
+      (one.position ≡ has.position) ⊎ (lives_at (raced slots before) slot ≡ false)
 
--- the legs of a group are made by plans with which it has a leg, if it has one
+-- the channel in a slot named an origination
+abbrev pub Named : Switch → ℕ → ℕ → Type 0
+Named s slot number = (c : Chan) × (chan_at s slot ≡ Some c) × (c.leg_of ≡ Some number)
+
+-- so the entry began, or some were hung up in it
+abbrev pub HasHung : Switch → Switch → Type 0
+HasHung before s = (s ≡ before) ⊎ ((named : Members) × (s ≡ after_hangups named before))
+
+-- whoever names an origination did so as the entry began, and no leg of it that lived then is a live channel
+pub record IsOver (before s : Switch) (orig : ℕ) : Type 0 where
+  pub from : HasHung before s
+  pub named : (slot : ℕ) (c : Chan) → chan_at s slot ≡ Some c → c.leg_of ≡ Some orig → Named before slot orig
+  pub dead : (leg : OrigLeg) (slot : ℕ) → HasLeg before orig leg → leg.slot ≡ Some slot → lives_at s slot ≡ false
+
+-- the legs of a group are made by plans with which it has a leg, if it has one, and it is the turn of this group
 pub record ArePlans (o : Orig) (plans : List LegPlan) : Type 0 where
   pub group : List LegPlan
   pub next : next_group o ≡ Some group
+  pub enters : may_enter_next o ≡ true
   pub filled : IsSome (slice_get group 0) → IsSome (slice_get plans 0)
 
 -- the jobs that end
@@ -178,11 +222,11 @@ pub record KeptByJobs (before : Switch) (P : Fact) : Type 0 where
   pub woken : (number conn until : ℕ) (answer : Text) {s : Switch} → DoesJob s number conn (work.Sleep until) → P (Some 0) s →
       P (Some 0) (after_job_end number conn answer s)
   pub failed : (job conn : ℕ) (winner : Winner) (caller : Caller) (orig : ℕ) (cause : Cause) {s : Switch} →
-      DoesJob s job conn (work.Originate orig winner caller) → P (Some 0) s →
+      DoesJob s job conn (work.Originate orig winner caller) → IsOver before s orig → P (Some 0) s →
       P (Some 0) (failed_for (party.Job job conn winner caller) orig cause s)
   pub wins : (job conn : ℕ) (winner : Winner) (caller : Caller) (orig : ℕ) (leg : OrigLeg) (slots : List ℕ) →
       DoesJob (raced slots before) job conn (work.Originate orig winner caller) → HasWon before orig leg slots →
-      P (Some 0) (raced slots before) → P (Some 0) (won_for (party.Job job conn winner caller) orig leg (raced slots before))
+      P (Some 0) (raced slots before) → P (Some 0) (won_for (party.Job job conn winner caller) orig (won_of leg) (raced slots before))
 
 -- there is a group, and each has a leg
 pub record AreGroups (groups : List (List LegPlan)) : Type 0 where
@@ -205,7 +249,7 @@ pub record KeptByDials (before : Switch) (P : Fact) : Type 0 where
       (tried_by_slot slot groups timeout (next_orig_number s) (group_dialed (Some c) (first_group groups) (next_orig_number s) s))
   pub regroups : (number : ℕ) (o : Orig) (plans : List LegPlan) (caller : Caller) {s : Switch} → orig_of s number ≡ Some o →
       ArePlans o plans → P (Some 0) s → P (Some 0) (with_group number (group_made plans caller number s))
-  pub fails : (slot orig : ℕ) (cause : Cause) {s : Switch} → awaits slot orig s ≡ true → P (Some 0) s →
+  pub fails : (slot orig : ℕ) (cause : Cause) {s : Switch} → awaits slot orig s ≡ true → IsOver before s orig → P (Some 0) s →
       P (Some 0) (after_bridge_failure cause slot (without_orig orig s))
   pub wins : (slot orig : ℕ) (leg : OrigLeg) (slots : List ℕ) → awaits slot orig (raced slots before) ≡ true →
       HasWon before orig leg slots → P (Some 0) (raced slots before) →
@@ -224,11 +268,19 @@ abbrev pub IsShortWinner : Winner → Type 0
 IsShortWinner (App application argument) = Unit {0}
 IsShortWinner (Route to) = IsShortTarget (target_of to)
 
+-- what api commands do to what is no channel
+pub record KeptByApi (conn : ℕ) (P : Fact) : Type 0 where
+  pub spent : {s : Switch} → P None s → P (Some 0) s
+  pub sleeps : (until : ℕ) {s : Switch} → is_full_of_jobs s ≡ false → P None s → P (Some 0) (after_job_begin conn (work.Sleep until) s)
+  pub originates : (groups : List (List LegPlan)) (winner : Winner) (caller : Caller) (timeout : Option ℕ) {s : Switch} →
+      AreGroups groups → IsShortWinner winner → is_full_of_jobs s ≡ false → P None s →
+      P (Some 0) (originate_begun conn groups winner caller timeout s)
+
 -- what the commands of a connection do
 pub record KeptByCommands (conn : ℕ) (P : Fact) : Type 0 where
   pub spent : {s : Switch} → P None s → P (Some 0) s
-  pub gave : (frame : Text) {b : Stage} {s : Switch} → P b s → P b (with_gift conn frame s)
-  pub answered : (frame : Text) {b : Stage} {s : Switch} → P b s → P b (with_reply_now conn frame s)
+  pub noticed : (frame : Text) {b : Stage} {s : Switch} → P b s → P b (with_notice conn frame s)
+  pub gave : (frame : Text) {b : Stage} {s : Switch} → P b s → P b (with_frame_now conn frame s)
   pub asked : (change : Subscription → Subscription) {n : ℕ} {s : Switch} → P (Some n) s →
       P (Some n) (conn_changed (with_subs_changed change) conn s)
   pub admitted : {n : ℕ} {s : Switch} → phase_at s conn ≡ Fresh → P (Some n) s → P (Some n) (conn_changed admitted conn s)
@@ -237,6 +289,14 @@ pub record KeptByCommands (conn : ℕ) (P : Fact) : Type 0 where
   pub originates : (groups : List (List LegPlan)) (winner : Winner) (caller : Caller) (timeout : Option ℕ) {s : Switch} →
       AreGroups groups → IsShortWinner winner → is_full_of_jobs s ≡ false → P None s →
       P (Some 0) (originate_begun conn groups winner caller timeout s)
+
+-- api commands among them
+pub api_among : {conn : ℕ} {P : Fact} → KeptByCommands conn P → KeptByApi conn P
+api_among kept = record {
+  spent = λ h. kept.spent h;
+  sleeps = λ until room h. kept.sleeps until room h;
+  originates = λ groups winner caller timeout are short room h. kept.originates groups winner caller timeout are short room h;
+}
 
 -- how connections come and go, and take their frames
 pub record KeptByVisits (P : Fact) : Type 0 where

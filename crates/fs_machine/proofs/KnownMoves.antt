@@ -1,81 +1,167 @@
--- What is known while an entry is done, by which a channel that dials finds a place for its origination.
-use Rattle.std.proofs.Common.{◌≡◌, ℕ, ◌+◌, ◌-◌, ◌^◌, ◌<◌, ◌≤◌, List, length, Option, None, Some, refl, ap, ◌∙◌, arith}
+-- What is known while an entry is done, by which an origination that begins finds a seat.
+use Rattle.std.proofs.Common.{◌≡◌, ◌≢◌, ℕ, ◌+◌, ◌-◌, ◌^◌, ◌<◌, ◌≤◌, false, List, length, Option, None, Some, is_none, unwrap_or, refl}
+use Rattle.std.proofs.Common.{sym, ap, subst, ◌∙◌, arith}
 use Rattle.std.proofs.lemmas.List.{length-map}
+use Rattle.fs_text.specs.Texts.{Text}
 use Rattle.fs_chan.specs.declared.chan.Chan.{Chan}
-use Rattle.fs_chan.specs.Bridging.{awaited_by}
+use Rattle.fs_chan.specs.Bridging.{awaiting, awaited_by, exported_pairs}
 use Rattle.fs_orig.specs.declared.caller.Caller.{Caller}
+use Rattle.fs_orig.specs.declared.plan.LegPlan.{LegPlan}
 use Rattle.fs_orig.specs.declared.orig.Orig.{Orig}
 use Rattle.fs_orig.specs.declared.orig.Owner.{Owner}
 use Rattle.fs_orig.specs.declared.orig.Owner.TheVariants as owner
 use Rattle.fs_orig.specs.declared.winner.Winner.{Winner}
-use Rattle.fs_places.specs.Places.{least_free}
-use Rattle.fs_places.specs.Rows.{place_of, row_of, with_new_row}
-use Rattle.fs_places.proofs.RowLemmas.{row_none, place_stands, row_of-with_new_row_same}
-use Rattle.fs_places.proofs.TableLemmas.{row_found, taken_in, full_taken}
+use Rattle.fs_orig.specs.Plans.{all_behind}
+use Rattle.fs_seats.specs.Seats.{least_free}
+use Rattle.fs_seats.specs.Rows.{seat_of, row_of, with_new_row}
+use Rattle.fs_seats.proofs.RowLemmas.{row_none, seat_stands, row_of-with_new_row_same}
+use Rattle.fs_seats.proofs.TableLemmas.{row_found, taken_in, full_taken}
+use Rattle.fs_state.specs.declared.conn.Conn.{Conn}
+use Rattle.fs_state.specs.declared.conn.Parting.TheVariants as parting
 use Rattle.fs_state.specs.declared.job.Job.{Job}
-use Rattle.fs_state.specs.declared.job.JobWork.TheVariants.{Originate}
-use Rattle.fs_state.specs.Switch.{Switch, chan_at, next_orig_number, with_gift, with_answer}
-use Rattle.fs_machine.proofs.Kept.{Stage, Fact, DoesJob, KeptByMoves}
+use Rattle.fs_state.specs.declared.job.JobWork.TheVariants.{Sleep, Originate}
+use Rattle.fs_state.specs.Switch.{Switch, chan_at, next_orig_number, next_job_number, is_full_of_jobs, without_orig, with_new_job, without_job}
+use Rattle.fs_state.specs.Switch.{with_frame_now, with_notice}
+use Rattle.fs_state.specs.Moves.{after_move}
+use Rattle.fs_machine.specs.Texts.{made_text, failed_text}
+use Rattle.fs_machine.specs.Connections.{conn_changed, admitted, parted, owed_since, not_owed, with_subs_changed}
+use Rattle.fs_machine.specs.Originations.{MadeGroup, group_made, after_winning}
+use Rattle.fs_machine.specs.Attempts.{first_group, orig_begun, originate_begun, with_group}
+use Rattle.fs_machine.specs.Bridging.{after_bridge_failure, after_bridge_win, caller_of, group_dialed}
+use Rattle.fs_machine.specs.Dialing.{tried_by_slot}
+use Rattle.fs_machine.specs.Owing.{after_job_begin, after_job_end}
+use Rattle.fs_machine.proofs.Kept.{Stage, Fact, raced, DoesJob, KeptByMoves}
 use Rattle.fs_machine.proofs.BondMoves.{bonds_moves}
 use Rattle.fs_machine.proofs.BothMoves.{Both, both_moves}
 use Rattle.fs_machine.proofs.IdentifierMoves.{NumbersFrom, numbers_moves}
 use Rattle.fs_machine.proofs.LegLemmas.{roles_of, LegsStand}
-use Rattle.fs_machine.proofs.OwedBooks.{tried_by}
-use Rattle.fs_machine.proofs.OwedLosses.{Loses, calls_by_losses}
+use Rattle.fs_machine.proofs.FrontLemmas.{conn_unread}
+use Rattle.fs_machine.proofs.RestLemmas.{Rest}
+use Rattle.fs_machine.proofs.OwedBooks.{Jobs, tried_by, Tries}
+use Rattle.fs_machine.proofs.OwedJobs.{orig_seat}
+use Rattle.fs_machine.proofs.OwedLosses.{Loses, calls_by_losses, moved_loses, group_loses, regrouped_loses, failure_loses, winning_loses}
+use Rattle.fs_machine.proofs.OwedLosses.{bridge_won_loses}
 use Rattle.fs_machine.proofs.OwedTables.{by_job, by_slot, of_slot, owned_at, owned_in, IsOwnedAt, owned_there, taken_apart}
 use Rattle.fs_machine.proofs.OwnerMoves.{Owning, owners_moves, Owners, owners_of}
 use Rattle.fs_machine.proofs.PartnerMoves.{Partners, partners_moves}
 use Rattle.fs_machine.proofs.SeenLemmas.{seen}
-use Rattle.fs_machine.proofs.SlotCounts.{fewer_slots}
+use Rattle.fs_machine.proofs.SlotCounts.{few_slots, fewer_slots}
 use Rattle.fs_machine.proofs.TrialMoves.{Trying, trying_moves}
 
--- ---- what jobs own before anything has begun
+-- ---- what was so as the entry began
 
--- it is what they owned as the entry began
+-- Before anything has begun jobs are those that were, and own what they owned, and no number of an origination was drawn. Later one was at
+-- most.
 abbrev pub Early : Switch → Fact
-Early before None t = owned_in by_job t.origs ≡ owned_in by_job before.origs
-Early before (Some n) t = Unit {0}
+Early before None t =
+    (owned_in by_job t.origs ≡ owned_in by_job before.origs) × (t.jobs ≡ before.jobs) × (t.drawn.origs ≡ before.drawn.origs)
+Early before (Some n) t = t.drawn.origs ≤ before.drawn.origs + 1
+
+same_most : (before t u : Switch) → u.drawn.origs ≡ t.drawn.origs → t.drawn.origs ≤ before.drawn.origs + 1 →
+    u.drawn.origs ≤ before.drawn.origs + 1
+same_most before t u same h = omega (arith, same, h)
 
 early_loses : (before : Switch) (b : Stage) (t u : Switch) → Early before b t → Loses t u → Early before b u
-early_loses before None t u h loses = loses.jobs ∙ h
-early_loses before (Some n) t u h loses = tt
+early_loses before None t u h loses =
+    (loses.jobs ∙ h.0, ap (λ (r : Rest). r.jobs) loses.rest ∙ h.1, loses.drawn ∙ h.2)
+early_loses before (Some n) t u h loses = same_most before t u loses.drawn h
 
-early_given : (before : Switch) (b : Stage) (conn : ℕ) (frame : List ℕ) (t : Switch) → Early before b t →
-    Early before b (with_gift conn frame t)
-early_given before None conn frame t h = h
-early_given before (Some n) conn frame t h = tt
+early_spent : (before t : Switch) → Early before None t → t.drawn.origs ≤ before.drawn.origs + 1
+early_spent before t h = let same : t.drawn.origs ≡ before.drawn.origs = h.2 in omega (arith, same)
 
-early_answered : (before : Switch) (b : Stage) (conn : ℕ) (frame : List ℕ) (t : Switch) → Early before b t →
-    Early before b (with_answer conn frame t)
-early_answered before None conn frame t h = h
-early_answered before (Some n) conn frame t h = tt
+-- an origination begins once legs were made
+early_begun : (before s t u : Switch) → Early before None s → t.drawn.origs ≡ s.drawn.origs → u.drawn.origs ≡ next_orig_number t →
+    u.drawn.origs ≤ before.drawn.origs + 1
+early_begun before s t u h made begun =
+    let same : s.drawn.origs ≡ before.drawn.origs = h.2 in
+    omega (arith, same, made, begun)
+
+conn_early : (before : Switch) (n : ℕ) (change : Conn → Conn) (conn : ℕ) (t : Switch) → Early before (Some n) t →
+    Early before (Some n) (conn_changed change conn t)
+conn_early before n change conn t h =
+    same_most before t (conn_changed change conn t) (conn_unread (λ (u : Switch). u.drawn.origs) (λ conns u. refl) change conn t) h
+
+ended_early : (before : Switch) (number conn : ℕ) (answer : Text) (t : Switch) → Early before (Some 0) t →
+    Early before (Some 0) (after_job_end number conn answer t)
+ended_early before number conn answer t h = conn_early before 0 not_owed conn (without_job number t) h
+
+sleeping_early : (before : Switch) (conn until : ℕ) (t : Switch) → Early before None t →
+    Early before (Some 0) (after_job_begin conn (Sleep until) t)
+sleeping_early before conn until t h =
+    conn_early before 0 (owed_since t.entries) conn (with_new_job (record { conn = conn; work = Sleep until }) t) (early_spent before t h)
+
+originated_early : (before : Switch) (conn : ℕ) (groups : List (List LegPlan)) (winner : Winner) (caller : Caller) (timeout : Option ℕ)
+    (t : Switch) → Early before None t → Early before (Some 0) (originate_begun conn groups winner caller timeout t)
+originated_early before conn groups winner caller timeout t h =
+    let number : ℕ = next_orig_number t in
+    let made : MadeGroup = group_made (first_group groups) caller number t in
+    let begun : Switch = orig_begun (owner.Job (next_job_number made.state)) groups made.legs (unwrap_or timeout 60) made.state in
+    conn_early before 0 (owed_since begun.entries) conn
+    (with_new_job (record { conn = conn; work = Originate number winner caller }) begun)
+    (early_begun before t made.state begun h (group_loses (first_group groups) caller number t).drawn refl)
+
+dialed_early : (before : Switch) (slot : ℕ) (c : Chan) (groups : List (List LegPlan)) (timeout : ℕ) (t : Switch) → Early before None t →
+    Early before (Some 0)
+    (tried_by_slot slot groups timeout (next_orig_number t) (group_dialed (Some c) (first_group groups) (next_orig_number t) t))
+dialed_early before slot c groups timeout t h =
+    let number : ℕ = next_orig_number t in
+    let plans : List LegPlan = all_behind (exported_pairs c.vars) (first_group groups) in
+    let made : MadeGroup = group_made plans (caller_of c) number t in
+    let begun : Switch = orig_begun (owner.Slot slot) groups made.legs timeout made.state in
+    early_loses before (Some 0) begun (after_move (awaiting number) slot begun)
+    (early_begun before t made.state begun h (group_loses plans (caller_of c) number t).drawn refl)
+    (moved_loses (awaiting number) slot begun)
+
+early_noticed : (before : Switch) (b : Stage) (conn : ℕ) (frame : List ℕ) (t : Switch) → Early before b t →
+    Early before b (with_notice conn frame t)
+early_noticed before None conn frame t h = h
+early_noticed before (Some n) conn frame t h = h
+
+early_gave : (before : Switch) (b : Stage) (conn : ℕ) (frame : List ℕ) (t : Switch) → Early before b t →
+    Early before b (with_frame_now conn frame t)
+early_gave before None conn frame t h = h
+early_gave before (Some n) conn frame t h = h
 
 pub early_moves : (before : Switch) → KeptByMoves before (Early before)
 early_moves before = record {
-  calls = calls_by_losses (Early before) (early_loses before) (λ t h. tt);
+  calls = calls_by_losses (Early before) (early_loses before) (λ t h. h);
   jobs = record {
-    woken = λ number conn until answer does h. tt;
-    failed = λ job conn winner caller orig cause does h. tt;
-    wins = λ job conn winner caller orig leg slots does won h. tt;
+    woken = λ number conn until answer {s = s} does h. ended_early before number conn answer s h;
+    failed = λ job conn winner caller orig cause {s = s} does over h. ended_early before job conn (failed_text cause) (without_orig orig s) h;
+    wins = λ job conn winner caller orig leg slots does won h.
+        let s : Switch = raced slots before in
+        let t : Switch = after_winning winner (unwrap_or leg.slot 0) s in
+        ended_early before job conn (made_text leg.uuid) (without_orig orig t)
+        (early_loses before (Some 0) s t h (winning_loses winner (unwrap_or leg.slot 0) s));
   };
   dials = record {
-    spent = λ h. tt;
-    dials = λ slot c groups timeout there works are h. tt;
-    regroups = λ number o plans caller there are h. tt;
-    fails = λ slot orig cause waits h. tt;
-    wins = λ slot orig leg slots waits won h. tt;
+    spent = λ {s = s} h. early_spent before s h;
+    dials = λ slot c groups timeout {s = s} there works are h. dialed_early before slot c groups timeout s h;
+    regroups = λ number o plans caller {s = s} there are h.
+        early_loses before (Some 0) s (with_group number (group_made plans caller number s)) h (regrouped_loses number plans caller s);
+    fails = λ slot orig cause {s = s} waits over h.
+        early_loses before (Some 0) (without_orig orig s) (after_bridge_failure cause slot (without_orig orig s)) h
+        (failure_loses cause slot (without_orig orig s));
+    wins = λ slot orig leg slots waits won h.
+        let s : Switch = without_orig orig (raced slots before) in
+        early_loses before (Some 0) s (after_bridge_win slot (unwrap_or leg.slot 0) s) h (bridge_won_loses slot (unwrap_or leg.slot 0) s);
   };
   commands = λ conn. record {
-    spent = λ h. tt;
-    gave = λ frame {b = b} {s = s} h. early_given before b conn frame s h;
-    answered = λ frame {b = b} {s = s} h. early_answered before b conn frame s h;
-    asked = λ change h. tt;
-    admitted = λ fresh h. tt;
-    parted = λ why leaves h. tt;
-    sleeps = λ until room h. tt;
-    originates = λ groups winner caller timeout are short room h. tt;
+    spent = λ {s = s} h. early_spent before s h;
+    noticed = λ frame {b = b} {s = s} h. early_noticed before b conn frame s h;
+    gave = λ frame {b = b} {s = s} h. early_gave before b conn frame s h;
+    asked = λ change {n = n} {s = s} h. conn_early before n (with_subs_changed change) conn s h;
+    admitted = λ {n = n} {s = s} fresh h. conn_early before n admitted conn s h;
+    parted = λ why {n = n} {s = s} leaves h. conn_early before n (parted why) conn s h;
+    sleeps = λ until {s = s} room h. sleeping_early before conn until s h;
+    originates = λ groups winner caller timeout {s = s} are short room h. originated_early before conn groups winner caller timeout s h;
   };
-  visits = record { arrived = λ h. tt; taken = λ conn h. tt; silent = λ conn h. tt; left = λ conn h. tt };
+  visits = record {
+    arrived = λ {s = s} h. early_spent before s h;
+    taken = λ conn h. h;
+    silent = λ conn {s = s} h. conn_early before 0 (parted parting.EndOfInput) conn s h;
+    left = λ conn h. h;
+  };
 }
 
 -- ---- all that is known
@@ -100,46 +186,46 @@ pub jobs_apart : (before t : Switch) → Known before (Some 0) t → (job conn o
 jobs_apart before t known job conn orig winner caller does slot o there owned =
     let found = row_found t.jobs job (record { conn = conn; work = Originate orig winner caller }) does.there in
     let at : IsOwnedAt of_slot t.origs orig o = owned_there of_slot t.origs orig o there in
-    known.1.1.1.1.apart.apart found.0 at.place orig found.1 found.2.there (ap (λ (y : Job). tried_by y.work) found.3)
+    known.1.1.1.1.apart.apart found.0 at.seat orig found.1 found.2.there (ap (λ (y : Job). tried_by y.work) found.3)
     (at.told ∙ ap (λ (by : Owner). of_slot by orig) owned)
 
 -- the next number is that of no origination
 next_number : (before t : Switch) → Known before None t → next_orig_number t ≡ t.drawn.origs + 1
 next_number before t known = let room : t.drawn.origs < 2 ^ 64 - 1 = known.0.room in omega (arith, room)
 
-fresh_place : (before t : Switch) → Known before None t → place_of t.origs (next_orig_number t) ≡ None
-fresh_place before t known = by (place_of t.origs (next_orig_number t)) refl
+fresh_seat : (before t : Switch) → Known before None t → seat_of t.origs (next_orig_number t) ≡ None
+fresh_seat before t known = by (seat_of t.origs (next_orig_number t)) refl
   where
-    by : (found : Option ℕ) → place_of t.origs (next_orig_number t) ≡ found → found ≡ None
+    by : (found : Option ℕ) → seat_of t.origs (next_orig_number t) ≡ found → found ≡ None
     by None is = refl
-    by (Some place) is =
+    by (Some seat) is =
         let most : next_orig_number t ≤ t.drawn.origs =
-        known.0.owned.within (next_orig_number t) place (place_stands t.origs (next_orig_number t) place is) in
+        known.0.owned.within (next_orig_number t) seat (seat_stands t.origs (next_orig_number t) seat is) in
         let next : next_orig_number t ≡ t.drawn.origs + 1 = next_number before t known in
         absurd (omega (arith, most, next))
 
 pub fresh_number : (before t : Switch) → Known before None t → row_of t.origs (next_orig_number t) ≡ None
-fresh_number before t known = row_none t.origs (next_orig_number t) (fresh_place before t known)
+fresh_number before t known = row_none t.origs (next_orig_number t) (fresh_seat before t known)
 
--- a place is free for one more where a channel waits for none: 1,024 jobs own one at most, and 255 slots
-module _ (before : Switch) (jobs_few : taken_in (owned_in by_job before.origs) ≤ 1024) (places : length before.origs ≡ 1280)
+-- a seat is free for one more where a channel waits for none: 1,024 jobs own one at most, and 255 slots
+module _ (before : Switch) (jobs_few : taken_in (owned_in by_job before.origs) ≤ 1024) (seats : length before.origs ≡ 1280)
     (slots : length before.channels ≤ 257) where
-  free_place_there : (t : Switch) → Known before None t → (slot : ℕ) (c : Chan) → chan_at t slot ≡ Some c → awaited_by c ≡ None →
+  free_seat_there : (t : Switch) → Known before None t → (slot : ℕ) (c : Chan) → chan_at t slot ≡ Some c → awaited_by c ≡ None →
       least_free t.origs 0 ≡ None → ⊥
-  free_place_there t known slot c there waits none =
+  free_seat_there t known slot c there waits none =
       let owners : Owners t = owners_of t known.0.owned in
       let same_slots : length t.channels ≡ length before.channels = known.1.1.0.slots in
       let within : length t.channels ≤ 257 = omega (arith, same_slots, slots) in
       let owned : taken_in (owned_in by_slot t.origs) + 1 ≤ 256 =
       fewer_slots t owners.numbers owners.wait known.1.0.zero within slot c there waits in
-      let same : owned_in by_job t.origs ≡ owned_in by_job before.origs = known.1.1.1.0 in
+      let same : owned_in by_job t.origs ≡ owned_in by_job before.origs = known.1.1.1.0.0 in
       let jobs : taken_in (owned_in by_job t.origs) ≡ taken_in (owned_in by_job before.origs) = ap taken_in same in
       let lengths : length (owned_in by_job t.origs) ≡ length (owned_in by_job before.origs) = ap length same in
       let now : length (owned_in by_job t.origs) ≡ length t.origs = length-map t.origs (owned_at by_job) in
       let then : length (owned_in by_job before.origs) ≡ length before.origs = length-map before.origs (owned_at by_job) in
       let all : taken_in t.origs ≡ length t.origs = full_taken t.origs none in
       let apart : taken_in t.origs ≡ taken_in (owned_in by_job t.origs) + taken_in (owned_in by_slot t.origs) = taken_apart t.origs in
-      omega (arith, owned, jobs, lengths, now, then, all, apart, jobs_few, places)
+      omega (arith, owned, jobs, lengths, now, then, all, apart, jobs_few, seats)
 
   pub room_there : (t : Switch) → Known before None t → (slot : ℕ) (c : Chan) → chan_at t slot ≡ Some c → awaited_by c ≡ None →
       (new : Orig) → row_of (with_new_row t.origs (next_orig_number t) new) (next_orig_number t) ≡ Some new
@@ -147,6 +233,36 @@ module _ (before : Switch) (jobs_few : taken_in (owned_in by_job before.origs) �
     where
       by : (found : Option ℕ) → least_free t.origs 0 ≡ found →
           row_of (with_new_row t.origs (next_orig_number t) new) (next_orig_number t) ≡ Some new
-      by None is = absurd (free_place_there t known slot c there waits is)
+      by None is = absurd (free_seat_there t known slot c there waits is)
       by (Some put) is =
-          row_of-with_new_row_same t.origs (next_orig_number t) new put known.0.owned.distinct (fresh_place before t known) is
+          row_of-with_new_row_same t.origs (next_orig_number t) new put known.0.owned.distinct (fresh_seat before t known) is
+
+-- and so is one where a job can begin: 1,023 jobs at most own one, and 256 slots
+module _ (before : Switch) (tries : Tries before.jobs (owned_in by_job before.origs) before.drawn.origs) (slots : length before.channels ≤ 257) where
+  free_job : (t : Switch) → is_full_of_jobs t ≡ false → (q : ℕ) × (least_free t.jobs 0 ≡ Some q)
+  free_job t free = by (least_free t.jobs 0) refl free
+    where
+      by : (found : Option ℕ) → least_free t.jobs 0 ≡ found → is_none found ≡ false → (q : ℕ) × (least_free t.jobs 0 ≡ Some q)
+      by None is free = absurd (cc)
+      by (Some q) is free = (q, is)
+
+  seat_for_job : (t : Switch) → Known before None t → is_full_of_jobs t ≡ false → least_free t.origs 0 ≢ None
+  seat_for_job t known free =
+      let q = free_job t free in
+      let owners : Owners t = owners_of t known.0.owned in
+      let same_slots : length t.channels ≡ length before.channels = known.1.1.0.slots in
+      let within : length t.channels ≤ 257 = omega (arith, same_slots, slots) in
+      orig_seat t.jobs t.origs before.drawn.origs q.0
+      (subst (λ (jobs : Jobs). Tries jobs (owned_in by_job t.origs) before.drawn.origs) (sym known.1.1.1.0.1)
+      (subst (λ (owned : List (Option ℕ)). Tries before.jobs owned before.drawn.origs) (sym known.1.1.1.0.0) tries))
+      (few_slots t owners.numbers owners.wait known.1.0.zero within) q.1
+
+  pub room_for_job : (t : Switch) → Known before None t → is_full_of_jobs t ≡ false → (new : Orig) →
+      row_of (with_new_row t.origs (next_orig_number t) new) (next_orig_number t) ≡ Some new
+  room_for_job t known free new = by (least_free t.origs 0) refl
+    where
+      by : (found : Option ℕ) → least_free t.origs 0 ≡ found →
+          row_of (with_new_row t.origs (next_orig_number t) new) (next_orig_number t) ≡ Some new
+      by None is = absurd (seat_for_job t known free is)
+      by (Some put) is =
+          row_of-with_new_row_same t.origs (next_orig_number t) new put known.0.owned.distinct (fresh_seat before t known) is

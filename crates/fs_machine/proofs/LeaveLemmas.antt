@@ -16,8 +16,8 @@ use Rattle.fs_chan.specs.Changes.{is_live, parked, transferred, IsShortTarget, H
 use Rattle.fs_chan.specs.declared.target.Target3.{Target3}
 use Rattle.fs_chan.specs.declared.wait.Wait.{Wait}
 use Rattle.fs_chan.specs.declared.wait.Wait.TheVariants.{Ready, Bridged}
-use Rattle.fs_places.specs.Places.{held_in, with_held}
-use Rattle.fs_places.proofs.HeldLemmas.{held_here, held_within}
+use Rattle.fs_seats.specs.Seats.{held_in, with_held}
+use Rattle.fs_seats.proofs.HeldLemmas.{held_here, held_within}
 use Rattle.fs_state.specs.declared.event.Event.{Event}
 use Rattle.fs_state.specs.Switch.{Switch, chan_at, with_chan, without_bridge, with_event}
 use Rattle.fs_state.specs.Moves.{with_changed_chan_from, orig_given_up, after_one_hangup}
@@ -25,9 +25,9 @@ use Rattle.fs_state.specs.Hangups.{row_at, unbridge_event, after_end, after_surv
 use Rattle.fs_state.specs.Leaving.{dropped_by, left_behind, after_parting, after_leaving_others}
 use Rattle.fs_machine.specs.Joining.{after_leaving}
 use Rattle.fs_machine.specs.Leaving.{after_departure}
-use Rattle.fs_machine.proofs.Kept.{hold_in, Links, links_of, Stays}
+use Rattle.fs_machine.proofs.Kept.{Stage, hold_in, Links, links_of, Stays}
 use Rattle.fs_machine.proofs.ShortLemmas.{sent_short}
-use Rattle.fs_machine.proofs.StayLemmas.{free_links, rest_free, rest_links, park_lives, routing_lives}
+use Rattle.fs_machine.proofs.StayLemmas.{same_vars, free_links, rest_free, rest_links, park_lives, routing_lives}
 use Rattle.fs_machine.proofs.HangLemmas.{Settles, ends_kept_by, survivals_kept_by}
 
 -- what holds once those are hung up whom the channel in a slot drops, and stays where the other leg outlives the bridge
@@ -93,13 +93,14 @@ left_free slot s c there = by (chan_at t slot) refl there
         ap (λ (x : Chan). hold_in x.wait) (same_Some c (at_leisure d) (sym there ∙ here)) ∙ rest_free d.socket d.state
 
 -- it goes where it is sent, or parks
-sent_stays : (c d : Chan) → is_live c ≡ true → c.leg_of ≡ None → hold_in c.wait ≡ Ready → links_of d ≡ free_links c →
-    is_live d ≡ true → (HasShortFields c.profile → HasShortFields d.profile) → Stays c d
-sent_stays c d live lone free links lives short = record {
+sent_stays : {b : Stage} (c d : Chan) → is_live c ≡ true → c.leg_of ≡ None → hold_in c.wait ≡ Ready → links_of d ≡ free_links c →
+    is_live d ≡ true → (HasShortFields c.profile → HasShortFields d.profile) → d.vars ≡ c.vars → Stays b c d
+sent_stays c d live lone free links lives short vars = record {
   links = links
       ∙ ap (λ (hold : Wait). record { uuid = c.uuid; partner = c.partner; peer = c.peer; leg_of = c.leg_of; hold = hold }) (sym free);
   live = lives ∙ sym live;
   short = short;
+  vars = same_vars c.vars d.vars vars;
   apt = λ apt. record {
     outbound = λ some. absurd (no_leg some);
     idle = λ some. absurd (no_leg some);
@@ -121,10 +122,10 @@ sent_stays c d live lone free links lives short = record {
     no_peer : hold_in c.wait ≡ Bridged → ⊥
     no_peer held = let both : Ready ≡ Bridged = sym free ∙ held in absurd (cc)
 
-pub parked_stays : (c : Chan) → is_live c ≡ true → c.leg_of ≡ None → hold_in c.wait ≡ Ready → Stays c (parked c)
-parked_stays c live lone free = sent_stays c (parked c) live lone free (rest_links c CsPark) park_lives (λ short. short)
+pub parked_stays : {b : Stage} (c : Chan) → is_live c ≡ true → c.leg_of ≡ None → hold_in c.wait ≡ Ready → Stays b c (parked c)
+parked_stays c live lone free = sent_stays c (parked c) live lone free (rest_links c CsPark) park_lives (λ short. short) refl
 
-pub transferred_stays : (to : Target3) (c : Chan) → IsShortTarget to → is_live c ≡ true → c.leg_of ≡ None → hold_in c.wait ≡ Ready →
-    Stays c (transferred to c)
+pub transferred_stays : {b : Stage} (to : Target3) (c : Chan) → IsShortTarget to → is_live c ≡ true → c.leg_of ≡ None → hold_in c.wait ≡ Ready →
+    Stays b c (transferred to c)
 transferred_stays to c short live lone free =
-    sent_stays c (transferred to c) live lone free refl routing_lives (sent_short to c.profile short)
+    sent_stays c (transferred to c) live lone free refl routing_lives (sent_short to c.profile short) refl

@@ -16,17 +16,17 @@ use Rattle.fs_orig.specs.declared.plan.LegPlan.{LegPlan}
 use Rattle.fs_orig.specs.Legs.{lives}
 use Rattle.fs_orig.specs.Changes.{may_enter_next, at_next_group}
 use Rattle.fs_orig.specs.Endpoints.{endpoint_of}
-use Rattle.fs_places.specs.Places.{held_in, with_held}
-use Rattle.fs_places.specs.Rows.{has_number, place_of, with_row}
-use Rattle.fs_places.proofs.HeldLemmas.{IsFree, free_place, held_here, held_there}
-use Rattle.fs_places.proofs.TableLemmas.{still_there, not_free}
-use Rattle.fs_places.proofs.RowLemmas.{none_stands, above_nowhere, distinct_same, numbers-with_row, distinct-with_new_row}
-use Rattle.fs_places.proofs.RowLemmas.{within-with_new_row}
+use Rattle.fs_seats.specs.Seats.{held_in, with_held}
+use Rattle.fs_seats.specs.Rows.{has_number, seat_of, with_row}
+use Rattle.fs_seats.proofs.HeldLemmas.{IsFree, free_seat, held_here, held_there}
+use Rattle.fs_seats.proofs.TableLemmas.{still_there, not_free}
+use Rattle.fs_seats.proofs.RowLemmas.{none_stands, above_nowhere, distinct_same, numbers-with_row, distinct-with_new_row}
+use Rattle.fs_seats.proofs.RowLemmas.{within-with_new_row}
 use Rattle.fs_state.specs.Switch.{Switch, chan_at, free_slot, next_orig_number, orig_of, with_orig, with_new_orig}
 use Rattle.fs_state.specs.Moves.{orig_changed_from, orig_changed}
-use Rattle.fs_state.proofs.LegTables.{Seat, seated, seat_if, seat_of, seat_at, seat_number, seat_its, row_there, HasPlace, changed_fewer}
+use Rattle.fs_state.proofs.LegTables.{Berth, berthed, berth_if, berth_of, berth_at, berth_number, berth_its, row_there, HasSeat, changed_fewer}
 use Rattle.fs_state.proofs.LegTables.{changed_or_old, new_or_old}
-use Rattle.fs_machine.specs.declared.originations.Call.{Call}
+use Rattle.fs_machine.specs.declared.call.Call.{Call}
 use Rattle.fs_machine.specs.Originations.{end_made, leg_end, far_end, pair_made, set_all, no_variables, own_uuid, call_with, is_misnamed}
 use Rattle.fs_machine.specs.Originations.{Made, made_dead, is_congested, made_in, with_second, free_pair, loopback_made, made_with, made_of}
 use Rattle.fs_machine.specs.Originations.{leg_made, MadeGroup, group_made}
@@ -69,25 +69,25 @@ pair_legs call orig a b s free_a free_b h =
     let channels : Channels = (pair_made call orig a b s).channels in
     subst LegsStand (sym (pair_roles call orig a b s))
     (legs_follow (roles_of s) channels
-    (λ seat leg. leg_still s.channels channels seat leg (pair_spares call orig a b s free_a free_b leg.at leg.chan leg.there)) h)
+    (λ berth leg. leg_still s.channels channels berth leg (pair_spares call orig a b s free_a free_b leg.at leg.chan leg.there)) h)
 
 -- ---- a leg is made
 
 -- a leg stands in a slot that was free
-pub record IsNewLeg (before after : Channels) (seat : Seat) : Type 0 where
-  pub leg : IsLegOf after seat
+pub record IsNewLeg (before after : Channels) (berth : Berth) : Type 0 where
+  pub leg : IsLegOf after berth
   pub free : held_in before leg.at ≡ None
 
 -- it does, if it lives
 abbrev MadeStands : ℕ → Switch → Made → Type 0
-MadeStands orig s made = lives made.leg ≡ true → IsNewLeg s.channels made.state.channels (seated orig made.leg.slot)
+MadeStands orig s made = lives made.leg ≡ true → IsNewLeg s.channels made.state.channels (berthed orig made.leg.slot)
 
 pair_leg : (call : Call) (orig a : ℕ) (s : Switch) → free_slot 1 s ≡ Some a → (found : Option ℕ) → free_slot (a + 1) s ≡ found →
     MadeStands orig s (made_in call orig (option_map (λ b. (a, b)) found) s)
 pair_leg call orig a s is_a None is_b live = absurd (true≢false (sym live))
 pair_leg call orig a s is_a (Some b) is_b live =
-    let free_a : IsFree Chan s.channels 1 a = free_place Chan s.channels 1 a is_a in
-    let free_b : IsFree Chan s.channels (a + 1) b = free_place Chan s.channels (a + 1) b is_b in
+    let free_a : IsFree Chan s.channels 1 a = free_seat Chan s.channels 1 a is_a in
+    let free_b : IsFree Chan s.channels (a + 1) b = free_seat Chan s.channels (a + 1) b is_b in
     let leg : Chan = leg_chan call orig a b s in
     record {
       leg = record {
@@ -144,14 +144,14 @@ spared_births slot c = record {
 
 -- those that live stand in slots that were free, each in one of its own
 pub record GroupStands (number : ℕ) (legs : List OrigLeg) (before after : Channels) : Type 0 where
-  pub new : (position : ℕ) (seat : Seat) → seat_of number (slice_get legs position) ≡ Some seat → IsNewLeg before after seat
-  pub apart : (p q : ℕ) (seat : Seat) → seat_of number (slice_get legs p) ≡ Some seat →
-      seat_of number (slice_get legs q) ≡ Some seat → p ≡ q
+  pub new : (position : ℕ) (berth : Berth) → berth_of number (slice_get legs position) ≡ Some berth → IsNewLeg before after berth
+  pub apart : (p q : ℕ) (berth : Berth) → berth_of number (slice_get legs p) ≡ Some berth →
+      berth_of number (slice_get legs q) ≡ Some berth → p ≡ q
 
 no_group : (number : ℕ) (channels : Channels) → GroupStands number [] channels channels
 no_group number channels = record {
-  new = λ position seat has. absurd (none-some seat has);
-  apart = λ p q seat first second. absurd (none-some seat first);
+  new = λ position berth has. absurd (none-some berth has);
+  apart = λ p q berth first second. absurd (none-some berth first);
 }
 
 -- one is made, and then the others
@@ -159,13 +159,13 @@ module _ (number : ℕ) (s : Switch) (made : Made) (group : MadeGroup)
     (one : MadeStands number s made) (later : GroupStands number group.legs made.state.channels group.state.channels)
     (first_spares : (slot : ℕ) (c : Chan) → chan_at s slot ≡ Some c → chan_at made.state slot ≡ Some c)
     (then_spares : (slot : ℕ) (c : Chan) → chan_at made.state slot ≡ Some c → chan_at group.state slot ≡ Some c) where
-  first_seat : (seat : Seat) → seat_of number (Some made.leg) ≡ Some seat → IsNewLeg s.channels made.state.channels seat
-  first_seat seat = by (lives made.leg) refl
+  first_berth : (berth : Berth) → berth_of number (Some made.leg) ≡ Some berth → IsNewLeg s.channels made.state.channels berth
+  first_berth berth = by (lives made.leg) refl
     where
-      by : (test : Bool) → lives made.leg ≡ test → seat_if test number made.leg.slot ≡ Some seat →
-          IsNewLeg s.channels made.state.channels seat
-      by true live h = subst (IsNewLeg s.channels made.state.channels) (same_Some (seated number made.leg.slot) seat h) (one live)
-      by false live h = absurd (none-some seat h)
+      by : (test : Bool) → lives made.leg ≡ test → berth_if test number made.leg.slot ≡ Some berth →
+          IsNewLeg s.channels made.state.channels berth
+      by true live h = subst (IsNewLeg s.channels made.state.channels) (same_Some (berthed number made.leg.slot) berth h) (one live)
+      by false live h = absurd (none-some berth h)
 
   -- what is free later was free at first
   was_free : (slot : ℕ) → chan_at made.state slot ≡ None → chan_at s slot ≡ None
@@ -175,33 +175,33 @@ module _ (number : ℕ) (s : Switch) (made : Made) (group : MadeGroup)
       by None is = refl
       by (Some c) is = absurd (none-some c (sym free ∙ first_spares slot c is))
 
-  new_leg : (position : ℕ) (seat : Seat) → seat_of number (slice_get (made.leg ∷ group.legs) position) ≡ Some seat →
-      IsNewLeg s.channels group.state.channels seat
-  new_leg zero seat has =
-      let new : IsNewLeg s.channels made.state.channels seat = first_seat seat has in
+  new_leg : (position : ℕ) (berth : Berth) → berth_of number (slice_get (made.leg ∷ group.legs) position) ≡ Some berth →
+      IsNewLeg s.channels group.state.channels berth
+  new_leg zero berth has =
+      let new : IsNewLeg s.channels made.state.channels berth = first_berth berth has in
       record {
-        leg = leg_still made.state.channels group.state.channels seat new.leg (then_spares new.leg.at new.leg.chan new.leg.there);
+        leg = leg_still made.state.channels group.state.channels berth new.leg (then_spares new.leg.at new.leg.chan new.leg.there);
         free = new.free;
       }
-  new_leg (suc position) seat has =
-      let new : IsNewLeg made.state.channels group.state.channels seat = later.new position seat has in
+  new_leg (suc position) berth has =
+      let new : IsNewLeg made.state.channels group.state.channels berth = later.new position berth has in
       record { leg = new.leg; free = was_free new.leg.at new.free }
 
   -- the first is in no slot of a later one
-  none_later : (position : ℕ) (seat : Seat) → seat_of number (Some made.leg) ≡ Some seat →
-      seat_of number (slice_get group.legs position) ≡ Some seat → ⊥
-  none_later position seat first second =
-      let old : IsNewLeg s.channels made.state.channels seat = first_seat seat first in
-      let new : IsNewLeg made.state.channels group.state.channels seat = later.new position seat second in
+  none_later : (position : ℕ) (berth : Berth) → berth_of number (Some made.leg) ≡ Some berth →
+      berth_of number (slice_get group.legs position) ≡ Some berth → ⊥
+  none_later position berth first second =
+      let old : IsNewLeg s.channels made.state.channels berth = first_berth berth first in
+      let new : IsNewLeg made.state.channels group.state.channels berth = later.new position berth second in
       let same : old.leg.at ≡ new.leg.at = same_Some old.leg.at new.leg.at (sym old.leg.is ∙ new.leg.is) in
       none-some old.leg.chan (sym new.free ∙ (ap (held_in made.state.channels) (sym same) ∙ old.leg.there))
 
-  each_apart : (p q : ℕ) (seat : Seat) → seat_of number (slice_get (made.leg ∷ group.legs) p) ≡ Some seat →
-      seat_of number (slice_get (made.leg ∷ group.legs) q) ≡ Some seat → p ≡ q
-  each_apart zero zero seat first second = refl
-  each_apart zero (suc q) seat first second = absurd (none_later q seat first second)
-  each_apart (suc p) zero seat first second = absurd (none_later p seat second first)
-  each_apart (suc p) (suc q) seat first second = ap suc (later.apart p q seat first second)
+  each_apart : (p q : ℕ) (berth : Berth) → berth_of number (slice_get (made.leg ∷ group.legs) p) ≡ Some berth →
+      berth_of number (slice_get (made.leg ∷ group.legs) q) ≡ Some berth → p ≡ q
+  each_apart zero zero berth first second = refl
+  each_apart zero (suc q) berth first second = absurd (none_later q berth first second)
+  each_apart (suc p) zero berth first second = absurd (none_later p berth second first)
+  each_apart (suc p) (suc q) berth first second = ap suc (later.apart p q berth first second)
 
   with_first_stands : GroupStands number (made.leg ∷ group.legs) s.channels group.state.channels
   with_first_stands = record { new = new_leg; apart = each_apart }
@@ -225,39 +225,39 @@ new_orig_legs o before t few group h = record {
   distinct = distinct-with_new_row t.origs (next_orig_number t) o h.distinct nowhere;
   within = within-with_new_row t.origs (next_orig_number t) o (next_orig_number t) (λ n p is. omega (arith, h.within n p is, next))
       (omega arith);
-  stand = λ place position seat has. stand place position seat (new_or_old t.origs (next_orig_number t) o place position seat has);
-  apart = λ place p q seat first second.
-      apart place p q seat (new_or_old t.origs (next_orig_number t) o place p seat first)
-      (new_or_old t.origs (next_orig_number t) o place q seat second);
+  stand = λ seat position berth has. stand seat position berth (new_or_old t.origs (next_orig_number t) o seat position berth has);
+  apart = λ seat p q berth first second.
+      apart seat p q berth (new_or_old t.origs (next_orig_number t) o seat p berth first)
+      (new_or_old t.origs (next_orig_number t) o seat q berth second);
 }
   where
     next : next_orig_number t ≡ t.drawn.origs + 1
     next = omega (arith, few)
 
-    nowhere : place_of t.origs (next_orig_number t) ≡ None
+    nowhere : seat_of t.origs (next_orig_number t) ≡ None
     nowhere = above_nowhere t.origs t.drawn.origs (next_orig_number t) h.within (omega (arith, next))
 
-    stand : (place position : ℕ) (seat : Seat) →
-        (seat_of (next_orig_number t) (slice_get o.legs position) ≡ Some seat) ⊎ (seat_at t.origs place position ≡ Some seat) →
-        IsLegOf t.channels seat
-    stand place position seat (inl new) = (group.new position seat new).leg
-    stand place position seat (inr old) = h.stand place position seat old
+    stand : (seat position : ℕ) (berth : Berth) →
+        (berth_of (next_orig_number t) (slice_get o.legs position) ≡ Some berth) ⊎ (berth_at t.origs seat position ≡ Some berth) →
+        IsLegOf t.channels berth
+    stand seat position berth (inl new) = (group.new position berth new).leg
+    stand seat position berth (inr old) = h.stand seat position berth old
 
     -- none that was there has the number
-    not_old : (place p q : ℕ) (seat : Seat) → seat_at t.origs place p ≡ Some seat →
-        seat_of (next_orig_number t) (slice_get o.legs q) ≡ Some seat → ⊥
-    not_old place p q seat old new =
-        both_ways (has_number (next_orig_number t) (held_in t.origs place)) (none_stands t.origs (next_orig_number t) nowhere place)
-        (subst (λ (n : ℕ). has_number n (held_in t.origs place) ≡ true) (seat_its (next_orig_number t) (slice_get o.legs q) seat new)
-        (seat_number p (held_in t.origs place) seat old))
+    not_old : (seat p q : ℕ) (berth : Berth) → berth_at t.origs seat p ≡ Some berth →
+        berth_of (next_orig_number t) (slice_get o.legs q) ≡ Some berth → ⊥
+    not_old seat p q berth old new =
+        both_ways (has_number (next_orig_number t) (held_in t.origs seat)) (none_stands t.origs (next_orig_number t) nowhere seat)
+        (subst (λ (n : ℕ). has_number n (held_in t.origs seat) ≡ true) (berth_its (next_orig_number t) (slice_get o.legs q) berth new)
+        (berth_number p (held_in t.origs seat) berth old))
 
-    apart : (place p q : ℕ) (seat : Seat) →
-        (seat_of (next_orig_number t) (slice_get o.legs p) ≡ Some seat) ⊎ (seat_at t.origs place p ≡ Some seat) →
-        (seat_of (next_orig_number t) (slice_get o.legs q) ≡ Some seat) ⊎ (seat_at t.origs place q ≡ Some seat) → p ≡ q
-    apart place p q seat (inl a) (inl b) = group.apart p q seat a b
-    apart place p q seat (inl a) (inr b) = absurd (not_old place q p seat b a)
-    apart place p q seat (inr a) (inl b) = absurd (not_old place p q seat a b)
-    apart place p q seat (inr a) (inr b) = h.apart place p q seat a b
+    apart : (seat p q : ℕ) (berth : Berth) →
+        (berth_of (next_orig_number t) (slice_get o.legs p) ≡ Some berth) ⊎ (berth_at t.origs seat p ≡ Some berth) →
+        (berth_of (next_orig_number t) (slice_get o.legs q) ≡ Some berth) ⊎ (berth_at t.origs seat q ≡ Some berth) → p ≡ q
+    apart seat p q berth (inl a) (inl b) = group.apart p q berth a b
+    apart seat p q berth (inl a) (inr b) = absurd (not_old seat q p berth b a)
+    apart seat p q berth (inr a) (inl b) = absurd (not_old seat p q berth a b)
+    apart seat p q berth (inr a) (inr b) = h.apart seat p q berth a b
 
 -- ---- an origination comes to its next group
 
@@ -270,36 +270,36 @@ regrouped_legs number legs before t group h = by (orig_of t number) refl
     with_them o new is legs_are = record {
       distinct = distinct_same t.origs (with_row t.origs number new) (numbers-with_row t.origs number new) h.distinct;
       within = within_same t.origs number new t.drawn.origs h.within;
-      stand = λ place position seat has. stand place position seat (changed_or_old t.origs number o new row place position seat has);
-      apart = λ place p q seat first second.
-          apart place p q seat (changed_or_old t.origs number o new row place p seat first)
-          (changed_or_old t.origs number o new row place q seat second);
+      stand = λ seat position berth has. stand seat position berth (changed_or_old t.origs number o new row seat position berth has);
+      apart = λ seat p q berth first second.
+          apart seat p q berth (changed_or_old t.origs number o new row seat p berth first)
+          (changed_or_old t.origs number o new row seat q berth second);
     }
       where
-        row : HasPlace t.origs number o
+        row : HasSeat t.origs number o
         row = row_there t.origs number o is
 
-        its : (position : ℕ) (seat : Seat) → seat_of number (slice_get new.legs position) ≡ Some seat →
-            seat_of number (slice_get legs position) ≡ Some seat
-        its position seat has = subst (λ (l : List OrigLeg). seat_of number (slice_get l position) ≡ Some seat) legs_are has
+        its : (position : ℕ) (berth : Berth) → berth_of number (slice_get new.legs position) ≡ Some berth →
+            berth_of number (slice_get legs position) ≡ Some berth
+        its position berth has = subst (λ (l : List OrigLeg). berth_of number (slice_get l position) ≡ Some berth) legs_are has
 
-        stand : (place position : ℕ) (seat : Seat) →
-            ((place ≡ row.0) × (seat_of number (slice_get new.legs position) ≡ Some seat)) ⊎ ((place ≡ row.0 → ⊥) ×
-            (seat_at t.origs place position ≡ Some seat)) →
-            IsLegOf t.channels seat
-        stand place position seat (inl new) = (group.new position seat (its position seat new.1)).leg
-        stand place position seat (inr old) = h.stand place position seat old.1
+        stand : (seat position : ℕ) (berth : Berth) →
+            ((seat ≡ row.0) × (berth_of number (slice_get new.legs position) ≡ Some berth)) ⊎ ((seat ≡ row.0 → ⊥) ×
+            (berth_at t.origs seat position ≡ Some berth)) →
+            IsLegOf t.channels berth
+        stand seat position berth (inl new) = (group.new position berth (its position berth new.1)).leg
+        stand seat position berth (inr old) = h.stand seat position berth old.1
 
-        apart : (place p q : ℕ) (seat : Seat) →
-            ((place ≡ row.0) × (seat_of number (slice_get new.legs p) ≡ Some seat)) ⊎ ((place ≡ row.0 → ⊥) ×
-            (seat_at t.origs place p ≡ Some seat)) →
-            ((place ≡ row.0) × (seat_of number (slice_get new.legs q) ≡ Some seat)) ⊎ ((place ≡ row.0 → ⊥) ×
-            (seat_at t.origs place q ≡ Some seat)) →
+        apart : (seat p q : ℕ) (berth : Berth) →
+            ((seat ≡ row.0) × (berth_of number (slice_get new.legs p) ≡ Some berth)) ⊎ ((seat ≡ row.0 → ⊥) ×
+            (berth_at t.origs seat p ≡ Some berth)) →
+            ((seat ≡ row.0) × (berth_of number (slice_get new.legs q) ≡ Some berth)) ⊎ ((seat ≡ row.0 → ⊥) ×
+            (berth_at t.origs seat q ≡ Some berth)) →
             p ≡ q
-        apart place p q seat (inl a) (inl b) = group.apart p q seat (its p seat a.1) (its q seat b.1)
-        apart place p q seat (inl a) (inr b) = absurd (b.0 a.0)
-        apart place p q seat (inr a) (inl b) = absurd (a.0 b.0)
-        apart place p q seat (inr a) (inr b) = h.apart place p q seat a.1 b.1
+        apart seat p q berth (inl a) (inl b) = group.apart p q berth (its p berth a.1) (its q berth b.1)
+        apart seat p q berth (inl a) (inr b) = absurd (b.0 a.0)
+        apart seat p q berth (inr a) (inl b) = absurd (a.0 b.0)
+        apart seat p q berth (inr a) (inr b) = h.apart seat p q berth a.1 b.1
 
     in_it : (o : Orig) → orig_of t number ≡ Some o → (test : Bool) →
         LegsStand (roles_of (with_orig number (if test then record o { current = o.current + 1; legs = legs } else o) t))
@@ -307,8 +307,8 @@ regrouped_legs number legs before t group h = by (orig_of t number) refl
     in_it o is false =
         legs_fewer (roles_of t) t.channels (with_row t.origs number o)
         (distinct_same t.origs (with_row t.origs number o) (numbers-with_row t.origs number o) h.distinct)
-        (within_same t.origs number o t.drawn.origs h.within) (changed_fewer t.origs number o o is (λ position seat has. has))
-        (λ place position seat has leg. leg) h
+        (within_same t.origs number o t.drawn.origs h.within) (changed_fewer t.origs number o o is (λ position berth has. has))
+        (λ seat position berth has leg. leg) h
 
     by : (found : Option Orig) → orig_of t number ≡ found → LegsStand (roles_of (orig_changed_from (at_next_group legs) number found t))
     by None is = h

@@ -10,15 +10,15 @@ use Rattle.fs_chan.specs.Changes.{is_live, hung_up}
 use Rattle.fs_chan.specs.Bridging.{awaited_by}
 use Rattle.fs_orig.specs.declared.orig.Orig.{Orig}
 use Rattle.fs_orig.specs.Changes.{with_leg_answer, with_leg_death, with_answer, with_death}
-use Rattle.fs_places.specs.Places.{held_in, with_held}
-use Rattle.fs_places.specs.Rows.{has_number, row_of, with_row, without_row}
-use Rattle.fs_places.proofs.HeldLemmas.{held_here, held_there, held_within}
-use Rattle.fs_places.proofs.RowLemmas.{AreDistinct, AreWithin, row_gone, none_stands, distinct_same, numbers-with_row, distinct-without_row}
-use Rattle.fs_places.proofs.RowLemmas.{within-without_row}
+use Rattle.fs_seats.specs.Seats.{held_in, with_held}
+use Rattle.fs_seats.specs.Rows.{has_number, row_of, with_row, without_row}
+use Rattle.fs_seats.proofs.HeldLemmas.{held_here, held_there, held_within}
+use Rattle.fs_seats.proofs.RowLemmas.{AreDistinct, AreWithin, row_gone, none_stands, distinct_same, numbers-with_row, distinct-without_row}
+use Rattle.fs_seats.proofs.RowLemmas.{within-without_row}
 use Rattle.fs_state.specs.Switch.{Switch, chan_at, with_chan, orig_of, with_orig, without_orig, with_event}
 use Rattle.fs_state.specs.Moves.{with_state_events, orig_changed_from, orig_changed, leg_changed, its_leg_changed, hangup_event}
 use Rattle.fs_state.specs.Moves.{after_hangup_from, after_one_hangup, orig_given_up}
-use Rattle.fs_state.proofs.LegTables.{Origs, Seat, seated, seat_at, in_slot, Fewer, seat_number, answer_spares, death_spares}
+use Rattle.fs_state.proofs.LegTables.{Origs, Berth, berthed, berth_at, in_slot, Fewer, berth_number, answer_spares, death_spares}
 use Rattle.fs_state.proofs.LegTables.{touched_spares, changed_fewer, without_fewer, death_leaves_none}
 use Rattle.fs_machine.proofs.StayLemmas.{state_told_kept}
 use Rattle.fs_machine.proofs.HangLemmas.{given_up_kept}
@@ -27,7 +27,7 @@ abbrev pub Channels : Type 0
 Channels = List (Option Chan)
 
 pub within_same : (origs : Origs) (number : ℕ) (o : Orig) (bound : ℕ) → AreWithin bound origs → AreWithin bound (with_row origs number o)
-within_same origs number o bound within n place stands = within n place (sym (numbers-with_row origs number o n place) ∙ stands)
+within_same origs number o bound within n seat stands = within n seat (sym (numbers-with_row origs number o n seat) ∙ stands)
 
 -- ---- legs and channels
 
@@ -41,75 +41,75 @@ abbrev pub roles_of : Switch → Roles
 roles_of s = record { channels = s.channels; origs = s.origs; drawn = s.drawn.origs }
 
 -- the slot is there, and its channel lives and names the origination
-pub record IsLegOf (channels : Channels) (seat : Seat) : Type 0 where
+pub record IsLegOf (channels : Channels) (berth : Berth) : Type 0 where
   pub at : ℕ
-  pub is : seat.slot ≡ Some at
+  pub is : berth.slot ≡ Some at
   pub chan : Chan
   pub there : held_in channels at ≡ Some chan
   pub live : is_live chan ≡ true
-  pub names : chan.leg_of ≡ Some seat.number
+  pub names : chan.leg_of ≡ Some berth.number
 
 -- Originations have numbers of their own that were drawn, each living leg is a live channel that names its origination, and no two legs of
 -- one are in one slot.
 pub record LegsStand (r : Roles) : Type 0 where
   pub distinct : AreDistinct r.origs
   pub within : AreWithin r.drawn r.origs
-  pub stand : (place position : ℕ) (seat : Seat) → seat_at r.origs place position ≡ Some seat → IsLegOf r.channels seat
-  pub apart : (place p q : ℕ) (seat : Seat) → seat_at r.origs place p ≡ Some seat → seat_at r.origs place q ≡ Some seat → p ≡ q
+  pub stand : (seat position : ℕ) (berth : Berth) → berth_at r.origs seat position ≡ Some berth → IsLegOf r.channels berth
+  pub apart : (seat p q : ℕ) (berth : Berth) → berth_at r.origs seat p ≡ Some berth → berth_at r.origs seat q ≡ Some berth → p ≡ q
 
 -- a leg stands where its channel is there still
-abbrev pub leg_still : (channels new : Channels) (seat : Seat) (leg : IsLegOf channels seat) → held_in new leg.at ≡ Some leg.chan →
-    IsLegOf new seat
-leg_still channels new seat leg there =
+abbrev pub leg_still : (channels new : Channels) (berth : Berth) (leg : IsLegOf channels berth) → held_in new leg.at ≡ Some leg.chan →
+    IsLegOf new berth
+leg_still channels new berth leg there =
     record { at = leg.at; is = leg.is; chan = leg.chan; there = there; live = leg.live; names = leg.names }
 
 -- a leg stands where nothing was written
-pub leg_elsewhere : (channels : Channels) (slot : ℕ) (new : Option Chan) (seat : Seat) → (leg : IsLegOf channels seat) →
-    (leg.at ≡ slot → ⊥) → IsLegOf (with_held channels slot new) seat
-leg_elsewhere channels slot new seat leg other =
-    leg_still channels (with_held channels slot new) seat leg (held_there channels slot leg.at new other ∙ leg.there)
+pub leg_elsewhere : (channels : Channels) (slot : ℕ) (new : Option Chan) (berth : Berth) → (leg : IsLegOf channels berth) →
+    (leg.at ≡ slot → ⊥) → IsLegOf (with_held channels slot new) berth
+leg_elsewhere channels slot new berth leg other =
+    leg_still channels (with_held channels slot new) berth leg (held_there channels slot leg.at new other ∙ leg.there)
 
 -- there are as many legs or fewer, and each stands
 pub legs_fewer : (r : Roles) (channels : Channels) (origs : Origs) → AreDistinct origs → AreWithin r.drawn origs → Fewer r.origs origs →
-    ((place position : ℕ) (seat : Seat) → seat_at origs place position ≡ Some seat → IsLegOf r.channels seat → IsLegOf channels seat) →
+    ((seat position : ℕ) (berth : Berth) → berth_at origs seat position ≡ Some berth → IsLegOf r.channels berth → IsLegOf channels berth) →
     LegsStand r →
     LegsStand (record { channels = channels; origs = origs; drawn = r.drawn })
 legs_fewer r channels origs distinct within fewer stand h = record {
   distinct = distinct;
   within = within;
-  stand = λ place position seat has. stand place position seat has (h.stand place position seat (fewer place position seat has));
-  apart = λ place p q seat first second. h.apart place p q seat (fewer place p seat first) (fewer place q seat second);
+  stand = λ seat position berth has. stand seat position berth has (h.stand seat position berth (fewer seat position berth has));
+  apart = λ seat p q berth first second. h.apart seat p q berth (fewer seat p berth first) (fewer seat q berth second);
 }
 
--- the channel of a slot gives place to anything, where no leg that is left lives in this slot and is the channel's
+-- the channel of a slot gives seat to anything, where no leg that is left lives in this slot and is the channel's
 pub legs_cut : (r : Roles) (origs : Origs) (slot : ℕ) (old : Chan) (new : Option Chan) → held_in r.channels slot ≡ Some old →
     AreDistinct origs → AreWithin r.drawn origs → Fewer r.origs origs →
-    ((place position number : ℕ) → seat_at origs place position ≡ Some (in_slot number slot) → old.leg_of ≡ Some number → ⊥) → LegsStand r →
+    ((seat position number : ℕ) → berth_at origs seat position ≡ Some (in_slot number slot) → old.leg_of ≡ Some number → ⊥) → LegsStand r →
     LegsStand (record { channels = with_held r.channels slot new; origs = origs; drawn = r.drawn })
 legs_cut r origs slot old new there distinct within fewer none =
     legs_fewer r (with_held r.channels slot new) origs distinct within fewer
-    (λ place position seat has leg. leg_elsewhere r.channels slot new seat leg (λ same. here place position seat has leg same))
+    (λ seat position berth has leg. leg_elsewhere r.channels slot new berth leg (λ same. here seat position berth has leg same))
   where
-    here : (place position : ℕ) (seat : Seat) → seat_at origs place position ≡ Some seat → (leg : IsLegOf r.channels seat) → leg.at ≡ slot →
+    here : (seat position : ℕ) (berth : Berth) → berth_at origs seat position ≡ Some berth → (leg : IsLegOf r.channels berth) → leg.at ≡ slot →
         ⊥
-    here place position seat has leg same =
+    here seat position berth has leg same =
         let is : old ≡ leg.chan = same_Some old leg.chan (sym there ∙ (ap (held_in r.channels) (sym same) ∙ leg.there)) in
-        let sits : seat ≡ in_slot seat.number slot = ap (λ (which : Option ℕ). seated seat.number which) (leg.is ∙ ap Some same) in
-        none place position seat.number (has ∙ ap Some sits) (ap (λ (c : Chan). c.leg_of) is ∙ leg.names)
+        let sits : berth ≡ in_slot berth.number slot = ap (λ (which : Option ℕ). berthed berth.number which) (leg.is ∙ ap Some same) in
+        none seat position berth.number (has ∙ ap Some sits) (ap (λ (c : Chan). c.leg_of) is ∙ leg.names)
 
 -- the channels change, and each leg stands still
-pub legs_follow : (r : Roles) (channels : Channels) → ((seat : Seat) → IsLegOf r.channels seat → IsLegOf channels seat) → LegsStand r →
+pub legs_follow : (r : Roles) (channels : Channels) → ((berth : Berth) → IsLegOf r.channels berth → IsLegOf channels berth) → LegsStand r →
     LegsStand (record r { channels = channels })
 legs_follow r channels follow h =
-    legs_fewer r channels r.origs h.distinct h.within (λ place position seat has. has) (λ place position seat has. follow seat) h
+    legs_fewer r channels r.origs h.distinct h.within (λ seat position berth has. has) (λ seat position berth has. follow berth) h
 
 -- the channel of a slot is the leg that it was
 pub put_follows : (channels : Channels) (slot : ℕ) (old new : Chan) → held_in channels slot ≡ Some old → new.leg_of ≡ old.leg_of →
     is_live new ≡ is_live old →
-    (seat : Seat) → IsLegOf channels seat → IsLegOf (with_held channels slot (Some new)) seat
-put_follows channels slot old new there same live seat leg = by (cases_eq leg.at slot)
+    (berth : Berth) → IsLegOf channels berth → IsLegOf (with_held channels slot (Some new)) berth
+put_follows channels slot old new there same live berth leg = by (cases_eq leg.at slot)
   where
-    by : (leg.at ≡ slot) ⊎ (leg.at ≡ slot → ⊥) → IsLegOf (with_held channels slot (Some new)) seat
+    by : (leg.at ≡ slot) ⊎ (leg.at ≡ slot → ⊥) → IsLegOf (with_held channels slot (Some new)) berth
     by (inl here) =
         let is : old ≡ leg.chan = same_Some old leg.chan (sym there ∙ (ap (held_in channels) (sym here) ∙ leg.there)) in
         record {
@@ -120,14 +120,14 @@ put_follows channels slot old new there same live seat leg = by (cases_eq leg.at
           live = live ∙ (ap is_live is ∙ leg.live);
           names = same ∙ (ap (λ (c : Chan). c.leg_of) is ∙ leg.names);
         }
-    by (inr other) = leg_elsewhere channels slot (Some new) seat leg other
+    by (inr other) = leg_elsewhere channels slot (Some new) berth leg other
 
 -- something comes where nothing was, or where no live channel was
 pub free_follows : (channels : Channels) (slot : ℕ) (new : Option Chan) →
     ((c : Chan) → held_in channels slot ≡ Some c → is_live c ≡ false) →
-    (seat : Seat) → IsLegOf channels seat → IsLegOf (with_held channels slot new) seat
-free_follows channels slot new dead seat leg =
-    leg_elsewhere channels slot new seat leg
+    (berth : Berth) → IsLegOf channels berth → IsLegOf (with_held channels slot new) berth
+free_follows channels slot new dead berth leg =
+    leg_elsewhere channels slot new berth leg
     (λ same. true≢false (sym leg.live ∙ dead leg.chan (ap (held_in channels) (sym same) ∙ leg.there)))
 
 -- the channel of a slot is changed, and is the leg that it was
@@ -142,7 +142,7 @@ pub without_legs : (number : ℕ) (s : Switch) → LegsStand (roles_of s) → Le
 without_legs number s h =
     legs_fewer (roles_of s) s.channels (without_row s.origs number) (distinct-without_row s.origs number h.distinct)
     (within-without_row s.origs number s.drawn.origs h.within)
-    (without_fewer s.origs number) (λ place position seat has leg. leg) h
+    (without_fewer s.origs number) (λ seat position berth has leg. leg) h
 
 pub given_up_legs : (slot : ℕ) (awaited : Option ℕ) (s : Switch) → LegsStand (roles_of s) →
     LegsStand (roles_of (orig_given_up slot awaited s))
@@ -162,22 +162,22 @@ cut_roles cause slot c s =
 -- so each leg stands behind a hangup
 module _ (cause : Cause) (slot : ℕ) (c : Chan) (s : Switch) (there : chan_at s slot ≡ Some c) (h : LegsStand (roles_of s)) where
   after_death : (origs : Origs) → AreDistinct origs → AreWithin s.drawn.origs origs → Fewer s.origs origs →
-      ((place position number : ℕ) → seat_at origs place position ≡ Some (in_slot number slot) → c.leg_of ≡ Some number → ⊥) →
+      ((seat position number : ℕ) → berth_at origs seat position ≡ Some (in_slot number slot) → c.leg_of ≡ Some number → ⊥) →
       (t : Switch) → roles_of t ≡ record (roles_of s) { channels = with_held s.channels slot (Some (hung_up cause c)); origs = origs } →
       LegsStand (roles_of t)
   after_death origs distinct within fewer none t same =
       subst LegsStand (sym same) (legs_cut (roles_of s) origs slot c (Some (hung_up cause c)) there distinct within fewer none h)
 
-  no_death : ((place position number : ℕ) → seat_at s.origs place position ≡ Some (in_slot number slot) → c.leg_of ≡ Some number → ⊥) →
+  no_death : ((seat position number : ℕ) → berth_at s.origs seat position ≡ Some (in_slot number slot) → c.leg_of ≡ Some number → ⊥) →
       (t : Switch) → roles_of t ≡ record (roles_of s) { channels = with_held s.channels slot (Some (hung_up cause c)) } →
       LegsStand (roles_of t)
-  no_death none t same = after_death s.origs h.distinct h.within (λ place position seat has. has) none t same
+  no_death none t same = after_death s.origs h.distinct h.within (λ seat position berth has. has) none t same
 
-  its_death : (place : ℕ) (leg_of : Option ℕ) → c.leg_of ≡ leg_of → (t : Switch) →
+  its_death : (seat : ℕ) (leg_of : Option ℕ) → c.leg_of ≡ leg_of → (t : Switch) →
       roles_of t ≡ record (roles_of s) { channels = with_held s.channels slot (Some (hung_up cause c)) } →
-      LegsStand (roles_of (its_leg_changed (λ p. with_death p place cause) slot leg_of t))
-  its_death place None is t same = no_death (λ at position number has its. none-some number (sym is ∙ its)) t same
-  its_death place (Some number) is t same = by (orig_of t number) refl
+      LegsStand (roles_of (its_leg_changed (λ p. with_death p seat cause) slot leg_of t))
+  its_death seat None is t same = no_death (λ at position number has its. none-some number (sym is ∙ its)) t same
+  its_death seat (Some number) is t same = by (orig_of t number) refl
     where
       -- the number is the origination's
       its : (n : ℕ) → c.leg_of ≡ Some n → n ≡ number
@@ -187,20 +187,20 @@ module _ (cause : Cause) (slot : ℕ) (c : Chan) (s : Switch) (there : chan_at s
       known found is = ap (λ (r : Roles). row_of r.origs number) (sym same) ∙ is
 
       by : (found : Option Orig) → orig_of t number ≡ found →
-          LegsStand (roles_of (orig_changed_from (leg_changed (λ p. with_death p place cause) slot) number found t))
+          LegsStand (roles_of (orig_changed_from (leg_changed (λ p. with_death p seat cause) slot) number found t))
       by None none =
           no_death
           (λ at position n has e. both_ways (has_number n (held_in s.origs at))
           (none_stands s.origs n (row_gone s.origs n (ap (row_of s.origs) (its n e) ∙ known None none)) at)
-          (seat_number position (held_in s.origs at) (in_slot n slot) has)) t same
+          (berth_number position (held_in s.origs at) (in_slot n slot) has)) t same
       by (Some o) found =
-          let dead : Orig = leg_changed (λ p. with_death p place cause) slot o in
+          let dead : Orig = leg_changed (λ p. with_death p seat cause) slot o in
           let origs : Origs = with_row s.origs number dead in
           after_death origs (distinct_same s.origs origs (numbers-with_row s.origs number dead) h.distinct)
           (within_same s.origs number dead s.drawn.origs h.within)
           (changed_fewer s.origs number o dead (known (Some o) found)
-          (touched_spares (with_leg_death place cause) (death_spares place cause) slot number o))
-          (λ at position n has e. death_leaves_none s.origs number o slot place cause h.distinct (known (Some o) found) h.apart at position
+          (touched_spares (with_leg_death seat cause) (death_spares seat cause) slot number o))
+          (λ at position n has e. death_leaves_none s.origs number o slot seat cause h.distinct (known (Some o) found) h.apart at position
           (has ∙ ap (λ (m : ℕ). Some (in_slot m slot)) (its n e)))
           (with_orig number dead t) (ap (λ (r : Roles). record r { origs = with_row r.origs number dead }) same)
 
@@ -227,17 +227,17 @@ one_hung_legs cause slot s h = by (chan_at s slot) refl
 
 -- ---- a leg is answered
 
-pub answered_legs : (place slot number : ℕ) (s : Switch) → LegsStand (roles_of s) →
-    LegsStand (roles_of (orig_changed (leg_changed (λ position. with_answer position place) slot) number s))
-answered_legs place slot number s h = by (orig_of s number) refl
+pub answered_legs : (seat slot number : ℕ) (s : Switch) → LegsStand (roles_of s) →
+    LegsStand (roles_of (orig_changed (leg_changed (λ position. with_answer position seat) slot) number s))
+answered_legs seat slot number s h = by (orig_of s number) refl
   where
     by : (found : Option Orig) → orig_of s number ≡ found →
-        LegsStand (roles_of (orig_changed_from (leg_changed (λ position. with_answer position place) slot) number found s))
+        LegsStand (roles_of (orig_changed_from (leg_changed (λ position. with_answer position seat) slot) number found s))
     by None is = h
     by (Some o) is =
-        let new : Orig = leg_changed (λ position. with_answer position place) slot o in
+        let new : Orig = leg_changed (λ position. with_answer position seat) slot o in
         let origs : Origs = with_row s.origs number new in
         legs_fewer (roles_of s) s.channels origs (distinct_same s.origs origs (numbers-with_row s.origs number new) h.distinct)
         (within_same s.origs number new s.drawn.origs h.within)
-        (changed_fewer s.origs number o new is (touched_spares (with_leg_answer place) (answer_spares place) slot number o))
-        (λ at position seat has leg. leg) h
+        (changed_fewer s.origs number o new is (touched_spares (with_leg_answer seat) (answer_spares seat) slot number o))
+        (λ at position berth has leg. leg) h

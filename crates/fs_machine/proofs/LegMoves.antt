@@ -4,7 +4,7 @@ use Rattle.std.proofs.Common.{unwrap_or, ◌⊎◌, inl, inr, refl, sym, ap, sub
 use Rattle.std.proofs.lemmas.Bool.{cases_eq, both_ways}
 use Rattle.std.proofs.lemmas.Option.{same_Some}
 use Rattle.fs_text.specs.declared.causes.Cause.{Cause}
-use Rattle.fs_text.specs.declared.causes.Cause.TheVariants.{LoseRace, NormalTemporaryFailure}
+use Rattle.fs_text.specs.declared.causes.Cause.TheVariants.{LoseRace}
 use Rattle.fs_text.specs.Texts.{Text}
 use Rattle.fs_text.specs.Cause.{cause_name}
 use Rattle.fs_bridge.specs.declared.row.BridgeKind.{BridgeKind}
@@ -22,10 +22,10 @@ use Rattle.fs_orig.specs.declared.orig.Owner.TheVariants as owner
 use Rattle.fs_orig.specs.declared.orig.Owner.{Owner}
 use Rattle.fs_orig.specs.Changes.{with_answer, at_next_group}
 use Rattle.fs_orig.specs.Plans.{all_behind}
-use Rattle.fs_places.specs.Places.{held_in, with_held}
-use Rattle.fs_places.specs.Rows.{has_number, without_row}
-use Rattle.fs_places.proofs.HeldLemmas.{held_here, held_there, held_within}
-use Rattle.fs_places.proofs.RowLemmas.{none_stands, numbers-with_row, place_of-without_row_same, distinct-without_row, within-without_row}
+use Rattle.fs_seats.specs.Seats.{held_in, with_held}
+use Rattle.fs_seats.specs.Rows.{has_number, without_row}
+use Rattle.fs_seats.proofs.HeldLemmas.{held_here, held_there, held_within}
+use Rattle.fs_seats.proofs.RowLemmas.{none_stands, numbers-with_row, seat_of-without_row_same, distinct-without_row, within-without_row}
 use Rattle.fs_state.specs.declared.conn.Conn.{Conn}
 use Rattle.fs_state.specs.declared.conn.Parting.TheVariants as parting
 use Rattle.fs_state.specs.declared.job.JobWork.{JobWork}
@@ -36,7 +36,7 @@ use Rattle.fs_state.specs.Moves.{after_move_from, orig_changed_from, orig_change
 use Rattle.fs_state.specs.Moves.{orig_given_up}
 use Rattle.fs_state.specs.Hangups.{after_hangups}
 use Rattle.fs_state.specs.Bridging.{peer_of, with_peer_from, with_peer, joined_as}
-use Rattle.fs_state.proofs.LegTables.{seated, seat_at, in_slot, seat_number, without_fewer}
+use Rattle.fs_state.proofs.LegTables.{berthed, berth_at, in_slot, berth_number, without_fewer}
 use Rattle.fs_machine.specs.Texts.{made_text, failed_text}
 use Rattle.fs_machine.specs.Connections.{conn_changed, admitted, parted, owed_since, not_owed, with_subs_changed}
 use Rattle.fs_machine.specs.Originations.{MadeGroup, group_made, won_by, after_winning}
@@ -45,11 +45,12 @@ use Rattle.fs_machine.specs.Owing.{after_job_begin, after_job_end}
 use Rattle.fs_machine.specs.Bridging.{caller_of, group_dialed, goes_on, after_going_on, bridge_failed_from, after_bridge_failure}
 use Rattle.fs_machine.specs.Bridging.{after_bridge_win, disposed}
 use Rattle.fs_machine.specs.Dialing.{tried_by_slot}
-use Rattle.fs_machine.specs.Joining.{after_leaving}
+use Rattle.fs_machine.specs.Joining.{after_leaving, both_left}
 use Rattle.fs_machine.specs.Leaving.{after_departure}
 use Rattle.fs_machine.proofs.LeaveLemmas.{departed_kept}
 use Rattle.fs_machine.proofs.FrontLemmas.{conn_unread}
-use Rattle.fs_machine.proofs.Kept.{Fact, Links, KeptByTouches, KeptByCalls, KeptByBirths, KeptByDials, raced, KeptByMoves}
+use Rattle.fs_machine.proofs.Kept.{Fact, Links, IsApart, KeptByTouches, KeptByCalls, KeptByBirths, KeptByDials, raced, KeptByMoves}
+use Rattle.fs_machine.proofs.JoinLemmas.{both_left_kept}
 use Rattle.fs_machine.proofs.StayLemmas.{state_told_kept, moved_there, changed_there, orig_changed_channels}
 use Rattle.fs_machine.proofs.HangLemmas.{dies, given_up_kept, hangups_kept}
 use Rattle.fs_machine.proofs.Walk.{disposed_kept, group_made_kept}
@@ -71,16 +72,21 @@ orig_changed_drawn change number s = by (orig_of s number)
 pub hung_drawn : (named : Members) (s : Switch) → (after_hangups named s).drawn.origs ≡ s.drawn.origs
 hung_drawn named s =
     hangups_kept named s (λ (t : Switch). t.drawn.origs ≡ s.drawn.origs) (λ event t k. k) (λ slot old new t there falls k. k)
-    (λ number t k. k) (λ cause place slot number t k. orig_changed_drawn (dies cause place slot) number t ∙ k) (λ number t k. k) refl
+    (λ number t k. k) (λ cause seat slot number t k. orig_changed_drawn (dies cause seat slot) number t ∙ k) (λ number t k. k) refl
 
 pub given_up_drawn : (slot : ℕ) (awaited : Option ℕ) (s : Switch) → (orig_given_up slot awaited s).drawn.origs ≡ s.drawn.origs
 given_up_drawn slot awaited s = given_up_kept (λ (t : Switch). t.drawn.origs ≡ s.drawn.origs) (λ number t k. k) slot awaited s refl
 
-pub left_drawn : (slot : ℕ) (s : Switch) → (after_leaving slot s).drawn.origs ≡ s.drawn.origs
+left_drawn : (slot : ℕ) (s : Switch) → (after_leaving slot s).drawn.origs ≡ s.drawn.origs
 left_drawn slot s =
     let awaited : Option ℕ = option_and_then awaited_by (chan_at s slot) in
     changed_there (λ (t : Switch). t.drawn.origs ≡ s.drawn.origs) at_leisure slot (orig_given_up slot awaited s)
     (λ c there. given_up_drawn slot awaited s) (given_up_drawn slot awaited s)
+
+pub both_left_drawn : (a b : ℕ) (s : Switch) → IsApart s a → IsApart s b → (both_left a b s).drawn.origs ≡ s.drawn.origs
+both_left_drawn a b s first second =
+    both_left_kept (λ (t : Switch). t.drawn.origs ≡ s.drawn.origs) (λ named t k. hung_drawn named t ∙ k)
+    (λ slot t apart k. left_drawn slot t ∙ k) a b s first second refl
 
 peer_drawn : (slot other : ℕ) (s : Switch) → (with_peer slot other s).drawn.origs ≡ s.drawn.origs
 peer_drawn slot other s = by (chan_at s other)
@@ -149,10 +155,10 @@ legs_touches = record {
   globals = λ globals h. h;
   changed = λ slot old new {s = s} there stays h few.
       put_legs slot old new s there (ap (λ (l : Links). l.leg_of) stays.links) stays.live (h few);
-  answers = λ place slot number {s = s} h.
-      legs_then s (orig_changed (leg_changed (λ position. with_answer position place) slot) number s)
-      (orig_changed_drawn (leg_changed (λ position. with_answer position place) slot) number s)
-      (answered_legs place slot number s) h;
+  answers = λ seat slot number {s = s} h.
+      legs_then s (orig_changed (leg_changed (λ position. with_answer position seat) slot) number s)
+      (orig_changed_drawn (leg_changed (λ position. with_answer position seat) slot) number s)
+      (answered_legs seat slot number s) h;
 }
 
 -- ---- hangups, and what channels leave
@@ -175,7 +181,7 @@ departed_drawn slot s =
 departed_legs : (slot : ℕ) (s : Switch) → Stand (roles_of s) → Stand (roles_of (after_departure slot s))
 departed_legs slot s h =
     departed_kept (λ (t : Switch). Stand (roles_of t)) (λ event t k. k)
-    (λ at old new t there settles k few. settles_leg (λ place. false) at old new t there settles (k few)) (λ number t k. k) hung_stand
+    (λ at old new t there settles k few. settles_leg (λ seat. false) at old new t there settles (k few)) (λ number t k. k) hung_stand
     left_legs slot s h
 
 -- ---- bridges
@@ -216,36 +222,36 @@ bridge_failed_legs cause slot s h = by (chan_at s slot)
 -- legs stand, and a channel names an origination that has ended
 record IsWon (orig slot : ℕ) (s : Switch) : Type 0 where
   legs : LegsStand (roles_of s)
-  ended : (place : ℕ) → has_number orig (held_in s.origs place) ≡ false
+  ended : (seat : ℕ) → has_number orig (held_in s.origs seat) ≡ false
   names : (c : Chan) → chan_at s slot ≡ Some c → c.leg_of ≡ Some orig
 
-put_won : (orig slot place : ℕ) (old new : Chan) (s : Switch) → chan_at s place ≡ Some old → new.leg_of ≡ old.leg_of →
-    is_live new ≡ is_live old → IsWon orig slot s → IsWon orig slot (with_chan place (Some new) s)
-put_won orig slot place old new s there same live h = record {
-  legs = put_legs place old new s there same live h.legs;
+put_won : (orig slot seat : ℕ) (old new : Chan) (s : Switch) → chan_at s seat ≡ Some old → new.leg_of ≡ old.leg_of →
+    is_live new ≡ is_live old → IsWon orig slot s → IsWon orig slot (with_chan seat (Some new) s)
+put_won orig slot seat old new s there same live h = record {
+  legs = put_legs seat old new s there same live h.legs;
   ended = h.ended;
-  names = λ c is. by c is (cases_eq slot place);
+  names = λ c is. by c is (cases_eq slot seat);
 }
   where
-    by : (c : Chan) → held_in (with_held s.channels place (Some new)) slot ≡ Some c → (slot ≡ place) ⊎ (slot ≡ place → ⊥) →
+    by : (c : Chan) → held_in (with_held s.channels seat (Some new)) slot ≡ Some c → (slot ≡ seat) ⊎ (slot ≡ seat → ⊥) →
         c.leg_of ≡ Some orig
     by c is (inl here) =
-        let now : held_in (with_held s.channels place (Some new)) slot ≡ Some new =
-        ap (held_in (with_held s.channels place (Some new))) here
-        ∙ held_here s.channels place (Some new) (held_within s.channels place old there) in
+        let now : held_in (with_held s.channels seat (Some new)) slot ≡ Some new =
+        ap (held_in (with_held s.channels seat (Some new))) here
+        ∙ held_here s.channels seat (Some new) (held_within s.channels seat old there) in
         ap (λ (d : Chan). d.leg_of) (same_Some c new (sym is ∙ now)) ∙ same ∙ h.names old (ap (held_in s.channels) here ∙ there)
-    by c is (inr other) = h.names c (sym (held_there s.channels place slot (Some new) other) ∙ is)
+    by c is (inr other) = h.names c (sym (held_there s.channels seat slot (Some new) other) ∙ is)
 
-answered_won : (orig slot place at number : ℕ) (s : Switch) → IsWon orig slot s →
-    IsWon orig slot (orig_changed (leg_changed (λ position. with_answer position place) at) number s)
-answered_won orig slot place at number s h = record {
-  legs = answered_legs place at number s h.legs;
+answered_won : (orig slot seat at number : ℕ) (s : Switch) → IsWon orig slot s →
+    IsWon orig slot (orig_changed (leg_changed (λ position. with_answer position seat) at) number s)
+answered_won orig slot seat at number s h = record {
+  legs = answered_legs seat at number s h.legs;
   ended = by (orig_of s number);
   names = λ c is. h.names c (sym (ap (λ (channels : Channels). held_in channels slot) (orig_changed_channels change number s)) ∙ is);
 }
   where
     change : Orig → Orig
-    change = leg_changed (λ position. with_answer position place) at
+    change = leg_changed (λ position. with_answer position seat) at
 
     by : (found : Option Orig) → (p : ℕ) → has_number orig (held_in (orig_changed_from change number found s).origs p) ≡ false
     by None p = h.ended p
@@ -255,19 +261,19 @@ won_touches : (orig slot : ℕ) → KeptByTouches (λ b s. IsWon orig slot s)
 won_touches orig slot = record {
   told = λ event plain h. record { legs = h.legs; ended = h.ended; names = h.names };
   globals = λ globals h. record { legs = h.legs; ended = h.ended; names = h.names };
-  changed = λ place old new {s = s} there stays h.
-      put_won orig slot place old new s there (ap (λ (l : Links). l.leg_of) stays.links) stays.live h;
-  answers = λ place at number {s = s} h. answered_won orig slot place at number s h;
+  changed = λ seat old new {s = s} there stays h.
+      put_won orig slot seat old new s there (ap (λ (l : Links). l.leg_of) stays.links) stays.live h;
+  answers = λ seat at number {s = s} h. answered_won orig slot seat at number s h;
 }
 
-peer_won : (orig slot place other : ℕ) (s : Switch) → IsWon orig slot s → IsWon orig slot (with_peer place other s)
-peer_won orig slot place other s h = by (chan_at s other)
+peer_won : (orig slot seat other : ℕ) (s : Switch) → IsWon orig slot s → IsWon orig slot (with_peer seat other s)
+peer_won orig slot seat other s h = by (chan_at s other)
   where
-    by : (found : Option Chan) → IsWon orig slot (with_peer_from place other found s)
+    by : (found : Option Chan) → IsWon orig slot (with_peer_from seat other found s)
     by None = h
     by (Some d) =
-        changed_there (λ (t : Switch). IsWon orig slot t) (bridged (peer_of other d)) place s
-        (λ c there. put_won orig slot place c (bridged (peer_of other d) c) s there refl refl h) h
+        changed_there (λ (t : Switch). IsWon orig slot t) (bridged (peer_of other d)) seat s
+        (λ c there. put_won orig slot seat c (bridged (peer_of other d) c) s there refl refl h) h
 
 joined_won : (orig slot : ℕ) (kind : BridgeKind) (caller answerer : ℕ) (s : Switch) → IsWon orig slot s →
     IsWon orig slot (joined_as kind caller answerer s)
@@ -283,21 +289,21 @@ media_legs : (orig slot : ℕ) (s : Switch) → IsWon orig slot s → LegsStand 
 media_legs orig slot s h =
     moved_there (λ (t : Switch). LegsStand (roles_of t)) (λ event t k. k) in_media slot s
     (λ c there. legs_cut (roles_of s) s.origs slot c (Some (in_media c)) there h.legs.distinct h.legs.within
-    (λ place position seat has. has) (λ place position number has is. none place position number c there has is) h.legs) h.legs
+    (λ seat position berth has. has) (λ seat position number has is. none seat position number c there has is) h.legs) h.legs
   where
-    none : (place position number : ℕ) (c : Chan) → chan_at s slot ≡ Some c →
-        seat_at s.origs place position ≡ Some (in_slot number slot) → c.leg_of ≡ Some number → ⊥
-    none place position number c there has is =
-        both_ways (has_number orig (held_in s.origs place)) (h.ended place)
-        (subst (λ (n : ℕ). has_number n (held_in s.origs place) ≡ true) (same_Some number orig (sym is ∙ h.names c there))
-        (seat_number position (held_in s.origs place) (in_slot number slot) has))
+    none : (seat position number : ℕ) (c : Chan) → chan_at s slot ≡ Some c →
+        berth_at s.origs seat position ≡ Some (in_slot number slot) → c.leg_of ≡ Some number → ⊥
+    none seat position number c there has is =
+        both_ways (has_number orig (held_in s.origs seat)) (h.ended seat)
+        (subst (λ (n : ℕ). has_number n (held_in s.origs seat) ≡ true) (same_Some number orig (sym is ∙ h.names c there))
+        (berth_number position (held_in s.origs seat) (in_slot number slot) has))
 
-won_now : (orig : ℕ) (leg : OrigLeg) (s : Switch) → IsLegOf s.channels (seated orig leg.slot) → LegsStand (roles_of s) →
+won_now : (orig : ℕ) (leg : OrigLeg) (s : Switch) → IsLegOf s.channels (berthed orig leg.slot) → LegsStand (roles_of s) →
     IsWon orig (unwrap_or leg.slot 0) (without_orig orig s)
 won_now orig leg s stands h = record {
   legs = without_legs orig s h;
-  ended = λ place.
-      none_stands (without_row s.origs orig) orig (place_of-without_row_same s.origs orig h.distinct) place;
+  ended = λ seat.
+      none_stands (without_row s.origs orig) orig (seat_of-without_row_same s.origs orig h.distinct) seat;
   names = λ c is.
       let at : chan_at s (unwrap_or leg.slot 0) ≡ Some stands.chan =
       ap (λ (slot : Option ℕ). chan_at s (unwrap_or slot 0)) stands.is ∙ stands.there in
@@ -307,8 +313,7 @@ won_now orig leg s stands h = record {
 bridge_won_legs : (slot orig leg : ℕ) (s : Switch) → IsWon orig leg s → Stand (roles_of (after_bridge_win slot leg s))
 bridge_won_legs slot orig leg s h =
     bridge_won_kept (λ (t : Switch). IsWon orig leg t) (λ (t : Switch). Stand (roles_of t)) (won_touches orig leg) slot leg
-    (λ t can k few. media_legs orig leg (joined_as Dial slot leg t) (joined_won orig leg Dial slot leg t k))
-    (λ t k. bridge_failed_legs NormalTemporaryFailure slot t (λ few. k.legs)) s h
+    (λ t can k few. media_legs orig leg (joined_as Dial slot leg t) (joined_won orig leg Dial slot leg t k)) (λ t cannot k few. k.legs) s h
 
 -- ---- a leg is won by a job
 
@@ -322,7 +327,7 @@ won_roles winner slot c s there =
     (λ event t h. h) c.state (won_by winner c).state slot
     {s = with_chan slot (Some (won_by winner c)) s} refl)
 
-won_legs : (winner : Winner) (number : ℕ) (leg : OrigLeg) (s : Switch) → IsLegOf s.channels (seated number leg.slot) →
+won_legs : (winner : Winner) (number : ℕ) (leg : OrigLeg) (s : Switch) → IsLegOf s.channels (berthed number leg.slot) →
     LegsStand (roles_of s) → LegsStand (roles_of (without_orig number (after_winning winner (unwrap_or leg.slot 0) s)))
 won_legs winner number leg s stands h =
     at stands.at (ap (λ (slot : Option ℕ). unwrap_or slot 0) stands.is) stands.chan stands.there stands.names
@@ -336,12 +341,12 @@ won_legs winner number leg s stands h =
         (distinct-without_row s.origs number h.distinct)
         (within-without_row s.origs number s.drawn.origs h.within) (without_fewer s.origs number) gone h))
       where
-        gone : (place position n : ℕ) → seat_at (without_row s.origs number) place position ≡ Some (in_slot n slot) → c.leg_of ≡ Some n → ⊥
-        gone place position n left is =
-            both_ways (has_number number (held_in (without_row s.origs number) place))
-            (none_stands (without_row s.origs number) number (place_of-without_row_same s.origs number h.distinct) place)
-            (subst (λ (m : ℕ). has_number m (held_in (without_row s.origs number) place) ≡ true) (same_Some n number (sym is ∙ names))
-            (seat_number position (held_in (without_row s.origs number) place) (in_slot n slot) left))
+        gone : (seat position n : ℕ) → berth_at (without_row s.origs number) seat position ≡ Some (in_slot n slot) → c.leg_of ≡ Some n → ⊥
+        gone seat position n left is =
+            both_ways (has_number number (held_in (without_row s.origs number) seat))
+            (none_stands (without_row s.origs number) number (seat_of-without_row_same s.origs number h.distinct) seat)
+            (subst (λ (m : ℕ). has_number m (held_in (without_row s.origs number) seat) ≡ true) (same_Some n number (sym is ∙ names))
+            (berth_number position (held_in (without_row s.origs number) seat) (in_slot n slot) left))
 
 -- ---- an origination begins, or comes to its next group
 
@@ -420,12 +425,13 @@ regroups_legs number plans caller s h few =
 legs_calls : KeptByCalls Legs
 legs_calls = record {
   touches = legs_touches;
-  hung = λ named {s = s} h. hung_stand named s h;
-  joined = λ kind caller answerer c d {s = s} can one two lone alone first second h. joined_legs kind caller answerer s h;
-  leaves = λ slot {s = s} apart h. left_legs slot s h;
-  departs = λ slot {s = s} h. departed_legs slot s h;
+  hung = λ named {s = s} early h. hung_stand named s h;
+  joined = λ kind caller answerer c d {s = s} can one two lone alone first second was were h. joined_legs kind caller answerer s h;
+  leaves = λ one other {s = s} first second early h.
+      both_left_kept (λ (t : Switch). Stand (roles_of t)) hung_stand (λ slot t apart k. left_legs slot t k) one other s first second h;
+  departs = λ slot {s = s} early h. departed_legs slot s h;
   more = λ h. h;
-  gone = λ slot old {s = s} there dead h few.
+  gone = λ slot old {s = s} there dead early h few.
       legs_follow (roles_of s) (with_held s.channels slot None)
       (free_follows s.channels slot None (λ c is. ap is_live (same_Some c old (sym is ∙ there)) ∙ dead)) (h few);
 }
@@ -443,7 +449,7 @@ module _ (before : Switch) (stand : LegsStand (roles_of before)) where
     spent = λ h. h;
     dials = λ slot c groups timeout {s = s} there works are h. dialed_legs slot c groups timeout s h;
     regroups = λ number o plans caller {s = s} there next h. regroups_legs number plans caller s h;
-    fails = λ slot orig cause {s = s} waits h. bridge_failed_legs cause slot (without_orig orig s) (λ few. without_legs orig s (h few));
+    fails = λ slot orig cause {s = s} waits over h. bridge_failed_legs cause slot (without_orig orig s) (λ few. without_legs orig s (h few));
     wins = λ slot orig leg slots waits won h.
         bridge_won_legs slot orig (unwrap_or leg.slot 0) (without_orig orig (raced slots before))
         (won_now orig leg (raced slots before) (winning_leg before orig leg slots won stand) (raced_legs slots));
@@ -454,7 +460,7 @@ module _ (before : Switch) (stand : LegsStand (roles_of before)) where
     calls = legs_calls;
     jobs = record {
       woken = λ number conn until answer {s = s} does h. ended_legs number conn answer s h;
-      failed = λ job conn winner caller orig cause {s = s} does h. ended_legs job conn (failed_text cause) (without_orig orig s)
+      failed = λ job conn winner caller orig cause {s = s} does over h. ended_legs job conn (failed_text cause) (without_orig orig s)
           (λ few. without_legs orig s (h few));
       wins = λ job conn winner caller orig leg slots does won h.
           let s : Switch = raced slots before in
@@ -464,8 +470,8 @@ module _ (before : Switch) (stand : LegsStand (roles_of before)) where
     dials = legs_dials;
     commands = λ conn. record {
       spent = λ h. h;
+      noticed = λ frame h. h;
       gave = λ frame h. h;
-      answered = λ frame h. h;
       asked = λ change {s = s} h. same_roles s (conn_changed (with_subs_changed change) conn s)
           (conn_roles (with_subs_changed change) conn s) h;
       admitted = λ {s = s} fresh h. same_roles s (conn_changed admitted conn s) (conn_roles admitted conn s) h;

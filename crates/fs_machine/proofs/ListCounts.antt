@@ -1,8 +1,9 @@
--- How many of a list pass a test.
-use Rattle.std.proofs.Common.{◌≡◌, ◌+◌, ◌≤◌, Bool, true, false, not, if◌then◌else◌, List, [], ◌∷◌, filter, count_by, Some}
-use Rattle.std.proofs.Common.{option_to_list, ◌⊎◌, inl, inr, refl, sym, ap, ◌∙◌, arith, true≢false}
+-- How many of a list pass a test, and where one stands in it.
+use Rattle.std.proofs.Common.{◌≡◌, ◌+◌, ◌≤◌, Bool, true, false, not, if◌then◌else◌, List, [], ◌∷◌, ◌++◌, length, get_or, drop, filter, count_by}
+use Rattle.std.proofs.Common.{Some, option_to_list, ◌⊎◌, inl, inr, refl, sym, ap, ◌∙◌, arith, true≢false}
 use Rattle.std.specs.List.{find, list_any}
 use Rattle.std.proofs.lemmas.Bool.{or_left, or_right}
+use Rattle.std.proofs.lemmas.List.{length-append}
 use Rattle.std.proofs.lemmas.List.Filters.{sum_by-filter_both}
 use Rattle.std.proofs.lemmas.List.Sums.{sum_by-cons}
 use Rattle.std.proofs.lemmas.Option.{none-some, same_Some}
@@ -166,3 +167,28 @@ module _ {X : Type 0} where
   any_of test x [] is passes = absurd is
   any_of test x (y ∷ ys) (inl same) passes = or_left (test y) (list_any test ys) (ap test (sym same) ∙ passes)
   any_of test x (y ∷ ys) (inr one) passes = or_right (test y) (list_any test ys) (any_of test x ys one passes)
+
+  -- ---- where one stands
+
+  -- something stands there
+  pub some_stands : (front : List X) (x : X) (back : List X) → [] ≡ front ++ x ∷ back → ⊥
+  some_stands front x back is =
+      let long : 0 ≡ length (front ++ x ∷ back) = ap length is in
+      let parts = length-append front (x ∷ back) in
+      omega (arith, long, parts)
+
+  -- whatever stands in a list with one more behind is that one, or stood there before
+  pub stands_pushed : (xs : List X) (x : X) (front : List X) (y : X) (back : List X) → xs ++ x ∷ [] ≡ front ++ y ∷ back →
+      ((front ≡ xs) × (y ≡ x)) ⊎ ((rest : List X) × (xs ≡ front ++ y ∷ rest))
+  stands_pushed [] x [] y back is = inl (refl, sym (ap (λ l. get_or l 0 x) is))
+  stands_pushed [] x (z ∷ front) y back is = absurd (some_stands front y back (ap (drop 1) is))
+  stands_pushed (w ∷ xs) x [] y back is = inr (xs, ap (λ z. z ∷ xs) (ap (λ l. get_or l 0 w) is))
+  stands_pushed (w ∷ xs) x (z ∷ front) y back is = by (stands_pushed xs x front y back (ap (drop 1) is))
+    where
+      first : w ≡ z
+      first = ap (λ l. get_or l 0 w) is
+
+      by : ((front ≡ xs) × (y ≡ x)) ⊎ ((rest : List X) × (xs ≡ front ++ y ∷ rest)) →
+          ((z ∷ front ≡ w ∷ xs) × (y ≡ x)) ⊎ ((rest : List X) × (w ∷ xs ≡ z ∷ (front ++ y ∷ rest)))
+      by (inl last) = inl (ap (λ v. v ∷ front) (sym first) ∙ ap (λ l. w ∷ l) last.0, last.1)
+      by (inr sooner) = inr (sooner.0, ap (λ v. v ∷ xs) first ∙ ap (λ l. z ∷ l) sooner.1)

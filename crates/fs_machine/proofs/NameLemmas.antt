@@ -8,10 +8,10 @@ use Rattle.std.proofs.lemmas.Slice.Eq.{bytes_eq-Decides}
 use Rattle.fs_text.specs.CoreId.{owns}
 use Rattle.fs_text.specs.Texts.{Text}
 use Rattle.fs_chan.specs.declared.chan.Chan.{Chan}
-use Rattle.fs_places.specs.Places.{held_in, with_held, first_place}
-use Rattle.fs_places.proofs.RowLemmas.{none_found}
+use Rattle.fs_seats.specs.Seats.{held_in, with_held, first_seat}
+use Rattle.fs_seats.proofs.RowLemmas.{none_found}
 use Rattle.fs_state.specs.Switch.{Switch, is_called, is_held, with_next_identifier, identifier_of}
-use Rattle.fs_machine.specs.declared.originations.Call.{Call}
+use Rattle.fs_machine.specs.declared.call.Call.{Call}
 use Rattle.fs_machine.specs.declared.originations.End.{End}
 use Rattle.fs_machine.specs.Originations.{end_of, end_made, end_made_as, named_end_made, leg_end, far_end, pair_made, is_visible, is_name}
 use Rattle.fs_machine.specs.Originations.{is_free, is_misnamed, leg_uuid}
@@ -23,7 +23,7 @@ use Rattle.fs_machine.proofs.ShortLemmas.{left_holds, right_holds, uuid_short}
 -- of all that a free identifier is
 record Names (uuid : Text) (s : Switch) : Type 0 where
   name : is_name uuid ≡ true
-  foreign : not (owns s.config.settings.core_uuid uuid) ≡ true
+  foreign : not (owns s.settings.core_uuid uuid) ≡ true
   unheld : not (is_held uuid s) ≡ true
 
 not-true : (b : Bool) → not b ≡ true → b ≡ false
@@ -32,7 +32,7 @@ not-true false h = refl
 
 names_free : (uuid : Text) (s : Switch) → is_misnamed (Some uuid) s ≡ false → Names uuid s
 names_free uuid s named =
-    let other : Bool = not (owns s.config.settings.core_uuid uuid) in
+    let other : Bool = not (owns s.settings.core_uuid uuid) in
     let unheld : Bool = not (is_held uuid s) in
     let free : is_free uuid s ≡ true = not-false (is_free uuid s) named in
     let both : (other && unheld) ≡ true = right_holds (is_name uuid) (other && unheld) free in
@@ -52,13 +52,13 @@ name_short uuid s named =
     omega (arith, within)
 
 -- the switch does not own it
-pub name_foreign : (uuid : Text) (s : Switch) → is_misnamed (Some uuid) s ≡ false → owns s.config.settings.core_uuid uuid ≡ false
-name_foreign uuid s named = not-true (owns s.config.settings.core_uuid uuid) (names_free uuid s named).foreign
+pub name_foreign : (uuid : Text) (s : Switch) → is_misnamed (Some uuid) s ≡ false → owns s.settings.core_uuid uuid ≡ false
+name_foreign uuid s named = not-true (owns s.settings.core_uuid uuid) (names_free uuid s named).foreign
 
 -- no channel has it
 nowhere : (found : Option ℕ) → is_some found ≡ false → found ≡ None
 nowhere None none = refl
-nowhere (Some place) none = absurd (cc)
+nowhere (Some seat) none = absurd (cc)
 
 is_its_own : (uuid : Text) (found : Option Chan) → option_map uuid_of found ≡ Some uuid → is_called uuid found ≡ true
 is_its_own uuid None same = absurd (cc)
@@ -69,12 +69,12 @@ pub name_unheld : (uuid : Text) (s : Switch) → is_misnamed (Some uuid) s ≡ f
 name_unheld uuid s named slot same =
     let none : is_held uuid s ≡ false = not-true (is_held uuid s) (names_free uuid s named).unheld in
     both_ways (is_called uuid (held_in s.channels slot))
-    (none_found (is_called uuid) refl s.channels 0 (nowhere (first_place (is_called uuid) s.channels 0) none) slot)
+    (none_found (is_called uuid) refl s.channels 0 (nowhere (first_seat (is_called uuid) s.channels 0) none) slot)
     (is_its_own uuid (held_in s.channels slot) same)
 
 -- the identifier of a leg can stand in a profile
 pub leg_uuid_short : (uuid : Option Text) (s : Switch) → is_misnamed uuid s ≡ false → length (leg_uuid uuid s) ≤ 256
-leg_uuid_short None s named = uuid_short s.config.settings.core_uuid (with_next_identifier s).drawn.identifiers
+leg_uuid_short None s named = uuid_short s.settings.core_uuid (with_next_identifier s).drawn.identifiers
 leg_uuid_short (Some uuid) s named = name_short uuid s named
 
 -- ---- a leg is made

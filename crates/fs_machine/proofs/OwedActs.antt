@@ -10,16 +10,16 @@ use Rattle.fs_orig.specs.declared.caller.Caller.{Caller}
 use Rattle.fs_orig.specs.declared.leg.OrigLeg.{OrigLeg}
 use Rattle.fs_orig.specs.declared.plan.LegPlan.{LegPlan}
 use Rattle.fs_orig.specs.declared.winner.Winner.{Winner}
-use Rattle.fs_places.specs.Places.{least_free}
-use Rattle.fs_places.specs.Rows.{row_of}
-use Rattle.fs_places.proofs.TableLemmas.{something_there, taken_in}
+use Rattle.fs_seats.specs.Seats.{least_free}
+use Rattle.fs_seats.specs.Rows.{row_of}
+use Rattle.fs_seats.proofs.TableLemmas.{something_there, taken_in}
 use Rattle.fs_state.specs.declared.conn.Conn.{Conn}
 use Rattle.fs_state.specs.declared.conn.Phase.{Phase}
 use Rattle.fs_state.specs.declared.conn.Phase.TheVariants as phase
 use Rattle.fs_state.specs.declared.conn.Parting.{Parting}
 use Rattle.fs_state.specs.declared.conn.Parting.TheVariants as parting
 use Rattle.fs_state.specs.declared.job.JobWork.TheVariants as work
-use Rattle.fs_state.specs.Switch.{Switch, conn_of, is_full_of_jobs, without_orig, with_gift, with_answer, next_orig_number}
+use Rattle.fs_state.specs.Switch.{Switch, conn_of, is_full_of_jobs, without_orig, with_frame_now, with_notice, next_orig_number}
 use Rattle.fs_machine.specs.declared.entry.Act.{Act}
 use Rattle.fs_machine.specs.declared.entry.Act.TheVariants as act
 use Rattle.fs_machine.specs.declared.entry.Closing.{Closing}
@@ -34,7 +34,7 @@ use Rattle.fs_machine.specs.Owing.{after_job_begin, after_job_end}
 use Rattle.fs_machine.specs.Step.{reads, busy, refused_act, after_close, act_done}
 use Rattle.fs_machine.specs.Owed.{PartsIn}
 use Rattle.fs_machine.proofs.Kept.{Stage, Fact, KeptByCalls, DoesJob, raced, KeptByJobs, KeptByCommands, KeptByTouches, KeptByDials}
-use Rattle.fs_machine.proofs.Kept.{KeptByMoves}
+use Rattle.fs_machine.proofs.Kept.{apart_by, KeptByMoves}
 use Rattle.fs_machine.proofs.Walk.{worked_kept}
 use Rattle.fs_machine.proofs.RestLemmas.{does_same, won_rest}
 use Rattle.fs_machine.proofs.OrderLemmas.{none_refused}
@@ -49,7 +49,7 @@ use Rattle.fs_chan.specs.Moments.{moment_after}
 use Rattle.fs_orig.specs.declared.orig.Owner.TheVariants as owner
 use Rattle.fs_orig.specs.Changes.{new_orig}
 use Rattle.fs_orig.specs.Plans.{all_behind}
-use Rattle.fs_places.proofs.NumberLemmas.{Numbers}
+use Rattle.fs_seats.proofs.NumberLemmas.{Numbers}
 use Rattle.fs_state.specs.Moves.{after_move}
 use Rattle.fs_machine.specs.Bridging.{caller_of, group_dialed, after_bridge_failure, after_bridge_win}
 use Rattle.fs_machine.specs.Dialing.{tried_by_slot}
@@ -119,8 +119,8 @@ module _ (b : Books) (conn : ℕ) (c : Conn) (there : row_of b.conns conn ≡ So
   asked_goes change s h =
       goes_conn b (with_subs_changed change) conn s (λ x is. parts_of s conn x h.sound.linked.parts is) (λ x. refl) h
 
-  a_place : (s : Switch) → is_full_of_jobs s ≡ false → (q : ℕ) × (least_free s.jobs 0 ≡ Some q)
-  a_place s room = by (least_free s.jobs 0) refl room
+  a_seat : (s : Switch) → is_full_of_jobs s ≡ false → (q : ℕ) × (least_free s.jobs 0 ≡ Some q)
+  a_seat s room = by (least_free s.jobs 0) refl room
     where
       by : (found : Option ℕ) → least_free s.jobs 0 ≡ found → is_none found ≡ false → (q : ℕ) × (least_free s.jobs 0 ≡ Some q)
       by None is room = absurd (cc)
@@ -133,32 +133,32 @@ module _ (b : Books) (conn : ℕ) (c : Conn) (there : row_of b.conns conn ≡ So
   sleeps_go : (until : ℕ) (s : Switch) → is_full_of_jobs s ≡ false → books_of s ≡ b →
       Goes b (books_of (after_job_begin conn (work.Sleep until) s))
   sleeps_go until s room same =
-      let place = a_place s room in
+      let seat = a_seat s room in
       from s (after_job_begin conn (work.Sleep until) s) same
-      (goes_sleep s conn until c place.0 (ap (λ (x : Books). row_of x.conns conn) same ∙ there) none place.1)
+      (goes_sleep s conn until c seat.0 (ap (λ (x : Books). row_of x.conns conn) same ∙ there) none seat.1)
 
   originates_go : (groups : List (List LegPlan)) (winner : Winner) (caller : Caller) (timeout : Option ℕ) (s : Switch) →
       is_full_of_jobs s ≡ false → books_of s ≡ b → SlotsAreFew s →
       Goes b (books_of (originate_begun conn groups winner caller timeout s))
   originates_go groups winner caller timeout s room same slots =
-      let place = a_place s room in
+      let seat = a_seat s room in
       from s (originate_begun conn groups winner caller timeout s) same
-      (λ few sound. goes_originate s conn groups winner caller timeout c place.0 (ap (λ (x : Books). row_of x.conns conn) same ∙ there) none
-      place.1 few slots sound)
+      (λ few sound. goes_originate s conn groups winner caller timeout c seat.0 (ap (λ (x : Books). row_of x.conns conn) same ∙ there) none
+      seat.1 few slots sound)
 
-  gave_goes : (frame : Text) (stage : Stage) (s : Switch) → GoesFrom b stage s → GoesFrom b stage (with_gift conn frame s)
+  noticed_goes : (frame : Text) (stage : Stage) (s : Switch) → GoesFrom b stage s → GoesFrom b stage (with_notice conn frame s)
+  noticed_goes frame None s h = h
+  noticed_goes frame (Some n) s h = h
+
+  gave_goes : (frame : Text) (stage : Stage) (s : Switch) → GoesFrom b stage s → GoesFrom b stage (with_frame_now conn frame s)
   gave_goes frame None s h = h
   gave_goes frame (Some n) s h = h
-
-  answered_goes : (frame : Text) (stage : Stage) (s : Switch) → GoesFrom b stage s → GoesFrom b stage (with_answer conn frame s)
-  answered_goes frame None s h = h
-  answered_goes frame (Some n) s h = h
 
   commands_go : KeptByCommands conn (GoesFrom b)
   commands_go = record {
     spent = λ {s = s} h. goes_spent b sound s h.0;
+    noticed = λ frame {b = stage} {s = s} h. noticed_goes frame stage s h;
     gave = λ frame {b = stage} {s = s} h. gave_goes frame stage s h;
-    answered = λ frame {b = stage} {s = s} h. answered_goes frame stage s h;
     asked = λ change {s = s} h. asked_goes change s h;
     admitted = λ {s = s} new h. admitted_goes s new h;
     parted = λ why {s = s} leaves h. parted_goes why s h;
@@ -180,23 +180,26 @@ module _ (before : Switch) (Q : Fact) (kept : KeptByMoves before Q) (owns : (b :
     globals = λ globals h. ((calls_go b).touches.globals globals h.0, kept.calls.touches.globals globals h.1);
     changed = λ slot old new there stays h.
         ((calls_go b).touches.changed slot old new there stays h.0, kept.calls.touches.changed slot old new there stays h.1);
-    answers = λ place slot number h.
-        ((calls_go b).touches.answers place slot number h.0, kept.calls.touches.answers place slot number h.1);
+    answers = λ seat slot number h.
+        ((calls_go b).touches.answers seat slot number h.0, kept.calls.touches.answers seat slot number h.1);
   }
 
   both_called : KeptByCalls (Beside b Q)
   both_called = record {
     touches = both_touched;
-    hung = λ named h. ((calls_go b).hung named h.0, kept.calls.hung named h.1);
-    joined = λ kind caller answerer c d can there other one two idle spare h. (
-      (calls_go b).joined kind caller answerer c d can there other one two idle spare h.0,
-      kept.calls.joined kind caller answerer c d can there other one two idle spare h.1,
+    hung = λ named early h. ((calls_go b).hung named early.0 h.0, kept.calls.hung named early.1 h.1);
+    joined = λ kind caller answerer c d {n = n} {s = s} can there other one two idle spare was were h. (
+      (calls_go b).joined kind caller answerer c d {n = n} {s = s} can there other one two idle spare
+          (apart_by caller was (λ t k. k.0)) (apart_by answerer were (λ t k. k.0)) h.0,
+      kept.calls.joined kind caller answerer c d can there other one two idle spare (apart_by caller was (λ t k. k.1))
+          (apart_by answerer were (λ t k. k.1)) h.1,
     );
-    leaves = λ slot lone h. ((calls_go b).leaves slot lone h.0, kept.calls.leaves slot lone h.1);
-    departs = λ slot h. ((calls_go b).departs slot h.0, kept.calls.departs slot h.1);
+    leaves = λ one other first second early h.
+        ((calls_go b).leaves one other first second early.0 h.0, kept.calls.leaves one other first second early.1 h.1);
+    departs = λ slot early h. ((calls_go b).departs slot early.0 h.0, kept.calls.departs slot early.1 h.1);
     more = λ {s = s} h. ((calls_go b).more {s = s} h.0, kept.calls.more h.1);
-    gone = λ slot old {s = s} there dead h.
-        ((calls_go b).gone slot old {s = s} there dead h.0, kept.calls.gone slot old there dead h.1);
+    gone = λ slot old {s = s} there dead early h.
+        ((calls_go b).gone slot old {s = s} there dead early.0 h.0, kept.calls.gone slot old there dead early.1 h.1);
   }
 
   -- a job has ended with the origination that it tried
@@ -213,9 +216,9 @@ module _ (before : Switch) (Q : Fact) (kept : KeptByMoves before Q) (owns : (b :
   jobs_go = record {
     woken = λ number conn until answer {s = s} does h.
         (goes_woken b s number conn until answer does h.0, kept.jobs.woken number conn until answer does h.1);
-    failed = λ job conn winner caller orig cause {s = s} does h. (
+    failed = λ job conn winner caller orig cause {s = s} does over h. (
       goes_over b s job conn orig winner caller (failed_text cause) (numbers (Some 0) s h.1) does h.0,
-      kept.jobs.failed job conn winner caller orig cause does h.1,
+      kept.jobs.failed job conn winner caller orig cause does over h.1,
     );
     wins = λ job conn winner caller orig leg slots does won h. (
       wins_go (raced slots before) job conn orig winner caller leg (numbers (Some 0) (raced slots before) h.1) does h.0,
@@ -272,7 +275,7 @@ module _ (before : Switch) (Q : Fact) (kept : KeptByMoves before Q) (owns : (b :
       goes_loses b (Some 0) s (with_group number (group_made plans caller number s)) h.0 (regrouped_loses number plans caller s),
       kept.dials.regroups number o plans caller there are h.1,
     );
-    fails = λ slot orig cause {s = s} waits h. (failed_goes slot orig cause s waits h.1 h.0, kept.dials.fails slot orig cause waits h.1);
+    fails = λ slot orig cause {s = s} waits over h. (failed_goes slot orig cause s waits h.1 h.0, kept.dials.fails slot orig cause waits over h.1);
     wins = λ slot orig leg slots waits won h. (
       won_goes slot orig (unwrap_or leg.slot 0) (raced slots before) waits h.1 h.0,
       kept.dials.wins slot orig leg slots waits won h.1,
@@ -307,4 +310,4 @@ goes_acted (act.Work slot) s Q kept owns numbers accepts few h slots q =
 goes_acted (act.Job number) s Q kept owns numbers accepts few h slots q =
     (job_kept s (Beside (books_of s) Q) (both_called s Q kept owns numbers (books_of s) few h)
     (dials_go s Q kept owns numbers (books_of s) few h) (jobs_go s Q kept owns numbers (books_of s) few h) number
-    (goes_spent (books_of s) h s refl, kept.dials.spent q)).0
+    ((refl, slots), q) (goes_spent (books_of s) h s refl, kept.dials.spent q)).0

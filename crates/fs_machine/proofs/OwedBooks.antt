@@ -1,10 +1,10 @@
 -- What is known of connections, of the jobs that owe them replies, and of the originations that these try.
 use Rattle.std.proofs.Common.{◌≡◌, ◌≢◌, ℕ, ◌+◌, ◌*◌, ◌^◌, ◌<◌, ◌≤◌, List, length, Option, None, Some, ap, ◌∙◌}
 use Rattle.std.specs.List.{sum_by}
-use Rattle.fs_places.specs.declared.numbered.Numbered.{Numbered}
-use Rattle.fs_places.specs.Places.{held_in}
-use Rattle.fs_places.proofs.TableLemmas.{one_if, taken_in}
-use Rattle.fs_places.proofs.NumberLemmas.{Numbers}
+use Rattle.fs_seats.specs.declared.numbered.Numbered.{Numbered}
+use Rattle.fs_seats.specs.Seats.{held_in}
+use Rattle.fs_seats.proofs.TableLemmas.{one_if, taken_in}
+use Rattle.fs_seats.proofs.NumberLemmas.{Numbers}
 use Rattle.fs_state.specs.declared.conn.Conn.{Conn}
 use Rattle.fs_state.specs.declared.job.Job.{Job}
 use Rattle.fs_state.specs.declared.job.JobWork.{JobWork}
@@ -41,7 +41,7 @@ books_with r origs drawn = record {
   jobs_drawn = r.jobs_drawn;
   origs_drawn = drawn;
   cost = r.cost;
-  limit = r.config.settings.journal_limit;
+  limit = r.settings.journal_limit;
 }
 
 abbrev pub books_of : Switch → Books
@@ -109,7 +109,7 @@ abbrev pub HasNumber : List (Option ℕ) → ℕ → Type 0
 HasNumber origs number = (p : ℕ) × (held_in origs p ≡ Some number)
 
 -- what a job tries is there and is owned by a job, is tried by no other job, and has a number that was drawn; jobs own no more than is
--- tried, so there is always a place for one more
+-- tried, so there is always a seat for one more
 pub record Tries (jobs : Jobs) (origs : List (Option ℕ)) (drawn : ℕ) : Type 0 where
   pub there : (q : ℕ) (job : Numbered Job) (number : ℕ) → held_in jobs q ≡ Some job → tried_by job.held.work ≡ Some number →
       HasNumber origs number
@@ -117,8 +117,8 @@ pub record Tries (jobs : Jobs) (origs : List (Option ℕ)) (drawn : ℕ) : Type 
       tried_by a.held.work ≡ Some number → tried_by c.held.work ≡ Some number → q ≡ r
   pub within : (p number : ℕ) → held_in origs p ≡ Some number → number ≤ drawn
   pub fewer : taken_in origs ≤ trying_in jobs
-  pub job_places : length jobs ≡ 1024
-  pub orig_places : length origs ≡ 1280
+  pub job_seats : length jobs ≡ 1024
+  pub orig_seats : length origs ≡ 1280
 
 -- ---- all of it
 

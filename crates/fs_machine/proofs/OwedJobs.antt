@@ -10,12 +10,12 @@ use Rattle.fs_orig.specs.declared.orig.Owner.TheVariants as owner
 use Rattle.fs_orig.specs.declared.plan.LegPlan.{LegPlan}
 use Rattle.fs_orig.specs.declared.winner.Winner.{Winner}
 use Rattle.fs_orig.specs.Changes.{new_orig}
-use Rattle.fs_places.specs.declared.numbered.Numbered.{Numbered}
-use Rattle.fs_places.specs.Places.{held_in, with_held, least_free}
-use Rattle.fs_places.specs.Rows.{place_of, row_of, with_held_at, with_new_row, without_row}
-use Rattle.fs_places.proofs.RowLemmas.{free_least}
-use Rattle.fs_places.proofs.TableLemmas.{something_there, IsRow, HasRow, row_found, no_row, row_written, row_removed, row_added, taken_in}
-use Rattle.fs_places.proofs.TableLemmas.{full_taken, row_of_held}
+use Rattle.fs_seats.specs.declared.numbered.Numbered.{Numbered}
+use Rattle.fs_seats.specs.Seats.{held_in, with_held, least_free}
+use Rattle.fs_seats.specs.Rows.{seat_of, row_of, with_held_at, with_new_row, without_row}
+use Rattle.fs_seats.proofs.RowLemmas.{free_least}
+use Rattle.fs_seats.proofs.TableLemmas.{something_there, IsRow, HasRow, row_found, no_row, row_written, row_removed, row_added, taken_in}
+use Rattle.fs_seats.proofs.TableLemmas.{full_taken, row_of_held}
 use Rattle.fs_state.specs.declared.conn.Conn.{Conn}
 use Rattle.fs_state.specs.declared.job.Job.{Job}
 use Rattle.fs_state.specs.declared.job.JobWork.{JobWork}
@@ -36,7 +36,7 @@ use Rattle.fs_machine.proofs.OwedLemmas.{linked_changed, linked_gone, linked_com
 use Rattle.fs_machine.proofs.OwedLemmas.{tries_slept, tries_begun, tries_woken, tries_ended, trying_most, trying_begun}
 use Rattle.fs_orig.specs.declared.orig.Owner.{Owner}
 use Rattle.fs_orig.specs.declared.winner.Winner.TheVariants.{App}
-use Rattle.fs_places.proofs.NumberLemmas.{Numbers}
+use Rattle.fs_seats.proofs.NumberLemmas.{Numbers}
 use Rattle.fs_state.proofs.LegTables.{Origs}
 use Rattle.fs_machine.proofs.OwedTables.{job_there, by_job, by_slot, owned_at, owned_in, owned_held, owned_added, owned_removed}
 use Rattle.fs_machine.proofs.OwedTables.{taken_apart}
@@ -98,13 +98,13 @@ goes_conn b change conn s parts same h = by (conn_of s conn) refl
 
 -- one is gone
 pub goes_gone : (b : Books) (conn : ℕ) (s : Switch) → Goes b (books_of s) → Goes b (books_of (without_conn conn s))
-goes_gone b conn s h = by (place_of s.conns conn)
+goes_gone b conn s h = by (seat_of s.conns conn)
   where
     by : (found : Option ℕ) → Goes b (record (books_of s) { conns = with_held_at {T = Numbered Conn} s.conns None found })
     by None = h
-    by (Some place) =
-        goes_by (books_of s) b (record (books_of s) { conns = with_held s.conns place None })
-        (linked_gone s.conns s.jobs s.drawn.conns s.drawn.jobs place h.sound.linked) h.sound.tries h
+    by (Some seat) =
+        goes_by (books_of s) b (record (books_of s) { conns = with_held s.conns seat None })
+        (linked_gone s.conns s.jobs s.drawn.conns s.drawn.jobs seat h.sound.linked) h.sound.tries h
         refl refl refl refl refl
 
 -- one comes
@@ -126,9 +126,9 @@ goes_arrived s few h =
       sound = record { linked = linked_more s.conns s.jobs s.drawn.conns s.drawn.jobs h.linked; tries = h.tries };
       near = record { conns = omega arith; jobs = omega arith; origs = omega arith; cost = refl; limit = refl };
     }
-    by (Some place) = record {
+    by (Some seat) = record {
       sound = record {
-        linked = linked_come s.conns s.jobs s.drawn.conns s.drawn.jobs place
+        linked = linked_come s.conns s.jobs s.drawn.conns s.drawn.jobs seat
             (record { number = s.drawn.conns + 1; held = new_conn }) refl refl refl h.linked;
         tries = h.tries;
       };
@@ -141,7 +141,7 @@ goes_arrived s few h =
 abbrev job_for : ℕ → ℕ → JobWork → Numbered Job
 job_for number conn work = record { number = number; held = record { conn = conn; work = work } }
 
--- it begins for a connection that is owed nothing, where a place for it is free
+-- it begins for a connection that is owed nothing, where a seat for it is free
 goes_owing : (b : Books) (u : Switch) (conn : ℕ) (work : JobWork) (c : Conn) (q : ℕ) → conn_of u conn ≡ Some c → c.owed ≡ None →
     least_free u.jobs 0 ≡ Some q →
     u.drawn.jobs < 2 ^ 30 → u.drawn.jobs ≡ b.jobs_drawn → Linked u.conns u.jobs u.drawn.conns u.drawn.jobs →
@@ -192,7 +192,7 @@ goes_sleep s conn until c q is none is_free few h =
 
 -- ---- an origination begins
 
--- where a place for a job is free, fewer jobs try something than there are places
+-- where a seat for a job is free, fewer jobs try something than there are seats
 trying_fewer : (jobs : Jobs) (q : ℕ) → least_free jobs 0 ≡ Some q → trying_in jobs + 1 ≤ length jobs
 trying_fewer jobs q is_free =
     let free = free_least jobs q is_free in
@@ -203,20 +203,20 @@ trying_fewer jobs q is_free =
     let same : length (with_held jobs q (Some job)) ≡ length jobs = length-set jobs q (Some job) in
     omega (arith, more, one, most, same)
 
--- a place for one more is free: 1,023 jobs at most try one, and 256 slots own one
-orig_place : (jobs : Jobs) (origs : Origs) (drawn q : ℕ) → Tries jobs (owned_in by_job origs) drawn →
+-- a seat for one more is free: 1,023 jobs at most try one, and 256 slots own one
+pub orig_seat : (jobs : Jobs) (origs : Origs) (drawn q : ℕ) → Tries jobs (owned_in by_job origs) drawn →
     taken_in (owned_in by_slot origs) ≤ 256 → least_free jobs 0 ≡ Some q → least_free origs 0 ≢ None
-orig_place jobs origs drawn q h slots is_free none =
+orig_seat jobs origs drawn q h slots is_free none =
     let all : taken_in origs ≡ length origs = full_taken origs none in
     let apart : taken_in origs ≡ taken_in (owned_in by_job origs) + taken_in (owned_in by_slot origs) = taken_apart origs in
     let fewer : taken_in (owned_in by_job origs) ≤ trying_in jobs = h.fewer in
     let most : trying_in jobs + 1 ≤ length jobs = trying_fewer jobs q is_free in
-    let job_places : length jobs ≡ 1024 = h.job_places in
-    let orig_places : length (owned_in by_job origs) ≡ 1280 = h.orig_places in
+    let job_seats : length jobs ≡ 1024 = h.job_seats in
+    let orig_seats : length (owned_in by_job origs) ≡ 1280 = h.orig_seats in
     let lengths : length (owned_in by_job origs) ≡ length origs = length-map origs (owned_at by_job) in
-    omega (arith, all, apart, fewer, slots, most, job_places, orig_places, lengths)
+    omega (arith, all, apart, fewer, slots, most, job_seats, orig_seats, lengths)
 
--- at that place it is there, and the job that tries it
+-- at that seat it is there, and the job that tries it
 begun_at : (b : Books) (t : Switch) (conn orig job : ℕ) (winner : Winner) (caller : Caller) (o : Orig) (c : Conn) (q p : ℕ) →
     conn_of t conn ≡ Some c → c.owed ≡ None → least_free t.jobs 0 ≡ Some q →
     least_free t.origs 0 ≡ Some p → t.drawn.jobs < 2 ^ 30 → orig ≡ t.drawn.origs + 1 → next_orig_number t ≡ t.drawn.origs + 1 →
@@ -269,7 +269,7 @@ goes_tried s made conn groups winner caller timeout c q same is none is_free few
         Goes (books_of s) (books_of (tried_by_job conn groups winner caller timeout (next_orig_number s) made))
     by None is_none =
         absurd
-        (orig_place made.state.jobs made.state.origs made.state.drawn.origs q sound.tries slots
+        (orig_seat made.state.jobs made.state.origs made.state.drawn.origs q sound.tries slots
         (ap (λ (b : Books). least_free b.jobs 0) same ∙ is_free) is_none)
     by (Some p) is_orig_free =
         begun_at (books_of s) made.state conn (next_orig_number s) (next_job_number made.state) winner caller
@@ -299,8 +299,8 @@ tries_more jobs origs drawn more less h = record {
   alone = h.alone;
   within = λ p number is. let most : number ≤ drawn = h.within p number is in omega (arith, most, less);
   fewer = h.fewer;
-  job_places = h.job_places;
-  orig_places = h.orig_places;
+  job_seats = h.job_seats;
+  orig_seats = h.orig_seats;
 }
 
 -- an origination comes that no job owns
@@ -368,12 +368,12 @@ goes_woken b s number conn until answer does h =
 
 -- the row of the origination that it tried, which is the only one of its number
 job_row : (origs : Origs) (drawn p number : ℕ) → Numbers origs drawn → held_in (owned_in by_job origs) p ≡ Some number →
-    place_of origs number ≡ Some p
+    seat_of origs number ≡ Some p
 job_row origs drawn p number numbers told =
     let there = job_there origs p number told in
     let found : HasRow origs there.0.number = row_of_held origs p there.0 there.1 in
-    let place : found.0 ≡ p = numbers.apart found.0 p found.1 there.0 found.2.there there.1 found.2.numbered in
-    ap (place_of origs) (sym there.2) ∙ (found.2.at ∙ ap Some place)
+    let seat : found.0 ≡ p = numbers.apart found.0 p found.1 there.0 found.2.there there.1 found.2.numbered in
+    ap (seat_of origs) (sym there.2) ∙ (found.2.at ∙ ap Some seat)
 
 -- a job ends with the row of the origination that it tried
 tries_without : (jobs : Jobs) (origs : Origs) (drawn q number : ℕ) (job : Numbered Job) → Numbers origs drawn →

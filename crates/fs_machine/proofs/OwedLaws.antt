@@ -6,11 +6,11 @@ use Rattle.fs_chan.specs.declared.due.Due.{Due}
 use Rattle.fs_chan.specs.declared.due.Due.TheVariants.{Now, At}
 use Rattle.fs_doc.specs.Reading.{Configuration}
 use Rattle.fs_orig.specs.declared.orig.Orig.{Orig}
-use Rattle.fs_places.specs.declared.numbered.Numbered.{Numbered}
-use Rattle.fs_places.specs.Places.{held_in}
-use Rattle.fs_places.proofs.TableLemmas.{something_there, one_there, HasRow, row_is, row_found, row_of_held}
-use Rattle.fs_places.specs.Least.{lesser}
-use Rattle.fs_places.proofs.LeastLemmas.{lesser_never, least_never}
+use Rattle.fs_seats.specs.declared.numbered.Numbered.{Numbered}
+use Rattle.fs_seats.specs.Seats.{held_in}
+use Rattle.fs_seats.proofs.TableLemmas.{something_there, one_there, HasRow, row_is, row_found, row_of_held}
+use Rattle.fs_seats.specs.Least.{lesser}
+use Rattle.fs_seats.proofs.LeastLemmas.{lesser_never, least_never}
 use Rattle.fs_state.specs.declared.conn.Conn.{Conn}
 use Rattle.fs_state.specs.declared.job.Job.{Job}
 use Rattle.fs_state.specs.declared.job.JobWork.{JobWork}
@@ -49,9 +49,9 @@ pub job_is_known : (s : Switch) (q : ℕ) (job : Numbered Job) → Sound (books_
     job_of s job.number ≡ Some job.held
 job_is_known s q job h is =
     let row : HasRow s.jobs job.number = row_of_held s.jobs q job is in
-    let place : q ≡ row.0 = sym (h.linked.job_numbers.apart row.0 q row.1 job row.2.there is row.2.numbered) in
+    let seat : q ≡ row.0 = sym (h.linked.job_numbers.apart row.0 q row.1 job row.2.there is row.2.numbered) in
     row_is s.jobs job.number row.0 row.1 row.2
-    ∙ ap (λ (j : Numbered Job). Some j.held) (one_there s.jobs row.0 q row.1 job row.2.there is place)
+    ∙ ap (λ (j : Numbered Job). Some j.held) (one_there s.jobs row.0 q row.1 job row.2.there is seat)
 
 -- each job has a next moment
 job_is_due : (s : Switch) (q : ℕ) (job : Numbered Job) → Sound (books_of s) → held_in s.jobs q ≡ Some job → job_due job.number s ≢ None

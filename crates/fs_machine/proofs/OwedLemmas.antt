@@ -4,12 +4,12 @@ use Rattle.std.proofs.Common.{[]}
 use Rattle.std.proofs.lemmas.List.{length-set}
 use Rattle.std.proofs.lemmas.List.Sums.{sum_by-cons, sum_by-set}
 use Rattle.std.proofs.lemmas.Option.{none-some, same_Some}
-use Rattle.fs_places.specs.declared.numbered.Numbered.{Numbered}
-use Rattle.fs_places.specs.Places.{held_in, with_held}
-use Rattle.fs_places.proofs.HeldLemmas.{held_here, held_within}
-use Rattle.fs_places.proofs.TableLemmas.{IsWrittenOrKept, written_or_kept, kept_without, still_there, not_free, one_there, one_if, taken_in}
-use Rattle.fs_places.proofs.TableLemmas.{taken_more, taken_less}
-use Rattle.fs_places.proofs.NumberLemmas.{Numbers, numbers_changed, numbers_gone, numbers_come, numbers_more}
+use Rattle.fs_seats.specs.declared.numbered.Numbered.{Numbered}
+use Rattle.fs_seats.specs.Seats.{held_in, with_held}
+use Rattle.fs_seats.proofs.HeldLemmas.{held_here, held_within}
+use Rattle.fs_seats.proofs.TableLemmas.{IsWrittenOrKept, written_or_kept, kept_without, still_there, not_free, one_there, one_if, taken_in}
+use Rattle.fs_seats.proofs.TableLemmas.{taken_more, taken_less}
+use Rattle.fs_seats.proofs.NumberLemmas.{Numbers, numbers_changed, numbers_gone, numbers_come, numbers_more}
 use Rattle.fs_state.specs.declared.conn.Conn.{Conn}
 use Rattle.fs_state.specs.declared.job.Job.{Job}
 use Rattle.fs_machine.specs.Owed.{Parts}
@@ -228,7 +228,7 @@ linked_come conns jobs drawn jobs_drawn p new fresh none parts h = record {
   owes = owes_come conns jobs drawn p new fresh none h.owes;
 }
 
--- there was no place for it
+-- there was no seat for it
 pub linked_more : (conns : Conns) (jobs : Jobs) (drawn jobs_drawn : ℕ) → Linked conns jobs drawn jobs_drawn →
     Linked conns jobs (drawn + 1) jobs_drawn
 linked_more conns jobs drawn jobs_drawn h = record {
@@ -303,8 +303,8 @@ tries_slept jobs origs drawn q job within free none h = record {
       (written_or_kept jobs q (Some job) t z ez) tx tz;
   within = h.within;
   fewer = fewer;
-  job_places = length-set jobs q (Some job) ∙ h.job_places;
-  orig_places = h.orig_places;
+  job_seats = length-set jobs q (Some job) ∙ h.job_seats;
+  orig_seats = h.orig_seats;
 }
   where
     no_number : (j : Numbered Job) (number : ℕ) → Some job ≡ Some j → tried_by j.held.work ≡ Some number → ⊥
@@ -337,8 +337,8 @@ tries_begun jobs origs drawn q p job within free orig_within orig_free new h = r
       (written_or_kept jobs q (Some job) t z ez) tx tz;
   within = λ k number e. most k number (written_or_kept origs p (Some (drawn + 1)) k number e);
   fewer = fewer;
-  job_places = length-set jobs q (Some job) ∙ h.job_places;
-  orig_places = length-set origs p (Some (drawn + 1)) ∙ h.orig_places;
+  job_seats = length-set jobs q (Some job) ∙ h.job_seats;
+  orig_seats = length-set origs p (Some (drawn + 1)) ∙ h.orig_seats;
 }
   where
     number_of : (j : Numbered Job) (number : ℕ) → Some job ≡ Some j → tried_by j.held.work ≡ Some number → number ≡ drawn + 1
@@ -391,8 +391,8 @@ tries_woken jobs origs drawn q job stands none h = record {
   alone = λ r t x z number ex ez tx tz. h.alone r t x z number (kept_without jobs q r x ex).1 (kept_without jobs q t z ez).1 tx tz;
   within = h.within;
   fewer = fewer;
-  job_places = length-set jobs q None ∙ h.job_places;
-  orig_places = h.orig_places;
+  job_seats = length-set jobs q None ∙ h.job_seats;
+  orig_seats = h.orig_seats;
 }
   where
     fewer : taken_in origs ≤ trying_in (with_held jobs q None)
@@ -411,8 +411,8 @@ tries_ended jobs origs drawn q p number job stands tried orig_stands h = record 
   alone = λ r t x z other ex ez tx tz. h.alone r t x z other (kept_without jobs q r x ex).1 (kept_without jobs q t z ez).1 tx tz;
   within = λ k other e. h.within k other (kept_without origs p k other e).1;
   fewer = fewer;
-  job_places = length-set jobs q None ∙ h.job_places;
-  orig_places = length-set origs p None ∙ h.orig_places;
+  job_seats = length-set jobs q None ∙ h.job_seats;
+  orig_seats = length-set origs p None ∙ h.orig_seats;
 }
   where
     there : (r : ℕ) (j : Numbered Job) (other : ℕ) → (r ≢ q) × (held_in jobs r ≡ Some j) → tried_by j.held.work ≡ Some other →
@@ -431,7 +431,7 @@ tries_ended jobs origs drawn q p number job stands tried orig_stands h = record 
         let before : taken_in origs ≤ trying_in jobs = h.fewer in
         omega (arith, less, one, taken, before)
 
--- no more jobs try something than there are places
+-- no more jobs try something than there are seats
 pub trying_most : (jobs : Jobs) → trying_in jobs ≤ length jobs
 trying_most [] = omega arith
 trying_most (held ∷ more) =

@@ -5,7 +5,6 @@ use Rattle.std.proofs.lemmas.Bool.{false≢true, eqb-true}
 use Rattle.std.specs.Option.{option_and_then}
 use Rattle.fs_text.specs.Cause.{cause_name}
 use Rattle.fs_text.specs.declared.causes.Cause.{Cause}
-use Rattle.fs_text.specs.declared.causes.Cause.TheVariants.{NormalTemporaryFailure}
 use Rattle.fs_text.specs.declared.states.State.TheVariants.{CsHangup}
 use Rattle.fs_bridge.specs.declared.row.BridgeKind.{BridgeKind}
 use Rattle.fs_bridge.specs.declared.row.BridgeKind.TheVariants.{Dial}
@@ -22,9 +21,9 @@ use Rattle.fs_orig.specs.declared.plan.LegPlan.{LegPlan}
 use Rattle.fs_orig.specs.declared.winner.Winner.{Winner}
 use Rattle.fs_orig.specs.Legs.{is_at, position_in}
 use Rattle.fs_orig.specs.Changes.{with_answer, with_death, may_enter_next, at_next_group}
-use Rattle.fs_places.specs.Places.{with_held, held_in}
-use Rattle.fs_places.proofs.TableLemmas.{taken_in, taken_less}
-use Rattle.fs_places.proofs.NumberLemmas.{Numbers}
+use Rattle.fs_seats.specs.Seats.{with_held, held_in}
+use Rattle.fs_seats.proofs.TableLemmas.{taken_in, taken_less}
+use Rattle.fs_seats.proofs.NumberLemmas.{Numbers}
 use Rattle.fs_state.specs.declared.event.Event.{Event}
 use Rattle.fs_state.specs.Switch.{Switch, chan_at, with_chan, with_bridge, without_bridge, orig_of, without_orig, with_event}
 use Rattle.fs_text.specs.declared.event_names.EventName.TheVariants.{ChannelExecuteComplete}
@@ -33,11 +32,12 @@ use Rattle.fs_state.specs.Moves.{leg_changed_at, leg_changed}
 use Rattle.fs_state.specs.Moves.{is_owner, its_leg_changed, hangup_event, given_up_by, orig_given_up, after_hangup_from, after_one_hangup}
 use Rattle.fs_state.specs.Hangups.{after_hangups}
 use Rattle.fs_state.specs.Bridging.{peer_of, with_peer_from, with_peer, joined_as}
-use Rattle.fs_machine.specs.declared.originations.Call.{Call}
+use Rattle.fs_machine.specs.declared.call.Call.{Call}
 use Rattle.fs_machine.specs.Attempts.{awaits, with_group}
 use Rattle.fs_machine.specs.Bridging.{goes_on, after_going_on, bridge_failed_from, after_bridge_failure, disposed, after_bridge_win}
-use Rattle.fs_machine.specs.Joining.{after_leaving}
+use Rattle.fs_machine.specs.Joining.{after_leaving, both_left}
 use Rattle.fs_machine.specs.Leaving.{after_departure}
+use Rattle.fs_machine.proofs.JoinLemmas.{both_left_kept}
 use Rattle.fs_machine.proofs.LeaveLemmas.{departed_kept}
 use Rattle.fs_machine.specs.Originations.{leg_end, pair_made, MadeGroup, group_made, won_by, after_winning}
 use Rattle.fs_machine.proofs.Kept.{Stage, Fact, KeptByTouches, KeptByCalls, KeptByBirths}
@@ -55,14 +55,14 @@ pub record Loses (s t : Switch) : Type 0 where
   pub rest : rest_of t ≡ rest_of s
   pub jobs : owned_in by_job t.origs ≡ owned_in by_job s.origs
   pub slots : taken_in (owned_in by_slot t.origs) ≤ taken_in (owned_in by_slot s.origs)
-  pub stood : (place number : ℕ) → held_in (owned_in of_slot t.origs) place ≡ Some number →
-      held_in (owned_in of_slot s.origs) place ≡ Some number
+  pub stood : (seat number : ℕ) → held_in (owned_in of_slot t.origs) seat ≡ Some number →
+      held_in (owned_in of_slot s.origs) seat ≡ Some number
   pub drawn : t.drawn.origs ≡ s.drawn.origs
 
 -- what stands in a list that is the same
-stood_same : (old new : List (Option ℕ)) → new ≡ old → (place number : ℕ) → held_in new place ≡ Some number →
-    held_in old place ≡ Some number
-stood_same old new same place number is = sym (ap (λ (l : List (Option ℕ)). held_in l place) same) ∙ is
+stood_same : (old new : List (Option ℕ)) → new ≡ old → (seat number : ℕ) → held_in new seat ≡ Some number →
+    held_in old seat ≡ Some number
+stood_same old new same seat number is = sym (ap (λ (l : List (Option ℕ)). held_in l seat) same) ∙ is
 
 pub loses_none : (s t : Switch) → rest_of t ≡ rest_of s → t.origs ≡ s.origs → t.drawn.origs ≡ s.drawn.origs → Loses s t
 loses_none s t rest origs drawn =
@@ -83,7 +83,7 @@ loses_trans s t u first second =
       rest = second.rest ∙ first.rest;
       jobs = second.jobs ∙ first.jobs;
       slots = omega (arith, one, two);
-      stood = λ place number is. first.stood place number (second.stood place number is);
+      stood = λ seat number is. first.stood seat number (second.stood seat number is);
       drawn = second.drawn ∙ first.drawn;
     }
 
@@ -119,17 +119,17 @@ changed_loses change keeps number s = by (orig_of s number) refl
           drawn = refl;
         }
 
-answer_keeps : (place slot : ℕ) → KeepsOwner (leg_changed (λ position. with_answer position place) slot)
-answer_keeps place slot o = by (position_in slot o.legs)
+answer_keeps : (seat slot : ℕ) → KeepsOwner (leg_changed (λ position. with_answer position seat) slot)
+answer_keeps seat slot o = by (position_in slot o.legs)
   where
-    by : (found : Option ℕ) → (leg_changed_at (λ position. with_answer position place) found o).owner ≡ o.owner
+    by : (found : Option ℕ) → (leg_changed_at (λ position. with_answer position seat) found o).owner ≡ o.owner
     by None = refl
     by (Some position) = refl
 
-death_keeps : (cause : Cause) (place slot : ℕ) → KeepsOwner (dies cause place slot)
-death_keeps cause place slot o = by (position_in slot o.legs)
+death_keeps : (cause : Cause) (seat slot : ℕ) → KeepsOwner (dies cause seat slot)
+death_keeps cause seat slot o = by (position_in slot o.legs)
   where
-    by : (found : Option ℕ) → (leg_changed_at (λ position. with_death position place cause) found o).owner ≡ o.owner
+    by : (found : Option ℕ) → (leg_changed_at (λ position. with_death position seat cause) found o).owner ≡ o.owner
     by None = refl
     by (Some position) = refl
 
@@ -145,11 +145,11 @@ pub without_loses : (s : Switch) (number slot : ℕ) (o : Orig) → orig_of s nu
     Loses s (without_orig number s)
 without_loses s number slot o is same =
     let there : IsOwnedAt by_slot s.origs number o = owned_there by_slot s.origs number o is in
-    let less : taken_in (with_held (owned_in by_slot s.origs) there.place None) + 1 ≡ taken_in (owned_in by_slot s.origs) =
-    taken_less (owned_in by_slot s.origs) there.place slot (there.told ∙ ap (λ (by : Owner). by_slot by number) same) in
+    let less : taken_in (with_held (owned_in by_slot s.origs) there.seat None) + 1 ≡ taken_in (owned_in by_slot s.origs) =
+    taken_less (owned_in by_slot s.origs) there.seat slot (there.told ∙ ap (λ (by : Owner). by_slot by number) same) in
     let left : taken_in (owned_in by_slot (without_orig number s).origs)
-    ≡ taken_in (with_held (owned_in by_slot s.origs) there.place None) =
-    ap taken_in (owned_removed by_slot s.origs number there.place there.at) in
+    ≡ taken_in (with_held (owned_in by_slot s.origs) there.seat None) =
+    ap taken_in (owned_removed by_slot s.origs number there.seat there.at) in
     record {
       rest = refl;
       jobs = untold_removed by_job s.origs number o is (ap (λ (by : Owner). by_job by number) same);
@@ -196,9 +196,9 @@ touches_lose s = record {
   told = λ event {s = t} plain h. on s t (with_event event t) refl refl refl h;
   globals = λ globals {s = t} h. on s t (record t { globals = globals }) refl refl refl h;
   changed = λ slot old new {s = t} there stays h. on s t (with_chan slot (Some new) t) refl refl refl h;
-  answers = λ place slot number {s = t} h.
-      loses_trans s t (orig_changed (leg_changed (λ position. with_answer position place) slot) number t) h
-      (changed_loses (leg_changed (λ position. with_answer position place) slot) (answer_keeps place slot) number t);
+  answers = λ seat slot number {s = t} h.
+      loses_trans s t (orig_changed (leg_changed (λ position. with_answer position seat) slot) number t) h
+      (changed_loses (leg_changed (λ position. with_answer position seat) slot) (answer_keeps seat slot) number t);
 }
 
 told_loses : (s : Switch) (event : Event) (t : Switch) → Loses s t → Loses s (with_event event t)
@@ -296,17 +296,19 @@ calls_by_losses P loses more = record {
         loses b s (record s { globals = globals }) h (loses_none s (record s { globals = globals }) refl refl refl);
     changed = λ slot old new {b = b} {s = s} there stays h.
         loses b s (with_chan slot (Some new) s) h (loses_none s (with_chan slot (Some new) s) refl refl refl);
-    answers = λ place slot number {b = b} {s = s} h.
-        loses b s (orig_changed (leg_changed (λ position. with_answer position place) slot) number s) h
-        (changed_loses (leg_changed (λ position. with_answer position place) slot) (answer_keeps place slot) number s);
+    answers = λ seat slot number {b = b} {s = s} h.
+        loses b s (orig_changed (leg_changed (λ position. with_answer position seat) slot) number s) h
+        (changed_loses (leg_changed (λ position. with_answer position seat) slot) (answer_keeps seat slot) number s);
   };
-  hung = λ named {b = b} {s = s} h. loses b s (after_hangups named s) h (hung_loses named s);
-  joined = λ kind caller answerer c d {b = b} {s = s} can there other one two idle spare h.
-      loses b s (joined_as kind caller answerer s) h (joined_loses kind caller answerer s);
-  leaves = λ slot {b = b} {s = s} lone h. loses b s (after_leaving slot s) h (left_loses slot s);
-  departs = λ slot {b = b} {s = s} h. loses b s (after_departure slot s) h (departed_loses slot s);
+  hung = λ named {s = s} early h. loses (Some 0) s (after_hangups named s) h (hung_loses named s);
+  joined = λ kind caller answerer c d {n = n} {s = s} can there other one two idle spare was were h.
+      loses (Some n) s (joined_as kind caller answerer s) h (joined_loses kind caller answerer s);
+  leaves = λ one other {s = s} first second early h. loses (Some 0) s (both_left one other s) h
+      (both_left_kept (λ (t : Switch). Loses s t) (λ named t k. loses_trans s t (after_hangups named t) k (hung_loses named t))
+      (λ slot t apart k. loses_trans s t (after_leaving slot t) k (left_loses slot t)) one other s first second (self s));
+  departs = λ slot {s = s} early h. loses (Some 0) s (after_departure slot s) h (departed_loses slot s);
   more = λ {s = s} h. more s h;
-  gone = λ slot old {s = s} there dead h.
+  gone = λ slot old {s = s} there dead early h.
       more (with_chan slot None s) (loses (Some 0) s (with_chan slot None s) h (loses_none s (with_chan slot None s) refl refl refl));
 }
 
@@ -339,7 +341,7 @@ bridge_won_loses slot leg s =
     bridge_won_kept (λ (t : Switch). Loses s t) (λ (t : Switch). Loses s t) (touches_lose s) slot leg
     (λ u can h. loses_trans s (joined_as Dial slot leg u) (after_move in_media leg (joined_as Dial slot leg u))
     (loses_trans s u (joined_as Dial slot leg u) h (joined_loses Dial slot leg u)) (moved_loses in_media leg (joined_as Dial slot leg u)))
-    (λ u h. loses_trans s u (after_bridge_failure NormalTemporaryFailure slot u) h (failure_loses NormalTemporaryFailure slot u)) s (self s)
+    (λ u cannot h. h) s (self s)
 
 -- ---- legs are made
 

@@ -4,13 +4,13 @@ use Rattle.std.proofs.lemmas.Bool.{ltb-false}
 use Rattle.std.proofs.lemmas.List.{length-map}
 use Rattle.fs_doc.specs.Reading.{Configuration}
 use Rattle.fs_orig.specs.declared.orig.Orig.{Orig}
-use Rattle.fs_places.specs.declared.numbered.Numbered.{Numbered}
-use Rattle.fs_places.specs.Places.{no_places}
-use Rattle.fs_places.proofs.TableLemmas.{none_held, taken_in, one_if, none_taken}
-use Rattle.fs_places.proofs.NumberLemmas.{none_numbered, Numbers}
+use Rattle.fs_seats.specs.declared.numbered.Numbered.{Numbered}
+use Rattle.fs_seats.specs.Seats.{no_seats}
+use Rattle.fs_seats.proofs.TableLemmas.{none_held, taken_in, one_if, none_taken}
+use Rattle.fs_seats.proofs.NumberLemmas.{none_numbered, Numbers}
 use Rattle.fs_state.specs.declared.job.Job.{Job}
 use Rattle.fs_state.specs.Switch.{Switch, empty, at_moment}
-use Rattle.fs_state.proofs.SlotLemmas.{no_places_length}
+use Rattle.fs_state.proofs.SlotLemmas.{no_seats_length}
 use Rattle.fs_machine.specs.declared.entry.Entry.{Entry}
 use Rattle.fs_machine.specs.Entries.{cost_of}
 use Rattle.fs_machine.specs.Step.{act_done, step, refusal_of}
@@ -46,18 +46,18 @@ holds_empty config small = record {
       alone = λ q r a c number is_a is_c ta tc. absurd (none_held 1024 q a is_a);
       within = λ p number is. absurd (none_owned by_job 1280 p number is);
       fewer = fewer;
-      job_places = no_places_length (Numbered Job) 1024;
-      orig_places = length-map (no_places {T = Numbered Orig} 1280) (owned_at by_job) ∙ no_places_length (Numbered Orig) 1280;
+      job_seats = no_seats_length (Numbered Job) 1024;
+      orig_seats = length-map (no_seats {T = Numbered Orig} 1280) (owned_at by_job) ∙ no_seats_length (Numbered Orig) 1280;
     };
   };
   paid = record { conns = omega arith; jobs = omega arith; origs = omega arith; limit = small };
 }
   where
-    fewer : taken_in (owned_in by_job (no_places {T = Numbered Orig} 1280)) ≤ trying_in (no_places {T = Numbered Job} 1024)
+    fewer : taken_in (owned_in by_job (no_seats {T = Numbered Orig} 1280)) ≤ trying_in (no_seats {T = Numbered Job} 1024)
     fewer =
-        let apart : taken_in (no_places {T = Numbered Orig} 1280) ≡ taken_in (owned_in by_job (no_places {T = Numbered Orig} 1280))
-        + taken_in (owned_in by_slot (no_places {T = Numbered Orig} 1280)) = taken_apart (no_places {T = Numbered Orig} 1280) in
-        let none : taken_in (no_places {T = Numbered Orig} 1280) ≡ 0 = none_taken {T = Numbered Orig} one_if 1280 refl in
+        let apart : taken_in (no_seats {T = Numbered Orig} 1280) ≡ taken_in (owned_in by_job (no_seats {T = Numbered Orig} 1280))
+        + taken_in (owned_in by_slot (no_seats {T = Numbered Orig} 1280)) = taken_apart (no_seats {T = Numbered Orig} 1280) in
+        let none : taken_in (no_seats {T = Numbered Orig} 1280) ≡ 0 = none_taken {T = Numbered Orig} one_if 1280 refl in
         omega (arith, apart, none)
 
 -- where few numbers were drawn, the next entry comes to all that it must, beside a fact that tells whose originations there are
@@ -67,9 +67,9 @@ pub holds_step : (s : Switch) (entry : Entry) (Q : Fact) → KeptByMoves (at_mom
     Holds (books_of (step s entry).state)
 unfolding step
 holds_step s entry Q kept owns numbers accepts slots q h =
-    let room : s.cost + 65600 ≤ s.config.settings.journal_limit =
-    ltb-false s.config.settings.journal_limit (s.cost + 65600) (not_full s entry accepts) in
-    let small : s.config.settings.journal_limit ≤ 1073741824 = h.paid.limit in
+    let room : s.cost + 65600 ≤ s.settings.journal_limit =
+    ltb-false s.settings.journal_limit (s.cost + 65600) (not_full s entry accepts) in
+    let small : s.settings.journal_limit ≤ 1073741824 = h.paid.limit in
     let paid_conns : 64 * s.drawn.conns ≤ s.cost = h.paid.conns in
     let paid_jobs : 64 * s.drawn.jobs ≤ s.cost = h.paid.jobs in
     let paid_origs : 64 * s.drawn.origs ≤ s.cost = h.paid.origs in
@@ -82,8 +82,8 @@ holds_step s entry Q kept owns numbers accepts slots q h =
     goes_acted entry.act (at_moment entry.moment s) Q kept owns numbers (not_refused s entry accepts) few h.sound slots q in
     after (act_done entry.act (at_moment entry.moment s)).state goes room small paid_conns paid_jobs paid_origs (some_cost entry.act)
   where
-    after : (t : Switch) → Goes (books_of s) (books_of t) → s.cost + 65600 ≤ s.config.settings.journal_limit →
-        s.config.settings.journal_limit ≤ 1073741824 →
+    after : (t : Switch) → Goes (books_of s) (books_of t) → s.cost + 65600 ≤ s.settings.journal_limit →
+        s.settings.journal_limit ≤ 1073741824 →
         64 * s.drawn.conns ≤ s.cost → 64 * s.drawn.jobs ≤ s.cost → 64 * s.drawn.origs ≤ s.cost → 64 ≤ cost_of entry.act →
         Holds (record (books_of t) { cost = min (t.cost + cost_of entry.act) (2 ^ 64 - 1) })
     after t goes room small paid_conns paid_jobs paid_origs some =
@@ -91,7 +91,7 @@ holds_step s entry Q kept owns numbers accepts slots q h =
         let jobs : t.drawn.jobs ≤ s.drawn.jobs + 1 = goes.near.jobs in
         let origs : t.drawn.origs ≤ s.drawn.origs + 1 = goes.near.origs in
         let cost : t.cost ≡ s.cost = goes.near.cost in
-        let limit : t.config.settings.journal_limit ≡ s.config.settings.journal_limit = goes.near.limit in
+        let limit : t.settings.journal_limit ≡ s.settings.journal_limit = goes.near.limit in
         record {
           sound = record { linked = goes.sound.linked; tries = goes.sound.tries };
           paid = record {
@@ -105,8 +105,8 @@ holds_step s entry Q kept owns numbers accepts slots q h =
 -- where an entry is not refused, few originations were drawn
 pub few_drawn : (s : Switch) (entry : Entry) → refusal_of s entry ≡ None → Holds (books_of s) → s.drawn.origs < 2 ^ 30
 few_drawn s entry accepts h =
-    let room : s.cost + 65600 ≤ s.config.settings.journal_limit =
-    ltb-false s.config.settings.journal_limit (s.cost + 65600) (not_full s entry accepts) in
-    let small : s.config.settings.journal_limit ≤ 1073741824 = h.paid.limit in
+    let room : s.cost + 65600 ≤ s.settings.journal_limit =
+    ltb-false s.settings.journal_limit (s.cost + 65600) (not_full s entry accepts) in
+    let small : s.settings.journal_limit ≤ 1073741824 = h.paid.limit in
     let paid : 64 * s.drawn.origs ≤ s.cost = h.paid.origs in
     omega (arith, room, small, paid)

@@ -3,18 +3,18 @@ use Rattle.std.proofs.Common.{◌≡◌, ℕ, zero, suc, ◌+◌, true, List, []
 use Rattle.std.specs.List.{slice_set}
 use Rattle.std.proofs.lemmas.Bool.{false≢true}
 use Rattle.std.proofs.lemmas.Option.{none-some, same_Some}
-use Rattle.fs_places.specs.Places.{no_places, held_in, with_held, least_free}
-use Rattle.fs_places.proofs.HeldLemmas.{nothing_held}
-use Rattle.fs_places.proofs.TableLemmas.{kept_without, HasRow, row_of_held, something_there, row_found, row_written, row_removed, row_added}
-use Rattle.fs_places.proofs.TableLemmas.{one_if, taken_in}
+use Rattle.fs_seats.specs.Seats.{no_seats, held_in, with_held, least_free}
+use Rattle.fs_seats.proofs.HeldLemmas.{nothing_held}
+use Rattle.fs_seats.proofs.TableLemmas.{kept_without, HasRow, row_of_held, something_there, row_found, row_written, row_removed, row_added}
+use Rattle.fs_seats.proofs.TableLemmas.{one_if, taken_in}
 use Rattle.std.proofs.lemmas.List.{set-get_or, map-set}
 use Rattle.std.proofs.lemmas.List.Sums.{sum_by-cons}
 use Rattle.fs_orig.specs.declared.orig.Orig.{Orig}
 use Rattle.fs_orig.specs.declared.orig.Owner.{Owner}
 use Rattle.fs_orig.specs.declared.orig.Owner.TheVariants as owner
-use Rattle.fs_places.specs.declared.numbered.Numbered.{Numbered}
-use Rattle.fs_places.specs.Rows.{has_number, place_of, row_of, with_held_at, with_row, without_row, with_new_row}
-use Rattle.fs_places.proofs.RowLemmas.{held_of, row_at, place_stands, free_least}
+use Rattle.fs_seats.specs.declared.numbered.Numbered.{Numbered}
+use Rattle.fs_seats.specs.Rows.{has_number, seat_of, row_of, with_held_at, with_row, without_row, with_new_row}
+use Rattle.fs_seats.proofs.RowLemmas.{held_of, row_at, seat_stands, free_least}
 use Rattle.fs_state.proofs.LegTables.{Origs}
 
 -- what is told of the owner of an origination
@@ -36,7 +36,7 @@ abbrev pub of_slot : Tells
 of_slot (owner.Job job) number = None
 of_slot (owner.Slot slot) number = Some number
 
--- the same of what stands at a place, and of a table
+-- the same of what stands at a seat, and of a table
 abbrev pub owned_at : Tells → Option (Numbered Orig) → Option ℕ
 owned_at of None = None
 owned_at of (Some row) = of row.held.owner row.number
@@ -44,60 +44,60 @@ owned_at of (Some row) = of row.held.owner row.number
 abbrev pub owned_in : Tells → Origs → List (Option ℕ)
 owned_in of origs = map (owned_at of) origs
 
-pub owned_held : (of : Tells) (origs : Origs) (place : ℕ) → held_in (owned_in of origs) place ≡ owned_at of (held_in origs place)
-owned_held of [] place = refl
+pub owned_held : (of : Tells) (origs : Origs) (seat : ℕ) → held_in (owned_in of origs) seat ≡ owned_at of (held_in origs seat)
+owned_held of [] seat = refl
 owned_held of (held ∷ more) zero = refl
-owned_held of (held ∷ more) (suc place) = owned_held of more place
+owned_held of (held ∷ more) (suc seat) = owned_held of more seat
 
--- what is told of the origination of a number, with its place
+-- what is told of the origination of a number, with its seat
 pub record IsOwnedAt (of : Tells) (origs : Origs) (number : ℕ) (o : Orig) : Type 0 where
-  pub place : ℕ
-  pub at : place_of origs number ≡ Some place
-  pub told : held_in (owned_in of origs) place ≡ of o.owner number
+  pub seat : ℕ
+  pub at : seat_of origs number ≡ Some seat
+  pub told : held_in (owned_in of origs) seat ≡ of o.owner number
 
 pub owned_there : (of : Tells) (origs : Origs) (number : ℕ) (o : Orig) → row_of origs number ≡ Some o → IsOwnedAt of origs number o
 owned_there of origs number o is =
     let found = row_found origs number o is in
     record {
-      place = found.0;
+      seat = found.0;
       at = found.2.at;
       told = owned_held of origs found.0
           ∙ (ap (owned_at of) found.2.there ∙ (ap (λ (y : Orig). of y.owner found.1.number) found.3 ∙ ap (of o.owner) found.2.numbered));
     }
 
 -- what stands there is written again
-written_again : (of : Tells) (origs : Origs) (place : ℕ) (told : Option ℕ) → told ≡ held_in (owned_in of origs) place →
-    slice_set (owned_in of origs) place told ≡ owned_in of origs
-written_again of origs place told same =
-    ap (λ (held : Option ℕ). slice_set (owned_in of origs) place held) same ∙ set-get_or (owned_in of origs) place None
+written_again : (of : Tells) (origs : Origs) (seat : ℕ) (told : Option ℕ) → told ≡ held_in (owned_in of origs) seat →
+    slice_set (owned_in of origs) seat told ≡ owned_in of origs
+written_again of origs seat told same =
+    ap (λ (held : Option ℕ). slice_set (owned_in of origs) seat held) same ∙ set-get_or (owned_in of origs) seat None
 
 -- an origination is changed that keeps its owner
 pub owned_changed : (of : Tells) (origs : Origs) (number : ℕ) (o x : Orig) → row_of origs number ≡ Some o → x.owner ≡ o.owner →
     owned_in of (with_row origs number x) ≡ owned_in of origs
 owned_changed of origs number o x is same =
     let there : IsOwnedAt of origs number o = owned_there of origs number o is in
-    ap (owned_in of) (row_written origs number there.place x there.at)
-    ∙ (map-set (owned_at of) origs there.place (Some (record { number = number; held = x }))
-    ∙ written_again of origs there.place (of x.owner number) (ap (λ (by : Owner). of by number) same ∙ sym there.told))
+    ap (owned_in of) (row_written origs number there.seat x there.at)
+    ∙ (map-set (owned_at of) origs there.seat (Some (record { number = number; held = x }))
+    ∙ written_again of origs there.seat (of x.owner number) (ap (λ (by : Owner). of by number) same ∙ sym there.told))
 
 -- one is gone
-pub owned_removed : (of : Tells) (origs : Origs) (number place : ℕ) → place_of origs number ≡ Some place →
-    owned_in of (without_row origs number) ≡ with_held (owned_in of origs) place None
-owned_removed of origs number place at = ap (owned_in of) (row_removed origs number place at) ∙ map-set (owned_at of) origs place None
+pub owned_removed : (of : Tells) (origs : Origs) (number seat : ℕ) → seat_of origs number ≡ Some seat →
+    owned_in of (without_row origs number) ≡ with_held (owned_in of origs) seat None
+owned_removed of origs number seat at = ap (owned_in of) (row_removed origs number seat at) ∙ map-set (owned_at of) origs seat None
 
 -- one comes
-pub owned_added : (of : Tells) (origs : Origs) (number place : ℕ) (x : Orig) → least_free origs 0 ≡ Some place →
-    owned_in of (with_new_row origs number x) ≡ with_held (owned_in of origs) place (of x.owner number)
-owned_added of origs number place x at =
-    ap (owned_in of) (row_added origs number place x at)
-    ∙ map-set (owned_at of) origs place (Some (record { number = number; held = x }))
+pub owned_added : (of : Tells) (origs : Origs) (number seat : ℕ) (x : Orig) → least_free origs 0 ≡ Some seat →
+    owned_in of (with_new_row origs number x) ≡ with_held (owned_in of origs) seat (of x.owner number)
+owned_added of origs number seat x at =
+    ap (owned_in of) (row_added origs number seat x at)
+    ∙ map-set (owned_at of) origs seat (Some (record { number = number; held = x }))
 
 -- one is gone of whose owner nothing is told
 pub untold_removed : (of : Tells) (origs : Origs) (number : ℕ) (o : Orig) → row_of origs number ≡ Some o → of o.owner number ≡ None →
     owned_in of (without_row origs number) ≡ owned_in of origs
 untold_removed of origs number o is none =
     let there : IsOwnedAt of origs number o = owned_there of origs number o is in
-    owned_removed of origs number there.place there.at ∙ written_again of origs there.place None (sym (there.told ∙ none))
+    owned_removed of origs number there.seat there.at ∙ written_again of origs there.seat None (sym (there.told ∙ none))
 
 -- one is gone that was not there
 no_thing : (number : ℕ) (held : Option (Numbered Orig)) → has_number number held ≡ true → held_of held ≡ None → ⊥
@@ -106,25 +106,25 @@ no_thing number (Some row) has none = something_there row.held none
 
 pub none_removed : (of : Tells) (origs : Origs) (number : ℕ) → row_of origs number ≡ None →
     owned_in of (without_row origs number) ≡ owned_in of origs
-none_removed of origs number none = by (place_of origs number) refl
+none_removed of origs number none = by (seat_of origs number) refl
   where
-    by : (found : Option ℕ) → place_of origs number ≡ found →
+    by : (found : Option ℕ) → seat_of origs number ≡ found →
         owned_in of (with_held_at {T = Numbered Orig} origs None found) ≡ owned_in of origs
     by None is = refl
-    by (Some place) is =
-        absurd (no_thing number (held_in origs place) (place_stands origs number place is) (sym (row_at origs number place is) ∙ none))
+    by (Some seat) is =
+        absurd (no_thing number (held_in origs seat) (seat_stands origs number seat is) (sym (row_at origs number seat is) ∙ none))
 
 -- whatever goes, what is left stood there before
-pub left_stood : (of : Tells) (origs : Origs) (number place told : ℕ) → held_in (owned_in of (without_row origs number)) place ≡ Some told →
-    held_in (owned_in of origs) place ≡ Some told
-left_stood of origs number place told is = by (place_of origs number) refl
+pub left_stood : (of : Tells) (origs : Origs) (number seat told : ℕ) → held_in (owned_in of (without_row origs number)) seat ≡ Some told →
+    held_in (owned_in of origs) seat ≡ Some told
+left_stood of origs number seat told is = by (seat_of origs number) refl
   where
-    by : (found : Option ℕ) → place_of origs number ≡ found → held_in (owned_in of origs) place ≡ Some told
+    by : (found : Option ℕ) → seat_of origs number ≡ found → held_in (owned_in of origs) seat ≡ Some told
     by None none =
-        sym (ap (λ (found : Option ℕ). held_in (owned_in of (with_held_at {T = Numbered Orig} origs None found)) place) none) ∙ is
+        sym (ap (λ (found : Option ℕ). held_in (owned_in of (with_held_at {T = Numbered Orig} origs None found)) seat) none) ∙ is
     by (Some gone) at =
-        (kept_without (owned_in of origs) gone place told
-        (sym (ap (λ (l : List (Option ℕ)). held_in l place) (owned_removed of origs number gone at)) ∙ is)).1
+        (kept_without (owned_in of origs) gone seat told
+        (sym (ap (λ (l : List (Option ℕ)). held_in l seat) (owned_removed of origs number gone at)) ∙ is)).1
 
 -- one comes of whose owner nothing is told
 pub untold_added : (of : Tells) (origs : Origs) (number : ℕ) (x : Orig) → of x.owner number ≡ None →
@@ -134,10 +134,10 @@ untold_added of origs number x none = by (least_free origs 0) refl
     by : (found : Option ℕ) → least_free origs 0 ≡ found →
         owned_in of (with_held_at {T = Numbered Orig} origs (Some (record { number = number; held = x })) found) ≡ owned_in of origs
     by None is = refl
-    by (Some place) is =
-        map-set (owned_at of) origs place (Some (record { number = number; held = x }))
-        ∙ written_again of origs place (of x.owner number)
-        (none ∙ sym (owned_held of origs place ∙ ap (owned_at of) (free_least origs place is).0))
+    by (Some seat) is =
+        map-set (owned_at of) origs seat (Some (record { number = number; held = x }))
+        ∙ written_again of origs seat (of x.owner number)
+        (none ∙ sym (owned_held of origs seat ∙ ap (owned_at of) (free_least origs seat is).0))
 
 -- each origination is owned by a job or by a slot
 pub taken_apart : (origs : Origs) → taken_in origs ≡ taken_in (owned_in by_job origs) + taken_in (owned_in by_slot origs)
@@ -161,27 +161,27 @@ taken_apart (held ∷ more) =
     either (Some row) = whose row.held.owner row.number
 
 -- what a job owns stands there
-pub job_there : (origs : Origs) (place number : ℕ) → held_in (owned_in by_job origs) place ≡ Some number →
-    (row : Numbered Orig) × (held_in origs place ≡ Some row) × (row.number ≡ number)
-job_there origs place number told = by (held_in origs place) refl (sym (owned_held by_job origs place) ∙ told)
+pub job_there : (origs : Origs) (seat number : ℕ) → held_in (owned_in by_job origs) seat ≡ Some number →
+    (row : Numbered Orig) × (held_in origs seat ≡ Some row) × (row.number ≡ number)
+job_there origs seat number told = by (held_in origs seat) refl (sym (owned_held by_job origs seat) ∙ told)
   where
     numbered : (by : Owner) (other : ℕ) → by_job by other ≡ Some number → other ≡ number
     numbered (owner.Job job) other is = same_Some other number is
     numbered (owner.Slot slot) other is = absurd (none-some number is)
 
-    by : (held : Option (Numbered Orig)) → held_in origs place ≡ held → owned_at by_job held ≡ Some number →
-        (row : Numbered Orig) × (held_in origs place ≡ Some row) × (row.number ≡ number)
+    by : (held : Option (Numbered Orig)) → held_in origs seat ≡ held → owned_at by_job held ≡ Some number →
+        (row : Numbered Orig) × (held_in origs seat ≡ Some row) × (row.number ≡ number)
     by None is told = absurd (none-some number told)
     by (Some row) is told = (row, is, numbered row.held.owner row.number told)
 
 -- so there is an origination of its number
-pub job_has_row : (origs : Origs) (place number : ℕ) → held_in (owned_in by_job origs) place ≡ Some number → HasRow origs number
-job_has_row origs place number told =
-    let there = job_there origs place number told in
-    subst (λ (n : ℕ). HasRow origs n) there.2 (row_of_held origs place there.0 there.1)
+pub job_has_row : (origs : Origs) (seat number : ℕ) → held_in (owned_in by_job origs) seat ≡ Some number → HasRow origs number
+job_has_row origs seat number told =
+    let there = job_there origs seat number told in
+    subst (λ (n : ℕ). HasRow origs n) there.2 (row_of_held origs seat there.0 there.1)
 
 -- in an empty table nobody owns any
-pub none_owned : (of : Tells) (count place number : ℕ) → held_in (owned_in of (no_places {T = Numbered Orig} count)) place ≡ Some number → ⊥
-none_owned of count place number told =
+pub none_owned : (of : Tells) (count seat number : ℕ) → held_in (owned_in of (no_seats {T = Numbered Orig} count)) seat ≡ Some number → ⊥
+none_owned of count seat number told =
     none-some number
-    (sym (owned_held of (no_places {T = Numbered Orig} count) place ∙ ap (owned_at of) (nothing_held (Numbered Orig) count place)) ∙ told)
+    (sym (owned_held of (no_seats {T = Numbered Orig} count) seat ∙ ap (owned_at of) (nothing_held (Numbered Orig) count seat)) ∙ told)

@@ -13,8 +13,8 @@ use Rattle.fs_bridge.proofs.SettledLemmas.{one_stands}
 use Rattle.fs_chan.specs.declared.chan.Chan.{Chan}
 use Rattle.fs_chan.specs.Changes.{hung_up, at_rest, parked}
 use Rattle.fs_chan.specs.Bridging.{awaited_by, unbridged}
-use Rattle.fs_places.specs.Places.{held_in, with_held}
-use Rattle.fs_places.proofs.HeldLemmas.{held_within}
+use Rattle.fs_seats.specs.Seats.{held_in, with_held}
+use Rattle.fs_seats.proofs.HeldLemmas.{held_within}
 use Rattle.fs_state.specs.Switch.{Switch, chan_at, with_chan}
 use Rattle.fs_state.specs.Moves.{after_one_hangup}
 use Rattle.fs_state.specs.Hangups.{world_of, living_of, after_hangups}
@@ -58,13 +58,13 @@ not_true false is = absurd (true≢false is)
 
 -- ---- who dials nothing
 
-hung_dials : (cause : Cause) (slot place : ℕ) (t : Switch) → DialsNone t slot → DialsNone (after_one_hangup cause place t) slot
-hung_dials cause slot place t none c is = by (hung_by cause place t)
+hung_dials : (cause : Cause) (slot seat : ℕ) (t : Switch) → DialsNone t slot → DialsNone (after_one_hangup cause seat t) slot
+hung_dials cause slot seat t none c is = by (hung_by cause seat t)
   where
-    by : HungAs cause place t (after_one_hangup cause place t).channels → awaited_by c ≡ None
+    by : HungAs cause seat t (after_one_hangup cause seat t).channels → awaited_by c ≡ None
     by (inl dead) = none c (sym (ap (λ (channels : Channels). held_in channels slot) dead.1) ∙ is)
     by (inr found) =
-        dials_put t slot place found.0 (hung_up cause found.0) found.1 (λ dialed. refl) none c
+        dials_put t slot seat found.0 (hung_up cause found.0) found.1 (λ dialed. refl) none c
         (sym (ap (λ (channels : Channels). held_in channels slot) found.2) ∙ is)
 
 -- it comes to rest, where its slot owns nothing

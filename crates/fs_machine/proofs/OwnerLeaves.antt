@@ -28,11 +28,11 @@ use Rattle.fs_machine.proofs.OwnerHangups.{rest_owned, hung_owned}
 abbrev Dials : Chan → Type 0
 Dials c = awaited_by c ≡ None
 
-dials_falls : (hangs : ℕ → Bool) (place : ℕ) (old new : Chan) → Falls hangs place old new → Dials old → Dials new
-dials_falls hangs place old new (Cut cause hung) h = refl
-dials_falls hangs place old new (Unbridged cause) h = h
-dials_falls hangs place old new (Rests outlives live) h = rest_dials old.socket old.state
-dials_falls hangs place old new (Parks outlives live) h = rest_dials old.socket CsPark
+dials_falls : (hangs : ℕ → Bool) (seat : ℕ) (old new : Chan) → Falls hangs seat old new → Dials old → Dials new
+dials_falls hangs seat old new (Cut cause hung) h = refl
+dials_falls hangs seat old new (Unbridged cause) h = h
+dials_falls hangs seat old new (Rests outlives live) h = rest_dials old.socket old.state
+dials_falls hangs seat old new (Parks outlives live) h = rest_dials old.socket CsPark
 
 -- a bridge ends
 freed_owned : (slot : ℕ) (s : Switch) → Owned (roles_of s) → Owned (roles_of (with_changed_chan (unbridged NormalClearing) slot s))

@@ -15,18 +15,18 @@ use Rattle.fs_orig.specs.declared.orig.Owner.TheVariants as owner
 use Rattle.fs_orig.specs.declared.orig.Owner.{Owner}
 use Rattle.fs_orig.specs.Legs.{position_in}
 use Rattle.fs_orig.specs.Changes.{with_death}
-use Rattle.fs_places.specs.Places.{held_in, with_held}
-use Rattle.fs_places.specs.Rows.{place_of, row_of, with_row, without_row, with_new_row}
-use Rattle.fs_places.proofs.HeldLemmas.{held_here, held_there, held_within}
-use Rattle.fs_places.proofs.TableLemmas.{IsWrittenOrKept, written_or_kept}
-use Rattle.fs_places.proofs.RowLemmas.{AreDistinct, AreWithin, above_nowhere, distinct_same, numbers-with_row, place_of-without_row_same}
-use Rattle.fs_places.proofs.RowLemmas.{distinct-without_row, within-without_row, distinct-with_new_row, within-with_new_row, row_none}
-use Rattle.fs_places.proofs.RowLemmas.{row_of-with_row_same, row_of-with_row_other, row_of-without_row_other, row_of-with_new_row}
-use Rattle.fs_places.proofs.RowLemmas.{row_of-with_new_row_other}
+use Rattle.fs_seats.specs.Seats.{held_in, with_held}
+use Rattle.fs_seats.specs.Rows.{seat_of, row_of, with_row, without_row, with_new_row}
+use Rattle.fs_seats.proofs.HeldLemmas.{held_here, held_there, held_within}
+use Rattle.fs_seats.proofs.TableLemmas.{IsWrittenOrKept, written_or_kept}
+use Rattle.fs_seats.proofs.RowLemmas.{AreDistinct, AreWithin, above_nowhere, distinct_same, numbers-with_row, seat_of-without_row_same}
+use Rattle.fs_seats.proofs.RowLemmas.{distinct-without_row, within-without_row, distinct-with_new_row, within-with_new_row, row_none}
+use Rattle.fs_seats.proofs.RowLemmas.{row_of-with_row_same, row_of-with_row_other, row_of-without_row_other, row_of-with_new_row}
+use Rattle.fs_seats.proofs.RowLemmas.{row_of-with_new_row_other}
 use Rattle.fs_state.specs.Switch.{Switch, chan_at, with_chan, orig_of, without_orig, with_event}
 use Rattle.fs_state.specs.Moves.{with_state_events, orig_changed_from, orig_changed, leg_changed, its_leg_changed, hangup_event}
 use Rattle.fs_state.specs.Moves.{after_hangup_from, after_one_hangup, given_up_by, orig_given_up, is_owner, leg_changed_at}
-use Rattle.fs_state.proofs.LegTables.{Origs, row_there, HasPlace}
+use Rattle.fs_state.proofs.LegTables.{Origs, row_there, HasSeat}
 use Rattle.fs_machine.proofs.LegLemmas.{Channels, within_same, Roles, roles_of, cut_roles}
 
 -- is there.
@@ -167,8 +167,8 @@ came_with origs number p x there same n o is = by (cases_eq number n)
   where
     by : (number ≡ n) ⊎ (number ≡ n → ⊥) → (q : Orig) × (row_of origs n ≡ Some q) × (o.owner ≡ q.owner)
     by (inl here) =
-        let place : HasPlace origs number p = row_there origs number p there in
-        let now : row_of (with_row origs number x) number ≡ Some x = row_of-with_row_same origs number place.0 x place.1 in
+        let seat : HasSeat origs number p = row_there origs number p there in
+        let now : row_of (with_row origs number x) number ≡ Some x = row_of-with_row_same origs number seat.0 x seat.1 in
         let new : x ≡ o = same_Some x o (sym now ∙ (ap (row_of (with_row origs number x)) here ∙ is)) in
         (p, ap (row_of origs) (sym here) ∙ there, ap (λ (y : Orig). y.owner) (sym new) ∙ same)
     by (inr other) = (o, sym (row_of-with_row_other origs number x n other) ∙ is, refl)
@@ -176,7 +176,7 @@ came_with origs number p x there same n o is = by (cases_eq number n)
 -- nothing has the number of what is gone
 gone_row : (origs : Origs) (number : ℕ) (o : Orig) → AreDistinct origs → row_of (without_row origs number) number ≡ Some o → ⊥
 gone_row origs number o distinct is =
-    none-some o (sym (row_none (without_row origs number) number (place_of-without_row_same origs number distinct)) ∙ is)
+    none-some o (sym (row_none (without_row origs number) number (seat_of-without_row_same origs number distinct)) ∙ is)
 
 pub came_without : (origs : Origs) (number : ℕ) → AreDistinct origs → Came origs (without_row origs number)
 came_without origs number distinct n o is = by (cases_eq number n)
@@ -406,7 +406,7 @@ slot_in (owner.Slot slot) = slot
 pub more_owned : (r : Roles) (number : ℕ) → number ≡ r.drawn + 1 → Owned r → Owned (record r { drawn = number })
 more_owned r number next h = record {
   distinct = h.distinct;
-  within = λ n place stands. let less : n ≤ r.drawn = h.within n place stands in omega (arith, less, next);
+  within = λ n seat stands. let less : n ≤ r.drawn = h.within n seat stands in omega (arith, less, next);
   wait = h.wait;
   own = h.own;
   drawn = λ slot n c there awaits. let less : n ≤ r.drawn = h.drawn slot n c there awaits in omega (arith, less, next);
@@ -414,7 +414,7 @@ more_owned r number next h = record {
 }
 
 -- it comes: its owner waits for it, and whoever waits for it owns it
-pub added_owned : (r : Roles) (number : ℕ) (o : Orig) → place_of r.origs number ≡ None → number ≤ r.drawn →
+pub added_owned : (r : Roles) (number : ℕ) (o : Orig) → seat_of r.origs number ≡ None → number ≤ r.drawn →
     ((slot : ℕ) → o.owner ≡ owner.Slot slot → IsWaiting r.channels slot number) →
     ((slot : ℕ) (c : Chan) → held_in r.channels slot ≡ Some c → awaited_by c ≡ Some number → o.owner ≡ owner.Slot slot) → Owned r →
     Owned (record r { origs = with_new_row r.origs number o })
@@ -488,7 +488,7 @@ dialed_owned r slot number c o next there live none lone is h =
     put : Roles
     put = record more { channels = with_held r.channels slot (Some (awaiting number c)) }
 
-    nowhere : place_of r.origs number ≡ None
+    nowhere : seat_of r.origs number ≡ None
     nowhere = above_nowhere r.origs r.drawn number h.within (omega (arith, next))
 
     waits : (at : ℕ) → o.owner ≡ owner.Slot at → IsWaiting put.channels at number

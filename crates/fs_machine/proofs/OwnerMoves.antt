@@ -1,16 +1,17 @@
 -- Each act leaves those waiting that own what they dialed, and whoever waits owns what it waits for, if that is there.
 use Rattle.std.proofs.Common.{◌≡◌, ℕ, ◌+◌, ◌-◌, ◌<◌, ◌^◌, Bool, true, false, if◌then◌else◌, List, [], ◌∷◌, Option, None, Some}
-use Rattle.std.proofs.Common.{option_and_then, unwrap_or, refl, sym, ap, subst, ◌∙◌, arith, true≢false, ◌≤◌, ◌==◌, length-set}
+use Rattle.std.proofs.Common.{option_and_then, unwrap_or, refl, sym, ap, subst, ◌∙◌, arith, true≢false, ◌≤◌, ◌==◌, ◌++◌, map, length-set}
 use Rattle.std.specs.Prelude.{is_some}
 use Rattle.std.proofs.lemmas.Bool.{false≢true, eqb-true}
 use Rattle.std.proofs.lemmas.Option.{none-some, same_Some}
 use Rattle.std.proofs.lemmas.Cmp.{nat_eq_equiv}
 use Rattle.fs_text.specs.declared.causes.Cause.{Cause}
-use Rattle.fs_text.specs.declared.causes.Cause.TheVariants.{NormalTemporaryFailure}
+use Rattle.fs_text.specs.declared.causes.Cause.TheVariants.{OriginatorCancel}
 use Rattle.fs_text.specs.Texts.{Text}
 use Rattle.fs_text.specs.Cause.{cause_name}
 use Rattle.fs_bridge.specs.declared.row.BridgeKind.{BridgeKind}
 use Rattle.fs_bridge.specs.declared.row.BridgeKind.TheVariants.{Dial}
+use Rattle.fs_bridge.specs.Closure.{Members}
 use Rattle.fs_chan.specs.declared.chan.Chan.{Chan}
 use Rattle.fs_chan.specs.declared.wait.Wait.{Wait}
 use Rattle.fs_chan.specs.declared.wait.Wait.TheVariants.{Legs, Bridged}
@@ -26,11 +27,11 @@ use Rattle.fs_orig.specs.declared.winner.Winner.TheVariants.{App, Route}
 use Rattle.fs_orig.specs.Legs.{is_at}
 use Rattle.fs_orig.specs.Changes.{with_answer, may_enter_next, at_next_group}
 use Rattle.fs_orig.specs.Plans.{all_behind}
-use Rattle.fs_places.specs.declared.numbered.Numbered.{Numbered}
-use Rattle.fs_places.specs.Places.{held_in, with_held}
-use Rattle.fs_places.specs.Rows.{has_number}
-use Rattle.fs_places.proofs.HeldLemmas.{IsFree, held_within}
-use Rattle.fs_places.proofs.NumberLemmas.{Numbers}
+use Rattle.fs_seats.specs.declared.numbered.Numbered.{Numbered}
+use Rattle.fs_seats.specs.Seats.{held_in, with_held}
+use Rattle.fs_seats.specs.Rows.{has_number}
+use Rattle.fs_seats.proofs.HeldLemmas.{IsFree, held_within}
+use Rattle.fs_seats.proofs.NumberLemmas.{Numbers}
 use Rattle.fs_state.specs.declared.conn.Conn.{Conn}
 use Rattle.fs_state.specs.declared.conn.Parting.TheVariants as parting
 use Rattle.fs_state.specs.declared.job.JobWork.{JobWork}
@@ -38,10 +39,10 @@ use Rattle.fs_state.specs.declared.job.JobWork.TheVariants.{Sleep, Originate}
 use Rattle.fs_state.specs.Switch.{Switch, chan_at, with_chan, next_orig_number, orig_of, without_orig, with_new_job, without_job}
 use Rattle.fs_state.specs.Switch.{with_bridge, next_job_number}
 use Rattle.fs_state.specs.Moves.{after_move_from, orig_changed, leg_changed, after_move, orig_given_up}
-use Rattle.fs_state.specs.Hangups.{after_hangups}
+use Rattle.fs_state.specs.Hangups.{legs_at, after_hangups}
 use Rattle.fs_state.specs.Bridging.{peer_of, with_peer_from, with_peer, joined_as}
-use Rattle.fs_state.proofs.LegTables.{seated}
-use Rattle.fs_machine.specs.declared.originations.Call.{Call}
+use Rattle.fs_state.proofs.LegTables.{berthed}
+use Rattle.fs_machine.specs.declared.call.Call.{Call}
 use Rattle.fs_machine.specs.Texts.{made_text, failed_text}
 use Rattle.fs_machine.specs.Connections.{conn_changed, admitted, parted, owed_since, not_owed, with_subs_changed}
 use Rattle.fs_machine.specs.Originations.{pair_made, MadeGroup, group_made, won_by, after_winning}
@@ -51,12 +52,12 @@ use Rattle.fs_machine.specs.Sound.{Awaits, IsOwnedBy}
 use Rattle.fs_machine.specs.Bridging.{caller_of, group_dialed, goes_on, after_going_on, bridge_failed_from, after_bridge_failure}
 use Rattle.fs_machine.specs.Bridging.{after_bridge_win, disposed}
 use Rattle.fs_machine.specs.Dialing.{tried_by_slot}
-use Rattle.fs_machine.specs.Joining.{after_leaving}
+use Rattle.fs_machine.specs.Joining.{after_leaving, both_left}
 use Rattle.fs_machine.specs.Leaving.{after_departure}
 use Rattle.fs_state.specs.Leaving.{after_leaving_others}
 use Rattle.fs_machine.proofs.NameLemmas.{leg_chan, far_chan, pair_channels}
 use Rattle.fs_machine.proofs.Kept.{Stage, Fact, Links, Stays, KeptByTouches, KeptByCalls, KeptByBirths, KeptByDials, raced, KeptByMoves}
-use Rattle.fs_machine.proofs.Kept.{hold_in, IsApt, IsAtWork}
+use Rattle.fs_machine.proofs.Kept.{hold_in, IsApt, IsAtWork, apart_by}
 use Rattle.fs_machine.proofs.StayLemmas.{state_told_kept, moved_there, changed_there}
 use Rattle.fs_machine.proofs.HangLemmas.{given_up_kept}
 use Rattle.fs_machine.proofs.Walk.{disposed_kept, group_made_kept}
@@ -71,7 +72,8 @@ use Rattle.fs_machine.proofs.OwnerLemmas.{given_up_owned, given_up_none, begun_o
 use Rattle.fs_machine.proofs.JoinLemmas.{rest_dials}
 use Rattle.fs_machine.proofs.OwnerHangups.{rest_owned, hung_owned}
 use Rattle.fs_machine.proofs.OwnerLeaves.{others_owned}
-use Rattle.fs_machine.proofs.LegMoves.{orig_changed_drawn, hung_drawn, left_drawn, departed_drawn, joined_drawn, group_drawn, conn_roles, won_roles}
+use Rattle.fs_machine.proofs.LegMoves.{orig_changed_drawn, hung_drawn, both_left_drawn, departed_drawn, joined_drawn, group_drawn}
+use Rattle.fs_machine.proofs.LegMoves.{conn_roles, won_roles}
 use Rattle.fs_machine.proofs.LegMoves.{same_next}
 
 -- ---- the fact
@@ -129,22 +131,22 @@ awaited_held (Legs orig) = refl
 awaited_held Bridged = refl
 awaited_held _ = refl
 
-stays_awaits : (old new : Chan) → Stays old new → awaited_by new ≡ awaited_by old
+stays_awaits : {b : Stage} (old new : Chan) → Stays b old new → awaited_by new ≡ awaited_by old
 stays_awaits old new stays =
     sym (awaited_held new.wait) ∙ (ap (λ (l : Links). awaited_in l.hold) stays.links ∙ awaited_held old.wait)
 
-stays_owned : (slot : ℕ) (old new : Chan) (s : Switch) → chan_at s slot ≡ Some old → Stays old new → Owned (roles_of s) →
+stays_owned : {b : Stage} (slot : ℕ) (old new : Chan) (s : Switch) → chan_at s slot ≡ Some old → Stays b old new → Owned (roles_of s) →
     Owned (roles_of (with_chan slot (Some new) s))
 stays_owned slot old new s there stays h =
     alike_owned (roles_of s) slot old new there (stays_awaits old new stays) stays.live (ap (λ (l : Links). l.leg_of) stays.links) h
 
-answer_keeps : (place slot : ℕ) → KeepsOwner (leg_changed (λ position. with_answer position place) slot)
-answer_keeps place slot = leg_keeps (λ position. with_answer position place) slot (λ position o. refl)
+answer_keeps : (seat slot : ℕ) → KeepsOwner (leg_changed (λ position. with_answer position seat) slot)
+answer_keeps seat slot = leg_keeps (λ position. with_answer position seat) slot (λ position o. refl)
 
-answered_owned : (place slot number : ℕ) (s : Switch) → Owned (roles_of s) →
-    Owned (roles_of (orig_changed (leg_changed (λ position. with_answer position place) slot) number s))
-answered_owned place slot number s h =
-    changed_owned (leg_changed (λ position. with_answer position place) slot) number s (answer_keeps place slot) h
+answered_owned : (seat slot number : ℕ) (s : Switch) → Owned (roles_of s) →
+    Owned (roles_of (orig_changed (leg_changed (λ position. with_answer position seat) slot) number s))
+answered_owned seat slot number s h =
+    changed_owned (leg_changed (λ position. with_answer position seat) slot) number s (answer_keeps seat slot) h
 
 -- what it dialed is given up, and it comes to rest
 left_owned : (slot : ℕ) (s : Switch) → Owned (roles_of s) → Owned (roles_of (after_leaving slot s))
@@ -169,6 +171,13 @@ left_owned slot s h =
         let was : chan_at s slot ≡ Some c = sym (ap (λ (channels : Channels). held_in channels slot) same) ∙ there in
         subst (λ (aw : Option ℕ). OwnsNone (orig_given_up slot aw s).origs slot) (sym (ap (option_and_then awaited_by) was))
         (given_up_none slot c s was h)
+
+-- two leave, once the legs are hung up that they dialed
+both_left_owned : (a b : ℕ) (s : Switch) → Bonds s → Owned (roles_of s) → Owned (roles_of (both_left a b s))
+both_left_owned a b s bonds h =
+    let named : Members = map (λ slot. (slot, OriginatorCancel)) (legs_at s a ++ legs_at s b) in
+    let t : Switch = after_hangups named s in
+    left_owned b (after_leaving a t) (left_owned a t (hung_owned named s bonds h))
 
 gone_owned : (slot : ℕ) (old : Chan) (s : Switch) → chan_at s slot ≡ Some old → is_live old ≡ false → Owned (roles_of s) →
     Owned (roles_of (with_chan slot None s))
@@ -373,16 +382,16 @@ module _ (before : Switch) (bonding : KeptByMoves before Bonding) where
         second = h.none.second;
       };
     };
-    answers = λ place slot number {b = k} {s = s} h.
-        let came : Came s.origs (orig_changed (leg_changed (λ position. with_answer position place) slot) number s).origs =
-        changed_came (leg_changed (λ position. with_answer position place) slot) number s (answer_keeps place slot) in
+    answers = λ seat slot number {b = k} {s = s} h.
+        let came : Came s.origs (orig_changed (leg_changed (λ position. with_answer position seat) slot) number s).origs =
+        changed_came (leg_changed (λ position. with_answer position seat) slot) number s (answer_keeps seat slot) in
         record {
-          bonds = bonding.calls.touches.answers place slot number {b = k} {s = s} h.bonds;
+          bonds = bonding.calls.touches.answers seat slot number {b = k} {s = s} h.bonds;
           none = record {
-            owned = answered_owned place slot number s h.none.owned;
-            first = none_came s.origs (orig_changed (leg_changed (λ position. with_answer position place) slot) number s).origs a came
+            owned = answered_owned seat slot number s h.none.owned;
+            first = none_came s.origs (orig_changed (leg_changed (λ position. with_answer position seat) slot) number s).origs a came
                 h.none.first;
-            second = none_came s.origs (orig_changed (leg_changed (λ position. with_answer position place) slot) number s).origs b came
+            second = none_came s.origs (orig_changed (leg_changed (λ position. with_answer position seat) slot) number s).origs b came
                 h.none.second;
           };
         };
@@ -415,10 +424,10 @@ module _ (before : Switch) (bonding : KeptByMoves before Bonding) where
       bridge_won_kept (λ (t : Switch). Unowning slot leg t) (λ (t : Switch). Owned (roles_of t)) (unowning_touches slot leg) slot leg
       (λ t can k. let both : OwnNone slot leg (joined_as Dial slot leg t) = joined_none Dial slot leg t k.none in
       media_owned leg (joined_as Dial slot leg t) both.owned both.second)
-      (λ t k. bridge_failed_owned NormalTemporaryFailure slot leg t k) s h
+      (λ t cannot k. k.none.owned) s h
 
 -- what has won dials nothing
-leg_none : (orig : ℕ) (leg : OrigLeg) (s : Switch) → IsLegOf s.channels (seated orig leg.slot) → Owned (roles_of s) →
+leg_none : (orig : ℕ) (leg : OrigLeg) (s : Switch) → IsLegOf s.channels (berthed orig leg.slot) → Owned (roles_of s) →
     OwnsNone s.origs (unwrap_or leg.slot 0)
 leg_none orig leg s stands h =
     let at : chan_at s (unwrap_or leg.slot 0) ≡ Some stands.chan =
@@ -432,7 +441,7 @@ winner_dials : (winner : Winner) (c : Chan) → awaited_by (won_by winner c) ≡
 winner_dials (App application argument) c = refl
 winner_dials (Route to) c = refl
 
-won_owned : (winner : Winner) (orig : ℕ) (leg : OrigLeg) (s : Switch) → IsLegOf s.channels (seated orig leg.slot) → Owned (roles_of s) →
+won_owned : (winner : Winner) (orig : ℕ) (leg : OrigLeg) (s : Switch) → IsLegOf s.channels (berthed orig leg.slot) → Owned (roles_of s) →
     Owned (roles_of (without_orig orig (after_winning winner (unwrap_or leg.slot 0) s)))
 won_owned winner orig leg s stands h =
     let slot : ℕ = unwrap_or leg.slot 0 in
@@ -456,40 +465,41 @@ module _ (before : Switch) (stand : LegsStand (roles_of before)) (bonding : Kept
       owned = stays_owned slot old new s there stays h.owned;
       room = h.room;
     };
-    answers = λ place slot number {b = b} {s = s} h. record {
-      bonds = bonding.calls.touches.answers place slot number {b = b} {s = s} h.bonds;
-      owned = answered_owned place slot number s h.owned;
-      room = room_same b s (orig_changed (leg_changed (λ position. with_answer position place) slot) number s)
-          (orig_changed_drawn (leg_changed (λ position. with_answer position place) slot) number s) h.room;
+    answers = λ seat slot number {b = b} {s = s} h. record {
+      bonds = bonding.calls.touches.answers seat slot number {b = b} {s = s} h.bonds;
+      owned = answered_owned seat slot number s h.owned;
+      room = room_same b s (orig_changed (leg_changed (λ position. with_answer position seat) slot) number s)
+          (orig_changed_drawn (leg_changed (λ position. with_answer position seat) slot) number s) h.room;
     };
   }
 
   owning_calls : KeptByCalls Owning
   owning_calls = record {
     touches = owning_touches;
-    hung = λ named {b = b} {s = s} h. record {
-      bonds = bonding.calls.hung named {b = b} {s = s} h.bonds;
+    hung = λ named {s = s} early h. record {
+      bonds = bonding.calls.hung named {s = s} early.bonds h.bonds;
       owned = hung_owned named s h.bonds h.owned;
-      room = room_same b s (after_hangups named s) (hung_drawn named s) h.room;
+      room = tt;
     };
-    joined = λ kind a b c d {b = k} {s = s} can one two lone alone first second h. record {
-      bonds = bonding.calls.joined kind a b c d {b = k} {s = s} can one two lone alone first second h.bonds;
+    joined = λ kind a b c d {n = n} {s = s} can one two lone alone first second was were h. record {
+      bonds = bonding.calls.joined kind a b c d {n = n} {s = s} can one two lone alone first second
+          (apart_by a was (λ t k. k.bonds)) (apart_by b were (λ t k. k.bonds)) h.bonds;
       owned = joined_owned kind a b c d s one two first second h.owned;
-      room = room_same k s (joined_as kind a b s) (joined_drawn kind a b s) h.room;
+      room = tt;
     };
-    leaves = λ slot {b = b} {s = s} apart h. record {
-      bonds = bonding.calls.leaves slot {b = b} {s = s} apart h.bonds;
-      owned = left_owned slot s h.owned;
-      room = room_same b s (after_leaving slot s) (left_drawn slot s) h.room;
+    leaves = λ one other {s = s} first second early h. record {
+      bonds = bonding.calls.leaves one other {s = s} first second early.bonds h.bonds;
+      owned = both_left_owned one other s h.bonds h.owned;
+      room = tt;
     };
-    departs = λ slot {b = b} {s = s} h. record {
-      bonds = bonding.calls.departs slot {b = b} {s = s} h.bonds;
+    departs = λ slot {s = s} early h. record {
+      bonds = bonding.calls.departs slot {s = s} early.bonds h.bonds;
       owned = left_owned slot (after_leaving_others slot s) (others_owned slot s h.bonds h.owned);
-      room = room_same b s (after_departure slot s) (departed_drawn slot s) h.room;
+      room = tt;
     };
     more = λ {s = s} h. record { bonds = bonding.calls.more {s = s} h.bonds; owned = h.owned; room = tt };
-    gone = λ slot old {s = s} there dead h. record {
-      bonds = bonding.calls.gone slot old {s = s} there dead h.bonds;
+    gone = λ slot old {s = s} there dead early h. record {
+      bonds = bonding.calls.gone slot old {s = s} there dead early.bonds h.bonds;
       owned = gone_owned slot old s there dead h.owned;
       room = tt;
     };
@@ -508,10 +518,10 @@ module _ (before : Switch) (stand : LegsStand (roles_of before)) (bonding : Kept
       owned = regroups_owned number plans caller s h.owned;
       room = tt;
     };
-    fails = λ slot orig cause {s = s} waits h.
+    fails = λ slot orig cause {s = s} waits over h.
         let none : OwnsNone (without_orig orig s).origs slot = without_none orig slot s h.owned (waits_for slot orig s waits) in
         record {
-          bonds = bonding.dials.fails slot orig cause {s = s} waits h.bonds;
+          bonds = bonding.dials.fails slot orig cause {s = s} waits over h.bonds;
           owned = bridge_failed_owned before bonding cause slot slot (without_orig orig s)
               (record { bonds = h.bonds; none = record { owned = without_owned orig s h.owned; first = none; second = none } });
           room = tt;
@@ -550,8 +560,8 @@ module _ (before : Switch) (stand : LegsStand (roles_of before)) (bonding : Kept
         owned = ended_owned number conn answer s h.owned;
         room = tt;
       };
-      failed = λ job conn winner caller orig cause {s = s} does h. record {
-        bonds = bonding.jobs.failed job conn winner caller orig cause {s = s} does h.bonds;
+      failed = λ job conn winner caller orig cause {s = s} does over h. record {
+        bonds = bonding.jobs.failed job conn winner caller orig cause {s = s} does over h.bonds;
         owned = ended_owned job conn (failed_text cause) (without_orig orig s) (without_owned orig s h.owned);
         room = tt;
       };
@@ -567,10 +577,10 @@ module _ (before : Switch) (stand : LegsStand (roles_of before)) (bonding : Kept
     dials = owning_dials;
     commands = λ conn. record {
       spent = λ {s = s} h. record { bonds = (bonding.commands conn).spent {s = s} h.bonds; owned = h.owned; room = tt };
+      noticed = λ frame {b = b} {s = s} h.
+          record { bonds = (bonding.commands conn).noticed frame {b = b} {s = s} h.bonds; owned = h.owned; room = h.room };
       gave = λ frame {b = b} {s = s} h.
           record { bonds = (bonding.commands conn).gave frame {b = b} {s = s} h.bonds; owned = h.owned; room = h.room };
-      answered = λ frame {b = b} {s = s} h.
-          record { bonds = (bonding.commands conn).answered frame {b = b} {s = s} h.bonds; owned = h.owned; room = h.room };
       asked = λ change {n = n} {s = s} h. record {
         bonds = (bonding.commands conn).asked change {n = n} {s = s} h.bonds;
         owned = conn_owned (with_subs_changed change) conn s h.owned;

@@ -14,13 +14,13 @@ use Rattle.fs_chan.specs.Changes.{is_live, at_rest, parked, hung_up}
 use Rattle.fs_orig.specs.declared.orig.Orig.{Orig}
 use Rattle.fs_orig.specs.declared.winner.Winner.{Winner}
 use Rattle.fs_orig.specs.declared.winner.Winner.TheVariants.{App, Route}
-use Rattle.fs_places.specs.Places.{held_in, with_held}
-use Rattle.fs_places.proofs.HeldLemmas.{IsFree, held_here, held_there, held_within}
+use Rattle.fs_seats.specs.Seats.{held_in, with_held}
+use Rattle.fs_seats.proofs.HeldLemmas.{IsFree, held_here, held_there, held_within}
 use Rattle.fs_state.specs.Switch.{Switch, chan_at, with_chan, without_bridge, without_orig, with_event}
 use Rattle.fs_state.specs.Moves.{after_move_from, after_move, orig_changed, partner_of, after_one_hangup}
 use Rattle.fs_state.specs.Hangups.{world_of, living_of, Ended, after_ends, is_leg_of, with_end_told, untold_by, after_member, after_members}
 use Rattle.fs_state.specs.Hangups.{after_survivals, after_hangups}
-use Rattle.fs_machine.specs.declared.originations.Call.{Call}
+use Rattle.fs_machine.specs.declared.call.Call.{Call}
 use Rattle.fs_machine.specs.Originations.{pair_made, won_by, after_winning}
 use Rattle.fs_machine.proofs.Kept.{Stage, Fact, Remains, KeptByBirths, raced, KeptByMoves}
 use Rattle.fs_machine.proofs.StayLemmas.{new_lives, execute_lives, routing_lives, park_lives, exchange_lives, state_told_kept, moved_there}
@@ -39,39 +39,39 @@ record Spared (s t : Switch) (slot : ℕ) : Type 0 where
   names : named_in partner_of t.channels slot ≡ named_in partner_of s.channels slot
   live : lives_in s.channels slot ≡ true → lives_in t.channels slot ≡ true
 
-spared_put : (s t : Switch) (slot place : ℕ) (old new : Chan) → chan_at t place ≡ Some old →
-    (slot ≡ place → (new.partner ≡ old.partner) × (is_live old ≡ true → is_live new ≡ true)) → Spared s t slot →
-    Spared s (with_chan place (Some new) t) slot
-spared_put s t slot place old new there keeps h = by (cases_eq slot place)
+spared_put : (s t : Switch) (slot seat : ℕ) (old new : Chan) → chan_at t seat ≡ Some old →
+    (slot ≡ seat → (new.partner ≡ old.partner) × (is_live old ≡ true → is_live new ≡ true)) → Spared s t slot →
+    Spared s (with_chan seat (Some new) t) slot
+spared_put s t slot seat old new there keeps h = by (cases_eq slot seat)
   where
-    here : slot ≡ place → chan_at t slot ≡ Some old
+    here : slot ≡ seat → chan_at t slot ≡ Some old
     here same = ap (held_in t.channels) same ∙ there
 
-    now : slot ≡ place → held_in (with_held t.channels place (Some new)) slot ≡ Some new
+    now : slot ≡ seat → held_in (with_held t.channels seat (Some new)) slot ≡ Some new
     now same =
-        ap (held_in (with_held t.channels place (Some new))) same
-        ∙ held_here t.channels place (Some new) (held_within t.channels place old there)
+        ap (held_in (with_held t.channels seat (Some new))) same
+        ∙ held_here t.channels seat (Some new) (held_within t.channels seat old there)
 
-    by : (slot ≡ place) ⊎ (slot ≡ place → ⊥) → Spared s (with_chan place (Some new) t) slot
+    by : (slot ≡ seat) ⊎ (slot ≡ seat → ⊥) → Spared s (with_chan seat (Some new) t) slot
     by (inl same) = record {
       names = ap (option_and_then partner_of) (now same) ∙ (keeps same).0 ∙ (sym (ap (option_and_then partner_of) (here same)) ∙ h.names);
       live = λ lived. ap lives_as (now same) ∙ (keeps same).1 (sym (ap lives_as (here same)) ∙ h.live lived);
     }
     by (inr other) = record {
-      names = ap (option_and_then partner_of) (held_there t.channels place slot (Some new) other) ∙ h.names;
-      live = λ lived. ap lives_as (held_there t.channels place slot (Some new) other) ∙ h.live lived;
+      names = ap (option_and_then partner_of) (held_there t.channels seat slot (Some new) other) ∙ h.names;
+      live = λ lived. ap lives_as (held_there t.channels seat slot (Some new) other) ∙ h.live lived;
     }
 
-spared_falls : (hangs : ℕ → Bool) (s t : Switch) (slot place : ℕ) (old new : Chan) → hangs slot ≡ false → chan_at t place ≡ Some old →
-    Falls hangs place old new → Spared s t slot → Spared s (with_chan place (Some new) t) slot
-spared_falls hangs s t slot place old new stays there (Cut cause hung) h =
-    spared_put s t slot place old (hung_up cause old) there (λ same. absurd (true≢false (sym hung ∙ (ap hangs (sym same) ∙ stays)))) h
-spared_falls hangs s t slot place old new stays there (Unbridged cause) h =
-    spared_put s t slot place old (unbridged cause old) there (λ same. (refl, λ live. live)) h
-spared_falls hangs s t slot place old new stays there (Rests outlives lived) h =
-    spared_put s t slot place old (at_rest old) there (λ same. (refl, λ live. live)) h
-spared_falls hangs s t slot place old new stays there (Parks outlives lived) h =
-    spared_put s t slot place old (parked old) there (λ same. (refl, λ live. park_lives)) h
+spared_falls : (hangs : ℕ → Bool) (s t : Switch) (slot seat : ℕ) (old new : Chan) → hangs slot ≡ false → chan_at t seat ≡ Some old →
+    Falls hangs seat old new → Spared s t slot → Spared s (with_chan seat (Some new) t) slot
+spared_falls hangs s t slot seat old new stays there (Cut cause hung) h =
+    spared_put s t slot seat old (hung_up cause old) there (λ same. absurd (true≢false (sym hung ∙ (ap hangs (sym same) ∙ stays)))) h
+spared_falls hangs s t slot seat old new stays there (Unbridged cause) h =
+    spared_put s t slot seat old (unbridged cause old) there (λ same. (refl, λ live. live)) h
+spared_falls hangs s t slot seat old new stays there (Rests outlives lived) h =
+    spared_put s t slot seat old (at_rest old) there (λ same. (refl, λ live. live)) h
+spared_falls hangs s t slot seat old new stays there (Parks outlives lived) h =
+    spared_put s t slot seat old (parked old) there (λ same. (refl, λ live. park_lives)) h
 
 spared_changed : (change : Orig → Orig) (number : ℕ) (s t : Switch) (slot : ℕ) → Spared s t slot →
     Spared s (orig_changed change number t) slot
@@ -90,9 +90,9 @@ spared_told s t slot u same h = record {
 spared : (named : Members) (s : Switch) (slot : ℕ) → hangs_up slot named s ≡ false → Spared s (after_hangups named s) slot
 spared named s slot stays =
     hangups_kept named s (λ (t : Switch). Spared s t slot) (λ event t k. spared_told s t slot (with_event event t) refl k)
-    (λ place old new t there falls k. spared_falls (λ at. hangs_up at named s) s t slot place old new stays there falls k)
+    (λ seat old new t there falls k. spared_falls (λ at. hangs_up at named s) s t slot seat old new stays there falls k)
     (λ number t k. spared_told s t slot (without_bridge number t) refl k)
-    (λ cause place leg number t k. spared_changed (dies cause place leg) number s t slot k)
+    (λ cause seat leg number t k. spared_changed (dies cause seat leg) number s t slot k)
     (λ number t k. spared_told s t slot (without_orig number t) refl k) (record { names = refl; live = λ lived. lived })
 
 -- ---- who hangs up
@@ -101,23 +101,23 @@ spared named s slot stays =
 abbrev NamesNone : ℕ → Switch → Type 0
 NamesNone slot t = named_in partner_of t.channels slot ≡ None
 
-none_falls : (hangs : ℕ → Bool) (t : Switch) (slot place : ℕ) (old new : Chan) → chan_at t place ≡ Some old → Falls hangs place old new →
-    NamesNone slot t → NamesNone slot (with_chan place (Some new) t)
-none_falls hangs t slot place old new there falls h = by (cases_eq slot place)
+none_falls : (hangs : ℕ → Bool) (t : Switch) (slot seat : ℕ) (old new : Chan) → chan_at t seat ≡ Some old → Falls hangs seat old new →
+    NamesNone slot t → NamesNone slot (with_chan seat (Some new) t)
+none_falls hangs t slot seat old new there falls h = by (cases_eq slot seat)
   where
-    kept : (x : Chan) → Falls hangs place old x → old.partner ≡ None → x.partner ≡ None
+    kept : (x : Chan) → Falls hangs seat old x → old.partner ≡ None → x.partner ≡ None
     kept x (Cut cause hung) none = refl
     kept x (Unbridged cause) none = none
     kept x (Rests outlives lived) none = none
     kept x (Parks outlives lived) none = none
 
-    by : (slot ≡ place) ⊎ (slot ≡ place → ⊥) → NamesNone slot (with_chan place (Some new) t)
+    by : (slot ≡ seat) ⊎ (slot ≡ seat → ⊥) → NamesNone slot (with_chan seat (Some new) t)
     by (inl same) =
         ap (option_and_then partner_of)
-        (ap (held_in (with_held t.channels place (Some new))) same
-        ∙ held_here t.channels place (Some new) (held_within t.channels place old there))
+        (ap (held_in (with_held t.channels seat (Some new))) same
+        ∙ held_here t.channels seat (Some new) (held_within t.channels seat old there))
         ∙ kept new falls (sym (ap (option_and_then partner_of) (ap (held_in t.channels) same ∙ there)) ∙ h)
-    by (inr other) = ap (option_and_then partner_of) (held_there t.channels place slot (Some new) other) ∙ h
+    by (inr other) = ap (option_and_then partner_of) (held_there t.channels seat slot (Some new) other) ∙ h
 
 none_changed : (change : Orig → Orig) (number slot : ℕ) (t : Switch) → NamesNone slot t → NamesNone slot (orig_changed change number t)
 none_changed change number slot t h =
@@ -127,14 +127,14 @@ none_members : (untold : List Ended) (members : Members) (slot : ℕ) (t : Switc
     NamesNone slot (after_members untold members t)
 none_members untold members slot t h =
     members_kept (λ at. true) (NamesNone slot) (λ event u k. k)
-    (λ place old new u there falls k. none_falls (λ at. true) u slot place old new there falls k) (λ number u k. k)
-    (λ cause place leg number u k. none_changed (dies cause place leg) number slot u k) (λ number u k. k) untold members t (λ m one. refl) h
+    (λ seat old new u there falls k. none_falls (λ at. true) u slot seat old new there falls k) (λ number u k. k)
+    (λ cause seat leg number u k. none_changed (dies cause seat leg) number slot u k) (λ number u k. k) untold members t (λ m one. refl) h
 
 none_survivals : (survivors : List (ℕ × After)) (slot : ℕ) (t : Switch) → NamesNone slot t → NamesNone slot (after_survivals survivors t)
 none_survivals survivors slot t h =
     survivals_kept (λ at. false) (NamesNone slot) (λ event u k. k)
-    (λ place old new u there falls k. none_falls (λ at. false) u slot place old new there falls k) (λ number u k. k)
-    (λ cause place leg number u k. none_changed (dies cause place leg) number slot u k) (λ number u k. k) survivors t (λ one is. refl) h
+    (λ seat old new u there falls k. none_falls (λ at. false) u slot seat old new there falls k) (λ number u k. k)
+    (λ cause seat leg number u k. none_changed (dies cause seat leg) number slot u k) (λ number u k. k) survivors t (λ one is. refl) h
 
 hung_here : (cause : Cause) (slot : ℕ) (t : Switch) → lives_in t.channels slot ≡ true → NamesNone slot (after_one_hangup cause slot t)
 hung_here cause slot t live = by (hung_by cause slot t)
@@ -194,9 +194,9 @@ cut_in untold (m ∷ members) slot t is live =
 ends_spared : (ended : List Ended) (s : Switch) (slot : ℕ) → Spared s (after_ends ended s) slot
 ends_spared ended s slot =
     ends_kept (λ at. false) (λ (t : Switch). Spared s t slot) (λ event t k. spared_told s t slot (with_event event t) refl k)
-    (λ place old new t there falls k. spared_falls (λ at. false) s t slot place old new refl there falls k)
+    (λ seat old new t there falls k. spared_falls (λ at. false) s t slot seat old new refl there falls k)
     (λ number t k. spared_told s t slot (without_bridge number t) refl k)
-    (λ cause place leg number t k. spared_changed (dies cause place leg) number s t slot k)
+    (λ cause seat leg number t k. spared_changed (dies cause seat leg) number s t slot k)
     (λ number t k. spared_told s t slot (without_orig number t) refl k) ended s (record { names = refl; live = λ lived. lived })
 
 -- whoever hangs up names none
@@ -238,19 +238,19 @@ hung_ties named s h = record {
         (sym (partner_hangs_up named s b a h.zero (h.ties.back a b was.0) (h.ties.live a b was.0) is) ∙ was.1))
     back a b was false is = (spared named s b is).names ∙ h.ties.back a b was.0
 
-zero_put : (s : Switch) (place : ℕ) (new : Option Chan) → (place ≡ 0 → ⊥) → NoneAtZero s → NoneAtZero (with_chan place new s)
-zero_put s place new apart zero = held_there s.channels place 0 new (λ same. apart (sym same)) ∙ zero
+pub zero_put : (s : Switch) (seat : ℕ) (new : Option Chan) → (seat ≡ 0 → ⊥) → NoneAtZero s → NoneAtZero (with_chan seat new s)
+zero_put s seat new apart zero = held_there s.channels seat 0 new (λ same. apart (sym same)) ∙ zero
 
 -- a slot in which something stands is not that
-not_zero : (s : Switch) (place : ℕ) (c : Chan) → chan_at s place ≡ Some c → NoneAtZero s → place ≡ 0 → ⊥
-not_zero s place c there zero same = none-some c (sym zero ∙ (ap (chan_at s) (sym same) ∙ there))
+pub not_zero : (s : Switch) (seat : ℕ) (c : Chan) → chan_at s seat ≡ Some c → NoneAtZero s → seat ≡ 0 → ⊥
+not_zero s seat c there zero same = none-some c (sym zero ∙ (ap (chan_at s) (sym same) ∙ there))
 
-hung_zero : (named : Members) (s : Switch) → NoneAtZero s → NoneAtZero (after_hangups named s)
+pub hung_zero : (named : Members) (s : Switch) → NoneAtZero s → NoneAtZero (after_hangups named s)
 hung_zero named s zero =
     hangups_kept named s NoneAtZero (λ event t k. k)
-    (λ place old new t there falls k. zero_put t place (Some new) (not_zero t place old there k) k) (λ number t k. k)
-    (λ cause place leg number t k. ap (λ (channels : List (Option Chan)). held_in channels 0)
-    (orig_changed_channels (dies cause place leg) number t)
+    (λ seat old new t there falls k. zero_put t seat (Some new) (not_zero t seat old there k) k) (λ number t k. k)
+    (λ cause seat leg number t k. ap (λ (channels : List (Option Chan)). held_in channels 0)
+    (orig_changed_channels (dies cause seat leg) number t)
     ∙ k)
     (λ number t k. k) zero
 

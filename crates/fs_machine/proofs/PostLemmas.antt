@@ -6,10 +6,10 @@ use Rattle.std.proofs.Math.Seq.{take-nil}
 use Rattle.std.proofs.lemmas.Bool.{eqb-true}
 use Rattle.std.proofs.lemmas.List.{length-map, length-take}
 use Rattle.fs_text.specs.Texts.{Text}
-use Rattle.fs_places.specs.declared.numbered.Numbered.{Numbered}
-use Rattle.fs_places.specs.Places.{held_in}
-use Rattle.fs_places.specs.Rows.{has_number, place_of}
-use Rattle.fs_places.proofs.RowLemmas.{AreDistinct, none_stands}
+use Rattle.fs_seats.specs.declared.numbered.Numbered.{Numbered}
+use Rattle.fs_seats.specs.Seats.{held_in}
+use Rattle.fs_seats.specs.Rows.{has_number, seat_of}
+use Rattle.fs_seats.proofs.RowLemmas.{AreDistinct, none_stands}
 use Rattle.fs_state.specs.declared.conn.Conn.{Conn}
 use Rattle.fs_state.specs.declared.gift.Gift.{Gift}
 use Rattle.fs_state.specs.declared.outgoing.Outgoing.TheVariants as outgoing
@@ -65,7 +65,7 @@ nothing_if false texts none = refl
 nothing_at : (before s : Switch) (row : Numbered Conn) → tellings before s ≡ [] → posts_at before s row ≡ []
 nothing_at before s row none =
     ap (λ texts. posts_of row.number (take (room_behind (outgoing_for before row.number)) texts))
-    (nothing_if (is_some (place_of s.conns row.number)) (wanted_by row.held.subs (tellings before s)) (ap (wanted_by row.held.subs) none))
+    (nothing_if (is_some (seat_of s.conns row.number)) (wanted_by row.held.subs (tellings before s)) (ap (wanted_by row.held.subs) none))
     ∙ ap (posts_of row.number) (take-nil (room_behind (outgoing_for before row.number)))
 
 nothing_from : (before s : Switch) (conns : List (Option (Numbered Conn))) → tellings before s ≡ [] → posts_from before s conns ≡ []
@@ -99,18 +99,18 @@ own_posts number conn (text ∷ texts) = by (number == conn)
 
 -- where its number stands nowhere nothing is for it
 none_from : (before s : Switch) (conn : ℕ) (conns : List (Option (Numbered Conn))) →
-    ((place : ℕ) → has_number conn (held_in conns place) ≡ false) →
+    ((seat : ℕ) → has_number conn (held_in conns seat) ≡ false) →
     frames_for conn (posts_from before s conns) ≡ []
 none_from before s conn [] apart = refl
-none_from before s conn (None ∷ conns) apart = none_from before s conn conns (λ place. apart (suc place))
+none_from before s conn (None ∷ conns) apart = none_from before s conn conns (λ seat. apart (suc seat))
 none_from before s conn (Some row ∷ conns) apart =
     frames_append conn (posts_at before s row) (posts_from before s conns)
     ∙ ap (λ frames. frames ++ frames_for conn (posts_from before s conns))
     (other_posts row.number conn (take (room_behind (outgoing_for before row.number)) (wanted_at before s row)) (apart 0))
-    ∙ none_from before s conn conns (λ place. apart (suc place))
+    ∙ none_from before s conn conns (λ seat. apart (suc seat))
 
 -- one that was not there before the entry is told nothing
-pub posts_gone : (before s : Switch) (conn : ℕ) → place_of before.conns conn ≡ None → frames_among conn (posts before s) ≡ []
+pub posts_gone : (before s : Switch) (conn : ℕ) → seat_of before.conns conn ≡ None → frames_among conn (posts before s) ≡ []
 unfolding posts
 posts_gone before s conn gone =
     sym (texts_for conn (posts_from before s before.conns))
@@ -123,11 +123,11 @@ distinct_rest held conns distinct number p q first second =
 
 -- that of the first row stands nowhere in it
 alone_first : (row : Numbered Conn) (conns : List (Option (Numbered Conn))) (conn : ℕ) → AreDistinct (Some row ∷ conns) →
-    (row.number == conn) ≡ true → (place : ℕ) → has_number conn (held_in conns place) ≡ false
-alone_first row conns conn distinct mine place = by (has_number conn (held_in conns place)) refl
+    (row.number == conn) ≡ true → (seat : ℕ) → has_number conn (held_in conns seat) ≡ false
+alone_first row conns conn distinct mine seat = by (has_number conn (held_in conns seat)) refl
   where
-    by : (b : Bool) → has_number conn (held_in conns place) ≡ b → b ≡ false
-    by true also = let same : 0 ≡ suc place = distinct conn 0 (suc place) mine also in absurd (omega (arith, same))
+    by : (b : Bool) → has_number conn (held_in conns seat) ≡ b → b ≡ false
+    by true also = let same : 0 ≡ suc seat = distinct conn 0 (suc seat) mine also in absurd (omega (arith, same))
     by false also = refl
 
 -- a connection is told as much as there is room for

@@ -14,7 +14,7 @@ use Rattle.fs_machine.specs.Entries.{is_full}
 use Rattle.fs_machine.specs.Connections.{phase_at}
 use Rattle.fs_machine.specs.Questions.{owed_to}
 use Rattle.fs_machine.specs.Due.{slot_due, job_due}
-use Rattle.fs_machine.specs.Step.{reads, is_closed, is_unsent, refusal_of, refused_where, refused_act, refused_close, places_for_conns}
+use Rattle.fs_machine.specs.Step.{reads, is_closed, is_unsent, refusal_of, refused_where, refused_act, refused_close, seats_for_conns}
 use Rattle.fs_machine.specs.Step.{not_due, busy}
 
 -- no other test refuses so
@@ -26,7 +26,7 @@ not_full false other otherwise cost limit not_other not_then is = not_then is
 
 not_busy : (since : Option ℕ) (cost limit : ℕ) → busy since ≢ Some (refusal.JournalFull cost limit)
 not_busy None cost limit is = cc
-not_busy (Some place) cost limit is = cc
+not_busy (Some seat) cost limit is = cc
 
 not_yet : (due : Option Due) (cost limit : ℕ) → not_due due ≢ Some (refusal.JournalFull cost limit)
 not_yet None cost limit is = cc
@@ -63,7 +63,7 @@ not_closing conn Failed s cost limit =
 
 not_acting : (act : Act) (s : Switch) (cost limit : ℕ) → refused_act act s ≢ Some (refusal.JournalFull cost limit)
 not_acting Arrive s cost limit =
-    not_full (is_full_of_conns s) (refusal.TooMany (places_for_conns s)) None cost limit (many (places_for_conns s) cost limit)
+    not_full (is_full_of_conns s) (refusal.TooMany (seats_for_conns s)) None cost limit (many (seats_for_conns s) cost limit)
     (nothing cost limit)
 not_acting (Command conn block) s cost limit =
     not_full (not (reads (phase_at s conn))) refusal.Gone (busy (owed_to s conn)) cost limit (gone cost limit)
@@ -78,13 +78,13 @@ not_acting (Job number) s cost limit = not_yet (job_due number s) cost limit
 
 -- an entry that is refused so comes where the journal is full
 pub full_refused : (s : Switch) (entry : Entry) (cost limit : ℕ) → refusal_of s entry ≡ Some (refusal.JournalFull cost limit) →
-    (is_full s ≡ true) × (cost ≡ s.cost) × (limit ≡ s.config.settings.journal_limit)
+    (is_full s ≡ true) × (cost ≡ s.cost) × (limit ≡ s.settings.journal_limit)
 unfolding refusal_of
 full_refused s entry cost limit is = by (is_full s) refl is
   where
     by : (full : Bool) → is_full s ≡ full →
-        refused_where full (refusal.JournalFull s.cost s.config.settings.journal_limit)
+        refused_where full (refusal.JournalFull s.cost s.settings.journal_limit)
         (refused_act entry.act (at_moment entry.moment s)) ≡ Some (refusal.JournalFull cost limit) →
-        (is_full s ≡ true) × (cost ≡ s.cost) × (limit ≡ s.config.settings.journal_limit)
+        (is_full s ≡ true) × (cost ≡ s.cost) × (limit ≡ s.settings.journal_limit)
     by true full e = (full, cc, cc)
     by false full e = absurd (not_acting entry.act (at_moment entry.moment s) cost limit e)

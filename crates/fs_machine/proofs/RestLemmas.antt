@@ -4,8 +4,8 @@ use Rattle.std.specs.Prelude.{codes}
 use Rattle.std.specs.Option.{option_and_then}
 use Rattle.fs_text.specs.Cause.{cause_name}
 use Rattle.fs_text.specs.declared.causes.Cause.{Cause}
-use Rattle.fs_text.specs.declared.causes.Cause.TheVariants.{NormalTemporaryFailure}
-use Rattle.fs_doc.specs.Reading.{Configuration}
+use Rattle.fs_doc.specs.Dialplans.{Context}
+use Rattle.fs_doc.specs.declared.settings.Settings.{Settings}
 use Rattle.fs_bridge.specs.declared.row.BridgeKind.{BridgeKind}
 use Rattle.fs_bridge.specs.declared.row.BridgeKind.TheVariants.{Dial}
 use Rattle.fs_bridge.specs.Closure.{Members}
@@ -20,20 +20,20 @@ use Rattle.fs_orig.specs.declared.winner.Winner.{Winner}
 use Rattle.fs_orig.specs.Changes.{with_answer, at_next_group}
 use Rattle.fs_orig.specs.Plans.{all_behind}
 use Rattle.fs_chan.specs.Bridging.{exported_pairs}
-use Rattle.fs_places.specs.declared.numbered.Numbered.{Numbered}
-use Rattle.fs_places.specs.Rows.{row_of}
+use Rattle.fs_seats.specs.declared.numbered.Numbered.{Numbered}
+use Rattle.fs_seats.specs.Rows.{row_of}
 use Rattle.fs_state.specs.declared.conn.Conn.{Conn}
 use Rattle.fs_state.specs.declared.gift.Gift.{Gift}
 use Rattle.fs_state.specs.declared.job.Job.{Job}
 use Rattle.fs_state.specs.declared.job.JobWork.{JobWork}
 use Rattle.fs_state.specs.Counts.{Tallies}
-use Rattle.fs_state.specs.Queues.{Frames}
+use Rattle.fs_state.specs.Outboxes.{Frames}
 use Rattle.fs_state.specs.Switch.{Switch, chan_at, with_bridge, orig_of, without_orig, next_orig_number}
 use Rattle.fs_state.specs.Moves.{after_move, with_changed_chan, orig_changed_from, orig_changed, leg_changed}
 use Rattle.fs_state.specs.Moves.{after_answer, orig_given_up}
 use Rattle.fs_state.specs.Hangups.{after_hangups}
 use Rattle.fs_state.specs.Bridging.{can_join, peer_of, with_peer_from, with_peer, joined_as}
-use Rattle.fs_machine.specs.declared.originations.Call.{Call}
+use Rattle.fs_machine.specs.declared.call.Call.{Call}
 use Rattle.fs_machine.specs.Originations.{leg_end, pair_made, MadeGroup, group_made, won_by, after_winning}
 use Rattle.fs_machine.specs.Attempts.{first_group, orig_begun, with_group}
 use Rattle.fs_machine.specs.Bridging.{caller_of, group_dialed, goes_on, after_going_on, bridge_failed_from, after_bridge_failure, disposed}
@@ -41,6 +41,7 @@ use Rattle.fs_machine.specs.Bridging.{after_bridge_win}
 use Rattle.fs_machine.specs.Dialing.{tried_by_slot}
 use Rattle.fs_machine.specs.Joining.{after_leaving}
 use Rattle.fs_machine.specs.Leaving.{after_departure}
+use Rattle.fs_machine.proofs.JoinLemmas.{both_left_kept}
 use Rattle.fs_machine.proofs.LeaveLemmas.{departed_kept}
 use Rattle.fs_machine.specs.Work.{after_work}
 use Rattle.fs_machine.proofs.Kept.{Stage, Fact, KeptByTouches, KeptByCalls, KeptByBirths, DoesJob, KeptByDials, raced}
@@ -51,33 +52,37 @@ use Rattle.fs_machine.proofs.Walk.{answered_kept, disposed_kept, worked_kept, gr
 
 -- what is left of a switch without channels, bridges, originations, globals, news, and the numbers that these draw
 pub record Rest : Type 0 where
-  pub config : Configuration
+  pub settings : Settings
+  pub contexts : List Context
   pub jobs : List (Option (Numbered Job))
   pub conns : List (Option (Numbered Conn))
-  pub queues : List Frames
+  pub outboxes : List Frames
   pub jobs_drawn : ℕ
   pub conns_drawn : ℕ
   pub moment : ℕ
   pub entries : ℕ
   pub cost : ℕ
   pub counts : Tallies
-  pub answered : List Gift
-  pub given : List Gift
+  pub replies : List Gift
+  pub late : List Gift
+  pub notices : List Gift
 
 abbrev pub rest_of : Switch → Rest
 rest_of s = record {
-  config = s.config;
+  settings = s.settings;
+  contexts = s.contexts;
   jobs = s.jobs;
   conns = s.conns;
-  queues = s.queues;
+  outboxes = s.outboxes;
   jobs_drawn = s.drawn.jobs;
   conns_drawn = s.drawn.conns;
   moment = s.moment;
   entries = s.entries;
   cost = s.cost;
   counts = s.counts;
-  answered = s.answered;
-  given = s.given;
+  replies = s.replies;
+  late = s.late;
+  notices = s.notices;
 }
 
 -- what holds of both holds of the one that a test chooses
@@ -106,7 +111,7 @@ changed_rest change slot s = changed_there (λ (t : Switch). rest_of t ≡ rest_
 pub hung_rest : (named : Members) (s : Switch) → rest_of (after_hangups named s) ≡ rest_of s
 hung_rest named s =
     hangups_kept named s (λ (t : Switch). rest_of t ≡ rest_of s) (λ event t h. h) (λ slot old new t is falls h. h) (λ number t h. h)
-    (λ cause place leg number t h. orig_changed_rest (dies cause place leg) number t ∙ h) (λ number t h. h) refl
+    (λ cause seat leg number t h. orig_changed_rest (dies cause seat leg) number t ∙ h) (λ number t h. h) refl
 
 given_up_rest : (slot : ℕ) (awaited : Option ℕ) (s : Switch) → rest_of (orig_given_up slot awaited s) ≡ rest_of s
 given_up_rest slot awaited s = given_up_kept (λ (t : Switch). rest_of t ≡ rest_of s) (λ number t h. h) slot awaited s refl
@@ -143,20 +148,22 @@ module _ (P : Fact) (same : (b : Stage) (t u : Switch) → P b t → rest_of u �
     told = λ event plain h. same _ _ _ h refl;
     globals = λ globals h. same _ _ _ h refl;
     changed = λ slot old new there stays h. same _ _ _ h refl;
-    answers = λ place slot number {b = b} {s = s} h.
-        same b s _ h (orig_changed_rest (leg_changed (λ position. with_answer position place) slot) number s);
+    answers = λ seat slot number {b = b} {s = s} h.
+        same b s _ h (orig_changed_rest (leg_changed (λ position. with_answer position seat) slot) number s);
   }
 
   pub calls_by_rest : KeptByCalls P
   calls_by_rest = record {
     touches = touches_by_rest;
-    hung = λ named {b = b} {s = s} h. same b s _ h (hung_rest named s);
-    joined = λ kind caller answerer c d {b = b} {s = s} can there other one two first second h.
-        same b s _ h (joined_rest kind caller answerer s);
-    leaves = λ slot {b = b} {s = s} apart h. same b s _ h (left_rest slot s);
-    departs = λ slot {b = b} {s = s} h. same b s _ h (departed_rest slot s);
+    hung = λ named {s = s} early h. same (Some 0) s _ h (hung_rest named s);
+    joined = λ kind caller answerer c d {n = n} {s = s} can there other one two first second was were h.
+        same (Some n) s _ h (joined_rest kind caller answerer s);
+    leaves = λ one other {s = s} first second early h. same (Some 0) s _ h
+        (both_left_kept (λ (t : Switch). rest_of t ≡ rest_of s) (λ named t k. hung_rest named t ∙ k) (λ slot t apart k. left_rest slot t ∙ k)
+        one other s first second refl);
+    departs = λ slot {s = s} early h. same (Some 0) s _ h (departed_rest slot s);
     more = λ {s = s} h. more s h;
-    gone = λ slot old there dead h. more _ (same _ _ _ h refl);
+    gone = λ slot old there dead early h. more _ (same _ _ _ h refl);
   }
 
 same_touches : (s : Switch) → KeptByTouches (SameRest s)
@@ -194,9 +201,8 @@ unfolding after_bridge_win
 bridge_win_rest slot leg s =
     let t : Switch = after_answer slot s in
     let u : Switch = disposed (codes "SUCCESS") slot t in
-    whichever (λ (v : Switch). rest_of v ≡ rest_of u) (can_join slot leg u) (after_move in_media leg (joined_as Dial slot leg u))
-    (after_bridge_failure NormalTemporaryFailure slot u) (moved_rest in_media leg (joined_as Dial slot leg u) ∙ joined_rest Dial slot leg u)
-    (failure_rest NormalTemporaryFailure slot u)
+    whichever (λ (v : Switch). rest_of v ≡ rest_of u) (can_join slot leg u) (after_move in_media leg (joined_as Dial slot leg u)) u
+    (moved_rest in_media leg (joined_as Dial slot leg u) ∙ joined_rest Dial slot leg u) refl
     ∙ disposed_rest (codes "SUCCESS") slot t
     ∙ answered_rest slot s
 
@@ -244,7 +250,7 @@ dials_by_rest before P same spent = record {
   spent = λ {s = s} h. spent s h;
   dials = λ slot c groups timeout {s = s} there works are h. same (Some 0) s _ (spent s h) (dialed_rest slot c groups timeout s);
   regroups = λ number o plans caller {s = s} there next h. same (Some 0) s _ h (regrouped_rest number plans caller s);
-  fails = λ slot orig cause {s = s} waits h. same (Some 0) s _ h (failure_rest cause slot (without_orig orig s));
+  fails = λ slot orig cause {s = s} waits over h. same (Some 0) s _ h (failure_rest cause slot (without_orig orig s));
   wins = λ slot orig leg slots waits won h.
       same (Some 0) (raced slots before) _ h (bridge_win_rest slot (unwrap_or leg.slot 0) (without_orig orig (raced slots before)));
 }

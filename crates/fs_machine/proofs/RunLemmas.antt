@@ -1,5 +1,6 @@
 -- The run of a journal with one more entry.
 use Rattle.std.proofs.Common.{◌≡◌, ◌+◌, ◌-◌, ◌^◌, min, List, [], ◌∷◌, ◌++◌, None, refl, sym, ap, ◌∙◌}
+use Rattle.fs_doc.specs.Reading.{Configuration}
 use Rattle.fs_state.specs.Switch.{Switch, empty, after_entry}
 use Rattle.fs_state.specs.Drafts.{after}
 use Rattle.fs_state.specs.declared.delta.Delta.{Delta}
@@ -20,15 +21,15 @@ is_run_more s [] entry run defined = (defined, tt)
 is_run_more s (first ∷ entries) entry run defined = (run.0, is_run_more (step s first).state entries entry run.1 defined)
 
 -- what was prepared from the state that a journal makes is the state that the longer one makes
-pub stands_more : (kept : Switch) (journal : List Entry) (entry : Entry) (delta : Delta) (reply : Reply) →
-    StandsFor kept.config kept journal →
-    IsPrepared (run_from (empty kept.config) journal) entry delta reply →
-    StandsFor kept.config (after_entry (cost_of entry.act) (after kept delta)) (journal ++ entry ∷ [])
-stands_more kept journal entry delta reply stands prepared = record {
+pub stands_more : (config : Configuration) (kept : Switch) (journal : List Entry) (entry : Entry) (delta : Delta) (reply : Reply) →
+    StandsFor config kept journal →
+    IsPrepared (run_from (empty config) journal) entry delta reply →
+    StandsFor config (after_entry (cost_of entry.act) (after kept delta)) (journal ++ entry ∷ [])
+stands_more config kept journal entry delta reply stands prepared = record {
   state =
       ap (λ s. after_entry (cost_of entry.act) (after s delta)) stands.state
-      ∙ sym (run_more (empty kept.config) journal entry ∙ ap (λ (t : Acted). t.state) prepared.steps);
-  defined = is_run_more (empty kept.config) journal entry stands.defined prepared.defined;
+      ∙ sym (run_more (empty config) journal entry ∙ ap (λ (t : Acted). t.state) prepared.steps);
+  defined = is_run_more (empty config) journal entry stands.defined prepared.defined;
 }
 
 -- what was prepared costs what its act does

@@ -4,21 +4,21 @@ use Rattle.std.proofs.Common.{arith, length-set}
 use Rattle.fs_text.specs.CoreId.{uuid, owns, IsCore}
 use Rattle.fs_text.specs.Texts.{Text}
 use Rattle.fs_text.proofs.NamingLemmas.{Naming, naming_kept, naming_more, naming_named}
-use Rattle.fs_doc.specs.Reading.{Configuration}
+use Rattle.fs_doc.specs.declared.settings.Settings.{Settings}
 use Rattle.fs_chan.specs.declared.chan.Chan.{Chan}
-use Rattle.fs_places.specs.Places.{held_in, with_held}
-use Rattle.fs_places.proofs.HeldLemmas.{held_here, held_there, held_within, at_each}
-use Rattle.fs_places.proofs.TableLemmas.{taken_in, taken_same, taken_more, taken_less}
+use Rattle.fs_seats.specs.Seats.{held_in, with_held}
+use Rattle.fs_seats.proofs.HeldLemmas.{held_here, held_there, held_within, at_each}
+use Rattle.fs_seats.proofs.TableLemmas.{taken_in, taken_same, taken_more, taken_less}
 use Rattle.fs_state.specs.Switch.{Switch}
 
 -- what is seen of a switch
 pub record Seen : Type 0 where
   pub channels : List (Option Chan)
   pub identifiers : ℕ
-  pub config : Configuration
+  pub settings : Settings
 
 abbrev pub seen : Switch → Seen
-seen s = record { channels = s.channels; identifiers = s.drawn.identifiers; config = s.config }
+seen s = record { channels = s.channels; identifiers = s.drawn.identifiers; settings = s.settings }
 
 -- with something else in a slot
 abbrev pub put : ℕ → Option Chan → Seen → Seen
@@ -32,8 +32,8 @@ uuid_in channels slot = option_map uuid_of (held_in channels slot)
 
 -- each identifier was drawn, or is not the switch's, and stands in one slot
 pub record Named (x : Seen) : Type 0 where
-  pub core : IsCore x.config.settings.core_uuid
-  pub naming : Naming x.config.settings.core_uuid x.identifiers (uuid_in x.channels)
+  pub core : IsCore x.settings.core_uuid
+  pub naming : Naming x.settings.core_uuid x.identifiers (uuid_in x.channels)
 
 -- No more identifiers are drawn than slots are filled, but for so many that were freed, and each identifier stands in one slot still,
 -- unless the numbers are used up.
@@ -78,7 +78,7 @@ numbers_put : (more : ℕ) (x : Seen) (slot : ℕ) (new : Option Chan) →
 numbers_put more x slot new had fewer = record {
   names = λ few h. record {
     core = h.core;
-    naming = naming_kept x.config.settings.core_uuid x.identifiers (uuid_in x.channels)
+    naming = naming_kept x.settings.core_uuid x.identifiers (uuid_in x.channels)
         (uuid_in (with_held x.channels slot new)) had h.naming;
   };
   few = λ few. few;
@@ -109,13 +109,13 @@ numbers_gone x slot old there =
 
 -- a channel under the next identifier
 pub numbers_new : (x : Seen) (slot : ℕ) (new : Chan) → slot < length x.channels → held_in x.channels slot ≡ None →
-    new.uuid ≡ uuid x.config.settings.core_uuid (min (x.identifiers + 1) (2 ^ 62 - 1)) →
+    new.uuid ≡ uuid x.settings.core_uuid (min (x.identifiers + 1) (2 ^ 62 - 1)) →
     Numbers 0 x (record (put slot (Some new) x) { identifiers = min (x.identifiers + 1) (2 ^ 62 - 1) })
 numbers_new x slot new within free named = record {
   names = λ few h. record {
     core = h.core;
     naming =
-        naming_more x.config.settings.core_uuid x.identifiers (min (x.identifiers + 1) (2 ^ 62 - 1)) slot (uuid_in x.channels)
+        naming_more x.settings.core_uuid x.identifiers (min (x.identifiers + 1) (2 ^ 62 - 1)) slot (uuid_in x.channels)
         (uuid_in (with_held x.channels slot (Some new))) h.core (omega (arith, few)) (omega (arith, few))
         (ap (option_map uuid_of) (held_here x.channels slot (Some new) within) ∙ ap Some named)
         (λ q other. ap (option_map uuid_of) (held_there x.channels slot q (Some new) other)) h.naming;
@@ -127,13 +127,13 @@ numbers_new x slot new within free named = record {
 
 -- a channel under an identifier of its own
 pub numbers_named : (x : Seen) (slot : ℕ) (new : Chan) → slot < length x.channels → held_in x.channels slot ≡ None →
-    owns x.config.settings.core_uuid new.uuid ≡ false → ((q : ℕ) → uuid_in x.channels q ≡ Some new.uuid → ⊥) →
+    owns x.settings.core_uuid new.uuid ≡ false → ((q : ℕ) → uuid_in x.channels q ≡ Some new.uuid → ⊥) →
     Numbers 0 x (put slot (Some new) x)
 numbers_named x slot new within free foreign unheld = record {
   names = λ few h. record {
     core = h.core;
     naming =
-        naming_named x.config.settings.core_uuid x.identifiers slot new.uuid (uuid_in x.channels)
+        naming_named x.settings.core_uuid x.identifiers slot new.uuid (uuid_in x.channels)
         (uuid_in (with_held x.channels slot (Some new))) foreign
         (ap (option_map uuid_of) (held_here x.channels slot (Some new) within))
         (λ q other. ap (option_map uuid_of) (held_there x.channels slot q (Some new) other)) unheld h.naming;

@@ -6,7 +6,7 @@ use Rattle.std.proofs.lemmas.Bool.{leb-true, not-false}
 use Rattle.std.proofs.lemmas.List.{length-take}
 use Rattle.fs_text.specs.CoreId.{uuid}
 use Rattle.fs_text.specs.Number.{read_u64}
-use Rattle.fs_text.specs.Words.{without_spaces, word_of, behind_word}
+use Rattle.fs_text.specs.Words.{without_spaces, word_of, behind_word, is_short}
 use Rattle.fs_text.specs.Texts.{Text}
 use Rattle.fs_text.proofs.IdLemmas.{uuid_length}
 use Rattle.fs_text.specs.declared.causes.Cause.TheVariants.{NoRouteDestination, DestinationOutOfOrder, InvalidNumberFormat}
@@ -24,8 +24,8 @@ use Rattle.fs_app.specs.declared.application.Application.{Application}
 use Rattle.fs_app.specs.declared.application.Application.TheVariants as app
 use Rattle.fs_app.specs.Applications as apps
 use Rattle.fs_app.specs.Applications.{application_of}
-use Rattle.fs_app.specs.Targets.{target_in}
-use Rattle.fs_app.proofs.TargetLemmas.{words_short}
+use Rattle.fs_chan.specs.Targets.{target_in}
+use Rattle.fs_chan.proofs.TargetLemmas.{words_short}
 use Rattle.fs_chan.specs.declared.assignment.Assignment.{Assignment}
 use Rattle.fs_chan.specs.Assignments.{assignment_named}
 use Rattle.fs_chan.specs.declared.peer.Direction.{Direction}
@@ -38,7 +38,7 @@ use Rattle.fs_orig.specs.declared.winner.Winner.{Winner}
 use Rattle.fs_orig.specs.Endpoints as endpoints
 use Rattle.fs_orig.specs.Endpoints.{endpoint_of}
 use Rattle.fs_orig.proofs.EndpointLemmas.{part_or_short}
-use Rattle.fs_machine.specs.declared.originations.Call.{Call}
+use Rattle.fs_machine.specs.declared.call.Call.{Call}
 use Rattle.fs_machine.specs.Originations.{cut, loopback_name, loopback_profile}
 use Rattle.fs_machine.proofs.Kept.{IsShortWinner}
 
@@ -122,22 +122,22 @@ winner_by : (test : Bool) (x y : Option Winner) → (test ≡ true → IfSome x 
 winner_by true x y first second = first refl
 winner_by false x y first second = second refl
 
-route_short : (exten dialplan context : Text) → length exten ≤ 256 → (endpoints.is_short dialplan && endpoints.is_short context) ≡ true →
+route_short : (exten dialplan context : Text) → length exten ≤ 256 → (is_short dialplan && is_short context) ≡ true →
     IsShortWinner (originates.route_winner exten dialplan context)
 route_short exten dialplan context short both = record {
   exten = short;
-  dialplan = leb-true (length dialplan) 256 (left_holds (endpoints.is_short dialplan) (endpoints.is_short context) both);
-  context = leb-true (length context) 256 (right_holds (endpoints.is_short dialplan) (endpoints.is_short context) both);
+  dialplan = leb-true (length dialplan) 256 (left_holds (is_short dialplan) (is_short context) both);
+  context = leb-true (length context) 256 (right_holds (is_short dialplan) (is_short context) both);
 }
 
 winner_short : (exten dialplan context : Text) → IfSome (originates.winner_of exten dialplan context) IsShortWinner
 winner_short [] dialplan context =
-    winner_by (endpoints.is_short dialplan && endpoints.is_short context) (Some (originates.route_winner [] dialplan context)) None
+    winner_by (is_short dialplan && is_short context) (Some (originates.route_winner [] dialplan context)) None
     (λ both. route_short [] dialplan context (omega arith) both) (λ none. tt)
 winner_short (byte ∷ bytes) dialplan context =
-    winner_by (endpoints.is_short dialplan && endpoints.is_short context) _ None
+    winner_by (is_short dialplan && is_short context) _ None
     (λ both. winner_by (byte == 38) (Some (originates.application bytes)) _ (λ runs. tt)
-    (λ routes. winner_by (endpoints.is_short (byte ∷ bytes)) (Some (originates.route_winner (byte ∷ bytes) dialplan context)) None
+    (λ routes. winner_by (is_short (byte ∷ bytes)) (Some (originates.route_winner (byte ∷ bytes) dialplan context)) None
     (λ short. route_short (byte ∷ bytes) dialplan context (leb-true (length (byte ∷ bytes)) 256 short) both) (λ none. tt)))
     (λ none. tt)
 
@@ -267,18 +267,18 @@ address_short : (exten context dialplan : Text) → endpoints.IsShortEndpoint (e
 address_short [] context dialplan = tt
 address_short (byte ∷ bytes) context dialplan =
     let exten : Text = byte ∷ bytes in
-    let both : Bool = endpoints.is_short exten && endpoints.is_short context in
+    let both : Bool = is_short exten && is_short context in
     let plan : Text = endpoints.part_or (codes "XML") dialplan in
-    end_by (not (both && endpoints.is_short dialplan)) (Dead InvalidNumberFormat) _ (λ long. tt)
+    end_by (not (both && is_short dialplan)) (Dead InvalidNumberFormat) _ (λ long. tt)
     (λ all.
-    let short : both ≡ true = left_holds both (endpoints.is_short dialplan) (not-false (both && endpoints.is_short dialplan) all) in
+    let short : both ≡ true = left_holds both (is_short dialplan) (not-false (both && is_short dialplan) all) in
     end_by (bytes_eq plan (codes "XML")) (Loopback exten (endpoints.part_or (codes "default") context)) (Dead NoRouteDestination)
     (λ same. record {
       exten_there = omega arith;
-      exten_short = leb-true (length exten) 256 (left_holds (endpoints.is_short exten) (endpoints.is_short context) short);
+      exten_short = leb-true (length exten) 256 (left_holds (is_short exten) (is_short context) short);
       context_short =
           part_or_short (codes "default") context 256 (omega arith)
-          (leb-true (length context) 256 (right_holds (endpoints.is_short exten) (endpoints.is_short context) short));
+          (leb-true (length context) 256 (right_holds (is_short exten) (is_short context) short));
     })
     (λ differs. tt))
 
@@ -286,7 +286,7 @@ pub endpoint_short : (text : Text) → endpoints.IsShortEndpoint (endpoint_of te
 unfolding endpoint_of
 endpoint_short text =
     let parts : Text = endpoints.other_parts text in
-    end_by (bytes_eq (endpoints.first_part text) (codes "error")) (endpoints.error_of (endpoints.first_part parts)) _ (λ fails. tt)
+    end_by (bytes_eq (endpoints.first_part text) (codes "error")) (endpoints.error_of parts) _ (λ fails. tt)
     (λ other. end_by (bytes_eq (endpoints.first_part text) (codes "loopback")) (endpoints.loopback_of parts) (Dead DestinationOutOfOrder)
     (λ loops. address_short (endpoints.first_part parts) (endpoints.first_part (endpoints.other_parts parts))
     (endpoints.other_parts (endpoints.other_parts parts))) (λ none. tt))

@@ -9,11 +9,11 @@ use Rattle.fs_chan.specs.Bridging.{awaited_by}
 use Rattle.fs_orig.specs.declared.orig.Orig.{Orig}
 use Rattle.fs_orig.specs.declared.orig.Owner.{Owner}
 use Rattle.fs_orig.specs.declared.orig.Owner.TheVariants as owner
-use Rattle.fs_places.specs.declared.numbered.Numbered.{Numbered}
-use Rattle.fs_places.specs.Places.{held_in, with_held}
-use Rattle.fs_places.proofs.HeldLemmas.{held_within}
-use Rattle.fs_places.proofs.TableLemmas.{HasRow, row_is, row_of_held, kept_without, one_if, taken_in, taken_less}
-use Rattle.fs_places.proofs.NumberLemmas.{Numbers}
+use Rattle.fs_seats.specs.declared.numbered.Numbered.{Numbered}
+use Rattle.fs_seats.specs.Seats.{held_in, with_held}
+use Rattle.fs_seats.proofs.HeldLemmas.{held_within}
+use Rattle.fs_seats.proofs.TableLemmas.{HasRow, row_is, row_of_held, kept_without, one_if, taken_in, taken_less}
+use Rattle.fs_seats.proofs.NumberLemmas.{Numbers}
 use Rattle.fs_state.specs.Switch.{Switch, chan_at}
 use Rattle.fs_machine.specs.Sound.{Awaits, IsOwnedBy}
 use Rattle.fs_machine.proofs.ClosureLemmas.{NoneAtZero}
@@ -24,7 +24,7 @@ use Rattle.fs_machine.proofs.OwedTables.{by_slot, owned_at, owned_in, owned_held
 abbrev Told : Type 0
 Told = List (Option ℕ)
 
--- no number is told at two places
+-- no number is told at two seats
 abbrev AreApart : Told → Type 0
 AreApart told = (p q k : ℕ) → held_in told p ≡ Some k → held_in told q ≡ Some k → p ≡ q
 
@@ -63,7 +63,7 @@ none_below (None ∷ more) below =
     omega (arith, rest, all)
 none_below (Some k ∷ more) below = absurd (let less : k < 0 = below 0 k refl in omega (arith, less))
 
--- so no more places are taken than there are numbers below the bound
+-- so no more seats are taken than there are numbers below the bound
 few_taken : (n : ℕ) (told : Told) → AreApart told → AreBelow n told → taken_in told ≤ n
 few_taken zero told apart below = let none : taken_in told ≡ 0 = none_below told below in omega (arith, none)
 few_taken (suc n) told apart below = by (few_taken n) (somewhere told n)
@@ -106,8 +106,8 @@ front_below n k told less below (suc p) m is = below p m is
 
 module _ (s : Switch) (numbers : Numbers s.origs s.drawn.origs)
     (wait : (slot number : ℕ) → IsOwnedBy s slot number → Awaits s slot number) (zero_free : NoneAtZero s)
-    (places : length s.channels ≤ 257) where
-  -- the origination at a place, and its number
+    (seats : length s.channels ≤ 257) where
+  -- the origination at a seat, and its number
   record OwnsAt (p slot : ℕ) : Type 0 where
     row : Numbered Orig
     there : held_in s.origs p ≡ Some row
@@ -119,12 +119,12 @@ module _ (s : Switch) (numbers : Numbers s.origs s.drawn.origs)
 
   owned_row : (row : Numbered Orig) (p slot : ℕ) → held_in s.origs p ≡ Some row → row.held.owner ≡ owner.Slot slot →
       HasRow s.origs row.number → IsOwnedBy s slot row.number
-  owned_row row p slot there owned (place, found, is) =
-      let here : place ≡ p = numbers.apart place p found row is.there there is.numbered in
+  owned_row row p slot there owned (seat, found, is) =
+      let here : seat ≡ p = numbers.apart seat p found row is.there there is.numbered in
       let same : found ≡ row = same_Some found row (sym is.there ∙ (ap (held_in s.origs) here ∙ there)) in
       record {
         orig = found.held;
-        there = row_is s.origs row.number place found is;
+        there = row_is s.origs row.number seat found is;
         owned = ap (λ (r : Numbered Orig). r.held.owner) same ∙ owned;
       }
 
@@ -150,7 +150,7 @@ module _ (s : Switch) (numbers : Numbers s.origs s.drawn.origs)
       (same_Some first.row.number second.row.number (sym first.awaits.waits ∙ (ap awaited_by same ∙ second.awaits.waits)))
 
   below_length : (slot : ℕ) (c : Chan) → chan_at s slot ≡ Some c → slot < 257
-  below_length slot c there = let within : slot < length s.channels = held_within s.channels slot c there in omega (arith, within, places)
+  below_length slot c there = let within : slot < length s.channels = held_within s.channels slot c there in omega (arith, within, seats)
 
   slots_below : AreBelow 257 (owned_in by_slot s.origs)
   slots_below p slot is = let at = owns_at p slot is in below_length slot at.awaits.chan at.awaits.there

@@ -1,7 +1,7 @@
 -- In every run live channels have partners, which agree, the texts of channels keep their limits, identifiers differ, legs are channels,
 -- an origination that fails is told why, bridges and channels agree, and whoever dials waits for what it owns.
 use Rattle.std.proofs.Common.{◌≡◌, ℕ, ◌+◌, ◌-◌, ◌*◌, ◌<◌, ◌≤◌, ◌^◌, true, IsSome, List, [], ◌∷◌, length, Option, None, Some}
-use Rattle.std.proofs.Common.{option_and_then, option_map, refl, sym, ap, subst, ◌∙◌, arith, ◌⊎◌, inl, inr}
+use Rattle.std.proofs.Common.{is_some, option_and_then, option_map, refl, sym, ap, subst, ◌∙◌, arith, ◌⊎◌, inl, inr}
 use Rattle.std.proofs.lemmas.Bool.{false≢true, ltb-false}
 use Rattle.fs_text.proofs.NamingLemmas.{naming_none}
 use Rattle.fs_doc.specs.Limits.{AreInRange, IsWithin}
@@ -11,31 +11,36 @@ use Rattle.fs_chan.specs.Changes.{is_live}
 use Rattle.fs_orig.specs.declared.orig.Orig.{Orig}
 use Rattle.fs_orig.specs.Meaning.{IsWithCauses}
 use Rattle.fs_orig.proofs.VerdictLemmas.{failed_is}
-use Rattle.fs_places.specs.declared.numbered.Numbered.{Numbered}
-use Rattle.fs_places.proofs.HeldLemmas.{nothing_held}
-use Rattle.fs_places.proofs.TableLemmas.{taken_in, taken_most}
+use Rattle.fs_seats.specs.declared.numbered.Numbered.{Numbered}
+use Rattle.fs_seats.proofs.HeldLemmas.{nothing_held}
+use Rattle.fs_seats.proofs.TableLemmas.{taken_in, taken_most}
+use Rattle.fs_doc.specs.declared.settings.Settings.{Settings}
 use Rattle.fs_state.specs.declared.job.Job.{Job}
 use Rattle.fs_state.specs.Posting.{with_posts}
 use Rattle.fs_state.specs.Switch.{Switch, empty, chan_at, orig_of, at_moment, after_entry}
 use Rattle.fs_state.specs.Moves.{partner_of}
-use Rattle.fs_state.proofs.SlotLemmas.{no_places_length}
+use Rattle.fs_state.proofs.SlotLemmas.{no_seats_length}
 use Rattle.fs_machine.specs.declared.entry.Entry.{Entry}
 use Rattle.fs_machine.specs.declared.entry.Act.{Act}
 use Rattle.fs_machine.specs.Entries.{cost_of}
 use Rattle.fs_machine.specs.Step.{refusal_of, act_done, step}
 use Rattle.fs_machine.specs.Runs.{run_from, IsRunFrom}
 use Rattle.fs_machine.specs.Sound.{HasPartner, PartnersAgree, HasLivePartner, LiveHasPartner, ProfilesAreShort, IdentifiersDiffer}
-use Rattle.fs_machine.specs.Sound.{LegsAreChannels, FailuresAreTold, IsOwnedBy, RowsAgree, OwnersWait}
+use Rattle.fs_machine.specs.Sound.{LegsAreChannels, LegsAreUndecided, FailuresAreTold, IsOwnedBy, RowsAgree, BridgedWait, OwnersWait}
+use Rattle.fs_machine.proofs.Kept.{IsApt}
 use Rattle.fs_machine.proofs.TieLemmas.{lives_as, named_in, Ties}
 use Rattle.fs_machine.proofs.FrameLemmas.{some_cost}
-use Rattle.fs_machine.proofs.OrderLemmas.{acted_cost, acted_config, not_full}
-use Rattle.fs_machine.proofs.FramesLaws.{config_step}
+use Rattle.fs_machine.proofs.OrderLemmas.{acted_cost, acted_settings, not_full}
+use Rattle.fs_machine.proofs.FramesLaws.{settings_step}
 use Rattle.fs_machine.proofs.ActWalk.{acted_kept}
 use Rattle.fs_chan.specs.Bridging.{awaited_by}
 use Rattle.fs_machine.proofs.AwaitedTables.{HasOwner}
 use Rattle.fs_machine.proofs.AwaitedLemmas.{Awaits}
 use Rattle.fs_machine.proofs.BondTables.{NoSlot}
 use Rattle.fs_machine.proofs.BondLaws.{rows_agree}
+use Rattle.fs_machine.proofs.HoldMoves.{hold_bridged}
+use Rattle.fs_machine.proofs.BerthTables.{leg_in}
+use Rattle.fs_machine.proofs.BerthLemmas.{berth_now}
 use Rattle.fs_machine.proofs.OwnerMoves.{Owners, owners_of}
 use Rattle.fs_machine.proofs.StandingLemmas.{nothing_paired, step_pairs, Standing, standing_empty, standing_step, standing_run}
 use Rattle.fs_machine.proofs.PartnerMoves.{ArePaired}
@@ -81,8 +86,8 @@ record Stands (s : Switch) : Type 0 where
 
 nothing_stands : (config : Configuration) → Stands (empty config)
 nothing_stands config = record {
-  told = λ place. subst ToldIn (sym (nothing_held (Numbered Orig) 1280 place)) tt;
-  winners = λ place. subst ShortIn (sym (nothing_held (Numbered Job) 1024 place)) tt;
+  told = λ seat. subst ToldIn (sym (nothing_held (Numbered Orig) 1280 seat)) tt;
+  winners = λ seat. subst ShortIn (sym (nothing_held (Numbered Job) 1024 seat)) tt;
   fit = λ slot. subst FitsIn (sym (nothing_held Chan (config.settings.max_sessions + 1) slot)) tt;
 }
 
@@ -118,7 +123,20 @@ live_partner s agree fit =
 
 pub run_has_legs : (config : Configuration) (entries : List Entry) → IsWithin config → IsRunFrom (empty config) entries →
     LegsAreChannels (run_from (empty config) entries)
-run_has_legs config entries within run = legs_are_channels (run_from (empty config) entries) (standing_run config entries within run).legs
+run_has_legs config entries within run =
+    let s : Switch = run_from (empty config) entries in
+    let h : Standing s = standing_run config entries within run in
+    legs_are_channels s h.legs
+    (λ slot number c there names. leg_in s number slot h.legs.distinct (berth_now s h.berths slot number c there names))
+
+pub run_legs_undecided : (config : Configuration) (entries : List Entry) → IsWithin config → IsRunFrom (empty config) entries →
+    LegsAreUndecided (run_from (empty config) entries)
+run_legs_undecided config entries within run = record {
+  each = λ slot number c there names.
+      let apt : IsApt c = (standing_run config entries within run).bonds.apt slot c there in
+      let some : is_some c.leg_of ≡ true = ap is_some names in
+      record { outbound = apt.outbound some; idle = apt.idle some; dials = apt.free some };
+}
 
 pub failures_are_told : (config : Configuration) (entries : List Entry) → IsWithin config → IsRunFrom (empty config) entries →
     FailuresAreTold (run_from (empty config) entries)
@@ -151,6 +169,16 @@ pub run_rows_agree : (config : Configuration) (entries : List Entry) → IsWithi
 run_rows_agree config entries within run =
     rows_agree (run_from (empty config) entries) (standing_run config entries within run).bonds
 
+pub run_waits_bridged : (config : Configuration) (entries : List Entry) → IsWithin config → IsRunFrom (empty config) entries →
+    BridgedWait (run_from (empty config) entries)
+run_waits_bridged config entries within run =
+    let h : Standing (run_from (empty config) entries) = standing_run config entries within run in
+    record {
+      wait = λ slot c peer there names. hold_bridged c.wait ((h.bonds.apt slot c there).held (ap is_some names));
+      alone = λ slot c peer there names. (h.bonds.apt slot c there).alone (ap is_some names);
+      back = h.held;
+    }
+
 -- a channel is in no slot that is open, as none is
 awaited_owned : (s : Switch) → Awaits s → (slot number : ℕ) (c : Chan) → chan_at s slot ≡ Some c → awaited_by c ≡ Some number →
     IsOwnedBy s slot number
@@ -172,7 +200,7 @@ owners_wait config entries within run =
 -- each stands in one slot, and for each of them a slot is filled, or an entry was paid
 record Counted (s : Switch) : Type 0 where
   named : Named (seen s)
-  slots : length s.channels ≡ s.config.settings.max_sessions + 1
+  slots : length s.channels ≡ s.settings.max_sessions + 1
   paid : 64 * s.drawn.identifiers ≤ s.cost + 64 * taken_in s.channels
 
 none_counted : (config : Configuration) → IsWithin config → Counted (empty config)
@@ -183,49 +211,49 @@ none_counted config within = record {
         naming_none config.settings.core_uuid 0 (uuid_in (empty config).channels)
         (λ q. ap (option_map uuid_of) (nothing_held Chan (config.settings.max_sessions + 1) q));
   };
-  slots = no_places_length Chan (config.settings.max_sessions + 1);
+  slots = no_seats_length Chan (config.settings.max_sessions + 1);
   paid = omega arith;
 }
 
 -- an entry that is not refused finds room for the largest one
-has_room : (s : Switch) (entry : Entry) → refusal_of s entry ≡ None → s.cost + 65600 ≤ s.config.settings.journal_limit
-has_room s entry defined = ltb-false s.config.settings.journal_limit (s.cost + 65600) (not_full s entry defined)
+has_room : (s : Switch) (entry : Entry) → refusal_of s entry ≡ None → s.cost + 65600 ≤ s.settings.journal_limit
+has_room s entry defined = ltb-false s.settings.journal_limit (s.cost + 65600) (not_full s entry defined)
 
 -- one entry more, of which all that counts is known; it frees one slot at most, and costs as much as an identifier
-closed_counted : (s t : Switch) (cost : ℕ) → Numbers 1 (seen s) (seen t) → t.config ≡ s.config → t.cost ≡ s.cost → 64 ≤ cost →
-    s.config.settings.max_sessions ≤ 256 → s.cost + 65600 ≤ 1073741824 → Counted s → Counted (after_entry cost t)
-closed_counted s t cost numbers same_config same least few_slots room h =
+closed_counted : (s t : Switch) (cost : ℕ) → Numbers 1 (seen s) (seen t) → t.settings ≡ s.settings → t.cost ≡ s.cost → 64 ≤ cost →
+    s.settings.max_sessions ≤ 256 → s.cost + 65600 ≤ 1073741824 → Counted s → Counted (after_entry cost t)
+closed_counted s t cost numbers same_settings same least few_slots room h =
     let most : t.drawn.identifiers + taken_in s.channels ≤ s.drawn.identifiers + taken_in t.channels + 1 = numbers.most in
     let paid : 64 * s.drawn.identifiers ≤ s.cost + 64 * taken_in s.channels = h.paid in
     let filled : taken_in t.channels ≤ length t.channels = taken_most t.channels in
-    let slots : length t.channels ≡ s.config.settings.max_sessions + 1 = numbers.slots ∙ h.slots in
+    let slots : length t.channels ≡ s.settings.max_sessions + 1 = numbers.slots ∙ h.slots in
     let few : t.drawn.identifiers < 2 ^ 62 - 1 = omega (arith, most, paid, filled, slots, few_slots, room) in
     record {
       named = numbers.names few h.named;
-      slots = slots ∙ ap (λ (config : Configuration). config.settings.max_sessions + 1) (sym same_config);
+      slots = slots ∙ ap (λ (settings : Settings). settings.max_sessions + 1) (sym same_settings);
       paid = omega (arith, most, same, paid, least, room);
     }
 
 acted_numbers : (a : Act) (s : Switch) → Numbers 1 (seen s) (seen (act_done a s).state)
 acted_numbers a s = acted_kept s (NumbersFrom (seen s)) (numbers_moves (seen s) s) a (numbers_stay (seen s))
 
-step_counted : (s : Switch) (entry : Entry) → s.config.settings.max_sessions ≤ 256 → s.cost + 65600 ≤ 1073741824 → Counted s →
+step_counted : (s : Switch) (entry : Entry) → s.settings.max_sessions ≤ 256 → s.cost + 65600 ≤ 1073741824 → Counted s →
     Counted (step s entry).state
 unfolding step
 step_counted s entry few_slots room h =
     let now : Switch = at_moment entry.moment s in
     closed_counted now (with_posts s (act_done entry.act now).state) (cost_of entry.act) (acted_numbers entry.act now)
-    (acted_config entry.act now)
+    (acted_settings entry.act now)
     (acted_cost entry.act now) (some_cost entry.act) few_slots room
     (record { named = h.named; slots = h.slots; paid = h.paid })
 
-run_counted : (s : Switch) (entries : List Entry) → AreInRange s.config.settings → IsRunFrom s entries → Counted s →
+run_counted : (s : Switch) (entries : List Entry) → AreInRange s.settings → IsRunFrom s entries → Counted s →
     Counted (run_from s entries)
 run_counted s [] range run h = h
 run_counted s (entry ∷ entries) range run h =
-    let room : s.cost + 65600 ≤ s.config.settings.journal_limit = has_room s entry run.0 in
+    let room : s.cost + 65600 ≤ s.settings.journal_limit = has_room s entry run.0 in
     run_counted (step s entry).state entries
-    (subst (λ (config : Configuration). AreInRange config.settings) (sym (config_step s entry)) range)
+    (subst AreInRange (sym (settings_step s entry)) range)
     run.1 (step_counted s entry range.sessions.1 (omega (arith, room, range.journal.1)) h)
 
 -- as the definition has it

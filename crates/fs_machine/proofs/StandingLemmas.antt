@@ -1,13 +1,17 @@
 -- What holds of the state behind every run in which no entry is refused, of all that leans on one another.
 use Rattle.std.proofs.lemmas.List.{length-map}
-use Rattle.fs_places.proofs.TableLemmas.{taken_in, row_found, none_held}
+use Rattle.fs_seats.proofs.TableLemmas.{taken_in, row_found, none_held}
 use Rattle.fs_machine.proofs.OwedBooks.{trying_in, books_of, SlotsAreFew}
 use Rattle.fs_machine.proofs.OwedLemmas.{trying_most}
 use Rattle.fs_machine.proofs.OwedTables.{by_job, of_slot, owned_at, owned_in, none_owned}
 use Rattle.fs_machine.proofs.TrialMoves.{trials_of, AreApart}
 use Rattle.fs_machine.proofs.AwaitedLemmas.{Awaits}
 use Rattle.fs_machine.proofs.AwaitedMoves.{awaited_moves}
-use Rattle.fs_machine.proofs.KnownMoves.{Known, known_moves, jobs_apart, fresh_number, room_there}
+use Rattle.fs_machine.proofs.KnownMoves.{Known, known_moves, jobs_apart, fresh_number, room_there, room_for_job}
+use Rattle.fs_machine.proofs.BothMoves.{Both, both_moves}
+use Rattle.fs_machine.proofs.HoldMoves.{AllHeld, holding_moves}
+use Rattle.fs_machine.proofs.BerthLemmas.{Berthed}
+use Rattle.fs_machine.proofs.BerthMoves.{berthing_moves}
 use Rattle.std.proofs.Common.{refl, ◌≡◌, ℕ, ◌+◌, ◌-◌, ◌*◌, ◌^◌, ◌<◌, ◌≤◌, min, true, List, [], ◌∷◌, length, None, Some, sym, ap, subst}
 use Rattle.std.proofs.Common.{option_and_then, ◌∙◌, arith}
 use Rattle.std.proofs.lemmas.Bool.{both_ways}
@@ -15,26 +19,27 @@ use Rattle.std.proofs.lemmas.Option.{none-some}
 use Rattle.fs_bridge.specs.Bridges.{no_bridges}
 use Rattle.fs_bridge.specs.Laws.{IsSound}
 use Rattle.fs_machine.specs.declared.entry.Act.{Act}
-use Rattle.fs_places.specs.Rows.{has_number}
+use Rattle.fs_seats.specs.Rows.{has_number}
 use Rattle.fs_machine.proofs.BondRows.{RowsFit}
 use Rattle.fs_doc.specs.Limits.{IsWithin}
 use Rattle.fs_doc.specs.Reading.{Configuration}
 use Rattle.fs_chan.specs.declared.chan.Chan.{Chan}
 use Rattle.fs_orig.specs.declared.orig.Orig.{Orig}
-use Rattle.fs_places.specs.declared.numbered.Numbered.{Numbered}
-use Rattle.fs_places.specs.Places.{no_places, held_in}
-use Rattle.fs_places.proofs.HeldLemmas.{nothing_held}
+use Rattle.fs_seats.specs.declared.numbered.Numbered.{Numbered}
+use Rattle.fs_seats.specs.Seats.{no_seats, held_in}
+use Rattle.fs_seats.proofs.HeldLemmas.{nothing_held}
+use Rattle.fs_doc.specs.declared.settings.Settings.{Settings}
 use Rattle.fs_state.specs.Switch.{Switch, empty, chan_at, orig_of, at_moment}
 use Rattle.fs_state.specs.Moves.{partner_of}
-use Rattle.fs_state.proofs.LegTables.{Seat, seat_at, seat_number}
-use Rattle.fs_state.proofs.SlotLemmas.{no_places_length}
+use Rattle.fs_state.proofs.LegTables.{Berth, berth_at, berth_number}
+use Rattle.fs_state.proofs.SlotLemmas.{no_seats_length}
 use Rattle.fs_machine.specs.declared.entry.Entry.{Entry}
 use Rattle.fs_machine.specs.Entries.{cost_of}
 use Rattle.fs_machine.specs.Step.{refusal_of, act_done, step}
 use Rattle.fs_machine.specs.Runs.{run_from, IsRunFrom}
-use Rattle.fs_machine.proofs.Kept.{KeptByMoves}
+use Rattle.fs_machine.proofs.Kept.{Stage, Fact, KeptByMoves}
 use Rattle.fs_machine.proofs.TieLemmas.{named_in, Ties}
-use Rattle.fs_machine.proofs.OrderLemmas.{acted_config}
+use Rattle.fs_machine.proofs.OrderLemmas.{acted_settings}
 use Rattle.fs_machine.proofs.ActWalk.{acted_kept}
 use Rattle.fs_machine.proofs.PartnerMoves.{ArePaired, Partners, partners_moves}
 use Rattle.fs_machine.proofs.SeenLemmas.{seen, numbers_stay}
@@ -47,8 +52,8 @@ use Rattle.fs_machine.proofs.OwnerMoves.{Owners, Owning, owners_of, owners_moves
 use Rattle.fs_machine.proofs.SlotCounts.{few_slots}
 use Rattle.fs_machine.proofs.OwedSteps.{Holds, holds_empty, holds_step, few_drawn}
 
--- what is owed, the legs of originations, bridges, whose originations there are, partners, what jobs try, who waits, and how many slots
--- there are
+-- what is owed, the legs of originations, bridges, whose originations there are, partners, what jobs try, who waits for what, which legs
+-- channels are, and how many slots there are
 pub record Standing (s : Switch) : Type 0 where
   pub holds : Holds (books_of s)
   pub legs : LegsStand (roles_of s)
@@ -57,8 +62,10 @@ pub record Standing (s : Switch) : Type 0 where
   pub paired : ArePaired s
   pub trials : AreApart (trials_of s)
   pub waits : Awaits s
-  pub slots : length s.channels ≡ s.config.settings.max_sessions + 1
-  pub sessions : s.config.settings.max_sessions ≤ 256
+  pub held : AllHeld s
+  pub berths : Berthed s
+  pub slots : length s.channels ≡ s.settings.max_sessions + 1
+  pub sessions : s.settings.max_sessions ≤ 256
 
 -- ---- a switch to which nothing has happened
 
@@ -82,21 +89,21 @@ nothing_paired config = record {
 }
 
 -- none stands in an empty table
-none_stands : (T : Type 0) (count number place : ℕ) → has_number number (held_in (no_places {T = Numbered T} count) place) ≡ true → ⊥
-none_stands T count number place stands =
-    both_ways (has_number number (held_in (no_places {T = Numbered T} count) place))
-    (ap (has_number number) (nothing_held (Numbered T) count place)) stands
+none_stands : (T : Type 0) (count number seat : ℕ) → has_number number (held_in (no_seats {T = Numbered T} count) seat) ≡ true → ⊥
+none_stands T count number seat stands =
+    both_ways (has_number number (held_in (no_seats {T = Numbered T} count) seat))
+    (ap (has_number number) (nothing_held (Numbered T) count seat)) stands
 
-none_seated : (place position : ℕ) (seat : Seat) → seat_at (no_places {T = Numbered Orig} 1280) place position ≡ Some seat → ⊥
-none_seated place position seat h =
-    none_stands Orig 1280 seat.number place (seat_number position (held_in (no_places {T = Numbered Orig} 1280) place) seat h)
+none_berthed : (seat position : ℕ) (berth : Berth) → berth_at (no_seats {T = Numbered Orig} 1280) seat position ≡ Some berth → ⊥
+none_berthed seat position berth h =
+    none_stands Orig 1280 berth.number seat (berth_number position (held_in (no_seats {T = Numbered Orig} 1280) seat) berth h)
 
 nothing_stands : (config : Configuration) → LegsStand (roles_of (empty config))
 nothing_stands config = record {
   distinct = λ number p q is_p is_q. absurd (none_stands Orig 1280 number p is_p);
   within = λ number p is. absurd (none_stands Orig 1280 number p is);
-  stand = λ place position seat has. absurd (none_seated place position seat has);
-  apart = λ place p q seat first second. absurd (none_seated place p seat first);
+  stand = λ seat position berth has. absurd (none_berthed seat position berth has);
+  apart = λ seat p q berth first second. absurd (none_berthed seat p berth first);
 }
 
 no_chan : (config : Configuration) (slot : ℕ) (c : Chan) → chan_at (empty config) slot ≡ Some c → ⊥
@@ -104,7 +111,7 @@ no_chan config slot c there = none-some c (sym (nothing_held Chan (config.settin
 
 no_orig : (config : Configuration) (number : ℕ) (o : Orig) → orig_of (empty config) number ≡ Some o → ⊥
 no_orig config number o there =
-    let found = row_found (no_places {T = Numbered Orig} 1280) number o there in
+    let found = row_found (no_seats {T = Numbered Orig} 1280) number o there in
     none_held 1280 found.0 found.1 found.2.there
 
 none_sound : IsSound no_bridges
@@ -163,7 +170,9 @@ standing_empty config within = record {
     own = λ slot number c there waits. absurd (no_chan config slot c there);
     live = λ slot number c there waits. absurd (no_chan config slot c there);
   };
-  slots = no_places_length Chan (config.settings.max_sessions + 1);
+  held = λ slot c there. absurd (no_chan config slot c there);
+  berths = λ slot number c there names. absurd (no_chan config slot c there);
+  slots = no_seats_length Chan (config.settings.max_sessions + 1);
   sessions = within.settings.sessions.1;
 }
 
@@ -181,26 +190,26 @@ step_pairs s entry h =
 -- slots own few originations
 pub slots_few : (s : Switch) → Standing s → SlotsAreFew s
 slots_few s h =
-    let slots : length s.channels ≡ s.config.settings.max_sessions + 1 = h.slots in
-    let sessions : s.config.settings.max_sessions ≤ 256 = h.sessions in
+    let slots : length s.channels ≡ s.settings.max_sessions + 1 = h.slots in
+    let sessions : s.settings.max_sessions ≤ 256 = h.sessions in
     let owners : Owners s = owners_of s h.owned in
     few_slots s owners.numbers owners.wait h.paired.zero (omega (arith, slots, sessions))
 
--- at its start an entry has a place for what a channel dials
+-- at its start an entry has a seat for what a channel dials
 jobs_few : (s : Switch) → Standing s → taken_in (owned_in by_job s.origs) ≤ 1024
 jobs_few s h =
     let fewer : taken_in (owned_in by_job s.origs) ≤ trying_in s.jobs = h.holds.sound.tries.fewer in
     let most : trying_in s.jobs ≤ length s.jobs = trying_most s.jobs in
-    let places : length s.jobs ≡ 1024 = h.holds.sound.tries.job_places in
-    omega (arith, fewer, most, places)
+    let seats : length s.jobs ≡ 1024 = h.holds.sound.tries.job_seats in
+    omega (arith, fewer, most, seats)
 
-all_places : (s : Switch) → Standing s → length s.origs ≡ 1280
-all_places s h = sym (length-map s.origs (owned_at by_job)) ∙ h.holds.sound.tries.orig_places
+all_seats : (s : Switch) → Standing s → length s.origs ≡ 1280
+all_seats s h = sym (length-map s.origs (owned_at by_job)) ∙ h.holds.sound.tries.orig_seats
 
 slots_within : (s : Switch) → Standing s → length s.channels ≤ 257
 slots_within s h =
-    let slots : length s.channels ≡ s.config.settings.max_sessions + 1 = h.slots in
-    let sessions : s.config.settings.max_sessions ≤ 256 = h.sessions in
+    let slots : length s.channels ≡ s.settings.max_sessions + 1 = h.slots in
+    let sessions : s.settings.max_sessions ≤ 256 = h.sessions in
     omega (arith, slots, sessions)
 
 -- what is known as it begins
@@ -209,22 +218,54 @@ known_first s few h = (
   record { bonds = h.bonds; owned = h.owned; room = omega (arith, few) },
   (
     record { ties = h.paired.ties; zero = h.paired.zero },
-    (numbers_stay (seen s), (refl, record { apart = h.trials; next = omega (arith, few) })),
+    (numbers_stay (seen s), ((refl, refl, refl), record { apart = h.trials; next = omega (arith, few) })),
   ),
 )
 
--- and as it is over
-known_acted : (what : Act) (s : Switch) → s.drawn.origs < 2 ^ 30 → Standing s →
-    Known s (Some 1) (act_done what s).state × Awaits (act_done what s).state
-known_acted what s few h =
-    acted_kept s (λ b t. Known s b t × Awaits t)
-    (awaited_moves s (Known s) (known_moves s h.legs)
-    (λ t known job conn orig winner caller does slot has. jobs_apart s t known job conn orig winner caller does slot has.orig has.there
-    has.owned)
-    (fresh_number s) (room_there s (jobs_few s h) (all_places s h) (slots_within s h))) what (known_first s few h, h.waits)
+-- few originations were tried meanwhile
+few_meanwhile : (s : Switch) → s.drawn.origs < 2 ^ 30 → (b : Stage) (t : Switch) → Known s b t → t.drawn.origs < 2 ^ 62
+few_meanwhile s few None t known = let same : t.drawn.origs ≡ s.drawn.origs = known.1.1.1.0.2 in omega (arith, few, same)
+few_meanwhile s few (Some n) t known = let most : t.drawn.origs ≤ s.drawn.origs + 1 = known.1.1.1.0 in omega (arith, few, most)
+
+-- and all of it stands as it is over
+module _ (s : Switch) (few : s.drawn.origs < 2 ^ 30) (h : Standing s) where
+  abbrev Waiting : Fact
+  Waiting b t = Known s b t × Awaits t
+
+  waiting_moves : KeptByMoves s Waiting
+  waiting_moves =
+      awaited_moves s h.legs (Known s) (known_moves s h.legs) (λ b t known. known.0.bonds)
+      (λ t known job conn orig winner caller does slot has. jobs_apart s t known job conn orig winner caller does slot has.orig has.there
+      has.owned)
+      (fresh_number s) (room_there s (jobs_few s h) (all_seats s h) (slots_within s h))
+
+  abbrev Holding : Fact
+  Holding b t = Waiting b t × AllHeld t
+
+  holding : KeptByMoves s Holding
+  holding = holding_moves s Waiting waiting_moves (λ b t k. k.0.0.bonds) (λ b t k. k.0.1.0.zero)
+
+  abbrev Having : Fact
+  Having = Both Legs Holding
+
+  having : KeptByMoves s Having
+  having = both_moves Legs Holding s (legs_moves s h.legs) holding
+
+  abbrev pub Acting : Fact
+  Acting b t = Having b t × Berthed t
+
+  acting : KeptByMoves s Acting
+  acting =
+      berthing_moves s h.legs h.berths Having having (λ b t k. k.1.0.0.0.bonds) (λ b t k. k.1.0.0.1.0.zero)
+      (λ b t k. k.0 (few_meanwhile s few b t k.1.0.0)) (λ b t k. k.1.0.1)
+      (λ t k slot c there none new. room_there s (jobs_few s h) (all_seats s h) (slots_within s h) t k.1.0.0 slot c there none new)
+      (λ t k free new. room_for_job s h.holds.sound.tries (slots_within s h) t k.1.0.0 free new)
+
+  pub acted : (what : Act) → Acting (Some 1) (act_done what s).state
+  acted what = acted_kept s Acting acting what (((λ few. h.legs), ((known_first s few h, h.waits), h.held)), h.berths)
 
 -- the same facts at another moment
-at_its_moment : (moment : ℕ) (s : Switch) → Standing s → Standing (at_moment moment s)
+pub at_its_moment : (moment : ℕ) (s : Switch) → Standing s → Standing (at_moment moment s)
 at_its_moment moment s h = record {
   holds = h.holds;
   legs = h.legs;
@@ -233,6 +274,8 @@ at_its_moment moment s h = record {
   paired = record { ties = h.paired.ties; zero = h.paired.zero };
   trials = h.trials;
   waits = h.waits;
+  held = h.held;
+  berths = h.berths;
   slots = h.slots;
   sessions = h.sessions;
 }
@@ -246,27 +289,32 @@ standing_step s entry accepts h =
     let holds : Holds (books_of (step s entry).state) =
     holds_step s entry Owning moves (λ b t owning. (owners_of t owning.owned).own) (λ b t owning. (owners_of t owning.owned).numbers)
     accepts (slots_few s h) (record { bonds = h.bonds; owned = h.owned; room = omega (arith, few) }) h.holds in
-    behind holds (known_acted entry.act now few (at_its_moment entry.moment s h))
+    behind holds (acted now few (at_its_moment entry.moment s h) entry.act)
   where
     behind : Holds (books_of (step s entry).state) →
-        Known (at_moment entry.moment s) (Some 1) (act_done entry.act (at_moment entry.moment s)).state
-        × Awaits (act_done entry.act (at_moment entry.moment s)).state →
-        Standing (step s entry).state
-    behind holds acted =
+        ((Legs (Some 1) (act_done entry.act (at_moment entry.moment s)).state
+        × ((Known (at_moment entry.moment s) (Some 1) (act_done entry.act (at_moment entry.moment s)).state
+        × Awaits (act_done entry.act (at_moment entry.moment s)).state)
+        × AllHeld (act_done entry.act (at_moment entry.moment s)).state))
+        × Berthed (act_done entry.act (at_moment entry.moment s)).state) → Standing (step s entry).state
+    behind holds k =
         let now : Switch = at_moment entry.moment s in
         let t : Switch = (act_done entry.act now).state in
+        let known : Known now (Some 1) t = k.0.1.0.0 in
         let paid : 64 * t.drawn.origs ≤ min (t.cost + cost_of entry.act) (2 ^ 64 - 1) = holds.paid.origs in
         record {
           holds = holds;
-          legs = acted_kept now Legs (legs_moves now h.legs) entry.act (λ few. h.legs) (omega (arith, paid));
-          bonds = acted.0.0.bonds;
-          owned = acted.0.0.owned;
-          paired = record { ties = acted.0.1.0.ties; zero = acted.0.1.0.zero };
-          trials = acted.0.1.1.1.1.apart;
-          waits = acted.1;
-          slots = acted.0.1.1.0.slots
-              ∙ (h.slots ∙ ap (λ (c : Configuration). c.settings.max_sessions + 1) (sym (acted_config entry.act now)));
-          sessions = subst (λ (c : Configuration). c.settings.max_sessions ≤ 256) (sym (acted_config entry.act now)) h.sessions;
+          legs = k.0.0 (omega (arith, paid));
+          bonds = known.0.bonds;
+          owned = known.0.owned;
+          paired = record { ties = known.1.0.ties; zero = known.1.0.zero };
+          trials = known.1.1.1.1.apart;
+          waits = k.0.1.0.1;
+          held = k.0.1.1;
+          berths = k.1;
+          slots = known.1.1.0.slots
+              ∙ (h.slots ∙ ap (λ (settings : Settings). settings.max_sessions + 1) (sym (acted_settings entry.act now)));
+          sessions = subst (λ (settings : Settings). settings.max_sessions ≤ 256) (sym (acted_settings entry.act now)) h.sessions;
         }
 
 -- ---- runs

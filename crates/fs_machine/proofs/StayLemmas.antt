@@ -2,13 +2,14 @@
 use Rattle.std.proofs.Common.{◌≡◌, ℕ, ◌==◌, nat_lt, Bool, true, false, if◌then◌else◌, List, [], ◌∷◌, Option, None, Some, ◌⊎◌, inl, inr}
 use Rattle.std.proofs.Common.{is_none, refl, sym, ap, subst, ◌∙◌, true≢false}
 use Rattle.std.specs.Prelude.{is_some}
-use Rattle.std.proofs.lemmas.Bool.{cases_eq}
+use Rattle.std.proofs.lemmas.Bool.{cases_eq, false≢true}
 use Rattle.fs_text.specs.declared.states.State.{State}
 use Rattle.fs_text.specs.declared.states.State.TheVariants.{CsNew, CsInit, CsRouting, CsExecute, CsPark, CsConsumeMedia, CsExchangeMedia}
 use Rattle.fs_text.specs.declared.states.State.TheVariants.{CsHangup, CsReporting}
 use Rattle.fs_text.specs.State.{state_row, state_number}
 use Rattle.fs_text.specs.declared.event_names.EventName.{EventName}
-use Rattle.fs_text.specs.declared.event_names.EventName.TheVariants.{ChannelState, ChannelAnswer, ChannelPark, ChannelUnpark}
+use Rattle.fs_text.specs.declared.event_names.EventName.TheVariants.{ChannelState, ChannelAnswer, ChannelExecuteComplete, ChannelPark}
+use Rattle.fs_text.specs.declared.event_names.EventName.TheVariants.{ChannelUnpark}
 use Rattle.fs_chan.specs.declared.action.Action.{Action}
 use Rattle.fs_chan.specs.declared.chan.Chan.{Chan}
 use Rattle.fs_chan.specs.declared.peer.Direction.{Direction}
@@ -17,22 +18,26 @@ use Rattle.fs_chan.specs.declared.wait.Wait.{Wait}
 use Rattle.fs_chan.specs.declared.wait.Wait.TheVariants.{Ready, Bridged, Legs}
 use Rattle.fs_chan.specs.Changes.{is_live, with_answer_place, wait_at_rest, HasShortFields}
 use Rattle.fs_chan.specs.Bridging.{awaited_in, with_disposition}
+use Rattle.fs_chan.specs.Exports.{with_set}
 use Rattle.fs_chan.specs.Work as chan
 use Rattle.fs_text.specs.Texts.{Text}
+use Rattle.fs_vars.specs.Pairs.{same_text, value_of}
 use Rattle.fs_vars.specs.Variables.{Variables}
 use Rattle.fs_chan.specs.declared.assignment.Assignment.{Assignment}
 use Rattle.fs_machine.specs.Applications.{with_assignment}
 use Rattle.fs_orig.specs.declared.orig.Orig.{Orig}
 use Rattle.fs_orig.specs.Changes.{with_answer}
-use Rattle.fs_places.specs.Places.{held_in, with_held}
-use Rattle.fs_places.proofs.HeldLemmas.{held_here, held_there, held_within}
+use Rattle.fs_seats.specs.Seats.{held_in, with_held}
+use Rattle.fs_seats.proofs.HeldLemmas.{held_here, held_there, held_within}
 use Rattle.fs_state.specs.declared.event.Event.{Event}
 use Rattle.fs_state.specs.Switch.{Switch, chan_at, with_chan, orig_of, with_event}
 use Rattle.fs_state.specs.Moves.{plain_event, with_leaving_event, with_coming_event, with_state_events, with_changed_chan_from}
 use Rattle.fs_state.specs.Moves.{with_changed_chan, after_move_from, after_move, with_running, orig_changed_from, orig_changed, leg_changed}
-use Rattle.fs_state.specs.Moves.{application_told, its_leg_changed, after_answer_from, after_one_answer, partner_at, for_slot, after_answer}
+use Rattle.fs_state.specs.Moves.{application_event, its_leg_changed, after_answer_from, after_one_answer, partner_at, for_slot, after_answer}
 use Rattle.fs_machine.specs.Work.{first_state, with_variables}
-use Rattle.fs_machine.proofs.Kept.{hold_in, Links, links_of, is_idle, IsApt, IsAtWork, Stays, IsOfNoBridge}
+use Rattle.fs_machine.specs.Sound.{is_idle}
+use Rattle.fs_machine.proofs.LimitLemmas.{AreLimited, cause_key, with_set_limited, with_set_stays}
+use Rattle.fs_machine.proofs.Kept.{Stage, hold_in, Links, links_of, IsApt, IsAtWork, KeepsVars, Stays, TellsNoBridge}
 
 -- ---- states that live
 
@@ -84,6 +89,13 @@ pub first_lives : (direction : Direction) → Lives (first_state direction)
 first_lives Inbound = routing_lives
 first_lives Outbound = media_lives
 
+-- a leg that is not decided yet lives
+pub idle_lives : (state : State) → is_idle state ≡ true → Lives state
+idle_lives CsNew is = new_lives
+idle_lives CsInit is = init_lives
+idle_lives CsConsumeMedia is = media_lives
+idle_lives _ is = absurd (false≢true is)
+
 -- ---- what a channel waits for
 
 hold_awaited : (wait : Wait) → awaited_in (hold_in wait) ≡ awaited_in wait
@@ -94,6 +106,27 @@ hold_awaited _ = refl
 -- held by the same, it waits for the same legs
 pub same_awaited : (old new : Wait) → hold_in new ≡ hold_in old → awaited_in new ≡ awaited_in old
 same_awaited old new same = sym (hold_awaited new) ∙ (ap awaited_in same ∙ hold_awaited old)
+
+-- ---- variables
+
+-- those that stay
+pub same_vars : {b : Stage} (old new : Variables) → new ≡ old → KeepsVars b old new
+same_vars old new same = record {
+  limits = λ limited. subst AreLimited (sym same) limited;
+  cause = λ begun. ap (λ (vars : Variables). value_of vars.pairs cause_key) same;
+}
+
+-- of a name that the machine sets otherwise
+pub set_vars : {b : Stage} (vars : Variables) (name value : Text) → same_text cause_key name ≡ false →
+    KeepsVars b vars (with_set vars name value)
+set_vars vars name value apart = record {
+  limits = with_set_limited vars name value;
+  cause = λ begun. with_set_stays name cause_key value vars apart;
+}
+
+-- others, before anything has begun
+pub early_vars : (old new : Variables) → (AreLimited old → AreLimited new) → KeepsVars None old new
+early_vars old new limits = record { limits = limits; cause = λ begun. absurd (false≢true begun) }
 
 -- ---- a channel at work
 
@@ -122,13 +155,14 @@ freed c works =
     ap (λ (hold : Wait). record { uuid = c.uuid; partner = c.partner; peer = c.peer; leg_of = c.leg_of; hold = hold }) (sym works.free)
 
 -- it goes on, or waits for something that does not hold it
-pub work_stays : (c d : Chan) → IsAtWork c → links_of d ≡ free_links c → is_live d ≡ true →
-    (HasShortFields c.profile → HasShortFields d.profile) → Stays c d
-work_stays c d works links live short = record {
+pub work_stays : {b : Stage} (c d : Chan) → IsAtWork c → links_of d ≡ free_links c → is_live d ≡ true →
+    (HasShortFields c.profile → HasShortFields d.profile) → d.vars ≡ c.vars → Stays b c d
+work_stays c d works links live short vars = record {
   links = links ∙ freed c works;
   live = live ∙ sym works.live;
   short = short;
   apt = nothing_else c d works (ap (λ (l : Links). l.leg_of) links) (ap (λ (l : Links). l.peer) links);
+  vars = same_vars c.vars d.vars vars;
 }
 
 -- what it waits for at rest does not hold it
@@ -157,8 +191,12 @@ pub record Quiet (old new : Chan) : Type 0 where
 abbrev pub AllQuiet : (Chan → Chan) → Type 0
 AllQuiet change = (c : Chan) → Quiet c (change c)
 
-pub quiet_stays : (c d : Chan) → Quiet c d → Stays c d
-quiet_stays c d quiet = record {
+-- how a change leaves the variables of each channel
+abbrev pub AllKeep : Stage → (Chan → Chan) → Type 0
+AllKeep b change = (c : Chan) → KeepsVars b c.vars (change c).vars
+
+pub quiet_stays : {b : Stage} (c d : Chan) → Quiet c d → KeepsVars b c.vars d.vars → Stays b c d
+quiet_stays c d quiet vars = record {
   links = quiet.links;
   live = ap (λ (state : State). nat_lt (state_number state) (state_number CsHangup)) quiet.state;
   short = subst HasShortFields (sym quiet.profile);
@@ -169,6 +207,7 @@ quiet_stays c d quiet = record {
     alone = λ some. leg ∙ apt.alone (ap is_some (sym peer) ∙ some);
     held = λ some. ap (λ (l : Links). l.hold) quiet.links ∙ apt.held (ap is_some (sym peer) ∙ some);
   };
+  vars = vars;
 }
   where
     leg : d.leg_of ≡ c.leg_of
@@ -192,6 +231,17 @@ after_taking_quiet : (line : List Action) → AllQuiet (chan.after_taking line)
 after_taking_quiet [] c = record { links = refl; direction = refl; state = refl; profile = refl }
 after_taking_quiet (next ∷ later) c = without_first_quiet c.messages c
 
+without_first_vars : (messages : List Action) (c : Chan) → (chan.without_first messages c).vars ≡ c.vars
+without_first_vars [] c = refl
+without_first_vars (message ∷ messages) c = refl
+
+after_taking_vars : (line : List Action) (c : Chan) → (chan.after_taking line c).vars ≡ c.vars
+after_taking_vars [] c = refl
+after_taking_vars (next ∷ later) c = without_first_vars c.messages c
+
+pub after_next_keeps : {b : Stage} → AllKeep b chan.after_next
+after_next_keeps c = same_vars c.vars (chan.after_next c).vars (after_taking_vars (chan.pending_of c) c)
+
 pub after_next_quiet : AllQuiet chan.after_next
 after_next_quiet c = after_taking_quiet (chan.pending_of c) c
 
@@ -204,8 +254,8 @@ variables_quiet vars c = record { links = refl; direction = refl; state = refl; 
 pub assignment_quiet : (how : Assignment) (argument : Text) → AllQuiet (with_assignment how argument)
 assignment_quiet how argument c = record { links = refl; direction = refl; state = refl; profile = refl }
 
-pub answer_quiet : (place : ℕ) → AllQuiet (with_answer_place place)
-answer_quiet place c = record { links = refl; direction = refl; state = refl; profile = refl }
+pub answer_quiet : (seat : ℕ) → AllQuiet (with_answer_place seat)
+answer_quiet seat c = record { links = refl; direction = refl; state = refl; profile = refl }
 
 pub disposition_quiet : (text : Text) → AllQuiet (with_disposition text)
 disposition_quiet text c = record { links = refl; direction = refl; state = refl; profile = refl }
@@ -226,20 +276,21 @@ is_at_work channels slot c at there =
 
 -- ---- what is told of a change of state
 
--- the application that begins or is over is no bridge
-pub application_plain : (found : Option Action) → IsOfNoBridge (application_told found)
-application_plain None = tt
-application_plain (Some action) = tt
+-- the application that is over is no bridge
+pub application_plain : (found : Option Action) (slot : ℕ) → TellsNoBridge (application_event ChannelExecuteComplete found slot)
+application_plain None slot = (refl, tt)
+application_plain (Some action) slot = (refl, tt)
 
 -- each event of a change of state tells of its channel alone
 module _ (P : Switch → Type 0)
-    (plain_kept : (name : EventName) (slot : ℕ) (s : Switch) → P s → P (with_event (plain_event name slot) s)) where
+    (plain_kept : (name : EventName) (slot : ℕ) (s : Switch) → TellsNoBridge (plain_event name slot) → P s →
+    P (with_event (plain_event name slot) s)) where
   left_plain_kept : (state : State) (slot : ℕ) {s : Switch} → P s → P (with_leaving_event state slot s)
-  left_plain_kept CsPark slot h = plain_kept ChannelUnpark slot _ h
+  left_plain_kept CsPark slot h = plain_kept ChannelUnpark slot _ (refl, tt) h
   left_plain_kept _ slot h = h
 
   come_plain_kept : (state : State) (slot : ℕ) {s : Switch} → P s → P (with_coming_event state slot s)
-  come_plain_kept CsPark slot h = plain_kept ChannelPark slot _ h
+  come_plain_kept CsPark slot h = plain_kept ChannelPark slot _ (refl, tt) h
   come_plain_kept _ slot h = h
 
   pub plain_differing_kept : (b : Bool) {s t : Switch} → P s → P t → P (if b then s else t)
@@ -249,10 +300,11 @@ module _ (P : Switch → Type 0)
   pub state_plain_kept : (old new : State) (slot : ℕ) {s : Switch} → P s → P (with_state_events old new slot s)
   state_plain_kept old new slot h =
       plain_differing_kept (state_number old == state_number new) h
-      (plain_kept ChannelState slot _ (come_plain_kept new slot (left_plain_kept old slot h)))
+      (plain_kept ChannelState slot _ (refl, tt) (come_plain_kept new slot (left_plain_kept old slot h)))
 
 -- a channel is changed, and tells of that
-pub moved_plain : (P : Switch → Type 0) (plain_kept : (name : EventName) (slot : ℕ) (s : Switch) → P s →
+pub moved_plain : (P : Switch → Type 0)
+    (plain_kept : (name : EventName) (slot : ℕ) (s : Switch) → TellsNoBridge (plain_event name slot) → P s →
     P (with_event (plain_event name slot) s)) (change : Chan → Chan) (slot : ℕ) (s : Switch) →
     ((c : Chan) → chan_at s slot ≡ Some c → P (with_chan slot (Some (change c)) s)) → P s → P (after_move change slot s)
 moved_plain P plain_kept change slot s there h = by (chan_at s slot) refl
@@ -263,8 +315,9 @@ moved_plain P plain_kept change slot s there h = by (chan_at s slot) refl
 
 -- the same for what each event keeps
 module _ (P : Switch → Type 0) (told_kept : (event : Event) (s : Switch) → P s → P (with_event event s)) where
-  plain_told : (name : EventName) (slot : ℕ) (s : Switch) → P s → P (with_event (plain_event name slot) s)
-  plain_told name slot s h = told_kept (plain_event name slot) s h
+  plain_told : (name : EventName) (slot : ℕ) (s : Switch) → TellsNoBridge (plain_event name slot) → P s →
+      P (with_event (plain_event name slot) s)
+  plain_told name slot s plain h = told_kept (plain_event name slot) s h
 
   pub differing_kept : (b : Bool) {s t : Switch} → P s → P t → P (if b then s else t)
   differing_kept b first second = plain_differing_kept P plain_told b first second
@@ -288,18 +341,18 @@ changed_there P change slot s there h = by (chan_at s slot) refl
 -- ---- it is at work still
 
 -- where a channel that is at work becomes one that is
-works_put : (channels : List (Option Chan)) (slot place : ℕ) (old new : Chan) → held_in channels place ≡ Some old →
-    (IsAtWork old → IsAtWork new) → WorksAt channels slot → WorksAt (with_held channels place (Some new)) slot
-works_put channels slot place old new there keeps at = by (cases_eq slot place)
+works_put : (channels : List (Option Chan)) (slot seat : ℕ) (old new : Chan) → held_in channels seat ≡ Some old →
+    (IsAtWork old → IsAtWork new) → WorksAt channels slot → WorksAt (with_held channels seat (Some new)) slot
+works_put channels slot seat old new there keeps at = by (cases_eq slot seat)
   where
-    by : (slot ≡ place) ⊎ (slot ≡ place → ⊥) → WorksAt (with_held channels place (Some new)) slot
+    by : (slot ≡ seat) ⊎ (slot ≡ seat → ⊥) → WorksAt (with_held channels seat (Some new)) slot
     by (inl same) = record {
       chan = new;
-      there = ap (held_in (with_held channels place (Some new))) same ∙ held_here channels place (Some new)
-          (held_within channels place old there);
+      there = ap (held_in (with_held channels seat (Some new))) same ∙ held_here channels seat (Some new)
+          (held_within channels seat old there);
       works = keeps (is_at_work channels slot old at (ap (held_in channels) same ∙ there));
     }
-    by (inr other) = record { chan = at.chan; there = held_there channels place slot (Some new) other ∙ at.there; works = at.works }
+    by (inr other) = record { chan = at.chan; there = held_there channels seat slot (Some new) other ∙ at.there; works = at.works }
 
 pub moved_works : (change : Chan → Chan) (slot : ℕ) (s : Switch) → AllQuiet change → WorksAt s.channels slot →
     WorksAt (after_move change slot s).channels slot
@@ -326,21 +379,21 @@ pub its_leg_channels : (change : ℕ → Orig → Orig) (slot : ℕ) (leg_of : O
 its_leg_channels change slot None s = refl
 its_leg_channels change slot (Some number) s = orig_changed_channels (leg_changed change slot) number s
 
-one_answered_works : (slot place : ℕ) (s : Switch) → WorksAt s.channels slot → WorksAt (after_one_answer place s).channels slot
-one_answered_works slot place s at = by (chan_at s place) refl
+one_answered_works : (slot seat : ℕ) (s : Switch) → WorksAt s.channels slot → WorksAt (after_one_answer seat s).channels slot
+one_answered_works slot seat s at = by (chan_at s seat) refl
   where
-    put : (c : Chan) → chan_at s place ≡ Some c → (test : Bool) →
-        WorksAt (if test then its_leg_changed (λ position. with_answer position s.entries) place c.leg_of
-        (with_event (plain_event ChannelAnswer place) (with_chan place (Some (with_answer_place s.entries c)) s)) else s).channels slot
+    put : (c : Chan) → chan_at s seat ≡ Some c → (test : Bool) →
+        WorksAt (if test then its_leg_changed (λ position. with_answer position s.entries) seat c.leg_of
+        (with_event (plain_event ChannelAnswer seat) (with_chan seat (Some (with_answer_place s.entries c)) s)) else s).channels slot
     put c is true =
         subst (λ (channels : List (Option Chan)). WorksAt channels slot)
-        (sym (its_leg_channels (λ position. with_answer position s.entries) place c.leg_of
-        (with_event (plain_event ChannelAnswer place) (with_chan place (Some (with_answer_place s.entries c)) s))))
-        (works_put s.channels slot place c (with_answer_place s.entries c) is
+        (sym (its_leg_channels (λ position. with_answer position s.entries) seat c.leg_of
+        (with_event (plain_event ChannelAnswer seat) (with_chan seat (Some (with_answer_place s.entries c)) s))))
+        (works_put s.channels slot seat c (with_answer_place s.entries c) is
         (quiet_works c (with_answer_place s.entries c) (answer_quiet s.entries c)) at)
     put c is false = at
 
-    by : (found : Option Chan) → chan_at s place ≡ found → WorksAt (after_answer_from place found s).channels slot
+    by : (found : Option Chan) → chan_at s seat ≡ found → WorksAt (after_answer_from seat found s).channels slot
     by None is = at
     by (Some c) is = put c is (is_none c.answered)
 

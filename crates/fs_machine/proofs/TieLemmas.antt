@@ -7,8 +7,8 @@ use Rattle.fs_chan.specs.declared.chan.Chan.{Chan}
 use Rattle.fs_chan.specs.Bridging.{awaited_by}
 use Rattle.fs_chan.specs.Changes.{is_live, hung_up}
 use Rattle.fs_orig.specs.Changes.{with_death}
-use Rattle.fs_places.specs.Places.{held_in, with_held}
-use Rattle.fs_places.proofs.HeldLemmas.{held_here, held_there, held_within, at_each}
+use Rattle.fs_seats.specs.Seats.{held_in, with_held}
+use Rattle.fs_seats.proofs.HeldLemmas.{held_here, held_there, held_within, at_each}
 use Rattle.fs_state.specs.Switch.{Switch, chan_at, with_chan, with_event}
 use Rattle.fs_state.specs.Hangups.{lives}
 use Rattle.fs_state.specs.Moves.{with_state_events, its_leg_changed, hangup_event, orig_given_up, after_hangup_from, after_one_hangup}
@@ -22,19 +22,19 @@ lives_as found = lives found
 abbrev pub lives_in : List (Option Chan) → ℕ → Bool
 lives_in channels slot = lives_as (held_in channels slot)
 
--- two things were written into places
-record Wrote {T : Type 0} (places new : List (Option T)) (a b : ℕ) (first second : Option T) : Type 0 where
+-- two things were written into seats
+record Wrote {T : Type 0} (seats new : List (Option T)) (a b : ℕ) (first second : Option T) : Type 0 where
   at_a : held_in new a ≡ first
   at_b : held_in new b ≡ second
-  elsewhere : (q : ℕ) → (q ≡ a → ⊥) → (q ≡ b → ⊥) → held_in new q ≡ held_in places q
+  elsewhere : (q : ℕ) → (q ≡ a → ⊥) → (q ≡ b → ⊥) → held_in new q ≡ held_in seats q
 
-wrote : {T : Type 0} → (places : List (Option T)) (a b : ℕ) (first second : Option T) → (a ≡ b → ⊥) → a < length places →
-    b < length places →
-    Wrote places (with_held (with_held places a first) b second) a b first second
-wrote places a b first second apart within_a within_b = record {
-  at_a = held_there (with_held places a first) b a second apart ∙ held_here places a first within_a;
-  at_b = held_here (with_held places a first) b second (subst (λ n. b < n) (sym (length-set places a first)) within_b);
-  elsewhere = λ q not_a not_b. held_there (with_held places a first) b q second not_b ∙ held_there places a q first not_a;
+wrote : {T : Type 0} → (seats : List (Option T)) (a b : ℕ) (first second : Option T) → (a ≡ b → ⊥) → a < length seats →
+    b < length seats →
+    Wrote seats (with_held (with_held seats a first) b second) a b first second
+wrote seats a b first second apart within_a within_b = record {
+  at_a = held_there (with_held seats a first) b a second apart ∙ held_here seats a first within_a;
+  at_b = held_here (with_held seats a first) b second (subst (λ n. b < n) (sym (length-set seats a first)) within_b);
+  elsewhere = λ q not_a not_b. held_there (with_held seats a first) b q second not_b ∙ held_there seats a q first not_a;
 }
 
 -- ---- what a hangup makes of the channels

@@ -25,10 +25,10 @@ use Rattle.fs_orig.specs.declared.plan.LegPlan.{LegPlan}
 use Rattle.fs_orig.specs.declared.winner.Winner.{Winner}
 use Rattle.fs_orig.specs.Changes.{new_orig}
 use Rattle.fs_orig.specs.Plans.{all_behind}
-use Rattle.fs_places.specs.declared.numbered.Numbered.{Numbered}
-use Rattle.fs_places.specs.Places.{held_in, with_held, least_free}
-use Rattle.fs_places.specs.Rows.{place_of, with_held_at, with_new_row, without_row}
-use Rattle.fs_places.proofs.TableLemmas.{IsWrittenOrKept, written_or_kept, kept_without}
+use Rattle.fs_seats.specs.declared.numbered.Numbered.{Numbered}
+use Rattle.fs_seats.specs.Seats.{held_in, with_held, least_free}
+use Rattle.fs_seats.specs.Rows.{seat_of, with_held_at, with_new_row, without_row}
+use Rattle.fs_seats.proofs.TableLemmas.{IsWrittenOrKept, written_or_kept, kept_without}
 use Rattle.fs_state.specs.declared.conn.Conn.{Conn}
 use Rattle.fs_state.specs.declared.job.Job.{Job}
 use Rattle.fs_state.specs.declared.job.JobWork.{JobWork}
@@ -112,9 +112,9 @@ fewer_jobs r jobs stood h = record {
 }
 
 job_left : (jobs : Jobs) (number q : ℕ) (job : Numbered Job) → held_in (without_row jobs number) q ≡ Some job → held_in jobs q ≡ Some job
-job_left jobs number q job is = by (place_of jobs number) refl
+job_left jobs number q job is = by (seat_of jobs number) refl
   where
-    by : (found : Option ℕ) → place_of jobs number ≡ found → held_in jobs q ≡ Some job
+    by : (found : Option ℕ) → seat_of jobs number ≡ found → held_in jobs q ≡ Some job
     by None none = sym (ap (λ (found : Option ℕ). held_in (with_held_at {T = Numbered Job} jobs None found) q) none) ∙ is
     by (Some gone) at =
         (kept_without jobs gone q job
@@ -281,7 +281,7 @@ trying_moves before = record {
   calls = calls_by_losses Trying loses_trials (λ t h. record { apart = h.apart; next = tt });
   jobs = record {
     woken = λ number conn until answer {s = s} does h. ended_trials number conn answer s h;
-    failed = λ job conn winner caller orig cause {s = s} does h.
+    failed = λ job conn winner caller orig cause {s = s} does over h.
         ended_trials job conn (failed_text cause) (without_orig orig s) (without_trials orig s h);
     wins = λ job conn winner caller orig leg slots does won h.
         let s : Switch = raced slots before in
@@ -294,7 +294,7 @@ trying_moves before = record {
     dials = λ slot c groups timeout {s = s} there works are h. dials_trials slot c groups timeout s h;
     regroups = λ number o plans caller {s = s} there are h.
         loses_trials (Some 0) s (with_group number (group_made plans caller number s)) h (regrouped_loses number plans caller s);
-    fails = λ slot orig cause {s = s} waits h.
+    fails = λ slot orig cause {s = s} waits over h.
         loses_trials (Some 0) (without_orig orig s) (after_bridge_failure cause slot (without_orig orig s)) (without_trials orig s h)
         (failure_loses cause slot (without_orig orig s));
     wins = λ slot orig leg slots waits won h.
@@ -304,8 +304,8 @@ trying_moves before = record {
   };
   commands = λ conn. record {
     spent = λ {s = s} h. spent s h;
+    noticed = λ frame {s = s} h. record { apart = h.apart; next = h.next };
     gave = λ frame {s = s} h. record { apart = h.apart; next = h.next };
-    answered = λ frame {s = s} h. record { apart = h.apart; next = h.next };
     asked = λ change {n = n} {s = s} h. conn_trials (Some n) (with_subs_changed change) conn s h;
     admitted = λ {n = n} {s = s} fresh h. conn_trials (Some n) admitted conn s h;
     parted = λ why {n = n} {s = s} leaves h. conn_trials (Some n) (parted why) conn s h;

@@ -5,11 +5,11 @@ use Rattle.fs_orig.specs.declared.caller.Caller.{Caller}
 use Rattle.fs_orig.specs.declared.orig.Owner.TheVariants as owner
 use Rattle.fs_orig.specs.declared.plan.LegPlan.{LegPlan}
 use Rattle.fs_orig.specs.declared.winner.Winner.{Winner}
-use Rattle.fs_places.specs.declared.numbered.Numbered.{Numbered}
-use Rattle.fs_places.specs.Places.{held_in, least_free}
-use Rattle.fs_places.specs.Rows.{place_of}
-use Rattle.fs_places.proofs.RowLemmas.{each_put_at}
-use Rattle.fs_places.proofs.TableLemmas.{row_found}
+use Rattle.fs_seats.specs.declared.numbered.Numbered.{Numbered}
+use Rattle.fs_seats.specs.Seats.{held_in, least_free}
+use Rattle.fs_seats.specs.Rows.{seat_of}
+use Rattle.fs_seats.proofs.RowLemmas.{each_put_at}
+use Rattle.fs_seats.proofs.TableLemmas.{row_found}
 use Rattle.fs_state.specs.declared.conn.Conn.{Conn}
 use Rattle.fs_state.specs.declared.conn.Parting.TheVariants as parting
 use Rattle.fs_state.specs.declared.job.Job.{Job}
@@ -35,7 +35,7 @@ ShortIn None = Unit {0}
 ShortIn (Some job) = IsShortWork job.held.work
 
 abbrev pub WinnersAreShort : List (Option (Numbered Job)) → Type 0
-WinnersAreShort jobs = (place : ℕ) → ShortIn (held_in jobs place)
+WinnersAreShort jobs = (seat : ℕ) → ShortIn (held_in jobs seat)
 
 abbrev pub Winners : Fact
 Winners b s = WinnersAreShort s.jobs
@@ -67,7 +67,7 @@ ended_winners : (number conn : ℕ) (answer : Text) (s : Switch) → WinnersAreS
     WinnersAreShort (after_job_end number conn answer s).jobs
 ended_winners number conn answer s h =
     same_winners (without_job number s) (after_job_end number conn answer s) (conn_jobs not_owed conn (without_job number s))
-    (each_put_at ShortIn s.jobs None (place_of s.jobs number) h tt)
+    (each_put_at ShortIn s.jobs None (seat_of s.jobs number) h tt)
 
 -- by what leaves the rest as it is
 pub rest_winners : (s t : Switch) → rest_of t ≡ rest_of s → WinnersAreShort s.jobs → WinnersAreShort t.jobs
@@ -88,7 +88,7 @@ winners_moves before = record {
   calls = calls_by_rest Winners (λ b t u h same. rest_winners t u same h) (λ t h. h);
   jobs = record {
     woken = λ number conn until answer {s = s} does h. ended_winners number conn answer s h;
-    failed = λ job conn winner caller orig cause {s = s} does h. ended_winners job conn (failed_text cause) (without_orig orig s) h;
+    failed = λ job conn winner caller orig cause {s = s} does over h. ended_winners job conn (failed_text cause) (without_orig orig s) h;
     wins = λ job conn winner caller orig leg slots does won h.
         let t : Switch = raced slots before in
         let u : Switch = after_winning winner (unwrap_or leg.slot 0) t in
@@ -98,8 +98,8 @@ winners_moves before = record {
   dials = dials_by_rest before Winners (λ b t u h same. rest_winners t u same h) (λ t h. h);
   commands = λ conn. record {
     spent = λ h. h;
+    noticed = λ frame h. h;
     gave = λ frame h. h;
-    answered = λ frame h. h;
     asked = λ change {s = s} h. same_winners s (conn_changed (with_subs_changed change) conn s)
         (conn_jobs (with_subs_changed change) conn s) h;
     admitted = λ {s = s} fresh h. same_winners s (conn_changed admitted conn s) (conn_jobs admitted conn s) h;

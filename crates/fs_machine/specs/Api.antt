@@ -1,4 +1,4 @@
--- What an api command answers, and what it does to the switch.
+-- What an api command replies, and what it does to the switch.
 use Rattle.std.specs.Prelude.{ℕ, nat_lt, [], ◌++◌, length, map, Bool, Option, None, Some, is_some, unwrap_or, Result, Ok, Err, codes}
 use Rattle.std.specs.Prelude.{if◌then◌else◌}
 use Rattle.std.specs.List.{concat}
@@ -23,7 +23,7 @@ use Rattle.fs_orig.specs.Plans.{plans_of}
 use Rattle.fs_orig.specs.Timeouts.{braces_timeout}
 use Rattle.fs_state.specs.Switch.{Switch, chan_at, slot_named, is_full_of_jobs}
 use Rattle.fs_state.specs.Hangups.{after_hangup}
-use Rattle.fs_machine.specs.Done.{Done, says, no_answer_yet}
+use Rattle.fs_machine.specs.Done.{Done, says, no_reply_yet}
 use Rattle.fs_machine.specs.Hangups.{after_hangup_of_all}
 use Rattle.fs_machine.specs.Joining.{uuid_bridge_done}
 use Rattle.fs_machine.specs.Leaving.{sent_done}
@@ -54,7 +54,7 @@ set_global name value s =
 
 -- ---- channels
 
--- whether something holds, as an answer
+-- whether something holds, as a reply
 abbrev pub told_whether : Bool → Text
 told_whether holds = if holds then yes else no
 
@@ -84,18 +84,18 @@ chan_named uuid s = option_and_then (chan_at s) (slot_named uuid s)
 
 -- the reply is owed for so many milliseconds, unless there are too many jobs
 abbrev pub msleep_done : ℕ → ℕ → Switch → Done
-msleep_done conn milliseconds s = if is_full_of_jobs s then says too_many_jobs s else no_answer_yet (sleep_begun conn milliseconds s)
+msleep_done conn milliseconds s = if is_full_of_jobs s then says too_many_jobs s else no_reply_yet (sleep_begun conn milliseconds s)
 
 -- the legs of a dial string are tried, unless it has a fault; a timeout that was given comes before that of the braces
-abbrev pub dialled : ℕ → Result Dial DialFault → Winner → Caller → Option ℕ → Switch → Done
-dialled conn (Err fault) winner caller timeout s = says (failed_text InvalidNumberFormat) s
-dialled conn (Ok dial) winner caller timeout s =
-    no_answer_yet (originate_begun conn (plans_of dial) winner caller (option_or timeout (braces_timeout dial)) s)
+abbrev pub dialed : ℕ → Result Dial DialFault → Winner → Caller → Option ℕ → Switch → Done
+dialed conn (Err fault) winner caller timeout s = says (failed_text InvalidNumberFormat) s
+dialed conn (Ok dial) winner caller timeout s =
+    no_reply_yet (originate_begun conn (plans_of dial) winner caller (option_or timeout (braces_timeout dial)) s)
 
 -- the legs of a dial string are tried by a job, unless there are too many jobs
 abbrev pub originate_done : ℕ → Text → Winner → Caller → Option ℕ → Switch → Done
 originate_done conn url winner caller timeout s =
-    if is_full_of_jobs s then says too_many_jobs s else dialled conn (dial_string url) winner caller timeout s
+    if is_full_of_jobs s then says too_many_jobs s else dialed conn (dial_string url) winner caller timeout s
 
 -- ---- commands
 

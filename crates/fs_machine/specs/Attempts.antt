@@ -1,5 +1,5 @@
 -- Originations that jobs and channels try: how they begin, and what comes of them.
-use Rattle.std.specs.Prelude.{ℕ, ◌+◌, Bool, if◌then◌else◌, List, [], ◌++◌, take, drop, Option, None, Some, unwrap_or, slice_get}
+use Rattle.std.specs.Prelude.{ℕ, ◌+◌, Bool, if◌then◌else◌, List, [], ◌++◌, take, drop, Option, None, Some, option_map, unwrap_or, slice_get}
 use Rattle.std.specs.Option.{option_and_then}
 use Rattle.fs_text.specs.declared.causes.Cause.{Cause}
 use Rattle.fs_text.specs.declared.causes.Cause.TheVariants.{NoAnswer, LoseRace}
@@ -27,6 +27,7 @@ use Rattle.fs_machine.specs.Texts.{failed_text, made_text}
 use Rattle.fs_machine.specs.declared.attempts.Attempt.{Attempt}
 use Rattle.fs_machine.specs.declared.attempts.Party.{Party}
 use Rattle.fs_machine.specs.declared.attempts.Party.TheVariants as party
+use Rattle.fs_machine.specs.declared.attempts.WonLeg.{WonLeg}
 use Rattle.fs_machine.specs.Bridging.{after_bridge_failure, after_bridge_win, group_dialed}
 use Rattle.fs_machine.specs.Originations.{seconds, MadeGroup, group_made, after_winning}
 use Rattle.fs_machine.specs.Owing.{after_job_begin, after_job_end}
@@ -57,17 +58,25 @@ originate_begun conn groups winner caller timeout s =
 abbrev pub awaits : ℕ → ℕ → Switch → Bool
 awaits slot orig s = is_at orig (option_and_then awaited_by (chan_at s slot))
 
--- it has failed: the job has ended with an answer, or the channel in the slot has failed to bridge, if it still waits
+-- it has failed: the job has ended with a reply, or the channel in the slot has failed to bridge, if it still waits
 abbrev pub failed_for : Party → ℕ → Cause → Switch → Switch
 failed_for (party.Job job conn winner caller) orig cause s = after_job_end job conn (failed_text cause) (without_orig orig s)
 failed_for (party.Slot slot) orig cause s = if awaits slot orig s then after_bridge_failure cause slot (without_orig orig s) else s
 
--- a leg has won: it does what the job asks, which has ended with an answer, or it is joined to the channel that still waits
-abbrev pub won_for : Party → ℕ → OrigLeg → Switch → Switch
+-- a leg, as the channel in a slot
+abbrev pub won_in : OrigLeg → ℕ → WonLeg
+won_in leg slot = record { slot = slot; uuid = leg.uuid }
+
+-- a leg that has won, if there is a channel of it
+abbrev pub won_leg : OrigLeg → Option WonLeg
+won_leg leg = option_map (won_in leg) leg.slot
+
+-- a leg has won: it does what the job asks, which has ended with a reply, or it is joined to the channel that still waits
+abbrev pub won_for : Party → ℕ → WonLeg → Switch → Switch
 won_for (party.Job job conn winner caller) orig leg s =
-    after_job_end job conn (made_text leg.uuid) (without_orig orig (after_winning winner (unwrap_or leg.slot 0) s))
+    after_job_end job conn (made_text leg.uuid) (without_orig orig (after_winning winner leg.slot s))
 won_for (party.Slot slot) orig leg s =
-    if awaits slot orig s then after_bridge_win slot (unwrap_or leg.slot 0) (without_orig orig s) else s
+    if awaits slot orig s then after_bridge_win slot leg.slot (without_orig orig s) else s
 
 -- the legs of a group, made for a job's caller, or as the channel in the slot hands on its variables and its caller id
 abbrev pub group_for : Party → List LegPlan → ℕ → Switch → MadeGroup
@@ -94,19 +103,22 @@ death_of None = None
 death_of (Some c) = if is_live c then None else c.cause
 
 -- the others were hung up: the leg has won, unless it died of that
-abbrev pub after_race_by : Option Cause → Attempt → OrigLeg → Switch → Switch
+abbrev pub after_race_by : Option Cause → Attempt → WonLeg → Switch → Switch
 after_race_by None a leg s = won_for a.party a.orig leg s
 after_race_by (Some cause) a leg s = after_failure a cause s
 
 -- a leg has won, unless its channel died of the hangup of the others
-abbrev pub after_race : Attempt → OrigLeg → Switch → Switch
-after_race a leg s = after_race_by (death_of (chan_at s (unwrap_or leg.slot 0))) a leg s
+abbrev pub after_race : Attempt → WonLeg → Switch → Switch
+after_race a leg s = after_race_by (death_of (chan_at s leg.slot)) a leg s
+
+-- the living legs without the one at a position lose the race
+abbrev pub after_losses : ℕ → List OrigLeg → Switch → Switch
+after_losses position legs s = after_hangups_for LoseRace (living_slots (others position legs)) s
 
 -- the leg at a position was answered first: the others lose the race
-abbrev pub after_winning_at : Attempt → ℕ → List OrigLeg → Option OrigLeg → Switch → Switch
+abbrev pub after_winning_at : Attempt → ℕ → List OrigLeg → Option WonLeg → Switch → Switch
 after_winning_at a position legs None s = s
-after_winning_at a position legs (Some leg) s =
-    after_race a leg (after_hangups_for LoseRace (living_slots (others position legs)) s)
+after_winning_at a position legs (Some leg) s = after_race a leg (after_losses position legs s)
 
 -- a leg has had its time
 abbrev pub after_leg_expiry : Option OrigLeg → Switch → Switch
@@ -123,7 +135,7 @@ after_next_group a (Some plans) s = with_group a.orig (group_for a.party plans a
 
 -- what comes of an origination by the verdict on it
 abbrev pub after_verdict : Verdict → Attempt → Orig → Switch → Switch
-after_verdict (verdict.Won position) a o s = after_winning_at a position o.legs (slice_get o.legs position) s
+after_verdict (verdict.Won position) a o s = after_winning_at a position o.legs (option_and_then won_leg (slice_get o.legs position)) s
 after_verdict (verdict.LegExpired position) a o s = after_leg_expiry (slice_get o.legs position) s
 after_verdict verdict.NextGroup a o s = after_next_group a (next_group o) s
 after_verdict (verdict.Failed cause) a o s = after_failure a cause s

@@ -1,10 +1,13 @@
 -- What the events of a run tell of bridges.
-use Rattle.std.specs.Prelude.{◌≡◌, ◌≤◌, ℕ, Bool, true, false, List, is_some, count_by}
+use Rattle.std.specs.Prelude.{◌≡◌, ◌≤◌, ℕ, ◌+◌, ◌-◌, ◌^◌, min, Bool, true, false, ◌&&◌, List, ◌∷◌, ◌++◌, length, is_some, count_by}
+use Rattle.fs_text.specs.declared.event_names.EventName.TheVariants.{ChannelBridge, ChannelUnbridge}
+use Rattle.fs_text.specs.EventName.{event_number}
 use Rattle.fs_doc.specs.Reading.{Configuration}
 use Rattle.fs_bridge.specs.Bridges.{has_number, numbered}
 use Rattle.fs_state.specs.declared.event.Detail.{Detail}
 use Rattle.fs_state.specs.declared.event.Detail.TheVariants.{Bridge, Unbridge}
 use Rattle.fs_state.specs.declared.event.Event.{Event}
+use Rattle.fs_state.specs.Counts.{counted_at, is_named}
 use Rattle.fs_state.specs.Switch.{Switch, empty}
 use Rattle.fs_machine.specs.declared.entry.Entry.{Entry}
 use Rattle.fs_machine.specs.Events.{happened_from, events_of}
@@ -21,11 +24,11 @@ tells_end number _ = false
 
 -- an event tells that it begins
 abbrev pub begins : ℕ → Event → Bool
-begins number event = tells_begin number event.detail
+begins number event = is_named ChannelBridge event && tells_begin number event.detail
 
 -- an event tells that it has ended
 abbrev pub ends : ℕ → Event → Bool
-ends number event = tells_end number event.detail
+ends number event = is_named ChannelUnbridge event && tells_end number event.detail
 
 -- how many events tell that it begins
 abbrev pub begun : ℕ → List Event → ℕ
@@ -52,6 +55,24 @@ pub record BridgesAreTold (s : Switch) (events : List Event) : Type 0 where
   pub end : (number : ℕ) → WasDrawn number s → stands number s ≡ false → ended number events ≡ 1
   pub none : (number : ℕ) → (WasDrawn number s → ⊥) →
       (begun number events ≡ 0) × (ended number events ≡ 0) × (stands number s ≡ false)
+
+-- In front of each event that tells the end of a bridge stands one that tells its beginning, also within one entry.
+abbrev pub EndsStandBehind : List Event → Type 0
+EndsStandBehind events =
+    (number : ℕ) (before behind : List Event) (event : Event) → events ≡ before ++ event ∷ behind → ends number event ≡ true →
+    begun number before ≡ 1
+
+-- how many bridges stand
+abbrev pub standing : Switch → ℕ
+standing s = length s.bridges.rows
+
+-- There is one CHANNEL_BRIDGE for each bridge that was joined, and one CHANNEL_UNBRIDGE for each of these that stands no more. The counts
+-- of the switch are the same, as far as they go.
+pub record BridgesAreCounted (s : Switch) (events : List Event) : Type 0 where
+  pub begun : count_by (is_named ChannelBridge) events ≡ s.bridges.drawn
+  pub ended : count_by (is_named ChannelUnbridge) events + standing s ≡ s.bridges.drawn
+  pub counts_begun : counted_at s.counts.events (event_number ChannelBridge) ≡ min s.bridges.drawn (2 ^ 64 - 1)
+  pub counts_ended : counted_at s.counts.events (event_number ChannelUnbridge) ≡ min (s.bridges.drawn - standing s) (2 ^ 64 - 1)
 
 -- all that happens in entries, under a configuration
 abbrev pub events_in : Configuration → List Entry → List Event

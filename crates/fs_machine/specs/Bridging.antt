@@ -6,7 +6,7 @@ use Rattle.fs_text.specs.Texts.{Text}
 use Rattle.fs_text.specs.Number.{read_u64}
 use Rattle.fs_text.specs.Cause.{cause_name, cause_number}
 use Rattle.fs_text.specs.declared.causes.Cause.{Cause}
-use Rattle.fs_text.specs.declared.causes.Cause.TheVariants.{NoAnswer, NoUserResponse, OriginatorCancel, NormalTemporaryFailure}
+use Rattle.fs_text.specs.declared.causes.Cause.TheVariants.{NoAnswer, NoUserResponse, OriginatorCancel}
 use Rattle.fs_vars.specs.Pairs.{value_of}
 use Rattle.fs_vars.specs.Variables.{Variables}
 use Rattle.fs_bridge.specs.declared.row.BridgeKind.TheVariants.{Dial}
@@ -80,12 +80,14 @@ after_bridge_failure cause slot s = bridge_failed_from (chan_at s slot) cause sl
 
 -- ---- a bridge that is won
 
--- the channel in a slot is joined to a leg; where they cannot be joined the bridge has failed
-abbrev pub joined_or_failed : ℕ → ℕ → Switch → Switch
-joined_or_failed slot leg s =
-    if can_join slot leg s then after_move in_media leg (joined_as Dial slot leg s)
-    else after_bridge_failure NormalTemporaryFailure slot s
+-- the channel in a slot is answered, where it was not, and is told that what it dialed was won
+abbrev pub after_win_told : ℕ → Switch → Switch
+after_win_told slot s = disposed (codes "SUCCESS") slot (after_answer slot s)
 
--- the channel in a slot is joined to the leg that has won: it is answered first, where it was not
+-- it is joined to a leg, which comes into the media of their bridge, where they can be joined
+abbrev pub joined_to_leg : ℕ → ℕ → Switch → Switch
+joined_to_leg slot leg s = if can_join slot leg s then after_move in_media leg (joined_as Dial slot leg s) else s
+
+-- the channel in a slot is joined to the leg that has won
 unfoldable pub after_bridge_win : ℕ → ℕ → Switch → Switch
-after_bridge_win slot leg s = joined_or_failed slot leg (disposed (codes "SUCCESS") slot (after_answer slot s))
+after_bridge_win slot leg s = joined_to_leg slot leg (after_win_told slot s)

@@ -16,34 +16,34 @@ use Rattle.fs_state.specs.declared.conn.Phase.{Phase}
 use Rattle.fs_state.specs.declared.conn.Phase.TheVariants.{Fresh, Ready, Ending, Closed}
 use Rattle.fs_state.specs.declared.conn.Parting.{Parting}
 use Rattle.fs_state.specs.declared.conn.Parting.TheVariants as parting
-use Rattle.fs_state.specs.Switch.{Switch, with_gift, with_answer}
+use Rattle.fs_state.specs.Switch.{Switch, with_frame_now, with_notice}
 use Rattle.fs_machine.specs.Connections.{phase_at, conn_changed, admitted, parted, with_subs_changed, subs_at}
 use Rattle.fs_machine.specs.Done.{Done}
 use Rattle.fs_machine.specs.Api.{done_by}
 
 -- a reply
 abbrev pub with_reply : ℕ → Text → Switch → Switch
-with_reply conn text s = with_answer conn (reply text []) s
+with_reply conn text s = with_frame_now conn (reply text []) s
 
 -- a last reply, and the notice
 abbrev pub after_dismissal : ℕ → Parting → Text → Switch → Switch
-after_dismissal conn why text s = with_gift conn notice (with_reply conn text (conn_changed (parted why) conn s))
+after_dismissal conn why text s = with_notice conn notice (with_reply conn text (conn_changed (parted why) conn s))
 
 -- a password was offered
 abbrev pub after_password : ℕ → Text → Switch → Switch
 after_password conn given s =
-    if bytes_eq given s.config.settings.password
+    if bytes_eq given s.settings.password
     then with_reply conn accepted (conn_changed admitted conn s)
     else after_dismissal conn parting.AuthRefused invalid s
 
--- an answer, unless it is owed
+-- a reply, unless it is owed
 abbrev pub with_response_of : ℕ → Option Text → Switch → Switch
 with_response_of conn None s = s
-with_response_of conn (Some answer) s = with_answer conn (api_reply answer) s
+with_response_of conn (Some text) s = with_frame_now conn (api_reply text) s
 
 -- an api command was done
 abbrev pub with_response : ℕ → Done → Switch
-with_response conn d = with_response_of conn d.answer d.state
+with_response conn d = with_response_of conn d.reply d.state
 
 -- ---- events
 

@@ -1,14 +1,16 @@
 -- How an entry of a run concerns one connection: it is its own, one of others, or the one by which it comes.
-use Rattle.std.specs.Prelude.{◌≡◌, ◌≢◌, ℕ, true, false, [], ◌∷◌, ◌++◌, Option, None, Some, ◌⊎◌}
+use Rattle.std.specs.Prelude.{◌≡◌, ◌≢◌, ℕ, Bool, true, false, [], ◌∷◌, ◌++◌, Option, None, Some, ◌⊎◌}
 use Rattle.fs_cmd.specs.Frames.{auth_request}
-use Rattle.fs_state.specs.declared.conn.Phase.TheVariants.{Fresh, Closed}
+use Rattle.fs_state.specs.declared.conn.Phase.TheVariants.{Fresh, Ending, Closed}
+use Rattle.fs_state.specs.declared.conn.Parting.{Parting}
+use Rattle.fs_state.specs.declared.conn.Parting.TheVariants as parting
 use Rattle.fs_state.specs.Switch.{Switch, waiting_for}
 use Rattle.fs_machine.specs.declared.entry.Entry.{Entry}
 use Rattle.fs_machine.specs.declared.entry.Act.{Act}
 use Rattle.fs_machine.specs.declared.entry.Act.TheVariants.{Arrive, Command, Take, Close, Work, Job}
 use Rattle.fs_machine.specs.Connections.{phase_at}
-use Rattle.fs_machine.specs.Questions.{owed_to}
-use Rattle.fs_machine.specs.Step.{is_closed, step}
+use Rattle.fs_machine.specs.Questions.{owed_to, parting_at}
+use Rattle.fs_machine.specs.Step.{reads, is_closed, step}
 use Rattle.fs_machine.specs.Frames.{given_by, handed_in, command_in}
 
 -- the connection whose act it is
@@ -29,13 +31,36 @@ pub record IsOwn (conn : ℕ) (s : Switch) (entry : Entry) : Type 0 where
       waiting_for s conn ++ given_by conn s entry ≡ handed_in conn entry.act s ++ waiting_for (step s entry).state conn
   pub last : is_closed (phase_at (step s entry).state conn) ≡ true → given_by conn s entry ≡ []
 
--- An act of others. It gives no command and nothing is handed out to it; it stays in its phase, and is owed nothing if it was owed
--- nothing; what it is given waits behind what waited.
+-- for this it parts by its own doing: its exit, a password that was refused, the end of its input
+abbrev pub is_its_own : Parting → Bool
+is_its_own parting.Exit = true
+is_its_own parting.AuthRefused = true
+is_its_own parting.EndOfInput = true
+
+-- it stays in its phase, and has parted for what it had parted for
+pub record KeepsPhase (conn : ℕ) (s t : Switch) : Type 0 where
+  pub phase : phase_at t conn ≡ phase_at s conn
+  pub parting : parting_at t conn ≡ parting_at s conn
+
+-- it read commands and is ending now, not by its own doing
+pub record IsParted (conn : ℕ) (s t : Switch) : Type 0 where
+  pub read : reads (phase_at s conn) ≡ true
+  pub ending : phase_at t conn ≡ Ending
+  pub why : Parting
+  pub parting : parting_at t conn ≡ Some why
+  pub others : is_its_own why ≡ false
+
+-- what others may make of it
+abbrev pub KeepsOrParts : ℕ → Switch → Switch → Type 0
+KeepsOrParts conn s t = KeepsPhase conn s t ⊎ IsParted conn s t
+
+-- An act of others. It gives no command and nothing is handed out to it; it stays in its phase, or it read commands and is ending now; it
+-- is owed nothing if it was owed nothing; what it is given waits behind what waited.
 pub record IsOthers (conn : ℕ) (s : Switch) (entry : Entry) : Type 0 where
   pub actor : actor_of entry.act ≢ Some conn
   pub commands : command_in conn entry.act ≡ []
   pub handed : handed_in conn entry.act s ≡ []
-  pub phase : phase_at (step s entry).state conn ≡ phase_at s conn
+  pub phase : KeepsOrParts conn s (step s entry).state
   pub owed : owed_to s conn ≡ None → owed_to (step s entry).state conn ≡ None
   pub frames : waiting_for (step s entry).state conn ≡ waiting_for s conn ++ given_by conn s entry
 

@@ -8,9 +8,9 @@ use Rattle.fs_chan.specs.Bridging.{awaited_by}
 use Rattle.fs_chan.specs.Work.{due_of, due_at}
 use Rattle.fs_orig.specs.declared.orig.Orig.{Orig}
 use Rattle.fs_orig.specs.Verdicts as verdicts
-use Rattle.fs_places.specs.declared.numbered.Numbered.{Numbered}
-use Rattle.fs_places.specs.Places.{first_place}
-use Rattle.fs_places.specs.Least.{lesser, least_of}
+use Rattle.fs_seats.specs.declared.numbered.Numbered.{Numbered}
+use Rattle.fs_seats.specs.Seats.{first_seat}
+use Rattle.fs_seats.specs.Least.{lesser, least_of}
 use Rattle.fs_state.specs.declared.job.Job.{Job}
 use Rattle.fs_state.specs.declared.job.JobWork.{JobWork}
 use Rattle.fs_state.specs.declared.job.JobWork.TheVariants.{Sleep, Originate}
@@ -67,18 +67,18 @@ is_due s chan = is_now (chan_due s chan)
 
 -- the least slot that has something to do
 abbrev pub due_slot : Switch → Option ℕ
-due_slot s = first_place (is_due s) s.channels 0
+due_slot s = first_seat (is_due s) s.channels 0
 
 -- the moment at which a channel will have something to do
 abbrev pub chan_moment : Switch → Option Chan → Option ℕ
 chan_moment s chan = later_of (chan_due s chan)
 
--- when the job at a place has something to do
+-- when the job at a seat has something to do
 abbrev pub row_due : Switch → Option (Numbered Job) → Option Due
 row_due s None = None
 row_due s (Some row) = work_due s row.held.work
 
--- the moment at which the job at a place will have something to do
+-- the moment at which the job at a seat will have something to do
 abbrev pub row_moment : Switch → Option (Numbered Job) → Option ℕ
 row_moment s row = later_of (row_due s row)
 
@@ -87,7 +87,7 @@ abbrev pub number_where : Bool → Option (Numbered Job) → Option ℕ
 number_where due None = None
 number_where due (Some row) = if due then Some row.number else None
 
--- the number of the job at a place, where it has something to do
+-- the number of the job at a seat, where it has something to do
 abbrev pub due_number : Switch → Option (Numbered Job) → Option ℕ
 due_number s row = number_where (is_now (row_due s row)) row
 

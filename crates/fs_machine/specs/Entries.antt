@@ -15,7 +15,7 @@ cost_of (Job number) = 64
 
 -- the largest entry, of 65,600, would pass the limit
 abbrev pub is_full : Switch → Bool
-is_full s = nat_lt s.config.settings.journal_limit (s.cost + 65600)
+is_full s = nat_lt s.settings.journal_limit (s.cost + 65600)
 
 -- the largest entry passes neither this limit nor 64 bits
 abbrev pub HasRoomWithin : ℕ → Switch → Type 0

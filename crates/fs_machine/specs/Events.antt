@@ -4,9 +4,7 @@ use Rattle.fs_text.specs.declared.causes.Cause.{Cause}
 use Rattle.fs_text.specs.declared.event_names.EventName.{EventName}
 use Rattle.fs_text.specs.Cause.{cause_number}
 use Rattle.fs_text.specs.EventName.{event_number}
-use Rattle.fs_event.specs.declared.event.Event.{Event as Telling}
 use Rattle.fs_state.specs.declared.event.Event.{Event}
-use Rattle.fs_state.specs.Posting.{tellings}
 use Rattle.fs_state.specs.Counts.{Tallies, counted_at, events_named, hangups_for}
 use Rattle.fs_state.specs.Switch.{Switch, empty, at_moment}
 use Rattle.fs_machine.specs.declared.entry.Entry.{Entry}
@@ -17,10 +15,6 @@ use Rattle.fs_machine.specs.Runs.{View}
 pub record Happened : Type 0 where
   pub place : ℕ
   pub event : Event
-
--- all that the events of an entry tell, in order
-abbrev pub tellings_by : Switch → Entry → List Telling
-tellings_by s entry = tellings s (act_done entry.act (at_moment entry.moment s)).state
 
 -- events of the entry at a place
 abbrev pub at_place : ℕ → List Event → List Happened

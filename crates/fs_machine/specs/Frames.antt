@@ -2,7 +2,7 @@
 use Rattle.std.specs.Prelude.{ℕ, ◌==◌, List, [], ◌∷◌, ◌++◌, take, if◌then◌else◌}
 use Rattle.fs_text.specs.Texts.{Text}
 use Rattle.fs_state.specs.declared.gift.Gift.{Gift}
-use Rattle.fs_state.specs.Queues.{texts_of}
+use Rattle.fs_state.specs.Outboxes.{texts_of}
 use Rattle.fs_state.specs.Switch.{Switch, waiting_for, at_moment, all_given}
 use Rattle.fs_state.specs.Posting.{with_posts}
 use Rattle.fs_machine.specs.declared.entry.Entry.{Entry}
@@ -22,7 +22,7 @@ frames_among conn (gift ∷ gifts) = (if gift.conn == conn then texts_of gift.fr
 abbrev pub given_in : ℕ → Switch → List Text
 given_in conn s = if is_closed (phase_at s conn) then [] else frames_among conn (all_given s)
 
--- by an entry: the reply to its own command, the events that it posts, and all else
+-- by an entry: the reply to its own command, the events that it posts, replies that were owed, and notices
 unfoldable pub given_by : ℕ → Switch → Entry → List Text
 given_by conn s entry = given_in conn (with_posts s (act_done entry.act (at_moment entry.moment s)).state)
 

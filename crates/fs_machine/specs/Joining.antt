@@ -69,7 +69,7 @@ joined_done a b other s =
 
 -- two channels are joined, unless something stands in the way
 abbrev pub bridged_unless : Option Text → ℕ → ℕ → Text → Switch → Done
-bridged_unless (Some answer) a b other s = says answer s
+bridged_unless (Some reply) a b other s = says reply s
 bridged_unless None a b other s = joined_done a b other (both_left a b s)
 
 -- those in two slots, if there are such

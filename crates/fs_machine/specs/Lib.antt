@@ -24,8 +24,11 @@ pub mod Frames
 pub mod Owed
 pub mod Runs
 pub mod Events
+pub mod EventNames
 pub mod BridgeEvents
+pub mod FirstEnds
 pub mod Concerns
 pub mod Sound
+pub mod Winners
 pub mod Journals
 pub mod Laws

@@ -32,7 +32,7 @@ use Rattle.fs_orig.specs.Routes.{RouteTo}
 use Rattle.fs_orig.specs.Timeouts.{seconds_in}
 use Rattle.fs_state.specs.Switch.{Switch, with_chan, free_slot, is_held, with_next_identifier, identifier_of}
 use Rattle.fs_state.specs.Moves.{after_move}
-use Rattle.fs_machine.specs.declared.originations.Call.{Call}
+use Rattle.fs_machine.specs.declared.call.Call.{Call}
 use Rattle.fs_machine.specs.declared.originations.End.{End}
 
 -- ---- a pair of channels
@@ -148,7 +148,7 @@ is_name uuid = nat_le 1 (length uuid) && nat_le (length uuid) 64 && list_all is_
 
 -- a leg can have this identifier: the switch does not own it, and no channel has it
 abbrev pub is_free : Text → Switch → Bool
-is_free uuid s = is_name uuid && (not (owns s.config.settings.core_uuid uuid) && not (is_held uuid s))
+is_free uuid s = is_name uuid && (not (owns s.settings.core_uuid uuid) && not (is_held uuid s))
 
 -- it is to have one that it cannot have
 abbrev pub is_misnamed : Option Text → Switch → Bool
@@ -172,7 +172,7 @@ made_dead cause s = record { state = s; leg = unmade s.entries cause }
 
 -- the journal has cost over 15/16 of its limit
 abbrev pub is_congested : Switch → Bool
-is_congested s = nat_lt (15 * s.config.settings.journal_limit) (16 * s.cost)
+is_congested s = nat_lt (15 * s.settings.journal_limit) (16 * s.cost)
 
 -- the identifier of the leg that is made next
 abbrev pub leg_uuid : Option Text → Switch → Text

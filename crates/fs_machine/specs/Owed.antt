@@ -1,6 +1,6 @@
 -- Who owes a connection its reply, and how connections part: what holds in every state.
 use Rattle.std.specs.Prelude.{◌≡◌, ◌≢◌, ℕ, Option, None, Some}
-use Rattle.fs_places.specs.declared.numbered.Numbered.{Numbered}
+use Rattle.fs_seats.specs.declared.numbered.Numbered.{Numbered}
 use Rattle.fs_state.specs.declared.conn.Conn.{Conn}
 use Rattle.fs_state.specs.declared.conn.Phase.{Phase}
 use Rattle.fs_state.specs.declared.conn.Phase.TheVariants.{Fresh, Ready, Ending, Closed}
@@ -10,17 +10,17 @@ use Rattle.fs_state.specs.Switch.{Switch, job_at, job_of, conn_of}
 use Rattle.fs_machine.specs.Due.{job_due}
 use Rattle.fs_machine.specs.Questions.{owed_to}
 
--- at this place stands a job, known by its number, that owes a connection its reply; no other does, and it has a next moment
-pub record OwesFrom (s : Switch) (conn place : ℕ) (row : Numbered Job) : Type 0 where
-  pub there : job_at s place ≡ Some row
+-- at this seat stands a job, known by its number, that owes a connection its reply; no other does, and it has a next moment
+pub record OwesFrom (s : Switch) (conn seat : ℕ) (row : Numbered Job) : Type 0 where
+  pub there : job_at s seat ≡ Some row
   pub owes : row.held.conn ≡ conn
   pub known : job_of s row.number ≡ Some row.held
-  pub alone : (other : ℕ) (another : Numbered Job) → job_at s other ≡ Some another → another.held.conn ≡ conn → other ≡ place
+  pub alone : (other : ℕ) (another : Numbered Job) → job_at s other ≡ Some another → another.held.conn ≡ conn → other ≡ seat
   pub due : job_due row.number s ≢ None
 
 -- one job owes a connection its reply
 abbrev pub HasOneJob : Switch → ℕ → Type 0
-HasOneJob s conn = (place : ℕ) × (row : Numbered Job) × OwesFrom s conn place row
+HasOneJob s conn = (seat : ℕ) × (row : Numbered Job) × OwesFrom s conn seat row
 
 -- one that reads commands has not parted, one that is ending has, and one that is closed is not there
 abbrev pub PartsIn : Phase → Option Parting → Type 0

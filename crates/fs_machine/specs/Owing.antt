@@ -3,7 +3,7 @@ use Rattle.std.specs.Prelude.{ℕ}
 use Rattle.fs_text.specs.Texts.{Text}
 use Rattle.fs_cmd.specs.Frames.{api_reply}
 use Rattle.fs_state.specs.declared.job.JobWork.{JobWork}
-use Rattle.fs_state.specs.Switch.{Switch, with_gift, with_new_job, without_job}
+use Rattle.fs_state.specs.Switch.{Switch, with_late_reply, with_new_job, without_job}
 use Rattle.fs_machine.specs.Connections.{conn_changed, owed_since, not_owed}
 
 -- a job begins, and the reply to the command in hand is owed until it ends
@@ -12,4 +12,4 @@ after_job_begin conn work s = conn_changed (owed_since s.entries) conn (with_new
 
 -- a job ends, and the reply is given; to a connection that is not there it is dropped
 abbrev pub after_job_end : ℕ → ℕ → Text → Switch → Switch
-after_job_end number conn answer s = with_gift conn (api_reply answer) (conn_changed not_owed conn (without_job number s))
+after_job_end number conn reply s = with_late_reply conn (api_reply reply) (conn_changed not_owed conn (without_job number s))

@@ -1,11 +1,15 @@
 -- What holds of the channels, and of the legs of originations, in every switch that a run comes to.
-use Rattle.std.specs.Prelude.{◌≡◌, ◌≢◌, ◌≤◌, ℕ, true, Some, slice_get}
+use Rattle.std.specs.Prelude.{◌≡◌, ◌≢◌, ◌≤◌, ℕ, Bool, true, false, None, Some, is_some, slice_get}
+use Rattle.fs_text.specs.declared.states.State.{State}
+use Rattle.fs_text.specs.declared.states.State.TheVariants.{CsNew, CsInit, CsConsumeMedia}
 use Rattle.fs_text.specs.declared.causes.Cause.{Cause}
 use Rattle.fs_bridge.specs.declared.row.Row.{Row}
 use Rattle.fs_bridge.specs.Closure.{peer_in}
 use Rattle.fs_bridge.specs.Hangups.{IsOneOf}
 use Rattle.fs_chan.specs.declared.chan.Chan.{Chan}
+use Rattle.fs_chan.specs.declared.peer.Direction.TheVariants.{Outbound}
 use Rattle.fs_chan.specs.declared.peer.Peer.{Peer}
+use Rattle.fs_chan.specs.declared.wait.Wait.TheVariants.{Bridged}
 use Rattle.fs_chan.specs.Bridging.{awaited_by}
 use Rattle.fs_chan.specs.Changes.{is_live, HasShortFields}
 use Rattle.fs_orig.specs.declared.leg.OrigLeg.{OrigLeg}
@@ -15,7 +19,7 @@ use Rattle.fs_orig.specs.declared.verdict.Verdict.TheVariants.{Failed}
 use Rattle.fs_orig.specs.Legs.{lives}
 use Rattle.fs_orig.specs.Meaning.{IsWithCauses, IsLastToDie}
 use Rattle.fs_orig.specs.Verdicts.{verdict_of}
-use Rattle.fs_state.specs.Queues.{events_in}
+use Rattle.fs_state.specs.Outboxes.{events_in}
 use Rattle.fs_state.specs.Posting.{most_events}
 use Rattle.fs_state.specs.Switch.{Switch, chan_at, bridge_at, orig_of, outgoing_for}
 use Rattle.fs_machine.specs.Owed.{AreOwed}
@@ -66,11 +70,36 @@ pub record IsChannelOf (s : Switch) (number : ℕ) (leg : OrigLeg) : Type 0 wher
   pub live : is_live chan ≡ true
   pub names : chan.leg_of ≡ Some number
 
--- each living leg of an origination is a live channel that names the origination, and no two are the same one
+-- a living leg of the origination of this number is the channel in this slot
+pub record IsLegIn (s : Switch) (slot number : ℕ) : Type 0 where
+  pub leg : OrigLeg
+  pub has : HasLeg s number leg
+  pub is : leg.slot ≡ Some slot
+
+-- Each living leg of an origination is a live channel that names the origination, and no two are the same one. Whatever channel names an
+-- origination is a living leg of it.
 pub record LegsAreChannels (s : Switch) : Type 0 where
   pub each : (number : ℕ) (leg : OrigLeg) → HasLeg s number leg → IsChannelOf s number leg
   pub apart : (number : ℕ) (leg other : OrigLeg) (one : HasLeg s number leg) (two : HasLeg s number other) → leg.slot ≡ other.slot →
       one.position ≡ two.position
+  pub back : (slot number : ℕ) (c : Chan) → chan_at s slot ≡ Some c → c.leg_of ≡ Some number → IsLegIn s slot number
+
+-- the states of a leg that is not decided yet
+abbrev pub is_idle : State → Bool
+is_idle CsNew = true
+is_idle CsInit = true
+is_idle CsConsumeMedia = true
+is_idle _ = false
+
+-- a leg that is not decided yet is outbound, runs nothing, and dials nothing itself
+pub record IsUndecided (c : Chan) : Type 0 where
+  pub outbound : c.direction ≡ Outbound
+  pub idle : is_idle c.state ≡ true
+  pub dials : awaited_by c ≡ None
+
+-- each channel that names an origination is such a leg
+pub record LegsAreUndecided (s : Switch) : Type 0 where
+  pub each : (slot number : ℕ) (c : Chan) → chan_at s slot ≡ Some c → c.leg_of ≡ Some number → IsUndecided c
 
 -- an origination has a leg, and each that died has a cause; so where it fails it is told the cause of the leg that died last
 pub record FailuresAreTold (s : Switch) : Type 0 where
@@ -102,6 +131,12 @@ pub record RowsAgree (s : Switch) : Type 0 where
   pub legs : (slot : ℕ) (row : Row) → bridge_at s slot ≡ Some row → HasPeer s slot (peer_in row slot)
   pub back : (slot : ℕ) (c : Chan) (peer : Peer) → chan_at s slot ≡ Some c → c.peer ≡ Some peer → IsLegWith s slot peer
 
+-- a channel that names a peer waits for the end of the bridge and is a leg of no origination, and whoever waits so names a peer
+pub record BridgedWait (s : Switch) : Type 0 where
+  pub wait : (slot : ℕ) (c : Chan) (peer : Peer) → chan_at s slot ≡ Some c → c.peer ≡ Some peer → c.wait ≡ Bridged
+  pub alone : (slot : ℕ) (c : Chan) (peer : Peer) → chan_at s slot ≡ Some c → c.peer ≡ Some peer → c.leg_of ≡ None
+  pub back : (slot : ℕ) (c : Chan) → chan_at s slot ≡ Some c → c.wait ≡ Bridged → is_some c.peer ≡ true
+
 -- a live channel stands in a slot, and waits for the verdict on an origination
 pub record Awaits (s : Switch) (slot number : ℕ) : Type 0 where
   pub chan : Chan
@@ -131,8 +166,10 @@ pub record IsSound (s : Switch) : Type 0 where
   pub profiles : ProfilesAreShort s
   pub identifiers : IdentifiersDiffer s
   pub legs : LegsAreChannels s
+  pub undecided : LegsAreUndecided s
   pub failures : FailuresAreTold s
   pub rows : RowsAgree s
+  pub bridged : BridgedWait s
   pub owners : OwnersWait s
   pub owed : AreOwed s
   pub events : EventsAreFew s

@@ -12,7 +12,7 @@ use Rattle.fs_state.specs.declared.conn.Parting.TheVariants as parting
 use Rattle.fs_filter.specs.Subscriptions.{nothing}
 use Rattle.fs_state.specs.Drawn as numbers
 use Rattle.fs_state.specs.Posting.{with_posts}
-use Rattle.fs_state.specs.Switch.{Switch, with_new_conn, without_conn, with_frame_taken, waiting_for, is_full_of_conns, with_gift}
+use Rattle.fs_state.specs.Switch.{Switch, with_new_conn, without_conn, with_frame_taken, waiting_for, is_full_of_conns, with_frame_now}
 use Rattle.fs_state.specs.Switch.{at_moment, after_entry}
 use Rattle.fs_machine.specs.declared.entry.Entry.{Entry}
 use Rattle.fs_machine.specs.declared.entry.Act.{Act}
@@ -92,12 +92,12 @@ abbrev pub refused_command : ℕ → Switch → Option Refusal
 refused_command conn s = refused_where (not (reads (phase_at s conn))) refusal.Gone (busy (owed_to s conn))
 
 -- how many connections there may be, as far as 16 bits go
-abbrev pub places_for_conns : Switch → ℕ
-places_for_conns s = min (length s.conns) (2 ^ 16 - 1)
+abbrev pub seats_for_conns : Switch → ℕ
+seats_for_conns s = min (length s.conns) (2 ^ 16 - 1)
 
 -- why an act is refused
 abbrev pub refused_act : Act → Switch → Option Refusal
-refused_act Arrive s = refused_where (is_full_of_conns s) (refusal.TooMany (places_for_conns s)) None
+refused_act Arrive s = refused_where (is_full_of_conns s) (refusal.TooMany (seats_for_conns s)) None
 refused_act (Command conn block) s = refused_command conn s
 refused_act (Take conn) s =
     refused_where (is_closed (phase_at s conn)) refusal.Gone (refused_where (length (waiting_for s conn) == 0) refusal.Empty None)
@@ -108,7 +108,7 @@ refused_act (Job number) s = not_due (job_due number s)
 -- the first refusal of an entry
 unfoldable pub refusal_of : Switch → Entry → Option Refusal
 refusal_of s entry =
-    refused_where (is_full s) (refusal.JournalFull s.cost s.config.settings.journal_limit)
+    refused_where (is_full s) (refusal.JournalFull s.cost s.settings.journal_limit)
     (refused_act entry.act (at_moment entry.moment s))
 
 -- this is why an entry is refused, or there was no memory
@@ -133,7 +133,7 @@ new_conn = record { phase = phase.Fresh; owed = None; parting = None; subs = not
 -- a connection has come, and is asked for the password
 abbrev pub arrived : Switch → Acted
 arrived s = record {
-  state = with_gift (numbers.with_conn s.drawn).conns auth_request (with_new_conn new_conn s);
+  state = with_frame_now (numbers.with_conn s.drawn).conns auth_request (with_new_conn new_conn s);
   reply = reply.Arrived (numbers.with_conn s.drawn).conns;
 }
 

@@ -1,4 +1,4 @@
--- The answers of api commands.
+-- The replies of api commands.
 use Rattle.std.specs.Prelude.{ℕ, List, ◌++◌, codes}
 use Rattle.fs_text.specs.declared.causes.Cause.{Cause}
 use Rattle.fs_text.specs.Cause.{cause_name}
@@ -19,7 +19,7 @@ too_long_text = codes "-ERR too long\n"
 unfoldable pub usage_text : List ℕ → List ℕ
 usage_text form = codes "-USAGE: " ++ form ++ codes "\n"
 
--- what an api command of an unknown name answers
+-- what an api command of an unknown name replies
 unfoldable pub api_not_found : List ℕ → List ℕ
 api_not_found name = codes "-ERR " ++ name ++ codes " Command not found!\n"
 

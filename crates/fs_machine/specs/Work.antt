@@ -59,7 +59,7 @@ found_in (Ok hunt) = Some hunt
 
 -- what the hunt for a channel gave, unless a text is too long
 abbrev pub found_for : Chan → Switch → Option Hunt
-found_for c s = found_in (hunted s.config.contexts c.profile.context c.profile c.vars s.globals)
+found_for c s = found_in (hunted s.contexts c.profile.context c.profile c.vars s.globals)
 
 -- a channel is routed by it
 abbrev pub routed_by : Option Hunt → Chan → ℕ → Switch → Switch

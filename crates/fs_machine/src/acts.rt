@@ -1,7 +1,7 @@
 //! What each act of an entry does to a draft.
 
 ghost use Rattle.std.specs.Prelude.{◌≡◌, IfOk};
-ghost use Rattle.fs_state.specs.declared.delta.QueueChange.TheVariants.{Unchanged};
+ghost use Rattle.fs_state.specs.declared.delta.OutboxChange.TheVariants.{Unchanged};
 ghost use Rattle.fs_state.specs.Drafts.{drafted, Brings};
 ghost use Rattle.fs_machine.specs.Step as spec;
 
@@ -20,9 +20,9 @@ use fs_state::{Conn, Draft, Parting, Phase};
 use fs_text::{Memory, Txt};
 
 /// Does an act, by the dialplan of the configuration.
-pub(crate) fn do_act(draft: &mut Draft<'_>, plan: &Dialplan, act: &Act) -> Result<Reply, Memory>
-    requires queue { draft.old.delta.queue ≡ Unchanged }
-    requires plan { plan.now ≡ draft.old.base.config.contexts }
+pub(crate) fn do_act(draft: &mut Draft<'_>, dialplan: &Dialplan, act: &Act) -> Result<Reply, Memory>
+    requires outbox { draft.old.delta.outbox ≡ Unchanged }
+    requires dialplan { dialplan.now ≡ draft.old.base.contexts }
     ensures base { draft.new.base ≡ draft.old.base }
     ensures ok { IfOk result (spec.ComesTo (spec.act_done act.now (drafted draft.old)) (drafted draft.new)) }
 {
@@ -39,7 +39,7 @@ pub(crate) fn do_act(draft: &mut Draft<'_>, plan: &Dialplan, act: &Act) -> Resul
             Ok(Reply::Closed)
         }
         Act::Work { slot } => {
-            work(draft, plan, *slot)?;
+            work(draft, dialplan, *slot)?;
             Ok(Reply::Worked)
         }
         Act::Job { job } => {
@@ -61,13 +61,13 @@ fn arrive(draft: &mut Draft<'_>) -> Result<Reply, Memory>
         subs: SharedSubs::nothing(),
     })?;
     let request = auth_request(draft.alloc())?;
-    draft.give(number, request)?;
+    draft.give_now(number, request)?;
     Ok(Reply::Arrived(number))
 }
 
 // Hands out the first frame that waits.
 fn take(draft: &mut Draft<'_>, conn: u32) -> Result<Reply, Memory>
-    requires { draft.old.delta.queue ≡ Unchanged }
+    requires { draft.old.delta.outbox ≡ Unchanged }
     ensures base { draft.new.base ≡ draft.old.base }
     ensures ok { IfOk result (spec.ComesTo (spec.taken conn (drafted draft.old)) (drafted draft.new)) }
 {
@@ -81,7 +81,7 @@ fn take(draft: &mut Draft<'_>, conn: u32) -> Result<Reply, Memory>
 
 // Ends a connection.
 fn close(draft: &mut Draft<'_>, conn: u32, how: Closing) -> Result<(), Memory>
-    requires { draft.old.delta.queue ≡ Unchanged }
+    requires { draft.old.delta.outbox ≡ Unchanged }
     ensures { Brings result draft.old draft.new (spec.after_close how conn (drafted draft.old)) }
 {
     match how {

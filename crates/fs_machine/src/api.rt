@@ -1,4 +1,4 @@
-//! What an api command answers, and what it does to the switch.
+//! What an api command replies, and what it does to the switch.
 
 ghost use Rattle.std.specs.Prelude.{◌≡◌, ◌≤◌, ◌++◌, length, Some, is_some, Ok, IfOk, IfErr, OnOk};
 ghost use Rattle.std.specs.Option.{option_copied};
@@ -28,7 +28,7 @@ use fs_text::{Cause, Memory, Txt};
 use fs_vars::{Profile, Refused, Scope, Vars, expand};
 use std::alloc::Global;
 
-/// Runs an api command of a connection, and gives its answer, unless that is owed.
+/// Runs an api command of a connection, and gives its reply, unless that is owed.
 pub(crate) fn run_api(draft: &mut Draft<'_>, conn: u32, api: &Api) -> Result<Option<Txt>, Memory>
     requires { IsInRange api.now }
     ensures base { draft.new.base ≡ draft.old.base }
@@ -155,9 +155,9 @@ fn hang_up_all(draft: &mut Draft<'_>, cause: Cause) -> Result<Option<Txt>, Memor
     ensures base { draft.new.base ≡ draft.old.base }
     ensures done { IfOk result (ComesTo (spec.hupall_done cause (drafted draft.old)) (drafted draft.new)) }
 {
-    let answer = hupall_text(draft.alloc(), cause)?;
+    let reply = hupall_text(draft.alloc(), cause)?;
     hang_up_everyone(draft, cause)?;
-    Ok(Some(answer))
+    Ok(Some(reply))
 }
 
 // The value of a variable of a live channel.
@@ -185,7 +185,7 @@ fn chan_named<'a>(draft: &'a Draft<'_>, uuid: &Txt) -> Option<&'a Chan>
 
 // ---- jobs
 
-// Owes the answer until so many milliseconds have passed.
+// Owes the reply until so many milliseconds have passed.
 #[tactic(auto, unfolding(crate::specs::Texts::too_many_jobs))]
 fn sleep(draft: &mut Draft<'_>, conn: u32, milliseconds: u64) -> Result<Option<Txt>, Memory>
     ensures base { draft.new.base ≡ draft.old.base }
@@ -199,7 +199,7 @@ fn sleep(draft: &mut Draft<'_>, conn: u32, milliseconds: u64) -> Result<Option<T
     Ok(None)
 }
 
-// Tries the legs of a dial string, and owes the answer until one has won or all have failed.
+// Tries the legs of a dial string, and owes the reply until one has won or all have failed.
 #[tactic(auto, unfolding(crate::specs::Texts::too_many_jobs))]
 fn originate(
     draft: &mut Draft<'_>,
@@ -236,7 +236,7 @@ fn dial_legs(
 ) -> Result<Option<Txt>, Memory>
     ensures base { draft.new.base ≡ draft.old.base }
     ensures done { IfOk result
-        (ComesTo (spec.dialled conn (Ok (dial_of dial.now)) winner.now caller.now timeout (drafted draft.old))
+        (ComesTo (spec.dialed conn (Ok (dial_of dial.now)) winner.now caller.now timeout (drafted draft.old))
         (drafted draft.new)) }
 {
     let alloc = draft.alloc();
@@ -286,7 +286,7 @@ fn push_line(lines: &mut Vec<u8>, name: &[u8], value: &[u8]) -> Result<(), Memor
     Ok(())
 }
 
-// Sets a global, and answers whether no limit is passed.
+// Sets a global, and replies whether no limit is passed.
 #[tactic(auto, unfolding(crate::specs::Texts::ok, crate::specs::Texts::limit_passed))]
 fn answer_set(draft: &mut Draft<'_>, name: &Txt, value: &Txt) -> Result<Option<Txt>, Memory>
     ensures base { draft.new.base ≡ draft.old.base }

@@ -14,7 +14,7 @@ use crate::dialing::dial_bridge;
 use fs_app::Application;
 use fs_chan::{Action, Assignment, Chan};
 use fs_state::Draft;
-use fs_text::{Cause, Memory, State, Txt, place_of};
+use fs_text::{Cause, Memory, State, Txt, offset_of};
 use fs_vars::{Refused, Scope, expand};
 
 /// The most bytes of an argument.
@@ -62,7 +62,7 @@ fn is_plain(text: &[u8]) -> bool
     ensures { result ≡ true
         → (known : Pairs) → spec.unless_too_long (expanded known text.now) ≡ Some text.now }
 {
-    text.len() <= LONGEST_ARGUMENT && place_of(b'$', text) == text.len()
+    text.len() <= LONGEST_ARGUMENT && offset_of(b'$', text) == text.len()
 }
 
 // Runs what a channel is to run next, which is used up, unless its argument is too long.

@@ -1,5 +1,5 @@
 //! Originations that jobs and channels try: how they begin, and what comes of them.
-ghost use Rattle.std.specs.Prelude.{◌≡◌, ◌<◌, ◌++◌, None, length, slice_get, unwrap_or, IfOk};
+ghost use Rattle.std.specs.Prelude.{◌≡◌, ◌<◌, ◌++◌, None, length, slice_get, IfOk};
 ghost use Rattle.std.specs.Option.{option_and_then};
 ghost use Rattle.fs_text.specs.declared.causes.Cause.TheVariants.{LoseRace, NoAnswer};
 ghost use Rattle.fs_orig.specs.Legs as orig_legs;
@@ -22,11 +22,11 @@ use crate::owing::{begin_job, end_job};
 use crate::texts::{failed_text, made_text};
 use fs_chan::moment_after;
 use fs_orig::{
-    Caller, LegGroup, LegPlan, LegPlans, Orig, OrigLeg, OrigLegs, Owner, Verdict, Winner,
-    add_living_slots, judge, living_slots,
+    Caller, LegGroup, LegPlan, LegPlans, Orig, OrigLegs, Owner, Verdict, Winner, add_living_slots,
+    judge, living_slots,
 };
 use fs_state::{Draft, JobWork};
-use fs_text::{Cause, Memory};
+use fs_text::{Cause, Memory, Txt};
 use std::alloc::Global;
 
 /// How many seconds an origination has without a timeout.
@@ -59,6 +59,13 @@ impl Drop for Party {
             Party::Slot { slot: _ } => {}
         }
     }
+}
+
+/// A leg that has won, as the channel in its slot.
+#[derive(Drop)]
+pub(crate) struct WonLeg {
+    pub(crate) slot: u16,
+    pub(crate) uuid: Txt,
 }
 
 /// An origination, and who tries it.
@@ -137,7 +144,7 @@ pub(crate) fn judge_attempt(draft: &mut Draft<'_>, attempt: &Attempt) -> Result<
     };
     match judge(orig, draft.moment()) {
         Verdict::Wait { .. } => Ok(()),
-        Verdict::Won { position } => match leg_at(orig, position as usize)? {
+        Verdict::Won { position } => match won_leg_at(orig, position as usize)? {
             Some(leg) => {
                 let losers = other_slots(draft.alloc(), orig, position as usize)?;
                 end_race(draft, attempt, &leg, &losers)
@@ -162,12 +169,18 @@ pub(crate) fn judge_attempt(draft: &mut Draft<'_>, attempt: &Attempt) -> Result<
 
 // ---- what is looked up in an origination
 
-// The leg at a position.
-fn leg_at(orig: &Orig, position: usize) -> Result<Option<OrigLeg>, Memory>
-    ensures { IfOk result (λ leg. leg ≡ slice_get orig.now.legs position) }
+// The leg at a position, once it has won, if there is a channel of it.
+fn won_leg_at(orig: &Orig, position: usize) -> Result<Option<WonLeg>, Memory>
+    ensures { IfOk result (λ leg. leg ≡ option_and_then spec.won_leg (slice_get orig.now.legs position)) }
 {
-    match orig.legs.as_slice().get(position) {
-        Some(leg) => Ok(Some(leg.copy()?)),
+    let Some(leg) = orig.legs.as_slice().get(position) else {
+        return Ok(None);
+    };
+    match leg.slot {
+        Some(slot) => Ok(Some(WonLeg {
+            slot,
+            uuid: leg.uuid.copy()?,
+        })),
         None => Ok(None),
     }
 }
@@ -207,14 +220,14 @@ fn other_slots(alloc: Global, orig: &Orig, position: usize) -> Result<Vec<u16>, 
 fn end_race(
     draft: &mut Draft<'_>,
     attempt: &Attempt,
-    leg: &OrigLeg,
+    leg: &WonLeg,
     losers: &[u16],
 ) -> Result<(), Memory>
     ensures { Brings result draft.old draft.new
         (spec.after_race attempt.now leg.now (after_hangups_for LoseRace losers.now (drafted draft.old))) }
 {
     hang_up_for(draft, losers, Cause::LoseRace)?;
-    match death_in(draft, leg.slot.unwrap_or(0)) {
+    match death_in(draft, leg.slot) {
         None => win(draft, attempt, leg),
         Some(cause) => fail(draft, attempt, cause),
     }
@@ -278,7 +291,7 @@ fn make_group_for(
 // ---- a leg has won
 
 // Ends an origination that a leg has won.
-fn win(draft: &mut Draft<'_>, attempt: &Attempt, leg: &OrigLeg) -> Result<(), Memory>
+fn win(draft: &mut Draft<'_>, attempt: &Attempt, leg: &WonLeg) -> Result<(), Memory>
     ensures { Brings result draft.old draft.new
         (spec.won_for attempt.now.party attempt.now.orig leg.now (drafted draft.old)) }
 {
@@ -300,15 +313,15 @@ fn win_by_job(
     job: u64,
     conn: u32,
     winner: &Winner,
-    leg: &OrigLeg,
+    leg: &WonLeg,
 ) -> Result<(), Memory>
     ensures { Brings result draft.old draft.new
         (after_job_end job conn (texts.made_text leg.now.uuid)
-        (without_orig orig (after_winning winner.now (unwrap_or leg.now.slot 0) (drafted draft.old)))) }
+        (without_orig orig (after_winning winner.now leg.now.slot (drafted draft.old)))) }
 {
-    let answer = made_text(draft.alloc(), leg.uuid.as_bytes())?;
-    let_win(draft, leg.slot.unwrap_or(0), winner)?;
-    end_originate(draft, orig, job, conn, answer.as_bytes())
+    let reply = made_text(draft.alloc(), leg.uuid.as_bytes())?;
+    let_win(draft, leg.slot, winner)?;
+    end_originate(draft, orig, job, conn, reply.as_bytes())
 }
 
 // Lets the leg in a slot run its application, or be routed.
@@ -320,14 +333,14 @@ fn let_win(draft: &mut Draft<'_>, slot: u16, winner: &Winner) -> Result<(), Memo
 }
 
 // Joins the channel in a slot to the leg, if it still waits for the verdict.
-fn win_by_slot(draft: &mut Draft<'_>, orig: u64, slot: u16, leg: &OrigLeg) -> Result<(), Memory>
+fn win_by_slot(draft: &mut Draft<'_>, orig: u64, slot: u16, leg: &WonLeg) -> Result<(), Memory>
     ensures { Brings result draft.old draft.new (spec.won_for (party.Slot slot) orig leg.now (drafted draft.old)) }
 {
     if !awaits(draft, slot, orig) {
         return Ok(());
     }
     draft.drop_orig(orig)?;
-    win_bridge(draft, slot, leg.slot.unwrap_or(0))
+    win_bridge(draft, slot, leg.slot)
 }
 
 // ---- it has failed
@@ -353,8 +366,8 @@ fn fail_by_job(
     ensures { Brings result draft.old draft.new
         (after_job_end job conn (texts.failed_text cause) (without_orig orig (drafted draft.old))) }
 {
-    let answer = failed_text(draft.alloc(), cause)?;
-    end_originate(draft, orig, job, conn, answer.as_bytes())
+    let reply = failed_text(draft.alloc(), cause)?;
+    end_originate(draft, orig, job, conn, reply.as_bytes())
 }
 
 // Lets the channel in a slot fail to bridge, if it still waits for the verdict.
@@ -377,17 +390,17 @@ fn awaits(draft: &Draft<'_>, slot: u16, orig: u64) -> bool
     awaited_at(draft, slot) == Some(orig)
 }
 
-// Ends an origination and its job with an answer.
+// Ends an origination and its job with a reply.
 fn end_originate(
     draft: &mut Draft<'_>,
     orig: u64,
     job: u64,
     conn: u32,
-    answer: &[u8],
+    reply: &[u8],
 ) -> Result<(), Memory>
     ensures { Brings result draft.old draft.new
-        (after_job_end job conn answer.now (without_orig orig (drafted draft.old))) }
+        (after_job_end job conn reply.now (without_orig orig (drafted draft.old))) }
 {
     draft.drop_orig(orig)?;
-    end_job(draft, job, conn, answer)
+    end_job(draft, job, conn, reply)
 }

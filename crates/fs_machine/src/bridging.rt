@@ -148,15 +148,15 @@ pub(crate) fn win_bridge(draft: &mut Draft<'_>, slot: u16, leg: u16) -> Result<(
 {
     draft.answer(slot)?;
     dispose(draft, slot, b"SUCCESS")?;
-    join_or_fail(draft, slot, leg)
+    join_to_leg(draft, slot, leg)
 }
 
-// Joins the channel in a slot to a leg; where they cannot be joined the bridge has failed.
-fn join_or_fail(draft: &mut Draft<'_>, slot: u16, leg: u16) -> Result<(), Memory>
-    ensures { Brings result draft.old draft.new (spec.joined_or_failed slot leg (drafted draft.old)) }
+// Joins the channel in a slot to a leg, which comes into the media of their bridge, where they can be joined.
+fn join_to_leg(draft: &mut Draft<'_>, slot: u16, leg: u16) -> Result<(), Memory>
+    ensures { Brings result draft.old draft.new (spec.joined_to_leg slot leg (drafted draft.old)) }
 {
     if !draft.can_join(slot, leg) {
-        return fail_bridge(draft, slot, Cause::NormalTemporaryFailure);
+        return Ok(());
     }
     draft.join(BridgeKind::Dial, slot, leg)?;
     change_chan(draft, leg, ChanChange::EnterMedia)

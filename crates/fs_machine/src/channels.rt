@@ -40,12 +40,11 @@ pub(crate) fn change_chan(
 ) -> Result<(), Memory>
     ensures { Brings result draft.old draft.new (after_move (spec.changed_by change.entry) slot (drafted draft.old)) }
 {
-    let Some(mut chan) = draft.own_chan(slot)? else {
+    let Some(mut moving) = draft.take_up(slot)? else {
         return Ok(());
     };
-    let state = chan.state;
-    change_by(draft.alloc(), &mut chan, change)?;
-    draft.put_moved(slot, state, chan)
+    change_by(draft.alloc(), &mut moving.chan, change)?;
+    draft.put_back(moving)
 }
 
 // Changes a channel.

@@ -12,11 +12,12 @@ ghost use Rattle.fs_machine.specs.Commands as spec;
 
 use crate::api::run_api;
 use crate::connections::{admit, part, phase_at};
+use crate::replies::give_reply;
 use crate::subscribing::{
     add_filter, delete_filters, fall_silent, refuse_filter, subscribe, unsubscribe,
 };
 use fs_api::{Api, echoed};
-use fs_cmd::{Command, api_reply, notice, reply};
+use fs_cmd::{Command, api_reply, notice};
 use fs_state::{Draft, Parting, Phase};
 use fs_text::Memory;
 
@@ -80,14 +81,6 @@ fn refuse(draft: &mut Draft<'_>, conn: u32) -> Result<(), Memory>
     give_reply(draft, conn, b"-ERR command not found")
 }
 
-// Replies to a command.
-pub(crate) fn give_reply(draft: &mut Draft<'_>, conn: u32, text: &[u8]) -> Result<(), Memory>
-    ensures { Brings result draft.old draft.new (spec.with_reply conn text.now (drafted draft.old)) }
-{
-    let frame = reply(draft.alloc(), text, &[])?;
-    draft.answer_command(conn, frame)
-}
-
 // Begins the end of a connection, with a last reply and the notice.
 fn begin_ending(draft: &mut Draft<'_>, conn: u32, why: Parting, text: &[u8]) -> Result<(), Memory>
     ensures { Brings result draft.old draft.new (spec.after_dismissal conn why text.now (drafted draft.old)) }
@@ -95,7 +88,7 @@ fn begin_ending(draft: &mut Draft<'_>, conn: u32, why: Parting, text: &[u8]) -> 
     part(draft, conn, why)?;
     give_reply(draft, conn, text)?;
     let frame = notice(draft.alloc())?;
-    draft.give(conn, frame)
+    draft.give_notice(conn, frame)
 }
 
 // Judges the password that is offered.
@@ -112,31 +105,31 @@ fn authenticate(draft: &mut Draft<'_>, conn: u32, given: &[u8]) -> Result<(), Me
 
 // Whether this is the password.
 fn is_password(draft: &Draft<'_>, given: &[u8]) -> bool
-    ensures { result ≡ bytes_eq given.now (drafted draft.now).config.settings.password }
+    ensures { result ≡ bytes_eq given.now (drafted draft.now).settings.password }
 {
-    given == draft.config().settings().password.as_bytes()
+    given == draft.settings().password.as_bytes()
 }
 
-// Runs an api command, and answers it, unless the answer is owed.
+// Runs an api command, and responds to it, unless the reply is owed.
 #[tactic(auto, using(fs_api::proofs::EchoLemmas::echoes))]
 fn respond(draft: &mut Draft<'_>, conn: u32, text: &[u8]) -> Result<(), Memory>
     ensures { Brings result draft.old draft.new
         (spec.with_response conn (done_by conn (api_of text.now) (drafted draft.old))) }
 {
-    if let Some(answer) = echoed(text) {
-        return give_answer(draft, conn, answer);
+    if let Some(text) = echoed(text) {
+        return give_response(draft, conn, text);
     }
     let api = Api::of(draft.alloc(), text)?;
     match run_api(draft, conn, &api)? {
-        Some(answer) => give_answer(draft, conn, answer.as_bytes()),
+        Some(reply) => give_response(draft, conn, reply.as_bytes()),
         None => Ok(()),
     }
 }
 
-// Answers an api command.
-fn give_answer(draft: &mut Draft<'_>, conn: u32, answer: &[u8]) -> Result<(), Memory>
-    ensures { Brings result draft.old draft.new (spec.with_response_of conn (Some answer.now) (drafted draft.old)) }
+// Responds to an api command.
+fn give_response(draft: &mut Draft<'_>, conn: u32, text: &[u8]) -> Result<(), Memory>
+    ensures { Brings result draft.old draft.new (spec.with_response_of conn (Some text.now) (drafted draft.old)) }
 {
-    let frame = api_reply(draft.alloc(), answer)?;
-    draft.answer_command(conn, frame)
+    let frame = api_reply(draft.alloc(), text)?;
+    draft.give_now(conn, frame)
 }

@@ -67,13 +67,13 @@ pub(crate) fn owe(draft: &mut Draft<'_>, conn: u32, place: u64) -> Result<(), Me
 }
 
 /// Notes that a connection is owed no reply any more, if it is there.
-pub(crate) fn settle(draft: &mut Draft<'_>, conn: u32) -> Result<(), Memory>
+pub(crate) fn owe_nothing(draft: &mut Draft<'_>, conn: u32) -> Result<(), Memory>
     ensures { Brings result draft.old draft.new (spec.conn_changed spec.not_owed conn (drafted draft.old)) }
 {
     let Some(there) = draft.conn(conn) else {
         return Ok(());
     };
-    let mut settled = there.copy()?;
-    settled.owed = None;
-    draft.set_conn(conn, settled)
+    let mut free = there.copy()?;
+    free.owed = None;
+    draft.set_conn(conn, free)
 }

@@ -3,13 +3,13 @@
 ghost use Rattle.std.specs.Prelude.{◌≡◌};
 ghost use Rattle.std.specs.Option.{option_copied};
 ghost use Rattle.fs_chan.specs.Work as chan;
-ghost use Rattle.fs_places.specs.Places.{held_in};
-ghost use Rattle.fs_places.specs.Least as least;
+ghost use Rattle.fs_seats.specs.Seats.{held_in};
+ghost use Rattle.fs_seats.specs.Least as least;
 ghost use Rattle.fs_state.specs.Switch.{orig_of};
 ghost use Rattle.fs_machine.specs.Due as spec;
 
 use fs_chan::Due;
-use fs_places::Numbered;
+use fs_seats::Numbered;
 use fs_state::{Job, JobWork, Seen};
 
 /// Who has something to do by itself.
@@ -112,7 +112,7 @@ pub(crate) fn due_in_slot(seen: &Seen<'_>, slot: u16) -> DueActor
 }
 
 // The least slot that has something to do.
-#[tactic(auto, using(fs_places::proofs::PlaceLemmas::filled_rules))]
+#[tactic(auto, using(fs_seats::proofs::SeatLemmas::filled_rules))]
 fn due_slot(seen: &Seen<'_>) -> Option<u16>
     ensures { result ≡ spec.due_slot seen.now }
 {
@@ -125,19 +125,19 @@ fn due_slot(seen: &Seen<'_>) -> Option<u16>
 }
 
 // The least number of a job that has something to do.
-#[tactic(auto, using(fs_places::proofs::LeastLemmas::least_next, fs_places::proofs::LeastLemmas::least_empty))]
+#[tactic(auto, using(fs_seats::proofs::LeastLemmas::least_next, fs_seats::proofs::LeastLemmas::least_empty))]
 fn due_job(seen: &Seen<'_>) -> Option<u64>
     ensures { result ≡ spec.due_job seen.now }
 {
     let mut least = None;
-    for place in 0..seen.filled_jobs() {
-        least = lesser(least, due_number(seen, place));
+    for seat in 0..seen.filled_jobs() {
+        least = lesser(least, due_number(seen, seat));
     }
     least
 }
 
 // The first moment at which a channel will have something to do.
-#[tactic(auto, using(fs_places::proofs::LeastLemmas::least_next, fs_places::proofs::LeastLemmas::least_empty))]
+#[tactic(auto, using(fs_seats::proofs::LeastLemmas::least_next, fs_seats::proofs::LeastLemmas::least_empty))]
 fn first_chan_moment(seen: &Seen<'_>) -> Option<u64>
     ensures { result ≡ spec.first_chan_moment seen.now }
 {
@@ -149,22 +149,22 @@ fn first_chan_moment(seen: &Seen<'_>) -> Option<u64>
 }
 
 // The first moment at which a job will have something to do.
-#[tactic(auto, using(fs_places::proofs::LeastLemmas::least_next, fs_places::proofs::LeastLemmas::least_empty))]
+#[tactic(auto, using(fs_seats::proofs::LeastLemmas::least_next, fs_seats::proofs::LeastLemmas::least_empty))]
 fn first_job_moment(seen: &Seen<'_>) -> Option<u64>
     ensures { result ≡ spec.first_job_moment seen.now }
 {
     let mut first = None;
-    for place in 0..seen.filled_jobs() {
-        first = lesser(first, later_of(row_due(seen, seen.job_at(place))));
+    for seat in 0..seen.filled_jobs() {
+        first = lesser(first, later_of(row_due(seen, seen.job_at(seat))));
     }
     first
 }
 
-// The number of the job at a place of the table, where it has something to do.
-fn due_number(seen: &Seen<'_>, place: usize) -> Option<u64>
-    ensures { result ≡ spec.due_number seen.now (held_in seen.now.jobs place) }
+// The number of the job at a seat of the table, where it has something to do.
+fn due_number(seen: &Seen<'_>, seat: usize) -> Option<u64>
+    ensures { result ≡ spec.due_number seen.now (held_in seen.now.jobs seat) }
 {
-    let row = seen.job_at(place)?;
+    let row = seen.job_at(seat)?;
     if is_now(row_due(seen, Some(row))) {
         Some(row.number)
     } else {

@@ -19,7 +19,7 @@ use fs_state::Draft;
 use fs_text::{Cause, Memory, State, Txt};
 use std::alloc::Global;
 
-/// Joins the live channels of two identifiers, and answers whether it did.
+/// Joins the live channels of two identifiers, and replies whether it did.
 #[tactic(auto, unfolding(crate::specs::Joining::uuid_bridge_done))]
 pub(crate) fn bridge_channels(
     draft: &mut Draft<'_>,
@@ -71,7 +71,7 @@ fn bridge_slots(draft: &mut Draft<'_>, a: u16, b: u16, other: &Txt) -> Result<Op
         (drafted draft.new)) }
 {
     match in_the_way(draft, a, b) {
-        Some(answer) => says(draft.alloc(), answer),
+        Some(reply) => says(draft.alloc(), reply),
         None => {
             leave_both(draft, a, b)?;
             join_both(draft, a, b, other)
@@ -178,10 +178,10 @@ fn join_both(draft: &mut Draft<'_>, a: u16, b: u16, other: &Txt) -> Result<Optio
     if !(draft.lives(a) && draft.lives(b)) {
         return no_channel(alloc);
     }
-    let answer = made_text(alloc, other.as_bytes())?;
+    let reply = made_text(alloc, other.as_bytes())?;
     draft.join(BridgeKind::Joined, a, b)?;
     bring_into_media(draft, a, b)?;
-    Ok(Some(answer))
+    Ok(Some(reply))
 }
 
 // Brings two channels into the media of their bridge, in the order of their slots.

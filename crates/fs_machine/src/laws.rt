@@ -4,18 +4,22 @@ ghost use Rattle.std.specs.Prelude.{◌≡◌, ◌≢◌, ℕ, true, false, List
 ghost use Rattle.fs_text.specs.Texts.{Text};
 ghost use Rattle.fs_doc.specs.Limits.{IsWithin};
 ghost use Rattle.fs_doc.specs.Reading.{Configuration};
-ghost use Rattle.fs_state.specs.Switch.{waiting_for};
+ghost use Rattle.fs_state.specs.Switch.{waiting_for, at_moment};
 ghost use Rattle.fs_machine.specs.declared.due.DueActor.TheVariants as actor;
 ghost use Rattle.fs_machine.specs.declared.entry.Entry.{Entry};
-ghost use Rattle.fs_machine.specs.BridgeEvents.{BridgesAreTold, events_in};
+ghost use Rattle.fs_machine.specs.BridgeEvents.{BridgesAreTold, EndsStandBehind, BridgesAreCounted, events_in};
 ghost use Rattle.fs_machine.specs.Connections.{phase_at};
 ghost use Rattle.fs_machine.specs.Due.{next_due};
+ghost use Rattle.fs_machine.specs.EventNames.{AreNamed};
+ghost use Rattle.fs_machine.specs.Events.{events_by};
+ghost use Rattle.fs_machine.specs.FirstEnds.{EndsAreRecorded};
 ghost use Rattle.fs_machine.specs.Questions.{owes};
 ghost use Rattle.fs_machine.specs.Concerns.{Concerns};
 ghost use Rattle.fs_machine.specs.Step.{is_closed};
 ghost use Rattle.fs_machine.specs.Laws.{IsLimited, IsRun, state_after, given_to, handed_to, until_sent};
 ghost use Rattle.fs_machine.specs.Owed.{AreOwed};
-ghost use Rattle.fs_machine.specs.Sound.{PartnersAgree, IdentifiersDiffer};
+ghost use Rattle.fs_machine.specs.Sound.{PartnersAgree, IdentifiersDiffer, IsSound};
+ghost use Rattle.fs_machine.specs.Winners.{WinnersCanJoin};
 
 /// The frames that a run hands out to a connection are the first of those that it gives it, each once and in their
 /// order. While the connection is open, the others wait. Once it is closed with all sent, there are no others.
@@ -35,7 +39,7 @@ pub fn hands_out_what_it_gives()
 
 /// Where the configuration keeps its limits, each reply that is owed has one job that owes it, and that job has a next
 /// moment. So somebody has something to do, now or at some moment, while a reply is owed. Numbers are drawn by counters
-/// that stand still at their last one; the journal ends long before. There is a place for the origination of each job
+/// that stand still at their last one; the journal ends long before. There is a seat for the origination of each job
 /// and of each channel.
 pub fn owes_to_its_jobs()
     ensures owed { (config : Configuration) (entries : List Entry) → IsWithin config → IsRun config entries
@@ -57,6 +61,20 @@ pub fn identifiers_differ()
         → IdentifiersDiffer (state_after config entries) }
 {}
 
+/// The state behind every run is sound, where the configuration keeps its limits.
+pub fn runs_are_sound()
+    ensures { (config : Configuration) (entries : List Entry) → IsWithin config → IsRun config entries
+        → IsSound (state_after config entries) }
+{}
+
+/// In every run, where the configuration keeps its limits, and at whatever moment, a channel whose origination is won
+/// can be joined to the leg that has won it. An entry draws a verdict before it does anything else, so that no other
+/// switch is asked.
+pub fn winners_can_join()
+    ensures { (config : Configuration) (entries : List Entry) (moment : ℕ) → IsWithin config → IsRun config entries
+        → WinnersCanJoin (at_moment moment (state_after config entries)) }
+{}
+
 /// Each entry of a run is for each connection one of three things: its own, one of others, or the one by which it
 /// comes.
 pub fn concerns_each_connection()
@@ -64,9 +82,32 @@ pub fn concerns_each_connection()
         → IsRun config (entries ++ entry ∷ []) → Concerns conn (state_after config entries) entry }
 {}
 
+/// Whatever entries are run, each event tells what its name says that it can tell.
+pub fn events_are_named()
+    ensures { (config : Configuration) (entries : List Entry) → AreNamed (events_in config entries) }
+{}
+
 /// Whatever entries are run, one event tells of each bridge that it begins. No event tells of the end of a bridge that
-/// stands, and one of the end of each other.
+/// stands, and one of the end of each other. It stands behind the one that tells of the beginning.
 pub fn bridges_are_told()
-    ensures { (config : Configuration) (entries : List Entry)
+    ensures told { (config : Configuration) (entries : List Entry)
         → BridgesAreTold (state_after config entries) (events_in config entries) }
+    ensures order { (config : Configuration) (entries : List Entry) → EndsStandBehind (events_in config entries) }
+{}
+
+/// Whatever entries are run, there are as many CHANNEL_BRIDGE events as bridges were joined, and as many
+/// CHANNEL_UNBRIDGE events as of these stand no more. So do the counts of the switch say, as far as 64 bits go.
+pub fn bridges_are_counted()
+    ensures { (config : Configuration) (entries : List Entry)
+        → BridgesAreCounted (state_after config entries) (events_in config entries) }
+{}
+
+/// In a run none of whose entries is refused, where the configuration keeps its limits, an entry ends only bridges that
+/// stood before it. It leaves both legs of each one that it tells to have ended in their slots, live or hung up, with
+/// no peer and with the cause of that end as their variable `bridge_hangup_cause`.
+pub fn ends_are_recorded()
+    ensures { (config : Configuration) (entries : List Entry) (entry : Entry) → IsWithin config
+        → IsRun config (entries ++ entry ∷ [])
+        → EndsAreRecorded (state_after config entries) (state_after config (entries ++ entry ∷ []))
+        (events_by (state_after config entries) entry) }
 {}

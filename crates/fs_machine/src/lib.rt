@@ -6,6 +6,7 @@ mod api;
 mod applications;
 mod attempts;
 mod bridging;
+mod call;
 mod channels;
 mod commands;
 mod connections;
@@ -25,6 +26,7 @@ mod owing;
 mod questions;
 mod refusal;
 mod refused;
+mod replies;
 mod reply;
 mod subscribing;
 mod terms;
@@ -35,8 +37,9 @@ pub use due::DueActor;
 pub use entry::{Act, Closing, Entry};
 pub use journal::Journal;
 pub use laws::{
-    bridges_are_told, concerns_each_connection, hands_out_what_it_gives, identifiers_differ,
-    owes_to_its_jobs, partners_agree,
+    bridges_are_counted, bridges_are_told, concerns_each_connection, ends_are_recorded,
+    events_are_named, hands_out_what_it_gives, identifiers_differ, owes_to_its_jobs,
+    partners_agree, runs_are_sound, winners_can_join,
 };
 pub use machine::{Change, Machine};
 pub use refusal::Refusal;

@@ -2,7 +2,7 @@
 
 ghost use Rattle.std.specs.Prelude.{◌≡◌, ◌≤◌, [], ◌∷◌, ◌++◌, false, None, IfOk, IfErr, OnOk};
 ghost use Rattle.fs_doc.specs.Limits.{IsWithin};
-ghost use Rattle.fs_state.specs.declared.delta.QueueChange.TheVariants.{Unchanged};
+ghost use Rattle.fs_state.specs.declared.delta.OutboxChange.TheVariants.{Unchanged};
 ghost use Rattle.fs_state.specs.Drafts.{after, drafted, Fits};
 ghost use Rattle.fs_state.specs.Switch.{empty};
 ghost use Rattle.fs_machine.specs.Entries.{is_full, HasRoomWithin, cost_with};
@@ -17,12 +17,13 @@ use crate::refusal::Refusal;
 use crate::refused::refused_act;
 use crate::reply::Reply;
 use fs_doc::Config;
-use fs_places::Boxed;
 use fs_plan::Dialplan;
+use fs_seats::Boxed;
 use fs_state::{Blank, Core, Delta, Draft, Seen};
 use fs_text::Memory;
 use std::alloc::Global;
 use std::marker::Model;
+use std::sync::Arc;
 
 /// What the largest entry costs.
 const LARGEST_COST: u64 = 65_600;
@@ -32,8 +33,10 @@ const LARGEST_COST: u64 = 65_600;
 /// A contract sees what it was configured by, its journal, and for how many entries there is room; its state is what
 /// the entries make of the empty switch.
 pub struct Machine {
+    // What it started from.
+    pub(crate) config: Arc<Config>,
     pub(crate) core: Core,
-    plan: Dialplan,
+    dialplan: Dialplan,
     journal: Journal,
     // What the last entry was noted on, for the next one.
     blank: Option<Blank>,
@@ -42,8 +45,9 @@ pub struct Machine {
 impl Drop for Machine {
     fn drop(self) {
         let Machine {
+            config: _config,
             core: _core,
-            plan: _plan,
+            dialplan: _dialplan,
             journal: _journal,
             blank: _blank,
         } = self;
@@ -85,30 +89,34 @@ impl Change {
 }
 
 impl Model for Machine {
+    ghost use Rattle.std.specs.Arc.{arc_value};
     ghost use Rattle.std.specs.Prelude.{◌≡◌};
     ghost use Rattle.fs_doc.specs.Limits.{IsWithin};
     ghost use Rattle.fs_machine.specs.Runs.{View, StandsFor};
 
     ghost Value = { View };
 
-    ghost view = { λ m. record { config = m.core.config; journal = m.journal.entries; spare = m.journal.spare } };
+    ghost view = { λ m. record { config = arc_value m.config; journal = m.journal.entries; spare = m.journal.spare } };
 
-    ghost invariant = { λ m. StandsFor m.core.config m.core m.journal.entries
-        × (m.plan ≡ m.core.config.contexts)
-        × IsWithin m.core.config };
+    ghost invariant = { λ m. StandsFor (arc_value m.config) m.core m.journal.entries
+        × (m.core.settings ≡ (arc_value m.config).settings)
+        × (m.dialplan ≡ m.core.contexts)
+        × IsWithin (arc_value m.config) };
 }
 
 impl Machine {
     /// A switch to which nothing has happened, with the dialplan that was built from its configuration.
-    pub fn new(alloc: Global, config: Config, plan: Dialplan) -> Result<Machine, Memory>
-        requires { plan ≡ config.contexts }
+    pub fn new(alloc: Global, config: Config, dialplan: Dialplan) -> Result<Machine, Memory>
+        requires { dialplan ≡ config.contexts }
         ensures config { IfOk result (λ m. m.config ≡ config) }
         ensures journal { IfOk result (λ m. m.journal ≡ []) }
     {
         config.within();
+        let config = Arc::new(alloc, config)?;
         Ok(Machine {
-            core: Core::new(alloc, config)?,
-            plan,
+            core: Core::new(alloc, config.clone()?)?,
+            config,
+            dialplan,
             journal: Journal::new(alloc),
             blank: None,
         })
@@ -135,8 +143,9 @@ impl Machine {
         ensures { result.entries ≡ self.journal }
     {
         let Machine {
+            config: _config,
             core: _core,
-            plan: _plan,
+            dialplan: _dialplan,
             journal,
             blank: _blank,
         } = self;
@@ -153,7 +162,7 @@ impl Machine {
     {
         self.journal.make_room()?;
         let blank = self.take_blank()?;
-        plan(&self.core, blank, &self.plan, asked)
+        prepare_entry(&self.core, blank, &self.dialplan, asked)
     }
 
     // What the entry in hand is noted on.
@@ -202,15 +211,20 @@ impl Machine {
 
 // Judges an entry over a state, and prepares what it changes.
 #[tactic(auto, unfolding(crate::specs::Step::step, crate::specs::Step::refusal_of))]
-fn plan(core: &Core, blank: Blank, plan: &Dialplan, asked: &Entry) -> Result<Change, Refusal>
-    requires { plan.now ≡ core.now.config.contexts }
+fn prepare_entry(
+    core: &Core,
+    blank: Blank,
+    dialplan: &Dialplan,
+    asked: &Entry,
+) -> Result<Change, Refusal>
+    requires { dialplan.now ≡ core.now.contexts }
     ensures refused { IfErr result (IsRefusedFor core.now asked.entry.now) }
-    ensures free { OnOk result (HasRoomWithin core.now.config.settings.journal_limit core.now) }
-    ensures planned { IfOk result (λ change. (change.entry ≡ asked.entry.now)
+    ensures free { OnOk result (HasRoomWithin core.now.settings.journal_limit core.now) }
+    ensures prepared { IfOk result (λ change. (change.entry ≡ asked.entry.now)
         × spec.IsPrepared core.now asked.entry.now change.delta change.reply) }
 {
     if is_full(core) {
-        let limit = core.config().settings().journal_limit;
+        let limit = core.settings().journal_limit;
         let cost = core.cost();
         return Err(Refusal::JournalFull { cost, limit });
     }
@@ -219,7 +233,7 @@ fn plan(core: &Core, blank: Blank, plan: &Dialplan, asked: &Entry) -> Result<Cha
     }
     let mut draft = Draft::new(core, blank);
     draft.advance(asked.moment);
-    let (entry, reply) = enter(&mut draft, plan, asked)?;
+    let (entry, reply) = enter(&mut draft, dialplan, asked)?;
     draft.post()?;
     let delta = draft.finish()?;
     Ok(Change {
@@ -230,23 +244,27 @@ fn plan(core: &Core, blank: Blank, plan: &Dialplan, asked: &Entry) -> Result<Cha
 }
 
 // Does an entry that is not refused to a draft, and copies it.
-fn enter(draft: &mut Draft<'_>, plan: &Dialplan, asked: &Entry) -> Result<(Entry, Reply), Memory>
-    requires queue { draft.old.delta.queue ≡ Unchanged }
-    requires plan { plan.now ≡ draft.old.base.config.contexts }
+fn enter(
+    draft: &mut Draft<'_>,
+    dialplan: &Dialplan,
+    asked: &Entry,
+) -> Result<(Entry, Reply), Memory>
+    requires outbox { draft.old.delta.outbox ≡ Unchanged }
+    requires dialplan { dialplan.now ≡ draft.old.base.contexts }
     ensures base { draft.new.base ≡ draft.old.base }
     ensures entry { IfOk result (λ done. done.0 ≡ asked.entry.now) }
     ensures ok { IfOk result
         (λ done. ComesTo (act_done asked.entry.now.act (drafted draft.old)) (drafted draft.new) done.1) }
 {
-    let reply = do_act(draft, plan, &asked.act)?;
+    let reply = do_act(draft, dialplan, &asked.act)?;
     Ok((asked.copy()?, reply))
 }
 
 // Whether the largest entry would pass the limit of the journal.
 fn is_full(core: &Core) -> bool
     ensures exact { result ≡ is_full core.now }
-    ensures free { result ≡ false → HasRoomWithin core.now.config.settings.journal_limit core.now }
+    ensures free { result ≡ false → HasRoomWithin core.now.settings.journal_limit core.now }
 {
-    let limit = core.config().settings().journal_limit;
+    let limit = core.settings().journal_limit;
     limit < LARGEST_COST || core.cost() > limit - LARGEST_COST
 }

@@ -6,12 +6,13 @@ ghost use Rattle.fs_state.specs.Drafts.{drafted, Brings};
 ghost use Rattle.fs_state.specs.Switch.{identifier_of, with_next_identifier, free_slot};
 ghost use Rattle.fs_machine.specs.Originations as spec;
 
+use crate::call::Call;
 use crate::terms::{call_with, deadline_of, is_misnamed, set_all};
 use fs_chan::{
     Action, Actions, ActionsLeft, Chan, Direction, SharedProfile, SharedVars, Target3, Wait,
 };
 use fs_orig::{Caller, Endpoint, LegPlan, OrigLeg, OrigLegs, Route, Winner};
-use fs_places::Boxed;
+use fs_seats::Boxed;
 use fs_state::Draft;
 use fs_text::{Cause, Memory, State, Txt};
 use fs_vars::{Profile, Vars};
@@ -21,29 +22,6 @@ use std::alloc::Global;
 const LONGEST_CALLER_ID: usize = 256;
 /// The bytes that the name of a channel of the loopback has beside the extension.
 const NAME_ROOM: usize = 11;
-
-// A call over the loopback.
-pub(crate) struct Call {
-    pub(crate) exten: Txt,
-    pub(crate) context: Txt,
-    pub(crate) caller: Caller,
-    // The variables of both channels.
-    pub(crate) vars: SharedVars,
-    // The identifier of its leg, where it is not the next one.
-    pub(crate) uuid: Option<Txt>,
-}
-
-impl Drop for Call {
-    fn drop(self) {
-        let Call {
-            exten: _exten,
-            context: _context,
-            caller: _caller,
-            vars: _vars,
-            uuid: _uuid,
-        } = self;
-    }
-}
 
 // One end of a pair of channels.
 #[derive(Clone, Copy)]
@@ -135,7 +113,7 @@ fn make_loopback(draft: &mut Draft<'_>, call: &Call, orig: u64) -> Result<OrigLe
 fn is_congested(draft: &Draft<'_>) -> bool
     ensures { result ≡ spec.is_congested (drafted draft.now) }
 {
-    let limit = draft.config().settings().journal_limit;
+    let limit = draft.settings().journal_limit;
     u128::from(draft.cost()) * 16 > u128::from(limit) * 15
 }
 
@@ -149,7 +127,7 @@ fn free_pair(draft: &Draft<'_>) -> Option<(u16, u16)>
 }
 
 // The least free slot behind another; behind the last one there is none.
-#[tactic(auto, using(fs_places::proofs::PlaceLemmas::first_nowhere))]
+#[tactic(auto, using(fs_seats::proofs::SeatLemmas::first_nowhere))]
 fn free_behind(draft: &Draft<'_>, slot: u16) -> Option<u16>
     ensures { result ≡ free_slot (slot + 1) (drafted draft.now) }
 {

@@ -2,7 +2,7 @@
 ghost use Rattle.fs_state.specs.Drafts.{drafted, Brings};
 ghost use Rattle.fs_machine.specs.Owing as spec;
 
-use crate::connections::{owe, settle};
+use crate::connections::{owe, owe_nothing};
 use fs_cmd::api_reply;
 use fs_state::{Draft, Job, JobWork};
 use fs_text::Memory;
@@ -21,12 +21,12 @@ pub(crate) fn end_job(
     draft: &mut Draft<'_>,
     number: u64,
     conn: u32,
-    answer: &[u8],
+    reply: &[u8],
 ) -> Result<(), Memory>
-    ensures { Brings result draft.old draft.new (spec.after_job_end number conn answer.now (drafted draft.old)) }
+    ensures { Brings result draft.old draft.new (spec.after_job_end number conn reply.now (drafted draft.old)) }
 {
     draft.drop_job(number)?;
-    settle(draft, conn)?;
-    let frame = api_reply(draft.alloc(), answer)?;
-    draft.give(conn, frame)
+    owe_nothing(draft, conn)?;
+    let frame = api_reply(draft.alloc(), reply)?;
+    draft.give_late(conn, frame)
 }

@@ -85,7 +85,7 @@ impl Machine {
     pub fn limit(&self) -> u64
         ensures { result ≡ self.now.config.settings.journal_limit }
     {
-        self.core.config().settings().journal_limit
+        self.config.settings().journal_limit
     }
 
     /// Whether the switch comes to its end.

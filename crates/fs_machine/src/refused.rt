@@ -31,7 +31,7 @@ fn refused_arrival(seen: &Seen<'_>) -> Option<Refusal>
     ensures { result ≡ spec.refused_act act.Arrive seen.now }
 {
     if seen.is_full() {
-        let live = seen.conn_places().min(usize::from(u16::MAX)) as u16;
+        let live = seen.conn_seats().min(usize::from(u16::MAX)) as u16;
         return Some(Refusal::TooMany { live });
     }
     None

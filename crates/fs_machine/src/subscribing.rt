@@ -9,7 +9,7 @@ ghost use Rattle.fs_state.specs.Drafts.{drafted, Brings};
 ghost use Rattle.fs_machine.specs.Commands as spec;
 ghost use Rattle.fs_machine.specs.Connections as connections;
 
-use crate::commands::give_reply;
+use crate::replies::give_reply;
 use fs_cmd::{Form, filter_added, filter_deleted};
 use fs_filter::SharedSubs;
 use fs_state::{Conn, Draft};

@@ -5,7 +5,7 @@ ghost use Rattle.std.specs.List.{list_all};
 ghost use Rattle.fs_state.specs.Drafts.{drafted};
 ghost use Rattle.fs_machine.specs.Originations as spec;
 
-use crate::originations::Call;
+use crate::call::Call;
 use fs_chan::{SharedVars, moment_after};
 use fs_orig::{Caller, seconds_of};
 use fs_state::Draft;
@@ -99,7 +99,7 @@ pub(crate) fn is_misnamed(draft: &Draft<'_>, vars: &Vars) -> bool
 fn is_free(draft: &Draft<'_>, uuid: &[u8]) -> bool
     ensures { result ≡ spec.is_free uuid.now (drafted draft.now) }
 {
-    is_name(uuid) && !draft.config().settings().core_uuid.owns(uuid) && !draft.is_held(uuid)
+    is_name(uuid) && !draft.settings().core_uuid.owns(uuid) && !draft.is_held(uuid)
 }
 
 // Whether a text is 1 to 64 bytes from `!` to `~`.

@@ -1,4 +1,4 @@
-//! The answers of api commands.
+//! The replies of api commands.
 
 ghost use Rattle.std.specs.Prelude.{◌≡◌, Some, IfOk};
 ghost use Rattle.fs_machine.specs.Texts as texts;
@@ -6,11 +6,11 @@ ghost use Rattle.fs_machine.specs.Texts as texts;
 use fs_text::{Cause, Memory, Txt};
 use std::alloc::Global;
 
-/// The answer of these bytes.
-pub(crate) fn says(alloc: Global, answer: &[u8]) -> Result<Option<Txt>, Memory>
-    ensures { IfOk result (λ said. said ≡ Some answer.now) }
+/// The reply of these bytes.
+pub(crate) fn says(alloc: Global, reply: &[u8]) -> Result<Option<Txt>, Memory>
+    ensures { IfOk result (λ said. said ≡ Some reply.now) }
 {
-    Ok(Some(Txt::of(alloc, answer)?))
+    Ok(Some(Txt::of(alloc, reply)?))
 }
 
 /// How a command is to be written that misses a word.
@@ -25,7 +25,7 @@ pub(crate) fn usage_text(alloc: Global, form: &[u8]) -> Result<Txt, Memory>
     Txt::from_vec(text)
 }
 
-/// What an api command of an unknown name answers.
+/// What an api command of an unknown name replies.
 #[tactic(auto, unfolding(crate::specs::Texts::api_not_found))]
 pub(crate) fn api_not_found(alloc: Global, name: &[u8]) -> Result<Txt, Memory>
     ensures { IfOk result (λ t. t ≡ texts.api_not_found name.now) }
@@ -37,7 +37,7 @@ pub(crate) fn api_not_found(alloc: Global, name: &[u8]) -> Result<Txt, Memory>
     Txt::from_vec(text)
 }
 
-/// The answer where all channels were hung up of a cause.
+/// The reply where all channels were hung up of a cause.
 #[tactic(auto, unfolding(crate::specs::Texts::hupall_text))]
 pub(crate) fn hupall_text(alloc: Global, cause: Cause) -> Result<Txt, Memory>
     ensures { IfOk result (λ t. t ≡ texts.hupall_text cause) }
@@ -49,7 +49,7 @@ pub(crate) fn hupall_text(alloc: Global, cause: Cause) -> Result<Txt, Memory>
     Txt::from_vec(text)
 }
 
-/// The answer of an origination that has made a call: the identifier of its leg.
+/// The reply of an origination that has made a call: the identifier of its leg.
 #[tactic(auto, unfolding(crate::specs::Texts::made_text))]
 pub(crate) fn made_text(alloc: Global, uuid: &[u8]) -> Result<Txt, Memory>
     ensures { IfOk result (λ t. t ≡ texts.made_text uuid.now) }
@@ -61,7 +61,7 @@ pub(crate) fn made_text(alloc: Global, uuid: &[u8]) -> Result<Txt, Memory>
     Txt::from_vec(text)
 }
 
-/// The answer of an origination that has failed.
+/// The reply of an origination that has failed.
 #[tactic(auto, unfolding(crate::specs::Texts::failed_text))]
 pub(crate) fn failed_text(alloc: Global, cause: Cause) -> Result<Txt, Memory>
     ensures { IfOk result (λ t. t ≡ texts.failed_text cause) }

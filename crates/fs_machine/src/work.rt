@@ -1,6 +1,6 @@
 //! What a channel does by itself, state by state.
 
-ghost use Rattle.std.specs.Prelude.{◌≡◌, true, IfSome, IfOk};
+ghost use Rattle.std.specs.Prelude.{◌≡◌, true, IfSome, IfOk, OnOk};
 ghost use Rattle.fs_chan.specs.Changes as changes;
 ghost use Rattle.fs_chan.specs.Changes.{may_route};
 ghost use Rattle.fs_chan.specs.declared.wait.Wait.TheVariants.{Legs};
@@ -12,17 +12,17 @@ ghost use Rattle.fs_machine.specs.Work as spec;
 use crate::applications::run_next;
 use crate::attempts::{Attempt, Party, judge_attempt};
 use fs_chan::{Actions, Chan, Direction, Wait};
-use fs_places::Boxed;
 use fs_plan::{Dialplan, Hunt};
 use fs_ports::NoGate;
+use fs_seats::Boxed;
 use fs_state::Draft;
 use fs_text::{Cause, Memory, State};
 use fs_vars::{Refused, Scope, Vars};
 
 /// Does what the channel in a slot has to do by itself.
 #[tactic(auto, unfolding(crate::specs::Work::after_work))]
-pub(crate) fn work(draft: &mut Draft<'_>, plan: &Dialplan, slot: u16) -> Result<(), Memory>
-    requires plan { plan.now ≡ draft.old.base.config.contexts }
+pub(crate) fn work(draft: &mut Draft<'_>, dialplan: &Dialplan, slot: u16) -> Result<(), Memory>
+    requires dialplan { dialplan.now ≡ draft.old.base.contexts }
     ensures { Brings result draft.old draft.new (spec.after_work slot (drafted draft.old)) }
 {
     let Some(chan) = draft.chan(slot) else {
@@ -34,7 +34,7 @@ pub(crate) fn work(draft: &mut Draft<'_>, plan: &Dialplan, slot: u16) -> Result<
             let first = first_state(chan.direction);
             draft.enter(slot, first)
         }
-        (State::CsRouting, _) => route(draft, plan, slot),
+        (State::CsRouting, _) => route(draft, dialplan, slot),
         (State::CsExecute | State::CsPark, Wait::Sleep { .. }) => draft.complete(slot),
         (State::CsExecute | State::CsPark, Wait::Ready | Wait::Parked | Wait::Socket { .. }) =>
             run_next(draft, slot),
@@ -67,8 +67,8 @@ fn first_state(direction: Direction) -> State
 }
 
 // Routes a channel, unless it was routed too often.
-fn route(draft: &mut Draft<'_>, plan: &Dialplan, slot: u16) -> Result<(), Memory>
-    requires plan { plan.now ≡ draft.old.base.config.contexts }
+fn route(draft: &mut Draft<'_>, dialplan: &Dialplan, slot: u16) -> Result<(), Memory>
+    requires dialplan { dialplan.now ≡ draft.old.base.contexts }
     ensures { Brings result draft.old draft.new (spec.after_routing slot (drafted draft.old)) }
 {
     let Some(chan) = draft.chan(slot) else {
@@ -78,7 +78,7 @@ fn route(draft: &mut Draft<'_>, plan: &Dialplan, slot: u16) -> Result<(), Memory
         return draft.hang_up(slot, Cause::ExchangeRoutingError);
     }
     let xml = has_xml(chan);
-    match hunt_for(draft, plan, chan)? {
+    match hunt_for(draft, dialplan, chan)? {
         Some(hunt) => take_hunt(draft, slot, xml, hunt),
         None => draft.hang_up(slot, too_long_cause(xml)),
     }
@@ -103,8 +103,8 @@ fn has_xml(chan: &Chan) -> bool
 }
 
 // What the dialplan gives a channel, unless a text is too long.
-fn hunt_for(draft: &Draft<'_>, plan: &Dialplan, chan: &Chan) -> Result<Option<Hunt>, Memory>
-    requires plan { plan.now ≡ draft.now.base.config.contexts }
+fn hunt_for(draft: &Draft<'_>, dialplan: &Dialplan, chan: &Chan) -> Result<Option<Hunt>, Memory>
+    requires dialplan { dialplan.now ≡ draft.now.base.contexts }
     ensures { IfOk result (λ found. found ≡ spec.found_for chan.now (drafted draft.now)) }
 {
     let vars = &*chan.vars;
@@ -115,7 +115,7 @@ fn hunt_for(draft: &Draft<'_>, plan: &Dialplan, chan: &Chan) -> Result<Option<Hu
         globals: draft.globals(),
     };
     let context = profile.context.as_bytes();
-    match plan.hunt(draft.alloc(), &scope, context, &mut NoGate) {
+    match dialplan.hunt(draft.alloc(), &scope, context, &mut NoGate) {
         Ok(hunt) => Ok(Some(hunt)),
         Err(Refused::TooLong { .. }) => Ok(None),
         Err(Refused::Memory) => Err(Memory),
@@ -146,31 +146,29 @@ fn take_actions(
     requires may { IfSome (chan_at (drafted draft.old) slot) (λ c. may_route c ≡ true) }
     ensures { Brings result draft.old draft.new (after_move (changes.routed vars actions) slot (drafted draft.old)) }
 {
-    let Some(chan) = draft.own_chan(slot)? else {
+    let Some(mut moving) = draft.take_up(slot)? else {
         return Ok(());
     };
-    let state = chan.state;
-    let chan = routed(chan, vars, actions)?;
-    draft.put_moved(slot, state, chan)
+    route_chan(&mut moving.chan, vars, actions)?;
+    draft.put_back(moving)
 }
 
 // Gives the channel in a slot these variables.
 fn take_variables(draft: &mut Draft<'_>, slot: u16, vars: Vars) -> Result<(), Memory>
     ensures { Brings result draft.old draft.new (after_move (spec.with_variables vars) slot (drafted draft.old)) }
 {
-    let Some(mut chan) = draft.own_chan(slot)? else {
+    let Some(mut moving) = draft.take_up(slot)? else {
         return Ok(());
     };
-    let state = chan.state;
-    chan.vars.put(vars)?;
-    draft.put_moved(slot, state, chan)
+    moving.chan.vars.put(vars)?;
+    draft.put_back(moving)
 }
 
 // Routes a channel once more.
-fn routed(mut chan: Boxed<Chan>, vars: Vars, actions: Actions) -> Result<Boxed<Chan>, Memory>
-    requires may { may_route chan ≡ true }
-    ensures { IfOk result (λ routed. routed ≡ changes.routed vars actions chan) }
+fn route_chan(chan: &mut Chan, vars: Vars, actions: Actions) -> Result<(), Memory>
+    requires may { may_route chan.old ≡ true }
+    ensures { OnOk result (chan.new ≡ changes.routed vars actions chan.old) }
 {
     chan.route(vars, actions)?;
-    Ok(chan)
+    Ok(())
 }

@@ -1,5 +1,5 @@
 use Rattle.std.proofs.Common.{◌≡◌, drop}
-use Rattle.fs_places.specs.Least.{lesser, least_of}
+use Rattle.fs_seats.specs.Least.{lesser, least_of}
 use Rattle.fs_machine.specs.Due.{chan_moment, first_chan_moment}
 use Rattle.fs_machine.proofs.due.first_chan_moment.Given as goal
 

@@ -1,5 +1,8 @@
-use Rattle.fs_machine.proofs.BridgeLaws.{bridges_are_told}
+use Rattle.fs_machine.proofs.BridgeLaws.{bridges_are_told, ends_stand_behind}
 use Rattle.fs_machine.proofs.laws.bridges_are_told.Goals as goal
 
-pub returns : goal.returns
-returns c = bridges_are_told
+pub returns-clause-told : goal.returns-clause-told
+returns-clause-told c = bridges_are_told
+
+pub returns-clause-order : goal.returns-clause-order
+returns-clause-order c = ends_stand_behind

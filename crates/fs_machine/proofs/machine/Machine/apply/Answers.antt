@@ -1,4 +1,5 @@
 use Rattle.std.proofs.Common.{◌≡◌, ◌+◌, ◌-◌, ◌^◌, min, [], ◌∷◌, ◌++◌, sym, ap, subst, ◌∙◌}
+use Rattle.std.specs.Arc.{arc_value}
 use Rattle.fs_state.specs.Switch.{empty, after_entry}
 use Rattle.fs_state.specs.Drafts.{after}
 use Rattle.fs_state.specs.declared.delta.Delta.{Delta}
@@ -21,10 +22,11 @@ invariant_of-self c =
     let done = priced ∙ ap (λ (t : Entry × Delta × Reply). after_entry (cost_of t.0.act) (after kept t.1)) parts in
     let P : View → Type 0 = λ view. IsPrepared (state_of view) entry c.args.change.delta c.args.change.reply in
     rw (done, added) (
-      stands_more kept entries entry c.args.change.delta c.args.change.reply c.self.invariant.0
+      stands_more (arc_value c.self.inside.config) kept entries entry c.args.change.delta c.args.change.reply c.self.invariant.0
           (subst P (sym c.self.view_is) c.requires.prepared),
       c.self.invariant.1,
       c.self.invariant.2,
+      c.self.invariant.3,
     )
 
 pub returns-clause-cost : goal.returns-clause-cost
@@ -38,11 +40,11 @@ returns-clause-cost c =
     let done = priced ∙ ap (λ (t : Entry × Delta × Reply). after_entry (cost_of t.0.act) (after kept t.1)) parts in
     let P : View → Type 0 = λ view. IsPrepared (state_of view) entry c.args.change.delta c.args.change.reply in
     let cost =
-    cost_more (empty kept.config) entries entry c.args.change.delta c.args.change.reply
+    cost_more (empty (arc_value c.self.inside.config)) entries entry c.args.change.delta c.args.change.reply
     (subst P (sym c.self.view_is) c.requires.prepared) in
     let Q : View → Type 0 = λ view. (state_of (record {
-      config = c.apply-blank.new.self.config;
+      config = arc_value c.self.inside.config;
       journal = c.add.new.self.entries;
       spare = 0;
     })).cost ≡ min ((state_of view).cost + cost_of entry.act) (2 ^ 64 - 1) in
-    subst Q c.self.view_is (rw (done, added) cost)
+    subst Q c.self.view_is (rw added cost)

@@ -70,12 +70,16 @@ reply_more conn text gifts h other =
     ∙ events_append (frames_for other gifts) (frames_for other (gift_of conn text ∷ []))
     ∙ omega (arith, h other, one_reply conn other text)
 
+-- what is given that is no event
 abbrev Replies : Switch → Type 0
-Replies s = AreReplies s.answered × AreReplies s.given
+Replies s = AreReplies s.replies × AreReplies s.late × AreReplies s.notices
 
 rest_replies : (s t : Switch) → rest_of t ≡ rest_of s → Replies s → Replies t
-rest_replies s t same h =
-    (subst AreReplies (sym (ap (λ (r : Rest). r.answered) same)) h.0, subst AreReplies (sym (ap (λ (r : Rest). r.given) same)) h.1)
+rest_replies s t same h = (
+  subst AreReplies (sym (ap (λ (r : Rest). r.replies) same)) h.0,
+  subst AreReplies (sym (ap (λ (r : Rest). r.late) same)) h.1,
+  subst AreReplies (sym (ap (λ (r : Rest). r.notices) same)) h.2,
+)
 
 changed_replies : (change : Conn → Conn) (conn : ℕ) (s : Switch) → Replies s → Replies (conn_changed change conn s)
 changed_replies change conn s h = by (conn_of s conn)
@@ -91,7 +95,7 @@ ended_replies : (number conn : ℕ) (answer : Text) (s : Switch) → Replies s �
 ended_replies number conn answer s h =
     let over : Switch = conn_changed not_owed conn (without_job number s) in
     let k : Replies over = changed_replies not_owed conn (without_job number s) h in
-    (k.0, reply_more conn (api_reply answer) over.given k.1)
+    (k.0, reply_more conn (api_reply answer) over.late k.1, k.2)
 
 originates_replies : (conn : ℕ) (groups : List (List LegPlan)) (winner : Winner) (caller : Caller) (timeout : Option ℕ) (s : Switch) →
     Replies s → Replies (originate_begun conn groups winner caller timeout s)
@@ -110,7 +114,7 @@ replying_moves before = record {
   calls = calls_by_rest Replying (λ b t u h same. rest_replies t u same h) (λ t h. h);
   jobs = record {
     woken = λ number conn until answer {s = s} does h. ended_replies number conn answer s h;
-    failed = λ job conn winner caller orig cause {s = s} does h. ended_replies job conn (failed_text cause) (without_orig orig s) h;
+    failed = λ job conn winner caller orig cause {s = s} does over h. ended_replies job conn (failed_text cause) (without_orig orig s) h;
     wins = λ job conn winner caller orig leg slots does won h.
         let t : Switch = raced slots before in
         let u : Switch = after_winning winner (unwrap_or leg.slot 0) t in
@@ -120,8 +124,8 @@ replying_moves before = record {
   dials = dials_by_rest before Replying (λ b t u h same. rest_replies t u same h) (λ t h. h);
   commands = λ conn. record {
     spent = λ h. h;
-    gave = λ frame {s = s} h. (h.0, reply_more conn frame s.given h.1);
-    answered = λ frame {s = s} h. (reply_more conn frame s.answered h.0, h.1);
+    noticed = λ frame {s = s} h. (h.0, h.1, reply_more conn frame s.notices h.2);
+    gave = λ frame {s = s} h. (reply_more conn frame s.replies h.0, h.1, h.2);
     asked = λ change {s = s} h. changed_replies (with_subs_changed change) conn s h;
     admitted = λ {s = s} fresh h. changed_replies admitted conn s h;
     parted = λ why {s = s} leaves h. changed_replies (parted why) conn s h;
@@ -129,7 +133,7 @@ replying_moves before = record {
     originates = λ groups winner caller timeout {s = s} are short room h. originates_replies conn groups winner caller timeout s h;
   };
   visits = record {
-    arrived = λ {s = s} h. (h.0, reply_more (numbers.with_conn s.drawn).conns auth_request s.given h.1);
+    arrived = λ {s = s} h. (reply_more (numbers.with_conn s.drawn).conns auth_request s.replies h.0, h.1, h.2);
     taken = λ conn h. h;
     silent = λ conn {s = s} h. changed_replies (parted parting.EndOfInput) conn s h;
     left = λ conn h. h;
@@ -174,7 +178,7 @@ without_events gone conn s ordered = by (cases_eq gone conn)
         subst (λ number. events_in (outgoing_for (without_conn gone s) number) ≤ events_in (outgoing_for s number)) same own
     by (inr differ) = same_events (outgoing_for (without_conn gone s) conn) (outgoing_for s conn) (without_apart gone conn s differ)
 
--- an act puts nothing into the queues by itself
+-- an act puts nothing into the outboxes by itself
 acted_events : (act : Act) (s : Switch) (conn : ℕ) → Ordered s → s.drawn.conns < 2 ^ 32 - 1 →
     events_in (outgoing_for (act_done act s).state conn) ≤ events_in (outgoing_for s conn)
 acted_events Arrive s conn ordered room =
@@ -194,16 +198,21 @@ given_events : (before t : Switch) (conn : ℕ) → Ordered before → Replies t
 given_events before t conn ordered h = by (is_closed (phase_at t conn))
   where
     behind : Frames
-    behind = frames_for conn (posts before t ++ t.given)
+    behind = frames_for conn (posts before t ++ (t.late ++ t.notices))
 
-    whole : events_in (frames_for conn (all_given (with_posts before t))) ≡ events_in (frames_for conn t.answered) + events_in behind
+    whole : events_in (frames_for conn (all_given (with_posts before t))) ≡ events_in (frames_for conn t.replies) + events_in behind
     whole =
-        ap events_in (frames_append conn t.answered (posts before t ++ t.given)) ∙ events_append (frames_for conn t.answered) behind
+        ap events_in (frames_append conn t.replies (posts before t ++ (t.late ++ t.notices)))
+        ∙ events_append (frames_for conn t.replies) behind
 
-    rest : events_in behind ≡ events_in (frames_for conn (posts before t)) + events_in (frames_for conn t.given)
+    rest : events_in behind ≡ events_in (frames_for conn (posts before t)) + events_in (frames_for conn (t.late ++ t.notices))
     rest =
-        ap events_in (frames_append conn (posts before t) t.given)
-        ∙ events_append (frames_for conn (posts before t)) (frames_for conn t.given)
+        ap events_in (frames_append conn (posts before t) (t.late ++ t.notices))
+        ∙ events_append (frames_for conn (posts before t)) (frames_for conn (t.late ++ t.notices))
+
+    last : events_in (frames_for conn (t.late ++ t.notices)) ≡ events_in (frames_for conn t.late) + events_in (frames_for conn t.notices)
+    last =
+        ap events_in (frames_append conn t.late t.notices) ∙ events_append (frames_for conn t.late) (frames_for conn t.notices)
 
     most : events_in (frames_for conn (posts before t)) ≤ length (frames_for conn (posts before t))
     most = count_by-le-length is_event (frames_for conn (posts before t))
@@ -214,7 +223,7 @@ given_events before t conn ordered h = by (is_closed (phase_at t conn))
     by : (b : Bool) →
         events_in (if b then [] else frames_for conn (all_given (with_posts before t))) ≤ room_behind (outgoing_for before conn)
     by true = omega arith
-    by false = omega (arith, whole, rest, h.0 conn, h.1 conn, most, few)
+    by false = omega (arith, whole, rest, last, h.0 conn, h.1 conn, h.2 conn, most, few)
 
 -- so few events wait then
 closed_events : (cost : ℕ) (before t : Switch) (conn : ℕ) → Ordered before → Ordered t → Replies t →
@@ -235,7 +244,8 @@ step_few s entry orderly none few =
     let ordered : Ordered now = (advanced_orderly entry.moment s orderly).ordered in
     let room : s.drawn.conns < 2 ^ 32 - 1 = room_left s orderly (not_full s entry none) in
     let replies : Replies t =
-    acted_replies entry.act now (none_replies s.answered orderly.answered, none_replies s.given orderly.given) in
+    acted_replies entry.act now
+    (none_replies s.replies orderly.replies, none_replies s.late orderly.late, none_replies s.notices orderly.notices) in
     record {
       each = λ conn. closed_events (cost_of entry.act) s t conn orderly.ordered (acted_ordered entry.act now ordered room) replies
           (acted_events entry.act now conn ordered room) (few.each conn);

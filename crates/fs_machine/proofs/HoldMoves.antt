@@ -1,0 +1,353 @@
+-- Each act leaves it so that whoever waits for the end of a bridge names a peer.
+use Rattle.std.proofs.Common.{◌≡◌, ℕ, true, Bool, false, List, [], ◌∷◌, ◌++◌, map, Option, None, Some, is_some, unwrap_or}
+use Rattle.std.proofs.Common.{◌⊎◌, inl, inr, refl, sym, ap, subst, ◌∙◌}
+use Rattle.std.proofs.lemmas.Option.{same_Some}
+use Rattle.fs_text.specs.Texts.{Text}
+use Rattle.fs_text.specs.Cause.{cause_name}
+use Rattle.fs_text.specs.declared.causes.Cause.{Cause}
+use Rattle.fs_text.specs.declared.causes.Cause.TheVariants.{OriginatorCancel}
+use Rattle.fs_bridge.specs.declared.row.BridgeKind.{BridgeKind}
+use Rattle.fs_bridge.specs.declared.row.BridgeKind.TheVariants.{Dial}
+use Rattle.fs_bridge.specs.Closure.{Members}
+use Rattle.fs_chan.specs.declared.chan.Chan.{Chan}
+use Rattle.fs_chan.specs.declared.wait.Wait.{Wait}
+use Rattle.fs_chan.specs.declared.wait.Wait.TheVariants.{Ready, Legs, Bridged}
+use Rattle.fs_chan.specs.Bridging.{awaiting, exported_pairs, bridged, in_media, with_disposition}
+use Rattle.fs_chan.specs.Changes.{at_rest}
+use Rattle.fs_orig.specs.declared.caller.Caller.{Caller}
+use Rattle.fs_orig.specs.declared.orig.Orig.{Orig}
+use Rattle.fs_orig.specs.declared.orig.Owner.TheVariants as owner
+use Rattle.fs_orig.specs.declared.plan.LegPlan.{LegPlan}
+use Rattle.fs_orig.specs.declared.winner.Winner.{Winner}
+use Rattle.fs_orig.specs.declared.winner.Winner.TheVariants.{App, Route}
+use Rattle.fs_orig.specs.Changes.{with_answer, at_next_group}
+use Rattle.fs_orig.specs.Plans.{all_behind}
+use Rattle.fs_seats.specs.Seats.{held_in, with_held}
+use Rattle.fs_seats.proofs.TableLemmas.{IsWrittenOrKept, written_or_kept, kept_without}
+use Rattle.fs_state.specs.declared.conn.Conn.{Conn}
+use Rattle.fs_state.specs.declared.conn.Parting.TheVariants as parting
+use Rattle.fs_state.specs.declared.job.JobWork.{JobWork}
+use Rattle.fs_state.specs.declared.job.JobWork.TheVariants.{Sleep, Originate}
+use Rattle.fs_state.specs.Switch.{Switch, chan_at, with_bridge, next_orig_number, next_job_number, without_orig, with_new_job}
+use Rattle.fs_state.specs.Switch.{without_job}
+use Rattle.fs_state.specs.Moves.{after_move, orig_changed, leg_changed}
+use Rattle.fs_state.specs.Hangups.{legs_at, after_hangups}
+use Rattle.fs_state.specs.Bridging.{peer_of, with_peer_from, with_peer, joined_as}
+use Rattle.fs_machine.specs.Texts.{made_text, failed_text}
+use Rattle.fs_machine.specs.Connections.{conn_changed, admitted, parted, owed_since, not_owed, with_subs_changed}
+use Rattle.fs_machine.specs.Originations.{MadeGroup, group_made, won_by, after_winning}
+use Rattle.fs_machine.specs.Attempts.{first_group, orig_begun, originate_begun}
+use Rattle.fs_machine.specs.Bridging.{caller_of, group_dialed, goes_on, after_going_on, disposed, bridge_failed_from, after_bridge_failure}
+use Rattle.fs_machine.specs.Bridging.{after_bridge_win}
+use Rattle.fs_machine.specs.Dialing.{tried_by_slot}
+use Rattle.fs_machine.specs.Joining.{after_leaving, both_left}
+use Rattle.fs_machine.specs.Leaving.{after_departure}
+use Rattle.fs_machine.specs.Owing.{after_job_begin, after_job_end}
+use Rattle.fs_machine.proofs.Kept.{Stage, Fact, hold_in, Links, Stays, KeptByTouches, KeptByCalls, KeptByBirths, raced, KeptByJobs, KeptByDials}
+use Rattle.fs_machine.proofs.Kept.{apart_by, KeptByCommands, KeptByMoves}
+use Rattle.fs_machine.proofs.StayLemmas.{moved_there, changed_there, orig_changed_channels}
+use Rattle.fs_machine.proofs.CameLemmas.{rest_holds}
+use Rattle.fs_machine.proofs.ClosureLemmas.{NoneAtZero}
+use Rattle.fs_machine.proofs.NameLemmas.{leg_chan, far_chan, pair_channels}
+use Rattle.fs_machine.proofs.Walk.{disposed_kept, group_made_kept}
+use Rattle.fs_machine.proofs.FrontLemmas.{conn_unread}
+use Rattle.fs_machine.proofs.WonLemmas.{bridge_won_kept}
+use Rattle.fs_machine.proofs.LegLemmas.{Channels}
+use Rattle.fs_machine.proofs.PartnerMoves.{zero_put, not_zero}
+use Rattle.fs_machine.proofs.BondTables.{Bonds, Bonding, NoSlot}
+use Rattle.fs_machine.proofs.BondMoves.{bonds_touches}
+use Rattle.fs_machine.proofs.HoldLemmas.{IsUnheld, HeldBut, held_lives, hung_held, left_held, departed_held}
+
+-- ---- the fact
+
+-- whoever waits for the end of a bridge names a peer
+abbrev pub IsHeld : Chan → Type 0
+IsHeld c = c.wait ≡ Bridged → is_some c.peer ≡ true
+
+abbrev pub HeldIn : Channels → Type 0
+HeldIn channels = (slot : ℕ) (c : Chan) → held_in channels slot ≡ Some c → IsHeld c
+
+abbrev pub AllHeld : Switch → Type 0
+AllHeld s = HeldIn s.channels
+
+pub as_but : (s : Switch) → AllHeld s → HeldBut NoSlot s
+as_but s h slot c there held = inr (h slot c there held)
+
+as_all : (s : Switch) → HeldBut NoSlot s → AllHeld s
+as_all s h slot c there held = by (h slot c there held)
+  where
+    by : NoSlot slot ⊎ (is_some c.peer ≡ true) → is_some c.peer ≡ true
+    by (inl none) = absurd none
+    by (inr some) = some
+
+-- ---- one channel
+
+free_held : (c : Chan) → IsUnheld c → IsHeld c
+free_held c free held = absurd (free held)
+
+-- held by a bridge it waits for the end of it
+pub hold_bridged : (wait : Wait) → hold_in wait ≡ Bridged → wait ≡ Bridged
+hold_bridged (Legs orig) is = absurd (cc)
+hold_bridged Bridged is = refl
+hold_bridged _ is = absurd (let both : Ready ≡ Bridged = is in cc)
+
+stays_held : {b : Stage} (old new : Chan) → Stays b old new → IsHeld old → IsHeld new
+stays_held old new stays h held =
+    ap (λ (l : Links). is_some l.peer) stays.links
+    ∙ h (hold_bridged old.wait (sym (ap (λ (l : Links). l.hold) stays.links) ∙ ap hold_in held))
+
+put_held : (channels : Channels) (seat : ℕ) (new : Chan) → IsHeld new → HeldIn channels → HeldIn (with_held channels seat (Some new))
+put_held channels seat new held h slot c is = by (written_or_kept channels seat (Some new) slot c is)
+  where
+    by : IsWrittenOrKept channels seat (Some new) slot c → IsHeld c
+    by (inl here) = subst IsHeld (same_Some new c here.1) held
+    by (inr kept) = h slot c kept.1
+
+moved_held : (change : Chan → Chan) (slot : ℕ) (s : Switch) → ((c : Chan) → IsHeld c → IsHeld (change c)) → AllHeld s →
+    AllHeld (after_move change slot s)
+moved_held change slot s keeps h =
+    moved_there AllHeld (λ event t k. k) change slot s
+    (λ c there. put_held s.channels slot (change c) (keeps c (h slot c there)) h) h
+
+changed_orig_held : (change : Orig → Orig) (number : ℕ) (s : Switch) → AllHeld s → AllHeld (orig_changed change number s)
+changed_orig_held change number s h = subst HeldIn (sym (orig_changed_channels change number s)) h
+
+held_touches : KeptByTouches (λ b s. AllHeld s)
+held_touches = record {
+  told = λ event plain h. h;
+  globals = λ globals h. h;
+  changed = λ slot old new {s = s} there stays h. put_held s.channels slot new (stays_held old new stays (h slot old there)) h;
+  answers = λ seat slot number {s = s} h.
+      changed_orig_held (leg_changed (λ position. with_answer position seat) slot) number s h;
+}
+
+-- ---- bridges
+
+peer_held : (slot other : ℕ) (s : Switch) → AllHeld s → AllHeld (with_peer slot other s)
+peer_held slot other s h = by (chan_at s other)
+  where
+    by : (found : Option Chan) → AllHeld (with_peer_from slot other found s)
+    by None = h
+    by (Some d) =
+        changed_there AllHeld (bridged (peer_of other d)) slot s
+        (λ c there. put_held s.channels slot (bridged (peer_of other d) c) (λ held. refl) h) h
+
+joined_held : (kind : BridgeKind) (a b : ℕ) (s : Switch) → AllHeld s → AllHeld (joined_as kind a b s)
+joined_held kind a b s h =
+    peer_held b a (with_peer a b (with_bridge a b kind s)) (peer_held a b (with_bridge a b kind s) h)
+
+won_held : (slot leg : ℕ) (s : Switch) → AllHeld s → AllHeld (after_bridge_win slot leg s)
+won_held slot leg s h =
+    bridge_won_kept AllHeld AllHeld held_touches slot leg
+    (λ t can k. moved_held in_media leg (joined_as Dial slot leg t) (λ c held. held) (joined_held Dial slot leg t k)) (λ t cannot k. k) s h
+
+hung_all : (named : Members) (s : Switch) → Bonds s → NoneAtZero s → AllHeld s → AllHeld (after_hangups named s)
+hung_all named s bonds zero h =
+    as_all (after_hangups named s) (hung_held NoSlot named s bonds zero (held_lives s bonds (as_but s h)) (as_but s h))
+
+left_all : (slot : ℕ) (s : Switch) → AllHeld s → AllHeld (after_leaving slot s)
+left_all slot s h = as_all (after_leaving slot s) (left_held slot s (λ at c there held. inr (h at c there held)))
+
+both_left_held : (a b : ℕ) (s : Switch) → Bonds s → NoneAtZero s → AllHeld s → AllHeld (both_left a b s)
+both_left_held a b s bonds zero h =
+    let named : Members = map (λ slot. (slot, OriginatorCancel)) (legs_at s a ++ legs_at s b) in
+    let t : Switch = after_hangups named s in
+    left_all b (after_leaving a t) (left_all a t (hung_all named s bonds zero h))
+
+-- a channel has failed to bridge
+failed_held : (cause : Cause) (slot : ℕ) (s : Switch) → Bonds s → NoneAtZero s → AllHeld s → AllHeld (after_bridge_failure cause slot s)
+unfolding after_bridge_failure
+failed_held cause slot s bonds zero h = by (chan_at s slot)
+  where
+    t : Switch
+    t = disposed (cause_name cause) slot s
+
+    told : AllHeld t
+    told = disposed_kept (λ b u. AllHeld u) held_touches (cause_name cause) slot {b = None} {s = s} h
+
+    bonded : Bonds t
+    bonded = disposed_kept Bonding bonds_touches (cause_name cause) slot {b = None} {s = s} bonds
+
+    none : NoneAtZero t
+    none =
+        changed_there NoneAtZero (with_disposition (cause_name cause)) slot s
+        (λ c there. zero_put s slot (Some (with_disposition (cause_name cause) c)) (not_zero s slot c there zero) zero) zero
+
+    on : (onward : Bool) → AllHeld (after_going_on onward cause slot t)
+    on true = moved_held at_rest slot t (λ c held. free_held (at_rest c) (rest_holds c.socket c.state)) told
+    on false = hung_all ((slot, cause) ∷ []) t bonded none told
+
+    by : (found : Option Chan) → AllHeld (bridge_failed_from found cause slot s)
+    by None = h
+    by (Some c) = on (goes_on cause c.vars)
+
+-- ---- births
+
+ready_held : (c : Chan) → c.wait ≡ Ready → IsHeld c
+ready_held c ready = free_held c (λ held. let both : Ready ≡ Bridged = sym ready ∙ held in cc)
+
+held_births : KeptByBirths (λ b s. AllHeld s)
+held_births = record {
+  spent = λ h. h;
+  pair = λ call orig a b {s = s} short named first second h.
+      subst HeldIn (sym (pair_channels call orig a b s))
+      (put_held (with_held s.channels a (Some (leg_chan call orig a b s))) b (far_chan call orig a b s)
+      (ready_held (far_chan call orig a b s) refl)
+      (put_held s.channels a (leg_chan call orig a b s) (ready_held (leg_chan call orig a b s) refl) h));
+}
+
+group_held : (plans : List LegPlan) (caller : Caller) (number : ℕ) (s : Switch) → AllHeld s →
+    AllHeld (group_made plans caller number s).state
+group_held plans caller number s h = group_made_kept (λ b t. AllHeld t) held_births plans caller number {n = 0} {s = s} h
+
+dialed_held : (slot : ℕ) (c : Chan) (groups : List (List LegPlan)) (timeout : ℕ) (s : Switch) → AllHeld s →
+    AllHeld (tried_by_slot slot groups timeout (next_orig_number s) (group_dialed (Some c) (first_group groups) (next_orig_number s) s))
+dialed_held slot c groups timeout s h =
+    let number : ℕ = next_orig_number s in
+    let plans : List LegPlan = all_behind (exported_pairs c.vars) (first_group groups) in
+    let made : MadeGroup = group_made plans (caller_of c) number s in
+    moved_held (awaiting number) slot (orig_begun (owner.Slot slot) groups made.legs timeout made.state)
+    (λ d held. free_held (awaiting number d) (λ is. let both : Legs number ≡ Bridged = is in cc)) (group_held plans (caller_of c) number s h)
+
+-- ---- jobs and connections
+
+conn_held : (change : Conn → Conn) (conn : ℕ) (s : Switch) → AllHeld s → AllHeld (conn_changed change conn s)
+conn_held change conn s h = subst HeldIn (sym (conn_unread (λ (t : Switch). t.channels) (λ conns t. refl) change conn s)) h
+
+ended_held : (number conn : ℕ) (answer : Text) (s : Switch) → AllHeld s → AllHeld (after_job_end number conn answer s)
+ended_held number conn answer s h = conn_held not_owed conn (without_job number s) h
+
+begun_held : (conn : ℕ) (what : JobWork) (s : Switch) → AllHeld s → AllHeld (after_job_begin conn what s)
+begun_held conn what s h = conn_held (owed_since s.entries) conn (with_new_job (record { conn = conn; work = what }) s) h
+
+won_free : (winner : Winner) (c : Chan) → IsHeld (won_by winner c)
+won_free (App application argument) c = ready_held (won_by (App application argument) c) refl
+won_free (Route to) c = ready_held (won_by (Route to) c) refl
+
+winning_held : (winner : Winner) (slot : ℕ) (s : Switch) → AllHeld s → AllHeld (after_winning winner slot s)
+unfolding after_winning
+winning_held winner slot s h = moved_held (won_by winner) slot s (λ c held. won_free winner c) h
+
+originated_held : (conn : ℕ) (groups : List (List LegPlan)) (winner : Winner) (caller : Caller) (timeout : Option ℕ) (s : Switch) →
+    AllHeld s → AllHeld (originate_begun conn groups winner caller timeout s)
+originated_held conn groups winner caller timeout s h =
+    let number : ℕ = next_orig_number s in
+    let made : MadeGroup = group_made (first_group groups) caller number s in
+    begun_held conn (Originate number winner caller)
+    (orig_begun (owner.Job (next_job_number made.state)) groups made.legs (unwrap_or timeout 60) made.state)
+    (group_held (first_group groups) caller number s h)
+
+-- ---- every move
+
+module _ (before : Switch) (Q : Fact) (kept : KeptByMoves before Q) (bonds : (b : Stage) (t : Switch) → Q b t → Bonds t)
+    (zero : (b : Stage) (t : Switch) → Q b t → NoneAtZero t) where
+  abbrev Holding : Fact
+  Holding b t = Q b t × AllHeld t
+
+  holding_touches : KeptByTouches Holding
+  holding_touches = record {
+    told = λ event {b = b} {s = s} plain h. (kept.calls.touches.told event plain h.0, h.1);
+    globals = λ globals h. (kept.calls.touches.globals globals h.0, h.1);
+    changed = λ slot old new {b = b} {s = s} there stays h. (
+      kept.calls.touches.changed slot old new there stays h.0,
+      held_touches.changed slot old new {b = b} {s = s} there stays h.1,
+    );
+    answers = λ seat slot number {b = b} {s = s} h. (
+      kept.calls.touches.answers seat slot number h.0,
+      held_touches.answers seat slot number {b = b} {s = s} h.1,
+    );
+  }
+
+  holding_calls : KeptByCalls Holding
+  holding_calls = record {
+    touches = holding_touches;
+    hung = λ named {s = s} early h.
+        (kept.calls.hung named early.0 h.0, hung_all named s (bonds (Some 0) s h.0) (zero (Some 0) s h.0) h.1);
+    joined = λ kind caller answerer c d {s = s} can there other one two first second was were h. (
+      kept.calls.joined kind caller answerer c d can there other one two first second (apart_by caller was (λ t k. k.0))
+          (apart_by answerer were (λ t k. k.0)) h.0,
+      joined_held kind caller answerer s h.1,
+    );
+    leaves = λ one other {s = s} first second early h. (
+      kept.calls.leaves one other first second early.0 h.0,
+      both_left_held one other s (bonds (Some 0) s h.0) (zero (Some 0) s h.0) h.1,
+    );
+    departs = λ slot {s = s} early h. (
+      kept.calls.departs slot early.0 h.0,
+      as_all (after_departure slot s) (departed_held slot s (bonds (Some 0) s h.0) (zero (Some 0) s h.0) (as_but s h.1)),
+    );
+    more = λ h. (kept.calls.more h.0, h.1);
+    gone = λ slot old {s = s} there dead early h. (
+      kept.calls.gone slot old there dead early.0 h.0,
+      λ at c is. h.1 at c (kept_without s.channels slot at c is).1,
+    );
+  }
+
+  holding_jobs : KeptByJobs before Holding
+  holding_jobs = record {
+    woken = λ number conn until answer {s = s} does h. (
+      kept.jobs.woken number conn until answer does h.0,
+      ended_held number conn answer s h.1,
+    );
+    failed = λ job conn winner caller orig cause {s = s} does over h. (
+      kept.jobs.failed job conn winner caller orig cause does over h.0,
+      ended_held job conn (failed_text cause) (without_orig orig s) h.1,
+    );
+    wins = λ job conn winner caller orig leg slots does won h.
+        let s : Switch = raced slots before in
+        let t : Switch = after_winning winner (unwrap_or leg.slot 0) s in (
+          kept.jobs.wins job conn winner caller orig leg slots does won h.0,
+          ended_held job conn (made_text leg.uuid) (without_orig orig t) (winning_held winner (unwrap_or leg.slot 0) s h.1),
+        );
+  }
+
+  holding_dials : KeptByDials before Holding
+  holding_dials = record {
+    spent = λ h. (kept.dials.spent h.0, h.1);
+    dials = λ slot c groups timeout {s = s} there works are h. (
+      kept.dials.dials slot c groups timeout there works are h.0,
+      dialed_held slot c groups timeout s h.1,
+    );
+    regroups = λ number o plans caller {s = s} there are h.
+        let made : MadeGroup = group_made plans caller number s in (
+          kept.dials.regroups number o plans caller there are h.0,
+          changed_orig_held (at_next_group made.legs) number made.state (group_held plans caller number s h.1),
+        );
+    fails = λ slot orig cause {s = s} waits over h. (
+      kept.dials.fails slot orig cause waits over h.0,
+      failed_held cause slot (without_orig orig s) (bonds (Some 0) s h.0) (zero (Some 0) s h.0) h.1,
+    );
+    wins = λ slot orig leg slots waits won h. (
+      kept.dials.wins slot orig leg slots waits won h.0,
+      won_held slot (unwrap_or leg.slot 0) (without_orig orig (raced slots before)) h.1,
+    );
+  }
+
+  holding_commands : (conn : ℕ) → KeptByCommands conn Holding
+  holding_commands conn = record {
+    spent = λ h. ((kept.commands conn).spent h.0, h.1);
+    noticed = λ frame h. ((kept.commands conn).noticed frame h.0, h.1);
+    gave = λ frame h. ((kept.commands conn).gave frame h.0, h.1);
+    asked = λ change {s = s} h. ((kept.commands conn).asked change h.0, conn_held (with_subs_changed change) conn s h.1);
+    admitted = λ {s = s} new h. ((kept.commands conn).admitted new h.0, conn_held admitted conn s h.1);
+    parted = λ why {s = s} leaves h. ((kept.commands conn).parted why leaves h.0, conn_held (parted why) conn s h.1);
+    sleeps = λ until {s = s} free h. ((kept.commands conn).sleeps until free h.0, begun_held conn (Sleep until) s h.1);
+    originates = λ groups winner caller timeout {s = s} are short free h. (
+      (kept.commands conn).originates groups winner caller timeout are short free h.0,
+      originated_held conn groups winner caller timeout s h.1,
+    );
+  }
+
+  pub holding_moves : KeptByMoves before (λ b t. Q b t × AllHeld t)
+  holding_moves = record {
+    calls = holding_calls;
+    jobs = holding_jobs;
+    dials = holding_dials;
+    commands = holding_commands;
+    visits = record {
+      arrived = λ h. (kept.visits.arrived h.0, h.1);
+      taken = λ conn h. (kept.visits.taken conn h.0, h.1);
+      silent = λ conn {s = s} h. (kept.visits.silent conn h.0, conn_held (parted parting.EndOfInput) conn s h.1);
+      left = λ conn h. (kept.visits.left conn h.0, h.1);
+    };
+  }

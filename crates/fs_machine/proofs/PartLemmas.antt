@@ -1,0 +1,320 @@
+-- What a connection parts for: its own command, or what others do.
+use Rattle.std.proofs.Common.{◌≡◌, ◌≢◌, ℕ, zero, suc, ◌+◌, Bool, true, false, if◌then◌else◌, List, Option, None, Some, unwrap_or, inl}
+use Rattle.std.proofs.Common.{refl, sym, ap, ◌∙◌}
+use Rattle.std.specs.Option.{option_and_then}
+use Rattle.std.specs.Str.{bytes_eq}
+use Rattle.std.proofs.lemmas.Bool.{both_ways}
+use Rattle.std.proofs.lemmas.Option.{none-some}
+use Rattle.std.proofs.lemmas.Slice.Eq.{bytes_eq-Decides}
+use Rattle.fs_text.specs.Texts.{Text}
+use Rattle.fs_cmd.specs.Commands as command
+use Rattle.fs_cmd.specs.Commands.{Command, command_of}
+use Rattle.fs_cmd.specs.Frames.{accepted, invalid, bye, format_unsupported}
+use Rattle.fs_cmd.specs.declared.command.Form.{Form}
+use Rattle.fs_cmd.specs.declared.command.Form.TheVariants.{Plain, Json, Xml}
+use Rattle.fs_filter.specs.Subscriptions.{Subscription, has_filter}
+use Rattle.fs_api.specs.Readings.{api_of}
+use Rattle.fs_orig.specs.declared.caller.Caller.{Caller}
+use Rattle.fs_orig.specs.declared.orig.Owner.TheVariants as owner
+use Rattle.fs_orig.specs.declared.plan.LegPlan.{LegPlan}
+use Rattle.fs_orig.specs.declared.winner.Winner.{Winner}
+use Rattle.fs_seats.specs.declared.numbered.Numbered.{Numbered}
+use Rattle.fs_seats.specs.Seats.{no_seats, first_seat}
+use Rattle.fs_seats.specs.Rows.{has_number, row_of, with_new_row}
+use Rattle.fs_seats.proofs.RowLemmas.{row_none}
+use Rattle.fs_doc.specs.Reading.{Configuration}
+use Rattle.fs_state.specs.declared.conn.Conn.{Conn}
+use Rattle.fs_state.specs.declared.conn.Phase.{Phase}
+use Rattle.fs_state.specs.declared.conn.Phase.TheVariants as phase
+use Rattle.fs_state.specs.declared.conn.Parting.{Parting}
+use Rattle.fs_state.specs.declared.conn.Parting.TheVariants as parting
+use Rattle.fs_state.specs.declared.job.JobWork.{JobWork}
+use Rattle.fs_state.specs.declared.job.JobWork.TheVariants.{Sleep, Originate}
+use Rattle.fs_state.specs.Switch.{Switch, empty, conn_of, next_orig_number, next_job_number, with_new_job, at_moment}
+use Rattle.fs_machine.specs.declared.entry.Act.{Act}
+use Rattle.fs_machine.specs.declared.entry.Act.TheVariants as act
+use Rattle.fs_machine.specs.Connections.{phase_of, phase_at, conn_changed_from, conn_changed, admitted, parted, owed_since}
+use Rattle.fs_machine.specs.Connections.{with_subs_changed, subs_at}
+use Rattle.fs_machine.specs.Questions.{parting_of, parting_at}
+use Rattle.fs_machine.specs.Originations.{MadeGroup, group_made}
+use Rattle.fs_machine.specs.Attempts.{first_group, orig_begun, originate_begun}
+use Rattle.fs_machine.specs.Owing.{after_job_begin}
+use Rattle.fs_machine.specs.Api.{done_by}
+use Rattle.fs_machine.specs.Commands.{with_reply, after_dismissal, after_password, with_response_of, after_asking, after_subscribing}
+use Rattle.fs_machine.specs.Commands.{command_done_in, command_done}
+use Rattle.fs_machine.specs.Done.{Done}
+use Rattle.fs_machine.specs.Step.{reads, new_conn, step}
+use Rattle.fs_machine.specs.Concerns.{KeepsPhase, KeepsOrParts}
+use Rattle.fs_machine.proofs.Kept.{Fact, KeptByCalls, KeptByApi}
+use Rattle.fs_machine.proofs.ShortLemmas.{api_short}
+use Rattle.fs_machine.proofs.RestLemmas.{Rest, calls_by_rest, group_made_rest}
+use Rattle.fs_machine.proofs.ActWalk.{done_kept}
+use Rattle.fs_machine.proofs.KeepLemmas.{row_changed, Settles, act_keeps}
+
+-- ---- a connection stays
+
+keeps_same : (conn : ℕ) (s t : Switch) → conn_of t conn ≡ conn_of s conn → KeepsPhase conn s t
+keeps_same conn s t same = record { phase = ap phase_of same; parting = ap (option_and_then parting_of) same }
+
+keeps_trans : (conn : ℕ) (s t u : Switch) → KeepsPhase conn s t → KeepsPhase conn t u → KeepsPhase conn s u
+keeps_trans conn s t u first second = record {
+  phase = second.phase ∙ first.phase;
+  parting = second.parting ∙ first.parting;
+}
+
+-- a change that leaves both
+changed_keeps : (change : Conn → Conn) → ((c : Conn) → (change c).phase ≡ c.phase) → ((c : Conn) → (change c).parting ≡ c.parting) →
+    (conn : ℕ) (s : Switch) → KeepsPhase conn s (conn_changed change conn s)
+changed_keeps change phase_stays parting_stays conn s = by (conn_of s conn) refl
+  where
+    by : (found : Option Conn) → conn_of s conn ≡ found → KeepsPhase conn s (conn_changed_from change conn found s)
+    by None is = keeps_same conn s s refl
+    by (Some c) is = let there = row_changed s.conns conn c (change c) is in record {
+      phase = ap phase_of there ∙ (phase_stays c ∙ sym (ap phase_of is));
+      parting = ap (option_and_then parting_of) there ∙ (parting_stays c ∙ sym (ap (option_and_then parting_of) is));
+    }
+
+-- ---- others
+
+settled_keeps : (conn : ℕ) (s t : Switch) → Settles (conn_of s conn) (conn_of t conn) → KeepsPhase conn s t
+settled_keeps conn s t settles = record { phase = settles.phase; parting = settles.parting }
+
+-- an act of nobody
+abbrev pub IsOfNobody : Act → Type 0
+IsOfNobody (act.Work slot) = Unit {0}
+IsOfNobody (act.Job number) = Unit {0}
+IsOfNobody _ = ⊥
+
+-- it keeps a connection in its phase, or parts it
+pub others_part : (conn moment : ℕ) (a : Act) (s : Switch) → IsOfNobody a →
+    KeepsOrParts conn s (step s (record { moment = moment; act = a })).state
+unfolding step
+others_part conn moment (act.Work slot) s such =
+    inl (settled_keeps conn s (step s (record { moment = moment; act = act.Work slot })).state
+    ((act_keeps (act.Work slot) (at_moment moment s)).others conn (none-some conn)))
+others_part conn moment (act.Job number) s such =
+    inl (settled_keeps conn s (step s (record { moment = moment; act = act.Job number })).state
+    ((act_keeps (act.Job number) (at_moment moment s)).others conn (none-some conn)))
+others_part conn moment act.Arrive s such = absurd such
+others_part conn moment (act.Command giver block) s such = absurd such
+others_part conn moment (act.Take taker) s such = absurd such
+others_part conn moment (act.Close gone how) s such = absurd such
+
+-- taking a frame keeps it so
+pub take_keeps : (conn moment taker : ℕ) (s : Switch) →
+    KeepsPhase conn s (step s (record { moment = moment; act = act.Take taker })).state
+unfolding step
+take_keeps conn moment taker s = record { phase = refl; parting = refl }
+
+-- ---- api commands
+
+abbrev KeepsFrom : ℕ → Switch → Fact
+KeepsFrom conn s b t = KeepsPhase conn s t
+
+module _ (conn : ℕ) (s : Switch) where
+  calls_keep : KeptByCalls (KeepsFrom conn s)
+  calls_keep =
+      calls_by_rest (KeepsFrom conn s)
+      (λ b t u h same. keeps_trans conn s t u h (keeps_same conn t u (ap (λ (r : Rest). row_of r.conns conn) same))) (λ t h. h)
+
+  owing_keeps : (work : JobWork) (t : Switch) → KeepsPhase conn s t → KeepsPhase conn s (after_job_begin conn work t)
+  owing_keeps work t h =
+      let begun : Switch = with_new_job (record { conn = conn; work = work }) t in
+      keeps_trans conn s t (after_job_begin conn work t) h
+      (keeps_trans conn t begun (after_job_begin conn work t) (keeps_same conn t begun refl)
+      (changed_keeps (owed_since t.entries) (λ c. refl) (λ c. refl) conn begun))
+
+  originates_keeps : (groups : List (List LegPlan)) (winner : Winner) (caller : Caller) (timeout : Option ℕ) (t : Switch) →
+      KeepsPhase conn s t → KeepsPhase conn s (originate_begun conn groups winner caller timeout t)
+  originates_keeps groups winner caller timeout t h =
+      let made : MadeGroup = group_made (first_group groups) caller (next_orig_number t) t in
+      let begun : Switch =
+      orig_begun (owner.Job (next_job_number made.state)) groups made.legs (unwrap_or timeout 60) made.state in
+      owing_keeps (Originate (next_orig_number t) winner caller) begun
+      (keeps_trans conn s t begun h
+      (keeps_same conn t begun
+      (ap (λ (r : Rest). row_of r.conns conn) (group_made_rest (first_group groups) caller (next_orig_number t) t))))
+
+  api_keeps : KeptByApi conn (KeepsFrom conn s)
+  api_keeps = record {
+    spent = λ h. h;
+    sleeps = λ until {s = t} room h. owing_keeps (Sleep until) t h;
+    originates = λ groups winner caller timeout {s = t} are short room h. originates_keeps groups winner caller timeout t h;
+  }
+
+  -- they leave the connection that gives them as it is
+  done_keeps : (text : Text) → KeepsPhase conn s (done_by conn (api_of text) s).state
+  done_keeps text =
+      done_kept conn (KeepsFrom conn s) calls_keep api_keeps (api_of text) {s = s} (api_short text) (keeps_same conn s s refl)
+
+-- ---- a command of its own
+
+-- what a command makes of a connection that reads commands and has not parted: it parts for its exit, or for a password that is refused
+pub record CommandParts (conn : ℕ) (given : Command) (s t : Switch) : Type 0 where
+  pub reads_on : reads (phase_at t conn) ≡ true → parting_at t conn ≡ None
+  pub exit : parting_at t conn ≡ Some parting.Exit → given ≡ command.Exit
+  pub refused : parting_at t conn ≡ Some parting.AuthRefused → (word : Text) × (given ≡ command.Auth word) × (word ≢ s.settings.password)
+  pub hears : parting_at t conn ≢ Some parting.EndOfInput
+
+-- it has not parted
+unparted : (conn : ℕ) (given : Command) (s t : Switch) → parting_at t conn ≡ None → CommandParts conn given s t
+unparted conn given s t none = record {
+  reads_on = λ reading. none;
+  exit = λ is. absurd (none-some parting.Exit (sym none ∙ is));
+  refused = λ is. absurd (none-some parting.AuthRefused (sym none ∙ is));
+  hears = λ is. none-some parting.EndOfInput (sym none ∙ is);
+}
+
+keeps_unparted : (conn : ℕ) (given : Command) (s t : Switch) → parting_at s conn ≡ None → KeepsPhase conn s t → CommandParts conn given s t
+keeps_unparted conn given s t none keeps = unparted conn given s t (keeps.parting ∙ none)
+
+-- the password opens the way
+admitted_unparted : (conn : ℕ) (s : Switch) → parting_at s conn ≡ None → parting_at (conn_changed admitted conn s) conn ≡ None
+admitted_unparted conn s none = by (conn_of s conn) refl
+  where
+    by : (found : Option Conn) → conn_of s conn ≡ found → parting_at (conn_changed_from admitted conn found s) conn ≡ None
+    by None is = none
+    by (Some c) is =
+        ap (option_and_then parting_of) (row_changed s.conns conn c (admitted c) is)
+        ∙ (sym (ap (option_and_then parting_of) is) ∙ none)
+
+-- one that is there parts
+dismissed : (conn : ℕ) (why : Parting) (s : Switch) → reads (phase_at s conn) ≡ true →
+    (phase_at (conn_changed (parted why) conn s) conn ≡ phase.Ending) × (parting_at (conn_changed (parted why) conn s) conn ≡ Some why)
+dismissed conn why s reading = by (conn_of s conn) refl
+  where
+    by : (found : Option Conn) → conn_of s conn ≡ found →
+        (phase_at (conn_changed_from (parted why) conn found s) conn ≡ phase.Ending)
+        × (parting_at (conn_changed_from (parted why) conn found s) conn ≡ Some why)
+    by None is =
+        let closed : reads phase.Closed ≡ true = ap (λ (found : Option Conn). reads (phase_of found)) (sym is) ∙ reading in
+        absurd (cc closed)
+    by (Some c) is =
+        let there = row_changed s.conns conn c (parted why c) is in (ap phase_of there, ap (option_and_then parting_of) there)
+
+-- for its exit
+exits : (conn : ℕ) (given : Command) (s t : Switch) → given ≡ command.Exit → phase_at t conn ≡ phase.Ending →
+    parting_at t conn ≡ Some parting.Exit → CommandParts conn given s t
+exits conn given s t is ending parts = record {
+  reads_on = λ reading. let none : reads phase.Ending ≡ true = ap reads (sym ending) ∙ reading in absurd (cc none);
+  exit = λ same. is;
+  refused = λ same. let e : Some parting.Exit ≡ Some parting.AuthRefused = sym parts ∙ same in absurd (cc e);
+  hears = λ same. let e : Some parting.Exit ≡ Some parting.EndOfInput = sym parts ∙ same in cc e;
+}
+
+-- for a password that is refused
+refuses : (conn : ℕ) (word : Text) (s t : Switch) → word ≢ s.settings.password → phase_at t conn ≡ phase.Ending →
+    parting_at t conn ≡ Some parting.AuthRefused → CommandParts conn (command.Auth word) s t
+refuses conn word s t differs ending parts = record {
+  reads_on = λ reading. let none : reads phase.Ending ≡ true = ap reads (sym ending) ∙ reading in absurd (cc none);
+  exit = λ same. let e : Some parting.AuthRefused ≡ Some parting.Exit = sym parts ∙ same in absurd (cc e);
+  refused = λ same. (word, refl, differs);
+  hears = λ same. let e : Some parting.AuthRefused ≡ Some parting.EndOfInput = sym parts ∙ same in cc e;
+}
+
+-- a password was offered
+offered : (conn : ℕ) (word : Text) (s : Switch) → reads (phase_at s conn) ≡ true → parting_at s conn ≡ None →
+    CommandParts conn (command.Auth word) s (after_password conn word s)
+offered conn word s reading none = by (bytes_eq word s.settings.password) refl
+  where
+    by : (same : Bool) → bytes_eq word s.settings.password ≡ same →
+        CommandParts conn (command.Auth word) s
+        (if same then with_reply conn accepted (conn_changed admitted conn s) else after_dismissal conn parting.AuthRefused invalid s)
+    by true is =
+        unparted conn (command.Auth word) s (with_reply conn accepted (conn_changed admitted conn s)) (admitted_unparted conn s none)
+    by false is = let parts = dismissed conn parting.AuthRefused s reading in
+        refuses conn word s (after_dismissal conn parting.AuthRefused invalid s)
+        (λ same. both_ways (bytes_eq word s.settings.password) is ((bytes_eq-Decides word s.settings.password).1 same)) parts.0 parts.1
+
+dismisses : (conn : ℕ) (s : Switch) → reads (phase_at s conn) ≡ true →
+    CommandParts conn command.Exit s (after_dismissal conn parting.Exit bye s)
+dismisses conn s reading =
+    let parts = dismissed conn parting.Exit s reading in
+    exits conn command.Exit s (after_dismissal conn parting.Exit bye s) refl parts.0 parts.1
+
+-- what it subscribes leaves it as it is
+asked_keeps : (conn : ℕ) (change : Subscription → Subscription) (text : Text) (s : Switch) →
+    KeepsPhase conn s (after_asking conn change text s)
+asked_keeps conn change text s =
+    let asked : Switch = conn_changed (with_subs_changed change) conn s in
+    keeps_trans conn s asked (after_asking conn change text s) (changed_keeps (with_subs_changed change) (λ c. refl) (λ c. refl) conn s)
+    (keeps_same conn asked (after_asking conn change text s) refl)
+
+replied_keeps : (conn : ℕ) (text : Text) (s : Switch) → KeepsPhase conn s (with_reply conn text s)
+replied_keeps conn text s = keeps_same conn s (with_reply conn text s) refl
+
+either_keeps : (conn : ℕ) (s : Switch) (test : Bool) (x y : Switch) → KeepsPhase conn s x → KeepsPhase conn s y →
+    KeepsPhase conn s (if test then x else y)
+either_keeps conn s true x y first second = first
+either_keeps conn s false x y first second = second
+
+subscribed_keeps : (conn : ℕ) (form : Form) (names : Text) (s : Switch) → KeepsPhase conn s (after_subscribing conn form names s)
+subscribed_keeps conn Plain names s = asked_keeps conn _ _ s
+subscribed_keeps conn Json names s = replied_keeps conn format_unsupported s
+subscribed_keeps conn Xml names s = replied_keeps conn format_unsupported s
+
+responded_keeps : (conn : ℕ) (answer : Option Text) (s t : Switch) → KeepsPhase conn s t → KeepsPhase conn s (with_response_of conn answer t)
+responded_keeps conn None s t keeps = keeps
+responded_keeps conn (Some answer) s t keeps = keeps_trans conn s t (with_response_of conn (Some answer) t) keeps (keeps_same conn t _ refl)
+
+-- a command in a phase in which commands are read
+commanded_parts : (conn : ℕ) (now : Phase) (given : Command) (s : Switch) → reads now ≡ true → phase_at s conn ≡ now →
+    parting_at s conn ≡ None → CommandParts conn given s (command_done_in now conn given s)
+commanded_parts conn phase.Fresh (command.Auth word) s reading at none = offered conn word s (ap reads at ∙ reading) none
+commanded_parts conn phase.Fresh command.Exit s reading at none = dismisses conn s (ap reads at ∙ reading)
+commanded_parts conn phase.Fresh given s reading at none = keeps_unparted conn given s _ none (replied_keeps conn _ s)
+commanded_parts conn phase.Ready (command.Auth word) s reading at none =
+    keeps_unparted conn (command.Auth word) s _ none (replied_keeps conn _ s)
+commanded_parts conn phase.Ready command.Exit s reading at none = dismisses conn s (ap reads at ∙ reading)
+commanded_parts conn phase.Ready (command.Api text) s reading at none =
+    let done : Done = done_by conn (api_of text) s in
+    keeps_unparted conn (command.Api text) s _ none (responded_keeps conn done.reply s done.state (done_keeps conn s text))
+commanded_parts conn phase.Ready (command.Event form names) s reading at none =
+    keeps_unparted conn (command.Event form names) s _ none (subscribed_keeps conn form names s)
+commanded_parts conn phase.Ready (command.Nixevent names) s reading at none =
+    keeps_unparted conn (command.Nixevent names) s _ none (asked_keeps conn _ _ s)
+commanded_parts conn phase.Ready command.Noevents s reading at none =
+    keeps_unparted conn command.Noevents s _ none
+    (either_keeps conn s (subs_at s conn).listening _ _ (asked_keeps conn _ _ s) (replied_keeps conn _ s))
+commanded_parts conn phase.Ready (command.Filter header value) s reading at none =
+    keeps_unparted conn (command.Filter header value) s _ none (asked_keeps conn _ _ s)
+commanded_parts conn phase.Ready (command.FilterDelete header value) s reading at none =
+    keeps_unparted conn (command.FilterDelete header value) s _ none
+    (either_keeps conn s (has_filter (subs_at s conn).filters header value) _ _ (asked_keeps conn _ _ s) (replied_keeps conn _ s))
+commanded_parts conn phase.Ready given s reading at none = keeps_unparted conn given s _ none (replied_keeps conn _ s)
+commanded_parts conn phase.Ending given s reading at none = absurd (cc reading)
+commanded_parts conn phase.Closed given s reading at none = absurd (cc reading)
+
+-- and so does the entry of a block
+pub command_parts : (conn moment : ℕ) (block : Text) (s : Switch) → reads (phase_at s conn) ≡ true → parting_at s conn ≡ None →
+    CommandParts conn (command_of block) s (step s (record { moment = moment; act = act.Command conn block })).state
+unfolding step command_done
+command_parts conn moment block s reading none =
+    let now : Switch = at_moment moment s in
+    let parts : CommandParts conn (command_of block) now (command_done_in (phase_at s conn) conn (command_of block) now) =
+    commanded_parts conn (phase_at s conn) (command_of block) now reading refl none in
+    record { reads_on = parts.reads_on; exit = parts.exit; refused = parts.refused; hears = parts.hears }
+
+-- ---- the first connection
+
+nowhere : (count from : ℕ) → first_seat (has_number 1) (no_seats {T = Numbered Conn} count) from ≡ None
+unfolding no_seats
+nowhere zero from = refl
+nowhere (suc count) from = nowhere count (from + 1)
+
+-- it has not parted
+pub none_parted : (config : Configuration) → parting_at (empty config) 1 ≡ None
+none_parted config =
+    let rows = no_seats {T = Numbered Conn} config.settings.max_connections in
+    ap (option_and_then parting_of) (row_none rows 1 (nowhere config.settings.max_connections 0))
+
+first_parting : (count : ℕ) → option_and_then parting_of (row_of (with_new_row (no_seats {T = Numbered Conn} count) 1 new_conn) 1) ≡ None
+unfolding no_seats
+first_parting zero = refl
+first_parting (suc count) = refl
+
+-- nor has it once it has come
+pub arrival_unparted : (config : Configuration) (moment : ℕ) →
+    parting_at (step (empty config) (record { moment = moment; act = act.Arrive })).state 1 ≡ None
+unfolding step
+arrival_unparted config moment = first_parting config.settings.max_connections

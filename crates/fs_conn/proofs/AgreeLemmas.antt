@@ -31,7 +31,7 @@ use Rattle.fs_conn.specs.Play.{after_command, after_commands, after_opening, aft
 use Rattle.fs_conn.specs.Steps.{act_of, entry_of}
 use Rattle.fs_conn.proofs.PlayLemmas.{goes_entered}
 use Rattle.fs_conn.proofs.KeepLemmas.{kept_settled, kept_waited, kept_opened, kept_commanded, kept_worked_once, kept_waited_once}
-use Rattle.fs_conn.proofs.LawLemmas.{Any, IsRun, keeps_run}
+use Rattle.fs_conn.proofs.LawLemmas.{Any, IsRun, each_run, keeps_run}
 use Rattle.fs_conn.proofs.DrainLemmas.{run_of, switch_is, waits_in, taken_rest, run_begun, run_conversed}
 use Rattle.fs_conn.proofs.CloseLemmas.{IsFit, filled, longer_by, fit_entered, fit_due, fit_end, fit_last}
 
@@ -67,7 +67,7 @@ settled_agrees : (config : Configuration) → IsWithin config → (p : Play) →
 unfolding after_settling_as
 settled_agrees config within p run =
     ap with_runaway_end (repeated_agrees (IsRun config) after_due_step (after_due_step_as by_room) (worked_agrees config within)
-    (kept_worked_once Any (IsRun config) (keeps_run config)) 100000 p run)
+    (kept_worked_once Any (IsRun config) (each_run config)) 100000 p run)
 
 -- ---- replies that are owed
 
@@ -76,7 +76,7 @@ waited_once_agrees : (config : Configuration) → IsWithin config → (p : Play)
 waited_once_agrees config within p run = ap (λ q. cond (waits p) q p) (by (next_actor p))
   where
     by : (who : DueActor) → after_waiting_until_as by_refusal who p ≡ after_waiting_until_as by_room who p
-    by (due.Later moment) = settled_agrees config within (record p { clock = moment }) ((keeps_run config).goes_on moment p run)
+    by (due.Later moment) = settled_agrees config within (record p { clock = moment }) ((each_run config).goes_on moment p run)
     by (due.Slot slot) = refl
     by (due.Job number) = refl
     by due.Never = refl
@@ -170,7 +170,7 @@ all_taken_agrees config within p run = takes_agree config (length (waits_in p)) 
 followed_agrees : (config : Configuration) → IsWithin config → (p : Play) → IsRun config p →
     after_following p ≡ after_following_as by_room p
 followed_agrees config within p run =
-    let settles = kept_settled Any (IsRun config) (keeps_run config) p run in
+    let settles = kept_settled Any (IsRun config) (each_run config) p run in
     let waits_out = kept_waited Any (IsRun config) (keeps_run config) (after_settling p) settles in
     all_taken_agrees config within (after_waiting (after_settling p)) waits_out
     ∙ ap (after_taking_all_as by_room) (waited_agrees config within (after_settling p) settles

@@ -6,6 +6,7 @@ use Rattle.fs_doc.specs.Reading.{Configuration}
 use Rattle.fs_doc.specs.Limits.{IsWithin}
 use Rattle.fs_frame.specs.Block.{fault_of}
 use Rattle.fs_frame.specs.Blocks.{blocks_of, rest_of}
+use Rattle.fs_doc.specs.declared.settings.Settings.{Settings}
 use Rattle.fs_state.specs.declared.conn.Phase.TheVariants.{Ending}
 use Rattle.fs_state.specs.Switch.{Switch, empty, waiting_for, at_moment}
 use Rattle.fs_machine.specs.declared.due.DueActor.{DueActor}
@@ -26,7 +27,7 @@ use Rattle.fs_machine.specs.Runs.{run_from}
 use Rattle.fs_machine.proofs.RunLemmas.{run_more}
 use Rattle.fs_machine.proofs.FrameLemmas.{some_cost, take_owes}
 use Rattle.fs_machine.proofs.OrderLemmas.{acted_cost, not_full}
-use Rattle.fs_machine.proofs.FramesLaws.{config_run}
+use Rattle.fs_machine.proofs.FramesLaws.{settings_run}
 use Rattle.fs_machine.proofs.HereLemmas.{ClosesNone, arrival_accepted, arrival_here}
 use Rattle.fs_machine.proofs.OwedLaws as owed_laws
 use Rattle.fs_machine.proofs.CloseLaws.{ending_at, end_parts, take_leaves_phase, sent_accepted}
@@ -41,20 +42,20 @@ use Rattle.fs_conn.specs.Play.{after_taking_all_as, played_as, after_settling_as
 use Rattle.fs_conn.specs.Steps.{spent, act_of, is_early, entry_of}
 use Rattle.fs_conn.proofs.PlayLemmas.{goes_entered, goes_all_taken}
 use Rattle.fs_conn.proofs.RoundLemmas.{repeated_none}
-use Rattle.fs_conn.proofs.KeepLemmas.{Keeps, kept_repeated, kept_behind, kept_settled, kept_followed, kept_opened, kept_commanded}
+use Rattle.fs_conn.proofs.KeepLemmas.{KeepsEach, kept_repeated, kept_behind, kept_settled, kept_followed, kept_opened, kept_commanded}
 use Rattle.fs_conn.proofs.KeepLemmas.{kept_all_commanded}
 use Rattle.fs_conn.proofs.HereLemmas.{Here, keeps_here, Free, free_taken}
-use Rattle.fs_conn.proofs.LawLemmas.{Any, IsRun, keeps_run, EndsEarly, Early, early_closed}
+use Rattle.fs_conn.proofs.LawLemmas.{Any, IsRun, each_run, keeps_run, EndsEarly, Early, early_closed}
 use Rattle.fs_conn.proofs.DrainLemmas.{run_of, switch_is, Drained, drained_conversed, drained_ended, run_begun, run_conversed}
-use Rattle.fs_conn.proofs.DrainLemmas.{nothing_waits, early_is}
+use Rattle.fs_conn.proofs.DrainLemmas.{nothing_waits}
 
 -- ---- acts that nothing but a full journal speaks against
 
 -- why an entry is refused against which nothing else speaks
 pub refusal_is : (s : Switch) (entry : Entry) → refused_act entry.act (at_moment entry.moment s) ≡ None →
-    refusal_of s entry ≡ refused_where (is_full s) (refusal.JournalFull s.cost s.config.settings.journal_limit) None
+    refusal_of s entry ≡ refused_where (is_full s) (refusal.JournalFull s.cost s.settings.journal_limit) None
 unfolding refusal_of
-refusal_is s entry none = ap (refused_where (is_full s) (refusal.JournalFull s.cost s.config.settings.journal_limit)) none
+refusal_is s entry none = ap (refused_where (is_full s) (refusal.JournalFull s.cost s.settings.journal_limit)) none
 
 -- nothing speaks against an act of this play
 abbrev pub IsFit : Act → Play → Type 0
@@ -62,7 +63,7 @@ IsFit act p = refused_act act (at_moment p.clock (switch_of p)) ≡ None
 
 -- it ends for its full journal
 abbrev pub filled : Play → Play
-filled p = record p { end = Some (JournalFull (switch_of p).cost (switch_of p).config.settings.journal_limit) }
+filled p = record p { end = Some (JournalFull (switch_of p).cost (switch_of p).settings.journal_limit) }
 
 -- with one entry more
 abbrev pub longer_by : Act → Play → Play
@@ -74,7 +75,7 @@ fit_judged act p fit =
     ap (λ cause. after_judging cause (entry_of act p) p) (refusal_is (switch_of p) (entry_of act p) fit) ∙ by (is_full (switch_of p))
   where
     by : (full : Bool) → after_judging (refused_where full
-        (refusal.JournalFull (switch_of p).cost (switch_of p).config.settings.journal_limit) None) (entry_of act p) p
+        (refusal.JournalFull (switch_of p).cost (switch_of p).settings.journal_limit) None) (entry_of act p) p
         ≡ cond full (filled p) (longer_by act p)
     by true = refl
     by false = refl
@@ -85,7 +86,7 @@ pub fit_entered : (act : Act) (p : Play) → is_over p ≡ false → IsFit act p
 fit_entered act p goes_on fit =
     ap (λ over. cond over p (after_judging (refusal_of (switch_of p) (entry_of act p)) (entry_of act p) p)) goes_on ∙ fit_judged act p fit
 
-switch_longer : (act : Act) (p : Play) → switch_of (longer_by act p) ≡ (step (switch_of p) (entry_of act p)).state
+pub switch_longer : (act : Act) (p : Play) → switch_of (longer_by act p) ≡ (step (switch_of p) (entry_of act p)).state
 switch_longer act p = run_more (empty p.config) p.journal (entry_of act p)
 
 -- ---- what a play costs
@@ -99,19 +100,20 @@ cost_bound [] s bound = bound
 cost_bound (entry ∷ entries) s bound = cost_bound entries (step s entry).state (cost_once s entry)
 
 -- an entry that is accepted costs 64 at least
-cost_more : (s : Switch) (entry : Entry) → is_full s ≡ false → s.config.settings.journal_limit ≤ 1073741824 →
+cost_more : (s : Switch) (entry : Entry) → is_full s ≡ false → s.settings.journal_limit ≤ 1073741824 →
     s.cost + 64 ≤ (step s entry).state.cost
 unfolding step
 cost_more s entry below small =
     let same : (acted_by entry.act (at_moment entry.moment s)).state.cost ≡ s.cost = acted_cost entry.act (at_moment entry.moment s) in
     let some : 64 ≤ cost_of entry.act = some_cost entry.act in
-    let room : s.cost + 65600 ≤ s.config.settings.journal_limit = ltb-false s.config.settings.journal_limit (s.cost + 65600) below in
+    let room : s.cost + 65600 ≤ s.settings.journal_limit = ltb-false s.settings.journal_limit (s.cost + 65600) below in
     omega (arith, same, some, room, small)
 
 limit_of : (config : Configuration) (p : Play) → config.settings.journal_limit ≤ 1073741824 → IsRun config p →
-    (switch_of p).config.settings.journal_limit ≤ 1073741824
+    (switch_of p).settings.journal_limit ≤ 1073741824
 limit_of config p small run =
-    subst (λ (c : Configuration). c.settings.journal_limit ≤ 1073741824) (sym (config_run (empty p.config) p.journal ∙ run.config_is)) small
+    subst (λ (settings : Settings). settings.journal_limit ≤ 1073741824)
+    (sym (settings_run (empty p.config) p.journal ∙ ap (λ (c : Configuration). c.settings) run.config_is)) small
 
 -- the play is over, or its entries cost this much at least
 abbrev Pays : ℕ → Play → Type 0
@@ -137,13 +139,13 @@ paid_judged config least act None p small run is (inr paid) =
 paid_judged config least act (Some (refusal.JournalFull cost limit)) p small run is paid = inl refl
 paid_judged config least act (Some _) p small run is paid = paid
 
-keeps_spent : (config : Configuration) (least : ℕ) → config.settings.journal_limit ≤ 1073741824 → Keeps Any (Spent config least)
-keeps_spent config least small = record {
+each_spent : (config : Configuration) (least : ℕ) → config.settings.journal_limit ≤ 1073741824 → KeepsEach Any (Spent config least)
+each_spent config least small = record {
   works = λ slot. tt;
   jobs = λ number. tt;
   takes = tt;
   enters = λ act such p h. record {
-    run = (keeps_run config).enters act tt p h.run;
+    run = (each_run config).enters act tt p h.run;
     paid =
         elim (is_over p) as (λ b. Pays least (cond b p (after_judging (refusal_of (switch_of p) (entry_of act p)) (entry_of act p) p))) [
           | true ↦ h.paid
@@ -151,14 +153,14 @@ keeps_spent config least small = record {
         ];
   };
   runs_away = λ p h. record {
-    run = (keeps_run config).runs_away p h.run;
+    run = (each_run config).runs_away p h.run;
     paid =
         elim (is_over p) as (λ b. Pays least (cond b p (record p { end = Some (Runaway 100000) }))) [
           | true ↦ h.paid
           | false ↦ inl refl
         ];
   };
-  goes_on = λ moment p h. record { run = (keeps_run config).goes_on moment p h.run; paid = h.paid };
+  goes_on = λ moment p h. record { run = (each_run config).goes_on moment p h.run; paid = h.paid };
 }
 
 -- ---- what is due is worked
@@ -166,7 +168,7 @@ keeps_spent config least small = record {
 known_of : (config : Configuration) (p : Play) → IsWithin config → IsRun config p → AreKnown (switch_of p)
 known_of config p within run = subst AreKnown (switch_is config p run) (run_is_known config p.journal within (run_of config p run))
 
-owed_of_run : (config : Configuration) (p : Play) → IsWithin config → IsRun config p → AreOwed (switch_of p)
+pub owed_of_run : (config : Configuration) (p : Play) → IsWithin config → IsRun config p → AreOwed (switch_of p)
 owed_of_run config p within run =
     subst AreOwed (switch_is config p run) (owed_laws.run_is_owed config p.journal within (run_of config p run))
 
@@ -202,7 +204,7 @@ act_due (due.Job number) is = (Job number, refl)
 act_due (due.Later moment) is = absurd is
 act_due due.Never is = absurd is
 
-worked_due : (who : DueActor) (act : Act) (p : Play) → act_of who ≡ Some act → after_due_work who p ≡ after_trying_act act p
+pub worked_due : (who : DueActor) (act : Act) (p : Play) → act_of who ≡ Some act → after_due_work who p ≡ after_trying_act act p
 worked_due (due.Slot slot) act p is = let same : Work slot ≡ act = cc is in ap (λ a. after_trying_act a p) same
 worked_due (due.Job number) act p is = let same : Job number ≡ act = cc is in ap (λ a. after_trying_act a p) same
 worked_due (due.Later moment) act p is = absurd (cc is)
@@ -217,7 +219,7 @@ spent_settled config p within run is =
       run = (keeps_run config).enters does.0 tt p run;
       paid = paid_entered config does.0 p within.settings.journal.1 run (fit_due config does.0 p within run does.1);
     } in
-    kept_behind Any (Spent config (spent p + 64)) (keeps_spent config (spent p + 64) within.settings.journal.1) p
+    kept_behind Any (Spent config (spent p + 64)) (each_spent config (spent p + 64) within.settings.journal.1) p
     (subst (Spent config (spent p + 64)) (sym (worked_due (next_actor p) does.0 p does.1)) first)
 
 -- the play is over, or nothing is due
@@ -279,7 +281,7 @@ spent_waited : (config : Configuration) (moments moment : ℕ) (p : Play) → Is
     Spent config (64 * (moments + 1)) (after_settling (record p { clock = moment }))
 spent_waited config moments moment p within goes later =
     let next =
-    spent_settled config (record p { clock = moment }) within ((keeps_run config).goes_on moment p goes.run)
+    spent_settled config (record p { clock = moment }) within ((each_run config).goes_on moment p goes.run)
     (comes_due (switch_of p) p.clock moment later) in
     record { run = next.run; paid = by next.paid }
   where
@@ -353,7 +355,7 @@ pub rests_waited : (config : Configuration) (p : Play) → IsWithin config → I
 unfolding after_waiting_as
 rests_waited config p within run =
     by (going config 0 (after_settling p) (record {
-      run = kept_settled Any (IsRun config) (keeps_run config) p run;
+      run = kept_settled Any (IsRun config) (each_run config) p run;
       paid = inr (omega arith);
     }) (idle_settled p))
   where
@@ -391,7 +393,7 @@ rests_all_commanded config (block ∷ blocks) p within run rests =
     rests_all_commanded config blocks (after_command p block) within (kept_commanded Any (IsRun config) (keeps_run config) block tt p run)
     (rests_commanded config block p within run rests)
 
-rests_conversed : (config : Configuration) (input : List ℕ) → IsWithin config →
+pub rests_conversed : (config : Configuration) (input : List ℕ) → IsWithin config →
     Rests (after_conversing config input)
 rests_conversed config input within =
     rests_all_commanded config (blocks_of input) (after_opening config) within
@@ -408,7 +410,7 @@ here_first : (config : Configuration) → IsWithin config → Here (after_trying
 here_first config within goes_on =
     subst (λ (p : Play). IsHere 1 (switch_of p)) (sym (fit_arrival config within)) (arrival_here config 0 within)
 
-here_conversed : (config : Configuration) (input : List ℕ) → IsWithin config → Here (after_conversing config input)
+pub here_conversed : (config : Configuration) (input : List ℕ) → IsWithin config → Here (after_conversing config input)
 here_conversed config input within =
     kept_all_commanded ClosesNone Here keeps_here (λ block. tt) (blocks_of input) (after_opening config)
     (kept_followed ClosesNone Here keeps_here (after_trying_act Arrive (new_play config)) (here_first config within))
@@ -539,8 +541,7 @@ sent_concluded how end p sent early is not_early = by (is_over p) refl is
   where
     by : (over : Bool) → is_over p ≡ over → (cond over p (record p { end = Some how })).end ≡ Some end →
         EndsSent (cond over p (record p { end = Some how }))
-    by true over e = let sooner = early_is end (switch_of p) (subst (λ (last : Option End). EndsEarly last (switch_of p)) e early) in
-        absurd (both_ways (is_early end) not_early sooner)
+    by true over e = absurd (both_ways (is_early end) not_early (subst EndsEarly e early))
     by false goes_on e = sent goes_on
 
 -- a play that ends with its connection closes it

@@ -25,16 +25,15 @@ use Rattle.fs_machine.proofs.RunLemmas.{run_more}
 use Rattle.fs_machine.proofs.FramesLaws.{handed_first, handed_sent, closed_waits_not, take_leaves_rest, IsUnfailed, AreUnfailed}
 use Rattle.fs_machine.proofs.FramesLaws.{unfailed_more, handed_unfailed}
 use Rattle.fs_conn.specs.declared.end.End.{End}
-use Rattle.fs_conn.specs.declared.end.End.TheVariants.{Exit, Eof, AuthRefused, ReadFault, WriteFault, TooLong, BadLength, JournalFull}
-use Rattle.fs_conn.specs.declared.end.End.TheVariants.{Memory, Runaway}
+use Rattle.fs_conn.specs.declared.end.End.TheVariants.{Runaway}
 use Rattle.fs_conn.specs.Play.{Play, switch_of, bytes_handed, new_play, is_over, with_end, after_judging, after_trying_act, repeated}
 use Rattle.fs_conn.specs.Play.{after_settling, after_waiting, after_taking_all, after_act, reads_on, takes_commands, after_command}
 use Rattle.fs_conn.specs.Play.{after_commands, after_opening, after_input_end, after_conversing, after_closing, farewell, end_behind}
 use Rattle.fs_conn.specs.Play.{played, after_taking_all_as, played_as}
 use Rattle.fs_conn.specs.Steps.{is_early, entry_of}
 use Rattle.fs_conn.proofs.PlayLemmas.{goes_entered, goes_taken}
-use Rattle.fs_conn.proofs.KeepLemmas.{Keeps, kept_settled, kept_waited, kept_opened, kept_commanded, kept_all_commanded, kept_input_ended}
-use Rattle.fs_conn.proofs.LawLemmas.{Any, IsRun, keeps_run, run_closed, run_played, EndsEarly, Early, early_closed}
+use Rattle.fs_conn.proofs.KeepLemmas.{Keeps, by_each, kept_settled, kept_waited, kept_opened, kept_commanded, kept_all_commanded, kept_input_ended}
+use Rattle.fs_conn.proofs.LawLemmas.{Any, IsRun, each_run, keeps_run, run_closed, run_played, EndsEarly, Early, early_closed}
 
 -- the run of a play, in terms of what it was configured by
 pub run_of : (config : Configuration) (p : Play) → IsRun config p → IsRunFrom (empty config) p.journal
@@ -60,7 +59,7 @@ Takes p q = (is_over q ≡ true) ⊎ (length (waits_in q) ≤ length (waits_in p
 -- how a Take is judged
 abbrev take_judged : Bool → Bool → Bool → Play → Play
 take_judged full gone none p =
-    after_judging (refused_where full (refusal.JournalFull (switch_of p).cost (switch_of p).config.settings.journal_limit)
+    after_judging (refused_where full (refusal.JournalFull (switch_of p).cost (switch_of p).settings.journal_limit)
     (refused_where gone refusal.Gone (refused_where none refusal.Empty None))) (entry_of (Take 1) p) p
 
 take_is : (p : Play) → is_over p ≡ false →
@@ -138,7 +137,7 @@ drained_acted : (config : Configuration) (act : Act) (p : Play) → config.setti
     Drained (after_act act p)
 drained_acted config act p limit run =
     let first = (keeps_run config).enters act tt p run in
-    let then = kept_settled Any (IsRun config) (keeps_run config) (after_trying_act act p) first in
+    let then = kept_settled Any (IsRun config) (each_run config) (after_trying_act act p) first in
     drained_taken config (after_waiting (after_settling (after_trying_act act p))) limit
     (kept_waited Any (IsRun config) (keeps_run config) (after_settling (after_trying_act act p)) then)
 
@@ -197,7 +196,7 @@ unfailed_judged (Some (refusal.JournalFull cost limit)) entry p such h = h
 unfailed_judged (Some _) entry p such h = h
 
 keeps_unfailed : Keeps IsUnfailed Unfailed
-keeps_unfailed = record {
+keeps_unfailed = by_each IsUnfailed Unfailed (record {
   works = λ slot. tt;
   jobs = λ number. tt;
   takes = tt;
@@ -209,7 +208,7 @@ keeps_unfailed = record {
       ];
   runs_away = λ p h. elim (is_over p) as (λ b. Unfailed (cond b p (record p { end = Some (Runaway 100000) }))) [ true ↦ h | false ↦ h ];
   goes_on = λ moment p h. h;
-}
+})
 
 unfailed_ended : (config : Configuration) (input : List ℕ) → Unfailed (after_input_end (after_conversing config input))
 unfailed_ended config input =
@@ -286,27 +285,13 @@ first_played config input read_failed limit =
     let first = handed_first config journal 1 limit (run_played config input read_failed) in
     (concat first.0, ap concat first.1 ∙ concat-append (handed_from 1 (empty config) journal) first.0)
 
--- an end before that of the connection is known as such
-pub early_is : (end : End) (s : Switch) → EndsEarly (Some end) s → is_early end ≡ true
-early_is Exit s early = absurd early
-early_is Eof s early = absurd early
-early_is AuthRefused s early = absurd early
-early_is ReadFault s early = absurd early
-early_is WriteFault s early = absurd early
-early_is (TooLong len) s early = absurd early
-early_is BadLength s early = absurd early
-early_is (JournalFull cost limit) s early = refl
-early_is Memory s early = absurd early
-early_is (Runaway count) s early = refl
-
 whole_concluded : (config : Configuration) (how end : End) (p : Play) → (is_over p ≡ false → IsWhole config p) → Early p →
     (with_end how p).end ≡ Some end → is_early end ≡ false → IsWhole config (with_end how p)
 whole_concluded config how end p whole early is not_early = by (is_over p) refl is
   where
     by : (over : Bool) → is_over p ≡ over → (cond over p (record p { end = Some how })).end ≡ Some end →
         IsWhole config (cond over p (record p { end = Some how }))
-    by true over e = let sooner = early_is end (switch_of p) (subst (λ (last : Option End). EndsEarly last (switch_of p)) e early) in
-        absurd (both_ways (is_early end) not_early sooner)
+    by true over e = absurd (both_ways (is_early end) not_early (subst EndsEarly e early))
     by false goes_on e = whole goes_on
 
 whole_played : (config : Configuration) (input : List ℕ) (read_failed : Bool) (end : End) → config.settings.journal_limit ≤ 1073741824 →

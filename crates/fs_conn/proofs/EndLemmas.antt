@@ -183,7 +183,7 @@ wants_first config in0 out0 journal none =
       written = writes_nothing out0;
     }))
 
--- an end before that of the connection, behind which the last write failed, is such a place too
+-- an end before that of the connection, behind which the last write failed, is such a point too
 pub fails_over : (config : Configuration) (in0 in1 : Input) (out0 out1 out2 : Output) (unsent left : List ℕ) (end : End) (p : Play)
     (stop : Stop) →
     Stops config in0 out0 in1 out1 unsent (Over end) p → Clears {A = Unit {0}} out1 out2 unsent left (Err stop) →
@@ -195,7 +195,7 @@ fails_over config in0 in1 out0 out1 out2 unsent left end p WriteFault stops clea
   read_failed = stops.read_failed;
   has_read = stops.has_read;
   halts = stops_begins config in0 in1 out0 out1 unsent (Over end) p stops;
-  stopped = record { mid = out1; unsent = unsent; written = stops.stopped; stopped = clears; place = at_early_end end stops.halts };
+  stopped = record { mid = out1; unsent = unsent; written = stops.stopped; stopped = clears; point = at_early_end end stops.halts };
 }
 
 -- an act that is tried leaves its entry behind the others, unless it is refused

@@ -23,7 +23,7 @@ use Rattle.fs_conn.specs.Play.{Play, switch_of, is_over, after_judging, after_tr
 use Rattle.fs_conn.specs.Play.{after_taking_all_as}
 use Rattle.fs_conn.specs.Steps.{play_of, entry_of, Does, Accepts, Rejects}
 use Rattle.fs_conn.proofs.StepLemmas.{longer}
-use Rattle.fs_conn.proofs.KeepLemmas.{Keeps, kept_repeated, kept_followed, kept_acted}
+use Rattle.fs_conn.proofs.KeepLemmas.{Keeps, by_each, kept_repeated, kept_followed, kept_acted}
 
 -- ---- it is there
 
@@ -46,7 +46,7 @@ here_entered act such p here = by (is_over p) refl
     by false goes_on = here_judged (refusal_of (switch_of p) (entry_of act p)) (entry_of act p) p such (here goes_on)
 
 pub keeps_here : Keeps ClosesNone Here
-keeps_here = record {
+keeps_here = by_each ClosesNone Here (record {
   works = λ slot. tt;
   jobs = λ number. tt;
   takes = tt;
@@ -57,7 +57,7 @@ keeps_here = record {
         | false ↦ λ goes_on. absurd (cc)
       ];
   goes_on = λ moment p here. here;
-}
+})
 
 -- what comes of an act leaves it there
 pub here_followed : (mid new : Play) → IsHere 1 (switch_of mid) → new ≡ after_following mid → is_over new ≡ false → IsHere 1 (switch_of new)

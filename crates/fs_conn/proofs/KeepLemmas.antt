@@ -1,5 +1,5 @@
 -- What holds of a play is kept by its steps.
-use Rattle.std.proofs.Common.{◌^◌, ℕ, zero, suc, true, false, cond, List, [], ◌∷◌, length, sym, subst}
+use Rattle.std.proofs.Common.{◌≡◌, ◌^◌, ℕ, zero, suc, Bool, true, false, not, ◌&&◌, cond, List, [], ◌∷◌, length, refl, sym, subst}
 use Rattle.fs_doc.specs.Reading.{Configuration}
 use Rattle.fs_state.specs.Switch.{waiting_for}
 use Rattle.fs_machine.specs.declared.due.DueActor.{DueActor}
@@ -7,17 +7,25 @@ use Rattle.fs_machine.specs.declared.due.DueActor.TheVariants as due
 use Rattle.fs_machine.specs.declared.entry.Act.{Act}
 use Rattle.fs_machine.specs.declared.entry.Act.TheVariants.{Arrive, Command, Take, Close, Work, Job}
 use Rattle.fs_machine.specs.declared.entry.Closing.TheVariants.{EndOfInput, Sent}
+use Rattle.fs_machine.specs.Questions.{owes}
 use Rattle.fs_conn.specs.declared.end.End.TheVariants.{Runaway}
-use Rattle.fs_conn.specs.Play.{Play, switch_of, new_play, with_end, after_trying_act, repeated, after_due_work, next_actor, after_due_step}
+use Rattle.fs_conn.specs.Play.{Play, switch_of, new_play, is_over, with_end, after_trying_act, repeated, after_due_work, next_actor, after_due_step}
 use Rattle.fs_conn.specs.Play.{with_runaway_end_by, with_runaway_end, after_settling, waits, after_waiting_until, after_waiting_once}
 use Rattle.fs_conn.specs.Play.{after_waiting, after_taking_all, after_following, after_act, reads_on, takes_commands, after_command}
 use Rattle.fs_conn.specs.Play.{after_commands, after_opening, after_input_end, after_closing, after_taking_all_as, after_settling_as}
 use Rattle.fs_conn.specs.Play.{after_waiting_as}
 use Rattle.fs_conn.proofs.RoundLemmas.{repeated_more}
 
--- what holds of a play holds still once an act of this kind was tried, once it has run away, and whatever the clock says; of this kind
--- are the acts that a play enters by itself
+-- what holds of a play holds still once an act of this kind was tried, once all that is due was worked, and, while the play goes on,
+-- whatever the clock says; of this kind are the Takes that a play enters by itself
 pub record Keeps (IsSuch : Act → Type 0) (Holds : Play → Type 0) : Type 0 where
+  pub takes : IsSuch (Take 1)
+  pub enters : (act : Act) → IsSuch act → (p : Play) → Holds p → Holds (after_trying_act act p)
+  pub settles : (p : Play) → Holds p → Holds (after_settling p)
+  pub goes_on : (moment : ℕ) (p : Play) → is_over p ≡ false → Holds p → Holds (record p { clock = moment })
+
+-- the same, where all acts that a play enters by itself are of this kind, and it holds also once the play has run away
+pub record KeepsEach (IsSuch : Act → Type 0) (Holds : Play → Type 0) : Type 0 where
   pub works : (slot : ℕ) → IsSuch (Work slot)
   pub jobs : (number : ℕ) → IsSuch (Job number)
   pub takes : IsSuch (Take 1)
@@ -33,36 +41,36 @@ kept_repeated Holds (suc n) f keeps p holds = kept_repeated Holds n f keeps (f p
 
 -- ---- what is due
 
-kept_worked : (IsSuch : Act → Type 0) (Holds : Play → Type 0) → Keeps IsSuch Holds → (actor : DueActor) (p : Play) → Holds p →
+kept_worked : (IsSuch : Act → Type 0) (Holds : Play → Type 0) → KeepsEach IsSuch Holds → (actor : DueActor) (p : Play) → Holds p →
     Holds (after_due_work actor p)
 kept_worked IsSuch Holds keeps (due.Slot slot) p holds = keeps.enters (Work slot) (keeps.works slot) p holds
 kept_worked IsSuch Holds keeps (due.Job job) p holds = keeps.enters (Job job) (keeps.jobs job) p holds
 kept_worked IsSuch Holds keeps (due.Later moment) p holds = holds
 kept_worked IsSuch Holds keeps due.Never p holds = holds
 
-kept_stopped : (IsSuch : Act → Type 0) (Holds : Play → Type 0) → Keeps IsSuch Holds → (actor : DueActor) (p : Play) → Holds p →
+kept_stopped : (IsSuch : Act → Type 0) (Holds : Play → Type 0) → KeepsEach IsSuch Holds → (actor : DueActor) (p : Play) → Holds p →
     Holds (with_runaway_end_by actor p)
 kept_stopped IsSuch Holds keeps (due.Slot slot) p holds = keeps.runs_away p holds
 kept_stopped IsSuch Holds keeps (due.Job job) p holds = keeps.runs_away p holds
 kept_stopped IsSuch Holds keeps (due.Later moment) p holds = holds
 kept_stopped IsSuch Holds keeps due.Never p holds = holds
 
-pub kept_worked_once : (IsSuch : Act → Type 0) (Holds : Play → Type 0) → Keeps IsSuch Holds → (p : Play) → Holds p →
+pub kept_worked_once : (IsSuch : Act → Type 0) (Holds : Play → Type 0) → KeepsEach IsSuch Holds → (p : Play) → Holds p →
     Holds (after_due_step p)
 kept_worked_once IsSuch Holds keeps p holds = kept_worked IsSuch Holds keeps (next_actor p) p holds
 
-kept_all_worked : (IsSuch : Act → Type 0) (Holds : Play → Type 0) → Keeps IsSuch Holds → (n : ℕ) (p : Play) → Holds p →
+kept_all_worked : (IsSuch : Act → Type 0) (Holds : Play → Type 0) → KeepsEach IsSuch Holds → (n : ℕ) (p : Play) → Holds p →
     Holds (repeated n after_due_step p)
 kept_all_worked IsSuch Holds keeps n p holds = kept_repeated Holds n after_due_step (kept_worked_once IsSuch Holds keeps) p holds
 
-pub kept_settled : (IsSuch : Act → Type 0) (Holds : Play → Type 0) → Keeps IsSuch Holds → (p : Play) → Holds p → Holds (after_settling p)
+pub kept_settled : (IsSuch : Act → Type 0) (Holds : Play → Type 0) → KeepsEach IsSuch Holds → (p : Play) → Holds p → Holds (after_settling p)
 unfolding after_settling_as
 kept_settled IsSuch Holds keeps p holds =
     let q = repeated 100000 after_due_step p in
     kept_stopped IsSuch Holds keeps (next_actor q) q (kept_all_worked IsSuch Holds keeps 100000 p holds)
 
 -- whatever was true once the first of it was worked is so behind all of it
-pub kept_behind : (IsSuch : Act → Type 0) (Holds : Play → Type 0) → Keeps IsSuch Holds → (p : Play) → Holds (after_due_step p) →
+pub kept_behind : (IsSuch : Act → Type 0) (Holds : Play → Type 0) → KeepsEach IsSuch Holds → (p : Play) → Holds (after_due_step p) →
     Holds (after_settling p)
 unfolding after_settling_as
 kept_behind IsSuch Holds keeps p holds =
@@ -70,23 +78,36 @@ kept_behind IsSuch Holds keeps p holds =
     subst (λ (r : Play). Holds (with_runaway_end r)) (sym (repeated_more 99999 after_due_step p))
     (kept_stopped IsSuch Holds keeps (next_actor q) q (kept_all_worked IsSuch Holds keeps 99999 (after_due_step p) holds))
 
+pub by_each : (IsSuch : Act → Type 0) (Holds : Play → Type 0) → KeepsEach IsSuch Holds → Keeps IsSuch Holds
+by_each IsSuch Holds keeps = record {
+  takes = keeps.takes;
+  enters = keeps.enters;
+  settles = kept_settled IsSuch Holds keeps;
+  goes_on = λ moment p still holds. keeps.goes_on moment p holds;
+}
+
 -- ---- replies that are owed
 
-kept_until : (IsSuch : Act → Type 0) (Holds : Play → Type 0) → Keeps IsSuch Holds → (actor : DueActor) (p : Play) → Holds p →
-    Holds (after_waiting_until actor p)
-kept_until IsSuch Holds keeps (due.Later moment) p holds =
-    kept_settled IsSuch Holds keeps (record p { clock = moment }) (keeps.goes_on moment p holds)
-kept_until IsSuch Holds keeps (due.Slot slot) p holds = holds
-kept_until IsSuch Holds keeps (due.Job job) p holds = holds
-kept_until IsSuch Holds keeps due.Never p holds = holds
+kept_until : (IsSuch : Act → Type 0) (Holds : Play → Type 0) → Keeps IsSuch Holds → (actor : DueActor) (p : Play) → is_over p ≡ false →
+    Holds p → Holds (after_waiting_until actor p)
+kept_until IsSuch Holds keeps (due.Later moment) p still holds =
+    keeps.settles (record p { clock = moment }) (keeps.goes_on moment p still holds)
+kept_until IsSuch Holds keeps (due.Slot slot) p still holds = holds
+kept_until IsSuch Holds keeps (due.Job job) p still holds = holds
+kept_until IsSuch Holds keeps due.Never p still holds = holds
+
+-- a play that waits goes on
+still_on : (over owed : Bool) → (not over && owed) ≡ true → over ≡ false
+still_on true owed waiting = absurd (cc waiting)
+still_on false owed waiting = refl
 
 pub kept_waited_once : (IsSuch : Act → Type 0) (Holds : Play → Type 0) → Keeps IsSuch Holds → (p : Play) → Holds p →
     Holds (after_waiting_once p)
-kept_waited_once IsSuch Holds keeps p holds =
-    elim (waits p) as (λ b. Holds (cond b (after_waiting_until (next_actor p) p) p)) [
-      | true ↦ kept_until IsSuch Holds keeps (next_actor p) p holds
-      | false ↦ holds
-    ]
+kept_waited_once IsSuch Holds keeps p holds = by (waits p) refl
+  where
+    by : (waiting : Bool) → waits p ≡ waiting → Holds (cond waiting (after_waiting_until (next_actor p) p) p)
+    by true is = kept_until IsSuch Holds keeps (next_actor p) p (still_on (is_over p) (owes (switch_of p) 1) is) holds
+    by false is = holds
 
 kept_all_waited : (IsSuch : Act → Type 0) (Holds : Play → Type 0) → Keeps IsSuch Holds → (n : ℕ) (p : Play) → Holds p →
     Holds (repeated n after_waiting_once p)
@@ -110,7 +131,7 @@ kept_all_taken IsSuch Holds keeps p holds = kept_taken IsSuch Holds keeps (lengt
 pub kept_followed : (IsSuch : Act → Type 0) (Holds : Play → Type 0) → Keeps IsSuch Holds → (p : Play) → Holds p → Holds (after_following p)
 kept_followed IsSuch Holds keeps p holds =
     kept_all_taken IsSuch Holds keeps (after_waiting (after_settling p))
-    (kept_waited IsSuch Holds keeps (after_settling p) (kept_settled IsSuch Holds keeps p holds))
+    (kept_waited IsSuch Holds keeps (after_settling p) (keeps.settles p holds))
 
 pub kept_acted : (IsSuch : Act → Type 0) (Holds : Play → Type 0) → Keeps IsSuch Holds → (act : Act) → IsSuch act → (p : Play) → Holds p →
     Holds (after_act act p)

@@ -12,3 +12,6 @@ pub mod LawLemmas
 mod DrainLemmas
 mod CloseLemmas
 mod AgreeLemmas
+mod CommandLemmas
+mod PartLemmas
+pub mod CauseLemmas

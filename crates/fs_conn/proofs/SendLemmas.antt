@@ -69,9 +69,9 @@ writing_then out0 out1 out2 unsent0 unsent1 unsent2 old mid new first then = rec
   written = writes_both out0 out1 out2 first.sent then.sent first.written then.written;
 }
 
-fails_later : (place : List ℕ → Play → Type 0) (out0 out1 out2 : Output) (unsent0 unsent1 : List ℕ) (old mid new : Play) →
-    Writing out0 out1 unsent0 unsent1 old mid → Fails place out1 out2 unsent1 mid new → Fails place out0 out2 unsent0 old new
-fails_later place out0 out1 out2 unsent0 unsent1 old mid new first then = record {
+fails_later : (point : List ℕ → Play → Type 0) (out0 out1 out2 : Output) (unsent0 unsent1 : List ℕ) (old mid new : Play) →
+    Writing out0 out1 unsent0 unsent1 old mid → Fails point out1 out2 unsent1 mid new → Fails point out0 out2 unsent0 old new
+fails_later point out0 out1 out2 unsent0 unsent1 old mid new first then = record {
   mid = then.mid;
   unsent = then.unsent;
   writing = writing_then out0 out1 then.mid unsent0 unsent1 then.unsent old mid new first then.writing;
@@ -81,32 +81,32 @@ fails_later place out0 out1 out2 unsent0 unsent1 old mid new first then = record
 
 -- a step, and then one that wrote this
 pub sends_later : {A : Type 0} →
-    (place : List ℕ → Play → Type 0) (out0 out1 out2 : Output) (unsent0 unsent1 unsent2 : List ℕ) (old mid new : Play)
+    (point : List ℕ → Play → Type 0) (out0 out1 out2 : Output) (unsent0 unsent1 unsent2 : List ℕ) (old mid new : Play)
     (result : Result A Stop) →
-    Writing out0 out1 unsent0 unsent1 old mid → Sends place out1 out2 unsent1 unsent2 mid new result →
-    Sends place out0 out2 unsent0 unsent2 old new result
-sends_later place out0 out1 out2 unsent0 unsent1 unsent2 old mid new (Ok done) first then =
+    Writing out0 out1 unsent0 unsent1 old mid → Sends point out1 out2 unsent1 unsent2 mid new result →
+    Sends point out0 out2 unsent0 unsent2 old new result
+sends_later point out0 out1 out2 unsent0 unsent1 unsent2 old mid new (Ok done) first then =
     writing_then out0 out1 out2 unsent0 unsent1 unsent2 old mid new first then
-sends_later place out0 out1 out2 unsent0 unsent1 unsent2 old mid new (Err (Over end)) first then =
+sends_later point out0 out1 out2 unsent0 unsent1 unsent2 old mid new (Err (Over end)) first then =
     writing_then out0 out1 out2 unsent0 unsent1 unsent2 old mid new first then
-sends_later place out0 out1 out2 unsent0 unsent1 unsent2 old mid new (Err OutOfMemory) first then =
+sends_later point out0 out1 out2 unsent0 unsent1 unsent2 old mid new (Err OutOfMemory) first then =
     writing_then out0 out1 out2 unsent0 unsent1 unsent2 old mid new first then
-sends_later place out0 out1 out2 unsent0 unsent1 unsent2 old mid new (Err WriteFault) first then =
-    fails_later place out0 out1 out2 unsent0 unsent1 old mid new first then
+sends_later point out0 out1 out2 unsent0 unsent1 unsent2 old mid new (Err WriteFault) first then =
+    fails_later point out0 out1 out2 unsent0 unsent1 old mid new first then
 
 -- a step that hands out nothing, and stopped
-pub sends_none : (place : List ℕ → Play → Type 0) (out : Output) (unsent : List ℕ) (old new : Play) (stop : Stop) →
-    output_of new ≡ output_of old → stop ≢ WriteFault → Sends {A = Unit {0}} place out out unsent unsent old new (Err stop)
-sends_none place out unsent old new (Over end) same unwritten = writing_none out unsent old new same
-sends_none place out unsent old new OutOfMemory same unwritten = writing_none out unsent old new same
-sends_none place out unsent old new WriteFault same unwritten = absurd (unwritten refl)
+pub sends_none : (point : List ℕ → Play → Type 0) (out : Output) (unsent : List ℕ) (old new : Play) (stop : Stop) →
+    output_of new ≡ output_of old → stop ≢ WriteFault → Sends {A = Unit {0}} point out out unsent unsent old new (Err stop)
+sends_none point out unsent old new (Over end) same unwritten = writing_none out unsent old new same
+sends_none point out unsent old new OutOfMemory same unwritten = writing_none out unsent old new same
+sends_none point out unsent old new WriteFault same unwritten = absurd (unwritten refl)
 
 -- an act that was not entered
-pub sends_entered : (place : List ℕ → Play → Type 0) (out : Output) (unsent : List ℕ) (act : Act) (old new : Play) (stop : Stop) →
-    Enters act old new (Err stop) → Sends {A = Unit {0}} place out out unsent unsent old new (Err stop)
-sends_entered place out unsent act old new (Over end) enters = writing_none out unsent old new (ap output_of enters.0)
-sends_entered place out unsent act old new OutOfMemory enters = writing_none out unsent old new (ap output_of enters)
-sends_entered place out unsent act old new WriteFault enters = absurd enters
+pub sends_entered : (point : List ℕ → Play → Type 0) (out : Output) (unsent : List ℕ) (act : Act) (old new : Play) (stop : Stop) →
+    Enters act old new (Err stop) → Sends {A = Unit {0}} point out out unsent unsent old new (Err stop)
+sends_entered point out unsent act old new (Over end) enters = writing_none out unsent old new (ap output_of enters.0)
+sends_entered point out unsent act old new OutOfMemory enters = writing_none out unsent old new (ap output_of enters)
+sends_entered point out unsent act old new WriteFault enters = absurd enters
 
 -- an act that was refused
 pub none_entered : (act : Act) (old new : Play) (reply : Option Reply) → ((answer : Reply) → reply ≡ Some answer → ⊥) →
@@ -115,13 +115,13 @@ pub none_entered : (act : Act) (old new : Play) (reply : Option Reply) → ((ans
 none_entered act old new None none enters = ap output_of enters.same
 none_entered act old new (Some answer) none enters = absurd (none answer refl)
 
--- a write failed at such a place, which is one of these too
-pub sends_place : (place wider : List ℕ → Play → Type 0) (out0 out1 : Output) (unsent0 unsent1 : List ℕ) (old new : Play) (stop : Stop) →
-    ((bytes : List ℕ) → place bytes new → wider bytes new) → Sends {A = Unit {0}} place out0 out1 unsent0 unsent1 old new (Err stop) →
+-- a write failed at such a point, which is one of these too
+pub sends_point : (point wider : List ℕ → Play → Type 0) (out0 out1 : Output) (unsent0 unsent1 : List ℕ) (old new : Play) (stop : Stop) →
+    ((bytes : List ℕ) → point bytes new → wider bytes new) → Sends {A = Unit {0}} point out0 out1 unsent0 unsent1 old new (Err stop) →
     Sends {A = Unit {0}} wider out0 out1 unsent0 unsent1 old new (Err stop)
-sends_place place wider out0 out1 unsent0 unsent1 old new (Over end) is_wider sends = sends
-sends_place place wider out0 out1 unsent0 unsent1 old new OutOfMemory is_wider sends = sends
-sends_place place wider out0 out1 unsent0 unsent1 old new WriteFault is_wider sends = record {
+sends_point point wider out0 out1 unsent0 unsent1 old new (Over end) is_wider sends = sends
+sends_point point wider out0 out1 unsent0 unsent1 old new OutOfMemory is_wider sends = sends
+sends_point point wider out0 out1 unsent0 unsent1 old new WriteFault is_wider sends = record {
   mid = sends.mid;
   unsent = sends.unsent;
   writing = sends.writing;

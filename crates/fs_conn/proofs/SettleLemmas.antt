@@ -29,7 +29,7 @@ worked_act (due.Job job) act p is = let same : Job job ≡ act = cc in ap (λ a.
 worked_act (due.Later moment) act p is = absurd (cc)
 worked_act due.Never act p is = absurd (cc)
 
-worked_none : (actor : DueActor) (p : Play) → act_of actor ≡ None → after_due_work actor p ≡ p
+pub worked_none : (actor : DueActor) (p : Play) → act_of actor ≡ None → after_due_work actor p ≡ p
 worked_none (due.Slot slot) p is = absurd (cc)
 worked_none (due.Job job) p is = absurd (cc)
 worked_none (due.Later moment) p is = refl

@@ -115,7 +115,7 @@ never_rejects machine clock new block is_reading owes_none refused =
     (command_refused (state_of machine) clock 1 block is_reading owes_none))
   where
     by : (full : Bool) → play_of machine clock
-        ≡ after_judging (refused_where full (refusal.JournalFull (state_of machine).cost (state_of machine).config.settings.journal_limit)
+        ≡ after_judging (refused_where full (refusal.JournalFull (state_of machine).cost (state_of machine).settings.journal_limit)
         None) (entry_of (Command 1 block) (play_of machine clock)) (play_of machine clock) → ⊥
     by true same = absurd (never_over _ (ap (λ (q : Play). q.end) same))
     by false same = longer (play_of machine clock) (entry_of (Command 1 block) (play_of machine clock)) same

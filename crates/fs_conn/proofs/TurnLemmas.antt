@@ -88,7 +88,7 @@ reads_in Ending (Some way.AuthRefused) parts hears none = absurd (cc)
 reads_in Ending (Some way.EndOfInput) parts hears none = absurd (hears refl)
 reads_in Closed parting parts hears none = absurd parts
 
-reads_still : (s : Switch) → AreOwed s → IsHere 1 s → end_by (parting_at s 1) ≡ None → reads (phase_at s 1) ≡ true
+pub reads_still : (s : Switch) → AreOwed s → IsHere 1 s → end_by (parting_at s 1) ≡ None → reads (phase_at s 1) ≡ true
 reads_still s sound here none = by (conn_of s 1) refl
   where
     by : (found : Option Conn) → conn_of s 1 ≡ found → reads (phase_at s 1) ≡ true
@@ -248,7 +248,7 @@ stops_filling config in0 in1 in2 out0 out1 out2 unsent left stream mid new Write
       unsent = unsent;
       written = stands.written;
       stopped = writes;
-      place = before_read (stands_read config in0 in1 out0 out1 unsent stream p stands no_block);
+      point = before_read (stands_read config in0 in1 out0 out1 unsent stream p stands no_block);
     })
 
 -- what was written stands behind a block that was handed out

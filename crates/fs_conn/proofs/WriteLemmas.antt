@@ -79,33 +79,33 @@ stopped_unwritten config out0 out1 input read_failed unsent (Over end) p unwritt
 stopped_unwritten config out0 out1 input read_failed unsent OutOfMemory p unwritten written = written
 stopped_unwritten config out0 out1 input read_failed unsent WriteFault p unwritten written = absurd (unwritten refl)
 
-fails_at : (config : Configuration) (place : List ℕ → Play → Type 0) (out0 out1 out2 : Output) (input : List ℕ) (read_failed : Bool)
+fails_at : (config : Configuration) (point : List ℕ → Play → Type 0) (out0 out1 out2 : Output) (input : List ℕ) (read_failed : Bool)
     (unsent : List ℕ) (p q : Play) →
-    HasWritten config out0 out1 input unsent p → Fails place out1 out2 unsent p q →
-    ((bytes : List ℕ) → place bytes q → WritesAt config input read_failed bytes q) →
+    HasWritten config out0 out1 input unsent p → Fails point out1 out2 unsent p q →
+    ((bytes : List ℕ) → point bytes q → WritesAt config input read_failed bytes q) →
     FailsAt config out0 out2 input read_failed q
-fails_at config place out0 out1 out2 input read_failed unsent p q written fails is_place = record {
+fails_at config point out0 out1 out2 input read_failed unsent p q written fails is_point = record {
   mid = fails.mid;
   unsent = fails.unsent;
   written = written_then config out0 out1 fails.mid input unsent fails.unsent p q written fails.writing;
   stopped = fails.stopped;
-  place = is_place fails.unsent fails.stands;
+  point = is_point fails.unsent fails.stands;
 }
 
 -- in a step that wrote this
-pub stopped_sends : (config : Configuration) (place : List ℕ → Play → Type 0) (out0 out1 out2 : Output) (input : List ℕ)
+pub stopped_sends : (config : Configuration) (point : List ℕ → Play → Type 0) (out0 out1 out2 : Output) (input : List ℕ)
     (read_failed : Bool) (unsent left : List ℕ) (stop : Stop) (p q : Play) →
-    HasWritten config out0 out1 input unsent p → Sends {A = Unit {0}} place out1 out2 unsent left p q (Err stop) →
-    ((bytes : List ℕ) → place bytes q → WritesAt config input read_failed bytes q) →
+    HasWritten config out0 out1 input unsent p → Sends {A = Unit {0}} point out1 out2 unsent left p q (Err stop) →
+    ((bytes : List ℕ) → point bytes q → WritesAt config input read_failed bytes q) →
     StoppedBy config out0 out2 input read_failed left stop q
-stopped_sends config place out0 out1 out2 input read_failed unsent left (Over end) p q written sends is_place =
+stopped_sends config point out0 out1 out2 input read_failed unsent left (Over end) p q written sends is_point =
     written_then config out0 out1 out2 input unsent left p q written sends
-stopped_sends config place out0 out1 out2 input read_failed unsent left OutOfMemory p q written sends is_place =
+stopped_sends config point out0 out1 out2 input read_failed unsent left OutOfMemory p q written sends is_point =
     written_then config out0 out1 out2 input unsent left p q written sends
-stopped_sends config place out0 out1 out2 input read_failed unsent left WriteFault p q written sends is_place =
-    fails_at config place out0 out1 out2 input read_failed unsent p q written sends is_place
+stopped_sends config point out0 out1 out2 input read_failed unsent left WriteFault p q written sends is_point =
+    fails_at config point out0 out1 out2 input read_failed unsent p q written sends is_point
 
--- the places at which a connection that came to its end may be closed
+-- the points at which a connection that came to its end may be closed
 pub may_close : (config : Configuration) (input : List ℕ) (read_failed : Bool) (unsent : List ℕ) (p later : Play) →
     p ≡ after_conversing config input →
     MayClose p unsent later → WritesAt config input read_failed unsent later

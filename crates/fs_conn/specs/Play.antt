@@ -77,7 +77,7 @@ by_refusal entry p = after_judging (refusal_of (switch_of p) entry) entry p
 -- by the room in the journal alone: each entry stands behind the others until the journal is full, which ends all
 abbrev pub by_room : Judge
 by_room entry p =
-    if is_full (switch_of p) then record p { end = Some (JournalFull (switch_of p).cost (switch_of p).config.settings.journal_limit) }
+    if is_full (switch_of p) then record p { end = Some (JournalFull (switch_of p).cost (switch_of p).settings.journal_limit) }
     else record p { journal = p.journal ++ entry ∷ [] }
 
 -- an entry is tried, unless the play is over

@@ -117,20 +117,20 @@ pub record Writing (out0 out1 : Output) (unsent0 unsent1 : List ℕ) (old new : 
   pub split : unsent0 ++ frames ≡ sent ++ unsent1
   pub written : Writes out0 out1 sent
 
--- or what was unsent then was to be written, at such a place, and a write of it failed
-pub record Fails (place : List ℕ → Play → Type 0) (out0 out1 : Output) (unsent0 : List ℕ) (old new : Play) : Type 0 where
+-- or what was unsent then was to be written, at such a point, and a write of it failed
+pub record Fails (point : List ℕ → Play → Type 0) (out0 out1 : Output) (unsent0 : List ℕ) (old new : Play) : Type 0 where
   pub mid : Output
   pub unsent : List ℕ
   pub writing : Writing out0 mid unsent0 unsent old new
   pub stopped : Stopped mid out1 unsent
-  pub stands : place unsent new
+  pub stands : point unsent new
 
 -- what a step wrote
 abbrev pub Sends : {A : Type 0} → (List ℕ → Play → Type 0) → Output → Output → List ℕ → List ℕ → Play → Play → Result A Stop → Type 0
-Sends place out0 out1 unsent0 unsent1 old new (Ok done) = Writing out0 out1 unsent0 unsent1 old new
-Sends place out0 out1 unsent0 unsent1 old new (Err (Over end)) = Writing out0 out1 unsent0 unsent1 old new
-Sends place out0 out1 unsent0 unsent1 old new (Err OutOfMemory) = Writing out0 out1 unsent0 unsent1 old new
-Sends place out0 out1 unsent0 unsent1 old new (Err WriteFault) = Fails place out0 out1 unsent0 old new
+Sends point out0 out1 unsent0 unsent1 old new (Ok done) = Writing out0 out1 unsent0 unsent1 old new
+Sends point out0 out1 unsent0 unsent1 old new (Err (Over end)) = Writing out0 out1 unsent0 unsent1 old new
+Sends point out0 out1 unsent0 unsent1 old new (Err OutOfMemory) = Writing out0 out1 unsent0 unsent1 old new
+Sends point out0 out1 unsent0 unsent1 old new (Err WriteFault) = Fails point out0 out1 unsent0 old new
 
 -- the last entry of a play took a frame at the clock's moment, with which at least 65,536 bytes are unsent
 pub record HasFilled (unsent : List ℕ) (p : Play) : Type 0 where

@@ -82,7 +82,7 @@ pub record FailsAt (config : Configuration) (out0 out1 : Output) (input : List �
   pub unsent : List ℕ
   pub written : HasWritten config out0 mid input unsent p
   pub stopped : Stopped mid out1 unsent
-  pub place : WritesAt config input read_failed unsent p
+  pub point : WritesAt config input read_failed unsent p
 
 -- what was written by a play that stopped
 abbrev pub StoppedBy : Configuration → Output → Output → List ℕ → Bool → List ℕ → Stop → Play → Type 0

@@ -1,11 +1,12 @@
 //! What holds of every play. These functions do nothing: each stands for its contract.
 
-ghost use Rattle.std.specs.Prelude.{◌≡◌, ℕ, ◌≤◌, Bool, false, List, [], ◌∷◌, ◌++◌, Some};
+ghost use Rattle.std.specs.Prelude.{◌≡◌, ℕ, ◌≤◌, Bool, true, false, List, [], ◌∷◌, ◌++◌, Some};
 ghost use Rattle.std.specs.List.{concat};
 ghost use Rattle.fs_doc.specs.Limits.{IsWithin};
 ghost use Rattle.fs_doc.specs.Reading.{Configuration};
 ghost use Rattle.fs_frame.specs.Block.{fault_of};
 ghost use Rattle.fs_frame.specs.Blocks.{blocks_of, rest_of};
+ghost use Rattle.fs_state.specs.declared.conn.Parting.TheVariants as parting;
 ghost use Rattle.fs_state.specs.Switch.{empty};
 ghost use Rattle.fs_machine.specs.declared.entry.Entry.{Entry};
 ghost use Rattle.fs_machine.specs.declared.entry.Act.TheVariants.{Close};
@@ -13,9 +14,10 @@ ghost use Rattle.fs_machine.specs.declared.entry.Closing.TheVariants.{Sent};
 ghost use Rattle.fs_machine.specs.Runs.{IsRunFrom};
 ghost use Rattle.fs_machine.specs.Frames.{commands_of, frames_from};
 ghost use Rattle.fs_conn.specs.declared.end.End.{End};
-ghost use Rattle.fs_conn.specs.Play.{switch_of, bytes_handed, by_room, played_as, played};
+ghost use Rattle.fs_conn.specs.declared.end.End.TheVariants as ends;
+ghost use Rattle.fs_conn.specs.Play.{bytes_handed, by_room, played_as, played};
 ghost use Rattle.fs_conn.specs.Steps.{is_early};
-ghost use Rattle.fs_conn.specs.Ends.{HasCause};
+ghost use Rattle.fs_conn.specs.Ends.{EndsFor, is_by_input, HasCause};
 
 /// The journal of a play is a run of the machine from the empty switch: no entry of it is refused, in particular none
 /// comes where the journal is full.
@@ -24,20 +26,34 @@ pub fn plays_a_run()
         → IsRunFrom (empty config) (played config input read_failed).journal }
 {}
 
-/// The commands in the journal of a play are the first blocks of its input, each once and in their order.
+/// The commands in the journal of a play are the first blocks of its input, each once and in their order. They are all
+/// of its blocks where the input ended, could not be read on or went on with a bad block. Where the connection left by
+/// `exit`, or by a password that was refused, that is the last of them.
 pub fn enters_commands_once()
-    ensures { (config : Configuration) (input : List ℕ) (read_failed : Bool) → (more : List (List ℕ))
+    ensures first { (config : Configuration) (input : List ℕ) (read_failed : Bool) → (more : List (List ℕ))
         × (blocks_of input ≡ commands_of 1 (played config input read_failed).journal ++ more) }
+    ensures all { (config : Configuration) (input : List ℕ) (read_failed : Bool) (end : End)
+        → IsWithin config → (played config input read_failed).end ≡ Some end → is_by_input end ≡ true
+        → commands_of 1 (played config input read_failed).journal ≡ blocks_of input }
+    ensures exit { (config : Configuration) (input : List ℕ) (read_failed : Bool)
+        → (played config input read_failed).end ≡ Some ends.Exit
+        → EndsFor parting.Exit config.settings.password (commands_of 1 (played config input read_failed).journal) }
+    ensures refused { (config : Configuration) (input : List ℕ) (read_failed : Bool)
+        → (played config input read_failed).end ≡ Some ends.AuthRefused
+        → EndsFor parting.AuthRefused config.settings.password
+        (commands_of 1 (played config input read_failed).journal) }
 {}
 
-/// A play comes to an end, and each end has its cause. So a play ends by a full journal only where no further entry
-/// is accepted behind what its journal costs.
+/// A play comes to an end, and each end has its cause. So a play ends by `exit` only where that is its last command,
+/// by which its connection parted; by a full journal only where no further entry is accepted behind what its journal
+/// costs; and as one that ran away only where somebody still has something to do at the moment of the last 100,000
+/// entries, all of which are work.
 pub fn ends_for_a_cause()
     ensures ends { (config : Configuration) (input : List ℕ) (read_failed : Bool)
         → (end : End) × ((played config input read_failed).end ≡ Some end) }
     ensures cause { (config : Configuration) (input : List ℕ) (read_failed : Bool) (end : End)
         → (played config input read_failed).end ≡ Some end
-        → HasCause end (switch_of (played config input read_failed)) (fault_of (rest_of input)) read_failed }
+        → HasCause end (played config input read_failed) (fault_of (rest_of input)) read_failed }
 {}
 
 /// The bytes that a play hands out are those of the frames that its journal gives the connection, in their order: all

@@ -6,7 +6,7 @@ use Rattle.fs_conn.specs.Play.{after_trying_act, after_input_end}
 use Rattle.fs_conn.specs.Steps.{play_of, HasFilled, MayClose}
 use Rattle.fs_conn.proofs.PlayLemmas.{goes_entered}
 use Rattle.fs_conn.proofs.StepLemmas.{halts_on, works_enters}
-use Rattle.fs_conn.proofs.SendLemmas.{writing_none, writing_then, writing_cleared, sends_later, sends_entered, sends_place}
+use Rattle.fs_conn.proofs.SendLemmas.{writing_none, writing_then, writing_cleared, sends_later, sends_entered, sends_point}
 use Rattle.fs_conn.proofs.SendLemmas.{sends_before_close, halts_before_close}
 use Rattle.fs_conn.proofs.ending.finish.Goals as goal
 
@@ -22,7 +22,7 @@ returns-in_err-end_input-clause-sends g c =
     let p = err_from_is_err_and c.from_residual.result c.from_residual.ensures.1 in
     let old = play_of c.args.machine.now c.args.clock in
     rw (p.1, p.2)
-    (sends_place HasFilled (MayClose old) _ _ _ _ old (play_of c.end_input.new.machine c.args.clock) c.in_err-end_input.field-0.0
+    (sends_point HasFilled (MayClose old) _ _ _ _ old (play_of c.end_input.new.machine c.args.clock) c.in_err-end_input.field-0.0
     (λ bytes filled. inl filled) c.in_err-end_input.ensures.sends)
 
 pub returns-in_err-write-clause-does : goal.returns-in_err-write-clause-does

@@ -1,4 +1,5 @@
-use Rattle.fs_conn.proofs.LawLemmas.{ends_played, cause_played}
+use Rattle.fs_conn.proofs.LawLemmas.{ends_played}
+use Rattle.fs_conn.proofs.CauseLemmas.{cause_played}
 use Rattle.fs_conn.proofs.laws.ends_for_a_cause.Goals as goal
 
 pub returns-clause-ends : goal.returns-clause-ends

@@ -14,22 +14,24 @@ use Rattle.fs_frame.specs.Block.{fault_of}
 use Rattle.fs_frame.specs.declared.fault.Fault.{Fault}
 use Rattle.fs_frame.specs.declared.fault.Fault.TheVariants as faults
 use Rattle.fs_frame.specs.Blocks.{rest_of}
+use Rattle.fs_doc.specs.declared.settings.Settings.{Settings}
 use Rattle.fs_doc.specs.Reading.{Configuration, config_of}
 use Rattle.fs_doc.specs.declared.fault.DocKind.TheVariants.{Memory}
 use Rattle.fs_doc.specs.declared.fault.DocFault.{DocFault}
 use Rattle.fs_plan.specs.Building.{IsPlanRefusal, sizes_after}
 use Rattle.fs_plan.specs.declared.fault.PlanFault.{PlanFault}
 use Rattle.fs_plan.specs.declared.fault.PlanFault.TheVariants.{PatternRefused, PatternTooLarge, Memory as NoMemory}
-use Rattle.fs_state.specs.Switch.{Switch, empty}
+use Rattle.fs_state.specs.Switch.{empty}
 use Rattle.fs_machine.specs.declared.entry.Entry.{Entry}
 use Rattle.fs_machine.specs.Runs.{run_from}
 use Rattle.fs_machine.specs.Frames.{handed_from}
 use Rattle.fs_conn.specs.declared.end.End.{End}
 use Rattle.fs_conn.specs.declared.end.End.TheVariants as ends
-use Rattle.fs_conn.specs.Play.{switch_of, bytes_handed, end_for, played}
+use Rattle.fs_conn.specs.Play.{Play as PlaySoFar, switch_of, bytes_handed, end_for, played}
 use Rattle.fs_conn.specs.Turns.{HasRead, Plays, Finishes, Breaks, all_written, then_failed, failed_before}
 use Rattle.fs_conn.specs.Ends.{IsFullAt, HasCause}
-use Rattle.fs_conn.proofs.LawLemmas.{config_kept, ends_played, cause_played, bytes_begin}
+use Rattle.fs_conn.proofs.LawLemmas.{settings_kept, ends_played, bytes_begin}
+use Rattle.fs_conn.proofs.CauseLemmas.{cause_played}
 use Rattle.fs_top.specs.Told.{Told, Asked, Check, Hunt, Play, file_asked, told_words, told_file, told_read, told_built, told_asked}
 use Rattle.fs_top.specs.Told.{told_play, told_text, refused, is_eof, line_of_end, status_of_end, usage_line, cannot_read_line, fault_line}
 use Rattle.fs_top.specs.Told.{pattern_line}
@@ -433,47 +435,47 @@ status_ended c input read_failed status is =
     (ended.0, ended.1, sym (ap (λ (last : Option End). unwrap_or (option_map status_of_end last) 0) ended.1) ∙ is)
 
 -- the count that a status of 4 shows
-unreadable_end : (end : End) (s : Switch) (fault : Option Fault) (read_failed : Bool) → status_of_end end ≡ 4 →
-    HasCause end s fault read_failed → read_failed ≡ true
-unreadable_end ends.Exit s fault read_failed four cause = absurd (cc)
-unreadable_end ends.Eof s fault read_failed four cause = absurd (cc)
-unreadable_end ends.AuthRefused s fault read_failed four cause = absurd (cc)
-unreadable_end ends.ReadFault s fault read_failed four cause = cause.1
-unreadable_end ends.WriteFault s fault read_failed four cause = absurd cause
-unreadable_end (ends.TooLong len) s fault read_failed four cause = absurd (cc)
-unreadable_end ends.BadLength s fault read_failed four cause = absurd (cc)
-unreadable_end (ends.JournalFull cost limit) s fault read_failed four cause = absurd (cc)
-unreadable_end ends.Memory s fault read_failed four cause = absurd cause
-unreadable_end (ends.Runaway count) s fault read_failed four cause = absurd (cc)
+unreadable_end : (end : End) (p : PlaySoFar) (fault : Option Fault) (read_failed : Bool) → status_of_end end ≡ 4 →
+    HasCause end p fault read_failed → read_failed ≡ true
+unreadable_end ends.Exit p fault read_failed four cause = absurd (cc)
+unreadable_end ends.Eof p fault read_failed four cause = absurd (cc)
+unreadable_end ends.AuthRefused p fault read_failed four cause = absurd (cc)
+unreadable_end ends.ReadFault p fault read_failed four cause = cause.1
+unreadable_end ends.WriteFault p fault read_failed four cause = absurd cause
+unreadable_end (ends.TooLong len) p fault read_failed four cause = absurd (cc)
+unreadable_end ends.BadLength p fault read_failed four cause = absurd (cc)
+unreadable_end (ends.JournalFull cost limit) p fault read_failed four cause = absurd (cc)
+unreadable_end ends.Memory p fault read_failed four cause = absurd cause
+unreadable_end (ends.Runaway count) p fault read_failed four cause = absurd (cc)
 
 unreadable_play : (c : Configuration) (counts0 counts1 : LoadCounts) (in0 in1 : Input) (input : List ℕ) (read_failed : Bool) →
     HasRead in0 in1 input read_failed → (tells c input read_failed).status ≡ 4 → CountRose counts0 counts1 in0 in1
 unreadable_play c counts0 counts1 in0 in1 input read_failed has_read four =
     let ended = status_ended c input read_failed 4 four in
     let failed =
-    unreadable_end ended.0 (switch_of (played c input read_failed)) (fault_of (rest_of input)) read_failed ended.2
+    unreadable_end ended.0 (played c input read_failed) (fault_of (rest_of input)) read_failed ended.2
     (cause_played c input read_failed ended.0 ended.1) in
     inr (inr (has_read.faults ∙ ap (λ b. cond b (raised in0.faults) in0.faults) failed))
 
 -- the bad block that a status of 10 shows
-bad_block_end : (end : End) (s : Switch) (fault : Option Fault) (read_failed : Bool) → status_of_end end ≡ 10 →
-    HasCause end s fault read_failed → (bad : Fault) × (fault ≡ Some bad) × (end ≡ end_for bad)
-bad_block_end ends.Exit s fault read_failed ten cause = absurd (cc)
-bad_block_end ends.Eof s fault read_failed ten cause = absurd (cc)
-bad_block_end ends.AuthRefused s fault read_failed ten cause = absurd (cc)
-bad_block_end ends.ReadFault s fault read_failed ten cause = absurd (cc)
-bad_block_end ends.WriteFault s fault read_failed ten cause = absurd cause
-bad_block_end (ends.TooLong len) s fault read_failed ten cause = (faults.TooLong len, cause, refl)
-bad_block_end ends.BadLength s fault read_failed ten cause = (faults.BadLength, cause, refl)
-bad_block_end (ends.JournalFull cost limit) s fault read_failed ten cause = absurd (cc)
-bad_block_end ends.Memory s fault read_failed ten cause = absurd cause
-bad_block_end (ends.Runaway count) s fault read_failed ten cause = absurd (cc)
+bad_block_end : (end : End) (p : PlaySoFar) (fault : Option Fault) (read_failed : Bool) → status_of_end end ≡ 10 →
+    HasCause end p fault read_failed → (bad : Fault) × (fault ≡ Some bad) × (end ≡ end_for bad)
+bad_block_end ends.Exit p fault read_failed ten cause = absurd (cc)
+bad_block_end ends.Eof p fault read_failed ten cause = absurd (cc)
+bad_block_end ends.AuthRefused p fault read_failed ten cause = absurd (cc)
+bad_block_end ends.ReadFault p fault read_failed ten cause = absurd (cc)
+bad_block_end ends.WriteFault p fault read_failed ten cause = absurd cause
+bad_block_end (ends.TooLong len) p fault read_failed ten cause = (faults.TooLong len, cause, refl)
+bad_block_end ends.BadLength p fault read_failed ten cause = (faults.BadLength, cause, refl)
+bad_block_end (ends.JournalFull cost limit) p fault read_failed ten cause = absurd (cc)
+bad_block_end ends.Memory p fault read_failed ten cause = absurd cause
+bad_block_end (ends.Runaway count) p fault read_failed ten cause = absurd (cc)
 
 bad_block_play : (c : Configuration) (in0 in1 : Input) (input : List ℕ) (read_failed : Bool) → HasRead in0 in1 input read_failed →
     (tells c input read_failed).status ≡ 10 → MeetsBadBlock c in0 in1
 bad_block_play c in0 in1 input read_failed has_read ten =
     let ended = status_ended c input read_failed 10 ten in
-    let is = bad_block_end ended.0 (switch_of (played c input read_failed)) (fault_of (rest_of input)) read_failed ended.2
+    let is = bad_block_end ended.0 (played c input read_failed) (fault_of (rest_of input)) read_failed ended.2
     (cause_played c input read_failed ended.0 ended.1) in record {
       input = input;
       read_failed = read_failed;
@@ -484,27 +486,27 @@ bad_block_play c in0 in1 input read_failed has_read ten =
     }
 
 -- the journal that a status of 8 shows
-abbrev IsFull : End → Switch → Type 0
-IsFull end s = (cost : ℕ) × (limit : ℕ) × (end ≡ ends.JournalFull cost limit) × IsFullAt cost limit s
+abbrev IsFull : End → PlaySoFar → Type 0
+IsFull end p = (cost : ℕ) × (limit : ℕ) × (end ≡ ends.JournalFull cost limit) × IsFullAt cost limit (switch_of p)
 
-full_end : (end : End) (s : Switch) (fault : Option Fault) (read_failed : Bool) → status_of_end end ≡ 8 → HasCause end s fault read_failed →
-    IsFull end s
-full_end ends.Exit s fault read_failed eight cause = absurd (cc)
-full_end ends.Eof s fault read_failed eight cause = absurd (cc)
-full_end ends.AuthRefused s fault read_failed eight cause = absurd (cc)
-full_end ends.ReadFault s fault read_failed eight cause = absurd (cc)
-full_end ends.WriteFault s fault read_failed eight cause = absurd cause
-full_end (ends.TooLong len) s fault read_failed eight cause = absurd (cc)
-full_end ends.BadLength s fault read_failed eight cause = absurd (cc)
-full_end (ends.JournalFull cost limit) s fault read_failed eight cause = (cost, limit, refl, cause)
-full_end ends.Memory s fault read_failed eight cause = absurd cause
-full_end (ends.Runaway count) s fault read_failed eight cause = absurd (cc)
+full_end : (end : End) (p : PlaySoFar) (fault : Option Fault) (read_failed : Bool) → status_of_end end ≡ 8 → HasCause end p fault read_failed →
+    IsFull end p
+full_end ends.Exit p fault read_failed eight cause = absurd (cc)
+full_end ends.Eof p fault read_failed eight cause = absurd (cc)
+full_end ends.AuthRefused p fault read_failed eight cause = absurd (cc)
+full_end ends.ReadFault p fault read_failed eight cause = absurd (cc)
+full_end ends.WriteFault p fault read_failed eight cause = absurd cause
+full_end (ends.TooLong len) p fault read_failed eight cause = absurd (cc)
+full_end ends.BadLength p fault read_failed eight cause = absurd (cc)
+full_end (ends.JournalFull cost limit) p fault read_failed eight cause = (cost, limit, refl, cause)
+full_end ends.Memory p fault read_failed eight cause = absurd cause
+full_end (ends.Runaway count) p fault read_failed eight cause = absurd (cc)
 
 full_play : (c : Configuration) (in0 in1 : Input) (input : List ℕ) (read_failed : Bool) → HasRead in0 in1 input read_failed →
     (tells c input read_failed).status ≡ 8 → FillsJournal c in0 in1
 full_play c in0 in1 input read_failed has_read eight =
     let ended = status_ended c input read_failed 8 eight in
-    let is = full_end ended.0 (switch_of (played c input read_failed)) (fault_of (rest_of input)) read_failed ended.2
+    let is = full_end ended.0 (played c input read_failed) (fault_of (rest_of input)) read_failed ended.2
     (cause_played c input read_failed ended.0 ended.1) in record {
       input = input;
       read_failed = read_failed;
@@ -513,22 +515,22 @@ full_play c in0 in1 input read_failed has_read eight =
       limit_told = is.1;
       end_is = ended.1 ∙ ap Some is.2;
       full = is.3;
-      limit_is = is.3.limit_is ∙ ap (λ (k : Configuration). k.settings.journal_limit) (config_kept c input read_failed);
+      limit_is = is.3.limit_is ∙ ap (λ (settings : Settings). settings.journal_limit) (settings_kept c input read_failed);
     }
 
 -- the end that a status of 9 shows
-away_end : (end : End) (s : Switch) (fault : Option Fault) (read_failed : Bool) → status_of_end end ≡ 9 → HasCause end s fault read_failed →
+away_end : (end : End) (p : PlaySoFar) (fault : Option Fault) (read_failed : Bool) → status_of_end end ≡ 9 → HasCause end p fault read_failed →
     end ≡ ends.Runaway 100000
-away_end ends.Exit s fault read_failed nine cause = absurd (cc)
-away_end ends.Eof s fault read_failed nine cause = absurd (cc)
-away_end ends.AuthRefused s fault read_failed nine cause = absurd (cc)
-away_end ends.ReadFault s fault read_failed nine cause = absurd (cc)
-away_end ends.WriteFault s fault read_failed nine cause = absurd cause
-away_end (ends.TooLong len) s fault read_failed nine cause = absurd (cc)
-away_end ends.BadLength s fault read_failed nine cause = absurd (cc)
-away_end (ends.JournalFull cost limit) s fault read_failed nine cause = absurd (cc)
-away_end ends.Memory s fault read_failed nine cause = absurd cause
-away_end (ends.Runaway count) s fault read_failed nine cause = ap ends.Runaway cause
+away_end ends.Exit p fault read_failed nine cause = absurd (cc)
+away_end ends.Eof p fault read_failed nine cause = absurd (cc)
+away_end ends.AuthRefused p fault read_failed nine cause = absurd (cc)
+away_end ends.ReadFault p fault read_failed nine cause = absurd (cc)
+away_end ends.WriteFault p fault read_failed nine cause = absurd cause
+away_end (ends.TooLong len) p fault read_failed nine cause = absurd (cc)
+away_end ends.BadLength p fault read_failed nine cause = absurd (cc)
+away_end (ends.JournalFull cost limit) p fault read_failed nine cause = absurd (cc)
+away_end ends.Memory p fault read_failed nine cause = absurd cause
+away_end (ends.Runaway count) p fault read_failed nine cause = ap ends.Runaway cause.many
 
 away_play : (c : Configuration) (in0 in1 : Input) (input : List ℕ) (read_failed : Bool) → HasRead in0 in1 input read_failed →
     (tells c input read_failed).status ≡ 9 → RunsAway c in0 in1
@@ -538,7 +540,7 @@ away_play c in0 in1 input read_failed has_read nine =
       read_failed = read_failed;
       has_read = has_read;
       end_is =
-          ended.1 ∙ ap Some (away_end ended.0 (switch_of (played c input read_failed)) (fault_of (rest_of input)) read_failed ended.2
+          ended.1 ∙ ap Some (away_end ended.0 (played c input read_failed) (fault_of (rest_of input)) read_failed ended.2
           (cause_played c input read_failed ended.0 ended.1));
     }
 
@@ -643,23 +645,23 @@ cause_bad_block asked next_load counts0 counts1 sizes0 sizes1 in0 in1 out0 out1 
     (p.c, p.has, bad_block_play p.c in0 in1 runs.answers.input runs.answers.read_failed runs.answers.has_read ended)
 
 -- no play is told to end by a write that failed
-unwritten_end : (end : End) (s : Switch) (fault : Option Fault) (read_failed : Bool) → status_of_end end ≡ 5 →
-    HasCause end s fault read_failed → ⊥
-unwritten_end ends.Exit s fault read_failed five cause = cc
-unwritten_end ends.Eof s fault read_failed five cause = cc
-unwritten_end ends.AuthRefused s fault read_failed five cause = cc
-unwritten_end ends.ReadFault s fault read_failed five cause = cc
-unwritten_end ends.WriteFault s fault read_failed five cause = cause
-unwritten_end (ends.TooLong len) s fault read_failed five cause = cc
-unwritten_end ends.BadLength s fault read_failed five cause = cc
-unwritten_end (ends.JournalFull cost limit) s fault read_failed five cause = cc
-unwritten_end ends.Memory s fault read_failed five cause = cause
-unwritten_end (ends.Runaway count) s fault read_failed five cause = cc
+unwritten_end : (end : End) (p : PlaySoFar) (fault : Option Fault) (read_failed : Bool) → status_of_end end ≡ 5 →
+    HasCause end p fault read_failed → ⊥
+unwritten_end ends.Exit p fault read_failed five cause = cc
+unwritten_end ends.Eof p fault read_failed five cause = cc
+unwritten_end ends.AuthRefused p fault read_failed five cause = cc
+unwritten_end ends.ReadFault p fault read_failed five cause = cc
+unwritten_end ends.WriteFault p fault read_failed five cause = cause
+unwritten_end (ends.TooLong len) p fault read_failed five cause = cc
+unwritten_end ends.BadLength p fault read_failed five cause = cc
+unwritten_end (ends.JournalFull cost limit) p fault read_failed five cause = cc
+unwritten_end ends.Memory p fault read_failed five cause = cause
+unwritten_end (ends.Runaway count) p fault read_failed five cause = cc
 
 unwritten_play : (c : Configuration) (input : List ℕ) (read_failed : Bool) → (tells c input read_failed).status ≡ 5 → ⊥
 unwritten_play c input read_failed five =
     let ended = status_ended c input read_failed 5 five in
-    unwritten_end ended.0 (switch_of (played c input read_failed)) (fault_of (rest_of input)) read_failed ended.2
+    unwritten_end ended.0 (played c input read_failed) (fault_of (rest_of input)) read_failed ended.2
     (cause_played c input read_failed ended.0 ended.1)
 
 -- so a status of 5 comes of a write

@@ -1,34 +1,38 @@
 //! Applications, as their names and arguments are read.
 
-use crate::answer::Answer;
-use crate::words::{bytes_of, cut};
+use case_desk::{Answer, cut};
 use fs_app::Application;
 use fs_chan::{Assignment, Target3};
-use fs_text::Memory;
-use std::alloc::Global;
 
 /// Answers `app NAME ARGUMENT` with the application and its parts.
-pub(crate) fn tell_app(alloc: Global, rest: &str, answer: &mut Answer) -> Result<(), Memory> {
+pub(crate) fn tell_app(rest: &str, answer: &mut Answer) {
     let (name, argument) = cut(rest);
-    let name = bytes_of(alloc, name)?;
-    let argument = bytes_of(alloc, argument)?;
-    tell_application(&Application::of(alloc, &name, &argument)?, answer);
-    Ok(())
+    let name = answer.bytes_of(name);
+    let argument = answer.bytes_of(argument);
+    let made = Application::of(answer.alloc(), &name, &argument);
+    if let Ok(application) = &made {
+        tell_application(application, answer);
+    }
+    answer.note(made);
 }
 
 fn tell_application(application: &Application, answer: &mut Answer) {
     match application {
-        Application::Answer => answer.named("Answer", &[]),
-        Application::Assign { how, argument } => answer.named(assignment_name(*how), &[argument]),
-        Application::Eval => answer.named("Eval", &[]),
-        Application::Sleep { milliseconds } => {
-            answer.told(format_args!("Sleep [{milliseconds}]"));
+        Application::Answer => answer.line("Answer"),
+        Application::Assign { how, argument } => answer.named(
+            assignment_name(*how),
+            argument.as_bytes(),
+        ),
+        Application::Eval => answer.line("Eval"),
+        Application::Sleep { milliseconds } => answer.told(format_args!("Sleep [{milliseconds}]")),
+        Application::Hangup { cause } => answer.pair("Hangup", cause.name().as_bytes()),
+        Application::Bridge { dial } => answer.named("Bridge", dial.as_bytes()),
+        Application::Park => answer.line("Park"),
+        Application::Transfer { to } => {
+            answer.named("Transfer", to.exten.as_bytes());
+            tell_where(to, answer);
         }
-        Application::Hangup { cause } => answer.line(&[b"Hangup ", cause.name().as_bytes()]),
-        Application::Bridge { dial } => answer.named("Bridge", &[dial]),
-        Application::Park => answer.named("Park", &[]),
-        Application::Transfer { to } => tell_target(to, answer),
-        Application::Unknown => answer.named("Unknown", &[]),
+        Application::Unknown => answer.line("Unknown"),
     }
 }
 
@@ -41,13 +45,12 @@ fn assignment_name(how: Assignment) -> &'static str {
     }
 }
 
-// Adds the extension, and the dialplan and the context where they are named.
-fn tell_target(to: &Target3, answer: &mut Answer) {
-    answer.named("Transfer", &[&to.exten]);
+/// Adds the dialplan and the context of a target where they are named.
+pub(crate) fn tell_where(to: &Target3, answer: &mut Answer) {
     if let Some(dialplan) = &to.dialplan {
-        answer.named("dialplan", &[dialplan]);
+        answer.named("dialplan", dialplan.as_bytes());
     }
     if let Some(context) = &to.context {
-        answer.named("context", &[context]);
+        answer.named("context", context.as_bytes());
     }
 }

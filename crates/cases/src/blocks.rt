@@ -1,60 +1,48 @@
 //! Commands, as their blocks are read.
 
-use crate::answer::Answer;
-use crate::words::bytes_of;
+use case_desk::Answer;
 use fs_cmd::{Command, Form, Message};
 use fs_frame::Block;
-use fs_text::Memory;
-use std::alloc::Global;
 
 /// Answers `block TEXT` with the command that the block is, and its parts.
-pub(crate) fn tell_block(alloc: Global, text: &str, answer: &mut Answer) -> Result<(), Memory> {
-    let bytes = bytes_of(alloc, text)?;
+pub(crate) fn tell_block(text: &str, answer: &mut Answer) {
+    let bytes = answer.bytes_of(text);
     tell_command(Command::of(&Block::of(&bytes)), answer);
-    Ok(())
 }
 
 fn tell_command(command: Command<'_>, answer: &mut Answer) {
     match command {
-        Command::Auth { password } => answer.lent("Auth", &[password]),
-        Command::Exit => answer.lent("Exit", &[]),
-        Command::Api { text } => answer.lent("Api", &[text]),
-        Command::Bgapi { text, job: None } => answer.lent("Bgapi", &[text]),
-        Command::Bgapi {
-            text,
-            job: Some(job),
-        } => answer.lent("Bgapi", &[text, job]),
-        Command::Event { form, names } => answer.lent(event_name(form), &[names]),
-        Command::Nixevent { names } => answer.lent("Nixevent", &[names]),
-        Command::Noevents => answer.lent("Noevents", &[]),
-        Command::Filter { header, value } => answer.lent("Filter", &[header, value]),
-        Command::FilterDelete {
-            header,
-            value: None,
-        } => answer.lent("FilterDelete", &[header]),
-        Command::FilterDelete {
-            header,
-            value: Some(value),
-        } => {
-            answer.lent("FilterDelete", &[header, value]);
-        }
-        Command::BadFilter => answer.lent("BadFilter", &[]),
-        Command::Sendmsg {
-            uuid: None,
-            message,
-        } => {
-            answer.lent("Sendmsg", &[]);
+        Command::Auth { password } => answer.named("Auth", password),
+        Command::Exit => answer.line("Exit"),
+        Command::Api { text } => answer.named("Api", text),
+        Command::Bgapi { text, job } => tell_two("Bgapi", text, job, answer),
+        Command::Event { form, names } => answer.named(event_name(form), names),
+        Command::Nixevent { names } => answer.named("Nixevent", names),
+        Command::Noevents => answer.line("Noevents"),
+        Command::Filter { header, value } => answer.named_two("Filter", header, value),
+        Command::FilterDelete { header, value } => tell_two("FilterDelete", header, value, answer),
+        Command::BadFilter => answer.line("BadFilter"),
+        Command::Sendmsg { uuid, message } => {
+            tell_sendmsg(uuid, answer);
             tell_message(message, answer);
         }
-        Command::Sendmsg {
-            uuid: Some(uuid),
-            message,
-        } => {
-            answer.lent("Sendmsg", &[uuid]);
-            tell_message(message, answer);
-        }
-        Command::Connect => answer.lent("Connect", &[]),
-        Command::Unknown => answer.lent("Unknown", &[]),
+        Command::Connect => answer.line("Connect"),
+        Command::Unknown => answer.line("Unknown"),
+    }
+}
+
+// Adds a command with its text, and with another one where it is there.
+fn tell_two(name: &str, text: &[u8], other: Option<&[u8]>, answer: &mut Answer) {
+    match other {
+        Some(other) => answer.named_two(name, text, other),
+        None => answer.named(name, text),
+    }
+}
+
+fn tell_sendmsg(uuid: Option<&[u8]>, answer: &mut Answer) {
+    match uuid {
+        Some(uuid) => answer.named("Sendmsg", uuid),
+        None => answer.line("Sendmsg"),
     }
 }
 
@@ -64,11 +52,9 @@ fn tell_message(message: Message<'_>, answer: &mut Answer) {
         Message::Execute {
             application,
             argument,
-        } => {
-            answer.lent("Execute", &[application, argument]);
-        }
-        Message::Hangup { cause } => answer.lent("Hangup", &[cause.name().as_bytes()]),
-        Message::BadCall => answer.lent("BadCall", &[]),
+        } => answer.named_two("Execute", application, argument),
+        Message::Hangup { cause } => answer.named("Hangup", cause.name().as_bytes()),
+        Message::BadCall => answer.line("BadCall"),
     }
 }
 

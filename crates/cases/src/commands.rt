@@ -1,50 +1,67 @@
 //! Api commands, as their texts are read.
 
-use crate::answer::Answer;
-use crate::words::bytes_of;
+use crate::applications::tell_where;
+use case_desk::Answer;
 use fs_api::Api;
-use fs_orig::Winner;
-use fs_text::{Memory, Txt};
-use std::alloc::Global;
+use fs_orig::{Route, Winner};
+use fs_text::{Cause, Memory};
 
 /// Answers `api TEXT` with the command and its parts.
-pub(crate) fn tell_api(alloc: Global, text: &str, answer: &mut Answer) -> Result<(), Memory> {
-    let text = bytes_of(alloc, text)?;
-    tell_command(&Api::of(alloc, &text)?, answer)
+pub(crate) fn tell_api(text: &str, answer: &mut Answer) {
+    let text = answer.bytes_of(text);
+    let made = Api::of(answer.alloc(), &text);
+    tell_made(made, answer);
 }
 
 /// Answers `expanded TEXT`, where `expand` gave the text, in the same way.
-pub(crate) fn tell_expanded(alloc: Global, text: &str, answer: &mut Answer) -> Result<(), Memory> {
-    let text = bytes_of(alloc, text)?;
-    tell_command(&Api::of_expanded(alloc, &text)?, answer)
+pub(crate) fn tell_expanded(text: &str, answer: &mut Answer) {
+    let text = answer.bytes_of(text);
+    let made = Api::of_expanded(answer.alloc(), &text);
+    tell_made(made, answer);
 }
 
-fn tell_command(api: &Api, answer: &mut Answer) -> Result<(), Memory> {
+fn tell_made(made: Result<Api, Memory>, answer: &mut Answer) {
+    if let Ok(api) = &made {
+        tell_command(api, answer);
+    }
+    answer.note(made);
+}
+
+fn tell_command(api: &Api, answer: &mut Answer) {
     match api {
-        Api::Echo { text } => answer.named("Echo", &[text]),
-        Api::Expand { text } => answer.named("Expand", &[text]),
-        Api::GlobalGetvar { name: None } => answer.named("GlobalGetvar", &[]),
-        Api::GlobalGetvar { name: Some(name) } => answer.named("GlobalGetvar", &[name]),
-        Api::GlobalSetvar { name, value } => answer.named("GlobalSetvar", &[name, value]),
-        Api::Msleep { milliseconds } => {
-            answer.told(format_args!("Msleep [{milliseconds}]"));
-        }
-        Api::UuidBridge { uuid, other } => answer.named("UuidBridge", &[uuid, other]),
-        Api::UuidExists { uuid } => answer.named("UuidExists", &[uuid]),
+        Api::Echo { text } => answer.named("Echo", text.as_bytes()),
+        Api::Expand { text } => answer.named("Expand", text.as_bytes()),
+        Api::GlobalGetvar { name: None } => answer.line("GlobalGetvar"),
+        Api::GlobalGetvar { name: Some(name) } => answer.named("GlobalGetvar", name.as_bytes()),
+        Api::GlobalSetvar { name, value } => answer.named_two(
+            "GlobalSetvar",
+            name.as_bytes(),
+            value.as_bytes(),
+        ),
+        Api::Msleep { milliseconds } => answer.told(format_args!("Msleep [{milliseconds}]")),
+        Api::UuidBridge { uuid, other } => answer.named_two(
+            "UuidBridge",
+            uuid.as_bytes(),
+            other.as_bytes(),
+        ),
+        Api::UuidExists { uuid } => answer.named("UuidExists", uuid.as_bytes()),
         Api::UuidKill { uuid, cause } => {
-            answer.named("UuidKill", &[uuid]);
-            answer.line(&[b"cause ", cause.name().as_bytes()]);
+            answer.named("UuidKill", uuid.as_bytes());
+            tell_cause(*cause, answer);
         }
-        Api::UuidGetvar { uuid, name } => answer.named("UuidGetvar", &[uuid, name]),
-        Api::UuidPark { uuid } => answer.named("UuidPark", &[uuid]),
+        Api::UuidGetvar { uuid, name } => answer.named_two(
+            "UuidGetvar",
+            uuid.as_bytes(),
+            name.as_bytes(),
+        ),
+        Api::UuidPark { uuid } => answer.named("UuidPark", uuid.as_bytes()),
         Api::UuidTransfer { uuid, to } => {
-            answer.named("UuidTransfer", &[uuid, &to.exten]);
-            tell_word("dialplan", to.dialplan.as_ref(), answer);
-            tell_word("context", to.context.as_ref(), answer);
+            answer.named_two("UuidTransfer", uuid.as_bytes(), to.exten.as_bytes());
+            tell_where(to, answer);
         }
         Api::Hupall { cause } => {
-            answer.named("Hupall", &[]);
-            answer.line(&[b"cause ", cause.name().as_bytes()]);
+            answer.line("Hupall");
+            tell_cause(*cause, answer);
         }
         Api::Originate {
             url,
@@ -53,21 +70,22 @@ fn tell_command(api: &Api, answer: &mut Answer) -> Result<(), Memory> {
             cid_number,
             timeout,
         } => {
-            answer.named("Originate", &[url, cid_name, cid_number]);
+            answer.named_three(
+                "Originate",
+                url.as_bytes(),
+                cid_name.as_bytes(),
+                cid_number.as_bytes(),
+            );
             tell_timeout(*timeout, answer);
-            return tell_winner(winner, answer);
+            tell_winner(winner, answer);
         }
         Api::Usage(which) => answer.told(format_args!("Usage {which:?}")),
-        Api::Unknown(name) => answer.named("Unknown", &[name]),
+        Api::Unknown(name) => answer.named("Unknown", name.as_bytes()),
     }
-    Ok(())
 }
 
-// Adds a word, where it is given.
-fn tell_word(name: &str, word: Option<&Txt>, answer: &mut Answer) {
-    if let Some(word) = word {
-        answer.named(name, &[word]);
-    }
+fn tell_cause(cause: Cause, answer: &mut Answer) {
+    answer.pair("cause", cause.name().as_bytes());
 }
 
 // Adds the seconds that the legs have, where they are told.
@@ -78,16 +96,26 @@ fn tell_timeout(timeout: Option<u64>, answer: &mut Answer) {
 }
 
 // Adds what the winner does.
-fn tell_winner(winner: &Winner, answer: &mut Answer) -> Result<(), Memory> {
+fn tell_winner(winner: &Winner, answer: &mut Answer) {
     match winner {
         Winner::App {
             application,
             argument,
-        } => answer.named("App", &[application, argument]),
+        } => answer.named_two("App", application.as_bytes(), argument.as_bytes()),
         Winner::Route(route) => {
-            let (exten, dialplan, context) = route.copy()?.into_texts();
-            answer.named("Route", &[&exten, &dialplan, &context]);
+            let done = tell_route(route, answer);
+            answer.note(done);
         }
     }
+}
+
+fn tell_route(route: &Route, answer: &mut Answer) -> Result<(), Memory> {
+    let (exten, dialplan, context) = route.copy()?.into_texts();
+    answer.named_three(
+        "Route",
+        exten.as_bytes(),
+        dialplan.as_bytes(),
+        context.as_bytes(),
+    );
     Ok(())
 }

@@ -1,52 +1,35 @@
 //! What is read of a document.
 
-use crate::answer::Answer;
 use crate::variables::tell_vars;
-use crate::words::number_of;
+use case_desk::{Answer, number_of};
 use fs_doc::{
     Break, Child, ConditionDef, Config, ContextDef, ExtensionDef, PlanAction, Settings, Test,
     read_config,
 };
-use fs_text::{Memory, Txt};
-use std::alloc::Global;
+use fs_text::Txt;
 
 /// Answers `config WHAT` about a document: its `settings`, its `globals` or its `dialplan`, or that it is read; or
 /// its first fault.
-pub(crate) fn tell_config(
-    alloc: Global,
-    document: &[u8],
-    what: &str,
-    answer: &mut Answer,
-) -> Result<(), Memory> {
-    match read_config(alloc, document) {
-        Ok(config) => tell_part(alloc, &config, what, answer),
-        Err(fault) => {
-            answer.told(fault);
-            Ok(())
-        }
+pub(crate) fn tell_config(document: &[u8], what: &str, answer: &mut Answer) {
+    match &read_config(answer.alloc(), document) {
+        Ok(config) => tell_part(config, what, answer),
+        Err(fault) => answer.told(fault),
     }
 }
 
-fn tell_part(
-    alloc: Global,
-    config: &Config,
-    what: &str,
-    answer: &mut Answer,
-) -> Result<(), Memory> {
+fn tell_part(config: &Config, what: &str, answer: &mut Answer) {
     match what {
-        "settings" => return tell_settings(alloc, config.settings(), answer),
+        "settings" => tell_settings(config.settings(), answer),
         "globals" => tell_vars(config.globals(), answer),
         "dialplan" => tell_contexts(config.contexts(), answer),
-        _ => answer.line(&[b"OK"]),
+        _ => answer.line("OK"),
     }
-    Ok(())
 }
 
-fn tell_settings(alloc: Global, settings: &Settings, answer: &mut Answer) -> Result<(), Memory> {
-    let core = settings.core_uuid.uuid(alloc, 0)?;
-    answer.line(&[b"core-uuid ", core.as_bytes()]);
-    answer.line(&[b"listen-ip ", settings.listen_ip.as_bytes()]);
-    answer.line(&[b"password ", settings.password.as_bytes()]);
+fn tell_settings(settings: &Settings, answer: &mut Answer) {
+    tell_core(settings, answer);
+    answer.pair("listen-ip", settings.listen_ip.as_bytes());
+    answer.pair("password", settings.password.as_bytes());
     answer.told(format_args!(
         "max-sessions {}, journal-limit {}, listen-port {}, max-connections {}",
         settings.max_sessions,
@@ -54,29 +37,43 @@ fn tell_settings(alloc: Global, settings: &Settings, answer: &mut Answer) -> Res
         settings.listen_port,
         settings.max_connections
     ));
-    Ok(())
+}
+
+fn tell_core(settings: &Settings, answer: &mut Answer) {
+    let core = settings.core_uuid.uuid(answer.alloc(), 0);
+    if let Ok(core) = &core {
+        answer.pair("core-uuid", core.as_bytes());
+    }
+    answer.note(core);
 }
 
 fn tell_contexts(contexts: &[ContextDef<Txt>], answer: &mut Answer) {
     for context in contexts {
-        answer.line(&[b"context ", context.name.as_bytes()]);
+        answer.pair("context", context.name.as_bytes());
         tell_extensions(context.extensions.as_slice(), answer);
     }
 }
 
 fn tell_extensions(extensions: &[ExtensionDef<Txt>], answer: &mut Answer) {
     for extension in extensions {
-        let way: &[u8] = if extension.goes_on { b", goes on" } else { b"" };
-        answer.line(&[b"extension ", extension.name.as_bytes(), way]);
+        tell_extension(extension, answer);
         tell_conditions(extension.conditions.as_slice(), answer);
     }
+}
+
+fn tell_extension(extension: &ExtensionDef<Txt>, answer: &mut Answer) {
+    answer.begin();
+    answer.put("extension ");
+    answer.add(extension.name.as_bytes());
+    answer.put(if extension.goes_on { ", goes on" } else { "" });
+    answer.end();
 }
 
 fn tell_conditions(conditions: &[ConditionDef<Txt>], answer: &mut Answer) {
     for condition in conditions {
         tell_test(&condition.test, condition.stop, answer);
-        tell_actions(b"action ", condition.actions.as_slice(), answer);
-        tell_actions(b"anti-action ", condition.anti.as_slice(), answer);
+        tell_actions("action ", condition.actions.as_slice(), answer);
+        tell_actions("anti-action ", condition.anti.as_slice(), answer);
     }
 }
 
@@ -101,32 +98,36 @@ fn tell_children(children: &[Child<Txt>], answer: &mut Answer) {
 }
 
 fn tell_pattern(field: &Txt, expression: &Txt, answer: &mut Answer) {
-    answer.line(&[
-        b"field ",
-        field.as_bytes(),
-        b", expression ",
-        expression.as_bytes(),
-    ]);
+    answer.begin();
+    answer.put("field ");
+    answer.add(field.as_bytes());
+    answer.put(", expression ");
+    answer.add(expression.as_bytes());
+    answer.end();
 }
 
-fn tell_actions(kind: &[u8], actions: &[PlanAction], answer: &mut Answer) {
+fn tell_actions(kind: &str, actions: &[PlanAction], answer: &mut Answer) {
     for action in actions {
-        let way: &[u8] = if action.inline { b", inline" } else { b"" };
-        answer.line(&[
-            kind,
-            action.application.as_bytes(),
-            b" ",
-            action.argument.as_bytes(),
-            way,
-        ]);
+        tell_action(kind, action, answer);
     }
 }
 
-/// So many attributes of different names: `a0`, `a1` and on.
-pub(crate) fn attributes(alloc: Global, count: &str) -> Result<String, Memory> {
-    let mut text = String::new(alloc);
+fn tell_action(kind: &str, action: &PlanAction, answer: &mut Answer) {
+    answer.begin();
+    answer.put(kind);
+    answer.add(action.application.as_bytes());
+    answer.put(" ");
+    answer.add(action.argument.as_bytes());
+    answer.put(if action.inline { ", inline" } else { "" });
+    answer.end();
+}
+
+/// Adds so many attributes of different names to a document: `a0`, `a1` and on.
+pub(crate) fn add_attributes(count: &str, document: &mut Vec<u8>, answer: &mut Answer) {
+    let mut text = String::new(answer.alloc());
     for n in 0..number_of(count) {
-        write!(text, " a{n}=''")?;
+        let done = write!(text, " a{n}=''");
+        answer.note(done);
     }
-    Ok(text)
+    answer.add_times(text.as_bytes(), 1, document);
 }

@@ -1,54 +1,79 @@
 //! Events and their frames.
 
-use crate::answer::Answer;
-use crate::words::{cut, text_of};
+use case_desk::{Answer, cut};
 use fs_event::{Event, frame};
 use fs_text::{EventName, Headers, Memory, Txt};
-use std::alloc::Global;
 
 /// Answers `event NAME HEADERS` and `event NAME HEADERS | BODY` with the frame of such an event. A header is
 /// `NAME=VALUE` without spaces, and stands behind the one that says the event's name.
-pub(crate) fn tell_event(alloc: Global, rest: &str, answer: &mut Answer) -> Result<(), Memory> {
+pub(crate) fn tell_event(rest: &str, answer: &mut Answer) {
     let (told, body) = rest.split_once(" | ").unwrap_or((rest, ""));
-    match event_of(alloc, told, body)? {
-        Some(event) => answer.lines(frame(alloc, &event)?.as_bytes()),
-        None => answer.line(&[b"no event"]),
+    let made = event_of(told, body, answer);
+    match &made {
+        Ok(Some(event)) => tell_frame(event, answer),
+        Ok(None) => answer.line("no event"),
+        Err(_) => {}
     }
-    Ok(())
+    answer.note(made);
+}
+
+fn tell_frame(event: &Event, answer: &mut Answer) {
+    let frame = frame(answer.alloc(), event);
+    if let Ok(frame) = &frame {
+        answer.lines(frame.as_bytes());
+    }
+    answer.note(frame);
 }
 
 /// The event of this name, with these headers and this body. Its subclass is what its header `Event-Subclass` says.
-pub(crate) fn event_of(alloc: Global, told: &str, body: &str) -> Result<Option<Event>, Memory> {
-    let (name, told) = cut(told);
+pub(crate) fn event_of(
+    told: &str,
+    body: &str,
+    answer: &mut Answer,
+) -> Result<Option<Event>, Memory> {
+    let (name, headers) = cut(told);
     let Some(event_name) = EventName::of_name(name.as_bytes()) else {
         return Ok(None);
     };
-    let headers = headers_of(alloc, name, told)?;
+    let headers = headers_of(name, headers, answer);
+    let body = answer.text_of(body)?;
     Ok(Some(Event {
         name: event_name,
-        subclass: subclass_of(alloc, &headers)?,
+        subclass: Txt::of(answer.alloc(), subclass_in(&headers))?,
         headers,
-        body: text_of(alloc, body)?,
+        body,
     }))
 }
 
 // The headers of an event of this name.
-fn headers_of(alloc: Global, name: &str, told: &str) -> Result<Headers, Memory> {
-    let mut headers = Headers::new(alloc);
-    headers.push(text_of(alloc, "Event-Name")?, text_of(alloc, name)?)?;
+fn headers_of(name: &str, told: &str, answer: &mut Answer) -> Headers {
+    let mut headers = Headers::new(answer.alloc());
+    let done = push_header(&mut headers, "Event-Name", name, answer);
+    answer.note(done);
     for header in told.split_whitespace() {
         let (name, value) = header.split_once('=').unwrap_or((header, ""));
-        headers.push(text_of(alloc, name)?, text_of(alloc, value)?)?;
+        let done = push_header(&mut headers, name, value, answer);
+        answer.note(done);
     }
-    Ok(headers)
+    headers
+}
+
+fn push_header(
+    headers: &mut Headers,
+    name: &str,
+    value: &str,
+    answer: &mut Answer,
+) -> Result<(), Memory> {
+    let name = answer.text_of(name)?;
+    headers.push(name, answer.text_of(value)?)
 }
 
 // The subclass that these headers tell, if they do.
-fn subclass_of(alloc: Global, headers: &Headers) -> Result<Txt, Memory> {
-    let told = headers.pairs().iter().find(|header| header.0.as_bytes()
-        == b"Event-Subclass".as_slice());
-    match told {
-        Some(header) => header.1.copy(),
-        None => Txt::of(alloc, b""),
+fn subclass_in(headers: &Headers) -> &[u8] {
+    for (name, value) in headers.pairs() {
+        if name.as_bytes() == b"Event-Subclass".as_slice() {
+            return value.as_bytes();
+        }
     }
+    b""
 }

@@ -1,97 +1,114 @@
 //! Blocks of commands out of pieces of a stream.
 
-use crate::answer::Answer;
-use crate::words::{bytes_of, counted, cut, length_of};
-use fs_frame::{Blocks, Next};
-use fs_text::Memory;
-use std::alloc::Global;
+ghost use Rattle.std.specs.Prelude.{◌<◌};
 
-/// A buffer, to which lines feed bytes.
-#[derive(Drop)]
-pub(crate) struct Frames {
-    alloc: Global,
-    blocks: Blocks,
-}
+use case_desk::{Answer, cut, length_of};
+use fs_frame::{Block, Blocks, Next};
 
-impl Frames {
-    pub(crate) fn new(alloc: Global) -> Result<Frames, Memory> {
-        Ok(Frames {
-            alloc,
-            blocks: Blocks::new(alloc)?,
-        })
-    }
-
-    /// Answers what is asked of a stream.
-    ///
-    /// `cut SIZE TEXT` tells the command lines of a stream that comes in pieces of so many bytes, a bar behind each,
-    /// and what is said behind them. `new` begins a stream to which `feed TEXT` and `feeds COUNT TEXT` add a piece;
-    /// `next` tells what is handed out then, of a block its bytes and its parts; `header NAME` only the value of this
-    /// name in it, and `length` only how long its line and the block are.
-    pub(crate) fn tell(&mut self, rest: &str, answer: &mut Answer) -> Result<(), Memory> {
-        let (verb, rest) = cut(rest);
-        match verb {
-            "cut" => tell_cut(self.alloc, rest, answer)?,
-            "new" => self.blocks = Blocks::new(self.alloc)?,
-            "feed" => self.blocks.feed(&bytes_of(self.alloc, rest)?)?,
-            "feeds" => self.blocks.feed(&counted(self.alloc, rest)?)?,
-            "next" => tell_next(self.blocks.next_block(), answer),
-            "header" => tell_header(self.blocks.next_block(), rest.as_bytes(), answer),
-            "length" => tell_length(self.blocks.next_block(), answer),
-            _ => answer.line(&[b"no case"]),
-        }
-        Ok(())
+/// Answers what is asked of a stream.
+///
+/// `cut SIZE TEXT` tells the command lines of a stream that comes in pieces of so many bytes, a bar behind each, and
+/// what is said behind them. `new` begins a stream to which `feed TEXT` and `feeds COUNT TEXT` add a piece; `next`
+/// tells what is handed out then, of a block its bytes and its parts; `header NAME` only the value of this name in it,
+/// and `length` only how long its line and the block are.
+pub(crate) fn tell_frames(blocks: &mut Blocks, rest: &str, answer: &mut Answer) {
+    let (verb, rest) = cut(rest);
+    match verb {
+        "cut" => tell_cut(rest, answer),
+        "new" => renew(blocks, answer),
+        "feed" => feed(blocks, &answer.bytes_of(rest), answer),
+        "feeds" => feed_counted(blocks, rest, answer),
+        "next" => tell_next(blocks.next_block(), answer),
+        "header" => tell_header(blocks.next_block(), rest.as_bytes(), answer),
+        "length" => tell_length(blocks.next_block(), answer),
+        _ => answer.line("no case"),
     }
 }
 
-fn tell_cut(alloc: Global, rest: &str, answer: &mut Answer) -> Result<(), Memory> {
+fn renew(blocks: &mut Blocks, answer: &mut Answer) {
+    match Blocks::new(answer.alloc()) {
+        Ok(new) => *blocks = new,
+        Err(memory) => answer.want(memory),
+    }
+}
+
+fn feed(blocks: &mut Blocks, piece: &[u8], answer: &mut Answer) {
+    let done = blocks.feed(piece);
+    answer.note(done);
+}
+
+// Feeds `COUNT TEXT`, the text so many times.
+fn feed_counted(blocks: &mut Blocks, rest: &str, answer: &mut Answer) {
+    let mut piece = Vec::new(answer.alloc());
+    answer.add_counted(rest, &mut piece);
+    feed(blocks, &piece, answer);
+}
+
+fn tell_cut(rest: &str, answer: &mut Answer) {
     let (size, text) = cut(rest);
-    let input = bytes_of(alloc, text)?;
-    let mut blocks = Blocks::new(alloc)?;
+    let input = answer.bytes_of(text);
+    match Blocks::new(answer.alloc()) {
+        Ok(mut blocks) => tell_pieces(&mut blocks, length_of(size).max(1), &input, answer),
+        Err(memory) => answer.want(memory),
+    }
+}
+
+fn tell_pieces(blocks: &mut Blocks, size: usize, input: &[u8], answer: &mut Answer)
+    requires { 0 < size }
+{
     answer.begin();
-    for piece in input.chunks(length_of(size).max(1)) {
-        blocks.feed(piece)?;
-        add_lines(&mut blocks, piece.len(), answer);
+    for piece in input.chunks(size) {
+        feed(blocks, piece, answer);
+        add_lines(blocks, piece.len(), answer);
     }
     answer.show(format_args!("{:?}", blocks.next_block()));
     answer.end();
-    Ok(())
 }
 
 // Adds the lines of the blocks that so many questions hand out.
 fn add_lines(blocks: &mut Blocks, most: usize, answer: &mut Answer) {
     for _ in 0..most {
         if let Next::Block(block) = blocks.next_block() {
-            answer.add(&[block.line()]);
-            answer.add(&[b"|"]);
+            answer.add(block.line());
+            answer.put("|");
         }
     }
 }
 
 fn tell_next(next: Next<'_>, answer: &mut Answer) {
-    let Next::Block(block) = next else {
-        return answer.told(format_args!("{next:?}"));
-    };
-    answer.line(&[b"block ", block.bytes()]);
-    answer.line(&[b"line ", block.line()]);
-    for (name, value) in block.headers() {
-        answer.line(&[b"header ", name, b"=", value]);
+    match next {
+        Next::Block(block) => tell_block(block, answer),
+        next => answer.shown(next),
     }
-    answer.line(&[b"body ", block.body()]);
+}
+
+fn tell_block(block: Block<'_>, answer: &mut Answer) {
+    answer.pair("block", block.bytes());
+    answer.pair("line", block.line());
+    for (name, value) in block.headers() {
+        answer.begin();
+        answer.put("header ");
+        answer.add(name);
+        answer.put("=");
+        answer.add(value);
+        answer.end();
+    }
+    answer.pair("body", block.body());
 }
 
 fn tell_header(next: Next<'_>, name: &[u8], answer: &mut Answer) {
     let Next::Block(block) = next else {
-        return answer.line(&[b"no block"]);
+        return answer.line("no block");
     };
     match block.header(name) {
-        Some(value) => answer.line(&[b"value ", value]),
-        None => answer.line(&[b"no header"]),
+        Some(value) => answer.pair("value", value),
+        None => answer.line("no header"),
     }
 }
 
 fn tell_length(next: Next<'_>, answer: &mut Answer) {
     let Next::Block(block) = next else {
-        return answer.line(&[b"no block"]);
+        return answer.line("no block");
     };
     let line = block.line().len();
     let whole = block.bytes().len();

@@ -1,12 +1,10 @@
 //! Dialplans that are built, and what calls get from them.
 
-use crate::answer::Answer;
-use crate::table::Table;
-use crate::words::{bytes_of, cut, text_of};
+use case_desk::{Answer, Table, cut};
 use fs_doc::read_config;
 use fs_plan::{Dialplan, Hunt};
-use fs_ports::NoGate;
-use fs_text::Memory;
+use fs_ports::{MemFiles, NoGate};
+use fs_text::{Memory, Txt};
 use fs_vars::{Bounds, Profile, Refused, Scope, Vars};
 use std::alloc::Global;
 
@@ -24,79 +22,89 @@ const SHORT: &[(u8, &[u8])] = &[
 
 /// The dialplan that was built last.
 pub(crate) struct Hunts {
-    alloc: Global,
     plan: Option<Dialplan>,
 }
 
 impl Drop for Hunts {
     fn drop(self) {
-        let Hunts {
-            alloc: _alloc,
-            plan: _plan,
-        } = self;
+        let Hunts { plan: _plan } = self;
     }
 }
 
 impl Hunts {
     /// No dialplan.
-    pub(crate) fn new(alloc: Global) -> Hunts {
-        Hunts { alloc, plan: None }
+    pub(crate) fn new() -> Hunts {
+        Hunts { plan: None }
     }
 
     /// Builds the dialplan of contexts in short spelling, and says why where it is refused.
-    pub(crate) fn build(
-        &mut self,
-        table: &Table,
-        contexts: &str,
-        answer: &mut Answer,
-    ) -> Result<(), Memory> {
-        self.plan = None;
-        let mut files = table.files()?;
-        let document = document(self.alloc, contexts)?;
-        match read_config(self.alloc, &document) {
-            Ok(config) => match Dialplan::build(self.alloc, &config, &mut files) {
-                Ok(plan) => self.plan = Some(plan),
-                Err(fault) => answer.told(fault),
-            },
-            Err(_) => answer.line(&[b"no document"]),
+    pub(crate) fn build(&mut self, table: &Table, contexts: &str, answer: &mut Answer) {
+        let files = table.files();
+        match files {
+            Ok(mut files) => self.plan = built(&mut files, contexts, answer),
+            Err(memory) => answer.want(memory),
         }
-        Ok(())
     }
 
     /// Answers `hunt CONTEXT NUMBER` with the actions that a call for this number gets from a context.
-    pub(crate) fn tell_hunt(&self, rest: &str, answer: &mut Answer) -> Result<(), Memory> {
-        let Some(plan) = &self.plan else {
-            answer.line(&[b"no dialplan"]);
-            return Ok(());
-        };
-        match hunt(self.alloc, plan, rest) {
-            Ok(hunt) => tell_actions(&hunt, answer),
-            Err(Refused::TooLong { len }) => {
-                answer.told(format_args!("too long {len}"));
-            }
-            Err(Refused::Memory) => return Err(Memory),
+    pub(crate) fn tell_hunt(&self, rest: &str, answer: &mut Answer) {
+        match &self.plan {
+            Some(plan) => tell_actions_of(plan, rest, answer),
+            None => answer.line("no dialplan"),
         }
-        Ok(())
+    }
+}
+
+fn built(files: &mut MemFiles, contexts: &str, answer: &mut Answer) -> Option<Dialplan> {
+    let document = document(contexts, answer);
+    let Ok(config) = read_config(answer.alloc(), &document) else {
+        answer.line("no document");
+        return None;
+    };
+    match Dialplan::build(answer.alloc(), &config, files) {
+        Ok(plan) => Some(plan),
+        Err(fault) => {
+            answer.told(fault);
+            None
+        }
+    }
+}
+
+fn tell_actions_of(plan: &Dialplan, rest: &str, answer: &mut Answer) {
+    match &hunt(plan, rest, answer) {
+        Ok(hunt) => tell_actions(hunt, answer),
+        Err(Refused::TooLong { len }) => answer.told(format_args!("too long {len}")),
+        Err(Refused::Memory) => answer.want(Memory),
     }
 }
 
 // The document of contexts in short spelling.
-fn document(alloc: Global, contexts: &str) -> Result<Vec<u8>, Memory> {
-    let mut text = Vec::from_slice(alloc, b"<document><section name='dialplan'>")?;
-    for byte in bytes_of(alloc, contexts)? {
-        match SHORT.iter().find(|word| word.0 == byte) {
-            Some(word) => text.extend_from_slice(word.1)?,
-            None => text.push(byte)?,
+fn document(contexts: &str, answer: &mut Answer) -> Vec<u8> {
+    let mut text = answer.bytes_of("<document><section name='dialplan'>");
+    for byte in answer.bytes_of(contexts) {
+        add_byte(byte, &mut text, answer);
+    }
+    answer.add_bytes("</section></document>", &mut text);
+    text
+}
+
+// Adds what a byte stands for.
+fn add_byte(byte: u8, text: &mut Vec<u8>, answer: &mut Answer) {
+    for word in SHORT {
+        if word.0 == byte {
+            return answer.add_times(word.1, 1, text);
         }
     }
-    text.extend_from_slice(b"</section></document>")?;
-    Ok(text)
+    let done = text.push(byte);
+    answer.note(done);
 }
 
 // What a call gets, whose context and number these are.
-fn hunt(alloc: Global, plan: &Dialplan, rest: &str) -> Result<Hunt, Refused> {
+fn hunt(plan: &Dialplan, rest: &str, answer: &mut Answer) -> Result<Hunt, Refused> {
     let (context, number) = cut(rest);
-    let context = bytes_of(alloc, context)?;
+    let context = answer.bytes_of(context);
+    let number = answer.text_of(number)?;
+    let alloc = answer.alloc();
     let vars = Vars::new(alloc, Bounds::Channel)?;
     let globals = Vars::new(alloc, Bounds::Globals)?;
     let profile = called(alloc, number)?;
@@ -109,19 +117,21 @@ fn hunt(alloc: Global, plan: &Dialplan, rest: &str) -> Result<Hunt, Refused> {
 }
 
 // Who calls a number.
-fn called(alloc: Global, number: &str) -> Result<Profile, Memory> {
+fn called(alloc: Global, number: Txt) -> Result<Profile, Memory> {
     let mut profile = Profile::empty(alloc)?;
-    profile.destination_number = text_of(alloc, number)?;
+    profile.destination_number = number;
     Ok(profile)
 }
 
 // Adds each action with its argument, or says that there is none.
 fn tell_actions(hunt: &Hunt, answer: &mut Answer) {
     if hunt.actions.is_empty() {
-        answer.line(&[b"no actions"]);
+        answer.line("no actions");
     }
     for action in hunt.actions.iter() {
-        let argument = action.argument.as_bytes();
-        answer.line(&[action.application.as_bytes(), b" [", argument, b"]"]);
+        answer.begin();
+        answer.add(action.application.as_bytes());
+        answer.bracket(action.argument.as_bytes());
+        answer.end();
     }
 }

@@ -1,12 +1,12 @@
 //! What a connection hears of events.
 
-use crate::answer::Answer;
-use crate::bridging::without_header;
+use crate::answers::without_header;
+use case_desk::{Answer, is_line_end};
 
 /// Adds what stands in frames, in short: of an event its name, its number and the identifier of its channel in a line,
 /// of a reply its text, and of an answer its lines without a colon.
 pub(crate) fn tell_heard(written: &[u8], answer: &mut Answer) {
-    for line in written.split(|byte| *byte == b'\n') {
+    for line in written.split(is_line_end) {
         tell_line(line, answer);
     }
 }
@@ -15,11 +15,13 @@ pub(crate) fn tell_heard(written: &[u8], answer: &mut Answer) {
 fn tell_line(line: &[u8], answer: &mut Answer) {
     if let Some(name) = line.strip_prefix(b"Event-Name: ") {
         answer.begin();
-        answer.add(&[name]);
+        answer.add(name);
     } else if let Some(number) = line.strip_prefix(b"Event-Sequence: ") {
-        answer.add(&[b" ", number]);
+        answer.put(" ");
+        answer.add(number);
     } else if let Some(channel) = line.strip_prefix(b"Unique-ID: ") {
-        answer.add(&[b" ", channel]);
+        answer.put(" ");
+        answer.add(channel);
         answer.end();
     } else {
         tell_other(line, answer);
@@ -28,11 +30,11 @@ fn tell_line(line: &[u8], answer: &mut Answer) {
 
 fn tell_other(line: &[u8], answer: &mut Answer) {
     if let Some(text) = line.strip_prefix(b"Reply-Text: ") {
-        return answer.line(&[text]);
+        return answer.line_of(text);
     }
     let text = without_header(line);
     if !text.is_empty() && !text.contains(&b':') {
-        answer.line(&[text]);
+        answer.line_of(text);
     }
 }
 
@@ -42,7 +44,7 @@ pub(crate) fn tell_posted(written: &[u8], lost: u64, answer: &mut Answer) {
     let mut count = 0_u64;
     let mut number = b"0".as_slice();
     let mut last = b"".as_slice();
-    for line in written.split(|byte| *byte == b'\n') {
+    for line in written.split(is_line_end) {
         if let Some(told) = line.strip_prefix(b"Event-Sequence: ") {
             count = count.saturating_add(1);
             number = told;
@@ -51,8 +53,8 @@ pub(crate) fn tell_posted(written: &[u8], lost: u64, answer: &mut Answer) {
     }
     answer.begin();
     answer.show(format_args!("{count} events up to number "));
-    answer.add(&[number]);
+    answer.add(number);
     answer.show(format_args!(", {lost} lost"));
     answer.end();
-    answer.line(&[last]);
+    answer.line_of(last);
 }

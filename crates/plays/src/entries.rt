@@ -1,0 +1,113 @@
+//! Entries that are made one after another, in whatever order connections, channels and jobs come.
+
+use crate::answers::tell_answers;
+use crate::bridging::tell_entry;
+use crate::hearing::tell_heard;
+use crate::played::machine_of;
+use case_desk::{Answer, Table, cut, number_of, slot_of};
+use fs_machine::{Act, Entry, Machine, Reply};
+use fs_text::{Memory, Txt};
+
+/// Answers `entries STEPS`, with `;` between them: `arrive`, `say CONNECTION LINE`, `take CONNECTION`, `job NUMBER`,
+/// `hear CONNECTION COUNT`, by which so many frames are taken, and `work SLOTS` with an entry for each slot. It tells
+/// what `bridging` tells, refusals, and the frames that are taken, those of `hear` in short.
+pub(crate) fn tell_entries(table: &Table, steps: &str, answer: &mut Answer) {
+    if let Some(mut machine) = machine_of(table, answer) {
+        for step in steps.split(';') {
+            tell_step(&mut machine, step.trim_start(), answer);
+        }
+    }
+}
+
+// Makes the entries that a step asks for.
+fn tell_step(machine: &mut Machine, step: &str, answer: &mut Answer) {
+    let (verb, rest) = cut(step);
+    match verb {
+        "arrive" => tell_act(machine, Act::Arrive, answer),
+        "say" => say(machine, rest, answer),
+        "take" => tell_act(
+            machine,
+            Act::Take {
+                conn: conn_of(rest),
+            },
+            answer,
+        ),
+        "job" => tell_act(
+            machine,
+            Act::Job {
+                job: number_of(rest),
+            },
+            answer,
+        ),
+        "work" => work(machine, rest, answer),
+        "hear" => hear(machine, rest, answer),
+        _ => answer.line("no step"),
+    }
+}
+
+fn conn_of(word: &str) -> u32 {
+    u32::from(slot_of(word))
+}
+
+// Makes an entry for each slot.
+fn work(machine: &mut Machine, slots: &str, answer: &mut Answer) {
+    for slot in slots.split(' ') {
+        tell_act(
+            machine,
+            Act::Work {
+                slot: slot_of(slot),
+            },
+            answer,
+        );
+    }
+}
+
+// Gives a command line of a connection.
+fn say(machine: &mut Machine, rest: &str, answer: &mut Answer) {
+    let (conn, line) = cut(rest);
+    let made = block_of(line, answer);
+    if let Some(block) = answer.made(made) {
+        tell_act(
+            machine,
+            Act::Command {
+                conn: conn_of(conn),
+                block,
+            },
+            answer,
+        );
+    }
+}
+
+// The block of a command line.
+fn block_of(line: &str, answer: &mut Answer) -> Result<Txt, Memory> {
+    let mut bytes = answer.bytes_of(line);
+    answer.add_bytes("%0A%0A", &mut bytes);
+    Txt::from_vec(bytes)
+}
+
+// Makes an entry, and adds what happens in it and what is handed out.
+fn tell_act(machine: &mut Machine, act: Act, answer: &mut Answer) {
+    let entry = Entry { moment: 0, act };
+    if let Some(Reply::Frame(frame)) = tell_entry(machine, &entry, answer) {
+        tell_answers(frame.as_bytes(), answer);
+    }
+}
+
+// Takes so many frames of a connection, and tells of them in short.
+fn hear(machine: &mut Machine, rest: &str, answer: &mut Answer) {
+    let (conn, count) = cut(rest);
+    let conn = conn_of(conn);
+    for _ in 0..number_of(count) {
+        hear_frame(machine, conn, answer);
+    }
+}
+
+fn hear_frame(machine: &mut Machine, conn: u32, answer: &mut Answer) {
+    let entry = Entry {
+        moment: 0,
+        act: Act::Take { conn },
+    };
+    if let Some(Reply::Frame(frame)) = tell_entry(machine, &entry, answer) {
+        tell_heard(frame.as_bytes(), answer);
+    }
+}

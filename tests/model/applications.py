@@ -64,7 +64,7 @@ def run_bridge(switch, channel, argument):
         return
     told = read_seconds(dial_string.brace("originate_timeout"))
     own = read_seconds(channel.variables.get("call_timeout"))
-    channel.wait_for(Wait.LEGS, dialled=originate(switch, channel, dial_string, told or own or USUAL_SECONDS))
+    channel.wait_for(Wait.LEGS, dialed=originate(switch, channel, dial_string, told or own or USUAL_SECONDS))
 
 
 def run_park(switch, channel, _argument):

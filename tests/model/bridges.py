@@ -7,7 +7,7 @@ from channels import Channel, Wait
 
 
 class Kind(Enum):
-    DIALLED = "a channel dialled it"
+    DIALED = "a channel dialed it"
     JOINED = "a command joined two channels"
 
 
@@ -38,7 +38,7 @@ class Bridge:
 
     def outcome(self, leg, cause):
         """What this leg does where the other one died of the cause."""
-        if self.kind is Kind.DIALLED and leg is self.caller:
+        if self.kind is Kind.DIALED and leg is self.caller:
             return Outcome(cause) if leg.variables.get("hangup_after_bridge") == "true" else GOES_ON
         return PARKS if leg.variables.get("park_after_bridge") == "true" else Outcome("NORMAL_CLEARING")
 

@@ -51,7 +51,7 @@ class Channel:
     state: State = State.CS_NEW
     wait: Wait = Wait.NOTHING
     wakes: int = 0
-    dialled: object = None
+    dialed: object = None
     answered: bool = False
     cause: str = ""
     routed: int = 0
@@ -74,10 +74,10 @@ class Channel:
         """Commands can move a channel that has been set up and is no leg that is not decided yet."""
         return self.state not in (State.CS_NEW, State.CS_INIT) and self.leg is None
 
-    def wait_for(self, wait, wakes=0, dialled=None):
+    def wait_for(self, wait, wakes=0, dialed=None):
         self.wait = wait
         self.wakes = wakes
-        self.dialled = dialled
+        self.dialed = dialed
 
     def drop_actions(self):
         self.actions = []

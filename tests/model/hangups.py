@@ -48,7 +48,7 @@ def dragged_by(channel, cause):
     """Its partner, the living legs that it waits for, and its peer where that is to hang up."""
     yield channel.partner, cause
     if channel.wait is Wait.LEGS:
-        for leg in channel.dialled.living():
+        for leg in channel.dialed.living():
             yield leg.channel, "ORIGINATOR_CANCEL"
     if channel.bridge:
         outcome = channel.bridge.outcome(channel.peer, cause)
@@ -95,9 +95,9 @@ def hang_up_one(switch, channel, cause):
 
 def leave(switch, channels):
     """These channels leave what they are in. Their legs are hung up in one hangup, of which they may die."""
-    dialling = [channel for channel in channels if channel.wait is Wait.LEGS]
-    legs = [leg.channel for channel in dialling for leg in channel.dialled.living()]
-    for channel in dialling:
+    dialing = [channel for channel in channels if channel.wait is Wait.LEGS]
+    legs = [leg.channel for channel in dialing for leg in channel.dialed.living()]
+    for channel in dialing:
         channel.wait_for(Wait.NOTHING)
     hang_up(switch, dict.fromkeys(legs, "ORIGINATOR_CANCEL"))
     for channel in channels:

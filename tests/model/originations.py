@@ -133,18 +133,18 @@ def originate(switch, owner, dial_string, seconds):
 def make_group(switch, origination):
     """The legs of the group are made one after another, each in the two least slots that are free then."""
     origination.legs = []
-    for dialled in origination.dial_string.groups[origination.group]:
+    for dialed in origination.dial_string.groups[origination.group]:
         try:
-            leg = make_leg(switch, origination, dialled)
+            leg = make_leg(switch, origination, dialed)
         except DiesAsMade as death:
             leg = Leg(died_in=switch.entry, cause=death.cause)
         origination.legs.append(leg)
 
 
-def make_leg(switch, origination, dialled):
+def make_leg(switch, origination, dialed):
     """The leg and its far end have the same variables, and profiles that differ in their own names."""
-    extension, context = read_endpoint(dialled.endpoint)
-    variables, within_limits = leg_variables(origination, dialled)
+    extension, context = read_endpoint(dialed.endpoint)
+    variables, within_limits = leg_variables(origination, dialed)
     given = variables.get("origination_uuid")
     if not within_limits or not may_be_given(switch, given):
         raise DiesAsMade("NORMAL_TEMPORARY_FAILURE")
@@ -174,12 +174,14 @@ def begin_leg(switch, channel):
 
 
 def read_endpoint(endpoint):
-    """An endpoint is cut at its first three slashes. What is empty behind the extension is not named."""
-    kind, extension, context, dialplan = (endpoint.split("/", 3) + ["", "", ""])[:4]
+    """All behind `error/` is the name of a cause. A loopback is cut at its first three slashes; what is empty behind its
+    extension is not named."""
+    kind, _, behind = endpoint.partition("/")
     if kind == "error":
-        raise DiesAsMade(extension if extension in CAUSES else "NORMAL_UNSPECIFIED")
+        raise DiesAsMade(behind if behind in CAUSES else "NORMAL_UNSPECIFIED")
     if kind != "loopback":
         raise DiesAsMade("DESTINATION_OUT_OF_ORDER")
+    extension, context, dialplan = (behind.split("/", 2) + ["", ""])[:3]
     if extension == "" or max(map(len, (extension, context, dialplan))) > LONGEST_NAME:
         raise DiesAsMade("INVALID_NUMBER_FORMAT")
     if dialplan not in ("", "XML"):
@@ -187,9 +189,9 @@ def read_endpoint(endpoint):
     return extension, context or "default"
 
 
-def leg_variables(origination, dialled):
+def leg_variables(origination, dialed):
     """The exports, the braces and the brackets, set in this order; and whether the limits let all through."""
-    pairs = [*exported(origination.owner), *origination.dial_string.braces, *dialled.pairs]
+    pairs = [*exported(origination.owner), *origination.dial_string.braces, *dialed.pairs]
     variables = Variables(OF_CHANNELS)
     set_all = [variables.set(name, value) for name, value in pairs]
     return variables, all(set_all)

@@ -56,7 +56,7 @@ def win(switch, origination, leg):
 def join_winner(switch, channel, winner):
     switch.answer(channel)
     channel.variables.set("originate_disposition", "SUCCESS")
-    bridges.join(switch, channel, winner, bridges.Kind.DIALLED)
+    bridges.join(switch, channel, winner, bridges.Kind.DIALED)
     switch.enter(winner, State.CS_EXCHANGE_MEDIA)
 
 

@@ -149,7 +149,7 @@ class Switch:
             return self.now
         if channel.wait is Wait.SLEEP:
             return max(self.now, channel.wakes)
-        return channel.dialled.due(self.now) if channel.wait is Wait.LEGS else None
+        return channel.dialed.due(self.now) if channel.wait is Wait.LEGS else None
 
     def moments(self):
         """The moments at which slots and then jobs have something to do, each with what does it."""
@@ -216,7 +216,7 @@ def go_on(switch, channel):
     if channel.wait is Wait.SLEEP:
         switch.complete(channel)
     elif channel.wait is Wait.LEGS:
-        conclude(switch, channel.dialled)
+        conclude(switch, channel.dialed)
     elif channel.actions:
         run_action(switch, channel, channel.actions.pop(0))
     else:

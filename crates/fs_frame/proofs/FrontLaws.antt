@@ -120,12 +120,6 @@ IsLaidOut-fed bytes piece lent start front laid_out = record {
   is_front = rw (drop-append-le start bytes piece laid_out.start_within) (IsFront-fed (drop start bytes) piece front laid_out.is_front);
 }
 
--- what a search came to is known
-pub IsFront-looked : (bytes : List ℕ) (front : Front) → IsLookedAt bytes front → IsFront bytes front
-IsFront-looked bytes (Open scan) is = is.0
-IsFront-looked bytes (Headed len command) is = is
-IsFront-looked bytes (Spoilt fault) is = is
-
 -- ---- the block behind a head
 
 -- all of it is there

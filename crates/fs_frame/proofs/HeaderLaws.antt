@@ -30,21 +30,6 @@ first_of-text bytes text_len len goes some =
 
 -- ---- headers
 
--- no line with a text stands in front: there is no header
-pub headers_among-none : (bytes : List ℕ) → first_of (lines_of bytes) bytes ≡ None → headers_among (lines_of bytes) ≡ []
-headers_among-none bytes nothing = by (lines_of bytes) nothing
-  where
-    by : (lines : List (List ℕ)) → first_of lines bytes ≡ None → headers_among lines ≡ []
-    by [] is = refl
-    by (line ∷ lines) is = step (has_text line) refl
-      where
-        step : (b : Bool) → has_text line ≡ b → headers_among (line ∷ lines) ≡ []
-        step true has =
-            let parts : List ℕ × List ℕ = (text_of line, drop (length line) bytes) in
-            let no : Some parts ≡ None = rw has at is in
-            cc
-        step false has = rw has refl
-
 -- one does: its header, if it is one, comes before those behind it
 pub headers_among-first : (bytes : List ℕ) (parts : List ℕ × List ℕ) → first_of (lines_of bytes) bytes ≡ Some parts →
     headers_among (lines_of bytes) ≡ cons_option (header_of parts.0) (headers_among (lines_of parts.1))
@@ -98,16 +83,6 @@ pub value_among-none : (name : Text) (headers : List (Text × Text)) → headers
 value_among-none name headers is = rw is refl
 
 -- ---- blanks
-
--- a blank in front
-pub from_first-blank : (text : Text) → 1 ≤ length text → is_blank (get_or text 0 0) ≡ true → from_first (drop 1 text) ≡ from_first text
-from_first-blank [] some blank = absurd (omega arith)
-from_first-blank (byte ∷ text) some blank = rw blank refl
-
--- none in front
-pub from_first-other : (text : Text) → (1 ≤ length text → is_blank (get_or text 0 0) ≡ false) → text ≡ from_first text
-from_first-other [] other = refl
-from_first-other (byte ∷ text) other = rw (other (omega arith)) refl
 
 -- a blank at the end
 up_to_last-snoc : (text : Text) (byte : ℕ) → is_blank byte ≡ true → up_to_last (text ++ byte ∷ []) ≡ up_to_last text

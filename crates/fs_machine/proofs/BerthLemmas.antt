@@ -402,9 +402,6 @@ record Leaving (s : Switch) (slots : List ℕ) (t : Switch) : Type 0 where
   dead : (at : ℕ) → IsOneOf at slots → DeadAt at t
   berths : Berthed t
 
-told_leaving : (s : Switch) (slots : List ℕ) (event : Event) (t : Switch) → Leaving s slots t → Leaving s slots (with_event event t)
-told_leaving s slots event t k = record { came = k.came; lively = k.lively; dead = k.dead; berths = k.berths }
-
 -- none of these is one that another channel dialed who is alive
 leaves_none : (s t : Switch) (slots : List ℕ) (slot : ℕ) → LegsStand (roles_of s) → Berthed s → Leaving s slots t →
     ((at : ℕ) → IsOneOf at (legs_at s slot) → IsOneOf at slots) → LeavesNone t slot

@@ -77,31 +77,6 @@ hung_drawn named s =
 pub given_up_drawn : (slot : ℕ) (awaited : Option ℕ) (s : Switch) → (orig_given_up slot awaited s).drawn.origs ≡ s.drawn.origs
 given_up_drawn slot awaited s = given_up_kept (λ (t : Switch). t.drawn.origs ≡ s.drawn.origs) (λ number t k. k) slot awaited s refl
 
-left_drawn : (slot : ℕ) (s : Switch) → (after_leaving slot s).drawn.origs ≡ s.drawn.origs
-left_drawn slot s =
-    let awaited : Option ℕ = option_and_then awaited_by (chan_at s slot) in
-    changed_there (λ (t : Switch). t.drawn.origs ≡ s.drawn.origs) at_leisure slot (orig_given_up slot awaited s)
-    (λ c there. given_up_drawn slot awaited s) (given_up_drawn slot awaited s)
-
-pub both_left_drawn : (a b : ℕ) (s : Switch) → IsApart s a → IsApart s b → (both_left a b s).drawn.origs ≡ s.drawn.origs
-both_left_drawn a b s first second =
-    both_left_kept (λ (t : Switch). t.drawn.origs ≡ s.drawn.origs) (λ named t k. hung_drawn named t ∙ k)
-    (λ slot t apart k. left_drawn slot t ∙ k) a b s first second refl
-
-peer_drawn : (slot other : ℕ) (s : Switch) → (with_peer slot other s).drawn.origs ≡ s.drawn.origs
-peer_drawn slot other s = by (chan_at s other)
-  where
-    by : (found : Option Chan) → (with_peer_from slot other found s).drawn.origs ≡ s.drawn.origs
-    by None = refl
-    by (Some d) =
-        changed_there (λ (t : Switch). t.drawn.origs ≡ s.drawn.origs) (bridged (peer_of other d)) slot s (λ c there. refl) refl
-
-pub joined_drawn : (kind : BridgeKind) (caller answerer : ℕ) (s : Switch) →
-    (joined_as kind caller answerer s).drawn.origs ≡ s.drawn.origs
-joined_drawn kind caller answerer s =
-    let t : Switch = with_bridge caller answerer kind s in
-    peer_drawn answerer caller (with_peer caller answerer t) ∙ peer_drawn caller answerer t
-
 births_drawn : (n : ℕ) → KeptByBirths (λ b t. t.drawn.origs ≡ n)
 births_drawn n = record {
   spent = λ h. h;
@@ -172,11 +147,6 @@ left_legs slot s h =
     let t : Switch = orig_given_up slot awaited s in
     changed_legs at_leisure slot t (record { leg = λ c. refl; live = λ c. refl })
     (legs_then s t (given_up_drawn slot awaited s) (given_up_legs slot awaited s) h)
-
-pub departed_drawn : (slot : ℕ) (s : Switch) → (after_departure slot s).drawn.origs ≡ s.drawn.origs
-departed_drawn slot s =
-    departed_kept (λ (t : Switch). t.drawn.origs ≡ s.drawn.origs) (λ event t k. k) (λ at old new t there settles k. k) (λ number t k. k)
-    (λ named t k. hung_drawn named t ∙ k) (λ at t k. left_drawn at t ∙ k) slot s refl
 
 departed_legs : (slot : ℕ) (s : Switch) → Stand (roles_of s) → Stand (roles_of (after_departure slot s))
 departed_legs slot s h =

@@ -160,47 +160,6 @@ numbers_held [] seat = refl
 numbers_held (held ∷ more) zero = refl
 numbers_held (held ∷ more) (suc seat) = numbers_held more seat
 
-pub number_there : {T : Type 0} → (seats : List (Option (Numbered T))) (number seat : ℕ) (row : Numbered T) →
-    IsRow seats number seat row → held_in (numbers_in seats) seat ≡ Some number
-number_there seats number seat row h = numbers_held seats seat ∙ (ap number_at h.there ∙ ap Some h.numbered)
-
-numbered_row : {T : Type 0} → (held : Option (Numbered T)) (number : ℕ) → number_at held ≡ Some number →
-    (row : Numbered T) × (held ≡ Some row) × (row.number ≡ number)
-numbered_row None number is = absurd (none-some number is)
-numbered_row (Some row) number is = (row, refl, same_Some row.number number is)
-
--- a number that stands somewhere has a row
-pub row_of_number : {T : Type 0} → (seats : List (Option (Numbered T))) (number k : ℕ) → held_in (numbers_in seats) k ≡ Some number →
-    HasRow seats number
-row_of_number {T} seats number k is =
-    let found : (row : Numbered T) × (held_in seats k ≡ Some row) × (row.number ≡ number) =
-    numbered_row (held_in seats k) number (sym (numbers_held seats k) ∙ is) in
-    subst (λ (n : ℕ). HasRow seats n) found.2 (row_of_held seats k found.0 found.1)
-
--- a change of a thing keeps the numbers
-pub numbers_kept : {T : Type 0} → (seats : List (Option (Numbered T))) (number : ℕ) (x : T) →
-    numbers_in (with_row seats number x) ≡ numbers_in seats
-numbers_kept {T} seats number x = by (seat_of seats number) refl
-  where
-    by : (found : Option ℕ) → seat_of seats number ≡ found →
-        numbers_in (with_held_at {T = Numbered T} seats (Some (record { number = number; held = x })) found) ≡ numbers_in seats
-    by None at = refl
-    by (Some seat) at =
-        let row : (row : Numbered T) × (held_in seats seat ≡ Some row) × (row.number ≡ number) =
-        number_here number (held_in seats seat) (seat_stands seats number seat at) in
-        let same : held_in (numbers_in seats) seat ≡ Some number = numbers_held seats seat ∙ (ap number_at row.1 ∙ ap Some row.2) in
-        map-set number_at seats seat (Some (record { number = number; held = x }))
-        ∙ (ap (λ (held : Option ℕ). slice_set (numbers_in seats) seat held) (sym same) ∙ set-get_or (numbers_in seats) seat None)
-
-pub numbers_removed : {T : Type 0} → (seats : List (Option (Numbered T))) (number seat : ℕ) → seat_of seats number ≡ Some seat →
-    numbers_in (without_row seats number) ≡ with_held (numbers_in seats) seat None
-numbers_removed seats number seat at = ap numbers_in (row_removed seats number seat at) ∙ map-set number_at seats seat None
-
-pub numbers_added : {T : Type 0} → (seats : List (Option (Numbered T))) (number seat : ℕ) (x : T) → least_free seats 0 ≡ Some seat →
-    numbers_in (with_new_row seats number x) ≡ with_held (numbers_in seats) seat (Some number)
-numbers_added seats number seat x at =
-    ap numbers_in (row_added seats number seat x at) ∙ map-set number_at seats seat (Some (record { number = number; held = x }))
-
 -- ---- how many seats are taken
 
 abbrev pub one_if : {T : Type 0} → Option T → ℕ

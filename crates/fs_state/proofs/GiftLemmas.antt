@@ -31,9 +31,6 @@ texts_append a b = map-append text_of a b
 pub texts_drop : (n : ℕ) (a : Frames) → texts_of (drop n a) ≡ drop n (texts_of a)
 texts_drop n a = sym (drop-map text_of n a)
 
-pub texts_length : (a : Frames) → length (texts_of a) ≡ length a
-texts_length a = length-map a text_of
-
 pub events_append : (a b : Frames) → events_in (a ++ b) ≡ events_in a + events_in b
 events_append a b = sum_by-append (λ frame. cond (is_event frame) 1 0) a b
 

@@ -51,11 +51,6 @@ room_with seat outbox outboxes n more shorter h = record {
 given_more : (gift : Gift) (gifts : List Gift) → frames_given (gift ∷ gifts) ≡ length gift.frames + frames_given gifts
 given_more gift gifts = sum_by-cons (λ g. length g.frames) gift gifts
 
-pub room_for_gift : (outboxes : List Frames) (gift : Gift) (gifts : List Gift) → HaveRoom outboxes (frames_given (gift ∷ gifts)) →
-    HaveRoom outboxes (length gift.frames)
-room_for_gift outboxes gift gifts h =
-    room_less outboxes (length gift.frames) (frames_given (gift ∷ gifts)) (omega (arith, given_more gift gifts)) h
-
 -- and after that for the gifts behind it
 room_after_at : (at : Option ℕ) (outboxes : List Frames) (gift : Gift) (gifts : List Gift) → HaveRoom outboxes (frames_given (gift ∷ gifts)) →
     HaveRoom (with_frames_at at gift.frames outboxes) (frames_given gifts)

@@ -6,7 +6,6 @@ use Rattle.fs_dial.specs.declared.bracket.Bracket.TheVariants.{Brace}
 use Rattle.fs_dial.specs.declared.fault.DialFault.{DialFault}
 use Rattle.fs_dial.specs.declared.fault.DialKind.TheVariants as kind
 use Rattle.fs_dial.specs.declared.dial_string.DialString.{DialString}
-use Rattle.fs_dial.specs.declared.reading.Reading.{Reading}
 use Rattle.fs_dial.specs.Faults.{fault}
 use Rattle.fs_dial.specs.Pairs.{Pair, rest_seen}
 use Rattle.fs_dial.specs.Brackets.{brackets_at}
@@ -26,11 +25,9 @@ pub record Reached : Type 0 where
   pub legs : List LegText
   pub room : ℕ
 
-abbrev pub reached_of : Reading → Reached
-reached_of r = record { groups = r.groups; legs = r.legs; room = r.room }
-
-abbrev pub taken : Reading → Option (Bor (List ℕ)) → Reached × Option (List ℕ)
-taken r rest = (reached_of r, rest_seen rest)
+-- how far it is read, and what stands behind the separator
+abbrev pub taken : Reached → Option (Bor (List ℕ)) → Reached × Option (List ℕ)
+taken r rest = (r, rest_seen rest)
 
 abbrev pub added_on : ℕ → List (List LegText) → List LegText → LegText → Result Reached DialFault
 added_on zero groups legs leg = fault leg.at kind.TooMany
@@ -39,9 +36,6 @@ added_on (suc room) groups legs leg = Ok (record { groups = groups; legs = legs 
 -- with one more leg
 unfoldable pub added : Reached → LegText → Result Reached DialFault
 added r leg = added_on r.room r.groups r.legs leg
-
-abbrev pub added_to : Reading → LegText → Result Reached DialFault
-added_to r leg = added (reached_of r) leg
 
 -- the group is at its end
 abbrev pub ended : Reached → Reached

@@ -23,34 +23,39 @@ pub struct Leg<'a> {
     pub pairs: RawPairs<'a>,
 }
 
-/// The legs of a group, which ring together, in order. A contract sees them as that list.
+/// The legs of a group, which ring together, in order: 64 at most. A contract sees them as that list.
 #[derive(Drop)]
 pub struct Group<'a> {
     legs: Vec<Leg<'a>>,
 }
 
-/// The groups of a dial string, which are tried one after another, in order. A contract sees them as that list.
+/// The groups of a dial string, which are tried one after another, in order: 64 at most. A contract sees them as that
+/// list.
 #[derive(Drop)]
 pub struct Groups<'a> {
     groups: Vec<Group<'a>>,
 }
 
 impl<'a> Model for Group<'a> {
-    ghost use Rattle.std.specs.Prelude.{List, map};
+    ghost use Rattle.std.specs.Prelude.{List, ◌≤◌, length, map};
     ghost use Rattle.fs_dial.specs.Legs.{LegText, leg_of};
 
     ghost Value = { List LegText };
 
     ghost view = { λ l. map leg_of l.legs.items };
+
+    ghost invariant = { λ l. length l.legs.items ≤ 64 };
 }
 
 impl<'a> Model for Groups<'a> {
-    ghost use Rattle.std.specs.Prelude.{List};
+    ghost use Rattle.std.specs.Prelude.{List, ◌≤◌, length};
     ghost use Rattle.fs_dial.specs.Legs.{LegText};
 
     ghost Value = { List (List LegText) };
 
     ghost view = { λ g. g.groups.items };
+
+    ghost invariant = { λ g. length g.groups.items ≤ 64 };
 }
 
 impl<'a> Group<'a> {
@@ -63,8 +68,9 @@ impl<'a> Group<'a> {
         }
     }
 
-    /// Puts a leg behind all others.
+    /// Puts a leg behind all others, of which there are less than 64.
     pub(crate) fn push(&mut self, leg: Leg<'a>) -> Result<(), Memory>
+        requires { length self.old < 64 }
         ensures ok { OnOk result (self.new ≡ self.old ++ spec.leg_of leg.entry ∷ []) }
         ensures err { OnErr result (self.new ≡ self.old) }
     {
@@ -72,9 +78,10 @@ impl<'a> Group<'a> {
         Ok(())
     }
 
-    /// The legs, in order.
+    /// The legs, in order: 64 at most.
     pub fn as_slice(&self) -> &[Leg<'a>]
-        ensures { map spec.leg_of result.now ≡ self.now }
+        ensures legs { map spec.leg_of result.now ≡ self.now }
+        ensures bound { length self.now ≤ 64 }
     {
         self.legs.as_slice()
     }
@@ -90,8 +97,9 @@ impl<'a> Groups<'a> {
         }
     }
 
-    /// Puts a group behind all others.
+    /// Puts a group behind all others, of which there are less than 64.
     pub(crate) fn push(&mut self, group: Group<'a>) -> Result<(), Memory>
+        requires { length self.old < 64 }
         ensures ok { OnOk result (self.new ≡ self.old ++ group.entry ∷ []) }
         ensures err { OnErr result (self.new ≡ self.old) }
     {
@@ -99,9 +107,10 @@ impl<'a> Groups<'a> {
         Ok(())
     }
 
-    /// The groups, in order.
+    /// The groups, in order: 64 at most.
     pub fn as_slice(&self) -> &[Group<'a>]
-        ensures { result.now ≡ self.now }
+        ensures groups { result.now ≡ self.now }
+        ensures bound { length self.now ≤ 64 }
     {
         self.groups.as_slice()
     }

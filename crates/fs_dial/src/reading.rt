@@ -9,27 +9,39 @@ use crate::fault::{DialKind, DialStop};
 use crate::leg::{Group, Groups, Leg, read_leg};
 use fs_text::Memory;
 use std::alloc::Global;
+use std::marker::Model;
 use std::mem;
 
 /// The most legs of a dial string.
 const MOST_LEGS: usize = 64;
 
-/// The groups of a dial string as far as they are read.
+/// The groups of a dial string as far as they are read. A contract sees how far that is.
 #[derive(Drop)]
 pub(crate) struct Reading<'a> {
     alloc: Global,
     /// The groups that are read.
-    pub groups: Groups<'a>,
+    groups: Groups<'a>,
     /// The legs of the group that is being read.
-    pub legs: Group<'a>,
+    legs: Group<'a>,
     /// How many more legs there may be.
-    pub room: usize,
+    room: usize,
+}
+
+impl<'a> Model for Reading<'a> {
+    ghost use Rattle.std.specs.Prelude.{◌+◌, ◌≤◌, length};
+    ghost use Rattle.fs_dial.specs.DialStrings.{Reached};
+
+    ghost Value = { Reached };
+
+    ghost view = { λ r. record { groups = r.groups; legs = r.legs; room = r.room } };
+
+    ghost invariant = { λ r. length r.groups + length r.legs + r.room ≤ 64 };
 }
 
 impl<'a> Reading<'a> {
     /// Before the first leg.
     pub fn new(alloc: Global) -> Reading<'a>
-        ensures { spec.reached_of result ≡ spec.at_first }
+        ensures { result ≡ spec.at_first }
     {
         Reading {
             alloc,
@@ -44,7 +56,7 @@ impl<'a> Reading<'a> {
     #[tactic(auto, unfolding(crate::specs::DialStrings::leg_step, crate::specs::DialStrings::behind_leg))]
     pub fn take_leg(&mut self, end: usize, text: &'a [u8]) -> Result<Option<&'a [u8]>, DialStop>
         requires { length text.now ≤ end }
-        ensures read { Answers (spec.taken self.new) result (spec.leg_step end (spec.reached_of self.old) text.now) }
+        ensures read { Answers (spec.taken self.new) result (spec.leg_step end self.old text.now) }
         ensures within { IfOk result (λ rest. IfSome rest (λ r. length r.now < length text.now)) }
     {
         let (leg, behind) = read_leg(self.alloc, end, text)?;
@@ -65,7 +77,8 @@ impl<'a> Reading<'a> {
     /// Adds a leg to the group, unless there are 64 before it.
     #[tactic(auto, unfolding(crate::specs::DialStrings::added))]
     fn add(&mut self, leg: Leg<'a>) -> Result<(), DialStop>
-        ensures { Answers (λ _. spec.reached_of self.new) result (spec.added_to self.old (leg_of leg.entry)) }
+        ensures added { Answers (λ _. self.new) result (spec.added self.old (leg_of leg.entry)) }
+        ensures some { IfOk result (λ _. 0 < length self.new.legs) }
     {
         if self.room == 0 {
             return Err(DialStop::at(leg.at, DialKind::TooMany));
@@ -75,9 +88,10 @@ impl<'a> Reading<'a> {
         Ok(())
     }
 
-    /// Ends the group.
+    /// Ends the group, which has a leg.
     fn end_group(&mut self) -> Result<(), Memory>
-        ensures { IfOk result (λ _. spec.reached_of self.new ≡ spec.ended (spec.reached_of self.old)) }
+        requires { 0 < length self.old.legs }
+        ensures { IfOk result (λ _. self.new ≡ spec.ended self.old) }
     {
         let legs = mem::replace(&mut self.legs, Group::new(self.alloc));
         self.groups.push(legs)

@@ -1,6 +1,6 @@
 //! The plans of the legs of a dial string, and legs behind pairs that all of them get.
 
-ghost use Rattle.std.specs.Prelude.{◌≡◌, ◌++◌, map, IfOk};
+ghost use Rattle.std.specs.Prelude.{◌≡◌, ◌<◌, ◌^◌, ◌++◌, length, map, IfOk};
 ghost use Rattle.fs_dial.specs.DialStrings.{dial_of};
 ghost use Rattle.fs_dial.specs.Legs.{leg_of};
 ghost use Rattle.fs_orig.specs.Plans as spec;
@@ -27,8 +27,9 @@ impl LegPlans {
 }
 
 impl LegGroup {
-    /// Copies of legs, each with these pairs before its own.
+    /// Copies of legs, less than 2^32, each with these pairs before its own.
     pub fn behind(alloc: Global, pairs: &Headers, plans: &[LegPlan]) -> Result<LegGroup, Memory>
+        requires { length plans.now < 2 ^ 32 }
         ensures { IfOk result (λ group. group ≡ spec.all_behind pairs.now plans.now) }
     {
         let mut group = LegGroup::new(alloc);

@@ -1,6 +1,6 @@
 //! The legs that an origination has made.
 
-ghost use Rattle.std.specs.Prelude.{◌≡◌, ◌<◌, ◌^◌, [], ◌∷◌, ◌++◌, length, slice_get, IfOk, OnOk, OnErr};
+ghost use Rattle.std.specs.Prelude.{◌≡◌, ◌<◌, ◌+◌, ◌^◌, [], ◌∷◌, ◌++◌, length, slice_get, IfOk, OnOk, OnErr};
 
 use fs_text::{Cause, Memory, Txt};
 use std::alloc::Global;
@@ -160,14 +160,12 @@ impl OrigLegs {
         OrigLegs { legs }
     }
 
-    /// Puts a leg behind all others. Where there are 2^32 - 1 legs, one more is refused as for want of memory.
+    /// Puts a leg behind all others, of which there are less than 2^32 - 1.
     pub fn push(&mut self, leg: OrigLeg) -> Result<(), Memory>
+        requires { length self.old + 1 < 2 ^ 32 }
         ensures ok { OnOk result (self.new ≡ self.old ++ leg ∷ []) }
         ensures err { OnErr result (self.new ≡ self.old) }
     {
-        if self.legs.len() >= u32::MAX as usize {
-            return Err(Memory);
-        }
         self.legs.push(leg)?;
         Ok(())
     }

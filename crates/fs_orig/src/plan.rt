@@ -1,6 +1,6 @@
 //! What an origination is to try.
 
-ghost use Rattle.std.specs.Prelude.{◌≡◌, ◌<◌, ◌^◌, [], ◌∷◌, ◌++◌, length, IfOk, OnOk, OnErr};
+ghost use Rattle.std.specs.Prelude.{◌≡◌, ◌<◌, ◌+◌, ◌^◌, [], ◌∷◌, ◌++◌, length, IfOk, OnOk, OnErr};
 
 use fs_text::{Headers, Memory, Txt};
 use std::alloc::Global;
@@ -15,8 +15,8 @@ pub struct LegPlan {
     pub pairs: Headers,
 }
 
-/// The legs that are to ring together, in order: in a dial string they are separated by `,`. A contract sees them as
-/// that list.
+/// The legs that are to ring together, in order: in a dial string they are separated by `,`. There are less than 2^32.
+/// A contract sees them as that list.
 #[derive(Drop)]
 pub struct LegGroup {
     plans: Vec<LegPlan>,
@@ -30,12 +30,14 @@ pub struct LegPlans {
 }
 
 impl Model for LegGroup {
-    ghost use Rattle.std.specs.Prelude.{List};
+    ghost use Rattle.std.specs.Prelude.{List, ◌<◌, ◌^◌, length};
     ghost use Rattle.fs_orig.specs.declared.plan.LegPlan.{LegPlan};
 
     ghost Value = { List LegPlan };
 
     ghost view = { λ g. g.plans.items };
+
+    ghost invariant = { λ g. length g.plans.items < 2 ^ 32 };
 }
 
 impl Model for LegPlans {
@@ -83,8 +85,17 @@ impl LegGroup {
         }
     }
 
-    /// Puts a leg behind all others.
+    /// The legs of a vector, in its order; takes no memory.
+    pub fn from_vec(plans: Vec<LegPlan>) -> LegGroup
+        requires { length plans.items < 2 ^ 32 }
+        ensures { result ≡ plans.items }
+    {
+        LegGroup { plans }
+    }
+
+    /// Puts a leg behind all others, of which there are less than 2^32 - 1.
     pub fn push(&mut self, plan: LegPlan) -> Result<(), Memory>
+        requires { length self.old + 1 < 2 ^ 32 }
         ensures ok { OnOk result (self.new ≡ self.old ++ plan ∷ []) }
         ensures err { OnErr result (self.new ≡ self.old) }
     {
@@ -92,9 +103,10 @@ impl LegGroup {
         Ok(())
     }
 
-    /// The legs, in order.
+    /// The legs, in order: less than 2^32.
     pub fn as_slice(&self) -> &[LegPlan]
-        ensures { result.now ≡ self.now }
+        ensures legs { result.now ≡ self.now }
+        ensures bound { length self.now < 2 ^ 32 }
     {
         self.plans.as_slice()
     }
@@ -109,15 +121,6 @@ impl LegGroup {
             group.push(plan.copy(alloc)?)?;
         }
         Ok(group)
-    }
-}
-
-/// The group of the legs of a vector, in its order; takes no memory.
-impl From<Vec<LegPlan>> for LegGroup {
-    ghost from_gives = { λ plans group. group ≡ plans.items };
-
-    fn from(plans: Vec<LegPlan>) -> LegGroup {
-        LegGroup { plans }
     }
 }
 
@@ -148,14 +151,12 @@ impl LegPlans {
         LegPlans { groups }
     }
 
-    /// Puts a group behind all others. Where there are 2^32 - 1 groups, one more is refused as for want of memory.
+    /// Puts a group behind all others, of which there are less than 2^32 - 1.
     pub fn push(&mut self, group: LegGroup) -> Result<(), Memory>
+        requires { length self.old + 1 < 2 ^ 32 }
         ensures ok { OnOk result (self.new ≡ self.old ++ group ∷ []) }
         ensures err { OnErr result (self.new ≡ self.old) }
     {
-        if self.groups.len() >= u32::MAX as usize {
-            return Err(Memory);
-        }
         self.groups.push(group)?;
         Ok(())
     }

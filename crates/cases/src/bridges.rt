@@ -30,6 +30,8 @@ fn tell_joined(bridges: &mut Bridges, slots: &str, answer: &mut Answer) {
     let answerer = slot_of(answerer);
     if caller == answerer {
         answer.line("one slot");
+    } else if !bridges.has_number_left() {
+        answer.line("no number");
     } else {
         match (bridges.part_of(caller), bridges.part_of(answerer)) {
             (None, None) => tell_number(bridges.join(caller, answerer, BridgeKind::Dial), answer),

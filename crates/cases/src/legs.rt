@@ -5,6 +5,9 @@ use fs_orig::{Endpoint, LegGroup, LegPlan, LegPlans, Orig, OrigLeg, OrigLegs, Ow
 use fs_text::{Cause, Headers, Memory, Txt};
 use std::alloc::Global;
 
+/// The most groups and the most legs of an origination.
+const MOST: usize = u32::MAX as usize;
+
 /// The origination that the lines so far laid out, and changed.
 pub(crate) struct Legs {
     orig: Orig,
@@ -113,7 +116,11 @@ fn add_groups(count: u64, plans: &mut LegPlans, answer: &mut Answer) {
     }
 }
 
+// Adds a group of one leg, if there is room for one more.
 fn add_group(alloc: Global, plans: &mut LegPlans) -> Result<(), Memory> {
+    if plans.as_slice().len() >= MOST {
+        return Ok(());
+    }
     let endpoint = Txt::of(alloc, b"loopback/1001")?;
     let pairs = Headers::new(alloc);
     let mut group = LegGroup::new(alloc);
@@ -130,10 +137,18 @@ fn add_legs(words: &str, legs: &mut OrigLegs, answer: &mut Answer) {
 
 fn push_leg(legs: &mut OrigLegs, leg: Result<OrigLeg, Memory>, answer: &mut Answer) {
     let done = match leg {
-        Ok(leg) => legs.push(leg),
+        Ok(leg) => add_leg(legs, leg),
         Err(memory) => Err(memory),
     };
     answer.note(done);
+}
+
+// Adds a leg, if there is room for one more.
+fn add_leg(legs: &mut OrigLegs, leg: OrigLeg) -> Result<(), Memory> {
+    if legs.as_slice().len() >= MOST {
+        return Ok(());
+    }
+    legs.push(leg)
 }
 
 // The leg of a word.

@@ -1,5 +1,5 @@
 -- The bridges that stand: their rows, and what joining and ending make of these.
-use Rattle.std.specs.Prelude.{ℕ, ◌+◌, ◌==◌, Bool, not, ◌||◌, List, [], ◌∷◌, ◌++◌, filter, Option}
+use Rattle.std.specs.Prelude.{ℕ, ◌+◌, ◌^◌, ◌==◌, nat_lt, Bool, not, ◌||◌, List, [], ◌∷◌, ◌++◌, filter, Option}
 use Rattle.std.specs.List.{find}
 use Rattle.fs_bridge.specs.declared.row.Row.{Row}
 use Rattle.fs_bridge.specs.declared.row.BridgeKind.{BridgeKind}
@@ -12,6 +12,10 @@ pub record BridgeRows : Type 0 where
 -- no bridge was joined
 abbrev pub no_bridges : BridgeRows
 no_bridges = record { rows = []; drawn = 0 }
+
+-- there is a number for one more
+abbrev pub has_number_left : BridgeRows → Bool
+has_number_left bridges = nat_lt (bridges.drawn + 1) (2 ^ 64)
 
 -- a slot is one of the two legs
 abbrev pub has_leg : ℕ → Row → Bool

@@ -1,6 +1,6 @@
 //! The bridges that stand.
 
-ghost use Rattle.std.specs.Prelude.{◌≡◌, ◌≢◌, ◌+◌, not, filter, None, IfOk, OnOk, OnErr};
+ghost use Rattle.std.specs.Prelude.{◌≡◌, ◌≢◌, ◌+◌, true, not, filter, None, IfOk, OnOk, OnErr};
 ghost use Rattle.std.specs.List.{find};
 ghost use Rattle.fs_bridge.specs.Bridges as spec;
 ghost use Rattle.fs_bridge.specs.Laws.{IsSound};
@@ -66,18 +66,25 @@ impl Bridges {
         let _rows = &self.rows;
     }
 
-    /// Joins two slots, neither of which is part of a bridge, and says the number of their bridge.
-    ///
-    /// Where 2^64 - 1 numbers were drawn, one more is refused as for want of memory.
+    /// Whether there is a number for one more bridge: 2^64 - 1 can be drawn.
+    pub fn has_number_left(&self) -> bool
+        ensures { result ≡ spec.has_number_left self.now }
+    {
+        self.drawn < u64::MAX
+    }
+
+    /// Joins two slots, neither of which is part of a bridge, and says the number of their bridge, for which there is
+    /// one left.
     pub fn join(&mut self, caller: u16, answerer: u16, kind: BridgeKind) -> Result<u64, Memory>
         requires apart { caller ≢ answerer }
         requires caller { spec.part_of caller self.old ≡ None }
         requires answerer { spec.part_of answerer self.old ≡ None }
+        requires left { spec.has_number_left self.old ≡ true }
         ensures number { IfOk result (λ number. number ≡ self.old.drawn + 1) }
         ensures joined { OnOk result (self.new ≡ spec.joined caller answerer kind self.old) }
         ensures err { OnErr result (self.new ≡ self.old) }
     {
-        let number = self.drawn.checked_add(1).ok_or(Memory)?;
+        let number = self.drawn + 1;
         self.rows.push(Row {
             number,
             caller,

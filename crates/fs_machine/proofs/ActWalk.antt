@@ -55,7 +55,7 @@ use Rattle.fs_machine.specs.Connections.{phase_at, conn_changed, admitted, subs_
 use Rattle.fs_machine.specs.Attempts.{after_verdict_on}
 use Rattle.fs_machine.specs.Jobs.{sleep_begun, after_job_work, job_done_from, job_done}
 use Rattle.fs_machine.specs.Done.{Done, says, no_reply_yet}
-use Rattle.fs_machine.specs.Joining.{in_the_way, after_leaving, both_in_media, joined_done, bridged_unless, bridge_done_at}
+use Rattle.fs_machine.specs.Joining.{both_left, in_the_way, after_leaving, both_in_media, joined_done, bridged_unless, bridge_done_at}
 use Rattle.fs_machine.specs.Joining.{uuid_bridge_done, is_ready}
 use Rattle.fs_machine.specs.Leaving.{after_departure, after_arrival, sent_at, sent_done}
 use Rattle.fs_state.specs.Leaving.{after_leaving_others}
@@ -69,6 +69,7 @@ use Rattle.fs_machine.specs.Commands.{after_asking, unless_unknown, after_subscr
 use Rattle.fs_machine.specs.Commands.{with_filter_added, with_filters_deleted}
 use Rattle.fs_machine.specs.Step.{after_close, act_done}
 use Rattle.fs_machine.proofs.Kept.{IsApart, hold_in, Stays, Fact, KeptByCalls, DoesJob, KeptByJobs, KeptByDials, LeavesBy, IsShortWinner}
+use Rattle.fs_machine.proofs.DrawnLemmas.{SameDrawn, both_left_drawn}
 use Rattle.fs_machine.proofs.Kept.{WasApart, KeptByApi, KeptByCommands, api_among, KeptByMoves}
 use Rattle.fs_machine.proofs.ShortLemmas.{NamesShort, api_short, expanded_short}
 use Rattle.fs_machine.proofs.DialLemmas.{dialed_groups}
@@ -160,7 +161,7 @@ module _ (conn : ℕ) (P : Fact) (calls : KeptByCalls P) (commands : KeptByApi c
       by true = media_kept b (media_meets b a s second) (media_kept a first h)
       by false = media_kept a (media_meets a b s first) (media_kept b second h)
 
-  join_kept : (a b : ℕ) {s : Switch} → CanMeet s a → CanMeet s b → WasApart P a → WasApart P b → P (Some 0) s →
+  join_kept : (a b : ℕ) {s : Switch} → CanMeet s a → CanMeet s b → WasApart P s a → WasApart P s b → P (Some 0) s →
       P (Some 0) (after_join Joined a b s)
   join_kept a b {s} first second was other h = by (can_join a b s) refl
     where
@@ -170,7 +171,7 @@ module _ (conn : ℕ) (P : Fact) (calls : KeptByCalls P) (commands : KeptByApi c
       by false is = h
 
   joined_kept : (a b : ℕ) (other : Text) {s : Switch} → IsApart s a → IsApart s b → DialsNone s a → DialsNone s b →
-      WasApart P a → WasApart P b → P (Some 0) s → P (Some 0) (joined_done a b other s).state
+      WasApart P s a → WasApart P s b → P (Some 0) s → P (Some 0) (joined_done a b other s).state
   joined_kept a b other {s} first second one_dials two_dials one_was two_was h = by (lives_at s a) refl (lives_at s b) refl
     where
       by : (one : Bool) → lives_at s a ≡ one → (two : Bool) → lives_at s b ≡ two →
@@ -193,12 +194,14 @@ module _ (conn : ℕ) (P : Fact) (calls : KeptByCalls P) (commands : KeptByApi c
           let apart = apart_now a b s is in
           let named : Members = map (λ slot. (slot, OriginatorCancel)) (legs_at s a ++ legs_at s b) in
           let t : Switch = after_hangups named s in
+          let left : SameDrawn s (both_left a b s) = both_left_drawn a b s apart.0 apart.1 in
           let one = apart_hung a named s apart.0 in
           let two = apart_hung b named s apart.1 in
           joined_kept a b other (apart_left a b (after_leaving a t) (apart_left a a t one))
           (apart_left b b (after_leaving a t) (apart_left b a t two))
           (left_dials_still a b (after_leaving a t) (left_dials a t)) (left_dials b (after_leaving a t))
-          (record { past = s; first = h; apart = apart.0.bridge }) (record { past = s; first = h; apart = apart.1.bridge })
+          (record { past = s; first = h; apart = apart.0.bridge; drawn = left })
+          (record { past = s; first = h; apart = apart.1.bridge; drawn = left })
           (calls.leaves a b apart.0 apart.1 h (commands.spent h))
 
       by : (first second : Option ℕ) → P (Some 0) (bridge_done_at first second other s).state

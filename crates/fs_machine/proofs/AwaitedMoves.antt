@@ -3,6 +3,7 @@ use Rattle.std.proofs.Common.{◌≡◌, ℕ, ◌+◌, ◌-◌, ◌^◌, min, tr
 use Rattle.std.proofs.Common.{inr, refl, sym, ap, subst, ◌∙◌}
 use Rattle.std.proofs.lemmas.Option.{same_Some}
 use Rattle.fs_text.specs.Texts.{Text}
+use Rattle.fs_bridge.specs.Bridges.{has_number_left}
 use Rattle.fs_chan.specs.declared.chan.Chan.{Chan}
 use Rattle.fs_chan.specs.declared.wait.Wait.{Wait}
 use Rattle.fs_chan.specs.declared.wait.Wait.TheVariants.{Ready, Legs, Bridged}
@@ -200,8 +201,8 @@ winning_origs winner slot s = moved_there (λ (t : Switch). t.origs ≡ s.origs)
 
 -- ---- every move
 
-module _ (before : Switch) (stand : LegsStand (roles_of before)) (Q : Fact) (kept : KeptByMoves before Q)
-    (bonds : (b : Stage) (t : Switch) → Q b t → Bonds t)
+module _ (before : Switch) (stand : LegsStand (roles_of before)) (left : has_number_left before.bridges ≡ true) (Q : Fact)
+    (kept : KeptByMoves before Q) (bonds : (b : Stage) (t : Switch) → Q b t → Bonds t)
     (jobs_own : (t : Switch) → Q (Some 0) t → (job conn orig : ℕ) (winner : Winner) (caller : Caller) →
     DoesJob t job conn (Originate orig winner caller) → (slot : ℕ) → HasOwner t.origs orig slot → ⊥)
     (fresh : (t : Switch) → Q None t → row_of t.origs (next_orig_number t) ≡ None)
@@ -300,7 +301,7 @@ module _ (before : Switch) (stand : LegsStand (roles_of before)) (Q : Fact) (kep
     wins = λ slot orig leg slots waits won h. (
       kept.dials.wins slot orig leg slots waits won h.0,
       won_await slot (unwrap_or leg.slot 0) (without_orig orig (raced slots before))
-          (winner_joins before slot orig leg slots stand won (bonds (Some 0) (raced slots before) h.0) h.1 waits)
+          (winner_joins before slot orig leg slots stand left won (bonds (Some 0) (raced slots before) h.0) h.1 waits)
           (without_await slot orig (raced slots before) waits h.1),
     );
   }

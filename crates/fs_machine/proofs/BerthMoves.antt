@@ -7,6 +7,7 @@ use Rattle.fs_text.specs.Texts.{Text}
 use Rattle.fs_text.specs.Cause.{cause_name}
 use Rattle.fs_text.specs.declared.causes.Cause.{Cause}
 use Rattle.fs_text.specs.declared.causes.Cause.TheVariants.{LoseRace}
+use Rattle.fs_bridge.specs.Bridges.{has_number_left}
 use Rattle.fs_bridge.specs.declared.row.BridgeKind.{BridgeKind}
 use Rattle.fs_bridge.specs.declared.row.BridgeKind.TheVariants.{Dial}
 use Rattle.fs_chan.specs.declared.chan.Chan.{Chan}
@@ -168,7 +169,8 @@ won_lone (Route to) c = refl
 
 -- ---- every move
 
-module _ (before : Switch) (stand : LegsStand (roles_of before)) (were : Berthed before) (Q : Fact) (kept : KeptByMoves before Q)
+module _ (before : Switch) (stand : LegsStand (roles_of before)) (left : has_number_left before.bridges ≡ true) (were : Berthed before)
+    (Q : Fact) (kept : KeptByMoves before Q)
     (bonds : (b : Stage) (t : Switch) → Q b t → Bonds t) (zero : (b : Stage) (t : Switch) → Q b t → NoneAtZero t)
     (legs : (b : Stage) (t : Switch) → Q b t → LegsStand (roles_of t)) (waits : (b : Stage) (t : Switch) → Q b t → Awaits t)
     (room : (t : Switch) → Q None t → (slot : ℕ) (c : Chan) → chan_at t slot ≡ Some c → awaited_by c ≡ None → (new : Orig) →
@@ -240,7 +242,7 @@ module _ (before : Switch) (stand : LegsStand (roles_of before)) (were : Berthed
       let at : ℕ = unwrap_or leg.slot 0 in
       joinable_won_kept (λ (t : Switch). BerthedBut (λ seat. seat ≡ at) (roles_of t)) Berthed (berthed_touches (λ seat. seat ≡ at)) slot at
       (λ t can k. media_berthed at (joined_as Dial slot at t) (joined_berthed (λ seat. seat ≡ at) Dial slot at t k))
-      (without_orig orig (raced slots before)) (winner_joins before slot orig leg slots stand won bonded owners awaited)
+      (without_orig orig (raced slots before)) (winner_joins before slot orig leg slots stand left won bonded owners awaited)
       (winner_open orig leg slots won bonded h)
 
   -- ---- the fact

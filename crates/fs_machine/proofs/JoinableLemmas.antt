@@ -1,7 +1,11 @@
 -- A leg that has won what a channel dials can be joined to that channel.
-use Rattle.std.proofs.Common.{◌≡◌, ◌≢◌, ℕ, true, List, Option, None, Some, unwrap_or, option_and_then, is_some, refl, sym, ap, ◌∙◌}
+use Rattle.std.proofs.Common.{◌≡◌, ◌≢◌, ℕ, ◌+◌, ◌^◌, true, List, map, Option, None, Some, unwrap_or, option_and_then, is_some, refl}
+use Rattle.std.proofs.Common.{sym, ap, ◌∙◌}
+use Rattle.std.specs.Prelude.{nat_lt}
 use Rattle.std.proofs.lemmas.Bool.{eqb-true, false≢true}
 use Rattle.std.proofs.lemmas.Option.{none-some, same_Some}
+use Rattle.fs_text.specs.declared.causes.Cause.TheVariants.{LoseRace}
+use Rattle.fs_bridge.specs.Bridges.{has_number_left}
 use Rattle.fs_bridge.specs.declared.row.Row.{Row}
 use Rattle.fs_chan.specs.declared.chan.Chan.{Chan}
 use Rattle.fs_chan.specs.Bridging.{awaited_by}
@@ -14,6 +18,7 @@ use Rattle.fs_state.specs.Bridging.{can_join}
 use Rattle.fs_state.proofs.LegTables.{berthed}
 use Rattle.fs_machine.specs.Attempts.{awaits}
 use Rattle.fs_machine.proofs.Kept.{raced, HasWon}
+use Rattle.fs_machine.proofs.DrawnLemmas.{hung_drawn}
 use Rattle.fs_machine.proofs.LegLemmas.{roles_of, IsLegOf, LegsStand}
 use Rattle.fs_machine.proofs.LegHangups.{winning_leg}
 use Rattle.fs_machine.proofs.BondTables.{Bonds}
@@ -39,7 +44,7 @@ is_waiting_for s slot orig is = by (chan_at s slot) refl is
     by (Some c) there is = record { chan = c; there = there; waits = number_is orig (awaited_by c) is }
 
 -- one that waits for an origination, and a live leg of it
-module _ (s : Switch) (slot leg orig : ℕ) (bonds : Bonds s) (owners : Awaits s) (one : IsWaitingFor s slot orig) (other : Chan)
+module _ (s : Switch) (slot leg orig : ℕ) (left : has_number_left s.bridges ≡ true) (bonds : Bonds s) (owners : Awaits s) (one : IsWaitingFor s slot orig) (other : Chan)
     (there : chan_at s leg ≡ Some other) (live : is_live other ≡ true) (names : other.leg_of ≡ Some orig) where
   differ : slot ≢ leg
   differ same =
@@ -66,15 +71,17 @@ module _ (s : Switch) (slot leg orig : ℕ) (bonds : Bonds s) (owners : Awaits s
   both_join : can_join slot leg s ≡ true
   both_join =
       can_join_by slot leg s differ (ap lives one.there ∙ owners.live slot orig one.chan one.there one.waits) (ap lives there ∙ live)
-      waits_alone leg_alone
+      waits_alone leg_alone left
 
 pub winner_joins : (before : Switch) (slot orig : ℕ) (leg : OrigLeg) (slots : List ℕ) → LegsStand (roles_of before) →
-    HasWon before orig leg slots → Bonds (raced slots before) → Awaits (raced slots before) →
+    has_number_left before.bridges ≡ true → HasWon before orig leg slots → Bonds (raced slots before) → Awaits (raced slots before) →
     awaits slot orig (raced slots before) ≡ true →
     can_join slot (unwrap_or leg.slot 0) (raced slots before) ≡ true
-winner_joins before slot orig leg slots stand won bonds owners waits =
+winner_joins before slot orig leg slots stand left won bonds owners waits =
     let s : Switch = raced slots before in
+    let still : has_number_left s.bridges ≡ true =
+    ap (λ drawn. nat_lt (drawn + 1) (2 ^ 64)) (hung_drawn (map (λ loser. (loser, LoseRace)) slots) before) ∙ left in
     let stands : IsLegOf s.channels (berthed orig leg.slot) = winning_leg before orig leg slots won stand in
     let at : chan_at s (unwrap_or leg.slot 0) ≡ Some stands.chan =
     ap (λ (which : Option ℕ). chan_at s (unwrap_or which 0)) stands.is ∙ stands.there in
-    both_join s slot (unwrap_or leg.slot 0) orig bonds owners (is_waiting_for s slot orig waits) stands.chan at stands.live stands.names
+    both_join s slot (unwrap_or leg.slot 0) orig still bonds owners (is_waiting_for s slot orig waits) stands.chan at stands.live stands.names

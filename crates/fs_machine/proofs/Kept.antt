@@ -137,15 +137,16 @@ pub record KeptByTouches (P : Fact) : Type 0 where
   pub answers : (seat slot number : ℕ) {b : Stage} {s : Switch} → P b s →
       P b (orig_changed (leg_changed (λ position. with_answer position seat) slot) number s)
 
--- a slot was in no bridge before anything had begun in the entry
-pub record WasApart (P : Fact) (slot : ℕ) : Type 0 where
+-- a slot was in no bridge before anything had begun in the entry, and none was joined since then
+pub record WasApart (P : Fact) (s : Switch) (slot : ℕ) : Type 0 where
   pub past : Switch
   pub first : P None past
   pub apart : bridge_at past slot ≡ None
+  pub drawn : s.bridges.drawn ≡ past.bridges.drawn
 
 -- so it was by what a fact tells
-pub apart_by : {P Q : Fact} (slot : ℕ) → WasApart P slot → ((s : Switch) → P None s → Q None s) → WasApart Q slot
-apart_by slot was tells = record { past = was.past; first = tells was.past was.first; apart = was.apart }
+pub apart_by : {P Q : Fact} {s : Switch} (slot : ℕ) → WasApart P s slot → ((t : Switch) → P None t → Q None t) → WasApart Q s slot
+apart_by slot was tells = record { past = was.past; first = tells was.past was.first; apart = was.apart; drawn = was.drawn }
 
 -- what channels do, and what is done to them
 pub record KeptByCalls (P : Fact) : Type 0 where
@@ -153,7 +154,7 @@ pub record KeptByCalls (P : Fact) : Type 0 where
   pub hung : (named : Members) {s : Switch} → P None s → P (Some 0) s → P (Some 0) (after_hangups named s)
   pub joined : (kind : BridgeKind) (caller answerer : ℕ) (c d : Chan) {n : ℕ} {s : Switch} → can_join caller answerer s ≡ true →
       chan_at s caller ≡ Some c → chan_at s answerer ≡ Some d → c.leg_of ≡ None → d.leg_of ≡ None →
-      awaited_by c ≡ None → awaited_by d ≡ None → WasApart P caller → WasApart P answerer → P (Some n) s →
+      awaited_by c ≡ None → awaited_by d ≡ None → WasApart P s caller → WasApart P s answerer → P (Some n) s →
       P (Some n) (joined_as kind caller answerer s)
   pub leaves : (one other : ℕ) {s : Switch} → IsApart s one → IsApart s other → P None s → P (Some 0) s → P (Some 0) (both_left one other s)
   pub departs : (slot : ℕ) {s : Switch} → P None s → P (Some 0) s → P (Some 0) (after_departure slot s)

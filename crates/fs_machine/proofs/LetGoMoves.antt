@@ -271,7 +271,7 @@ module _ (before : Switch) where
       (λ row cause is. subst Begins is tt)
       (peer_ended answerer caller n (with_peer caller answerer t) second (peer_ended caller answerer n t first h))
 
-  was_apart : (slot : ℕ) → WasApart (Ending before) slot → bridge_at before slot ≡ None
+  was_apart : (slot : ℕ) {s : Switch} → WasApart (Ending before) s slot → bridge_at before slot ≡ None
   was_apart slot was = ap (part_of slot) (sym was.first.same) ∙ was.apart
 
   -- ---- channels are born

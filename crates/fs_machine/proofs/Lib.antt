@@ -20,8 +20,10 @@ pub mod TryWalk
 pub mod Walk
 pub mod WonLemmas
 pub mod RestLemmas
+pub mod DrawnLemmas
 pub mod FrontLemmas
 pub mod ActWalk
+pub mod JoinMoves
 pub mod ConstantMoves
 pub mod KeepLemmas
 pub mod PartLemmas

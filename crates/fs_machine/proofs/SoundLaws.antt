@@ -24,7 +24,7 @@ use Rattle.fs_machine.proofs.JoinableLemmas.{winner_joins}
 use Rattle.fs_machine.proofs.BondTables.{NoSlot}
 use Rattle.fs_machine.proofs.BondHangups.{hung_bonds}
 use Rattle.fs_machine.proofs.AwaitedLemmas.{hung_await}
-use Rattle.fs_machine.proofs.StandingLemmas.{Standing, at_its_moment, standing_run}
+use Rattle.fs_machine.proofs.StandingLemmas.{Standing, at_its_moment, number_left, standing_run}
 use Rattle.fs_machine.proofs.SoundLemmas.{partners_agree, live_has_partner, profiles_are_short, identifiers_differ, run_has_legs}
 use Rattle.fs_machine.proofs.SoundLemmas.{run_legs_undecided, failures_are_told, run_rows_agree, run_waits_bridged, owners_wait}
 use Rattle.fs_machine.proofs.OwedLaws.{run_is_owed}
@@ -46,6 +46,7 @@ sound_run config entries within run = record {
   owners = owners_wait config entries within run;
   owed = run_is_owed config entries within run;
   events = events_are_few config entries within run;
+  numbers = number_left (run_from (empty config) entries) (standing_run config entries within run);
 }
 
 -- and so is that of a machine
@@ -96,7 +97,7 @@ winner_can s h slot number leg won =
     } in
     let named : Members = map (λ loser. (loser, LoseRace)) slots in
     let joins : can_join slot (unwrap_or w.its.slot 0) (raced slots s) ≡ true =
-    winner_joins s slot number w.its slots h.legs wins (hung_bonds named s h.bonds) (hung_await NoSlot named s h.waits) won.waits in
+    winner_joins s slot number w.its slots h.legs (number_left s h) wins (hung_bonds named s h.bonds) (hung_await NoSlot named s h.waits) won.waits in
     win_told_kept (λ (t : Switch). can_join slot leg.slot t ≡ true) (can_join_touches slot leg.slot) slot
     (without_orig number (raced slots s))
     (ap (λ (seat : ℕ). can_join slot seat (raced slots s)) (sym at) ∙ joins)

@@ -14,9 +14,9 @@ use Rattle.fs_machine.proofs.BerthLemmas.{Berthed}
 use Rattle.fs_machine.proofs.BerthMoves.{berthing_moves}
 use Rattle.std.proofs.Common.{refl, ◌≡◌, ℕ, ◌+◌, ◌-◌, ◌*◌, ◌^◌, ◌<◌, ◌≤◌, min, true, List, [], ◌∷◌, length, None, Some, sym, ap, subst}
 use Rattle.std.proofs.Common.{option_and_then, ◌∙◌, arith}
-use Rattle.std.proofs.lemmas.Bool.{both_ways}
+use Rattle.std.proofs.lemmas.Bool.{both_ways, lt-ltb, ltb-false}
 use Rattle.std.proofs.lemmas.Option.{none-some}
-use Rattle.fs_bridge.specs.Bridges.{no_bridges}
+use Rattle.fs_bridge.specs.Bridges.{no_bridges, has_number_left}
 use Rattle.fs_bridge.specs.Laws.{IsSound}
 use Rattle.fs_machine.specs.declared.entry.Act.{Act}
 use Rattle.fs_seats.specs.Rows.{has_number}
@@ -39,7 +39,9 @@ use Rattle.fs_machine.specs.Step.{refusal_of, act_done, step}
 use Rattle.fs_machine.specs.Runs.{run_from, IsRunFrom}
 use Rattle.fs_machine.proofs.Kept.{Stage, Fact, KeptByMoves}
 use Rattle.fs_machine.proofs.TieLemmas.{named_in, Ties}
-use Rattle.fs_machine.proofs.OrderLemmas.{acted_settings}
+use Rattle.fs_machine.proofs.FrameLemmas.{some_cost}
+use Rattle.fs_machine.proofs.JoinMoves.{acted_joins}
+use Rattle.fs_machine.proofs.OrderLemmas.{acted_settings, acted_cost, not_full, paid_more}
 use Rattle.fs_machine.proofs.ActWalk.{acted_kept}
 use Rattle.fs_machine.proofs.PartnerMoves.{ArePaired, Partners, partners_moves}
 use Rattle.fs_machine.proofs.SeenLemmas.{seen, numbers_stay}
@@ -53,7 +55,7 @@ use Rattle.fs_machine.proofs.SlotCounts.{few_slots}
 use Rattle.fs_machine.proofs.OwedSteps.{Holds, holds_empty, holds_step, few_drawn}
 
 -- what is owed, the legs of originations, bridges, whose originations there are, partners, what jobs try, who waits for what, which legs
--- channels are, and how many slots there are
+-- channels are, how many slots there are, and what each number of a bridge cost
 pub record Standing (s : Switch) : Type 0 where
   pub holds : Holds (books_of s)
   pub legs : LegsStand (roles_of s)
@@ -66,6 +68,15 @@ pub record Standing (s : Switch) : Type 0 where
   pub berths : Berthed s
   pub slots : length s.channels ≡ s.settings.max_sessions + 1
   pub sessions : s.settings.max_sessions ≤ 256
+  pub bridges : 64 * s.bridges.drawn ≤ s.cost
+  pub cost : s.cost < 2 ^ 64
+
+-- so there is a number for one more bridge
+pub number_left : (s : Switch) → Standing s → has_number_left s.bridges ≡ true
+number_left s h =
+    let paid : 64 * s.bridges.drawn ≤ s.cost = h.bridges in
+    let cost : s.cost < 2 ^ 64 = h.cost in
+    lt-ltb (s.bridges.drawn + 1) (2 ^ 64) (omega (arith, paid, cost))
 
 -- ---- a switch to which nothing has happened
 
@@ -174,6 +185,8 @@ standing_empty config within = record {
   berths = λ slot number c there names. absurd (no_chan config slot c there);
   slots = no_seats_length Chan (config.settings.max_sessions + 1);
   sessions = within.settings.sessions.1;
+  bridges = omega arith;
+  cost = omega arith;
 }
 
 -- ---- entries
@@ -234,7 +247,7 @@ module _ (s : Switch) (few : s.drawn.origs < 2 ^ 30) (h : Standing s) where
 
   waiting_moves : KeptByMoves s Waiting
   waiting_moves =
-      awaited_moves s h.legs (Known s) (known_moves s h.legs) (λ b t known. known.0.bonds)
+      awaited_moves s h.legs (number_left s h) (Known s) (known_moves s h.legs) (λ b t known. known.0.bonds)
       (λ t known job conn orig winner caller does slot has. jobs_apart s t known job conn orig winner caller does slot has.orig has.there
       has.owned)
       (fresh_number s) (room_there s (jobs_few s h) (all_seats s h) (slots_within s h))
@@ -256,7 +269,7 @@ module _ (s : Switch) (few : s.drawn.origs < 2 ^ 30) (h : Standing s) where
 
   acting : KeptByMoves s Acting
   acting =
-      berthing_moves s h.legs h.berths Having having (λ b t k. k.1.0.0.0.bonds) (λ b t k. k.1.0.0.1.0.zero)
+      berthing_moves s h.legs (number_left s h) h.berths Having having (λ b t k. k.1.0.0.0.bonds) (λ b t k. k.1.0.0.1.0.zero)
       (λ b t k. k.0 (few_meanwhile s few b t k.1.0.0)) (λ b t k. k.1.0.1)
       (λ t k slot c there none new. room_there s (jobs_few s h) (all_seats s h) (slots_within s h) t k.1.0.0 slot c there none new)
       (λ t k free new. room_for_job s h.holds.sound.tries (slots_within s h) t k.1.0.0 free new)
@@ -278,6 +291,8 @@ at_its_moment moment s h = record {
   berths = h.berths;
   slots = h.slots;
   sessions = h.sessions;
+  bridges = h.bridges;
+  cost = h.cost;
 }
 
 pub standing_step : (s : Switch) (entry : Entry) → refusal_of s entry ≡ None → Standing s → Standing (step s entry).state
@@ -302,6 +317,9 @@ standing_step s entry accepts h =
         let t : Switch = (act_done entry.act now).state in
         let known : Known now (Some 1) t = k.0.1.0.0 in
         let paid : 64 * t.drawn.origs ≤ min (t.cost + cost_of entry.act) (2 ^ 64 - 1) = holds.paid.origs in
+        let same : t.cost ≡ s.cost = acted_cost entry.act now in
+        let total : min (t.cost + cost_of entry.act) (2 ^ 64 - 1) < 2 ^ 64 = omega arith in
+        let joins : t.bridges.drawn ≤ s.bridges.drawn + 1 = acted_joins now entry.act in
         record {
           holds = holds;
           legs = k.0.0 (omega (arith, paid));
@@ -315,6 +333,10 @@ standing_step s entry accepts h =
           slots = known.1.1.0.slots
               ∙ (h.slots ∙ ap (λ (settings : Settings). settings.max_sessions + 1) (sym (acted_settings entry.act now)));
           sessions = subst (λ (settings : Settings). settings.max_sessions ≤ 256) (sym (acted_settings entry.act now)) h.sessions;
+          bridges = subst (λ cost. 64 * t.bridges.drawn ≤ min (cost + cost_of entry.act) (2 ^ 64 - 1)) (sym same)
+              (paid_more s.bridges.drawn t.bridges.drawn s.cost (cost_of entry.act) s.settings.journal_limit joins h.bridges
+              (ltb-false s.settings.journal_limit (s.cost + 65600) (not_full s entry accepts)) h.holds.paid.limit (some_cost entry.act));
+          cost = total;
         }
 
 -- ---- runs

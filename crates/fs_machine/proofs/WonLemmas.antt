@@ -4,6 +4,7 @@ use Rattle.std.proofs.Common.{true≢false}
 use Rattle.std.specs.Prelude.{◌&&◌, not, is_none, codes}
 use Rattle.std.proofs.lemmas.Bool.{false≢true, ne_eqb}
 use Rattle.std.proofs.lemmas.Cmp.{nat_eq_equiv}
+use Rattle.fs_bridge.specs.Bridges.{has_number_left}
 use Rattle.fs_bridge.specs.declared.row.BridgeKind.TheVariants.{Dial}
 use Rattle.fs_bridge.specs.declared.row.Row.{Row}
 use Rattle.fs_chan.specs.Bridging.{in_media}
@@ -34,17 +35,22 @@ module _ (caller answerer : ℕ) (s : Switch) (can : can_join caller answerer s 
   lone : Bool
   lone = is_none (bridge_at s caller) && is_none (bridge_at s answerer)
 
-  both_live : both ≡ true
+  all_but_number : ((apart && both) && lone) ≡ true
   unfolding apart both lone
-  both_live = right_holds apart both (left_holds (apart && both) lone can)
+  all_but_number = left_holds ((apart && both) && lone) (has_number_left s.bridges) can
+
+  pub number_left : has_number_left s.bridges ≡ true
+  unfolding apart both lone
+  number_left = right_holds ((apart && both) && lone) (has_number_left s.bridges) can
+
+  both_live : both ≡ true
+  both_live = right_holds apart both (left_holds (apart && both) lone all_but_number)
 
   apart_holds : apart ≡ true
-  unfolding apart both lone
-  apart_holds = left_holds apart both (left_holds (apart && both) lone can)
+  apart_holds = left_holds apart both (left_holds (apart && both) lone all_but_number)
 
   lone_holds : lone ≡ true
-  unfolding apart both lone
-  lone_holds = right_holds (apart && both) lone can
+  lone_holds = right_holds (apart && both) lone all_but_number
 
   pub joins_apart : caller ≢ answerer
   unfolding apart
@@ -69,14 +75,17 @@ module _ (caller answerer : ℕ) (s : Switch) (can : can_join caller answerer s 
 
 -- and so they can be joined
 pub can_join_by : (caller answerer : ℕ) (s : Switch) → caller ≢ answerer → lives_at s caller ≡ true → lives_at s answerer ≡ true →
-    bridge_at s caller ≡ None → bridge_at s answerer ≡ None → can_join caller answerer s ≡ true
-can_join_by caller answerer s differ lives live lone alone =
-    ap (λ test. not test && (lives_at s caller && lives_at s answerer) && (is_none (bridge_at s caller) && is_none (bridge_at s answerer)))
+    bridge_at s caller ≡ None → bridge_at s answerer ≡ None → has_number_left s.bridges ≡ true → can_join caller answerer s ≡ true
+can_join_by caller answerer s differ lives live lone alone left =
+    ap (λ test. not test && (lives_at s caller && lives_at s answerer) && (is_none (bridge_at s caller) && is_none (bridge_at s answerer))
+    && has_number_left s.bridges)
     (ne_eqb caller answerer differ)
-    ∙ ap (λ test. (test && lives_at s answerer) && (is_none (bridge_at s caller) && is_none (bridge_at s answerer))) lives
-    ∙ ap (λ test. test && (is_none (bridge_at s caller) && is_none (bridge_at s answerer))) live
-    ∙ ap (λ (found : Option Row). is_none found && is_none (bridge_at s answerer)) lone
-    ∙ ap (λ (found : Option Row). is_none found) alone
+    ∙ ap (λ test. (test && lives_at s answerer) && (is_none (bridge_at s caller) && is_none (bridge_at s answerer)) && has_number_left s.bridges)
+    lives
+    ∙ ap (λ test. test && (is_none (bridge_at s caller) && is_none (bridge_at s answerer)) && has_number_left s.bridges) live
+    ∙ ap (λ (found : Option Row). (is_none found && is_none (bridge_at s answerer)) && has_number_left s.bridges) lone
+    ∙ ap (λ (found : Option Row). is_none found && has_number_left s.bridges) alone
+    ∙ left
 
 -- whatever leaves a channel what it is to others leaves them so
 pub can_join_touches : (caller answerer : ℕ) → KeptByTouches (λ b s. can_join caller answerer s ≡ true)
@@ -88,7 +97,7 @@ can_join_touches caller answerer = record {
       held_put lives s.channels slot (Some new) (ap lives there ∙ sym stays.live) in
       can_join_by caller answerer (with_chan slot (Some new) s) (joins_apart caller answerer s h)
       (same caller ∙ caller_lives caller answerer s h) (same answerer ∙ answerer_lives caller answerer s h)
-      (caller_lone caller answerer s h) (answerer_lone caller answerer s h);
+      (caller_lone caller answerer s h) (answerer_lone caller answerer s h) (number_left caller answerer s h);
   answers = λ seat slot number {s = s} h. by seat slot number s h (orig_of s number);
 }
   where

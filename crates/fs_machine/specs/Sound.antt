@@ -3,6 +3,7 @@ use Rattle.std.specs.Prelude.{◌≡◌, ◌≢◌, ◌≤◌, ℕ, Bool, true, 
 use Rattle.fs_text.specs.declared.states.State.{State}
 use Rattle.fs_text.specs.declared.states.State.TheVariants.{CsNew, CsInit, CsConsumeMedia}
 use Rattle.fs_text.specs.declared.causes.Cause.{Cause}
+use Rattle.fs_bridge.specs.Bridges.{has_number_left}
 use Rattle.fs_bridge.specs.declared.row.Row.{Row}
 use Rattle.fs_bridge.specs.Closure.{peer_in}
 use Rattle.fs_bridge.specs.Hangups.{IsOneOf}
@@ -173,3 +174,5 @@ pub record IsSound (s : Switch) : Type 0 where
   pub owners : OwnersWait s
   pub owed : AreOwed s
   pub events : EventsAreFew s
+  -- there is a number for one more bridge
+  pub numbers : has_number_left s.bridges ≡ true

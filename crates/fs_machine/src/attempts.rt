@@ -1,5 +1,5 @@
 //! Originations that jobs and channels try: how they begin, and what comes of them.
-ghost use Rattle.std.specs.Prelude.{◌≡◌, ◌<◌, ◌++◌, None, length, slice_get, IfOk};
+ghost use Rattle.std.specs.Prelude.{◌≡◌, ◌<◌, ◌^◌, ◌++◌, None, length, slice_get, IfOk};
 ghost use Rattle.std.specs.Option.{option_and_then};
 ghost use Rattle.fs_text.specs.declared.causes.Cause.TheVariants.{LoseRace, NoAnswer};
 ghost use Rattle.fs_orig.specs.Legs as orig_legs;
@@ -107,9 +107,10 @@ pub(crate) fn begin_originate(
     begin_job(draft, conn, work)
 }
 
-/// The group that is tried first.
+/// The group that is tried first: less than 2^32 legs.
 pub(crate) fn first_group(groups: &LegPlans) -> &[LegPlan]
-    ensures { result.now ≡ spec.first_group groups.now }
+    ensures group { result.now ≡ spec.first_group groups.now }
+    ensures bound { length result.now < 2 ^ 32 }
 {
     match groups.as_slice().first() {
         Some(group) => group.as_slice(),
@@ -278,6 +279,7 @@ fn make_group_for(
     plans: &[LegPlan],
     orig: u64,
 ) -> Result<OrigLegs, Memory>
+    requires { length plans.now < 2 ^ 32 }
     ensures base { draft.new.base ≡ draft.old.base }
     ensures made { IfOk result
         (GroupComesTo (spec.group_for party.now plans.now orig (drafted draft.old)) (drafted draft.new)) }

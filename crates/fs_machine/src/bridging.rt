@@ -1,6 +1,6 @@
 //! Bridges that channels dial: how the legs are made for one, and what it does once a leg has won or all have failed.
 
-ghost use Rattle.std.specs.Prelude.{◌≡◌, IfOk};
+ghost use Rattle.std.specs.Prelude.{◌≡◌, ◌<◌, ◌^◌, length, IfOk};
 ghost use Rattle.std.specs.List.{list_any};
 ghost use Rattle.std.specs.Option.{option_copied};
 ghost use Rattle.fs_chan.specs.Exports.{names_of};
@@ -28,6 +28,7 @@ pub(crate) fn dial_group(
     plans: &[LegPlan],
     orig: u64,
 ) -> Result<OrigLegs, Memory>
+    requires { length plans.now < 2 ^ 32 }
     ensures base { draft.new.base ≡ draft.old.base }
     ensures made { IfOk result
         (GroupComesTo (spec.group_dialed (chan_at (drafted draft.old) slot) plans.now orig (drafted draft.old))

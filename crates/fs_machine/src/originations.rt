@@ -1,6 +1,6 @@
 //! How the legs of an origination are made, and what a leg does that has won.
 
-ghost use Rattle.std.specs.Prelude.{◌≡◌, ◌+◌, [], ◌∷◌, Some, IfOk, OnOk};
+ghost use Rattle.std.specs.Prelude.{◌≡◌, ◌<◌, ◌+◌, ◌^◌, [], ◌∷◌, length, Some, IfOk, OnOk};
 ghost use Rattle.fs_chan.specs.Changes.{IsShortTarget};
 ghost use Rattle.fs_state.specs.Drafts.{drafted, Brings};
 ghost use Rattle.fs_state.specs.Switch.{identifier_of, with_next_identifier, free_slot};
@@ -34,7 +34,7 @@ pub(crate) struct End {
 
 // ---- a group of legs
 
-/// Makes the legs of an origination of this number that the plans of a group come to, one after another.
+/// Makes the legs of an origination of this number that the plans of a group, less than 2^32, come to, one after another.
 #[tactic(auto, using(crate::proofs::GroupLemmas::group_there, crate::proofs::GroupLemmas::group_done))]
 pub(crate) fn make_group(
     draft: &mut Draft<'_>,
@@ -42,6 +42,7 @@ pub(crate) fn make_group(
     caller: &Caller,
     orig: u64,
 ) -> Result<OrigLegs, Memory>
+    requires { length plans.now < 2 ^ 32 }
     ensures base { draft.new.base ≡ draft.old.base }
     ensures made { IfOk result
         (spec.GroupComesTo (spec.group_made plans.now caller.now orig (drafted draft.old)) (drafted draft.new)) }

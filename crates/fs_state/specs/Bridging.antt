@@ -3,7 +3,7 @@ use Rattle.std.specs.Prelude.{ℕ, ◌==◌, Bool, not, ◌&&◌, if◌then◌el
 use Rattle.fs_text.specs.declared.event_names.EventName.TheVariants.{ChannelBridge}
 use Rattle.fs_bridge.specs.declared.row.Row.{Row}
 use Rattle.fs_bridge.specs.declared.row.BridgeKind.{BridgeKind}
-use Rattle.fs_bridge.specs.Bridges.{next_row}
+use Rattle.fs_bridge.specs.Bridges.{has_number_left, next_row}
 use Rattle.fs_chan.specs.declared.chan.Chan.{Chan}
 use Rattle.fs_chan.specs.declared.peer.Peer.{Peer}
 use Rattle.fs_chan.specs.Bridging.{bridged}
@@ -17,11 +17,12 @@ use Rattle.fs_state.specs.Hangups.{lives_at}
 abbrev pub bridge_event : Row → Event
 bridge_event row = record { name = ChannelBridge; slot = row.caller; detail = Bridge row }
 
--- two slots can be joined: they differ, their channels are live, and neither is in a bridge
+-- two slots can be joined: they differ, their channels are live, neither is in a bridge, and there is a number for one more
 abbrev pub can_join : ℕ → ℕ → Switch → Bool
 can_join caller answerer s =
     not (caller == answerer) && (lives_at s caller && lives_at s answerer)
     && (is_none (bridge_at s caller) && is_none (bridge_at s answerer))
+    && has_number_left s.bridges
 
 -- the channel in a slot, as its peer names it
 abbrev pub peer_of : ℕ → Chan → Peer

@@ -23,13 +23,15 @@ impl<'a> Draft<'a> {
         }
     }
 
-    /// Whether two slots can be joined: they differ, their channels are live, and neither is in a bridge.
+    /// Whether two slots can be joined: they differ, their channels are live, neither is in a bridge, and there is a
+    /// number for one more.
     pub fn can_join(&self, caller: u16, answerer: u16) -> bool
         ensures { result ≡ spec.can_join caller answerer (drafted self.now) }
     {
         caller != answerer
             && (self.lives(caller) && self.lives(answerer))
             && (self.bridge_at(caller).is_none() && self.bridge_at(answerer).is_none())
+            && self.has_bridge_number_left()
     }
 
     /// Two channels are joined: there is a bridge, and each names the other.

@@ -1,5 +1,5 @@
 //! A draft: a switch that is kept, and what is to change of it.
-ghost use Rattle.std.specs.Prelude.{◌≡◌, ◌≢◌, ◌≤◌, Option, Some, None, length, slice_get, MatchOption, IfOk};
+ghost use Rattle.std.specs.Prelude.{◌≡◌, ◌≢◌, ◌≤◌, true, Option, Some, None, length, slice_get, MatchOption, IfOk};
 ghost use Rattle.std.specs.Option.{option_copied};
 ghost use Rattle.fs_seats.specs.Overlays.{over};
 ghost use Rattle.fs_seats.specs.Seats.{IsEmptyFrom};
@@ -8,7 +8,7 @@ ghost use Rattle.fs_seats.specs.Rows as rows;
 ghost use Rattle.fs_state.specs.declared.delta.OutboxChange.TheVariants as change;
 ghost use Rattle.fs_state.specs.Drawn as numbers;
 ghost use Rattle.fs_state.specs.Switch as spec;
-ghost use Rattle.fs_bridge.specs.Bridges.{BridgeRows};
+ghost use Rattle.fs_bridge.specs.Bridges.{BridgeRows, has_number_left};
 ghost use Rattle.fs_state.specs.Drafts.{Brings, after, drafted, chan_in, with_chan_in, chan_taken_back};
 ghost use Rattle.std.specs.Prelude.{◌-◌, ◌^◌, ◌<◌, min};
 ghost use Rattle.fs_state.specs.Drafts.{with_bridges_in, Fits};
@@ -343,6 +343,17 @@ impl<'a> Draft<'a> {
         }
     }
 
+    /// Whether there is a number for one more bridge.
+    pub(crate) fn has_bridge_number_left(&self) -> bool
+        ensures { result ≡ has_number_left (drafted self.now).bridges }
+    {
+        let core = self.core;
+        match &self.delta.bridges {
+            Some(bridges) => bridges.has_number_left(),
+            None => core.bridges.has_number_left(),
+        }
+    }
+
     /// Begins a bridge between two slots, whose number is the next.
     pub(crate) fn add_bridge(
         &mut self,
@@ -353,6 +364,7 @@ impl<'a> Draft<'a> {
         requires apart { caller ≢ answerer }
         requires caller { spec.bridge_at (drafted self.old) caller ≡ None }
         requires answerer { spec.bridge_at (drafted self.old) answerer ≡ None }
+        requires left { has_number_left (drafted self.old).bridges ≡ true }
         ensures number { IfOk result (λ number. number ≡ spec.next_bridge_number (drafted self.old)) }
         ensures draft { Brings result self.old self.new (spec.with_bridge caller answerer kind (drafted self.old)) }
     {

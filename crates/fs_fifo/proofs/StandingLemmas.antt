@@ -1,0 +1,82 @@
+-- Which slots stand in a queue, once one is put among the callers, or one is taken.
+use Rattle.std.proofs.Common.{◌≡◌, ℕ, ◌+◌, ◌≤◌, ◌==◌, Bool, true, false, not, ◌||◌, ◌&&◌, List, [], ◌∷◌, Some, refl, sym, ap, ◌∙◌, arith}
+use Rattle.std.proofs.Common.{if◌then◌else◌, count_by}
+use Rattle.std.specs.List.{find, list_any}
+use Rattle.std.proofs.lemmas.Bool.{eqb-true}
+use Rattle.std.proofs.lemmas.Bool.Decides.{nat_tests}
+use Rattle.std.proofs.lemmas.Map.Views.{any-filter_same}
+use Rattle.fs_fifo.specs.declared.caller.QueuedCaller.{QueuedCaller}
+use Rattle.fs_fifo.specs.Laws.{EnteredStands, TakenStandsNowhere, LeftStandsNowhere}
+use Rattle.fs_fifo.specs.Queues.{has_slot, is_behind, waits_in, placed, newcomer, without_first}
+use Rattle.fs_fifo.proofs.CountLemmas.{one_if, count_front, none_stands, found_counted}
+
+or_swap : (a b c : Bool) → (a || (b || c)) ≡ (b || (a || c))
+or_swap true true c = refl
+or_swap true false c = refl
+or_swap false true c = refl
+or_swap false false c = refl
+
+any_placed : (test : QueuedCaller → Bool) (new : QueuedCaller) (callers : List QueuedCaller) →
+    list_any test (placed new callers) ≡ (test new || list_any test callers)
+any_placed test new [] = refl
+any_placed test new (caller ∷ callers) = by (is_behind new.priority caller) (any_placed test new callers)
+  where
+    by : (b : Bool) → list_any test (placed new callers) ≡ (test new || list_any test callers) →
+        list_any test (if b then new ∷ caller ∷ callers else caller ∷ placed new callers)
+        ≡ (test new || (test caller || list_any test callers))
+    by true again = refl
+    by false again = ap (λ rest. test caller || rest) again ∙ or_swap (test caller) (test new) (list_any test callers)
+
+pub entered_stands : EnteredStands
+entered_stands name priority slot other queues = any_placed (has_slot other) (newcomer name priority slot queues) queues.callers
+
+-- among callers of which one at most passes, none passes once that one is taken
+any_taken : (test out : QueuedCaller → Bool) (one : QueuedCaller) (callers : List QueuedCaller) →
+    find out callers ≡ Some one → count_by test callers ≤ 1 →
+    list_any test (without_first out callers) ≡ (if test one then false else list_any test callers)
+any_taken test out one [] found once = absurd (cc)
+any_taken test out one (caller ∷ callers) found once =
+    by (out caller) found (any_taken test out one callers) (count_front test caller callers)
+  where
+    rest : List QueuedCaller
+    rest = without_first out callers
+
+    here : (b : Bool) → test caller ≡ b → count_by test (caller ∷ callers) ≡ one_if b + count_by test callers →
+        list_any test callers ≡ (if b then false else (b || list_any test callers))
+    here true e front = none_stands test callers (omega (arith, front, once))
+    here false e front = refl
+
+    behind : (b t : Bool) → test caller ≡ b → test one ≡ t → find out callers ≡ Some one →
+        count_by test (caller ∷ callers) ≡ one_if b + count_by test callers →
+        list_any test rest ≡ (if t then false else list_any test callers) →
+        (b || list_any test rest) ≡ (if t then false else (b || list_any test callers))
+    behind true true e passes is front again =
+        let counted = found_counted test out one callers is passes in absurd (omega (arith, front, once, counted))
+    behind true false e passes is front again = refl
+    behind false true e passes is front again = again
+    behind false false e passes is front again = again
+
+    by : (b : Bool) → (if b then Some caller else find out callers) ≡ Some one →
+        (find out callers ≡ Some one → count_by test callers ≤ 1 → list_any test rest ≡ (if test one then false else list_any test callers)) →
+        count_by test (caller ∷ callers) ≡ one_if (test caller) + count_by test callers →
+        list_any test (if b then callers else caller ∷ rest) ≡ (if test one then false else (test caller || list_any test callers))
+    by true is again front =
+        let same : caller ≡ one = cc in
+        here (test caller) refl front ∙ ap (λ c. if test c then false else (test caller || list_any test callers)) same
+    by false is again front = behind (test caller) (test one) refl refl is front (again is (omega (arith, front, once)))
+
+pub taken_stands_nowhere : TakenStandsNowhere
+taken_stands_nowhere name caller slot queues sound is =
+    any_taken (has_slot slot) (waits_in name) caller queues.callers is (sound.once slot)
+
+pub left_stands_nowhere : LeftStandsNowhere
+left_stands_nowhere slot other queues =
+    any-filter_same (has_slot other) (λ caller. not (has_slot slot caller)) (not (slot == other)) same queues.callers
+    ∙ by (slot == other)
+  where
+    same : (caller : QueuedCaller) → (caller.slot == other) ≡ true → not (caller.slot == slot) ≡ not (slot == other)
+    same caller is = grind (arith, nat_tests)
+
+    by : (b : Bool) → (not b && list_any (has_slot other) queues.callers) ≡ (if b then false else list_any (has_slot other) queues.callers)
+    by true = refl
+    by false = refl

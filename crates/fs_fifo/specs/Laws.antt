@@ -1,0 +1,95 @@
+-- What holds of all queues, and of every change of them.
+use Rattle.std.specs.Prelude.{◌≡◌, ◌≢◌, ◌<◌, ◌≤◌, ◌^◌, ◌==◌, ◌||◌, ℕ, false, not, if◌then◌else◌, List, ◌∷◌, ◌++◌}
+use Rattle.std.specs.Prelude.{Option, None, Some, option_to_list, filter, All, count_by}
+use Rattle.std.specs.List.{AllPairs}
+use Rattle.fs_text.specs.Texts.{Text}
+use Rattle.fs_fifo.specs.declared.caller.QueuedCaller.{QueuedCaller}
+use Rattle.fs_fifo.specs.Queues.{Queues, has_slot, queue, stands, queue_of, newcomer, entered, first, taken, left}
+
+-- a caller comes before another: by priority, and of equal ones by arrival
+pub record IsBefore (caller later : QueuedCaller) : Type 0 where
+  pub priority : caller.priority ≤ later.priority
+  pub arrival : caller.priority ≡ later.priority → caller.arrival < later.arrival
+
+-- what holds of all queues
+pub record IsSound (queues : Queues) : Type 0 where
+  pub order : AllPairs IsBefore queues.callers
+  pub arrived : All (λ caller. caller.arrival ≤ queues.arrivals) queues.callers
+  pub slots : All (λ caller. caller.slot < 2 ^ 16) queues.callers
+  -- a slot stands in all queues once at most
+  pub once : (slot : ℕ) → count_by (has_slot slot) queues.callers ≤ 1
+
+-- ---- what each change makes of a queue
+
+-- a queue is in order
+abbrev pub QueuesAreOrdered : Type 0
+QueuesAreOrdered = (name : Text) (queues : Queues) → IsSound queues → AllPairs IsBefore (queue name queues)
+
+-- a queue is the caller that is taken, if there is one, and behind it those who wait on
+abbrev pub FirstIsTaken : Type 0
+FirstIsTaken =
+    (name : Text) (queues : Queues) → queue name queues ≡ option_to_list (first name queues) ++ queue name (taken name queues)
+
+-- the caller that is taken comes before all who wait on
+abbrev pub LeastIsTaken : Type 0
+LeastIsTaken =
+    (name : Text) (caller : QueuedCaller) (queues : Queues) → IsSound queues → first name queues ≡ Some caller →
+    All (IsBefore caller) (queue name (taken name queues))
+
+-- of a queue, before and after: one more stands in it, behind all of its priority and of lesser numbers
+pub record IsPlaced (new : QueuedCaller) (before after : List QueuedCaller) : Type 0 where
+  pub front : List QueuedCaller
+  pub behind : List QueuedCaller
+  pub old : before ≡ front ++ behind
+  pub now : after ≡ front ++ new ∷ behind
+  pub sooner : All (λ caller. caller.priority ≤ new.priority) front
+  pub later : All (λ caller. new.priority < caller.priority) behind
+
+-- a caller that enters a queue is put there
+abbrev pub EnteredIsPlaced : Type 0
+EnteredIsPlaced =
+    (name : Text) (priority slot : ℕ) (queues : Queues) → IsSound queues →
+    IsPlaced (newcomer name priority slot queues) (queue name queues) (queue name (entered name priority slot queues))
+
+-- a caller that leaves goes out of its queue, wherever it stands there
+abbrev pub LeftIsGone : Type 0
+LeftIsGone =
+    (name : Text) (slot : ℕ) (queues : Queues) →
+    queue name (left slot queues) ≡ filter (λ caller. not (has_slot slot caller)) (queue name queues)
+
+-- no other queue is changed by what is done in the queue of a name
+pub record OthersStayIn (name other : Text) (queues : Queues) : Type 0 where
+  pub entered : (priority slot : ℕ) → queue other (entered name priority slot queues) ≡ queue other queues
+  pub taken : queue other (taken name queues) ≡ queue other queues
+  pub left : (slot : ℕ) → queue_of slot queues ≡ Some name → queue other (left slot queues) ≡ queue other queues
+
+abbrev pub OthersStay : Type 0
+OthersStay = (name other : Text) (queues : Queues) → IsSound queues → name ≢ other → OthersStayIn name other queues
+
+-- where nobody is taken, or leaves, all stays
+pub record NobodyChangesAny (queues : Queues) : Type 0 where
+  pub taken : (name : Text) → first name queues ≡ None → taken name queues ≡ queues
+  pub left : (slot : ℕ) → stands slot queues ≡ false → left slot queues ≡ queues
+
+abbrev pub NobodyChangesNothing : Type 0
+NobodyChangesNothing = (queues : Queues) → NobodyChangesAny queues
+
+-- ---- which slots stand in a queue
+
+-- whoever entered does, and whoever did before
+abbrev pub EnteredStands : Type 0
+EnteredStands =
+    (name : Text) (priority slot other : ℕ) (queues : Queues) →
+    stands other (entered name priority slot queues) ≡ ((slot == other) || stands other queues)
+
+-- whoever was taken does not, and whoever else did does
+abbrev pub TakenStandsNowhere : Type 0
+TakenStandsNowhere =
+    (name : Text) (caller : QueuedCaller) (slot : ℕ) (queues : Queues) → IsSound queues → first name queues ≡ Some caller →
+    stands slot (taken name queues) ≡ (if has_slot slot caller then false else stands slot queues)
+
+-- whoever left does not, and whoever else did does
+abbrev pub LeftStandsNowhere : Type 0
+LeftStandsNowhere =
+    (slot other : ℕ) (queues : Queues) →
+    stands other (left slot queues) ≡ (if slot == other then false else stands other queues)

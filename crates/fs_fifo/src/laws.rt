@@ -1,0 +1,23 @@
+//! What holds of every change of queues. The functions do nothing: they stand for their contracts.
+
+ghost use Rattle.fs_fifo.specs.Laws as law;
+
+/// Law: what each change makes of a queue. A queue is in order; who is taken comes before all who wait on; who enters
+/// is put behind all of its priority and of lesser numbers; who leaves goes out of the middle too. The other queues
+/// stay as they are, and so do all where nobody is taken or leaves.
+pub fn queues_law()
+    ensures order { law.QueuesAreOrdered }
+    ensures first { law.FirstIsTaken }
+    ensures least { law.LeastIsTaken }
+    ensures placed { law.EnteredIsPlaced }
+    ensures gone { law.LeftIsGone }
+    ensures others { law.OthersStay }
+    ensures nobody { law.NobodyChangesNothing }
+{}
+
+/// Law: which slots stand in a queue once one entered, was taken, or left.
+pub fn standing_law()
+    ensures entered { law.EnteredStands }
+    ensures taken { law.TakenStandsNowhere }
+    ensures left { law.LeftStandsNowhere }
+{}

@@ -1,6 +1,6 @@
 -- How many callers pass a test, as that of a slot, and so how many there can be.
 use Rattle.std.proofs.Common.{◌≡◌, ℕ, suc, ◌+◌, ◌<◌, ◌≤◌, ◌^◌, ◌==◌, Bool, true, false, ◌||◌, List, [], ◌∷◌, length, refl, sym, ap}
-use Rattle.std.proofs.Common.{subst, ◌∙◌, arith, if◌then◌else◌, filter, map, All, count_by, eqb, inl, inr, Option, Some}
+use Rattle.std.proofs.Common.{subst, ◌∙◌, arith, if◌then◌else◌, filter, map, All, count_by, eqb, inl, inr, Some}
 use Rattle.std.specs.List.{find, list_any, AllByRecursion, IsDistinct}
 use Rattle.std.proofs.lemmas.Bool.{eqb-true, or_cases, false≢true, true≢false}
 use Rattle.std.proofs.lemmas.Bool.Decides.{nat_tests}

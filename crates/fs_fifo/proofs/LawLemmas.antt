@@ -16,6 +16,7 @@ use Rattle.fs_fifo.specs.Queues.{waits_in, has_slot, placed, newcomer, without_f
 use Rattle.fs_fifo.proofs.CountLemmas.{one_if, count_front, none_stands}
 use Rattle.fs_fifo.proofs.OrderLemmas.{order_head, placed_splits}
 use Rattle.fs_fifo.proofs.PositionLemmas.{none_taken}
+use Rattle.fs_fifo.proofs.StandingLemmas.{stands_any}
 
 pub queues_are_ordered : QueuesAreOrdered
 queues_are_ordered name queues sound = AllPairs-filter IsBefore (waits_in name) queues.callers sound.order
@@ -185,5 +186,6 @@ others_stay name other queues sound apart =
 pub nobody_changes_nothing : NobodyChangesNothing
 nobody_changes_nothing queues = record {
   taken = λ name none. ap (λ callers. record queues { callers = callers }) (none_taken (waits_in name) queues.callers none);
-  left = λ slot none. ap (λ callers. record queues { callers = callers }) (none_left (has_slot slot) queues.callers none);
+  left = λ slot none. ap (λ callers. record queues { callers = callers })
+      (none_left (has_slot slot) queues.callers (sym (stands_any slot queues) ∙ none));
 }

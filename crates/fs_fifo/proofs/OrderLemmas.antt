@@ -1,5 +1,5 @@
 -- What holds of each caller, and the order in which they stand, once one is put among them or taken.
-use Rattle.std.proofs.Common.{◌≡◌, zero, suc, ◌<◌, ◌≤◌, Bool, true, false, List, [], ◌∷◌, ◌++◌, refl, ap, arith}
+use Rattle.std.proofs.Common.{◌≡◌, zero, suc, ◌<◌, ◌≤◌, Bool, true, false, List, [], ◌∷◌, refl, ap, arith}
 use Rattle.std.proofs.Common.{if◌then◌else◌, All}
 use Rattle.std.specs.Prelude.{nat_lt}
 use Rattle.std.specs.List.{AllPairs}

@@ -1,6 +1,7 @@
 -- Each change leaves queues of which all that holds of queues holds.
-use Rattle.std.proofs.Common.{◌≡◌, ℕ, ◌+◌, ◌<◌, ◌≤◌, ◌^◌, ◌==◌, Bool, true, false, not, refl, ap, subst, ◌∙◌, arith}
-use Rattle.std.proofs.Common.{filter, length, count_by}
+use Rattle.std.proofs.Common.{◌≡◌, ℕ, ◌+◌, ◌<◌, ◌≤◌, ◌^◌, ◌==◌, Bool, true, false, not, refl, sym, ap, subst, ◌∙◌}
+use Rattle.std.proofs.Common.{arith, length, count_by}
+use Rattle.std.specs.List.{list_any}
 use Rattle.std.proofs.lemmas.Bool.{eqb-true}
 use Rattle.std.proofs.lemmas.List.Elements.{All-filter, All-weaker}
 use Rattle.std.proofs.lemmas.List.Kept.{AllPairs-filter}
@@ -10,6 +11,7 @@ use Rattle.fs_fifo.specs.Laws.{IsBefore, IsSound}
 use Rattle.fs_fifo.specs.Queues.{Queues, waits_in, has_slot, stands, placed, newcomer, entered, taken, left}
 use Rattle.fs_fifo.proofs.CountLemmas.{one_if, count_placed, count_taken, count_kept, none_counted, few_callers}
 use Rattle.fs_fifo.proofs.OrderLemmas.{all_placed, order_placed, all_taken, order_taken}
+use Rattle.fs_fifo.proofs.StandingLemmas.{stands_any}
 
 pub entered_sound : (name : Text) (priority slot : ℕ) (queues : Queues) → slot < 2 ^ 16 → stands slot queues ≡ false →
     IsSound queues → IsSound (entered name priority slot queues)
@@ -29,6 +31,9 @@ entered_sound name priority slot queues within free sound =
     new : QueuedCaller
     new = newcomer name priority slot queues
 
+    nobody : list_any (has_slot slot) queues.callers ≡ false
+    nobody = sym (stands_any slot queues) ∙ free
+
     counted : (other : ℕ) (b : Bool) → (slot == other) ≡ b →
         count_by (has_slot other) (placed new queues.callers) ≡ one_if b + count_by (has_slot other) queues.callers
     counted other b e =
@@ -37,7 +42,7 @@ entered_sound name priority slot queues within free sound =
     once : (other : ℕ) (b : Bool) → (slot == other) ≡ b → count_by (has_slot other) (placed new queues.callers) ≤ 1
     once other true e =
         let none : count_by (has_slot other) queues.callers ≡ 0 =
-        subst (λ s. count_by (has_slot s) queues.callers ≡ 0) (eqb-true slot other e) (none_counted (has_slot slot) queues.callers free) in
+        subst (λ s. count_by (has_slot s) queues.callers ≡ 0) (eqb-true slot other e) (none_counted (has_slot slot) queues.callers nobody) in
         let all = counted other true e in omega (arith, none, all)
     once other false e = let old = sound.once other in let all = counted other false e in omega (arith, old, all)
 

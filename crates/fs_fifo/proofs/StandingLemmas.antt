@@ -1,14 +1,31 @@
 -- Which slots stand in a queue, once one is put among the callers, or one is taken.
-use Rattle.std.proofs.Common.{◌≡◌, ℕ, ◌+◌, ◌≤◌, ◌==◌, Bool, true, false, not, ◌||◌, ◌&&◌, List, [], ◌∷◌, Some, refl, sym, ap, ◌∙◌, arith}
-use Rattle.std.proofs.Common.{if◌then◌else◌, count_by}
+use Rattle.std.proofs.Common.{◌≡◌, ℕ, ◌+◌, ◌≤◌, ◌==◌, Bool, true, false, not, ◌||◌, ◌&&◌, List, [], ◌∷◌, Some, refl, sym, ap, ◌∙◌}
+use Rattle.std.proofs.Common.{arith, if◌then◌else◌, count_by}
+use Rattle.std.specs.Prelude.{option_map, is_some}
 use Rattle.std.specs.List.{find, list_any}
-use Rattle.std.proofs.lemmas.Bool.{eqb-true}
 use Rattle.std.proofs.lemmas.Bool.Decides.{nat_tests}
 use Rattle.std.proofs.lemmas.Map.Views.{any-filter_same}
 use Rattle.fs_fifo.specs.declared.caller.QueuedCaller.{QueuedCaller}
 use Rattle.fs_fifo.specs.Laws.{EnteredStands, TakenStandsNowhere, LeftStandsNowhere}
-use Rattle.fs_fifo.specs.Queues.{has_slot, is_behind, waits_in, placed, newcomer, without_first}
+use Rattle.fs_fifo.specs.Queues.{Queues, has_slot, is_behind, waits_in, stands, placed, newcomer, entered, without_first, taken, left}
 use Rattle.fs_fifo.proofs.CountLemmas.{one_if, count_front, none_stands, found_counted}
+
+-- ---- a slot stands where one of the callers is of it
+
+any_found : (test : QueuedCaller → Bool) (callers : List QueuedCaller) →
+    is_some (option_map (λ caller. caller.queue) (find test callers)) ≡ list_any test callers
+any_found test [] = refl
+any_found test (caller ∷ callers) = by (test caller) (any_found test callers)
+  where
+    by : (b : Bool) → is_some (option_map (λ other. other.queue) (find test callers)) ≡ list_any test callers →
+        is_some (option_map (λ other. other.queue) (if b then Some caller else find test callers)) ≡ (b || list_any test callers)
+    by true again = refl
+    by false again = again
+
+pub stands_any : (slot : ℕ) (queues : Queues) → stands slot queues ≡ list_any (has_slot slot) queues.callers
+stands_any slot queues = any_found (has_slot slot) queues.callers
+
+-- ---- after each change
 
 or_swap : (a b c : Bool) → (a || (b || c)) ≡ (b || (a || c))
 or_swap true true c = refl
@@ -28,7 +45,10 @@ any_placed test new (caller ∷ callers) = by (is_behind new.priority caller) (a
     by false again = ap (λ rest. test caller || rest) again ∙ or_swap (test caller) (test new) (list_any test callers)
 
 pub entered_stands : EnteredStands
-entered_stands name priority slot other queues = any_placed (has_slot other) (newcomer name priority slot queues) queues.callers
+entered_stands name priority slot other queues =
+    stands_any other (entered name priority slot queues)
+    ∙ any_placed (has_slot other) (newcomer name priority slot queues) queues.callers
+    ∙ ap (λ stood. (slot == other) || stood) (sym (stands_any other queues))
 
 -- among callers of which one at most passes, none passes once that one is taken
 any_taken : (test out : QueuedCaller → Bool) (one : QueuedCaller) (callers : List QueuedCaller) →
@@ -67,12 +87,16 @@ any_taken test out one (caller ∷ callers) found once =
 
 pub taken_stands_nowhere : TakenStandsNowhere
 taken_stands_nowhere name caller slot queues sound is =
-    any_taken (has_slot slot) (waits_in name) caller queues.callers is (sound.once slot)
+    stands_any slot (taken name queues)
+    ∙ any_taken (has_slot slot) (waits_in name) caller queues.callers is (sound.once slot)
+    ∙ ap (λ stood. if has_slot slot caller then false else stood) (sym (stands_any slot queues))
 
 pub left_stands_nowhere : LeftStandsNowhere
 left_stands_nowhere slot other queues =
-    any-filter_same (has_slot other) (λ caller. not (has_slot slot caller)) (not (slot == other)) same queues.callers
+    stands_any other (left slot queues)
+    ∙ any-filter_same (has_slot other) (λ caller. not (has_slot slot caller)) (not (slot == other)) same queues.callers
     ∙ by (slot == other)
+    ∙ ap (λ stood. if slot == other then false else stood) (sym (stands_any other queues))
   where
     same : (caller : QueuedCaller) → (caller.slot == other) ≡ true → not (caller.slot == slot) ≡ not (slot == other)
     same caller is = grind (arith, nat_tests)

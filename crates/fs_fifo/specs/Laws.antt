@@ -1,6 +1,6 @@
 -- What holds of all queues, and of every change of them.
 use Rattle.std.specs.Prelude.{◌≡◌, ◌≢◌, ◌<◌, ◌≤◌, ◌^◌, ◌==◌, ◌||◌, ℕ, false, not, if◌then◌else◌, List, ◌∷◌, ◌++◌}
-use Rattle.std.specs.Prelude.{Option, None, Some, option_to_list, filter, All, count_by}
+use Rattle.std.specs.Prelude.{None, Some, option_to_list, filter, All, count_by}
 use Rattle.std.specs.List.{AllPairs}
 use Rattle.fs_text.specs.Texts.{Text}
 use Rattle.fs_fifo.specs.declared.caller.QueuedCaller.{QueuedCaller}

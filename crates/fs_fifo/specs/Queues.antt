@@ -1,6 +1,7 @@
 -- The queues: who waits in them, and what entering, taking and leaving make of them.
-use Rattle.std.specs.Prelude.{ℕ, ◌+◌, ◌==◌, nat_lt, Bool, not, if◌then◌else◌, List, [], ◌∷◌, filter, Option, option_map}
-use Rattle.std.specs.List.{find, list_any}
+use Rattle.std.specs.Prelude.{ℕ, ◌+◌, ◌==◌, nat_lt, Bool, not, if◌then◌else◌, List, [], ◌∷◌, filter}
+use Rattle.std.specs.Prelude.{Option, option_map, is_some}
+use Rattle.std.specs.List.{find}
 use Rattle.std.specs.Str.{bytes_eq}
 use Rattle.fs_text.specs.Texts.{Text}
 use Rattle.fs_fifo.specs.declared.caller.QueuedCaller.{QueuedCaller}
@@ -26,10 +27,6 @@ has_slot slot caller = caller.slot == slot
 abbrev pub queue : Text → Queues → List QueuedCaller
 queue name queues = filter (waits_in name) queues.callers
 
--- a slot stands in some queue
-abbrev pub stands : ℕ → Queues → Bool
-stands slot queues = list_any (has_slot slot) queues.callers
-
 -- the caller of a slot
 abbrev pub caller_of : ℕ → Queues → Option QueuedCaller
 caller_of slot queues = find (has_slot slot) queues.callers
@@ -37,6 +34,10 @@ caller_of slot queues = find (has_slot slot) queues.callers
 -- the name of the queue in which it waits
 abbrev pub queue_of : ℕ → Queues → Option Text
 queue_of slot queues = option_map (λ caller. caller.queue) (caller_of slot queues)
+
+-- a slot stands in some queue
+abbrev pub stands : ℕ → Queues → Bool
+stands slot queues = is_some (queue_of slot queues)
 
 -- ---- entering
 

@@ -105,7 +105,7 @@ impl Fifos {
         ensures stood { result ≡ spec.stands slot self.old }
         ensures left { self.new ≡ spec.left slot self.old }
     {
-        let stood = self.callers.iter().any(|caller| caller.slot == slot);
+        let stood = self.queue_of(slot).is_some();
         keep_others(&mut self.callers, slot);
         stood
     }

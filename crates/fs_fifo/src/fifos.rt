@@ -1,8 +1,7 @@
 //! The callers that wait in queues.
 
-ghost use Rattle.std.specs.Prelude.{◌≡◌, ◌==◌, ◌≤◌, ◌^◌, length, not, filter, position, option_map};
-ghost use Rattle.std.specs.Prelude.{IfOk, OnOk, OnErr};
-ghost use Rattle.std.specs.Prelude.{false, option_copied};
+ghost use Rattle.std.specs.Prelude.{◌≡◌, ◌==◌, ◌≤◌, ◌^◌, false, not, length, filter, position};
+ghost use Rattle.std.specs.Prelude.{option_map, option_copied, IfOk, OnOk, OnErr};
 ghost use Rattle.std.specs.List.{find, position_or_len};
 ghost use Rattle.fs_fifo.specs.Queues as spec;
 ghost use Rattle.fs_fifo.specs.Laws.{IsSound};

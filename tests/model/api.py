@@ -1,19 +1,21 @@
 """The api commands: how each is written, and what it answers.
 
-A command answers a text, or None where its answer is owed by the job that it began.
+A command answers a text, or None where its answer is owed by a job.
 """
 
 import re
 from dataclasses import dataclass
+from functools import partial
 from typing import Callable
 
 import bridges
 from applications import may_be_routed, transfer
 from dialing import DialFault, read_dial_string
 from dialplan import Action
+from frames import header_lines, variable_headers
 from hangups import by_slot, hang_up, leave
+from jobs import MOST_JOBS, Dial, Sleep
 from originations import USUAL_SECONDS, Order, Route, originate
-from switch import DialJob, SleepJob
 from tables import State, cause_or, words_of
 from variables import LONGEST_NAME, ExpansionTooLong, expand, read_milliseconds, read_seconds, split_pair
 
@@ -34,13 +36,14 @@ class Command:
 
 
 COMMANDS = {}
+COMING = {}
 
 
-def command(name, usage="", takes_text=False):
+def command(name, usage="", takes_text=False, known=COMMANDS):
     """Makes a function the api command of this name, with the words behind the name or the whole text."""
 
     def register(run):
-        COMMANDS[name] = Command(usage, run, takes_text)
+        known[name] = Command(usage, run, takes_text)
         return run
 
     return register
@@ -48,11 +51,10 @@ def command(name, usage="", takes_text=False):
 
 def answer(switch, text):
     """What the api command answers that this text is."""
-    name = (words_of(text) or [""])[0]
-    if name not in COMMANDS:
+    name, rest = first_word(text)
+    asked = COMMANDS.get(name) or (COMING.get(name) if switch.coming else None)
+    if asked is None:
         return f"-ERR {name} Command not found!\n"
-    asked = COMMANDS[name]
-    rest = text.lstrip(" ")[len(name) :]
     try:
         return asked.run(switch, rest if asked.takes_text else words_of(rest))
     except WrongUsage:
@@ -61,10 +63,28 @@ def answer(switch, text):
         return f"-ERR {refusal}\n"
 
 
+def first_word(text):
+    """The first word of a text, and all that stands behind it."""
+    name = (words_of(text) or [""])[0]
+    return name, text.lstrip(" ")[len(name) :]
+
+
 def need(words, least):
     if len(words) < least:
         raise WrongUsage
     return words
+
+
+def need_job(switch):
+    """A command that a job runs goes on in that job."""
+    if switch.job_in_hand is None and len(switch.jobs) == MOST_JOBS:
+        raise Refused("too many jobs")
+
+
+def begin_task(switch, make_task):
+    """The command goes on in the job that runs it, or else in a new one."""
+    number = switch.job_in_hand or switch.begin_job()
+    switch.jobs[number].task = make_task(number)
 
 
 def find(switch, name):
@@ -89,15 +109,28 @@ def echo(_switch, text):
 @command("expand", "[uuid:U ]text*", takes_text=True)
 def expand_and_run(switch, text):
     """What the text comes to is run as an api command. It is no expand again."""
-    if text.lstrip(" ") == "":
+    text, identifier = text.lstrip(" "), None
+    if switch.coming and text.startswith("uuid:") and " " in text:
+        identifier, _, text = text.removeprefix("uuid:").partition(" ")
+        text = text.lstrip(" ")
+    if text == "":
         raise WrongUsage
+    if identifier is None:
+        look_up = partial(switch.globals.get, default="")
+    else:
+        look_up = switch.scope(find(switch, identifier))
     try:
-        expanded = expand(text.lstrip(" "), lambda name: switch.globals.get(name, ""))
+        expanded = expand(text, look_up)
     except ExpansionTooLong:
         raise Refused("too long") from None
     if words_of(expanded)[:1] == ["expand"]:
         raise Refused("expand Command not found!")
     return answer(switch, expanded)
+
+
+@command("create_uuid", known=COMING)
+def create_uuid(switch, _words):
+    return switch.draw_identifier()
 
 
 @command("global_getvar")
@@ -119,7 +152,8 @@ def msleep(switch, words):
     milliseconds = read_milliseconds(need(words, 1)[0])
     if milliseconds is None:
         raise WrongUsage
-    switch.jobs[switch.begin_job()] = SleepJob(switch.now + milliseconds * 1000)
+    need_job(switch)
+    begin_task(switch, lambda _: Sleep(switch.now + milliseconds * 1000))
 
 
 @command("hupall")
@@ -139,6 +173,23 @@ def uuid_exists(switch, words):
 def uuid_getvar(switch, words):
     identifier, name = need(words, 2)[:2]
     return find(switch, identifier).variables.get(name, "_undef_")
+
+
+@command("uuid_setvar", "<uuid> <name> [value*]", takes_text=True, known=COMING)
+def uuid_setvar(switch, text):
+    """The value is the rest of the line."""
+    identifier, name = need(words_of(text), 2)[:2]
+    _, behind = first_word(text)
+    _, value = first_word(behind)
+    if not find(switch, identifier).variables.set(name, value.lstrip(" ")):
+        raise Refused("variable limit passed")
+    return "+OK\n"
+
+
+@command("uuid_dump", "<uuid>", known=COMING)
+def uuid_dump(switch, words):
+    channel = find(switch, need(words, 1)[0])
+    return header_lines([*channel.headers(), *variable_headers(channel)])
 
 
 @command("uuid_kill", "<uuid> [cause]")
@@ -193,6 +244,14 @@ def bridgeable(switch, *identifiers):
     return both
 
 
+@command("fsctl", "shutdown", known=COMING)
+def fsctl(switch, words):
+    if words != ["shutdown"]:
+        raise WrongUsage
+    switch.shut_down()
+    return "+OK\n"
+
+
 USAGE_OF_ORIGINATE = "<call url> <exten>|&<app>(<args>) [dialplan] [context] [cid_name] [cid_num] [timeout]"
 
 
@@ -203,13 +262,17 @@ def originate_by_command(switch, text):
     words = [target, *rest[:5], *defaults[len(rest) :]]
     target, dialplan, context, name, number, seconds = map(without_quotes, words)
     then = what_follows(target, dialplan, context)
+    need_job(switch)
     try:
         dial_string = read_dial_string(url)
     except DialFault:
         raise Refused("INVALID_NUMBER_FORMAT") from None
     told = read_seconds(seconds) or read_seconds(dial_string.brace("originate_timeout")) or USUAL_SECONDS
-    job = switch.begin_job()
-    switch.jobs[job] = DialJob(originate(switch, Order(job, name, number, then), dial_string, told))
+
+    def dial(job):
+        return Dial(originate(switch, Order(job, name, number, then), dial_string, told))
+
+    begin_task(switch, dial)
 
 
 def quoted_words(text):

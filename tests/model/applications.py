@@ -68,7 +68,11 @@ def run_bridge(switch, channel, argument):
 
 
 def run_park(switch, channel, _argument):
-    switch.park(channel)
+    """A channel that is parked already goes on."""
+    if channel.state is State.CS_PARK:
+        switch.complete(channel)
+    else:
+        switch.park(channel)
 
 
 def may_be_routed(words):
@@ -89,6 +93,7 @@ def transfer(switch, channel, words):
     """The channel leaves what it is in and, where it lives on, is routed. What is not named stays."""
     leave(switch, [channel])
     if channel.live():
+        channel.wait_for(Wait.NOTHING)
         channel.profile.route(*words)
         switch.enter(channel, State.CS_ROUTING)
 

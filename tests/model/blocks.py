@@ -1,8 +1,4 @@
-"""How the bytes that a client sends are cut into blocks.
-
-As yet no header but `Content-Length` has an effect, and no body has one. So of a block its line and its
-length are kept.
-"""
+"""How the bytes that a client sends are cut into blocks."""
 
 import re
 from dataclasses import dataclass
@@ -20,10 +16,21 @@ class BlockFault(Exception):
 
 @dataclass(frozen=True)
 class Block:
-    """The command, and how many bytes all of the block has."""
+    """The command, its header lines, its body, and how many bytes all of the block has."""
 
     line: str
+    header_lines: tuple
+    body: str
     length: int
+
+    @property
+    def rest(self):
+        """The line behind the first space."""
+        return self.line.partition(" ")[2]
+
+    def header(self, name):
+        """The value of the first header of this name, which is compared without case."""
+        return first_header(self.header_lines, name)
 
 
 class Stream:
@@ -50,11 +57,11 @@ class Stream:
             raise BlockFault(f"block too long {LONGEST_BLOCK + 1}")
         if head is None:
             return None
-        line, *headers = lines_of(head.group(1))
-        length = head.end() + body_length(headers)
+        line, *header_lines = lines_of(head.group(1))
+        length = head.end() + body_length(header_lines)
         if length > LONGEST_BLOCK:
             raise BlockFault(f"block too long {length}")
-        return Block(line, length)
+        return Block(line, tuple(header_lines), self.rest[head.end() : length], length)
 
 
 def lines_of(text):
@@ -64,11 +71,15 @@ def lines_of(text):
 
 def body_length(header_lines):
     """The first `Content-Length` counts, which is 1 to 10 digits. Without one there is no body."""
-    lengths = (value for name, value in headers_of(header_lines) if name.lower() == "content-length")
-    length = next(lengths, "0")
+    length = first_header(header_lines, "Content-Length", "0")
     if not re.fullmatch("[0-9]{1,10}", length):
         raise BlockFault("bad length")
     return int(length)
+
+
+def first_header(lines, name, default=None):
+    named = (value for other, value in headers_of(lines) if other.lower() == name.lower())
+    return next(named, default)
 
 
 def headers_of(lines):

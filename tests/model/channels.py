@@ -56,6 +56,7 @@ class Channel:
     cause: str = ""
     routed: int = 0
     actions: list = field(default_factory=list)
+    messages: list = field(default_factory=list)
     running: tuple = None
 
     @property
@@ -78,6 +79,10 @@ class Channel:
         self.wait = wait
         self.wakes = wakes
         self.dialed = dialed
+
+    def rest(self):
+        """A parked channel waits for commands, any other one for nothing."""
+        self.wait_for(Wait.COMMANDS if self.state is State.CS_PARK else Wait.NOTHING)
 
     def drop_actions(self):
         self.actions = []

@@ -1,13 +1,39 @@
 """A connection: the commands of the event socket that it gives, and the frames that reply to each."""
 
-from dataclasses import replace
+import re
+from dataclasses import dataclass, replace
 
 import api
-from frames import NOTICE, Subscription, api_response, command_reply, known_names
-from tables import words_of
+from dialplan import Action
+from frames import Subscription, api_response, command_reply, known_names
+from hangups import hang_up
+from jobs import MOST_JOBS
+from tables import cause_or, words_of
 
 NO_KEYWORDS = "-ERR no keywords supplied"
 UNKNOWN_COMMAND = "-ERR command not found"
+
+MOST_MESSAGES = 1000
+GIVEN_NAME_OF_JOB = re.compile("[!-~]{1,64}")
+
+
+@dataclass(frozen=True)
+class Run:
+    """The task of a job that is to run an api command. The command may go on in the same job."""
+
+    text: str
+
+    def due(self, now):
+        return now
+
+    def work(self, switch, number):
+        job = switch.jobs[number]
+        switch.job_in_hand = number
+        answer = api.answer(switch, self.text)
+        switch.job_in_hand = None
+        if answer is not None:
+            switch.jobs.pop(number, None)
+            switch.give_answer(job, answer)
 
 
 class Connection:
@@ -18,31 +44,69 @@ class Connection:
         self.listening = False
         self.subscription = Subscription()
 
-    def frames_for(self, line):
+    def frames_for(self, block):
         """The frames that reply to a command at once: none where its answer is owed."""
-        word, _, rest = line.partition(" ")
+        word = block.line.partition(" ")[0]
         if word == "exit":
-            return self.end("+OK bye")
+            return [self.exit()]
         if not self.accepted:
-            return self.auth(rest) if word == "auth" else [command_reply(UNKNOWN_COMMAND)]
+            return [self.auth(block.rest) if word == "auth" else command_reply(UNKNOWN_COMMAND)]
         if word == "api":
-            answer = api.answer(self.switch, rest)
+            answer = api.answer(self.switch, block.rest)
             return [] if answer is None else [api_response(answer)]
         if word in COMMANDS:
-            return [command_reply(COMMANDS[word](self, rest))]
+            return [command_reply(COMMANDS[word](self, block.rest))]
+        if word in COMING and self.switch.coming:
+            return [COMING[word](self, block)]
         return [command_reply(UNKNOWN_COMMAND)]
 
-    def end(self, text):
+    def end(self):
         """What a connection subscribed ends with it."""
         self.ended = True
         self.subscription = Subscription()
-        return [command_reply(text), NOTICE]
+
+    def exit(self):
+        self.end()
+        return command_reply("+OK bye")
 
     def auth(self, password):
         if password != self.switch.document.password:
-            return self.end("-ERR invalid")
+            self.end()
+            return command_reply("-ERR invalid")
         self.accepted = True
-        return [command_reply("+OK accepted")]
+        return command_reply("+OK accepted")
+
+    def bgapi(self, block):
+        """A job runs the command. It has the name that it is given, or the next identifier."""
+        if len(self.switch.jobs) == MOST_JOBS:
+            return command_reply("-ERR too many jobs")
+        given = block.header("Job-UUID") or ""
+        name = given if GIVEN_NAME_OF_JOB.fullmatch(given) else self.switch.draw_identifier()
+        command, behind = api.first_word(block.rest)
+        headers = (("Job-UUID", name), ("Job-Command", command), ("Job-Command-Arg", behind.lstrip(" ")))
+        number = self.switch.begin_job(headers)
+        self.switch.jobs[number].task = Run(block.rest)
+        return command_reply(f"+OK Job-UUID: {name}", [("Job-UUID", name)])
+
+    def sendmsg(self, block):
+        """A channel is told to run an application before its next action, or is hung up at once."""
+        named = (words_of(block.rest) or [""])[0]
+        channel = self.switch.find(named)
+        if channel is None:
+            return command_reply(f"-ERR invalid session id [{named}]")
+        called = block.header("call-command")
+        if called == "hangup":
+            cause = cause_or("NORMAL_CLEARING", [block.header("hangup-cause")])
+            hang_up(self.switch, {channel: cause})
+            return command_reply("+OK")
+        if called != "execute":
+            return command_reply("-ERR invalid call-command")
+        if len(channel.messages) == MOST_MESSAGES:
+            return command_reply("-ERR message queue full")
+        argument = block.header("execute-app-arg")
+        data = block.body if argument is None else argument
+        channel.messages.append(Action(block.header("execute-app-name") or "", data))
+        return command_reply("+OK")
 
     def event(self, rest):
         words = words_of(rest)
@@ -102,4 +166,9 @@ COMMANDS = {
     "nixevent": Connection.nixevent,
     "noevents": Connection.noevents,
     "filter": Connection.filter,
+}
+
+COMING = {
+    "bgapi": Connection.bgapi,
+    "sendmsg": Connection.sendmsg,
 }

@@ -22,8 +22,9 @@ def escape(text):
     )
 
 
-def command_reply(text):
-    return f"Content-Type: command/reply\nReply-Text: {text}\n\n"
+def command_reply(text, further=()):
+    headers = "".join(f"{name}: {value}\n" for name, value in further)
+    return f"Content-Type: command/reply\nReply-Text: {text}\n{headers}\n"
 
 
 def api_response(text):
@@ -34,22 +35,33 @@ def api_response(text):
 
 def event_headers(event, sequence, moment):
     """All headers of an event in their order. One whose value is empty is left out."""
-    channel = event.channel
     headers = [
         ("Event-Name", event.name),
         ("Core-UUID", SWITCH_IDENTIFIER),
         ("Event-Sequence", str(sequence)),
         ("Event-Date-Timestamp", str(moment)),
-        *channel.headers(),
+        *(event.channel.headers() if event.channel else ()),
         *event.further,
+        *(variable_headers(event.channel) if event.with_variables else ()),
     ]
-    if event.with_variables:
-        headers += [(f"variable_{escape(name)}", value) for name, value in channel.variables.values.items()]
+    return with_values(headers)
+
+
+def variable_headers(channel):
+    return [(f"variable_{escape(name)}", value) for name, value in channel.variables.values.items()]
+
+
+def with_values(headers):
     return [(name, value) for name, value in headers if value != ""]
 
 
-def event_frame(headers):
-    text = "".join(f"{name}: {escape(value)}\n" for name, value in headers) + "\n"
+def header_lines(headers):
+    return "".join(f"{name}: {escape(value)}\n" for name, value in with_values(headers))
+
+
+def event_frame(headers, body=""):
+    length = f"Content-Length: {len(body)}\n" if body else ""
+    text = f"{header_lines(headers)}{length}\n{body}"
     return f"Content-Length: {len(text)}\nContent-Type: text/event-plain\n\n{text}"
 
 

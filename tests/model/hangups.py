@@ -89,6 +89,7 @@ def hang_up_one(switch, channel, cause):
         channel.leg.die(cause, switch.entry)
         channel.leg = None
     channel.drop_actions()
+    channel.messages = []
     channel.wait_for(Wait.NOTHING)
     switch.enter(channel, State.CS_HANGUP)
 
@@ -105,7 +106,7 @@ def leave(switch, channels):
             leave_bridge(switch, channel)
     for channel in channels:
         channel.drop_actions()
-        channel.wait_for(Wait.NOTHING)
+        channel.rest()
 
 
 def leave_bridge(switch, channel):

@@ -1,12 +1,12 @@
 """The play of one connection: its entries and what they cost, the clock, and the frames that are written."""
 
-from collections import deque
+from collections import Counter, deque
 from dataclasses import dataclass
 from functools import partial
 
 from blocks import LONGEST_BLOCK, BlockFault, Stream
 from commands import Connection
-from frames import AUTH_REQUEST, api_response, event_frame, event_headers
+from frames import AUTH_REQUEST, NOTICE, api_response, event_frame, event_headers
 from switch import Switch
 
 COST_OF_ENTRY = 64
@@ -44,6 +44,18 @@ class Journal:
 
 
 @dataclass(frozen=True)
+class Result:
+    """What a program prints, its status, and its line on standard error."""
+
+    output: str
+    status: int = 0
+    error: str = ""
+
+    def __str__(self):
+        return f"{self.output}\nstatus {self.status}\n{self.error}"
+
+
+@dataclass(frozen=True)
 class Waiting:
     """A frame that waits to be written."""
 
@@ -52,14 +64,15 @@ class Waiting:
 
 
 class Session:
-    def __init__(self, document):
+    def __init__(self, document, coming=False):
         self.journal = Journal(document.journal_limit)
-        self.switch = Switch(document, self.journal)
+        self.switch = Switch(document, self.journal, coming)
         self.stream = Stream()
         self.connection = Connection(self.switch)
         self.waiting = deque()
         self.waiting_events = 0
-        self.events_told = 0
+        self.events_told = Counter()
+        self.hangups = Counter()
         self.written = []
         self.enter(lambda: [AUTH_REQUEST])
         self.run()
@@ -72,7 +85,7 @@ class Session:
         """More of the input. Each command that is whole is done, and all that is to be done behind it."""
         self.stream.feed(text)
         while not self.ended and (block := self.next_block()) is not None:
-            self.enter(partial(self.connection.frames_for, block.line), block.length)
+            self.enter(partial(self.connection.frames_for, block), block.length)
             self.run()
 
     def next_block(self):
@@ -91,30 +104,39 @@ class Session:
         self.journal.enter()
 
     def enter(self, do, block_length=0):
-        """One entry, which may give replies. Its events go by what was subscribed before it."""
+        """One entry, which may give replies. Its events go by what was subscribed before it.
+
+        Behind them come an answer that was owed, and the notice that the connection ends.
+        """
         self.journal.enter(block_length)
         self.switch.begin_entry()
-        subscription = self.connection.subscription
+        ended_before, subscription = self.ended, self.connection.subscription
         self.waiting.extend(Waiting(reply) for reply in do() or ())
-        for event in self.switch.events:
+        for event in self.switch.events_of_entry():
             self.send(event, subscription)
         if self.switch.answer_owed is not None:
             self.waiting.append(Waiting(api_response(self.switch.answer_owed)))
+        if self.switch.stopping:
+            self.connection.end()
+        if self.ended and not ended_before:
+            self.waiting.append(Waiting(NOTICE))
 
     def send(self, event, subscription):
         """An event that the connection wants is lost where 10,000 of them wait."""
-        self.events_told += 1
+        self.events_told[event.name] += 1
+        if event.name == "CHANNEL_HANGUP":
+            self.hangups[event.channel.cause] += 1
         if event.name not in subscription.names:
             return
-        headers = event_headers(event, self.events_told, self.switch.now)
+        headers = event_headers(event, self.events_told.total(), self.switch.now)
         if subscription.wants(headers) and self.waiting_events < MOST_WAITING_EVENTS:
             self.waiting_events += 1
-            self.waiting.append(Waiting(event_frame(headers), of_event=True))
+            self.waiting.append(Waiting(event_frame(headers, event.body), of_event=True))
 
     def run(self):
         """Does all that is due. While a reply is owed the clock goes on. Then what waits is written."""
         self.settle()
-        while self.switch.jobs:
+        while self.switch.owes():
             self.switch.advance()
             self.settle()
         self.write_waiting()
@@ -135,3 +157,15 @@ class Session:
             frame = self.waiting.popleft()
             self.waiting_events -= frame.of_event
             self.written.append(frame.text)
+
+    def play(self, pieces):
+        """The result of a play whose input has these pieces, which may be chosen as it goes on."""
+        try:
+            for piece in pieces:
+                self.feed(piece)
+                if self.ended:
+                    break
+            self.close()
+        except PlayOver as over:
+            return Result("".join(self.written), over.status, over.line)
+        return Result("".join(self.written))

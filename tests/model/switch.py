@@ -7,7 +7,7 @@ from applications import run_action
 from channels import Channel, Wait
 from dialplan import hunt
 from hangups import by_slot, hang_up
-from originations import Origination
+from jobs import Job
 from races import conclude
 from tables import State, identifier
 from variables import OF_GLOBALS, ExpansionTooLong, Variables
@@ -15,53 +15,40 @@ from variables import OF_GLOBALS, ExpansionTooLong, Variables
 MOST_ROUTED = 70
 
 BUSY_STATES = (State.CS_NEW, State.CS_INIT, State.CS_ROUTING, State.CS_HANGUP, State.CS_REPORTING)
+STATES_OF_ACTIONS = (State.CS_EXECUTE, State.CS_PARK)
 
 
 @dataclass(frozen=True)
 class Event:
-    """What an entry tells of a channel, which is shown as the entry leaves it."""
+    """What an entry tells, mostly of a channel, which is shown as the entry leaves it."""
 
     name: str
-    channel: Channel
+    channel: Channel = None
     further: tuple = ()
     with_variables: bool = False
-
-
-@dataclass(frozen=True)
-class SleepJob:
-    until: int
-
-    def due(self, now):
-        return max(now, self.until)
-
-    def work(self, switch, number):
-        switch.end_job(number, "+OK\n")
-
-
-@dataclass(frozen=True)
-class DialJob:
-    origination: Origination
-
-    def due(self, now):
-        return self.origination.due(now)
-
-    def work(self, switch, _number):
-        conclude(switch, self.origination)
+    body: str = ""
 
 
 class Switch:
-    """One entry at a time changes it. The entry in hand collects its events, and an answer that was owed."""
+    """One entry at a time changes it. The entry in hand collects its events, and an answer that was owed.
 
-    def __init__(self, document, journal):
+    Of what is still to come it knows nothing, unless it is asked to.
+    """
+
+    def __init__(self, document, journal, coming=False):
         self.document = document
         self.journal = journal
+        self.coming = coming
         self.globals = Variables(OF_GLOBALS, document.global_values)
         self.channels = {}
         self.jobs = {}
         self.now = 0
         self.entry = 0
         self.events = []
+        self.ends_of_jobs = []
         self.answer_owed = None
+        self.job_in_hand = None
+        self.stopping = False
         self.jobs_begun = 0
         self.bridges_begun = 0
         self.identifiers_drawn = 0
@@ -69,9 +56,14 @@ class Switch:
     def begin_entry(self):
         self.entry += 1
         self.events = []
+        self.ends_of_jobs = []
         self.answer_owed = None
 
-    def tell(self, name, channel, further=(), with_variables=False):
+    def events_of_entry(self):
+        """How a job ended is told last."""
+        return self.events + self.ends_of_jobs
+
+    def tell(self, name, channel=None, further=(), with_variables=False):
         self.events.append(Event(name, channel, tuple(further), with_variables))
 
     def scope(self, channel):
@@ -98,14 +90,32 @@ class Switch:
         self.channels[near.slot] = near
         self.channels[far.slot] = far
 
-    def begin_job(self):
-        """The number of a job that is to be put into the list of jobs."""
+    def begin_job(self, headers=None):
+        """The number of a new job. Without headers its answer is owed to the client."""
         self.jobs_begun += 1
+        self.jobs[self.jobs_begun] = Job(headers)
         return self.jobs_begun
 
     def end_job(self, number, answer):
-        del self.jobs[number]
-        self.answer_owed = answer
+        self.give_answer(self.jobs.pop(number), answer)
+
+    def give_answer(self, job, answer):
+        if job.owed():
+            self.answer_owed = answer
+        else:
+            self.ends_of_jobs.append(Event("BACKGROUND_JOB", further=job.headers, body=answer))
+
+    def owes(self):
+        return any(job.owed() for job in self.jobs.values())
+
+    def shut_down(self):
+        """All live channels are hung up in one hangup. No job is left, and what was owed is answered."""
+        hang_up(self, dict.fromkeys(self.live_channels(), "SYSTEM_SHUTDOWN"))
+        self.tell("SHUTDOWN", further=[("Event-Info", "System Shutting Down")])
+        if self.owes():
+            self.answer_owed = "-ERR SYSTEM_SHUTDOWN\n"
+        self.jobs = {}
+        self.stopping = True
 
     def enter(self, channel, state):
         """A change of state is told, and in front of it that the channel left CS_PARK or came there."""
@@ -128,7 +138,7 @@ class Switch:
         """What the channel runs is over, and it goes on."""
         self.tell("CHANNEL_EXECUTE_COMPLETE", channel, channel.running)
         channel.running = None
-        channel.wait_for(Wait.NOTHING)
+        channel.rest()
 
     def answer(self, channel):
         """The channel and then its partner are answered, where they were not."""
@@ -143,10 +153,12 @@ class Switch:
         """The next moment at which the channel has something to do, if it ever has by itself."""
         if channel.state in BUSY_STATES:
             return self.now
-        if channel.state is not State.CS_EXECUTE:
+        if channel.state not in STATES_OF_ACTIONS:
             return None
         if channel.wait is Wait.NOTHING:
             return self.now
+        if channel.wait is Wait.COMMANDS:
+            return self.now if channel.messages else None
         if channel.wait is Wait.SLEEP:
             return max(self.now, channel.wakes)
         return channel.dialed.due(self.now) if channel.wait is Wait.LEGS else None
@@ -179,7 +191,7 @@ def work(switch, channel):
         switch.enter(channel, State.CS_ROUTING if far_end else State.CS_CONSUME_MEDIA)
     elif channel.state is State.CS_ROUTING:
         route(switch, channel)
-    elif channel.state is State.CS_EXECUTE:
+    elif channel.state in STATES_OF_ACTIONS:
         go_on(switch, channel)
     elif channel.state is State.CS_HANGUP:
         cause = [("Hangup-Cause", channel.cause)]
@@ -212,11 +224,16 @@ def route(switch, channel):
 
 
 def go_on(switch, channel):
-    """A channel that executes wakes, decides its race or runs its next action, and without one is hung up."""
+    """A channel that executes wakes, decides its race, or runs its next message or else its next action.
+
+    Where it has none of them it is hung up.
+    """
     if channel.wait is Wait.SLEEP:
         switch.complete(channel)
     elif channel.wait is Wait.LEGS:
         conclude(switch, channel.dialed)
+    elif channel.messages:
+        run_action(switch, channel, channel.messages.pop(0))
     elif channel.actions:
         run_action(switch, channel, channel.actions.pop(0))
     else:

@@ -169,7 +169,7 @@ class Switch:
             moment = self.due(channel)
             if moment is not None:
                 yield moment, partial(work, self, channel)
-        for number, job in sorted(self.jobs.items()):
+        for number, job in self.jobs.items():
             yield job.due(self.now), partial(job.work, self, number)
 
     def next_work(self):

@@ -1,0 +1,202 @@
+"""Kinds of plays of what is still to come."""
+
+import api
+from commands import COMING, MOST_MESSAGES
+from further import Further
+from jobs import MOST_JOBS
+from kinds import Mixture
+from limits import Bytes, Limits, Room
+from random_plays import LONGEST_SLEEP, bridged, rings, waits
+from streams import Blocks, Streams
+from tables import identifier
+
+
+class Jobs(Further):
+    """Background jobs beside calls, at moments that collide, and the events that tell how they end."""
+
+    def command(self, session):
+        usual = super().command
+        return self.chosen(
+            session,
+            (5, lambda: usual(session)),
+            (8, lambda: self.job(session)),
+            (1, self.event_command),
+            (1, lambda: "api msleep " + self.one_of("500", "1000", "3000")),
+        )
+
+
+class Messages(Further):
+    """Messages to channels in each state and each wait, and commands that move the same channels."""
+
+    def command(self, session):
+        usual = super().command
+        return self.chosen(
+            session,
+            (6, lambda: usual(session)),
+            (8, lambda: self.message(session)),
+            (0.5, lambda: self.channel_command(session)),
+        )
+
+
+class Variables(Further):
+    """Variables and texts of channels, with odd names and values at their limits."""
+
+    LARGEST = Limits.LARGEST
+
+    def command(self, session):
+        usual = super().command
+        return self.chosen(
+            session,
+            (5, lambda: usual(session)),
+            (8, lambda: self.channel_command(session)),
+            (2, lambda: self.variable_at_limits(session)),
+            (1, lambda: self.in_background(self.channel_command(session))),
+            (1, lambda: self.message(session)),
+        )
+
+    def variable_at_limits(self, session):
+        channel = self.channel(session)
+        name = self.one_of(*Bytes.NAMES, "n" * 256, "n" * 257, "hangup_cause", "export_vars", "uuid")
+        return self.one_of(
+            f"api uuid_setvar {channel} {name} {self.one_of(*Bytes.VALUES, '', 'a,b')}",
+            f"api uuid_setvar {channel} {name} {self.LARGEST}",
+            f"api uuid_setvar {channel} a {self.LARGEST}",
+            f"api uuid_setvar {channel} b {self.LARGEST[:self.random.randint(16370, 16384)]}",
+            f"api uuid_setvar {channel} {name} {self.LARGEST}x",
+            f"api expand uuid:{channel} echo ${{a}}${{a}}${{a}}${{a}}",
+            f"api expand uuid:{channel} echo ${{a}}${{a}}${{a}}${{a}}1",
+            f"api expand uuid:{channel} uuid_setvar {channel} b ${{a}}",
+            f"api expand uuid:{channel} ${{a}}",
+            f"api uuid_dump {channel}",
+            f"sendmsg {channel}\ncall-command: execute\nexecute-app-name: log\nexecute-app-arg: {'${a}' * 5}",
+        )
+
+
+class Shutdowns(Further):
+    """Calls, jobs and messages, and a shutdown in their midst. What is behind it is not read."""
+
+    def commands(self, session):
+        commands = super().commands(session)
+        yield from (next(commands, "api echo x") for _ in range(self.random.randint(2, 20)))
+        if self.chance(0.1):
+            yield self.one_of(*self.NO_SHUTDOWNS)
+        last = self.one_of("exit", "api echo no", *self.SHUTDOWNS)
+        yield self.one_of(*self.SHUTDOWNS) + self.one_of("", f"\n\n{last}")
+
+    def command(self, session):
+        usual = super().command
+        return self.chosen(
+            session,
+            (6, lambda: usual(session)),
+            (4, lambda: self.job(session)),
+            (3, lambda: self.message(session)),
+            (1, lambda: self.channel_command(session)),
+            (1, self.event_command),
+        )
+
+
+class Crowds(Room, Further):
+    """As many jobs and as many messages as there may be, and a journal near its limit."""
+
+    fewest_commands = 4
+    most_commands = 12
+
+    def __init__(self, seed):
+        super().__init__(seed)
+        self.spins = False
+
+    def command(self, session):
+        usual = super().command
+        new = len(session.written) < 500
+        return self.chosen(
+            session,
+            (6, lambda: usual(session)),
+            (2, lambda: self.job(session)),
+            (2, lambda: self.message(session)),
+            (4 if new else 0.1, lambda: self.crowd_of_jobs(session)),
+            (4 if new else 0.1, lambda: self.crowd_of_messages(session)),
+            (0.3, lambda: self.one_of(*self.SHUTDOWNS)),
+        )
+
+    def crowd_of_jobs(self, session):
+        """So many that none more can begin, or one, and then some commands that would need one."""
+        room = MOST_JOBS - len(session.switch.jobs) + self.one_of(-1, 0, 0, 1)
+        many = ["bgapi msleep " + self.one_of("1000", "2000", LONGEST_SLEEP)] * max(room, 0)
+        behind = (
+            "bgapi echo x", "bgapi\nJob-UUID: q", "api msleep 1000", "api msleep", "api msleep x",
+            "api originate error/USER_BUSY &park()", "api originate a,,b &park()", "api originate x",
+            "api expand msleep 1", "bgapi originate loopback/e1 &park()", "api create_uuid",
+        )
+        return "\n\n".join([*many, *self.some(lambda: self.one_of(*behind), 1, 2, 3, 5)])
+
+    def crowd_of_messages(self, session):
+        if not session.switch.live_channels():
+            return self.lasting_call()
+        channel = self.channel(session, waits, rings, bridged)
+        application = self.one_of("eval", "log")
+        told = f"sendmsg {channel}\ncall-command: execute\nexecute-app-name: {application}"
+        behind = ("hangup", "execute", "frob")
+        last = self.some(lambda: f"sendmsg {channel}\ncall-command: {self.one_of(*behind)}", 0, 1, 2)
+        count = MOST_MESSAGES + self.one_of(-1, 0, 0, 1)
+        return "\n\n".join([told] * count + last)
+
+
+class Everything(Mixture, Further):
+    """Documents of several kinds in one, all commands, and longer plays."""
+
+    def command(self, session):
+        usual = super().command
+        return self.chosen(
+            session,
+            (10, lambda: usual(session)),
+            (4, lambda: self.job(session)),
+            (4, lambda: self.message(session)),
+            (2, lambda: self.channel_command(session)),
+            (1, self.event_command),
+            (0.1, lambda: self.one_of(*self.SHUTDOWNS, *self.NO_SHUTDOWNS)),
+        )
+
+
+class FurtherBlocks(Blocks, Further):
+    """Jobs and messages by blocks with odd line ends, empty lines in front, further headers and bodies."""
+
+    HEADERS = (
+        *Blocks.HEADERS, "call-command: execute", "CALL-COMMAND:execute", "call-command: hangup",
+        "execute-app-name: answer", "execute-app-arg: 500", "execute-app-name: sleep", "Job-UUID : q",
+        "job-uuid:\t r \t", "Job-UUID: ", "hangup-cause: USER_BUSY", " call-command: execute",
+    )
+
+    def command(self, session):
+        usual = super().command
+        return self.chosen(
+            session,
+            (5, lambda: usual(session)),
+            (3, lambda: self.job(session)),
+            (3, lambda: self.message(session)),
+            (1, lambda: self.channel_command(session)),
+        )
+
+
+class FurtherStreams(Streams):
+    """Whole inputs with odd words and odd bytes in all commands."""
+
+    HEADERS = FurtherBlocks.HEADERS
+
+    def odd_command(self):
+        usual = super().odd_command
+        return self.weighed(
+            (6, usual),
+            (3, lambda: "b" + self.odd_api_command()),
+            (2, lambda: self.spaced(self.one_of(*COMING), *self.some(self.odd_word, 0, 1, 1, 2))),
+            (2, lambda: f"sendmsg {identifier(self.random.randint(1, 4))}"),
+            (1, self.odd_further_command),
+        )
+
+    def odd_further_command(self):
+        odd = self.some(self.odd_word, 0, 1, 2, 3)
+        name = self.one_of(*api.COMING, "expand uuid:" + identifier(1))
+        return self.spaced("api", name, *self.some(lambda: identifier(self.random.randint(1, 3)), 0, 1), *odd)
+
+
+ALL = (Jobs, Messages, Variables, Shutdowns, Crowds, Everything, FurtherBlocks, FurtherStreams)
+COMING_KINDS = {kind.__name__.lower(): kind for kind in ALL}

@@ -54,11 +54,8 @@ class Connection:
         if word == "api":
             answer = api.answer(self.switch, block.rest)
             return [] if answer is None else [api_response(answer)]
-        if word in COMMANDS:
-            return [command_reply(COMMANDS[word](self, block.rest))]
-        if word in COMING and self.switch.coming:
-            return [COMING[word](self, block)]
-        return [command_reply(UNKNOWN_COMMAND)]
+        do = COMMANDS.get(word) or (COMING.get(word) if self.switch.coming else None)
+        return [command_reply(do(self, block) if do else UNKNOWN_COMMAND)]
 
     def end(self):
         """What a connection subscribed ends with it."""
@@ -77,39 +74,42 @@ class Connection:
         return command_reply("+OK accepted")
 
     def bgapi(self, block):
-        """A job runs the command. It has the name that it is given, or the next identifier."""
+        """A job runs the command. It has the name that it is given, or the next identifier.
+
+        Behind the text of the reply stands a further header.
+        """
         if len(self.switch.jobs) == MOST_JOBS:
-            return command_reply("-ERR too many jobs")
+            return "-ERR too many jobs"
         given = block.header("Job-UUID") or ""
         name = given if GIVEN_NAME_OF_JOB.fullmatch(given) else self.switch.draw_identifier()
         command, behind = api.first_word(block.rest)
         headers = (("Job-UUID", name), ("Job-Command", command), ("Job-Command-Arg", behind.lstrip(" ")))
         number = self.switch.begin_job(headers)
         self.switch.jobs[number].task = Run(block.rest)
-        return command_reply(f"+OK Job-UUID: {name}", [("Job-UUID", name)])
+        return f"+OK Job-UUID: {name}\nJob-UUID: {name}"
 
     def sendmsg(self, block):
         """A channel is told to run an application before its next action, or is hung up at once."""
         named = (words_of(block.rest) or [""])[0]
         channel = self.switch.find(named)
         if channel is None:
-            return command_reply(f"-ERR invalid session id [{named}]")
+            return f"-ERR invalid session id [{named}]"
         called = block.header("call-command")
         if called == "hangup":
             cause = cause_or("NORMAL_CLEARING", [block.header("hangup-cause")])
             hang_up(self.switch, {channel: cause})
-            return command_reply("+OK")
+            return "+OK"
         if called != "execute":
-            return command_reply("-ERR invalid call-command")
+            return "-ERR invalid call-command"
         if len(channel.messages) == MOST_MESSAGES:
-            return command_reply("-ERR message queue full")
+            return "-ERR message queue full"
         argument = block.header("execute-app-arg")
         data = block.body if argument is None else argument
         channel.messages.append(Action(block.header("execute-app-name") or "", data))
-        return command_reply("+OK")
+        return "+OK"
 
-    def event(self, rest):
-        words = words_of(rest)
+    def event(self, block):
+        words = words_of(block.rest)
         if words[:1] in (["json"], ["xml"]):
             return "-ERR event format not supported"
         names = known_names(words)
@@ -119,14 +119,14 @@ class Connection:
         self.listening = True
         return "+OK event listener enabled plain"
 
-    def nixevent(self, rest):
-        names = known_names(words_of(rest))
+    def nixevent(self, block):
+        names = known_names(words_of(block.rest))
         if not names:
             return NO_KEYWORDS
         self.subscription = replace(self.subscription, names=self.subscription.names - names)
         return "+OK event listener disabled"
 
-    def noevents(self, _rest):
+    def noevents(self, _block):
         """The filters stay."""
         if not self.listening:
             return "-ERR not listening for events"
@@ -134,9 +134,9 @@ class Connection:
         self.subscription = replace(self.subscription, names=frozenset())
         return "+OK no longer listening for events"
 
-    def filter(self, rest):
+    def filter(self, block):
         """A first word `delete` is always the verb."""
-        header, value = header_and_value(rest)
+        header, value = header_and_value(block.rest)
         if value == "":
             return "-ERR invalid syntax"
         if header == "delete":

@@ -22,9 +22,8 @@ def escape(text):
     )
 
 
-def command_reply(text, further=()):
-    headers = "".join(f"{name}: {value}\n" for name, value in further)
-    return f"Content-Type: command/reply\nReply-Text: {text}\n{headers}\n"
+def command_reply(text):
+    return f"Content-Type: command/reply\nReply-Text: {text}\n\n"
 
 
 def api_response(text):

@@ -18,12 +18,6 @@ class Job:
     def owed(self):
         return self.headers is None
 
-    def due(self, now):
-        return self.task.due(now)
-
-    def work(self, switch, number):
-        self.task.work(switch, number)
-
 
 @dataclass(frozen=True)
 class Sleep:

@@ -170,7 +170,7 @@ class Switch:
             if moment is not None:
                 yield moment, partial(work, self, channel)
         for number, job in self.jobs.items():
-            yield job.due(self.now), partial(job.work, self, number)
+            yield job.task.due(self.now), partial(job.task.work, self, number)
 
     def next_work(self):
         """What is to be done now: the least slot first, and jobs only where no slot has anything to do."""

@@ -96,14 +96,14 @@ class Shutdowns(Further):
 
 
 class Crowds(Room, Further):
-    """As many jobs and as many messages as there may be, and a journal near its limit."""
+    """As many jobs and messages as there may be, a journal near its limit, and events that are lost."""
 
     fewest_commands = 4
     most_commands = 12
 
     def __init__(self, seed):
         super().__init__(seed)
-        self.spins = False
+        self.spins = self.chance(0.15)
 
     def command(self, session):
         usual = super().command
@@ -115,6 +115,8 @@ class Crowds(Room, Further):
             (2, lambda: self.message(session)),
             (4 if new else 0.1, lambda: self.crowd_of_jobs(session)),
             (4 if new else 0.1, lambda: self.crowd_of_messages(session)),
+            (2 if self.spins else 0, lambda: self.in_background("api originate loopback/spin &park()")),
+            (1, self.event_command),
             (0.3, lambda: self.one_of(*self.SHUTDOWNS)),
         )
 

@@ -189,6 +189,7 @@ class Further(Words):
             (2, PARK),
             (3, lambda: Action("bridge", self.dial_string())),
             (3, self.action),
+            (2, lambda: self.one_of(Action("sleep", "60000"), Action("bridge", "loopback/rings"))),
             (0.5, lambda: Action("sleep", self.one_of(*ODD_NUMBERS))),
             (0.2, lambda: Action("answer", "x" * 1100)),
             (0.3, lambda: self.one_of(*map(Action, ("hangup", "", "Answer", "frob")))),

@@ -71,10 +71,10 @@ def blocks(*lines):
 
 
 class Played:
-    """A play of one connection in which the model knows all."""
+    """A play of one connection, in which the model knows what is still to come unless it is told not to."""
 
-    def __init__(self, document, pieces):
-        self.session = Session(document, coming=True)
+    def __init__(self, document, pieces, coming=True):
+        self.session = Session(document, coming)
         self.result = self.session.play(pieces)
 
     def told(self):
@@ -484,6 +484,14 @@ def shutdown_while_owed():
     yield (named(said[0]), said[1:]), (["SHUTDOWN"], ["-ERR SYSTEM_SHUTDOWN\n", NOTICE])
 
 
+@row("what is still to come is not known to the model of today")
+def not_known_yet():
+    lines = ["bgapi echo x", "sendmsg x", "api expand uuid:x echo", *(f"api {name}" for name in COMING)]
+    said = Played(EMPTY, blocks("auth ClueCon", *lines), coming=False).told()[2:]
+    unknown = [f"-ERR {name} Command not found!\n" for name in ("uuid:x", *COMING)]
+    yield said, ["-ERR command not found"] * 2 + unknown
+
+
 @row("one call as a load")
 def load_of_one():
     yield load.printed("1", "0").output, (
@@ -500,7 +508,8 @@ def load_of_none():
 
 @row("a thousand calls as a load")
 def load_of_a_thousand():
-    yield load.printed("1000", "7").output.splitlines(), [
+    printed = load.printed("1000", "7")
+    yield printed.output.splitlines(), [
         "calls 1000",
         "cause NO_ROUTE_DESTINATION 490",
         "cause USER_BUSY 496",
@@ -516,7 +525,7 @@ def load_of_a_thousand():
         "event CHANNEL_HANGUP_COMPLETE 2000",
         "event CHANNEL_DESTROY 2000",
     ]
-    yield load.printed("1000", "7"), load.printed("1000", "7")
+    yield load.printed("1000", "7"), printed
 
 
 def main():

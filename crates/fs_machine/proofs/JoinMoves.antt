@@ -1,5 +1,5 @@
 -- An entry joins one bridge at most.
-use Rattle.std.proofs.Common.{◌≡◌, ℕ, ◌+◌, ◌≤◌, List, map, None, Some, unwrap_or, refl, ap, ◌∙◌, arith}
+use Rattle.std.proofs.Common.{◌≡◌, ℕ, ◌+◌, ◌≤◌, map, None, Some, unwrap_or, refl, ap, ◌∙◌, arith}
 use Rattle.fs_text.specs.declared.causes.Cause.TheVariants.{LoseRace}
 use Rattle.fs_bridge.specs.declared.row.BridgeKind.{BridgeKind}
 use Rattle.fs_bridge.specs.declared.row.BridgeKind.TheVariants.{Dial}
@@ -90,7 +90,7 @@ module _ (before : Switch) where
 
   dials : KeptByDials before (Counting before)
   dials = record {
-    spent = births.spent;
+    spent = λ {s = s} h. spent_counts s s h refl;
     dials = λ slot c groups timeout {s = s} there works are h.
         let number : ℕ = next_orig_number s in
         spent_counts s (tried_by_slot slot groups timeout number (group_dialed (Some c) (first_group groups) number s)) h

@@ -133,7 +133,7 @@ advanced_orderly now s orderly = record {
 }
 
 -- the number that is drawn next is paid for by the cost of an entry
-paid_more : (drawn later cost spent limit : ℕ) → later ≤ drawn + 1 → 64 * drawn ≤ cost → cost + 65600 ≤ limit → limit ≤ 1073741824 →
+pub paid_more : (drawn later cost spent limit : ℕ) → later ≤ drawn + 1 → 64 * drawn ≤ cost → cost + 65600 ≤ limit → limit ≤ 1073741824 →
     64 ≤ spent →
     64 * later ≤ min (cost + spent) (2 ^ 64 - 1)
 paid_more drawn later cost spent limit next paid below small some = omega (arith, next, paid, below, small, some)

@@ -1,0 +1,5 @@
+pub mod BackLemmas
+pub mod OrderLemmas
+pub mod ReadLemmas
+pub mod ShownLemmas
+pub mod WrittenLemmas

@@ -80,8 +80,8 @@ can_join_by caller answerer s differ lives live lone alone left =
     ap (λ test. not test && (lives_at s caller && lives_at s answerer) && (is_none (bridge_at s caller) && is_none (bridge_at s answerer))
     && has_number_left s.bridges)
     (ne_eqb caller answerer differ)
-    ∙ ap (λ test. (test && lives_at s answerer) && (is_none (bridge_at s caller) && is_none (bridge_at s answerer)) && has_number_left s.bridges)
-    lives
+    ∙ ap (λ test. (test && lives_at s answerer) && (is_none (bridge_at s caller) && is_none (bridge_at s answerer))
+    && has_number_left s.bridges) lives
     ∙ ap (λ test. test && (is_none (bridge_at s caller) && is_none (bridge_at s answerer)) && has_number_left s.bridges) live
     ∙ ap (λ (found : Option Row). (is_none found && is_none (bridge_at s answerer)) && has_number_left s.bridges) lone
     ∙ ap (λ (found : Option Row). is_none found && has_number_left s.bridges) alone

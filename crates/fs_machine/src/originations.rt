@@ -34,7 +34,8 @@ pub(crate) struct End {
 
 // ---- a group of legs
 
-/// Makes the legs of an origination of this number that the plans of a group, less than 2^32, come to, one after another.
+/// Makes the legs of an origination of this number that the plans of a group come to, one after another. There are less
+/// than 2^32.
 #[tactic(auto, using(crate::proofs::GroupLemmas::group_there, crate::proofs::GroupLemmas::group_done))]
 pub(crate) fn make_group(
     draft: &mut Draft<'_>,

@@ -45,7 +45,8 @@ is_waiting_for s slot orig is = by (chan_at s slot) refl is
 
 -- one that waits for an origination, and a live leg of it
 module _ (s : Switch) (slot leg orig : ℕ) (left : has_number_left s.bridges ≡ true) (bonds : Bonds s) (owners : Awaits s)
-    (one : IsWaitingFor s slot orig) (other : Chan) (there : chan_at s leg ≡ Some other) (live : is_live other ≡ true) (names : other.leg_of ≡ Some orig) where
+    (one : IsWaitingFor s slot orig) (other : Chan) (there : chan_at s leg ≡ Some other) (live : is_live other ≡ true)
+    (names : other.leg_of ≡ Some orig) where
   differ : slot ≢ leg
   differ same =
       let is : one.chan ≡ other = same_Some one.chan other (sym one.there ∙ (ap (chan_at s) same ∙ there)) in

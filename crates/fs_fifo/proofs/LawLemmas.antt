@@ -19,7 +19,7 @@ use Rattle.fs_fifo.proofs.PositionLemmas.{none_taken}
 use Rattle.fs_fifo.proofs.StandingLemmas.{stands_any}
 
 pub queues_are_ordered : QueuesAreOrdered
-queues_are_ordered name queues sound = AllPairs-filter IsBefore (waits_in name) queues.callers sound.order
+queues_are_ordered name queues sound = AllPairs-filter IsBefore (waits_in name) queues sound.order
 
 -- ---- taking
 
@@ -40,7 +40,7 @@ first_kept test (caller ∷ callers) = by (test caller) refl (first_kept test ca
         ∙ sym (ap (λ b. option_to_list (find test callers) ++ (if b then caller ∷ filter test rest else filter test rest)) e)
 
 pub first_is_taken : FirstIsTaken
-first_is_taken name queues = first_kept (waits_in name) queues.callers
+first_is_taken name queues = first_kept (waits_in name) queues
 
 pub least_is_taken : LeastIsTaken
 least_is_taken name caller queues sound is =
@@ -83,8 +83,8 @@ entered_is_placed name priority slot queues sound =
     record {
       front = filter test all.front;
       behind = filter test all.behind;
-      old = placed_before test new queues.callers (placed new queues.callers) all;
-      now = placed_kept test true new queues.callers (placed new queues.callers) all (same_name name);
+      old = placed_before test new queues (placed new queues) all;
+      now = placed_kept test true new queues (placed new queues) all (same_name name);
       sooner = All-filter test (λ caller. caller.priority ≤ priority) all.front all.sooner;
       later = All-filter test (λ caller. priority < caller.priority) all.behind all.later;
     }
@@ -93,10 +93,10 @@ entered_is_placed name priority slot queues sound =
     test = waits_in name
 
     new : QueuedCaller
-    new = newcomer name priority slot queues
+    new = newcomer name priority slot
 
-    all : IsPlaced new queues.callers (placed new queues.callers)
-    all = placed_splits new queues.callers sound.order
+    all : IsPlaced new queues (placed new queues)
+    all = placed_splits new queues sound.order
 
 -- ---- leaving
 
@@ -119,7 +119,7 @@ kept_twice one other (caller ∷ callers) = by (one caller) (other caller) refl 
     by false false a b again = again
 
 pub left_is_gone : LeftIsGone
-left_is_gone name slot queues = kept_twice (waits_in name) (λ caller. not (has_slot slot caller)) queues.callers
+left_is_gone name slot queues = kept_twice (waits_in name) (λ caller. not (has_slot slot caller)) queues
 
 -- where none passes, all are kept that do not
 none_left : (out : QueuedCaller → Bool) (callers : List QueuedCaller) → list_any out callers ≡ false →
@@ -167,11 +167,11 @@ pub others_stay : OthersStay
 others_stay name other queues sound apart =
     record {
       entered = λ priority slot.
-          let new = newcomer name priority slot queues in
-          let all = placed_splits new queues.callers sound.order in
-          placed_kept (waits_in other) false new queues.callers (placed new queues.callers) all (other_name name name other refl apart)
-          ∙ sym (placed_before (waits_in other) new queues.callers (placed new queues.callers) all);
-      taken = others_taken (waits_in other) (waits_in name) queues.callers
+          let new = newcomer name priority slot in
+          let all = placed_splits new queues sound.order in
+          placed_kept (waits_in other) false new queues (placed new queues) all (other_name name name other refl apart)
+          ∙ sym (placed_before (waits_in other) new queues (placed new queues) all);
+      taken = others_taken (waits_in other) (waits_in name) queues
           (λ caller is. other_name caller.queue name other ((bytes_eq-Decides caller.queue name).0 is) apart);
       left = λ slot is. left_elsewhere slot (caller_of slot queues) refl is;
     }
@@ -180,12 +180,11 @@ others_stay name other queues sound apart =
         option_map (λ caller. caller.queue) found ≡ Some name → queue other (left slot queues) ≡ queue other queues
     left_elsewhere slot None found is = absurd (cc)
     left_elsewhere slot (Some caller) found is =
-        others_left (waits_in other) (has_slot slot) caller queues.callers found (sound.once slot)
+        others_left (waits_in other) (has_slot slot) caller queues found (sound.once slot)
         (other_name caller.queue name other (cc) apart)
 
 pub nobody_changes_nothing : NobodyChangesNothing
 nobody_changes_nothing queues = record {
-  taken = λ name none. ap (λ callers. record queues { callers = callers }) (none_taken (waits_in name) queues.callers none);
-  left = λ slot none. ap (λ callers. record queues { callers = callers })
-      (none_left (has_slot slot) queues.callers (sym (stands_any slot queues) ∙ none));
+  taken = λ name none. none_taken (waits_in name) queues none;
+  left = λ slot none. none_left (has_slot slot) queues (sym (stands_any slot queues) ∙ none);
 }

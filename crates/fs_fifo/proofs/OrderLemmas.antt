@@ -38,31 +38,26 @@ all_later : (new caller : QueuedCaller) (callers : List QueuedCaller) → is_beh
 all_later new caller callers is order =
     All-cons (λ other. new.priority < other.priority) caller callers lower
     (All-weaker (IsBefore caller) (λ other. new.priority < other.priority)
-    (λ other before. let behind = before.priority in omega (arith, lower, behind)) callers (order_head caller callers order))
+    (λ other before. omega (arith, lower, before)) callers (order_head caller callers order))
   where
     lower : new.priority < caller.priority
     lower = grind (arith, nat_tests)
 
--- whoever arrives last is put in order
-pub order_placed : (new : QueuedCaller) (callers : List QueuedCaller) → All (λ caller. caller.arrival < new.arrival) callers →
+pub order_placed : (new : QueuedCaller) (callers : List QueuedCaller) →
     AllPairs IsBefore callers → AllPairs IsBefore (placed new callers)
-order_placed new [] early order = AllPairs-cons IsBefore new [] (All-nil (IsBefore new)) order
-order_placed new (caller ∷ callers) early order =
-    by (is_behind new.priority caller) refl
-    (order_placed new callers (All-tail (λ other. other.arrival < new.arrival) caller callers early) (order_tail caller callers order))
+order_placed new [] order = AllPairs-cons IsBefore new [] (All-nil (IsBefore new)) order
+order_placed new (caller ∷ callers) order =
+    by (is_behind new.priority caller) refl (order_placed new callers (order_tail caller callers order))
   where
     by : (b : Bool) → nat_lt new.priority caller.priority ≡ b → AllPairs IsBefore (placed new callers) →
         AllPairs IsBefore (if b then new ∷ caller ∷ callers else caller ∷ placed new callers)
     by true is again =
         AllPairs-cons IsBefore new (caller ∷ callers)
         (All-weaker (λ other. new.priority < other.priority) (IsBefore new)
-        (λ other lower. record { priority = omega (arith, lower); arrival = λ same. absurd (omega (arith, lower, same)) })
-        (caller ∷ callers) (all_later new caller callers is order)) order
+        (λ other lower. omega (arith, lower)) (caller ∷ callers) (all_later new caller callers is order)) order
     by false is again =
         AllPairs-cons IsBefore caller (placed new callers)
-        (all_placed (IsBefore caller) new callers
-        (record { priority = grind (arith, nat_tests); arrival = λ same. All-head (λ other. other.arrival < new.arrival) caller callers early })
-        (order_head caller callers order)) again
+        (all_placed (IsBefore caller) new callers (grind (arith, nat_tests)) (order_head caller callers order)) again
 
 -- those before it are of its priority or of lesser numbers, and those behind it are not
 pub placed_splits : (new : QueuedCaller) (callers : List QueuedCaller) → AllPairs IsBefore callers →

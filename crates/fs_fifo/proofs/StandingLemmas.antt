@@ -22,8 +22,8 @@ any_found test (caller ∷ callers) = by (test caller) (any_found test callers)
     by true again = refl
     by false again = again
 
-pub stands_any : (slot : ℕ) (queues : Queues) → stands slot queues ≡ list_any (has_slot slot) queues.callers
-stands_any slot queues = any_found (has_slot slot) queues.callers
+pub stands_any : (slot : ℕ) (queues : Queues) → stands slot queues ≡ list_any (has_slot slot) queues
+stands_any slot queues = any_found (has_slot slot) queues
 
 -- ---- after each change
 
@@ -47,7 +47,7 @@ any_placed test new (caller ∷ callers) = by (is_behind new.priority caller) (a
 pub entered_stands : EnteredStands
 entered_stands name priority slot other queues =
     stands_any other (entered name priority slot queues)
-    ∙ any_placed (has_slot other) (newcomer name priority slot queues) queues.callers
+    ∙ any_placed (has_slot other) (newcomer name priority slot) queues
     ∙ ap (λ stood. (slot == other) || stood) (sym (stands_any other queues))
 
 -- among callers of which one at most passes, none passes once that one is taken
@@ -88,19 +88,19 @@ any_taken test out one (caller ∷ callers) found once =
 pub taken_stands_nowhere : TakenStandsNowhere
 taken_stands_nowhere name caller slot queues sound is =
     stands_any slot (taken name queues)
-    ∙ any_taken (has_slot slot) (waits_in name) caller queues.callers is (sound.once slot)
+    ∙ any_taken (has_slot slot) (waits_in name) caller queues is (sound.once slot)
     ∙ ap (λ stood. if has_slot slot caller then false else stood) (sym (stands_any slot queues))
 
 pub left_stands_nowhere : LeftStandsNowhere
 left_stands_nowhere slot other queues =
     stands_any other (left slot queues)
-    ∙ any-filter_same (has_slot other) (λ caller. not (has_slot slot caller)) (not (slot == other)) same queues.callers
+    ∙ any-filter_same (has_slot other) (λ caller. not (has_slot slot caller)) (not (slot == other)) same queues
     ∙ by (slot == other)
     ∙ ap (λ stood. if slot == other then false else stood) (sym (stands_any other queues))
   where
     same : (caller : QueuedCaller) → (caller.slot == other) ≡ true → not (caller.slot == slot) ≡ not (slot == other)
     same caller is = grind (arith, nat_tests)
 
-    by : (b : Bool) → (not b && list_any (has_slot other) queues.callers) ≡ (if b then false else list_any (has_slot other) queues.callers)
+    by : (b : Bool) → (not b && list_any (has_slot other) queues) ≡ (if b then false else list_any (has_slot other) queues)
     by true = refl
     by false = refl

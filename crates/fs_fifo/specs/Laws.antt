@@ -6,18 +6,16 @@ use Rattle.fs_text.specs.Texts.{Text}
 use Rattle.fs_fifo.specs.declared.caller.QueuedCaller.{QueuedCaller}
 use Rattle.fs_fifo.specs.Queues.{Queues, has_slot, queue, stands, queue_of, newcomer, entered, first, taken, left}
 
--- a caller comes before another: by priority, and of equal ones by arrival
-pub record IsBefore (caller later : QueuedCaller) : Type 0 where
-  pub priority : caller.priority ≤ later.priority
-  pub arrival : caller.priority ≡ later.priority → caller.arrival < later.arrival
+-- a caller may stand before another
+abbrev pub IsBefore : QueuedCaller → QueuedCaller → Type 0
+IsBefore caller later = caller.priority ≤ later.priority
 
 -- what holds of all queues
 pub record IsSound (queues : Queues) : Type 0 where
-  pub order : AllPairs IsBefore queues.callers
-  pub arrived : All (λ caller. caller.arrival ≤ queues.arrivals) queues.callers
-  pub slots : All (λ caller. caller.slot < 2 ^ 16) queues.callers
+  pub order : AllPairs IsBefore queues
+  pub slots : All (λ caller. caller.slot < 2 ^ 16) queues
   -- a slot stands in all queues once at most
-  pub once : (slot : ℕ) → count_by (has_slot slot) queues.callers ≤ 1
+  pub once : (slot : ℕ) → count_by (has_slot slot) queues ≤ 1
 
 -- ---- what each change makes of a queue
 
@@ -49,7 +47,7 @@ pub record IsPlaced (new : QueuedCaller) (before after : List QueuedCaller) : Ty
 abbrev pub EnteredIsPlaced : Type 0
 EnteredIsPlaced =
     (name : Text) (priority slot : ℕ) (queues : Queues) → IsSound queues →
-    IsPlaced (newcomer name priority slot queues) (queue name queues) (queue name (entered name priority slot queues))
+    IsPlaced (newcomer name priority slot) (queue name queues) (queue name (entered name priority slot queues))
 
 -- a caller that leaves goes out of its queue, wherever it stands there
 abbrev pub LeftIsGone : Type 0

@@ -1,19 +1,14 @@
 -- The queues: who waits in them, and what entering, taking and leaving make of them.
-use Rattle.std.specs.Prelude.{ℕ, ◌+◌, ◌==◌, nat_lt, Bool, not, if◌then◌else◌, List, [], ◌∷◌, filter}
+use Rattle.std.specs.Prelude.{ℕ, ◌==◌, nat_lt, Bool, not, if◌then◌else◌, List, [], ◌∷◌, filter}
 use Rattle.std.specs.Prelude.{Option, option_map, is_some}
 use Rattle.std.specs.List.{find}
 use Rattle.std.specs.Str.{bytes_eq}
 use Rattle.fs_text.specs.Texts.{Text}
 use Rattle.fs_fifo.specs.declared.caller.QueuedCaller.{QueuedCaller}
 
--- the callers of all queues, by priority and then arrival, and how many arrived
-pub record Queues : Type 0 where
-  pub callers : List QueuedCaller
-  pub arrivals : ℕ
-
--- nobody arrived
-abbrev pub no_queues : Queues
-no_queues = record { callers = []; arrivals = 0 }
+-- the callers of all queues, by priority and then arrival
+abbrev pub Queues : Type 0
+Queues = List QueuedCaller
 
 -- a caller waits in the queue of this name
 abbrev pub waits_in : Text → QueuedCaller → Bool
@@ -25,11 +20,11 @@ has_slot slot caller = caller.slot == slot
 
 -- the queue of a name: who waits in it, in order
 abbrev pub queue : Text → Queues → List QueuedCaller
-queue name queues = filter (waits_in name) queues.callers
+queue name queues = filter (waits_in name) queues
 
 -- the caller of a slot
 abbrev pub caller_of : ℕ → Queues → Option QueuedCaller
-caller_of slot queues = find (has_slot slot) queues.callers
+caller_of slot queues = find (has_slot slot) queues
 
 -- the name of the queue in which it waits
 abbrev pub queue_of : ℕ → Queues → Option Text
@@ -51,15 +46,13 @@ placed new [] = new ∷ []
 placed new (caller ∷ callers) =
     if is_behind new.priority caller then new ∷ caller ∷ callers else caller ∷ placed new callers
 
--- the caller that arrives next
-abbrev pub newcomer : Text → ℕ → ℕ → Queues → QueuedCaller
-newcomer name priority slot queues =
-    record { queue = name; priority = priority; arrival = queues.arrivals + 1; slot = slot }
+-- the caller of a slot that enters the queue of a name
+abbrev pub newcomer : Text → ℕ → ℕ → QueuedCaller
+newcomer name priority slot = record { queue = name; priority = priority; slot = slot }
 
 -- with that caller
 abbrev pub entered : Text → ℕ → ℕ → Queues → Queues
-entered name priority slot queues =
-    record { callers = placed (newcomer name priority slot queues) queues.callers; arrivals = queues.arrivals + 1 }
+entered name priority slot queues = placed (newcomer name priority slot) queues
 
 -- ---- taking and leaving
 
@@ -70,12 +63,12 @@ without_first test (caller ∷ callers) = if test caller then callers else calle
 
 -- the first of a queue
 abbrev pub first : Text → Queues → Option QueuedCaller
-first name queues = find (waits_in name) queues.callers
+first name queues = find (waits_in name) queues
 
 -- without the first of a queue
 abbrev pub taken : Text → Queues → Queues
-taken name queues = record queues { callers = without_first (waits_in name) queues.callers }
+taken name queues = without_first (waits_in name) queues
 
 -- without the caller of a slot
 abbrev pub left : ℕ → Queues → Queues
-left slot queues = record queues { callers = filter (λ caller. not (has_slot slot caller)) queues.callers }
+left slot queues = filter (λ caller. not (has_slot slot caller)) queues

@@ -9,7 +9,6 @@ use fs_text::{Memory, Txt};
 pub(crate) struct QueuedCaller {
     pub queue: Txt,
     pub priority: u8,
-    pub arrival: u64,
     pub slot: u16,
 }
 
@@ -21,7 +20,6 @@ impl QueuedCaller {
         Ok(QueuedCaller {
             queue: self.queue.copy()?,
             priority: self.priority,
-            arrival: self.arrival,
             slot: self.slot,
         })
     }

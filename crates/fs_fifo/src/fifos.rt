@@ -1,6 +1,6 @@
 //! The callers that wait in queues.
 
-ghost use Rattle.std.specs.Prelude.{◌≡◌, ◌==◌, ◌≤◌, ◌^◌, false, not, length, filter, position};
+ghost use Rattle.std.specs.Prelude.{◌≡◌, ◌==◌, ◌≤◌, ◌^◌, [], false, not, length, filter, position};
 ghost use Rattle.std.specs.Prelude.{option_map, option_copied, IfOk, OnOk, OnErr};
 ghost use Rattle.std.specs.List.{find, position_or_len};
 ghost use Rattle.fs_fifo.specs.Queues as spec;
@@ -11,22 +11,12 @@ use fs_text::{Memory, Txt};
 use std::alloc::Global;
 use std::marker::Model;
 
-/// The callers that wait in queues, by priority and then arrival. The lesser number of a priority comes first, and
-/// arrivals are counted from 1 on.
+/// The callers that wait in queues, by priority and then arrival. The lesser number of a priority comes first.
 ///
-/// A contract sees the callers of all queues, in this order, and how many arrived.
+/// A contract sees the callers of all queues, in this order.
+#[derive(Drop)]
 pub struct Fifos {
     callers: Vec<QueuedCaller>,
-    arrivals: u64,
-}
-
-impl Drop for Fifos {
-    fn drop(self) {
-        let Fifos {
-            callers: _callers,
-            arrivals: _arrivals,
-        } = self;
-    }
 }
 
 impl Model for Fifos {
@@ -35,19 +25,18 @@ impl Model for Fifos {
 
     ghost Value = { Queues };
 
-    ghost view = { λ f. record { callers = f.callers.items; arrivals = f.arrivals } };
+    ghost view = { λ f. f.callers.items };
 
-    ghost invariant = { λ f. IsSound (record { callers = f.callers.items; arrivals = f.arrivals }) };
+    ghost invariant = { λ f. IsSound f.callers.items };
 }
 
 impl Fifos {
     /// No queue.
     pub fn new(alloc: Global) -> Fifos
-        ensures { result ≡ spec.no_queues }
+        ensures { result ≡ [] }
     {
         Fifos {
             callers: Vec::new(alloc),
-            arrivals: 0,
         }
     }
 
@@ -56,10 +45,7 @@ impl Fifos {
         ensures { IfOk result (λ copy. copy ≡ self.now) }
     {
         let callers = copied(*self.callers.allocator(), &self.callers)?;
-        Ok(Fifos {
-            callers,
-            arrivals: self.arrivals,
-        })
+        Ok(Fifos { callers })
     }
 
     /// What holds of all queues. It does nothing, and stands for its contract.
@@ -71,23 +57,17 @@ impl Fifos {
 
     /// Lets the caller of a slot, which stands in no queue, wait in the queue of a name, behind all of its priority
     /// and of lesser numbers.
-    ///
-    /// Where 2^64 - 1 callers arrived, one more is refused as for want of memory.
     pub fn enter(&mut self, name: &Txt, priority: u8, slot: u16) -> Result<(), Memory>
         requires { spec.stands slot self.old ≡ false }
         ensures ok { OnOk result (self.new ≡ spec.entered name.now priority slot self.old) }
         ensures err { OnErr result (self.new ≡ self.old) }
     {
-        let arrival = self.arrivals.checked_add(1).ok_or(Memory)?;
         let caller = QueuedCaller {
             queue: name.copy()?,
             priority,
-            arrival,
             slot,
         };
-        place(&mut self.callers, caller)?;
-        self.arrivals = arrival;
-        Ok(())
+        place(&mut self.callers, caller)
     }
 
     /// Takes the first caller out of a queue, and gives its slot: that of the least number of a priority, and of

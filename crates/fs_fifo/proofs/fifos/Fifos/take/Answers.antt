@@ -1,11 +1,8 @@
 use Rattle.std.proofs.Common.{subst, sym}
 use Rattle.fs_fifo.specs.Laws.{IsSound}
-use Rattle.fs_fifo.specs.Queues.{Queues}
 use Rattle.fs_fifo.proofs.SoundLemmas.{taken_sound}
 use Rattle.fs_fifo.proofs.fifos.Fifos.take.Goals as goal
 
 pub invariant_of-self : goal.invariant_of-self
 invariant_of-self c =
-    let old : Queues = record { callers = c.self.inside.callers.items; arrivals = c.self.inside.arrivals } in
-    subst (λ callers. IsSound (record { callers = callers; arrivals = old.arrivals })) (sym c.take_first.ensures.rest)
-    (taken_sound c.args.name.now old c.self.invariant)
+    subst IsSound (sym c.take_first.ensures.rest) (taken_sound c.args.name.now c.self.inside.callers.items c.self.invariant)

@@ -1,7 +1,7 @@
 -- How many callers pass a test, as that of a slot, and so how many there can be.
 use Rattle.std.proofs.Common.{◌≡◌, ℕ, suc, ◌+◌, ◌<◌, ◌≤◌, ◌^◌, ◌==◌, Bool, true, false, ◌||◌, List, [], ◌∷◌, length, refl, sym, ap}
-use Rattle.std.proofs.Common.{subst, ◌∙◌, arith, if◌then◌else◌, filter, map, All, count_by, eqb, inl, inr, Some}
-use Rattle.std.specs.List.{find, list_any, AllByRecursion, IsDistinct}
+use Rattle.std.proofs.Common.{subst, ◌∙◌, arith, if◌then◌else◌, filter, map, All, count_by, eqb, inl, inr}
+use Rattle.std.specs.List.{list_any, AllByRecursion, IsDistinct}
 use Rattle.std.proofs.lemmas.Bool.{eqb-true, or_cases, false≢true, true≢false}
 use Rattle.std.proofs.lemmas.Bool.Decides.{nat_tests}
 use Rattle.std.proofs.lemmas.List.Elements.{All-head, All-tail}
@@ -78,21 +78,6 @@ none_stands test (caller ∷ callers) none =
         (b || list_any test callers) ≡ false
     by true again none = absurd (omega (arith, none))
     by false again none = again (omega (arith, none))
-
--- whoever is found by some test is counted by each that it passes
-pub found_counted : (test found : QueuedCaller → Bool) (one : QueuedCaller) (callers : List QueuedCaller) →
-    find found callers ≡ Some one → test one ≡ true → 1 ≤ count_by test callers
-found_counted test found one [] is passes = absurd (cc)
-found_counted test found one (caller ∷ callers) is passes =
-    by (found caller) is (found_counted test found one callers) (count_front test caller callers)
-  where
-    by : (b : Bool) → (if b then Some caller else find found callers) ≡ Some one →
-        (find found callers ≡ Some one → test one ≡ true → 1 ≤ count_by test callers) →
-        count_by test (caller ∷ callers) ≡ one_if (test caller) + count_by test callers → 1 ≤ count_by test (caller ∷ callers)
-    by true is again front =
-        let same : caller ≡ one = cc in
-        let counted = front ∙ ap (λ b. one_if b + count_by test callers) (ap test same ∙ passes) in omega (arith, counted)
-    by false is again front = let behind = again is passes in omega (arith, front, behind)
 
 -- ---- how many there can be
 

@@ -1,22 +1,21 @@
 -- What each change makes of each queue.
-use Rattle.std.proofs.Common.{◌≡◌, ◌<◌, ◌≤◌, ◌+◌, Bool, true, false, not, ◌||◌, List, [], ◌∷◌, ◌++◌, Option, None, Some, refl, sym}
-use Rattle.std.proofs.Common.{ap, subst, ◌∙◌, arith, if◌then◌else◌, filter, count_by}
+use Rattle.std.proofs.Common.{◌≡◌, Bool, true, false, not, List, [], ◌∷◌, ◌++◌, Option, None, Some, refl, sym}
+use Rattle.std.proofs.Common.{ap, subst, ◌∙◌, if◌then◌else◌, filter}
 use Rattle.std.specs.Prelude.{option_to_list, option_map}
-use Rattle.std.specs.List.{AllPairs, find, list_any}
+use Rattle.std.specs.List.{AllPairs, find}
 use Rattle.std.specs.Str.{bytes_eq}
-use Rattle.std.proofs.lemmas.Bool.{false_from_ne_true, true≢false}
-use Rattle.std.proofs.lemmas.List.Elements.{All-filter, filter-append}
+use Rattle.std.proofs.lemmas.Bool.{false_from_ne_true}
 use Rattle.std.proofs.lemmas.List.Kept.{AllPairs-filter}
 use Rattle.std.proofs.lemmas.Slice.Eq.{bytes_eq-Decides}
 use Rattle.fs_text.specs.Texts.{Text}
 use Rattle.fs_fifo.specs.declared.caller.QueuedCaller.{QueuedCaller}
-use Rattle.fs_fifo.specs.Laws.{IsBefore, IsPlaced, QueuesAreOrdered, FirstIsTaken, LeastIsTaken, EnteredIsPlaced, LeftIsGone}
-use Rattle.fs_fifo.specs.Laws.{OthersStay, NobodyChangesNothing}
-use Rattle.fs_fifo.specs.Queues.{waits_in, has_slot, placed, newcomer, without_first, queue, taken, left, caller_of}
-use Rattle.fs_fifo.proofs.CountLemmas.{one_if, count_front, none_stands}
+use Rattle.fs_fifo.specs.Laws.{IsBefore, IsWithout, QueuesAreOrdered, FirstIsTaken, LeastIsTaken, EnteredIsPlaced}
+use Rattle.fs_fifo.specs.Laws.{LeftIsGone, OneGoes, OthersStay, NobodyChangesNothing}
+use Rattle.fs_fifo.specs.Queues.{waits_in, has_slot, placed, newcomer, entered, without_first, queue, first, taken, left, caller_of}
 use Rattle.fs_fifo.proofs.OrderLemmas.{order_head, placed_splits}
 use Rattle.fs_fifo.proofs.PositionLemmas.{none_taken}
 use Rattle.fs_fifo.proofs.StandingLemmas.{stands_any}
+use Rattle.fs_fifo.proofs.WithoutLemmas.{first_goes, found_passes, only_left, none_left, kept_placed, kept_same}
 
 pub queues_are_ordered : QueuesAreOrdered
 queues_are_ordered name queues sound = AllPairs-filter IsBefore (waits_in name) queues sound.order
@@ -48,55 +47,15 @@ least_is_taken name caller queues sound is =
     (subst (AllPairs IsBefore) (first_is_taken name queues ∙ ap (λ found. option_to_list found ++ queue name (taken name queues)) is)
     (queues_are_ordered name queues sound))
 
--- by another test all that pass are left
-others_taken : (test out : QueuedCaller → Bool) (callers : List QueuedCaller) →
-    ((caller : QueuedCaller) → out caller ≡ true → test caller ≡ false) →
-    filter test (without_first out callers) ≡ filter test callers
-others_taken test out [] apart = refl
-others_taken test out (caller ∷ callers) apart = by (out caller) refl (others_taken test out callers apart)
-  where
-    by : (b : Bool) → out caller ≡ b → filter test (without_first out callers) ≡ filter test callers →
-        filter test (if b then callers else caller ∷ without_first out callers) ≡ filter test (caller ∷ callers)
-    by true e again = sym (ap (λ b. if b then caller ∷ filter test callers else filter test callers) (apart caller e))
-    by false e again = ap (λ rest. if test caller then caller ∷ rest else rest) again
-
 -- ---- entering
-
--- those of a test, where one more is put among all
-placed_kept : (test : QueuedCaller → Bool) (b : Bool) (new : QueuedCaller) (before after : List QueuedCaller) →
-    (placed : IsPlaced new before after) → test new ≡ b →
-    filter test after ≡ filter test placed.front ++ (if b then new ∷ filter test placed.behind else filter test placed.behind)
-placed_kept test b new before after placed e =
-    ap (filter test) placed.now
-    ∙ filter-append test placed.front (new ∷ placed.behind)
-    ∙ ap (λ b. filter test placed.front ++ (if b then new ∷ filter test placed.behind else filter test placed.behind)) e
-
-placed_before : (test : QueuedCaller → Bool) (new : QueuedCaller) (before after : List QueuedCaller) →
-    (placed : IsPlaced new before after) → filter test before ≡ filter test placed.front ++ filter test placed.behind
-placed_before test new before after placed = ap (filter test) placed.old ∙ filter-append test placed.front placed.behind
 
 same_name : (name : Text) → bytes_eq name name ≡ true
 same_name name = (bytes_eq-Decides name name).1 refl
 
 pub entered_is_placed : EnteredIsPlaced
 entered_is_placed name priority slot queues sound =
-    record {
-      front = filter test all.front;
-      behind = filter test all.behind;
-      old = placed_before test new queues (placed new queues) all;
-      now = placed_kept test true new queues (placed new queues) all (same_name name);
-      sooner = All-filter test (λ caller. caller.priority ≤ priority) all.front all.sooner;
-      later = All-filter test (λ caller. priority < caller.priority) all.behind all.later;
-    }
-  where
-    test : QueuedCaller → Bool
-    test = waits_in name
-
-    new : QueuedCaller
-    new = newcomer name priority slot
-
-    all : IsPlaced new queues (placed new queues)
-    all = placed_splits new queues sound.order
+    kept_placed (waits_in name) (newcomer name priority slot) queues (entered name priority slot queues)
+    (placed_splits (newcomer name priority slot) queues sound.order) (same_name name)
 
 -- ---- leaving
 
@@ -121,41 +80,12 @@ kept_twice one other (caller ∷ callers) = by (one caller) (other caller) refl 
 pub left_is_gone : LeftIsGone
 left_is_gone name slot queues = kept_twice (waits_in name) (λ caller. not (has_slot slot caller)) queues
 
--- where none passes, all are kept that do not
-none_left : (out : QueuedCaller → Bool) (callers : List QueuedCaller) → list_any out callers ≡ false →
-    filter (λ caller. not (out caller)) callers ≡ callers
-none_left out [] none = refl
-none_left out (caller ∷ callers) none = by (out caller) none (none_left out callers)
-  where
-    kept : List QueuedCaller
-    kept = filter (λ caller. not (out caller)) callers
-
-    by : (b : Bool) → (b || list_any out callers) ≡ false → (list_any out callers ≡ false → kept ≡ callers) →
-        (if not b then caller ∷ kept else kept) ≡ caller ∷ callers
-    by true is again = absurd (true≢false is)
-    by false is again = ap (λ rest. caller ∷ rest) (again is)
-
--- the only one that passes goes, and those of a test stay that it does not pass
-others_left : (test out : QueuedCaller → Bool) (one : QueuedCaller) (callers : List QueuedCaller) →
-    find out callers ≡ Some one → count_by out callers ≤ 1 → test one ≡ false →
-    filter test (filter (λ caller. not (out caller)) callers) ≡ filter test callers
-others_left test out one [] found once other = refl
-others_left test out one (caller ∷ callers) found once other =
-    by (out caller) found (count_front out caller callers) (others_left test out one callers)
-  where
-    kept : List QueuedCaller
-    kept = filter (λ caller. not (out caller)) callers
-
-    by : (b : Bool) → (if b then Some caller else find out callers) ≡ Some one →
-        count_by out (caller ∷ callers) ≡ one_if b + count_by out callers →
-        (find out callers ≡ Some one → count_by out callers ≤ 1 → test one ≡ false → filter test kept ≡ filter test callers) →
-        filter test (if not b then caller ∷ kept else kept) ≡ filter test (caller ∷ callers)
-    by true is front again =
-        let same : caller ≡ one = cc in
-        ap (filter test) (none_left out callers (none_stands out callers (omega (arith, front, once))))
-        ∙ sym (ap (λ b. if b then caller ∷ filter test callers else filter test callers) (ap test same ∙ other))
-    by false is front again =
-        ap (λ rest. if test caller then caller ∷ rest else rest) (again is (omega (arith, front, once)) other)
+pub one_goes : OneGoes
+one_goes queues sound = record {
+  taken = λ name caller is. first_goes (waits_in name) caller queues is;
+  left = λ slot caller is.
+      subst (IsWithout caller queues) (sym (only_left (has_slot slot) queues (sound.once slot))) (first_goes (has_slot slot) caller queues is);
+}
 
 -- ---- the other queues, and where nobody is taken or leaves
 
@@ -168,19 +98,23 @@ others_stay name other queues sound apart =
     record {
       entered = λ priority slot.
           let new = newcomer name priority slot in
-          let all = placed_splits new queues sound.order in
-          placed_kept (waits_in other) false new queues (placed new queues) all (other_name name name other refl apart)
-          ∙ sym (placed_before (waits_in other) new queues (placed new queues) all);
-      taken = others_taken (waits_in other) (waits_in name) queues
-          (λ caller is. other_name caller.queue name other ((bytes_eq-Decides caller.queue name).0 is) apart);
+          sym (kept_same (waits_in other) new (placed new queues) queues (placed_splits new queues sound.order).one
+          (other_name name name other refl apart));
+      taken = taken_elsewhere (first name queues) refl;
       left = λ slot is. left_elsewhere slot (caller_of slot queues) refl is;
     }
   where
+    taken_elsewhere : (found : Option QueuedCaller) → first name queues ≡ found → queue other (taken name queues) ≡ queue other queues
+    taken_elsewhere None none = ap (queue other) (none_taken (waits_in name) queues none)
+    taken_elsewhere (Some caller) found =
+        kept_same (waits_in other) caller queues (taken name queues) ((one_goes queues sound).taken name caller found)
+        (other_name caller.queue name other ((bytes_eq-Decides caller.queue name).0 (found_passes (waits_in name) caller queues found)) apart)
+
     left_elsewhere : (slot : _) (found : Option QueuedCaller) → caller_of slot queues ≡ found →
         option_map (λ caller. caller.queue) found ≡ Some name → queue other (left slot queues) ≡ queue other queues
     left_elsewhere slot None found is = absurd (cc)
     left_elsewhere slot (Some caller) found is =
-        others_left (waits_in other) (has_slot slot) caller queues found (sound.once slot)
+        kept_same (waits_in other) caller queues (left slot queues) ((one_goes queues sound).left slot caller found)
         (other_name caller.queue name other (cc) apart)
 
 pub nobody_changes_nothing : NobodyChangesNothing

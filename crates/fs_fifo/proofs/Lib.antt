@@ -4,3 +4,4 @@ pub mod OrderLemmas
 pub mod PositionLemmas
 pub mod SoundLemmas
 pub mod StandingLemmas
+pub mod WithoutLemmas

@@ -63,10 +63,7 @@ order_placed new (caller ∷ callers) order =
 pub placed_splits : (new : QueuedCaller) (callers : List QueuedCaller) → AllPairs IsBefore callers →
     IsPlaced new callers (placed new callers)
 placed_splits new [] order = record {
-  front = [];
-  behind = [];
-  old = refl;
-  now = refl;
+  one = record { front = []; behind = []; all = refl; rest = refl };
   sooner = All-nil (λ other. other.priority ≤ new.priority);
   later = All-nil (λ other. new.priority < other.priority);
 }
@@ -76,19 +73,18 @@ placed_splits new (caller ∷ callers) order =
     by : (b : Bool) → nat_lt new.priority caller.priority ≡ b → IsPlaced new callers (placed new callers) →
         IsPlaced new (caller ∷ callers) (if b then new ∷ caller ∷ callers else caller ∷ placed new callers)
     by true is again = record {
-      front = [];
-      behind = caller ∷ callers;
-      old = refl;
-      now = refl;
+      one = record { front = []; behind = caller ∷ callers; all = refl; rest = refl };
       sooner = All-nil (λ other. other.priority ≤ new.priority);
       later = all_later new caller callers is order;
     }
     by false is again = record {
-      front = caller ∷ again.front;
-      behind = again.behind;
-      old = ap (λ rest. caller ∷ rest) again.old;
-      now = ap (λ rest. caller ∷ rest) again.now;
-      sooner = All-cons (λ other. other.priority ≤ new.priority) caller again.front (grind (arith, nat_tests)) again.sooner;
+      one = record {
+        front = caller ∷ again.one.front;
+        behind = again.one.behind;
+        all = ap (λ rest. caller ∷ rest) again.one.all;
+        rest = ap (λ rest. caller ∷ rest) again.one.rest;
+      };
+      sooner = All-cons (λ other. other.priority ≤ new.priority) caller again.one.front (grind (arith, nat_tests)) again.sooner;
       later = again.later;
     }
 

@@ -1,14 +1,14 @@
 -- Which slots stand in a queue, once one is put among the callers, or one is taken.
-use Rattle.std.proofs.Common.{◌≡◌, ℕ, ◌+◌, ◌≤◌, ◌==◌, Bool, true, false, not, ◌||◌, ◌&&◌, List, [], ◌∷◌, Some, refl, sym, ap, ◌∙◌}
-use Rattle.std.proofs.Common.{arith, if◌then◌else◌, count_by}
+use Rattle.std.proofs.Common.{◌≡◌, ℕ, ◌==◌, Bool, true, false, not, ◌||◌, ◌&&◌, List, [], ◌∷◌, Some, refl, sym, ap, ◌∙◌}
+use Rattle.std.proofs.Common.{arith, if◌then◌else◌}
 use Rattle.std.specs.Prelude.{option_map, is_some}
 use Rattle.std.specs.List.{find, list_any}
 use Rattle.std.proofs.lemmas.Bool.Decides.{nat_tests}
 use Rattle.std.proofs.lemmas.Map.Views.{any-filter_same}
 use Rattle.fs_fifo.specs.declared.caller.QueuedCaller.{QueuedCaller}
 use Rattle.fs_fifo.specs.Laws.{EnteredStands, TakenStandsNowhere, LeftStandsNowhere}
-use Rattle.fs_fifo.specs.Queues.{Queues, has_slot, is_behind, waits_in, stands, placed, newcomer, entered, without_first, taken, left}
-use Rattle.fs_fifo.proofs.CountLemmas.{one_if, count_front, none_stands, found_counted}
+use Rattle.fs_fifo.specs.Queues.{Queues, has_slot, is_behind, waits_in, stands, placed, newcomer, entered, taken, left}
+use Rattle.fs_fifo.proofs.WithoutLemmas.{first_goes, any_goes}
 
 -- ---- a slot stands where one of the callers is of it
 
@@ -50,45 +50,10 @@ entered_stands name priority slot other queues =
     ∙ any_placed (has_slot other) (newcomer name priority slot) queues
     ∙ ap (λ stood. (slot == other) || stood) (sym (stands_any other queues))
 
--- among callers of which one at most passes, none passes once that one is taken
-any_taken : (test out : QueuedCaller → Bool) (one : QueuedCaller) (callers : List QueuedCaller) →
-    find out callers ≡ Some one → count_by test callers ≤ 1 →
-    list_any test (without_first out callers) ≡ (if test one then false else list_any test callers)
-any_taken test out one [] found once = absurd (cc)
-any_taken test out one (caller ∷ callers) found once =
-    by (out caller) found (any_taken test out one callers) (count_front test caller callers)
-  where
-    rest : List QueuedCaller
-    rest = without_first out callers
-
-    here : (b : Bool) → test caller ≡ b → count_by test (caller ∷ callers) ≡ one_if b + count_by test callers →
-        list_any test callers ≡ (if b then false else (b || list_any test callers))
-    here true e front = none_stands test callers (omega (arith, front, once))
-    here false e front = refl
-
-    behind : (b t : Bool) → test caller ≡ b → test one ≡ t → find out callers ≡ Some one →
-        count_by test (caller ∷ callers) ≡ one_if b + count_by test callers →
-        list_any test rest ≡ (if t then false else list_any test callers) →
-        (b || list_any test rest) ≡ (if t then false else (b || list_any test callers))
-    behind true true e passes is front again =
-        let counted = found_counted test out one callers is passes in absurd (omega (arith, front, once, counted))
-    behind true false e passes is front again = refl
-    behind false true e passes is front again = again
-    behind false false e passes is front again = again
-
-    by : (b : Bool) → (if b then Some caller else find out callers) ≡ Some one →
-        (find out callers ≡ Some one → count_by test callers ≤ 1 → list_any test rest ≡ (if test one then false else list_any test callers)) →
-        count_by test (caller ∷ callers) ≡ one_if (test caller) + count_by test callers →
-        list_any test (if b then callers else caller ∷ rest) ≡ (if test one then false else (test caller || list_any test callers))
-    by true is again front =
-        let same : caller ≡ one = cc in
-        here (test caller) refl front ∙ ap (λ c. if test c then false else (test caller || list_any test callers)) same
-    by false is again front = behind (test caller) (test one) refl refl is front (again is (omega (arith, front, once)))
-
 pub taken_stands_nowhere : TakenStandsNowhere
 taken_stands_nowhere name caller slot queues sound is =
     stands_any slot (taken name queues)
-    ∙ any_taken (has_slot slot) (waits_in name) caller queues is (sound.once slot)
+    ∙ any_goes (has_slot slot) caller queues (taken name queues) (first_goes (waits_in name) caller queues is) (sound.once slot)
     ∙ ap (λ stood. if has_slot slot caller then false else stood) (sym (stands_any slot queues))
 
 pub left_stands_nowhere : LeftStandsNowhere

@@ -4,9 +4,9 @@ use Rattle.std.specs.Prelude.{None, Some, option_to_list, filter, All, count_by}
 use Rattle.std.specs.List.{AllPairs}
 use Rattle.fs_text.specs.Texts.{Text}
 use Rattle.fs_fifo.specs.declared.caller.QueuedCaller.{QueuedCaller}
-use Rattle.fs_fifo.specs.Queues.{Queues, has_slot, queue, stands, queue_of, newcomer, entered, first, taken, left}
+use Rattle.fs_fifo.specs.Queues.{Queues, has_slot, queue, stands, caller_of, queue_of, newcomer, entered, first, taken, left}
 
--- a caller may stand before another
+-- a caller may stand before another, which has no lesser number
 abbrev pub IsBefore : QueuedCaller → QueuedCaller → Type 0
 IsBefore caller later = caller.priority ≤ later.priority
 
@@ -28,20 +28,24 @@ abbrev pub FirstIsTaken : Type 0
 FirstIsTaken =
     (name : Text) (queues : Queues) → queue name queues ≡ option_to_list (first name queues) ++ queue name (taken name queues)
 
--- the caller that is taken comes before all who wait on
+-- none who waits on has a lesser number than the caller that is taken
 abbrev pub LeastIsTaken : Type 0
 LeastIsTaken =
     (name : Text) (caller : QueuedCaller) (queues : Queues) → IsSound queues → first name queues ≡ Some caller →
     All (IsBefore caller) (queue name (taken name queues))
 
--- of a queue, before and after: one more stands in it, behind all of its priority and of lesser numbers
-pub record IsPlaced (new : QueuedCaller) (before after : List QueuedCaller) : Type 0 where
+-- the others are all callers but one, in the same order
+pub record IsWithout (caller : QueuedCaller) (callers others : List QueuedCaller) : Type 0 where
   pub front : List QueuedCaller
   pub behind : List QueuedCaller
-  pub old : before ≡ front ++ behind
-  pub now : after ≡ front ++ new ∷ behind
-  pub sooner : All (λ caller. caller.priority ≤ new.priority) front
-  pub later : All (λ caller. new.priority < caller.priority) behind
+  pub all : callers ≡ front ++ caller ∷ behind
+  pub rest : others ≡ front ++ behind
+
+-- of a queue, before and after: one more stands in it, behind all of its priority and of lesser numbers
+pub record IsPlaced (new : QueuedCaller) (before after : List QueuedCaller) : Type 0 where
+  pub one : IsWithout new after before
+  pub sooner : All (λ caller. caller.priority ≤ new.priority) one.front
+  pub later : All (λ caller. new.priority < caller.priority) one.behind
 
 -- a caller that enters a queue is put there
 abbrev pub EnteredIsPlaced : Type 0
@@ -54,6 +58,14 @@ abbrev pub LeftIsGone : Type 0
 LeftIsGone =
     (name : Text) (slot : ℕ) (queues : Queues) →
     queue name (left slot queues) ≡ filter (λ caller. not (has_slot slot caller)) (queue name queues)
+
+-- whoever is taken or leaves goes alone, and all others wait on in their order
+pub record OneGoesOf (queues : Queues) : Type 0 where
+  pub taken : (name : Text) (caller : QueuedCaller) → first name queues ≡ Some caller → IsWithout caller queues (taken name queues)
+  pub left : (slot : ℕ) (caller : QueuedCaller) → caller_of slot queues ≡ Some caller → IsWithout caller queues (left slot queues)
+
+abbrev pub OneGoes : Type 0
+OneGoes = (queues : Queues) → IsSound queues → OneGoesOf queues
 
 -- no other queue is changed by what is done in the queue of a name
 pub record OthersStayIn (name other : Text) (queues : Queues) : Type 0 where

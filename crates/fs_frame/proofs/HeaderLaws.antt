@@ -6,7 +6,7 @@ use Rattle.std.specs.List.{list_any, list_all, cons_option}
 use Rattle.fs_text.specs.Texts.{Text}
 use Rattle.fs_frame.specs.Lines.{is_lf, text_of, has_text, lines_of}
 use Rattle.std.specs.Str.{str_eq_ignore_ascii_case}
-use Rattle.fs_frame.specs.Headers.{is_blank, from_first, up_to_last, header_of, headers_among, headers_of, value_among, header_in}
+use Rattle.fs_frame.specs.Headers.{is_blank, up_to_last, header_of, headers_among, headers_of, value_among, header_in}
 use Rattle.fs_frame.specs.Front.{GoesOn, first_of}
 use Rattle.fs_frame.proofs.LineLaws.{lines_of-none, lines_of-behind}
 use Rattle.fs_frame.proofs.CommandLaws.{TextHere, NoTextHere, with_text, without_text}

@@ -45,11 +45,11 @@ use Rattle.fs_machine.specs.Owing.{after_job_begin, after_job_end}
 use Rattle.fs_machine.specs.Bridging.{caller_of, group_dialed, goes_on, after_going_on, bridge_failed_from, after_bridge_failure}
 use Rattle.fs_machine.specs.Bridging.{after_bridge_win, disposed}
 use Rattle.fs_machine.specs.Dialing.{tried_by_slot}
-use Rattle.fs_machine.specs.Joining.{after_leaving, both_left}
+use Rattle.fs_machine.specs.Joining.{after_leaving}
 use Rattle.fs_machine.specs.Leaving.{after_departure}
 use Rattle.fs_machine.proofs.LeaveLemmas.{departed_kept}
 use Rattle.fs_machine.proofs.FrontLemmas.{conn_unread}
-use Rattle.fs_machine.proofs.Kept.{Fact, Links, IsApart, KeptByTouches, KeptByCalls, KeptByBirths, KeptByDials, raced, KeptByMoves}
+use Rattle.fs_machine.proofs.Kept.{Fact, Links, KeptByTouches, KeptByCalls, KeptByBirths, KeptByDials, raced, KeptByMoves}
 use Rattle.fs_machine.proofs.JoinLemmas.{both_left_kept}
 use Rattle.fs_machine.proofs.StayLemmas.{state_told_kept, moved_there, changed_there, orig_changed_channels}
 use Rattle.fs_machine.proofs.HangLemmas.{dies, given_up_kept, hangups_kept}

@@ -53,7 +53,6 @@ use Rattle.fs_machine.specs.Bridging.{caller_of, group_dialed, goes_on, after_go
 use Rattle.fs_machine.specs.Bridging.{after_bridge_win, disposed}
 use Rattle.fs_machine.specs.Dialing.{tried_by_slot}
 use Rattle.fs_machine.specs.Joining.{after_leaving, both_left}
-use Rattle.fs_machine.specs.Leaving.{after_departure}
 use Rattle.fs_state.specs.Leaving.{after_leaving_others}
 use Rattle.fs_machine.proofs.NameLemmas.{leg_chan, far_chan, pair_channels}
 use Rattle.fs_machine.proofs.Kept.{Stage, Fact, Links, Stays, KeptByTouches, KeptByCalls, KeptByBirths, KeptByDials, raced, KeptByMoves}
@@ -72,7 +71,7 @@ use Rattle.fs_machine.proofs.OwnerLemmas.{given_up_owned, given_up_none, begun_o
 use Rattle.fs_machine.proofs.JoinLemmas.{rest_dials}
 use Rattle.fs_machine.proofs.OwnerHangups.{rest_owned, hung_owned}
 use Rattle.fs_machine.proofs.OwnerLeaves.{others_owned}
-use Rattle.fs_machine.proofs.LegMoves.{orig_changed_drawn, hung_drawn, both_left_drawn, departed_drawn, joined_drawn, group_drawn}
+use Rattle.fs_machine.proofs.LegMoves.{orig_changed_drawn, group_drawn}
 use Rattle.fs_machine.proofs.LegMoves.{conn_roles, won_roles}
 use Rattle.fs_machine.proofs.LegMoves.{same_next}
 

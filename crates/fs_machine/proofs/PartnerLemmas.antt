@@ -1,7 +1,7 @@
 -- Slots that name each other as partners, where two functions tell which slot each names, and which lives.
 use Rattle.std.proofs.Common.{◌≡◌, ℕ, ◌==◌, Bool, true, false, if◌then◌else◌, List, [], ◌∷◌, Option, None, Some, ◌⊎◌, inl, inr, refl, sym}
-use Rattle.std.proofs.Common.{ap, subst, ◌∙◌, true≢false}
-use Rattle.std.proofs.lemmas.Bool.{cases_eq, eq-eqb, ne_eqb}
+use Rattle.std.proofs.Common.{◌∙◌, true≢false}
+use Rattle.std.proofs.lemmas.Bool.{cases_eq}
 
 -- who names a partner lives
 abbrev pub LiveNamers : (ℕ → Option ℕ) → (ℕ → Bool) → Type 0

@@ -1,6 +1,6 @@
 -- The one walk through what channels do: a fact that bears each of their moves is kept by all that they do.
 use Rattle.std.proofs.Common.{◌≡◌, ℕ, ◌+◌, ◌==◌, Bool, true, false, if◌then◌else◌, List, [], ◌∷◌, length, Option, None, Some}
-use Rattle.std.proofs.Common.{option_map, option_and_then, is_none, Result, Ok, Err, IsSome, slice_get, unwrap_or, codes, inl, inr}
+use Rattle.std.proofs.Common.{option_map, option_and_then, is_none, Result, Ok, Err, IsSome, slice_get, unwrap_or, codes}
 use Rattle.std.proofs.Common.{refl, sym, ap, subst}
 use Rattle.std.proofs.Common.{◌∙◌}
 use Rattle.std.proofs.Common.{true≢false}

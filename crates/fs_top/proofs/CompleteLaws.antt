@@ -1,13 +1,13 @@
 -- What a run does where its words and its file are in order and no count rises.
 use Rattle.std.proofs.Common.{◌≡◌, ◌≢◌, ℕ, Bool, true, false, List, ◌∷◌, ◌++◌, length, All, Option, None, Some, Result, Ok, Err, ◌⊎◌, refl}
-use Rattle.std.proofs.Common.{sym, ap, ◌∙◌, subst, inl, inr, arith}
+use Rattle.std.proofs.Common.{sym, ap, ◌∙◌, subst, inl, inr, unwrap_or, arith}
 use Rattle.std.proofs.lemmas.List.{length-append}
 use Rattle.std.proofs.Math.Seq.{get_or-append_seam}
 use Rattle.std.proofs.lemmas.List.Elements.{All-get_or}
 use Rattle.fs_ports.specs.Counts.{raised}
 use Rattle.fs_ports.specs.Ports.{Input, Output}
 use Rattle.fs_ports.specs.Loads.{LoadCounts, Tells}
-use Rattle.fs_ports.specs.declared.files.Load.{Load}
+use Rattle.fs_ports.specs.declared.files.Load.{Load as File}
 use Rattle.fs_ports.specs.declared.files.Load.TheVariants.{Got}
 use Rattle.fs_doc.specs.Reading.{Configuration, config_of}
 use Rattle.fs_doc.specs.declared.fault.DocFault.{DocFault}
@@ -17,7 +17,8 @@ use Rattle.fs_plan.specs.declared.fault.PlanFault.TheVariants.{PatternRefused, P
 use Rattle.fs_conn.specs.Turns.{HasRead}
 use Rattle.fs_top.specs.Told.{Told, Asked, file_asked, told_words, told_read, told_asked}
 use Rattle.fs_top.specs.Runs.{CarriesOut, completes, fails_to_write, lacks_memory, fails_for_memory, Completes, BreaksForMemory}
-use Rattle.fs_top.specs.Runs.{RefusesPattern, IsBuilt, Ran, HasReadings, IsGiven, NoneRose, DoesAll}
+use Rattle.fs_top.specs.Runs.{RefusesPattern, IsPlayed, Gives, IsTold, IsBuilt, Ran, HasReadings, IsGiven, NoneRose, DoesAll}
+use Rattle.fs_top.proofs.RunLaws.{failed_read}
 
 -- what holds of each element holds of the one behind a front
 at_seam : {X : Type 0} (P : X → Type 0) (front : List X) (x : X) (back : List X) → All P (front ++ x ∷ back) → P x
@@ -56,10 +57,22 @@ built_none bytes c (Some fault) sizes0 sizes1 reads readings rose told =
     (subst (λ (d : Configuration). RefusesPattern d.contexts fault sizes0 sizes1) (read_once bytes c told.0 reads told.1) told.2))
 
 -- no read failed
-read_whole : (in0 in1 : Input) (input : List ℕ) (read_failed : Bool) → in1.faults ≢ raised in0.faults → HasRead in0 in1 input read_failed →
-    read_failed ≡ false
-read_whole in0 in1 input true rose has_read = absurd (rose has_read.faults)
-read_whole in0 in1 input false rose has_read = refl
+read_whole : (asked : Option Asked) (in0 in1 from to : Input) (input : List ℕ) (read_failed : Bool) → in1.faults ≢ raised in0.faults →
+    IsPlayed asked in0 in1 from to → HasRead from to input read_failed → read_failed ≡ false
+read_whole asked in0 in1 from to input true rose is_played has_read =
+    absurd (rose (failed_read asked in0 in1 from to is_played has_read.faults))
+read_whole asked in0 in1 from to input false rose is_played has_read = refl
+
+-- an answer that is told is the one
+tells_is : (told : Option File) (file : File) (bytes : List ℕ) → told ≡ Some (Got bytes) → Tells told file → file ≡ Got bytes
+tells_is None file bytes is tells = absurd (cc)
+tells_is (Some load) file bytes is tells = tells ∙ ap (λ (l : Option File). unwrap_or l load) is
+
+-- what is told of a file is given
+file_is : (next_load : List ℕ → Option File) (of : Option (List ℕ)) (file : File) (bytes : List ℕ) → IsTold next_load of bytes →
+    Gives next_load of file → file ≡ Got bytes
+file_is next_load None file bytes told gives = gives ∙ ap Got (sym told)
+file_is next_load (Some name) file bytes told gives = tells_is (next_load name) file bytes told gives
 
 -- no write failed
 written_whole : (told : Told) (in1 : Input) (out0 out1 : Output) (line : List ℕ) (status : ℕ) → out1.faults ≢ raised out0.faults →
@@ -71,7 +84,7 @@ written_whole told in1 out0 out1 line status rose (lacks_memory h) = inr h
 written_whole told in1 out0 out1 line status rose (fails_for_memory h) = absurd (rose h.stopped.faults)
 
 -- what is told then
-told_given : (asked : Option Asked) (of : Asked) (file : Load) (bytes : List ℕ) (c : Configuration) (built : Option PlanFault)
+told_given : (asked : Option Asked) (of : Asked) (file : File) (bytes : List ℕ) (c : Configuration) (built : Option PlanFault)
     (input : List ℕ) (read_failed : Bool) →
     asked ≡ Some of → file ≡ Got bytes → config_of bytes ≡ Ok c → built ≡ None → read_failed ≡ false →
     told_words asked file built input read_failed ≡ told_asked of c input false
@@ -79,25 +92,29 @@ told_given asked of file bytes c built input read_failed is_asked is_file reads 
     rw (is_asked, is_file, is_built, is_whole) (ap (λ (read : Result Configuration DocFault). told_read of read None input false) reads)
 
 -- all was done, or memory was wanting
-pub complete : (asked : Option Asked) (next_load : List ℕ → Option Load) (counts0 counts1 : LoadCounts) (sizes0 sizes1 : ℕ)
+pub complete : (asked : Option Asked) (next_load : List ℕ → Option File) (counts0 counts1 : LoadCounts) (sizes0 sizes1 : ℕ)
     (in0 in1 : Input) (out0 out1 err0 err1 : Output) (status : ℕ) →
     Ran asked next_load counts0 counts1 sizes0 sizes1 in0 in1 out0 out1 err0 err1 status → (of : Asked) (c : Configuration) →
     IsGiven asked next_load of c →
     NoneRose sizes0 sizes1 in0 in1 out0 out1 → DoesAll of c in0 in1 out0 out1 err0 err1 status
 complete asked next_load counts0 counts1 sizes0 sizes1 in0 in1 out0 out1 err0 err1 status ran of c given rose =
-    let tells : Tells (next_load (file_asked of)) ran.file = rw given.is_asked at ran.file_told in
-    let file : ran.file ≡ Got given.bytes = rw given.told at tells in
+    let gives : Gives next_load (file_asked of) ran.file = rw given.is_asked at ran.file_told in
+    let file : ran.file ≡ Got given.bytes = file_is next_load (file_asked of) ran.file given.bytes given.told gives in
     let built : ran.built ≡ None =
     built_none given.bytes c ran.built sizes0 sizes1 given.reads given.readings rose.sizes (rw file at ran.built_told) in
-    let whole : ran.read_failed ≡ false = read_whole in0 in1 ran.input ran.read_failed rose.reads ran.has_read in
+    let whole : ran.read_failed ≡ false =
+    read_whole asked in0 in1 ran.from ran.to ran.input ran.read_failed rose.reads ran.is_played ran.has_read in
     let told = told_given asked of ran.file given.bytes c ran.built ran.input ran.read_failed given.is_asked file given.reads built whole in
     record {
+      from = ran.from;
+      to = ran.to;
       input = ran.input;
       line = ran.line;
       sent = ran.sent;
+      is_played = rw given.is_asked at ran.is_played;
       has_read = rw whole at ran.has_read;
       does =
-          written_whole (told_asked of c ran.input false) in1 out0 out1 ran.line status rose.writes
-          (subst (λ (t : Told). CarriesOut t in1 out0 out1 ran.line status) told ran.does);
+          written_whole (told_asked of c ran.input false) ran.to out0 out1 ran.line status rose.writes
+          (subst (λ (t : Told). CarriesOut t ran.to out0 out1 ran.line status) told ran.does);
       said = ran.said;
     }

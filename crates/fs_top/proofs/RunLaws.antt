@@ -7,9 +7,11 @@ use Rattle.fs_ports.specs.Counts.{raised}
 use Rattle.fs_ports.specs.Ports.{Input, Output, Writes, Stopped, SendDid}
 use Rattle.fs_ports.specs.declared.send.Sent.{Sent}
 use Rattle.fs_ports.specs.Loads.{LoadCounts, Tells, Counted}
-use Rattle.fs_ports.specs.declared.files.Load.{Load}
+use Rattle.fs_ports.specs.declared.files.Load.{Load as File}
 use Rattle.fs_ports.specs.declared.files.Load.TheVariants.{Got, Absent, Failed}
 use Rattle.fs_ports.proofs.Sides.{reads_nothing, writes_nothing, stopped_sooner}
+use Rattle.fs_load.specs.Calls.{load_input, input_left, dropped}
+use Rattle.fs_load.specs.Document.{load_document}
 use Rattle.fs_frame.specs.Block.{fault_of}
 use Rattle.fs_frame.specs.declared.fault.Fault.{Fault}
 use Rattle.fs_frame.specs.declared.fault.Fault.TheVariants as faults
@@ -21,7 +23,8 @@ use Rattle.fs_doc.specs.declared.fault.DocFault.{DocFault}
 use Rattle.fs_plan.specs.Building.{IsPlanRefusal, sizes_after}
 use Rattle.fs_plan.specs.declared.fault.PlanFault.{PlanFault}
 use Rattle.fs_plan.specs.declared.fault.PlanFault.TheVariants.{PatternRefused, PatternTooLarge, Memory as NoMemory}
-use Rattle.fs_state.specs.Switch.{empty}
+use Rattle.fs_state.specs.Counts.{Tallies}
+use Rattle.fs_state.specs.Switch.{Switch, empty}
 use Rattle.fs_machine.specs.declared.entry.Entry.{Entry}
 use Rattle.fs_machine.specs.Runs.{run_from}
 use Rattle.fs_machine.specs.Frames.{handed_from}
@@ -30,13 +33,14 @@ use Rattle.fs_conn.specs.declared.end.End.TheVariants as ends
 use Rattle.fs_conn.specs.Play.{Play as PlaySoFar, switch_of, bytes_handed, end_for, played}
 use Rattle.fs_conn.specs.Turns.{HasRead, Plays, Finishes, Breaks, all_written, then_failed, failed_before}
 use Rattle.fs_conn.specs.Ends.{IsFullAt, HasCause}
-use Rattle.fs_conn.proofs.LawLemmas.{settings_kept, ends_played, bytes_begin}
+use Rattle.fs_conn.proofs.LawLemmas.{config_played, settings_kept, ends_played, bytes_begin}
 use Rattle.fs_conn.proofs.CauseLemmas.{cause_played}
-use Rattle.fs_top.specs.Told.{Told, Asked, Check, Hunt, Play, file_asked, told_words, told_file, told_read, told_built, told_asked}
-use Rattle.fs_top.specs.Told.{told_play, told_text, refused, is_eof, line_of_end, status_of_end, usage_line, cannot_read_line, fault_line}
+use Rattle.fs_top.specs.Counted.{counts_text}
+use Rattle.fs_top.specs.Told.{Told, Asked, Check, Hunt, Play, Load, file_asked, told_words, told_file, told_read, told_built, told_asked}
+use Rattle.fs_top.specs.Told.{told_play, told_calls, counts_printed, told_text, refused, is_eof, line_of_end, status_of_end, usage_line, cannot_read_line, fault_line}
 use Rattle.fs_top.specs.Told.{pattern_line}
 use Rattle.fs_top.specs.Runs.{line_of_outcome, status_of_outcome, PlaysTo, CarriesOut, completes, fails_to_write, lacks_memory}
-use Rattle.fs_top.specs.Runs.{fails_for_memory, CarriesOutAs, Answers, IsPlanBuiltOf, IsBuilt, OverConfig, OverBytes, is_memory, not_read}
+use Rattle.fs_top.specs.Runs.{fails_for_memory, CarriesOutAs, IsPlayed, Loads, Gives, LoadedAs, Answers, IsPlanBuiltOf, IsBuilt, OverConfig, OverBytes, is_memory, not_read}
 use Rattle.fs_top.specs.Runs.{not_built, Runs, RefusesPattern, Ran, HasConfig, HasFault, HasRefusal, CountRose, FillsJournal, MeetsBadBlock}
 use Rattle.fs_top.specs.Runs.{RunsAway}
 use Rattle.fs_top.specs.declared.outcome.Outcome.{Outcome}
@@ -71,15 +75,39 @@ print_failed in1 out0 out1 text stopped = fails_to_write (record { stopped = sto
 pub print_none : (in1 : Input) (out0 : Output) (text : List ℕ) → CarriesOutAs (told_text text) in1 out0 out0 (Ended ends.Memory)
 print_none in1 out0 text = memory_does (told_text text) in1 out0
 
+-- a text is printed whatever is read
+pub text_anywhere : (text : List ℕ) (in1 to : Input) (out0 out1 : Output) (outcome : Outcome) →
+    CarriesOutAs (told_text text) in1 out0 out1 outcome → CarriesOutAs (told_text text) to out0 out1 outcome
+text_anywhere text in1 to out0 out1 outcome (completes h) =
+    completes (record { written = h.written; line_is = h.line_is; status_is = h.status_is; at_end = λ eof. absurd (cc) })
+text_anywhere text in1 to out0 out1 outcome (fails_to_write h) = fails_to_write h
+text_anywhere text in1 to out0 out1 outcome (lacks_memory h) = lacks_memory h
+text_anywhere text in1 to out0 out1 outcome (fails_for_memory h) = fails_for_memory h
+
+-- the side that would have been played
+record Unplayed (asked : Option Asked) (in0 : Input) : Type 0 where
+  side : Input
+  is_played : IsPlayed asked in0 in0 side side
+
+unplayed : (asked : Option Asked) (in0 : Input) → Unplayed asked in0
+unplayed None in0 = record { side = in0; is_played = (refl, refl) }
+unplayed (Some (Check file)) in0 = record { side = in0; is_played = (refl, refl) }
+unplayed (Some (Hunt file context dest)) in0 = record { side = in0; is_played = (refl, refl) }
+unplayed (Some (Play file)) in0 = record { side = in0; is_played = (refl, refl) }
+unplayed (Some (Load count start)) in0 = record { side = input_left (load_input count start); is_played = (refl, refl) }
+
 -- nothing was read for the answer
 pub answers_quiet : (told : List ℕ → Bool → Told) (asked : Option Asked) (in0 in1 : Input) (out0 out1 : Output) (outcome : Outcome) →
-    in1 ≡ in0 → CarriesOutAs (told [] false) in1 out0 out1 outcome → Answers told asked in0 in1 out0 out1 outcome
-answers_quiet told asked in0 in1 out0 out1 outcome same does = record {
+    in1 ≡ in0 → ((to : Input) → CarriesOutAs (told [] false) to out0 out1 outcome) → Answers told asked in0 in1 out0 out1 outcome
+answers_quiet told asked in0 in1 out0 out1 outcome same does = let none = unplayed asked in0 in record {
+  from = none.side;
+  to = none.side;
   input = [];
   read_failed = false;
-  has_read = subst (λ (i : Input). HasRead in0 i [] false) (sym same) (reads_none in0);
+  is_played = subst (λ (i : Input). IsPlayed asked in0 i none.side none.side) (sym same) none.is_played;
+  has_read = reads_none none.side;
   quiet = λ _. same;
-  does = does;
+  does = does none.side;
 }
 
 -- only one end is by the end of the input
@@ -104,8 +132,11 @@ answers_finished : (c : Configuration) (file : List ℕ) (in0 in1 : Input) (out0
     Finishes c in0 out0 in1 out1 end journal →
     Answers (tells c) (Some (Play file)) in0 in1 out0 out1 (Ended end)
 answers_finished c file in0 in1 out0 out1 end journal f = record {
+  from = in0;
+  to = in1;
   input = f.input;
   read_failed = f.read_failed;
+  is_played = (refl, refl);
   has_read = f.has_read;
   quiet = λ none. absurd none;
   does = completes (record {
@@ -147,8 +178,11 @@ answers_ended c file in0 in1 out0 out1 (ends.JournalFull cost limit) journal pla
 answers_ended c file in0 in1 out0 out1 (ends.Runaway count) journal plays =
     answers_finished c file in0 in1 out0 out1 (ends.Runaway count) journal plays
 answers_ended c file in0 in1 out0 out1 ends.Memory journal (all_written plays) = let b = plays.breaks in record {
+  from = in0;
+  to = in1;
   input = b.input;
   read_failed = b.read_failed;
+  is_played = (refl, refl);
   has_read = b.has_read;
   quiet = λ none. absurd none;
   does = lacks_memory (record {
@@ -161,16 +195,22 @@ answers_ended c file in0 in1 out0 out1 ends.Memory journal (all_written plays) =
   });
 }
 answers_ended c file in0 in1 out0 out1 ends.Memory journal (then_failed plays) = let b = plays.breaks in record {
+  from = in0;
+  to = in1;
   input = b.input;
   read_failed = b.read_failed;
+  is_played = (refl, refl);
   has_read = b.has_read;
   quiet = λ none. absurd none;
   does =
       fails_for_memory (record { stopped = stopped_output c in0 in1 out0 out1 journal b plays.stopped; line_is = refl; status_is = refl });
 }
 answers_ended c file in0 in1 out0 out1 ends.Memory journal (failed_before p plays same) = let b = plays.breaks in record {
+  from = in0;
+  to = in1;
   input = b.input;
   read_failed = b.read_failed;
+  is_played = (refl, refl);
   has_read = b.has_read;
   quiet = λ none. absurd none;
   does =
@@ -181,8 +221,11 @@ answers_ended c file in0 in1 out0 out1 ends.Memory journal (failed_before p play
       });
 }
 answers_ended c file in0 in1 out0 out1 ends.WriteFault journal plays = let b = plays.breaks_at.breaks in record {
+  from = in0;
+  to = in1;
   input = b.input;
   read_failed = b.read_failed;
+  is_played = (refl, refl);
   has_read = b.has_read;
   quiet = λ none. absurd none;
   does =
@@ -213,6 +256,123 @@ plays_none c in0 out0 = (
   }),
 )
 
+-- ---- loads
+
+-- no read of a load fails
+none_failed : (read_failed : Bool) (count : ℕ) → count ≡ cond read_failed (raised 0) 0 → count ≡ 0 → read_failed ≡ false
+none_failed true count is none = let one : 0 ≡ raised 0 = sym none ∙ is in absurd (cc)
+none_failed false count is none = refl
+
+-- what is told of a play with these counts and this end
+abbrev told_counted : ℕ → Tallies → Option End → Told
+told_counted count tallies last = record {
+  output = unwrap_or (option_map (counts_printed count tallies) last) [];
+  line = unwrap_or (option_map line_of_end last) [];
+  status = unwrap_or (option_map status_of_end last) 0;
+  at_end = unwrap_or (option_map is_eof last) false;
+}
+
+-- all its calls were made, and the counts were printed
+pub loads_counted : (c : Configuration) (count start : ℕ) (to in1 : Input) (gone out0 out1 : Output) (journal : List Entry)
+    (tallies : Tallies) (outcome : Outcome) →
+    Finishes c (input_left (load_input count start)) dropped to gone ends.Exit journal → to.faults ≡ 0 →
+    tallies ≡ (run_from (empty c) journal).counts → CarriesOutAs (told_text (counts_text count tallies)) in1 out0 out1 outcome →
+    Loads c count start out0 out1 outcome
+loads_counted c count start to in1 gone out0 out1 journal tallies outcome f faults counted does =
+    let whole = none_failed f.read_failed to.faults f.has_read.faults faults in
+    let end_is = subst (λ (b : Bool). (played c f.input b).end ≡ Some ends.Exit) whole f.end_is in
+    let journal_is : journal ≡ (played c f.input false).journal = subst (λ (b : Bool). journal ≡ (played c f.input b).journal) whole
+    f.journal_is in
+    let counts_are : tallies ≡ (switch_of (played c f.input false)).counts =
+    counted ∙ ap (λ entries. (run_from (empty c) entries).counts) journal_is
+    ∙ ap (λ d. (run_from (empty d) (played c f.input false).journal).counts) (sym (config_played c f.input false)) in
+    let told_is : told_calls count (played c f.input false) ≡ told_text (counts_text count tallies) =
+    ap (told_counted count (switch_of (played c f.input false)).counts) end_is
+    ∙ ap (λ (t : Tallies). told_counted count t (Some ends.Exit)) (sym counts_are) in
+    record {
+      to = to;
+      input = f.input;
+      has_read = subst (λ (b : Bool). HasRead (input_left (load_input count start)) to f.input b) whole f.has_read;
+      faults = faults;
+      does =
+          subst (λ (t : Told). CarriesOutAs t to out0 out1 outcome) (sym told_is) (text_anywhere (counts_text count tallies) in1 to out0 out1
+          outcome does);
+    }
+
+-- the play came to another end
+loads_finished : (c : Configuration) (count start : ℕ) (to : Input) (gone out0 : Output) (end : End) (journal : List Entry) →
+    Finishes c (input_left (load_input count start)) dropped to gone end journal → to.faults ≡ 0 →
+    ((tallies : Tallies) → counts_printed count tallies end ≡ []) → Loads c count start out0 out0 (Ended end)
+loads_finished c count start to gone out0 end journal f faults prints =
+    let whole = none_failed f.read_failed to.faults f.has_read.faults faults in
+    let end_is = subst (λ (b : Bool). (played c f.input b).end ≡ Some end) whole f.end_is in
+    let counts = (switch_of (played c f.input false)).counts in
+    let nothing : (told_calls count (played c f.input false)).output ≡ [] =
+    ap (λ (last : Option End). unwrap_or (option_map (counts_printed count counts) last) []) end_is ∙ prints counts in
+    record {
+      to = to;
+      input = f.input;
+      has_read = subst (λ (b : Bool). HasRead (input_left (load_input count start)) to f.input b) whole f.has_read;
+      faults = faults;
+      does = completes (record {
+        written = subst (λ (bytes : List ℕ). Writes out0 out0 bytes) (sym nothing) (writes_nothing out0);
+        line_is = sym (ap (λ (last : Option End). unwrap_or (option_map line_of_end last) []) end_is);
+        status_is = sym (ap (λ (last : Option End). unwrap_or (option_map status_of_end last) 0) end_is);
+        at_end = λ h. f.at_end (eof_is end (subst (λ (last : Option End). IsTrue (unwrap_or (option_map is_eof last) false)) end_is h));
+      });
+    }
+
+-- memory was wanting
+pub loads_none : (c : Configuration) (count start : ℕ) (out0 : Output) → Loads c count start out0 out0 (Ended ends.Memory)
+loads_none c count start out0 = let none = input_left (load_input count start) in record {
+  to = none;
+  input = [];
+  has_read = reads_none none;
+  faults = refl;
+  does = memory_does (told_calls count (played c [] false)) none out0;
+}
+
+-- no write fails of a link that drops what is written
+never_stopped : (bytes : List ℕ) → Stopped dropped dropped bytes → ⊥
+never_stopped bytes stopped = let one : 0 ≡ raised 0 = stopped.faults in cc
+
+pub loads_ended : (c : Configuration) (count start : ℕ) (to : Input) (out0 : Output) (end : End) (journal : List Entry) →
+    Plays c (input_left (load_input count start)) dropped to dropped journal end → to.faults ≡ 0 → end ≢ ends.Exit →
+    Loads c count start out0 out0 (Ended end)
+loads_ended c count start to out0 ends.Exit journal plays faults other = absurd (other refl)
+loads_ended c count start to out0 ends.Eof journal plays faults other =
+    loads_finished c count start to dropped out0 ends.Eof journal plays faults (λ tallies. refl)
+loads_ended c count start to out0 ends.AuthRefused journal plays faults other =
+    loads_finished c count start to dropped out0 ends.AuthRefused journal plays faults (λ tallies. refl)
+loads_ended c count start to out0 ends.ReadFault journal plays faults other =
+    loads_finished c count start to dropped out0 ends.ReadFault journal plays faults (λ tallies. refl)
+loads_ended c count start to out0 (ends.TooLong len) journal plays faults other =
+    loads_finished c count start to dropped out0 (ends.TooLong len) journal plays faults (λ tallies. refl)
+loads_ended c count start to out0 ends.BadLength journal plays faults other =
+    loads_finished c count start to dropped out0 ends.BadLength journal plays faults (λ tallies. refl)
+loads_ended c count start to out0 (ends.JournalFull cost limit) journal plays faults other =
+    loads_finished c count start to dropped out0 (ends.JournalFull cost limit) journal plays faults (λ tallies. refl)
+loads_ended c count start to out0 (ends.Runaway entries) journal plays faults other =
+    loads_finished c count start to dropped out0 (ends.Runaway entries) journal plays faults (λ tallies. refl)
+loads_ended c count start to out0 ends.Memory journal plays faults other = loads_none c count start out0
+loads_ended c count start to out0 ends.WriteFault journal plays faults other =
+    absurd (never_stopped (bytes_handed c plays.play.journal) plays.breaks_at.stopped)
+
+-- what a load came to is what is told of it
+pub answers_loaded : (c : Configuration) (count start : ℕ) (in0 in1 : Input) (out0 out1 : Output) (outcome : Outcome) → in1 ≡ in0 →
+    Loads c count start out0 out1 outcome →
+    Answers (told_asked (Load count start) c) (Some (Load count start)) in0 in1 out0 out1 outcome
+answers_loaded c count start in0 in1 out0 out1 outcome same loads = record {
+  from = input_left (load_input count start);
+  to = loads.to;
+  input = loads.input;
+  read_failed = false;
+  is_played = (refl, loads.faults);
+  has_read = loads.has_read;
+  quiet = λ _. same;
+  does = loads.does;
+}
+
 -- ---- over a configuration
 
 -- no pattern was refused
@@ -229,7 +389,7 @@ over_refused asked c fault sizes0 sizes1 in0 out0 refused = record {
   built = Some fault;
   built_told = refused;
   answers = answers_quiet (told_built asked c (Some fault)) (Some asked) in0 in0 out0 out0 (BadPattern fault) refl
-      (refused_does in0 out0 (pattern_line fault) 3 (BadPattern fault) refl refl);
+      (λ to. refused_does to out0 (pattern_line fault) 3 (BadPattern fault) refl refl);
 }
 
 -- memory was wanting for them
@@ -240,7 +400,7 @@ over_unbuilt asked c sizes0 sizes1 in0 out0 sizes = record {
   built_told = sizes;
   answers =
       answers_quiet (told_built asked c None) (Some asked) in0 in0 out0 out0 (Ended ends.Memory) refl
-      (memory_does (told_built asked c None [] false) in0 out0);
+      (λ to. memory_does (told_built asked c None [] false) to out0);
 }
 
 -- the dialplan was not built
@@ -284,7 +444,7 @@ over_faulty asked bytes fault sizes in0 out0 reads = record {
       subst (λ (r : Result Configuration DocFault). Answers (told_read asked r None) (Some asked) in0 in0 out0 out0 (BadDocument fault))
       (sym reads)
       (answers_quiet (told_read asked (Err fault) None) (Some asked) in0 in0 out0 out0 (BadDocument fault) refl
-      (refused_does in0 out0 (fault_line fault) 3 (BadDocument fault) refl refl));
+      (λ to. refused_does to out0 (fault_line fault) 3 (BadDocument fault) refl refl));
 }
 
 pub over_unread : (asked : Asked) (bytes : List ℕ) (sizes : ℕ) (in0 : Input) (out0 : Output) →
@@ -294,7 +454,7 @@ over_unread asked bytes sizes in0 out0 = record {
   built_told = refl;
   answers =
       answers_quiet (told_file asked (Got bytes) None) (Some asked) in0 in0 out0 out0 (Ended ends.Memory) refl
-      (memory_does (told_file asked (Got bytes) None [] false) in0 out0);
+      (λ to. memory_does (told_file asked (Got bytes) None [] false) to out0);
 }
 
 -- the document was not read: it has this fault, or memory was wanting
@@ -314,7 +474,7 @@ over_answer asked bytes fault sizes in0 out0 why = by (is_memory fault.kind) ref
 
 -- ---- over a file
 
-pub runs_usage : (next_load : List ℕ → Option Load) (counts : LoadCounts) (sizes : ℕ) (in0 : Input) (out0 : Output) →
+pub runs_usage : (next_load : List ℕ → Option File) (counts : LoadCounts) (sizes : ℕ) (in0 : Input) (out0 : Output) →
     Runs None next_load counts counts sizes sizes in0 in0 out0 out0 Usage
 runs_usage next_load counts sizes in0 out0 = record {
   file = Absent;
@@ -323,14 +483,34 @@ runs_usage next_load counts sizes in0 out0 = record {
   built_told = refl;
   loaded = λ _. refl;
   answers =
-      answers_quiet (told_words None Absent None) None in0 in0 out0 out0 Usage refl (refused_does in0 out0 usage_line 2 Usage refl refl);
+      answers_quiet (told_words None Absent None) None in0 in0 out0 out0 Usage refl (λ to. refused_does to out0 usage_line 2 Usage refl refl);
   usage = λ _. refl;
 }
 
--- the file gave these bytes
-pub runs_bytes : (asked : Asked) (bytes : List ℕ) (next_load : List ℕ → Option Load) (counts0 counts1 counts2 : LoadCounts)
+-- what the file gave whose name is asked for, and what loading it did
+pub file_given : (asked : Asked) (name : List ℕ) (next_load : List ℕ → Option File) (file : File) → file_asked asked ≡ Some name →
+    Tells (next_load name) file → Gives next_load (file_asked asked) file
+file_given asked name next_load file named tells = subst (λ (of : Option (List ℕ)). Gives next_load of file) (sym named) tells
+
+pub file_loaded : (asked : Asked) (name : List ℕ) (counts0 counts1 : LoadCounts) (file : File) → file_asked asked ≡ Some name →
+    Counted counts0 counts1 file → LoadedAs (file_asked asked) counts0 counts1 file
+file_loaded asked name counts0 counts1 file named counted =
+    subst (λ (of : Option (List ℕ)). LoadedAs of counts0 counts1 file) (sym named) counted
+
+-- the document of a load, for which no file is loaded
+pub document_given : (asked : Asked) (next_load : List ℕ → Option File) → file_asked asked ≡ None →
+    Gives next_load (file_asked asked) (Got load_document)
+document_given asked next_load unnamed = subst (λ (of : Option (List ℕ)). Gives next_load of (Got load_document)) (sym unnamed) refl
+
+pub none_loaded : (asked : Asked) (counts : LoadCounts) (file : File) → file_asked asked ≡ None →
+    LoadedAs (file_asked asked) counts counts file
+none_loaded asked counts file unnamed = subst (λ (of : Option (List ℕ)). LoadedAs of counts counts file) (sym unnamed) refl
+
+-- the file gave these bytes, or they are those of that document
+pub runs_bytes : (asked : Asked) (bytes : List ℕ) (next_load : List ℕ → Option File) (counts0 counts1 counts2 : LoadCounts)
     (sizes0 sizes1 sizes2 : ℕ) (in0 in1 : Input) (out0 out1 : Output) (outcome : Outcome) →
-    Tells (next_load (file_asked asked)) (Got bytes) → Counted counts0 counts1 (Got bytes) → counts2 ≡ counts1 → sizes1 ≡ sizes0 →
+    Gives next_load (file_asked asked) (Got bytes) → LoadedAs (file_asked asked) counts0 counts1 (Got bytes) → counts2 ≡ counts1 →
+    sizes1 ≡ sizes0 →
     OverBytes asked bytes sizes1 sizes2 in0 in1 out0 out1 outcome →
     Runs (Some asked) next_load counts0 counts2 sizes0 sizes2 in0 in1 out0 out1 outcome
 runs_bytes asked bytes next_load counts0 counts1 counts2 sizes0 sizes1 sizes2 in0 in1 out0 out1 outcome tells counted counts sizes over =
@@ -339,56 +519,62 @@ runs_bytes asked bytes next_load counts0 counts1 counts2 sizes0 sizes1 sizes2 in
       built = over.built;
       file_told = tells;
       built_told = subst (λ (n : ℕ). IsBuilt (Got bytes) over.built n sizes2) sizes over.built_told;
-      loaded = λ _. subst (λ (n : LoadCounts). Counted counts0 n (Got bytes)) (sym counts) counted;
+      loaded = λ _. subst (λ (n : LoadCounts). LoadedAs (file_asked asked) counts0 n (Got bytes)) (sym counts) counted;
       answers = over.answers;
       usage = λ none. absurd (cc);
     }
 
 -- the file was not there, or could not be read
-pub runs_absent : (asked : Asked) (name : List ℕ) (next_load : List ℕ → Option Load) (counts0 counts1 : LoadCounts) (sizes0 sizes1 : ℕ)
+pub runs_absent : (asked : Asked) (name : List ℕ) (next_load : List ℕ → Option File) (counts0 counts1 : LoadCounts) (sizes0 sizes1 : ℕ)
     (in0 : Input) (out0 : Output) (outcome : Outcome) →
-    Tells (next_load (file_asked asked)) Absent → Counted counts0 counts1 Absent → sizes1 ≡ sizes0 →
-    line_of_outcome outcome ≡ cannot_read_line (file_asked asked) → status_of_outcome outcome ≡ 4 →
+    file_asked asked ≡ Some name → Tells (next_load name) Absent → Counted counts0 counts1 Absent → sizes1 ≡ sizes0 →
+    line_of_outcome outcome ≡ cannot_read_line name → status_of_outcome outcome ≡ 4 →
     Runs (Some asked) next_load counts0 counts1 sizes0 sizes1 in0 in0 out0 out0 outcome
-runs_absent asked name next_load counts0 counts1 sizes0 sizes1 in0 out0 outcome tells counted sizes line_is four = record {
+runs_absent asked name next_load counts0 counts1 sizes0 sizes1 in0 out0 outcome named tells counted sizes line_is four = record {
   file = Absent;
   built = None;
-  file_told = tells;
+  file_told = file_given asked name next_load Absent named tells;
   built_told = sizes;
-  loaded = λ _. counted;
+  loaded = λ _. file_loaded asked name counts0 counts1 Absent named counted;
   answers =
       answers_quiet (told_file asked Absent None) (Some asked) in0 in0 out0 out0 outcome refl
-      (refused_does in0 out0 (cannot_read_line (file_asked asked)) 4 outcome line_is four);
+      (λ to. refused_does to out0 (cannot_read_line (unwrap_or (file_asked asked) [])) 4 outcome
+      (line_is ∙ ap (λ (of : Option (List ℕ)). cannot_read_line (unwrap_or of [])) (sym named)) four);
   usage = λ none. absurd (cc);
 }
 
-pub runs_failed : (asked : Asked) (name : List ℕ) (next_load : List ℕ → Option Load) (counts0 counts1 : LoadCounts) (sizes0 sizes1 : ℕ)
+pub runs_failed : (asked : Asked) (name : List ℕ) (next_load : List ℕ → Option File) (counts0 counts1 : LoadCounts) (sizes0 sizes1 : ℕ)
     (in0 : Input) (out0 : Output) (outcome : Outcome) →
-    Tells (next_load (file_asked asked)) Failed → Counted counts0 counts1 Failed → sizes1 ≡ sizes0 →
-    line_of_outcome outcome ≡ cannot_read_line (file_asked asked) → status_of_outcome outcome ≡ 4 →
+    file_asked asked ≡ Some name → Tells (next_load name) Failed → Counted counts0 counts1 Failed → sizes1 ≡ sizes0 →
+    line_of_outcome outcome ≡ cannot_read_line name → status_of_outcome outcome ≡ 4 →
     Runs (Some asked) next_load counts0 counts1 sizes0 sizes1 in0 in0 out0 out0 outcome
-runs_failed asked name next_load counts0 counts1 sizes0 sizes1 in0 out0 outcome tells counted sizes line_is four = record {
+runs_failed asked name next_load counts0 counts1 sizes0 sizes1 in0 out0 outcome named tells counted sizes line_is four = record {
   file = Failed;
   built = None;
-  file_told = tells;
+  file_told = file_given asked name next_load Failed named tells;
   built_told = sizes;
-  loaded = λ _. counted;
+  loaded = λ _. file_loaded asked name counts0 counts1 Failed named counted;
   answers =
       answers_quiet (told_file asked Failed None) (Some asked) in0 in0 out0 out0 outcome refl
-      (refused_does in0 out0 (cannot_read_line (file_asked asked)) 4 outcome line_is four);
+      (λ to. refused_does to out0 (cannot_read_line (unwrap_or (file_asked asked) [])) 4 outcome
+      (line_is ∙ ap (λ (of : Option (List ℕ)). cannot_read_line (unwrap_or of [])) (sym named)) four);
   usage = λ none. absurd (cc);
 }
 
 -- some answer is the one that is told
-some_load : (told : Option Load) → (load : Load) × Tells told load
+some_load : (told : Option File) → (load : File) × Tells told load
 some_load None = (Absent, tt)
 some_load (Some load) = (load, refl)
 
+some_given : (next_load : List ℕ → Option File) (of : Option (List ℕ)) → (file : File) × Gives next_load of file
+some_given next_load None = (Got load_document, refl)
+some_given next_load (Some name) = some_load (next_load name)
+
 -- the file could not be loaded for want of memory
-pub runs_unloaded : (asked : Asked) (next_load : List ℕ → Option Load) (counts0 counts1 : LoadCounts) (sizes0 sizes1 : ℕ) (in0 : Input)
+pub runs_unloaded : (asked : Asked) (next_load : List ℕ → Option File) (counts0 counts1 : LoadCounts) (sizes0 sizes1 : ℕ) (in0 : Input)
     (out0 : Output) → sizes1 ≡ sizes0 →
     Runs (Some asked) next_load counts0 counts1 sizes0 sizes1 in0 in0 out0 out0 (Ended ends.Memory)
-runs_unloaded asked next_load counts0 counts1 sizes0 sizes1 in0 out0 sizes = let load = some_load (next_load (file_asked asked)) in record {
+runs_unloaded asked next_load counts0 counts1 sizes0 sizes1 in0 out0 sizes = let load = some_given next_load (file_asked asked) in record {
   file = load.0;
   built = None;
   file_told = load.1;
@@ -396,13 +582,13 @@ runs_unloaded asked next_load counts0 counts1 sizes0 sizes1 in0 out0 sizes = let
   loaded = λ not_one. absurd (not_one refl);
   answers =
       answers_quiet (told_file asked load.0 None) (Some asked) in0 in0 out0 out0 (Ended ends.Memory) refl
-      (memory_does (told_file asked load.0 None [] false) in0 out0);
+      (λ to. memory_does (told_file asked load.0 None [] false) to out0);
   usage = λ none. absurd (cc);
 }
 
 -- ---- the whole run
 
-pub ran : (asked : Option Asked) (next_load : List ℕ → Option Load) (counts0 counts1 : LoadCounts) (sizes0 sizes1 : ℕ) (in0 in1 : Input)
+pub ran : (asked : Option Asked) (next_load : List ℕ → Option File) (counts0 counts1 : LoadCounts) (sizes0 sizes1 : ℕ) (in0 in1 : Input)
     (out0 out1 err0 err1 : Output) (outcome : Outcome) (sent : Sent) (status : ℕ) →
     Runs asked next_load counts0 counts1 sizes0 sizes1 in0 in1 out0 out1 outcome → SendDid err0 err1 sent (line_of_outcome outcome) →
     status ≡ status_of_outcome outcome →
@@ -410,6 +596,8 @@ pub ran : (asked : Option Asked) (next_load : List ℕ → Option Load) (counts0
 ran asked next_load counts0 counts1 sizes0 sizes1 in0 in1 out0 out1 err0 err1 outcome sent status runs says is = record {
   file = runs.file;
   built = runs.built;
+  from = runs.answers.from;
+  to = runs.answers.to;
   input = runs.answers.input;
   read_failed = runs.answers.read_failed;
   line = line_of_outcome outcome;
@@ -417,11 +605,12 @@ ran asked next_load counts0 counts1 sizes0 sizes1 in0 in1 out0 out1 err0 err1 ou
   file_told = runs.file_told;
   built_told = runs.built_told;
   loaded = λ not_1. runs.loaded (λ one. not_1 (is ∙ one));
+  is_played = runs.answers.is_played;
   has_read = runs.answers.has_read;
   quiet = runs.answers.quiet;
   does =
-      subst (λ (n : ℕ). CarriesOut (told_words asked runs.file runs.built runs.answers.input runs.answers.read_failed) in1 out0 out1
-      (line_of_outcome outcome) n) (sym is) runs.answers.does;
+      subst (λ (n : ℕ). CarriesOut (told_words asked runs.file runs.built runs.answers.input runs.answers.read_failed)
+      runs.answers.to out0 out1 (line_of_outcome outcome) n) (sym is) runs.answers.does;
   said = says;
 }
 
@@ -448,14 +637,26 @@ unreadable_end (ends.JournalFull cost limit) p fault read_failed four cause = ab
 unreadable_end ends.Memory p fault read_failed four cause = absurd cause
 unreadable_end (ends.Runaway count) p fault read_failed four cause = absurd (cc)
 
-unreadable_play : (c : Configuration) (counts0 counts1 : LoadCounts) (in0 in1 : Input) (input : List ℕ) (read_failed : Bool) →
-    HasRead in0 in1 input read_failed → (tells c input read_failed).status ≡ 4 → CountRose counts0 counts1 in0 in1
-unreadable_play c counts0 counts1 in0 in1 input read_failed has_read four =
+-- a read that failed is one of the link, since no other fails
+pub failed_read : (asked : Option Asked) (in0 in1 from to : Input) → IsPlayed asked in0 in1 from to → to.faults ≡ raised from.faults →
+    in1.faults ≡ raised in0.faults
+failed_read None in0 in1 from to sides rose = rw (← sides.0, ← sides.1) rose
+failed_read (Some (Check file)) in0 in1 from to sides rose = rw (← sides.0, ← sides.1) rose
+failed_read (Some (Hunt file context dest)) in0 in1 from to sides rose = rw (← sides.0, ← sides.1) rose
+failed_read (Some (Play file)) in0 in1 from to sides rose = rw (← sides.0, ← sides.1) rose
+failed_read (Some (Load count start)) in0 in1 from to sides rose =
+    let one : 0 ≡ raised 0 = sym sides.1 ∙ rose ∙ ap (λ (i : Input). raised i.faults) sides.0 in absurd (cc)
+
+unreadable_play : (asked : Option Asked) (c : Configuration) (counts0 counts1 : LoadCounts) (in0 in1 from to : Input) (input : List ℕ)
+    (read_failed : Bool) → IsPlayed asked in0 in1 from to →
+    HasRead from to input read_failed → (tells c input read_failed).status ≡ 4 → CountRose counts0 counts1 in0 in1
+unreadable_play asked c counts0 counts1 in0 in1 from to input read_failed is_played has_read four =
     let ended = status_ended c input read_failed 4 four in
     let failed =
     unreadable_end ended.0 (played c input read_failed) (fault_of (rest_of input)) read_failed ended.2
     (cause_played c input read_failed ended.0 ended.1) in
-    inr (inr (has_read.faults ∙ ap (λ b. cond b (raised in0.faults) in0.faults) failed))
+    inr (inr (failed_read asked in0 in1 from to is_played
+    (has_read.faults ∙ ap (λ b. cond b (raised from.faults) from.faults) failed)))
 
 -- the bad block that a status of 10 shows
 bad_block_end : (end : End) (p : PlaySoFar) (fault : Option Fault) (read_failed : Bool) → status_of_end end ≡ 10 →
@@ -471,14 +672,18 @@ bad_block_end (ends.JournalFull cost limit) p fault read_failed ten cause = absu
 bad_block_end ends.Memory p fault read_failed ten cause = absurd cause
 bad_block_end (ends.Runaway count) p fault read_failed ten cause = absurd (cc)
 
-bad_block_play : (c : Configuration) (in0 in1 : Input) (input : List ℕ) (read_failed : Bool) → HasRead in0 in1 input read_failed →
-    (tells c input read_failed).status ≡ 10 → MeetsBadBlock c in0 in1
-bad_block_play c in0 in1 input read_failed has_read ten =
+bad_block_play : (asked : Option Asked) (c : Configuration) (in0 in1 from to : Input) (input : List ℕ) (read_failed : Bool) →
+    IsPlayed asked in0 in1 from to → HasRead from to input read_failed →
+    (tells c input read_failed).status ≡ 10 → MeetsBadBlock asked c in0 in1
+bad_block_play asked c in0 in1 from to input read_failed is_played has_read ten =
     let ended = status_ended c input read_failed 10 ten in
     let is = bad_block_end ended.0 (played c input read_failed) (fault_of (rest_of input)) read_failed ended.2
     (cause_played c input read_failed ended.0 ended.1) in record {
+      from = from;
+      to = to;
       input = input;
       read_failed = read_failed;
+      is_played = is_played;
       has_read = has_read;
       fault = is.0;
       is_bad = is.1;
@@ -502,14 +707,18 @@ full_end (ends.JournalFull cost limit) p fault read_failed eight cause = (cost, 
 full_end ends.Memory p fault read_failed eight cause = absurd cause
 full_end (ends.Runaway count) p fault read_failed eight cause = absurd (cc)
 
-full_play : (c : Configuration) (in0 in1 : Input) (input : List ℕ) (read_failed : Bool) → HasRead in0 in1 input read_failed →
-    (tells c input read_failed).status ≡ 8 → FillsJournal c in0 in1
-full_play c in0 in1 input read_failed has_read eight =
+full_play : (asked : Option Asked) (c : Configuration) (in0 in1 from to : Input) (input : List ℕ) (read_failed : Bool) →
+    IsPlayed asked in0 in1 from to → HasRead from to input read_failed →
+    (tells c input read_failed).status ≡ 8 → FillsJournal asked c in0 in1
+full_play asked c in0 in1 from to input read_failed is_played has_read eight =
     let ended = status_ended c input read_failed 8 eight in
     let is = full_end ended.0 (played c input read_failed) (fault_of (rest_of input)) read_failed ended.2
     (cause_played c input read_failed ended.0 ended.1) in record {
+      from = from;
+      to = to;
       input = input;
       read_failed = read_failed;
+      is_played = is_played;
       has_read = has_read;
       cost_told = is.0;
       limit_told = is.1;
@@ -532,12 +741,16 @@ away_end (ends.JournalFull cost limit) p fault read_failed nine cause = absurd (
 away_end ends.Memory p fault read_failed nine cause = absurd cause
 away_end (ends.Runaway count) p fault read_failed nine cause = ap ends.Runaway cause.many
 
-away_play : (c : Configuration) (in0 in1 : Input) (input : List ℕ) (read_failed : Bool) → HasRead in0 in1 input read_failed →
-    (tells c input read_failed).status ≡ 9 → RunsAway c in0 in1
-away_play c in0 in1 input read_failed has_read nine =
+away_play : (asked : Option Asked) (c : Configuration) (in0 in1 from to : Input) (input : List ℕ) (read_failed : Bool) →
+    IsPlayed asked in0 in1 from to → HasRead from to input read_failed →
+    (tells c input read_failed).status ≡ 9 → RunsAway asked c in0 in1
+away_play asked c in0 in1 from to input read_failed is_played has_read nine =
     let ended = status_ended c input read_failed 9 nine in record {
+      from = from;
+      to = to;
       input = input;
       read_failed = read_failed;
+      is_played = is_played;
       has_read = has_read;
       end_is =
           ended.1 ∙ ap Some (away_end ended.0 (played c input read_failed) (fault_of (rest_of input)) read_failed ended.2
@@ -552,23 +765,23 @@ status-done told in1 out0 out1 line status (fails_to_write h) not_1 not_5 = absu
 status-done told in1 out0 out1 line status (lacks_memory h) not_1 not_5 = absurd (not_1 h.status_is)
 status-done told in1 out0 out1 line status (fails_for_memory h) not_1 not_5 = absurd (not_1 h.status_is)
 
-status-told : (asked : Option Asked) (next_load : List ℕ → Option Load) (counts0 counts1 : LoadCounts) (sizes0 sizes1 : ℕ) (in0 in1 : Input)
+status-told : (asked : Option Asked) (next_load : List ℕ → Option File) (counts0 counts1 : LoadCounts) (sizes0 sizes1 : ℕ) (in0 in1 : Input)
     (out0 out1 : Output) (outcome : Outcome)
     (runs : Runs asked next_load counts0 counts1 sizes0 sizes1 in0 in1 out0 out1 outcome) → status_of_outcome outcome ≢ 1 →
     status_of_outcome outcome ≢ 5 →
     status_of_outcome outcome ≡ (told_words asked runs.file runs.built runs.answers.input runs.answers.read_failed).status
 status-told asked next_load counts0 counts1 sizes0 sizes1 in0 in1 out0 out1 outcome runs not_1 not_5 =
-    status-done _ in1 out0 out1 (line_of_outcome outcome) (status_of_outcome outcome) runs.answers.does not_1 not_5
+    status-done _ runs.answers.to out0 out1 (line_of_outcome outcome) (status_of_outcome outcome) runs.answers.does not_1 not_5
 
 -- what a status that only a play has shows: the document was read, no pattern was refused, and the play ended so
-record Played (asked : Option Asked) (next_load : List ℕ → Option Load) (input : List ℕ) (read_failed : Bool) (status : ℕ) : Type 0 where
+record Played (asked : Option Asked) (next_load : List ℕ → Option File) (input : List ℕ) (read_failed : Bool) (status : ℕ) : Type 0 where
   c : Configuration
   has : HasConfig asked next_load c
   ended : (tells c input read_failed).status ≡ status
 
-played_asked : (asked : Asked) (bytes : List ℕ) (c : Configuration) (next_load : List ℕ → Option Load) (input : List ℕ) (read_failed : Bool)
+played_asked : (asked : Asked) (bytes : List ℕ) (c : Configuration) (next_load : List ℕ → Option File) (input : List ℕ) (read_failed : Bool)
     (status : ℕ) → status ≢ 0 →
-    Tells (next_load (file_asked asked)) (Got bytes) → config_of bytes ≡ Ok c → status ≡ (told_asked asked c input read_failed).status →
+    Gives next_load (file_asked asked) (Got bytes) → config_of bytes ≡ Ok c → status ≡ (told_asked asked c input read_failed).status →
     Played (Some asked) next_load input read_failed status
 played_asked (Check file) bytes c next_load input read_failed status not_0 tells reads is = absurd (not_0 is)
 played_asked (Hunt file context dest) bytes c next_load input read_failed status not_0 tells reads is = absurd (not_0 is)
@@ -577,10 +790,15 @@ played_asked (Play file) bytes c next_load input read_failed status not_0 tells 
   has = record { of = Play file; bytes = bytes; is_asked = refl; told = tells; reads = reads };
   ended = sym is;
 }
+played_asked (Load count start) bytes c next_load input read_failed status not_0 tells reads is = record {
+  c = c;
+  has = record { of = Load count start; bytes = bytes; is_asked = refl; told = tells; reads = reads };
+  ended = sym is;
+}
 
 played_read : (asked : Asked) (bytes : List ℕ) (read : Result Configuration DocFault) (built : Option PlanFault) (next_load : List ℕ →
-    Option Load) (input : List ℕ) (read_failed : Bool) (status : ℕ) →
-    status ≢ 0 → status ≢ 3 → Tells (next_load (file_asked asked)) (Got bytes) → config_of bytes ≡ read →
+    Option File) (input : List ℕ) (read_failed : Bool) (status : ℕ) →
+    status ≢ 0 → status ≢ 3 → Gives next_load (file_asked asked) (Got bytes) → config_of bytes ≡ read →
     status ≡ (told_read asked read built input read_failed).status →
     Played (Some asked) next_load input read_failed status
 played_read asked bytes (Ok c) None next_load input read_failed status not_0 not_3 tells reads is =
@@ -588,9 +806,9 @@ played_read asked bytes (Ok c) None next_load input read_failed status not_0 not
 played_read asked bytes (Ok c) (Some fault) next_load input read_failed status not_0 not_3 tells reads is = absurd (not_3 is)
 played_read asked bytes (Err fault) built next_load input read_failed status not_0 not_3 tells reads is = absurd (not_3 is)
 
-played_file : (asked : Option Asked) (file : Load) (built : Option PlanFault) (next_load : List ℕ → Option Load) (input : List ℕ)
+played_file : (asked : Option Asked) (file : File) (built : Option PlanFault) (next_load : List ℕ → Option File) (input : List ℕ)
     (read_failed : Bool) (status : ℕ) →
-    status ≢ 0 → status ≢ 2 → status ≢ 3 → status ≢ 4 → IfSome asked (λ a. Tells (next_load (file_asked a)) file) →
+    status ≢ 0 → status ≢ 2 → status ≢ 3 → status ≢ 4 → IfSome asked (λ a. Gives next_load (file_asked a) file) →
     status ≡ (told_words asked file built input read_failed).status →
     Played asked next_load input read_failed status
 played_file None file built next_load input read_failed status not_0 not_2 not_3 not_4 tells is = absurd (not_2 is)
@@ -600,10 +818,10 @@ played_file (Some asked) Absent built next_load input read_failed status not_0 n
 played_file (Some asked) Failed built next_load input read_failed status not_0 not_2 not_3 not_4 tells is = absurd (not_4 is)
 
 -- what status 8 shows
-pub cause_full : (asked : Option Asked) (next_load : List ℕ → Option Load) (counts0 counts1 : LoadCounts) (sizes0 sizes1 : ℕ)
+pub cause_full : (asked : Option Asked) (next_load : List ℕ → Option File) (counts0 counts1 : LoadCounts) (sizes0 sizes1 : ℕ)
     (in0 in1 : Input) (out0 out1 : Output) (outcome : Outcome) →
     Runs asked next_load counts0 counts1 sizes0 sizes1 in0 in1 out0 out1 outcome → status_of_outcome outcome ≡ 8 →
-    (c : Configuration) × HasConfig asked next_load c × FillsJournal c in0 in1
+    (c : Configuration) × HasConfig asked next_load c × FillsJournal asked c in0 in1
 cause_full asked next_load counts0 counts1 sizes0 sizes1 in0 in1 out0 out1 outcome runs eight =
     let told =
     status-told asked next_load counts0 counts1 sizes0 sizes1 in0 in1 out0 out1 outcome runs (λ e. absurd (cc)) (λ e. absurd (cc)) in
@@ -611,14 +829,18 @@ cause_full asked next_load counts0 counts1 sizes0 sizes1 in0 in1 out0 out1 outco
     played_file asked runs.file runs.built next_load runs.answers.input runs.answers.read_failed (status_of_outcome outcome)
     (λ e. absurd (cc)) (λ e. absurd (cc)) (λ e. absurd (cc)) (λ e. absurd (cc)) runs.file_told told in
     let ended : (tells p.c runs.answers.input runs.answers.read_failed).status ≡ 8 =
-    subst (λ (n : ℕ). (tells p.c runs.answers.input runs.answers.read_failed).status ≡ n) eight p.ended in
-    (p.c, p.has, full_play p.c in0 in1 runs.answers.input runs.answers.read_failed runs.answers.has_read ended)
+    subst (λ (n : ℕ). (tells p.c runs.answers.input runs.answers.read_failed).status ≡ n) eight p.ended in (
+      p.c,
+      p.has,
+      full_play asked p.c in0 in1 runs.answers.from runs.answers.to runs.answers.input runs.answers.read_failed
+          runs.answers.is_played runs.answers.has_read ended,
+    )
 
 -- what status 9 shows
-pub cause_away : (asked : Option Asked) (next_load : List ℕ → Option Load) (counts0 counts1 : LoadCounts) (sizes0 sizes1 : ℕ)
+pub cause_away : (asked : Option Asked) (next_load : List ℕ → Option File) (counts0 counts1 : LoadCounts) (sizes0 sizes1 : ℕ)
     (in0 in1 : Input) (out0 out1 : Output) (outcome : Outcome) →
     Runs asked next_load counts0 counts1 sizes0 sizes1 in0 in1 out0 out1 outcome → status_of_outcome outcome ≡ 9 →
-    (c : Configuration) × HasConfig asked next_load c × RunsAway c in0 in1
+    (c : Configuration) × HasConfig asked next_load c × RunsAway asked c in0 in1
 cause_away asked next_load counts0 counts1 sizes0 sizes1 in0 in1 out0 out1 outcome runs nine =
     let told =
     status-told asked next_load counts0 counts1 sizes0 sizes1 in0 in1 out0 out1 outcome runs (λ e. absurd (cc)) (λ e. absurd (cc)) in
@@ -626,14 +848,18 @@ cause_away asked next_load counts0 counts1 sizes0 sizes1 in0 in1 out0 out1 outco
     played_file asked runs.file runs.built next_load runs.answers.input runs.answers.read_failed (status_of_outcome outcome)
     (λ e. absurd (cc)) (λ e. absurd (cc)) (λ e. absurd (cc)) (λ e. absurd (cc)) runs.file_told told in
     let ended : (tells p.c runs.answers.input runs.answers.read_failed).status ≡ 9 =
-    subst (λ (n : ℕ). (tells p.c runs.answers.input runs.answers.read_failed).status ≡ n) nine p.ended in
-    (p.c, p.has, away_play p.c in0 in1 runs.answers.input runs.answers.read_failed runs.answers.has_read ended)
+    subst (λ (n : ℕ). (tells p.c runs.answers.input runs.answers.read_failed).status ≡ n) nine p.ended in (
+      p.c,
+      p.has,
+      away_play asked p.c in0 in1 runs.answers.from runs.answers.to runs.answers.input runs.answers.read_failed
+          runs.answers.is_played runs.answers.has_read ended,
+    )
 
 -- what status 10 shows
-pub cause_bad_block : (asked : Option Asked) (next_load : List ℕ → Option Load) (counts0 counts1 : LoadCounts) (sizes0 sizes1 : ℕ)
+pub cause_bad_block : (asked : Option Asked) (next_load : List ℕ → Option File) (counts0 counts1 : LoadCounts) (sizes0 sizes1 : ℕ)
     (in0 in1 : Input) (out0 out1 : Output) (outcome : Outcome) →
     Runs asked next_load counts0 counts1 sizes0 sizes1 in0 in1 out0 out1 outcome → status_of_outcome outcome ≡ 10 →
-    (c : Configuration) × HasConfig asked next_load c × MeetsBadBlock c in0 in1
+    (c : Configuration) × HasConfig asked next_load c × MeetsBadBlock asked c in0 in1
 cause_bad_block asked next_load counts0 counts1 sizes0 sizes1 in0 in1 out0 out1 outcome runs ten =
     let told =
     status-told asked next_load counts0 counts1 sizes0 sizes1 in0 in1 out0 out1 outcome runs (λ e. absurd (cc)) (λ e. absurd (cc)) in
@@ -641,8 +867,12 @@ cause_bad_block asked next_load counts0 counts1 sizes0 sizes1 in0 in1 out0 out1 
     played_file asked runs.file runs.built next_load runs.answers.input runs.answers.read_failed (status_of_outcome outcome)
     (λ e. absurd (cc)) (λ e. absurd (cc)) (λ e. absurd (cc)) (λ e. absurd (cc)) runs.file_told told in
     let ended : (tells p.c runs.answers.input runs.answers.read_failed).status ≡ 10 =
-    subst (λ (n : ℕ). (tells p.c runs.answers.input runs.answers.read_failed).status ≡ n) ten p.ended in
-    (p.c, p.has, bad_block_play p.c in0 in1 runs.answers.input runs.answers.read_failed runs.answers.has_read ended)
+    subst (λ (n : ℕ). (tells p.c runs.answers.input runs.answers.read_failed).status ≡ n) ten p.ended in (
+      p.c,
+      p.has,
+      bad_block_play asked p.c in0 in1 runs.answers.from runs.answers.to runs.answers.input runs.answers.read_failed
+          runs.answers.is_played runs.answers.has_read ended,
+    )
 
 -- no play is told to end by a write that failed
 unwritten_end : (end : End) (p : PlaySoFar) (fault : Option Fault) (read_failed : Bool) → status_of_end end ≡ 5 →
@@ -673,33 +903,45 @@ failed_write told in1 out0 out1 line status (lacks_memory h) five never = let on
 failed_write told in1 out0 out1 line status (fails_for_memory h) five never = h.stopped.faults
 
 -- what status 5 shows
-pub cause_write : (asked : Option Asked) (next_load : List ℕ → Option Load) (counts0 counts1 : LoadCounts) (sizes0 sizes1 : ℕ)
+pub cause_write : (asked : Option Asked) (next_load : List ℕ → Option File) (counts0 counts1 : LoadCounts) (sizes0 sizes1 : ℕ)
     (in0 in1 : Input) (out0 out1 : Output) (outcome : Outcome) →
     Runs asked next_load counts0 counts1 sizes0 sizes1 in0 in1 out0 out1 outcome → status_of_outcome outcome ≡ 5 → out1.faults ≡ raised
     out0.faults
 cause_write asked next_load counts0 counts1 sizes0 sizes1 in0 in1 out0 out1 outcome runs five =
-    failed_write (told_words asked runs.file runs.built runs.answers.input runs.answers.read_failed) in1 out0 out1 (line_of_outcome outcome)
-    (status_of_outcome outcome) runs.answers.does five
+    failed_write (told_words asked runs.file runs.built runs.answers.input runs.answers.read_failed) runs.answers.to out0 out1
+    (line_of_outcome outcome) (status_of_outcome outcome) runs.answers.does five
     (λ e. let p = played_file asked runs.file runs.built next_load runs.answers.input runs.answers.read_failed 5 (λ z. absurd (cc))
     (λ z. absurd (cc)) (λ z. absurd (cc)) (λ z. absurd (cc)) runs.file_told (sym e) in
     unwritten_play p.c runs.answers.input runs.answers.read_failed p.ended)
 
 -- what status 4 shows
-unreadable_file : (asked : Asked) (file : Load) (built : Option PlanFault) (next_load : List ℕ → Option Load) (counts0 counts1 : LoadCounts)
-    (in0 in1 : Input) (input : List ℕ) (read_failed : Bool) (status : ℕ) →
-    status ≡ 4 → Tells (next_load (file_asked asked)) file → Counted counts0 counts1 file → HasRead in0 in1 input read_failed →
-    status ≡ (told_file asked file built input read_failed).status → CountRose counts0 counts1 in0 in1
-unreadable_file asked (Got bytes) built next_load counts0 counts1 in0 in1 input read_failed status four tells counted has_read is =
-    let p =
-    played_read asked bytes (config_of bytes) built next_load input read_failed 4 (λ e. absurd (cc)) (λ e. absurd (cc)) tells refl
-    (sym four ∙ is) in
-    unreadable_play p.c counts0 counts1 in0 in1 input read_failed has_read p.ended
-unreadable_file asked Absent built next_load counts0 counts1 in0 in1 input read_failed status four tells counted has_read is =
-    inl (ap (λ c. c.absences) counted)
-unreadable_file asked Failed built next_load counts0 counts1 in0 in1 input read_failed status four tells counted has_read is =
-    inr (inl (ap (λ c. c.faults) counted))
+unreadable_counted : (of : Option (List ℕ)) (file : File) (next_load : List ℕ → Option File) (counts0 counts1 : LoadCounts)
+    (in0 in1 : Input) → Gives next_load of file → LoadedAs of counts0 counts1 file → ((bytes : List ℕ) → file ≢ Got bytes) →
+    CountRose counts0 counts1 in0 in1
+unreadable_counted None file next_load counts0 counts1 in0 in1 gives loaded unread = absurd (unread load_document gives)
+unreadable_counted (Some name) (Got bytes) next_load counts0 counts1 in0 in1 gives loaded unread = absurd (unread bytes refl)
+unreadable_counted (Some name) Absent next_load counts0 counts1 in0 in1 gives loaded unread = inl (ap (λ c. c.absences) loaded)
+unreadable_counted (Some name) Failed next_load counts0 counts1 in0 in1 gives loaded unread = inr (inl (ap (λ c. c.faults) loaded))
 
-pub cause_unreadable : (asked : Option Asked) (next_load : List ℕ → Option Load) (counts0 counts1 : LoadCounts) (sizes0 sizes1 : ℕ)
+unreadable_file : (asked : Asked) (file : File) (built : Option PlanFault) (next_load : List ℕ → Option File) (counts0 counts1 : LoadCounts)
+    (in0 in1 from to : Input) (input : List ℕ) (read_failed : Bool) (status : ℕ) →
+    status ≡ 4 → Gives next_load (file_asked asked) file → LoadedAs (file_asked asked) counts0 counts1 file →
+    IsPlayed (Some asked) in0 in1 from to → HasRead from to input read_failed →
+    status ≡ (told_file asked file built input read_failed).status → CountRose counts0 counts1 in0 in1
+unreadable_file asked (Got bytes) built next_load counts0 counts1 in0 in1 from to input read_failed status four gives loaded is_played
+    has_read is =
+    let p =
+    played_read asked bytes (config_of bytes) built next_load input read_failed 4 (λ e. absurd (cc)) (λ e. absurd (cc)) gives refl
+    (sym four ∙ is) in
+    unreadable_play (Some asked) p.c counts0 counts1 in0 in1 from to input read_failed is_played has_read p.ended
+unreadable_file asked Absent built next_load counts0 counts1 in0 in1 from to input read_failed status four gives loaded is_played has_read
+    is =
+    unreadable_counted (file_asked asked) Absent next_load counts0 counts1 in0 in1 gives loaded (λ bytes e. absurd (cc))
+unreadable_file asked Failed built next_load counts0 counts1 in0 in1 from to input read_failed status four gives loaded is_played has_read
+    is =
+    unreadable_counted (file_asked asked) Failed next_load counts0 counts1 in0 in1 gives loaded (λ bytes e. absurd (cc))
+
+pub cause_unreadable : (asked : Option Asked) (next_load : List ℕ → Option File) (counts0 counts1 : LoadCounts) (sizes0 sizes1 : ℕ)
     (in0 in1 : Input) (out0 out1 : Output) (outcome : Outcome) →
     Runs asked next_load counts0 counts1 sizes0 sizes1 in0 in1 out0 out1 outcome → status_of_outcome outcome ≡ 4 → CountRose counts0 counts1
     in0 in1
@@ -708,8 +950,9 @@ cause_unreadable (Some asked) next_load counts0 counts1 sizes0 sizes1 in0 in1 ou
     let told =
     status-told (Some asked) next_load counts0 counts1 sizes0 sizes1 in0 in1 out0 out1 outcome runs (λ e. absurd (cc))
     (λ e. absurd (cc)) in
-    unreadable_file asked runs.file runs.built next_load counts0 counts1 in0 in1 runs.answers.input runs.answers.read_failed
-    (status_of_outcome outcome) four runs.file_told (runs.loaded (λ e. absurd (cc))) runs.answers.has_read told
+    unreadable_file asked runs.file runs.built next_load counts0 counts1 in0 in1 runs.answers.from runs.answers.to runs.answers.input
+    runs.answers.read_failed (status_of_outcome outcome) four runs.file_told (runs.loaded (λ e. absurd (cc))) runs.answers.is_played
+    runs.answers.has_read told
 
 -- no play has status 3
 end_not_3 : (end : End) → status_of_end end ≡ 3 → ⊥
@@ -729,10 +972,11 @@ asked_not_3 : (asked : Asked) (c : Configuration) (input : List ℕ) (read_faile
 asked_not_3 (Check file) c input read_failed three = cc
 asked_not_3 (Hunt file context dest) c input read_failed three = cc
 asked_not_3 (Play file) c input read_failed three = let ended = status_ended c input read_failed 3 three in end_not_3 ended.0 ended.2
+asked_not_3 (Load count start) c input read_failed three = let ended = status_ended c input read_failed 3 three in end_not_3 ended.0 ended.2
 
 document_read : (asked : Asked) (bytes : List ℕ) (read : Result Configuration DocFault) (built : Option PlanFault) (next_load : List ℕ →
-    Option Load) (sizes0 sizes1 : ℕ) (input : List ℕ) (read_failed : Bool) →
-    Tells (next_load (file_asked asked)) (Got bytes) → config_of bytes ≡ read → IsBuilt (Got bytes) built sizes0 sizes1 →
+    Option File) (sizes0 sizes1 : ℕ) (input : List ℕ) (read_failed : Bool) →
+    Gives next_load (file_asked asked) (Got bytes) → config_of bytes ≡ read → IsBuilt (Got bytes) built sizes0 sizes1 →
     (told_read asked read built input read_failed).status ≡ 3 →
     HasFault (Some asked) next_load ⊎ HasRefusal (Some asked) next_load sizes0 sizes1
 document_read asked bytes (Err fault) built next_load sizes0 sizes1 input read_failed tells reads built_told three =
@@ -746,9 +990,9 @@ document_read asked bytes (Ok c) (Some fault) next_load sizes0 sizes1 input read
   refused = built_told.2;
 })
 
-document_file : (asked : Asked) (file : Load) (built : Option PlanFault) (next_load : List ℕ → Option Load) (sizes0 sizes1 : ℕ)
+document_file : (asked : Asked) (file : File) (built : Option PlanFault) (next_load : List ℕ → Option File) (sizes0 sizes1 : ℕ)
     (input : List ℕ) (read_failed : Bool) →
-    Tells (next_load (file_asked asked)) file → IsBuilt file built sizes0 sizes1 → (told_file asked file built input read_failed).status ≡ 3
+    Gives next_load (file_asked asked) file → IsBuilt file built sizes0 sizes1 → (told_file asked file built input read_failed).status ≡ 3
     →
     HasFault (Some asked) next_load ⊎ HasRefusal (Some asked) next_load sizes0 sizes1
 document_file asked (Got bytes) built next_load sizes0 sizes1 input read_failed tells built_told three =
@@ -756,7 +1000,7 @@ document_file asked (Got bytes) built next_load sizes0 sizes1 input read_failed 
 document_file asked Absent built next_load sizes0 sizes1 input read_failed tells built_told three = absurd (cc)
 document_file asked Failed built next_load sizes0 sizes1 input read_failed tells built_told three = absurd (cc)
 
-pub cause_document : (asked : Option Asked) (next_load : List ℕ → Option Load) (counts0 counts1 : LoadCounts) (sizes0 sizes1 : ℕ)
+pub cause_document : (asked : Option Asked) (next_load : List ℕ → Option File) (counts0 counts1 : LoadCounts) (sizes0 sizes1 : ℕ)
     (in0 in1 : Input) (out0 out1 : Output) (outcome : Outcome) →
     Runs asked next_load counts0 counts1 sizes0 sizes1 in0 in1 out0 out1 outcome → status_of_outcome outcome ≡ 3 →
     HasFault asked next_load ⊎ HasRefusal asked next_load sizes0 sizes1

@@ -1,4 +1,5 @@
 pub mod Documents
+pub mod Counted
 pub mod Told
 pub mod Runs
 pub mod Reading

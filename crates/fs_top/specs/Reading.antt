@@ -8,3 +8,4 @@ abbrev pub asked_seen : asked_code.Asked → told.Asked
 asked_seen (of_asked.Check file) = told.Check file.now
 asked_seen (of_asked.Hunt file context dest) = told.Hunt file.now context.now dest.now
 asked_seen (of_asked.Play file) = told.Play file.now
+asked_seen (of_asked.Load count start) = told.Load count start

@@ -1,10 +1,11 @@
 -- What the program answers: its output, its printed line and its status.
 use Rattle.std.specs.Prelude.{ℕ, Bool, true, false, List, [], ◌∷◌, ◌++◌, Option, None, Some, unwrap_or, Result, Ok, Err, codes}
-use Rattle.std.specs.Prelude.{if◌then◌else◌}
+use Rattle.std.specs.Prelude.{if◌then◌else◌, ◌&&◌, nat_le}
 use Rattle.std.specs.Str.{bytes_eq}
 use Rattle.std.specs.Fmt.{decimal}
 use Rattle.std.specs.Option.{option_map}
-use Rattle.fs_ports.specs.declared.files.Load.{Load}
+use Rattle.fs_text.specs.Number.{read_u64}
+use Rattle.fs_ports.specs.declared.files.Load.{Load as File}
 use Rattle.fs_ports.specs.declared.files.Load.TheVariants.{Got, Absent, Failed}
 use Rattle.fs_doc.specs.Reading.{Configuration, config_of}
 use Rattle.fs_doc.specs.Faults.{kind_name}
@@ -14,7 +15,9 @@ use Rattle.fs_plan.specs.declared.fault.PlanFault.TheVariants.{PatternRefused, P
 use Rattle.fs_conn.specs.declared.end.End.{End}
 use Rattle.fs_conn.specs.declared.end.End.TheVariants as ends
 use Rattle.fs_conn.specs.Play as plays
+use Rattle.fs_state.specs.Counts.{Tallies}
 use Rattle.fs_top.specs.Documents.{check_text, hunt_text}
+use Rattle.fs_top.specs.Counted.{counts_text}
 
 -- the bytes written, the line on standard error, the status, and whether the input was read to its end
 pub record Told : Type 0 where
@@ -23,17 +26,32 @@ pub record Told : Type 0 where
   pub status : ℕ
   pub at_end : Bool
 
--- what the words ask for, of a file
+-- what the words ask for: something of a file, or so many calls that are made from a number on
 pub data Asked : Type 0 where
   Check : List ℕ → Asked
   Hunt : List ℕ → List ℕ → List ℕ → Asked
   Play : List ℕ → Asked
+  Load : ℕ → ℕ → Asked
 
 -- the words `check FILE` and `play FILE`
 abbrev pub asked_of_two : List ℕ → List ℕ → Option Asked
 asked_of_two word file =
     if bytes_eq word (codes "check") then Some (Check file)
     else (if bytes_eq word (codes "play") then Some (Play file) else None)
+
+-- so many calls, unless they are none or more than 100,000
+abbrev pub load_asked : ℕ → ℕ → Option Asked
+load_asked count start = if nat_le 1 count && nat_le count 100000 then Some (Load count start) else None
+
+-- where both are numbers
+abbrev pub load_asked_by : Option ℕ → Option ℕ → Option Asked
+load_asked_by None start = None
+load_asked_by (Some count) None = None
+load_asked_by (Some count) (Some start) = load_asked count start
+
+-- the words `load COUNT START`
+abbrev pub asked_of_three : List ℕ → List ℕ → List ℕ → Option Asked
+asked_of_three word count start = if bytes_eq word (codes "load") then load_asked_by (read_u64 count) (read_u64 start) else None
 
 -- the words `hunt FILE CONTEXT DEST`
 abbrev pub asked_of_four : List ℕ → List ℕ → List ℕ → List ℕ → Option Asked
@@ -44,15 +62,16 @@ abbrev pub asked_by : List (List ℕ) → Option Asked
 asked_by [] = None
 asked_by (word ∷ []) = None
 asked_by (word ∷ file ∷ []) = asked_of_two word file
-asked_by (word ∷ file ∷ context ∷ []) = None
+asked_by (word ∷ count ∷ start ∷ []) = asked_of_three word count start
 asked_by (word ∷ file ∷ context ∷ dest ∷ []) = asked_of_four word file context dest
 asked_by (word ∷ file ∷ context ∷ dest ∷ more ∷ words) = None
 
--- the name of the file
-abbrev pub file_asked : Asked → List ℕ
-file_asked (Check file) = file
-file_asked (Hunt file context dest) = file
-file_asked (Play file) = file
+-- the name of the file, if it is asked of one
+abbrev pub file_asked : Asked → Option (List ℕ)
+file_asked (Check file) = Some file
+file_asked (Hunt file context dest) = Some file
+file_asked (Play file) = Some file
+file_asked (Load count start) = None
 
 -- how the words of the command line are to be written
 unfoldable pub usage_line : List ℕ
@@ -161,6 +180,20 @@ told_play c p = record {
   at_end = unwrap_or (option_map is_eof p.end) false;
 }
 
+-- what is printed of so many calls at an end: what was counted where they all were made and the connection left, and nothing otherwise
+abbrev pub counts_printed : ℕ → Tallies → End → List ℕ
+counts_printed count tallies ends.Exit = counts_text count tallies
+counts_printed count tallies _ = []
+
+-- what is told of the play of so many calls
+abbrev pub told_calls : ℕ → plays.Play → Told
+told_calls count p = record {
+  output = unwrap_or (option_map (counts_printed count (plays.switch_of p).counts) p.end) [];
+  line = unwrap_or (option_map line_of_end p.end) [];
+  status = unwrap_or (option_map status_of_end p.end) 0;
+  at_end = unwrap_or (option_map is_eof p.end) false;
+}
+
 -- this is printed, and nothing is read
 abbrev pub told_text : List ℕ → Told
 told_text output = record { output = output; line = []; status = 0; at_end = false }
@@ -170,6 +203,7 @@ abbrev pub told_asked : Asked → Configuration → List ℕ → Bool → Told
 told_asked (Check file) c input read_failed = told_text (check_text c.contexts)
 told_asked (Hunt file context dest) c input read_failed = told_text (hunt_text c.contexts c.globals context dest)
 told_asked (Play file) c input read_failed = told_play c (plays.played c input read_failed)
+told_asked (Load count start) c input read_failed = told_calls count (plays.played c input read_failed)
 
 -- what is answered over a configuration of which a pattern was refused, or none
 abbrev pub told_built : Asked → Configuration → Option PlanFault → List ℕ → Bool → Told
@@ -182,17 +216,17 @@ told_read asked (Ok c) built input read_failed = told_built asked c built input 
 told_read asked (Err fault) built input read_failed = refused (fault_line fault) 3
 
 -- what is answered once the file gave this
-abbrev pub told_file : Asked → Load → Option PlanFault → List ℕ → Bool → Told
+abbrev pub told_file : Asked → File → Option PlanFault → List ℕ → Bool → Told
 told_file asked (Got bytes) built input read_failed = told_read asked (config_of bytes) built input read_failed
-told_file asked Absent built input read_failed = refused (cannot_read_line (file_asked asked)) 4
-told_file asked Failed built input read_failed = refused (cannot_read_line (file_asked asked)) 4
+told_file asked Absent built input read_failed = refused (cannot_read_line (unwrap_or (file_asked asked) [])) 4
+told_file asked Failed built input read_failed = refused (cannot_read_line (unwrap_or (file_asked asked) [])) 4
 
 -- what the program answers where its words ask for this, or have no form, where the file gives this, where this pattern is refused, or
--- none, and these bytes are taken from the link before its reading ends or fails
-abbrev pub told_words : Option Asked → Load → Option PlanFault → List ℕ → Bool → Told
+-- none, and these bytes are taken from the link that is played before its reading ends or fails
+abbrev pub told_words : Option Asked → File → Option PlanFault → List ℕ → Bool → Told
 told_words None file built input read_failed = refused usage_line 2
 told_words (Some asked) file built input read_failed = told_file asked file built input read_failed
 
 -- what the program answers to these words, over what the file gives, a refused pattern or none, and these bytes of the link
-abbrev pub told_run : List (List ℕ) → Load → Option PlanFault → List ℕ → Bool → Told
+abbrev pub told_run : List (List ℕ) → File → Option PlanFault → List ℕ → Bool → Told
 told_run words file built input read_failed = told_words (asked_by words) file built input read_failed

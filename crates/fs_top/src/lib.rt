@@ -2,6 +2,7 @@
 #![tactic(auto)]
 
 mod asked;
+mod counted;
 mod documents;
 mod lines;
 mod outcome;

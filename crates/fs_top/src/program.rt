@@ -1,25 +1,29 @@
 //! The run: the words, the file, its document, its patterns, and what is asked of them.
 
-ghost use Rattle.std.specs.Prelude.{◌≡◌, ◌↔◌, ◌⊎◌, None, Some, IsTrue};
+ghost use Rattle.std.specs.Prelude.{◌≡◌, ◌↔◌, ◌⊎◌, [], None, Some, IsTrue};
 ghost use Rattle.fs_ports.specs.Counts as counts;
 ghost use Rattle.fs_doc.specs.Reading.{Configuration};
+ghost use Rattle.fs_top.specs.Counted as counted;
 ghost use Rattle.fs_top.specs.Documents as documents;
 ghost use Rattle.fs_top.specs.Told as spec;
 ghost use Rattle.fs_top.specs.Reading.{asked_seen};
-ghost use Rattle.fs_top.specs.Runs.{PlaysTo, Answers, OverBytes, OverConfig, not_read, not_built, Runs, Ran};
+ghost use Rattle.fs_top.specs.Runs.{PlaysTo, Loads, Answers, OverBytes, OverConfig, not_read, not_built, Runs, Ran};
 ghost use Rattle.fs_top.specs.Runs.{CarriesOutAs};
 ghost use Rattle.fs_top.specs.Runs.{HasConfig, HasFault, HasRefusal, CountRose, FillsJournal, MeetsBadBlock, RunsAway};
 ghost use Rattle.fs_top.specs.Runs.{IsGiven, NoneRose, DoesAll};
 
 use crate::asked::Asked;
+use crate::counted::counts_text;
 use crate::documents::{check_text, hunt_text};
 use crate::lines::say;
 use crate::outcome::Outcome;
 use fs_conn::{End, play};
 use fs_doc::{Config, ContextDef, DocFault, DocKind, read_config};
+use fs_load::{CallLink, load_document};
 use fs_machine::Machine;
 use fs_plan::{Dialplan, PlanFault};
 use fs_ports::{Files, Link, Load, Sent, Sink, send_all};
+use fs_state::Counts;
 use fs_text::{Memory, Txt};
 use fs_vars::Vars;
 use std::alloc::Global;
@@ -61,13 +65,13 @@ pub fn run<F: Files, L: Link, E: Sink>(
     ensures write_fault { result.code ≡ 5 → (L.output link.new).faults ≡ counts.raised (L.output link.old).faults }
     ensures full { result.code ≡ 8 → (c : Configuration)
         × HasConfig (spec.asked_by words.now) (F.next_load files.old) c
-        × FillsJournal c (L.input link.old) (L.input link.new) }
+        × FillsJournal (spec.asked_by words.now) c (L.input link.old) (L.input link.new) }
     ensures runaway { result.code ≡ 9 → (c : Configuration)
         × HasConfig (spec.asked_by words.now) (F.next_load files.old) c
-        × RunsAway c (L.input link.old) (L.input link.new) }
+        × RunsAway (spec.asked_by words.now) c (L.input link.old) (L.input link.new) }
     ensures bad_block { result.code ≡ 10 → (c : Configuration)
         × HasConfig (spec.asked_by words.now) (F.next_load files.old) c
-        × MeetsBadBlock c (L.input link.old) (L.input link.new) }
+        × MeetsBadBlock (spec.asked_by words.now) c (L.input link.old) (L.input link.new) }
 
     // Where the file is told to be read as a configuration whose patterns have readings, and no count rose, all that is
     // told was done, or memory was wanting.
@@ -98,13 +102,13 @@ fn conduct<'a, F: Files, L: Link>(
         (L.input link.old) (L.input link.new) (L.output link.old) (L.output link.new) result }
 {
     match Asked::of(words) {
-        Some(asked) => over_file(alloc, asked, files, link),
+        Some(asked) => over_asked(alloc, asked, files, link),
         None => Outcome::Usage,
     }
 }
 
-// Does what is asked of a file.
-fn over_file<'a, F: Files, L: Link>(
+// Does what is asked: of a file, or of the document of a load.
+fn over_asked<'a, F: Files, L: Link>(
     alloc: Global,
     asked: Asked<'a>,
     files: &mut F,
@@ -115,7 +119,26 @@ fn over_file<'a, F: Files, L: Link>(
         (F.counts files.old) (F.counts files.new) (F.sizes files.old) (F.sizes files.new)
         (L.input link.old) (L.input link.new) (L.output link.old) (L.output link.new) result }
 {
-    let name = asked.file();
+    match asked.file() {
+        Some(name) => over_file(alloc, asked, name, files, link),
+        None => over_bytes(alloc, asked, load_document(), files, link),
+    }
+}
+
+// Does what is asked of a file.
+fn over_file<'a, F: Files, L: Link>(
+    alloc: Global,
+    asked: Asked<'a>,
+    name: &'a Txt,
+    files: &mut F,
+    link: &mut L,
+) -> Outcome<'a>
+    requires waits { IsTrue (L.input link.old).waits }
+    requires named { spec.file_asked (asked_seen asked.entry) ≡ Some name.now }
+    ensures { Runs (Some (asked_seen asked.entry)) (F.next_load files.old)
+        (F.counts files.old) (F.counts files.new) (F.sizes files.old) (F.sizes files.new)
+        (L.input link.old) (L.input link.new) (L.output link.old) (L.output link.new) result }
+{
     match files.load(name) {
         Ok(Load::Got(bytes)) => over_bytes(alloc, asked, bytes.as_bytes(), files, link),
         Ok(Load::Absent) => Outcome::CannotRead { name },
@@ -208,6 +231,7 @@ fn over_plan<'a, L: Link>(
             link,
         ),
         Asked::Play { .. } => played(alloc, config, plan, link),
+        Asked::Load { count, start } => load(alloc, config, plan, count, start, link),
     }
 }
 
@@ -262,6 +286,61 @@ fn played<'a, L: Link>(alloc: Global, config: Config, plan: Dialplan, link: &mut
 {
     match Machine::new(alloc, config, plan) {
         Ok(mut machine) => Outcome::Ended(play(alloc, &mut machine, link)),
+        Err(Memory) => Outcome::Ended(End::Memory),
+    }
+}
+
+// Plays so many calls over a link of their own, and prints what was counted.
+fn load<'a, L: Link>(
+    alloc: Global,
+    config: Config,
+    plan: Dialplan,
+    count: u64,
+    start: u64,
+    link: &mut L,
+) -> Outcome<'a>
+    requires built { plan ≡ config.contexts }
+    ensures does { Loads config count start (L.output link.old) (L.output link.new) result }
+    ensures input { L.input link.new ≡ L.input link.old }
+{
+    match Machine::new(alloc, config, plan) {
+        Ok(mut machine) => load_on(alloc, &mut machine, count, start, link),
+        Err(Memory) => Outcome::Ended(End::Memory),
+    }
+}
+
+// Plays so many calls on a machine.
+fn load_on<'a, L: Link>(
+    alloc: Global,
+    machine: &mut Machine,
+    count: u64,
+    start: u64,
+    link: &mut L,
+) -> Outcome<'a>
+    requires begun { machine.old.journal ≡ [] }
+    ensures does { Loads machine.old.config count start (L.output link.old) (L.output link.new) result }
+    ensures input { L.input link.new ≡ L.input link.old }
+{
+    let mut calls = CallLink::new(count, start);
+    match play(alloc, machine, &mut calls) {
+        End::Exit => print_counts(alloc, count, machine.counts(), link),
+        end => Outcome::Ended(end),
+    }
+}
+
+// Prints the counts behind so many calls.
+fn print_counts<'a, L: Link>(
+    alloc: Global,
+    calls: u64,
+    counts: &Counts,
+    link: &mut L,
+) -> Outcome<'a>
+    ensures does { CarriesOutAs (spec.told_text (counted.counts_text calls counts.now))
+        (L.input link.new) (L.output link.old) (L.output link.new) result }
+    ensures input { L.input link.new ≡ L.input link.old }
+{
+    match counts_text(alloc, calls, counts) {
+        Ok(text) => print(link, &text),
         Err(Memory) => Outcome::Ended(End::Memory),
     }
 }

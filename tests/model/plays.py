@@ -91,7 +91,7 @@ def makers(coming):
     """What makes the plays of each kind of a seed."""
     kinds = KINDS | COMING_KINDS if coming else KINDS
     made = {name: partial(made_play, kind, coming=coming) for name, kind in kinds.items()}
-    return made | {"load": made_load} if coming else made
+    return made | {"load": made_load}
 
 
 def compare(name, make, seeds, program):

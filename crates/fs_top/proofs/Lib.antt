@@ -1,3 +1,4 @@
 mod CompleteLaws
+mod CountLaws
 mod PartLaws
 mod RunLaws

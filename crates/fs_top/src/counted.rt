@@ -12,6 +12,7 @@ use std::alloc::Global;
 
 /// What `load` prints: the number of calls, and the counts that are not 0, of channels that were hung up with each
 /// cause and of events of each name.
+#[tactic(auto, unfolding(crate::specs::Counted::counts_text))]
 pub(crate) fn counts_text(alloc: Global, calls: u64, counts: &Counts) -> Result<Txt, Memory>
     ensures { IfOk result (λ t. t ≡ spec.counts_text calls counts.now) }
 {
@@ -24,6 +25,7 @@ pub(crate) fn counts_text(alloc: Global, calls: u64, counts: &Counts) -> Result<
 }
 
 // Adds the lines of the causes, in the order of their numbers.
+#[tactic(auto, using(crate::proofs::CountLaws::row_rules))]
 fn push_causes(alloc: Global, text: &mut Vec<u8>, counts: &Counts) -> Result<(), Memory>
     ensures { OnOk result (text.new.items ≡ text.old.items ++ concat (map (spec.cause_line counts.now) all_causes)) }
 {
@@ -35,6 +37,7 @@ fn push_causes(alloc: Global, text: &mut Vec<u8>, counts: &Counts) -> Result<(),
 }
 
 // Adds the lines of the names of events, in the order of their numbers.
+#[tactic(auto, using(crate::proofs::CountLaws::row_rules))]
 fn push_events(alloc: Global, text: &mut Vec<u8>, counts: &Counts) -> Result<(), Memory>
     ensures { OnOk result (text.new.items ≡ text.old.items ++ concat (map (spec.event_line counts.now) all_events)) }
 {

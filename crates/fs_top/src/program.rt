@@ -134,7 +134,7 @@ fn over_file<'a, F: Files, L: Link>(
     link: &mut L,
 ) -> Outcome<'a>
     requires waits { IsTrue (L.input link.old).waits }
-    requires named { spec.file_asked (asked_seen asked.entry) ≡ Some name.now }
+    requires named { spec.file_asked (asked_seen asked) ≡ Some name.now }
     ensures { Runs (Some (asked_seen asked.entry)) (F.next_load files.old)
         (F.counts files.old) (F.counts files.new) (F.sizes files.old) (F.sizes files.new)
         (L.input link.old) (L.input link.new) (L.output link.old) (L.output link.new) result }

@@ -1,10 +1,10 @@
-use Rattle.std.proofs.Common.{refl, sym, ◌∙◌}
+use Rattle.std.proofs.Common.{refl, sym}
 use Rattle.fs_top.specs.Reading.{asked_seen}
 use Rattle.fs_top.proofs.RunLaws.{runs_bytes, document_given, none_loaded}
 use Rattle.fs_top.proofs.program.over_asked.Goals as goal
 
 pub over_file-requires-clause-named : goal.over_file-requires-clause-named
-over_file-requires-clause-named g c = sym c.in-Some.ensures
+over_file-requires-clause-named g c = λ κs. sym c.in-Some.ensures
 
 pub returns-in-None : goal.returns-in-None
 returns-in-None g c =

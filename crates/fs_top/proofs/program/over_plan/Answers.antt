@@ -19,7 +19,7 @@ returns-in-Hunt g c =
 pub returns-in-Play : goal.returns-in-Play
 returns-in-Play g c = rw c.in-Play.is (answers_played c.args.config c.in-Play.file.now _ _ _ _ _ c.played.ensures)
 
-pub returns-in-Load : goal.returns-in-Load
-returns-in-Load g c =
+pub returns : goal.returns
+returns g c =
     rw c.in-Load.is
     (answers_loaded c.args.config c.in-Load.count c.in-Load.start _ _ _ _ _ c.load.ensures.input c.load.ensures.does)

@@ -25,7 +25,6 @@ pub(crate) fn counts_text(alloc: Global, calls: u64, counts: &Counts) -> Result<
 }
 
 // Adds the lines of the causes, in the order of their numbers.
-#[tactic(auto, using(crate::proofs::CountLaws::row_rules))]
 fn push_causes(alloc: Global, text: &mut Vec<u8>, counts: &Counts) -> Result<(), Memory>
     ensures { OnOk result (text.new.items ≡ text.old.items ++ concat (map (spec.cause_line counts.now) all_causes)) }
 {
@@ -37,7 +36,6 @@ fn push_causes(alloc: Global, text: &mut Vec<u8>, counts: &Counts) -> Result<(),
 }
 
 // Adds the lines of the names of events, in the order of their numbers.
-#[tactic(auto, using(crate::proofs::CountLaws::row_rules))]
 fn push_events(alloc: Global, text: &mut Vec<u8>, counts: &Counts) -> Result<(), Memory>
     ensures { OnOk result (text.new.items ≡ text.old.items ++ concat (map (spec.event_line counts.now) all_events)) }
 {

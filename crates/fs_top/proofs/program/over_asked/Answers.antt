@@ -4,7 +4,7 @@ use Rattle.fs_top.proofs.RunLaws.{runs_bytes, document_given, none_loaded}
 use Rattle.fs_top.proofs.program.over_asked.Goals as goal
 
 pub over_file-requires-clause-named : goal.over_file-requires-clause-named
-over_file-requires-clause-named g c = λ κs. sym c.in-Some.ensures
+over_file-requires-clause-named g c = λ κs outlives. sym c.in-Some.ensures
 
 pub returns-in-None : goal.returns-in-None
 returns-in-None g c =

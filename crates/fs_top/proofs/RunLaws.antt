@@ -24,7 +24,7 @@ use Rattle.fs_plan.specs.Building.{IsPlanRefusal, sizes_after}
 use Rattle.fs_plan.specs.declared.fault.PlanFault.{PlanFault}
 use Rattle.fs_plan.specs.declared.fault.PlanFault.TheVariants.{PatternRefused, PatternTooLarge, Memory as NoMemory}
 use Rattle.fs_state.specs.Counts.{Tallies}
-use Rattle.fs_state.specs.Switch.{Switch, empty}
+use Rattle.fs_state.specs.Switch.{empty}
 use Rattle.fs_machine.specs.declared.entry.Entry.{Entry}
 use Rattle.fs_machine.specs.Runs.{run_from}
 use Rattle.fs_machine.specs.Frames.{handed_from}

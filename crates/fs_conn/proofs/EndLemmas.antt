@@ -1,29 +1,23 @@
 -- From a conversation to the play.
-use Rattle.std.proofs.Common.{◌≡◌, ℕ, Bool, true, false, cond, List, [], Option, None, Some, Result, Ok, Err, refl, sym, ap, ◌∙◌, subst}
+use Rattle.std.proofs.Common.{◌≡◌, ℕ, Bool, true, false, List, [], Option, Some, Result, Ok, Err, refl, sym, ap, ◌∙◌, subst}
 use Rattle.std.proofs.Common.{append-nil}
 use Rattle.fs_doc.specs.Reading.{Configuration}
 use Rattle.fs_ports.specs.Ports.{Input, Output, Writes, Stopped}
 use Rattle.fs_ports.proofs.Sides.{reads_nothing, writes_nothing, stopped_later}
 use Rattle.fs_frame.specs.Blocks.{blocks_of}
 use Rattle.fs_machine.specs.declared.entry.Entry.{Entry}
-use Rattle.fs_machine.specs.declared.entry.Act.{Act}
-use Rattle.fs_machine.specs.declared.entry.Act.TheVariants.{Arrive, Close}
-use Rattle.fs_machine.specs.declared.entry.Closing.TheVariants.{Failed}
-use Rattle.fs_machine.specs.declared.refusal.Refusal.{Refusal}
-use Rattle.fs_machine.specs.declared.refusal.Refusal.TheVariants as refusal
-use Rattle.fs_machine.specs.declared.reply.Reply.{Reply}
-use Rattle.fs_machine.specs.Step.{refusal_of}
+use Rattle.fs_machine.specs.declared.entry.Act.TheVariants.{Arrive}
 use Rattle.fs_conn.specs.declared.end.End.{End}
 use Rattle.fs_conn.specs.declared.end.End.TheVariants as ends
 use Rattle.fs_conn.specs.declared.stop.Stop.{Stop}
 use Rattle.fs_conn.specs.declared.stop.Stop.TheVariants.{Over, OutOfMemory, WriteFault}
-use Rattle.fs_conn.specs.Play.{Play, new_play, bytes_handed, switch_of, output_of, is_over, after_judging, after_trying_act, after_opening}
+use Rattle.fs_conn.specs.Play.{Play, new_play, bytes_handed, output_of, after_opening}
 use Rattle.fs_conn.specs.Play.{after_conversing, played}
-use Rattle.fs_conn.specs.Steps.{is_early, IsPlayFront, Halts, entry_of, Enters, Clears}
-use Rattle.fs_conn.specs.Turns.{is_told, at_early_end, Concludes, Stops, Finishes, Breaks, BreaksAt, WantsMemory, all_written, then_failed}
-use Rattle.fs_conn.specs.Turns.{failed_before, unless_refused, ClosesFailed, Plays}
-use Rattle.fs_conn.proofs.PlayLemmas.{goes_entered, goes_acted, goes_all_commanded}
-use Rattle.fs_conn.proofs.StepLemmas.{does_enters}
+use Rattle.fs_conn.specs.Steps.{is_early, IsPlayFront, Halts, Clears}
+use Rattle.fs_conn.specs.Playing.{Playing, play_of, ReadsNothing, OnlyPlays}
+use Rattle.fs_conn.specs.Turns.{is_told, at_early_end, FailsAt, Concludes, Stops, Finishes, Breaks, BreaksAt, WantsMemory, all_written}
+use Rattle.fs_conn.specs.Turns.{then_failed, failed_before, ClosesFailed, Plays}
+use Rattle.fs_conn.proofs.PlayLemmas.{goes_acted, goes_all_commanded}
 use Rattle.fs_conn.proofs.WriteLemmas.{written_all, written_whole, stopped_whole}
 use Rattle.fs_conn.proofs.TurnLemmas.{played_is, goes_concluded}
 
@@ -50,37 +44,37 @@ early_told ends.Memory early = absurd (cc)
 early_told (ends.Runaway count) early = (refl, λ same. cc)
 
 -- a play that came to its end by itself concludes, once all is written
-pub concludes_over : (config : Configuration) (in0 in1 : Input) (out0 out1 out2 : Output) (unsent : List ℕ) (end : End) (p : Play) →
-    Stops config in0 out0 in1 out1 unsent (Over end) p → Writes out1 out2 unsent → Concludes config in0 out0 in1 out2 end p
-concludes_over config in0 in1 out0 out1 out2 unsent end p stops writes =
+pub concludes_over : (start old new : Playing) (end : End) → Stops start old (Over end) → play_of new ≡ play_of old →
+    Writes old.output new.output old.unsent → ReadsNothing old new → Concludes start new end
+concludes_over start old new end stops same writes nothing =
     let told = early_told end stops.halts.0 in record {
       input = stops.input;
       read_failed = stops.read_failed;
-      has_read = stops.has_read;
-      play_is = stops.halts.1;
+      has_read = rw nothing.input stops.has_read;
+      play_is = stops.halts.1 ∙ ap (λ (p : Play). record p { end = Some end }) (sym same);
       written =
-          written_whole config out0 out2 stops.input [] p
-          (written_all config out0 out1 out2 stops.input unsent p stops.stopped writes) refl;
+          subst (λ (p : Play). Writes start.output new.output (output_of p)) (sym same)
+          (written_whole start.config start.output new.output stops.input [] (play_of old)
+          (written_all start old new.output stops.input stops.stopped writes) refl);
       told = told.0;
       at_end = λ is_eof. absurd (told.1 is_eof);
     }
 
-pub config_concludes : (config : Configuration) (in0 in1 : Input) (out0 out1 : Output) (end : End) (p : Play) →
-    Concludes config in0 out0 in1 out1 end p → p.config ≡ config
-config_concludes config in0 in1 out0 out1 end p done =
-    sym (ap (λ (q : Play). q.config) done.play_is) ∙ config_played config done.input done.read_failed
+pub config_concludes : (start now : Playing) (end : End) → Concludes start now end → now.config ≡ start.config
+config_concludes start now end done =
+    sym (ap (λ (q : Play). q.config) done.play_is) ∙ config_played start.config done.input done.read_failed
 
-finishes : (config : Configuration) (in0 in1 : Input) (out0 out1 : Output) (end : End) (p : Play) →
-    Concludes config in0 out0 in1 out1 end p → Finishes config in0 out0 in1 out1 end p.journal
-finishes config in0 in1 out0 out1 end p done =
-    let journal : p.journal ≡ (played config done.input done.read_failed).journal = sym (ap (λ (q : Play). q.journal) done.play_is) in
-    let bytes : output_of p ≡ bytes_handed config (played config done.input done.read_failed).journal =
-    ap (λ c. bytes_handed c p.journal) (config_concludes config in0 in1 out0 out1 end p done) ∙ ap (bytes_handed config) journal in record {
+finishes : (start now : Playing) (end : End) → Concludes start now end →
+    Finishes start.config start.input start.output now.input now.output end now.journal
+finishes start now end done =
+    let journal : now.journal ≡ (played start.config done.input done.read_failed).journal = sym (ap (λ (q : Play). q.journal) done.play_is) in
+    let bytes : output_of (play_of now) ≡ bytes_handed start.config (played start.config done.input done.read_failed).journal =
+    ap (λ c. bytes_handed c now.journal) (config_concludes start now end done) ∙ ap (bytes_handed start.config) journal in record {
       input = done.input;
       read_failed = done.read_failed;
       has_read = done.has_read;
       journal_is = journal;
-      written = subst (λ (written : List ℕ). Writes out0 out1 written) bytes done.written;
+      written = subst (λ (written : List ℕ). Writes start.output now.output written) bytes done.written;
       end_is = ap (λ (q : Play). q.end) done.play_is;
       at_end = done.at_end;
     }
@@ -98,10 +92,10 @@ plays_told config in0 in1 out0 out1 (ends.JournalFull cost limit) journal told d
 plays_told config in0 in1 out0 out1 ends.Memory journal told done = absurd (cc)
 plays_told config in0 in1 out0 out1 (ends.Runaway count) journal told done = done
 
-pub plays_end : (config : Configuration) (in0 in1 : Input) (out0 out1 : Output) (end : End) (p : Play) →
-    Concludes config in0 out0 in1 out1 end p → Plays config in0 out0 in1 out1 p.journal end
-plays_end config in0 in1 out0 out1 end p done =
-    plays_told config in0 in1 out0 out1 end p.journal done.told (finishes config in0 in1 out0 out1 end p done)
+pub plays_end : (start now : Playing) (end : End) → Concludes start now end →
+    Plays start.config start.input start.output now.input now.output now.journal end
+plays_end start now end done =
+    plays_told start.config start.input now.input start.output now.output end now.journal done.told (finishes start now end done)
 
 -- ---- a play that broke off
 
@@ -109,10 +103,6 @@ config_begins : (config : Configuration) (input : List ℕ) (read_failed : Bool)
     IsPlayFront p (played config input read_failed) →
     p.config ≡ config
 config_begins config input read_failed p begins = sym begins.config ∙ config_played config input read_failed
-
-bytes_begins : (config : Configuration) (input : List ℕ) (read_failed : Bool) (p : Play) → IsPlayFront p (played config input read_failed) →
-    output_of p ≡ bytes_handed config p.journal
-bytes_begins config input read_failed p begins = ap (λ c. bytes_handed c p.journal) (config_begins config input read_failed p begins)
 
 -- a play that stopped is of its configuration, and a front of the whole
 whole_begins : (p : Play) (end : Option End) (whole : Play) → whole ≡ record p { end = end } → IsPlayFront p whole
@@ -124,48 +114,42 @@ halts_begins (Over end) p whole halts = whole_begins p (Some end) whole halts.1
 halts_begins OutOfMemory p whole halts = halts
 halts_begins WriteFault p whole halts = halts
 
-stops_begins : (config : Configuration) (in0 in1 : Input) (out0 out1 : Output) (unsent : List ℕ) (stop : Stop) (p : Play) →
-    (stops : Stops config in0 out0 in1 out1 unsent stop p) → IsPlayFront p (played config stops.input stops.read_failed)
-stops_begins config in0 in1 out0 out1 unsent stop p stops = halts_begins stop p (played config stops.input stops.read_failed) stops.halts
+stops_begins : (start now : Playing) (stop : Stop) → (stops : Stops start now stop) →
+    IsPlayFront (play_of now) (played start.config stops.input stops.read_failed)
+stops_begins start now stop stops = halts_begins stop (play_of now) (played start.config stops.input stops.read_failed) stops.halts
 
-pub stops_config : (config : Configuration) (in0 in1 : Input) (out0 out1 : Output) (unsent : List ℕ) (stop : Stop) (p : Play) →
-    Stops config in0 out0 in1 out1 unsent stop p → p.config ≡ config
-stops_config config in0 in1 out0 out1 unsent stop p stops =
-    config_begins config stops.input stops.read_failed p (stops_begins config in0 in1 out0 out1 unsent stop p stops)
+pub stops_config : (start now : Playing) (stop : Stop) → Stops start now stop → now.config ≡ start.config
+stops_config start now stop stops =
+    config_begins start.config stops.input stops.read_failed (play_of now) (stops_begins start now stop stops)
 
-stops_breaks : (config : Configuration) (in0 in1 : Input) (out0 out1 : Output) (unsent : List ℕ) (stop : Stop) (p : Play) →
-    Stops config in0 out0 in1 out1 unsent stop p → Breaks config in0 in1 p.journal
-stops_breaks config in0 in1 out0 out1 unsent stop p stops =
-    let begins = stops_begins config in0 in1 out0 out1 unsent stop p stops in
+stops_breaks : (start now : Playing) (stop : Stop) → Stops start now stop → Breaks start.config start.input now.input now.journal
+stops_breaks start now stop stops =
+    let begins = stops_begins start now stop stops in
     record { input = stops.input; read_failed = stops.read_failed; has_read = stops.has_read; more = begins.more; split = begins.split }
 
 -- its bytes are those of its journal
-stops_bytes : (config : Configuration) (in0 in1 : Input) (out0 out1 : Output) (unsent : List ℕ) (stop : Stop) (p : Play) →
-    Stops config in0 out0 in1 out1 unsent stop p →
-    output_of p ≡ bytes_handed config p.journal
-stops_bytes config in0 in1 out0 out1 unsent stop p stops =
-    ap (λ c. bytes_handed c p.journal) (stops_config config in0 in1 out0 out1 unsent stop p stops)
+stops_bytes : (start now : Playing) (stop : Stop) → Stops start now stop → output_of (play_of now) ≡ bytes_handed start.config now.journal
+stops_bytes start now stop stops = ap (λ c. bytes_handed c now.journal) (stops_config start now stop stops)
 
 -- memory was wanting, and what was unsent was written, or that failed
-pub wants_memory : {A : Type 0} →
-    (config : Configuration) (in0 in1 : Input) (out0 out1 out2 : Output) (unsent left : List ℕ) (p : Play) (result : Result A Stop) →
-    Stops config in0 out0 in1 out1 unsent OutOfMemory p → Clears out1 out2 unsent left result →
-    WantsMemory config in0 out0 in1 out2 p.journal
-wants_memory config in0 in1 out0 out1 out2 unsent left p (Ok done) stops clears = all_written (record {
-  breaks = stops_breaks config in0 in1 out0 out1 unsent OutOfMemory p stops;
+pub wants_memory : {A : Type 0} → (start old : Playing) (out : Output) (left : List ℕ) (result : Result A Stop) →
+    Stops start old OutOfMemory → Clears old.output out old.unsent left result →
+    WantsMemory start.config start.input start.output old.input out old.journal
+wants_memory start old out left (Ok done) stops clears = all_written (record {
+  breaks = stops_breaks start old OutOfMemory stops;
   written =
-      subst (λ (bytes : List ℕ). Writes out0 out2 bytes) (stops_bytes config in0 in1 out0 out1 unsent OutOfMemory p stops)
-      (written_whole config out0 out2 stops.input [] p
-      (written_all config out0 out1 out2 stops.input unsent p stops.stopped clears.0) refl);
+      subst (λ (bytes : List ℕ). Writes start.output out bytes) (stops_bytes start old OutOfMemory stops)
+      (written_whole start.config start.output out stops.input [] (play_of old)
+      (written_all start old out stops.input stops.stopped clears.0) refl);
 })
-wants_memory config in0 in1 out0 out1 out2 unsent left p (Err (Over end)) stops clears = absurd clears
-wants_memory config in0 in1 out0 out1 out2 unsent left p (Err OutOfMemory) stops clears = absurd clears
-wants_memory config in0 in1 out0 out1 out2 unsent left p (Err WriteFault) stops clears = then_failed (record {
-  breaks = stops_breaks config in0 in1 out0 out1 unsent OutOfMemory p stops;
+wants_memory start old out left (Err (Over end)) stops clears = absurd clears
+wants_memory start old out left (Err OutOfMemory) stops clears = absurd clears
+wants_memory start old out left (Err WriteFault) stops clears = then_failed (record {
+  breaks = stops_breaks start old OutOfMemory stops;
   stopped =
-      subst (λ (bytes : List ℕ). Stopped out0 out2 bytes)
-      (sym stops.stopped.split ∙ stops_bytes config in0 in1 out0 out1 unsent OutOfMemory p stops)
-      (stopped_later out0 out1 out2 stops.stopped.sent unsent stops.stopped.written clears);
+      subst (λ (bytes : List ℕ). Stopped start.output out bytes)
+      (sym stops.stopped.split ∙ stops_bytes start old OutOfMemory stops)
+      (stopped_later start.output old.output out stops.stopped.sent old.unsent stops.stopped.written clears);
 })
 
 -- memory was wanting before anything was entered
@@ -184,76 +168,46 @@ wants_first config in0 out0 journal none =
     }))
 
 -- an end before that of the connection, behind which the last write failed, is such a point too
-pub fails_over : (config : Configuration) (in0 in1 : Input) (out0 out1 out2 : Output) (unsent left : List ℕ) (end : End) (p : Play)
-    (stop : Stop) →
-    Stops config in0 out0 in1 out1 unsent (Over end) p → Clears {A = Unit {0}} out1 out2 unsent left (Err stop) →
-    Stops config in0 out0 in1 out2 left WriteFault p
-fails_over config in0 in1 out0 out1 out2 unsent left end p (Over other) stops clears = absurd clears
-fails_over config in0 in1 out0 out1 out2 unsent left end p OutOfMemory stops clears = absurd clears
-fails_over config in0 in1 out0 out1 out2 unsent left end p WriteFault stops clears = record {
-  input = stops.input;
-  read_failed = stops.read_failed;
-  has_read = stops.has_read;
-  halts = stops_begins config in0 in1 out0 out1 unsent (Over end) p stops;
-  stopped = record { mid = out1; unsent = unsent; written = stops.stopped; stopped = clears; point = at_early_end end stops.halts };
-}
-
--- an act that is tried leaves its entry behind the others, unless it is refused
-journal_judged : (cause : Option Refusal) (entry : Entry) (p : Play) →
-    (after_judging cause entry p).journal ≡ unless_refused cause entry p.journal
-journal_judged None entry p = refl
-journal_judged (Some (refusal.JournalFull cost limit)) entry p = refl
-journal_judged (Some _) entry p = refl
-
-journal_entered : (act : Act) (p : Play) → is_over p ≡ false →
-    (after_trying_act act p).journal ≡ unless_refused (refusal_of (switch_of p) (entry_of act p)) (entry_of act p) p.journal
-journal_entered act p goes_on =
-    ap (λ over. (cond over p (after_judging (refusal_of (switch_of p) (entry_of act p)) (entry_of act p) p)).journal) goes_on
-    ∙ journal_judged (refusal_of (switch_of p) (entry_of act p)) (entry_of act p) p
+pub fails_over : (start old new : Playing) (end : End) (stop : Stop) → Stops start old (Over end) → play_of new ≡ play_of old →
+    Clears {A = Unit {0}} old.output new.output old.unsent new.unsent (Err stop) → ReadsNothing old new → Stops start new WriteFault
+fails_over start old new end (Over other) stops same clears nothing = absurd clears
+fails_over start old new end OutOfMemory stops same clears nothing = absurd clears
+fails_over start old new end WriteFault stops same clears nothing =
+    let whole = played start.config stops.input stops.read_failed in record {
+      input = stops.input;
+      read_failed = stops.read_failed;
+      has_read = rw nothing.input stops.has_read;
+      halts = subst (λ (p : Play). IsPlayFront p whole) (sym same) (stops_begins start old (Over end) stops);
+      stopped = subst (λ (p : Play). FailsAt start.config start.output new.output stops.input stops.read_failed p) (sym same) (record {
+        mid = old.output;
+        unsent = old.unsent;
+        written = stops.stopped;
+        stopped = clears;
+        point = at_early_end end stops.halts;
+      });
+    }
 
 -- a write failed
-breaks_at : (config : Configuration) (in0 in1 : Input) (out0 out1 : Output) (unsent : List ℕ) (p : Play) →
-    Stops config in0 out0 in1 out1 unsent WriteFault p → BreaksAt config in0 out0 in1 out1 p
+breaks_at : (start now : Playing) → Stops start now WriteFault →
+    BreaksAt start.config start.input start.output now.input now.output (play_of now)
 unfolding stops_breaks
-breaks_at config in0 in1 out0 out1 unsent p stops = record {
-  breaks = stops_breaks config in0 in1 out0 out1 unsent WriteFault p stops;
+breaks_at start now stops = record {
+  breaks = stops_breaks start now WriteFault stops;
   stopped =
-      subst (λ (bytes : List ℕ). Stopped out0 out1 bytes) (stops_bytes config in0 in1 out0 out1 unsent WriteFault p stops)
-      (stopped_whole config out0 out1 stops.input stops.read_failed p stops.stopped);
+      subst (λ (bytes : List ℕ). Stopped start.output now.output bytes) (stops_bytes start now WriteFault stops)
+      (stopped_whole start.config start.output now.output stops.input stops.read_failed (play_of now) stops.stopped);
   fails = stops.stopped;
 }
 
--- and the connection was closed as Failed
-pub closes_entered : (p new : Play) (reply : Option Reply) → is_over p ≡ false → Enters (Close 1 Failed) p new (Ok reply) →
-    ClosesFailed p new ends.WriteFault
-closes_entered p new reply goes_on enters =
-    let is = does_enters (Close 1 Failed) p new (Ok reply) goes_on enters in (
-      ap (λ (q : Play). q.config) is ∙ ((goes_entered (Close 1 Failed)).begins p).config,
-      ap (λ (q : Play). q.journal) is ∙ journal_entered (Close 1 Failed) p goes_on,
-    )
-
--- or that was refused
-pub closes_refused : (p new : Play) (end : End) → is_over p ≡ false → Enters (Close 1 Failed) p new (Err (Over end)) →
-    ClosesFailed p new ends.WriteFault
-closes_refused p new end goes_on enters = (
-  ap (λ (q : Play). q.config) enters.0,
-  sym (ap (λ (q : Play). q.journal) enters.1.1) ∙ journal_entered (Close 1 Failed) p goes_on,
-)
-
-pub config_closes : (p new : Play) (end : End) → ClosesFailed p new end → new.config ≡ p.config
-config_closes p new ends.WriteFault closes = closes.0
-config_closes p new ends.Memory closes = ap (λ (q : Play). q.config) closes
-config_closes p new _ closes = absurd closes
-
--- so the play ends
-pub plays_failed : (config : Configuration) (in0 in1 : Input) (out0 out1 : Output) (unsent : List ℕ) (p new : Play) (end : End) →
-    Stops config in0 out0 in1 out1 unsent WriteFault p → ClosesFailed p new end → Plays config in0 out0 in1 out1 new.journal end
-plays_failed config in0 in1 out0 out1 unsent p new ends.WriteFault stops closes = record {
-  play = p;
-  config_is = stops_config config in0 in1 out0 out1 unsent WriteFault p stops;
-  breaks_at = breaks_at config in0 in1 out0 out1 unsent p stops;
+-- and the connection was closed as Failed, or memory was wanting for that: so the play ends
+pub plays_failed : (start old new : Playing) (end : End) → Stops start old WriteFault → ClosesFailed (play_of old) (play_of new) end →
+    OnlyPlays old new → Plays start.config start.input start.output new.input new.output new.journal end
+plays_failed start old new ends.WriteFault stops closes only = rw (only.input, only.output) (record {
+  play = play_of old;
+  config_is = stops_config start old WriteFault stops;
+  breaks_at = breaks_at start old stops;
   closes = closes.1;
-}
-plays_failed config in0 in1 out0 out1 unsent p new ends.Memory stops closes =
-    failed_before p (breaks_at config in0 in1 out0 out1 unsent p stops) (ap (λ (q : Play). q.journal) closes)
-plays_failed config in0 in1 out0 out1 unsent p new _ stops closes = absurd closes
+})
+plays_failed start old new ends.Memory stops closes only =
+    rw (only.input, only.output) (failed_before (play_of old) (breaks_at start old stops) (ap (λ (q : Play). q.journal) closes))
+plays_failed start old new _ stops closes only = absurd closes

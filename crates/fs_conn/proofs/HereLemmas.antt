@@ -13,7 +13,7 @@ use Rattle.fs_machine.specs.declared.reply.Reply.{Reply}
 use Rattle.fs_machine.specs.Questions.{owes}
 use Rattle.fs_machine.specs.Here.{IsHere}
 use Rattle.fs_machine.specs.Step.{refusal_of}
-use Rattle.fs_machine.specs.Runs.{View, state_of, run_from}
+use Rattle.fs_machine.specs.Runs.{run_from}
 use Rattle.fs_machine.proofs.RunLemmas.{run_more}
 use Rattle.fs_machine.proofs.FrameLemmas.{take_owes}
 use Rattle.fs_machine.proofs.HereLemmas.{ClosesNone, here_step, arrival_accepted, arrival_here}
@@ -21,7 +21,8 @@ use Rattle.fs_conn.specs.declared.end.End.TheVariants.{Runaway}
 use Rattle.fs_conn.specs.declared.stop.Stop.{Stop}
 use Rattle.fs_conn.specs.Play.{Play, switch_of, is_over, after_judging, after_trying_act, repeated, after_taking_all, after_following}
 use Rattle.fs_conn.specs.Play.{after_taking_all_as}
-use Rattle.fs_conn.specs.Steps.{play_of, entry_of, Does, Accepts, Rejects}
+use Rattle.fs_conn.specs.Steps.{entry_of, Does, Accepts, Rejects}
+use Rattle.fs_conn.specs.Playing.{Playing, play_of}
 use Rattle.fs_conn.proofs.StepLemmas.{longer}
 use Rattle.fs_conn.proofs.KeepLemmas.{Keeps, by_each, kept_repeated, kept_followed, kept_acted}
 
@@ -73,23 +74,22 @@ here_commanded old mid new block here mid_is new_is goes_on =
 -- ---- it comes
 
 -- nothing speaks against its coming
-pub never_turned_away : (machine : View) (clock : ℕ) (new : Play) → machine.journal ≡ [] → IsWithin machine.config →
-    Rejects Arrive (play_of machine clock) new → ⊥
-never_turned_away machine clock new begun within refused =
-    let p = play_of machine clock in
-    let none : refusal_of (state_of machine) (entry_of Arrive p) ≡ None =
-    ap (λ (entries : List Entry). refusal_of (run_from (empty machine.config) entries) (entry_of Arrive p)) begun
-    ∙ arrival_accepted machine.config clock within in
+pub never_turned_away : (s : Playing) (new : Play) → s.journal ≡ [] → IsWithin s.config → Rejects Arrive (play_of s) new → ⊥
+never_turned_away s new begun within refused =
+    let p = play_of s in
+    let none : refusal_of (switch_of p) (entry_of Arrive p) ≡ None =
+    ap (λ (entries : List Entry). refusal_of (run_from (empty s.config) entries) (entry_of Arrive p)) begun
+    ∙ arrival_accepted s.config s.clock within in
     longer p (entry_of Arrive p) (sym refused.same ∙ refused.does ∙ ap (λ cause. after_judging cause (entry_of Arrive p) p) none)
 
 -- and then it is there
-pub here_arrived : (machine new : View) (clock : ℕ) (reply : Reply) → machine.journal ≡ [] → IsWithin machine.config →
-    Accepts Arrive (play_of machine clock) (play_of new clock) reply → IsHere 1 (state_of new)
-here_arrived machine new clock reply begun within accepts =
-    let entry = entry_of Arrive (play_of machine clock) in
+pub here_arrived : (s : Playing) (new : Play) (reply : Reply) → s.journal ≡ [] → IsWithin s.config → Accepts Arrive (play_of s) new reply →
+    IsHere 1 (switch_of new)
+here_arrived s new reply begun within accepts =
+    let entry = entry_of Arrive (play_of s) in
     subst (λ (p : Play). IsHere 1 (switch_of p)) (sym accepts.does)
-    (subst (λ (entries : List Entry). IsHere 1 (run_from (empty machine.config) (entries ++ entry ∷ []))) (sym begun)
-    (arrival_here machine.config clock within))
+    (subst (λ (entries : List Entry). IsHere 1 (run_from (empty s.config) (entries ++ entry ∷ []))) (sym begun)
+    (arrival_here s.config s.clock within))
 
 -- ---- it is owed nothing
 

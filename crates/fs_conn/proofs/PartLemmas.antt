@@ -1,5 +1,5 @@
 -- For which of its commands the connection parts.
-use Rattle.std.proofs.Common.{◌≡◌, ◌≢◌, ℕ, Bool, true, false, cond, List, [], ◌∷◌, ◌++◌, Option, None, Some, ◌⊎◌, inl, inr, refl, sym, ap}
+use Rattle.std.proofs.Common.{◌≡◌, ℕ, Bool, true, false, cond, List, [], ◌∷◌, ◌++◌, Option, None, Some, inl, inr, refl, sym, ap}
 use Rattle.std.proofs.Common.{◌∙◌, subst, append_assoc, append-nil}
 use Rattle.std.proofs.lemmas.Bool.{both_ways}
 use Rattle.std.proofs.lemmas.Option.{none-some, same_Some}
@@ -20,13 +20,11 @@ use Rattle.fs_machine.specs.Entries.{is_full}
 use Rattle.fs_machine.specs.Connections.{phase_at}
 use Rattle.fs_machine.specs.Questions.{parting_at, owes}
 use Rattle.fs_machine.specs.Step.{step, reads, refusal_of, refused_where}
-use Rattle.fs_machine.specs.Runs.{run_from}
 use Rattle.fs_machine.specs.Frames.{command_in, commands_of}
-use Rattle.fs_machine.specs.Concerns.{is_its_own, KeepsPhase, IsParted, KeepsOrParts}
+use Rattle.fs_machine.specs.Concerns.{is_its_own, KeepsOrParts}
 use Rattle.fs_machine.proofs.FramesLaws.{settings_run}
 use Rattle.fs_machine.proofs.FrameLemmas.{command_refused}
 use Rattle.fs_machine.proofs.PartLemmas.{others_part, take_keeps, CommandParts, command_parts, none_parted, arrival_unparted}
-use Rattle.fs_machine.proofs.RunLemmas.{run_more}
 use Rattle.fs_conn.specs.declared.end.End.TheVariants.{Runaway}
 use Rattle.fs_conn.specs.Play.{Play, switch_of, new_play, is_over, after_judging, after_trying_act, reads_on, takes_commands, after_act}
 use Rattle.fs_conn.specs.Play.{after_command, after_commands, after_opening, after_conversing, after_closing}

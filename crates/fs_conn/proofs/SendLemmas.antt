@@ -1,7 +1,8 @@
 -- How frames are taken and written.
-use Rattle.std.proofs.Common.{◌≡◌, ◌≢◌, ℕ, ◌-◌, ◌<◌, ◌≤◌, List, [], ◌∷◌, ◌++◌, length, Option, None, Some, Result, Ok, Err, unwrap_or}
+use Rattle.std.proofs.Common.{◌≡◌, ◌≢◌, ℕ, ◌-◌, ◌<◌, List, [], ◌∷◌, ◌++◌, length, Option, None, Some, Result, Ok, Err, unwrap_or}
 use Rattle.std.proofs.Common.{slice_get, inr, refl, sym, ap, ◌∙◌, subst, append_assoc, append-nil, arith}
-use Rattle.fs_ports.specs.Ports.{Output, Writes, Stopped}
+use Rattle.std.specs.Borrow.{GName}
+use Rattle.fs_ports.specs.Ports.{Output, Writes}
 use Rattle.fs_ports.proofs.Sides.{writes_both, writes_nothing}
 use Rattle.fs_state.specs.Switch.{waiting_for, outgoing_for}
 use Rattle.fs_state.proofs.GiftLemmas.{first_bytes}
@@ -11,12 +12,16 @@ use Rattle.fs_machine.specs.declared.entry.Closing.TheVariants.{Sent}
 use Rattle.fs_machine.specs.declared.reply.Reply.{Reply}
 use Rattle.fs_machine.specs.declared.reply.Reply.TheVariants as reply
 use Rattle.fs_machine.proofs.FrameLemmas.{take_answers}
+use Rattle.fs_conn.specs.declared.playing.Play.{Play as Stage}
 use Rattle.fs_conn.specs.declared.stop.Stop.{Stop}
 use Rattle.fs_conn.specs.declared.stop.Stop.TheVariants.{Over, OutOfMemory, WriteFault}
 use Rattle.fs_conn.specs.Play.{Play, switch_of, output_of, after_trying_act, repeated, after_taking_all, after_input_end, after_closing}
 use Rattle.fs_conn.specs.Play.{after_taking_all_as}
-use Rattle.fs_conn.specs.Steps.{IsPlayFront, Halts, Accepts, Enters, Writing, Fails, Sends, HasFilled, MayClose, Puts, Clears}
-use Rattle.fs_conn.proofs.PlayLemmas.{goes_entered}
+use Rattle.fs_conn.specs.Wired.{Wired, IsUnread}
+use Rattle.fs_conn.specs.Steps.{IsPlayFront, Halts, Does, Accepts, Enters, Puts, Clears}
+use Rattle.fs_conn.specs.Playing.{Lent, Playing, seen, play_of, ReadsNothing, OnlyPlays, Writing, with_written, Fails, Sends, HasFilled, MayClose}
+use Rattle.fs_conn.proofs.PlayLemmas.{begins_self, goes_entered}
+use Rattle.fs_conn.proofs.StepLemmas.{does_enters}
 use Rattle.fs_conn.proofs.RoundLemmas.{round_stops_at}
 
 -- a Take hands out a frame
@@ -31,26 +36,60 @@ take_hands old new frame accepts =
     take_replies old new (reply.Frame frame) accepts in cc in
     accepts.hands ∙ ap (λ bytes. output_of old ++ bytes) (first_bytes (outgoing_for (switch_of old) 1) ∙ same)
 
--- ---- one write after another
+-- ---- what stays
 
--- where no frame was handed out, what was unsent still is
-pub writing_none : (out : Output) (unsent : List ℕ) (old new : Play) → output_of new ≡ output_of old → Writing out out unsent unsent old new
-writing_none out unsent old new same = record {
-  frames = [];
-  hands = same ∙ sym (append-nil (output_of old));
-  sent = [];
-  split = append-nil unsent;
-  written = writes_nothing out;
+pub only_same : (s : Playing) → OnlyPlays s s
+only_same s = record { input = refl; output = refl; unsent = refl; lent = refl }
+
+pub only_then : (old mid new : Playing) → OnlyPlays old mid → OnlyPlays mid new → OnlyPlays old new
+only_then old mid new first then = record {
+  input = then.input ∙ first.input;
+  output = then.output ∙ first.output;
+  unsent = then.unsent ∙ first.unsent;
+  lent = then.lent ∙ first.lent;
 }
 
--- or all of it was written
-pub writing_all : (out0 out1 : Output) (unsent : List ℕ) (p : Play) → Writes out0 out1 unsent → Writing out0 out1 unsent [] p p
-writing_all out0 out1 unsent p writes = record {
+-- whatever the clock was before
+pub only_at : (old new : Playing) (moment : ℕ) → OnlyPlays (record old { clock = moment }) new → OnlyPlays old new
+only_at old new moment only = record { input = only.input; output = only.output; unsent = only.unsent; lent = only.lent }
+
+pub reads_only : (old new : Playing) → OnlyPlays old new → ReadsNothing old new
+reads_only old new only = record { input = only.input; lent = only.lent }
+
+pub reads_then : (old mid new : Playing) → ReadsNothing old mid → ReadsNothing mid new → ReadsNothing old new
+reads_then old mid new first then = record { input = then.input ∙ first.input; lent = then.lent ∙ first.lent }
+
+-- the same play over a wire that went on
+abbrev pub seen_over : {L : Type 0} → Stage L → Wired → Playing
+seen_over p wire = seen (record p { wire = wire })
+
+pub reads_unread : {L : Type 0} → (p : Stage L) (wire : Wired) → IsUnread p.wire wire → ReadsNothing (seen p) (seen_over p wire)
+reads_unread p wire unread = record {
+  input = unread.input;
+  lent = ap {B = Lent} (λ (link : GName). record { machine = p.machine.ghost_name; link = link }) unread.link;
+}
+
+-- ---- one write after another
+
+-- no frame was handed out, and all that was unsent was written
+pub writes_first : (old new : Playing) → play_of new ≡ play_of old → Writes old.output new.output old.unsent → new.unsent ≡ [] →
+    Writing old new
+writes_first old new same writes none = record {
   frames = [];
-  hands = sym (append-nil (output_of p));
-  sent = unsent;
-  split = refl;
+  hands = ap output_of same ∙ sym (append-nil (output_of (play_of old)));
+  sent = old.unsent;
+  split = ap (λ bytes. old.unsent ++ bytes) (sym none);
   written = writes;
+}
+
+-- or nothing was, and what was unsent still is
+pub writing_none : (old new : Playing) → output_of (play_of new) ≡ output_of (play_of old) → OnlyPlays old new → Writing old new
+writing_none old new same only = record {
+  frames = [];
+  hands = same ∙ sym (append-nil (output_of (play_of old)));
+  sent = [];
+  split = append-nil old.unsent ∙ sym only.unsent;
+  written = subst (λ (out : Output). Writes old.output out []) (sym only.output) (writes_nothing old.output);
 }
 
 split_both : (unsent frames sent left further later last : List ℕ) → unsent ++ frames ≡ sent ++ left → left ++ further ≡ later ++ last →
@@ -59,54 +98,45 @@ split_both unsent frames sent left further later last first then =
     sym (append_assoc unsent frames further) ∙ ap (λ xs. xs ++ further) first ∙ append_assoc sent left further ∙ ap (λ xs. sent ++ xs) then
     ∙ sym (append_assoc sent later last)
 
-pub writing_then : (out0 out1 out2 : Output) (unsent0 unsent1 unsent2 : List ℕ) (old mid new : Play) →
-    Writing out0 out1 unsent0 unsent1 old mid → Writing out1 out2 unsent1 unsent2 mid new → Writing out0 out2 unsent0 unsent2 old new
-writing_then out0 out1 out2 unsent0 unsent1 unsent2 old mid new first then = record {
+pub writing_then : (old mid new : Playing) → Writing old mid → Writing mid new → Writing old new
+writing_then old mid new first then = record {
   frames = first.frames ++ then.frames;
-  hands = then.hands ∙ ap (λ xs. xs ++ then.frames) first.hands ∙ append_assoc (output_of old) first.frames then.frames;
+  hands = then.hands ∙ ap (λ xs. xs ++ then.frames) first.hands ∙ append_assoc (output_of (play_of old)) first.frames then.frames;
   sent = first.sent ++ then.sent;
-  split = split_both unsent0 first.frames first.sent unsent1 then.frames then.sent unsent2 first.split then.split;
-  written = writes_both out0 out1 out2 first.sent then.sent first.written then.written;
+  split = split_both old.unsent first.frames first.sent mid.unsent then.frames then.sent new.unsent first.split then.split;
+  written = writes_both old.output mid.output new.output first.sent then.sent first.written then.written;
 }
 
-fails_later : (point : List ℕ → Play → Type 0) (out0 out1 out2 : Output) (unsent0 unsent1 : List ℕ) (old mid new : Play) →
-    Writing out0 out1 unsent0 unsent1 old mid → Fails point out1 out2 unsent1 mid new → Fails point out0 out2 unsent0 old new
-fails_later point out0 out1 out2 unsent0 unsent1 old mid new first then = record {
+fails_later : (point : List ℕ → Play → Type 0) (old mid new : Playing) → Writing old mid → Fails point mid new → Fails point old new
+fails_later point old mid new first then = record {
   mid = then.mid;
   unsent = then.unsent;
-  writing = writing_then out0 out1 then.mid unsent0 unsent1 then.unsent old mid new first then.writing;
+  writing = writing_then old mid (with_written then.mid then.unsent new) first then.writing;
   stopped = then.stopped;
   stands = then.stands;
 }
 
 -- a step, and then one that wrote this
-pub sends_later : {A : Type 0} →
-    (point : List ℕ → Play → Type 0) (out0 out1 out2 : Output) (unsent0 unsent1 unsent2 : List ℕ) (old mid new : Play)
-    (result : Result A Stop) →
-    Writing out0 out1 unsent0 unsent1 old mid → Sends point out1 out2 unsent1 unsent2 mid new result →
-    Sends point out0 out2 unsent0 unsent2 old new result
-sends_later point out0 out1 out2 unsent0 unsent1 unsent2 old mid new (Ok done) first then =
-    writing_then out0 out1 out2 unsent0 unsent1 unsent2 old mid new first then
-sends_later point out0 out1 out2 unsent0 unsent1 unsent2 old mid new (Err (Over end)) first then =
-    writing_then out0 out1 out2 unsent0 unsent1 unsent2 old mid new first then
-sends_later point out0 out1 out2 unsent0 unsent1 unsent2 old mid new (Err OutOfMemory) first then =
-    writing_then out0 out1 out2 unsent0 unsent1 unsent2 old mid new first then
-sends_later point out0 out1 out2 unsent0 unsent1 unsent2 old mid new (Err WriteFault) first then =
-    fails_later point out0 out1 out2 unsent0 unsent1 old mid new first then
+pub sends_later : {A : Type 0} → (point : List ℕ → Play → Type 0) (old mid new : Playing) (result : Result A Stop) → Writing old mid →
+    Sends point mid new result → Sends point old new result
+sends_later point old mid new (Ok done) first then = writing_then old mid new first then
+sends_later point old mid new (Err (Over end)) first then = writing_then old mid new first then
+sends_later point old mid new (Err OutOfMemory) first then = writing_then old mid new first then
+sends_later point old mid new (Err WriteFault) first then = fails_later point old mid new first then
 
 -- a step that hands out nothing, and stopped
-pub sends_none : (point : List ℕ → Play → Type 0) (out : Output) (unsent : List ℕ) (old new : Play) (stop : Stop) →
-    output_of new ≡ output_of old → stop ≢ WriteFault → Sends {A = Unit {0}} point out out unsent unsent old new (Err stop)
-sends_none point out unsent old new (Over end) same unwritten = writing_none out unsent old new same
-sends_none point out unsent old new OutOfMemory same unwritten = writing_none out unsent old new same
-sends_none point out unsent old new WriteFault same unwritten = absurd (unwritten refl)
+pub sends_none : (point : List ℕ → Play → Type 0) (old new : Playing) (stop : Stop) → output_of (play_of new) ≡ output_of (play_of old) →
+    OnlyPlays old new → stop ≢ WriteFault → Sends {A = Unit {0}} point old new (Err stop)
+sends_none point old new (Over end) same only unwritten = writing_none old new same only
+sends_none point old new OutOfMemory same only unwritten = writing_none old new same only
+sends_none point old new WriteFault same only unwritten = absurd (unwritten refl)
 
 -- an act that was not entered
-pub sends_entered : (point : List ℕ → Play → Type 0) (out : Output) (unsent : List ℕ) (act : Act) (old new : Play) (stop : Stop) →
-    Enters act old new (Err stop) → Sends {A = Unit {0}} point out out unsent unsent old new (Err stop)
-sends_entered point out unsent act old new (Over end) enters = writing_none out unsent old new (ap output_of enters.0)
-sends_entered point out unsent act old new OutOfMemory enters = writing_none out unsent old new (ap output_of enters)
-sends_entered point out unsent act old new WriteFault enters = absurd enters
+pub sends_entered : (point : List ℕ → Play → Type 0) (act : Act) (old new : Playing) (stop : Stop) →
+    Enters act (play_of old) (play_of new) (Err stop) → OnlyPlays old new → Sends {A = Unit {0}} point old new (Err stop)
+sends_entered point act old new (Over end) enters only = writing_none old new (ap output_of enters.0) only
+sends_entered point act old new OutOfMemory enters only = writing_none old new (ap output_of enters) only
+sends_entered point act old new WriteFault enters only = absurd enters
 
 -- an act that was refused
 pub none_entered : (act : Act) (old new : Play) (reply : Option Reply) → ((answer : Reply) → reply ≡ Some answer → ⊥) →
@@ -116,12 +146,12 @@ none_entered act old new None none enters = ap output_of enters.same
 none_entered act old new (Some answer) none enters = absurd (none answer refl)
 
 -- a write failed at such a point, which is one of these too
-pub sends_point : (point wider : List ℕ → Play → Type 0) (out0 out1 : Output) (unsent0 unsent1 : List ℕ) (old new : Play) (stop : Stop) →
-    ((bytes : List ℕ) → point bytes new → wider bytes new) → Sends {A = Unit {0}} point out0 out1 unsent0 unsent1 old new (Err stop) →
-    Sends {A = Unit {0}} wider out0 out1 unsent0 unsent1 old new (Err stop)
-sends_point point wider out0 out1 unsent0 unsent1 old new (Over end) is_wider sends = sends
-sends_point point wider out0 out1 unsent0 unsent1 old new OutOfMemory is_wider sends = sends
-sends_point point wider out0 out1 unsent0 unsent1 old new WriteFault is_wider sends = record {
+pub sends_point : (point wider : List ℕ → Play → Type 0) (old new : Playing) (stop : Stop) →
+    ((bytes : List ℕ) → point bytes (play_of new) → wider bytes (play_of new)) → Sends {A = Unit {0}} point old new (Err stop) →
+    Sends {A = Unit {0}} wider old new (Err stop)
+sends_point point wider old new (Over end) is_wider sends = sends
+sends_point point wider old new OutOfMemory is_wider sends = sends
+sends_point point wider old new WriteFault is_wider sends = record {
   mid = sends.mid;
   unsent = sends.unsent;
   writing = sends.writing;
@@ -132,76 +162,109 @@ sends_point point wider out0 out1 unsent0 unsent1 old new WriteFault is_wider se
 -- ---- the closing
 
 -- what is unsent before the closing could not be written
-pub sends_before_close : (out0 out1 out2 : Output) (unsent0 unsent1 unsent2 : List ℕ) (old mid : Play) (stop : Stop) →
-    Writing out0 out1 unsent0 unsent1 old mid → mid ≡ after_input_end old →
-    Clears {A = Unit {0}} out1 out2 unsent1 unsent2 (Err stop) →
-    Sends {A = Unit {0}} (MayClose old) out0 out2 unsent0 unsent2 old mid (Err stop)
-sends_before_close out0 out1 out2 unsent0 unsent1 unsent2 old mid (Over end) writing is clears = absurd clears
-sends_before_close out0 out1 out2 unsent0 unsent1 unsent2 old mid OutOfMemory writing is clears = absurd clears
-sends_before_close out0 out1 out2 unsent0 unsent1 unsent2 old mid WriteFault writing is clears = record {
-  mid = out1;
-  unsent = unsent1;
-  writing = writing;
+pub sends_before_close : (old mid new : Playing) (stop : Stop) → Writing old mid → play_of mid ≡ after_input_end (play_of old) →
+    play_of new ≡ play_of mid → Clears {A = Unit {0}} mid.output new.output mid.unsent new.unsent (Err stop) →
+    Sends {A = Unit {0}} (MayClose (play_of old)) old new (Err stop)
+sends_before_close old mid new (Over end) writing is same clears = absurd clears
+sends_before_close old mid new OutOfMemory writing is same clears = absurd clears
+sends_before_close old mid new WriteFault writing is same clears = record {
+  mid = mid.output;
+  unsent = mid.unsent;
+  writing = record {
+    frames = writing.frames;
+    hands = ap output_of same ∙ writing.hands;
+    sent = writing.sent;
+    split = writing.split;
+    written = writing.written;
+  };
   stopped = clears;
-  stands = inr is;
+  stands = inr (same ∙ is);
 }
 
-pub halts_before_close : (out0 out1 : Output) (unsent0 unsent1 : List ℕ) (old mid : Play) (stop : Stop) → mid ≡ after_input_end old →
-    Clears {A = Unit {0}} out0 out1 unsent0 unsent1 (Err stop) → Halts stop mid (after_closing old)
-halts_before_close out0 out1 unsent0 unsent1 old mid (Over end) is clears = absurd clears
-halts_before_close out0 out1 unsent0 unsent1 old mid OutOfMemory is clears = absurd clears
-halts_before_close out0 out1 unsent0 unsent1 old mid WriteFault is clears =
-    subst (λ (p : Play). IsPlayFront p (after_closing old)) (sym is) ((goes_entered (Close 1 Sent)).begins (after_input_end old))
+pub halts_before_close : (old mid new : Playing) (stop : Stop) → play_of mid ≡ after_input_end (play_of old) →
+    play_of new ≡ play_of mid → Clears {A = Unit {0}} mid.output new.output mid.unsent new.unsent (Err stop) →
+    Halts stop (play_of new) (after_closing (play_of old))
+halts_before_close old mid new (Over end) is same clears = absurd clears
+halts_before_close old mid new OutOfMemory is same clears = absurd clears
+halts_before_close old mid new WriteFault is same clears =
+    subst (λ (p : Play). IsPlayFront p (after_closing (play_of old))) (sym (same ∙ is))
+    ((goes_entered (Close 1 Sent)).begins (after_input_end (play_of old)))
 
 -- all was written before it
-pub writing_cleared : (out0 out1 out2 : Output) (unsent0 unsent1 unsent2 : List ℕ) (old mid : Play) →
-    Writing out0 out1 unsent0 unsent1 old mid →
-    Writes out1 out2 unsent1 → unsent2 ≡ [] → Writing out0 out2 unsent0 unsent2 old mid
-writing_cleared out0 out1 out2 unsent0 unsent1 unsent2 old mid writing writes none =
-    subst (λ (bytes : List ℕ). Writing out0 out2 unsent0 bytes old mid) (sym none)
-    (writing_then out0 out1 out2 unsent0 unsent1 [] old mid mid writing (writing_all out1 out2 unsent1 mid writes))
+pub writing_cleared : (old mid new : Playing) → Writing old mid → play_of new ≡ play_of mid →
+    Clears {A = Unit {0}} mid.output new.output mid.unsent new.unsent (Ok tt) → Writing old new
+writing_cleared old mid new writing same clears =
+    writing_then old mid new writing (writes_first mid new same clears.0 clears.1)
+
+-- then the closing was tried
+pub does_closed : (old mid new : Playing) (reply : Option Reply) → play_of mid ≡ after_input_end (play_of old) →
+    Enters (Close 1 Sent) (play_of mid) (play_of new) (Ok reply) → play_of new ≡ after_closing (play_of old)
+does_closed old mid new reply is enters =
+    does_enters (Close 1 Sent) (play_of mid) (play_of new) (Ok reply) refl enters ∙ ap (after_trying_act (Close 1 Sent)) is
+
+pub halts_closed : (old mid new : Playing) (stop : Stop) → play_of mid ≡ after_input_end (play_of old) →
+    Enters (Close 1 Sent) (play_of mid) (play_of new) (Err stop) → Halts stop (play_of new) (after_closing (play_of old))
+halts_closed old mid new stop is enters =
+    subst (λ (p : Play). Halts stop (play_of new) (after_trying_act (Close 1 Sent) p)) is
+    (does_enters (Close 1 Sent) (play_of mid) (play_of new) (Err stop) refl enters)
 
 -- ---- frames
 
 -- a frame was put behind what is unsent
-pub frame_put : (out0 out1 : Output) (unsent0 unsent1 : List ℕ) (old new : Play) (frame sent : List ℕ) →
-    Accepts (Take 1) old new (reply.Frame frame) →
-    unsent0 ++ frame ≡ sent ++ unsent1 → Writes out0 out1 sent → Writing out0 out1 unsent0 unsent1 old new
-frame_put out0 out1 unsent0 unsent1 old new frame sent accepts split writes = record {
+frame_put : (old mid new : Playing) (frame : List ℕ) → Accepts (Take 1) (play_of old) (play_of mid) (reply.Frame frame) →
+    OnlyPlays old mid → play_of new ≡ play_of mid →
+    Puts {A = Unit {0}} mid.output new.output mid.unsent new.unsent frame (Ok tt) → Writing old new
+frame_put old mid new frame accepts only same puts = record {
   frames = frame;
-  hands = take_hands old new frame accepts;
-  sent = sent;
-  split = split;
-  written = writes;
+  hands = ap output_of same ∙ take_hands (play_of old) (play_of mid) frame accepts;
+  sent = puts.0;
+  split = ap (λ bytes. bytes ++ frame) (sym only.unsent) ∙ puts.1;
+  written = subst (λ (out : Output). Writes out new.output puts.0) only.output puts.2;
 }
 
 -- or that failed
-frame_fails : (out0 out1 : Output) (unsent : List ℕ) (old new : Play) (frame : List ℕ) → Accepts (Take 1) old new (reply.Frame frame) →
-    Stopped out0 out1 (unsent ++ frame) → 65536 ≤ length (unsent ++ frame) → Fails HasFilled out0 out1 unsent old new
-frame_fails out0 out1 unsent old new frame accepts stopped many = record {
-  mid = out0;
-  unsent = unsent ++ frame;
-  writing = record { frames = frame; hands = take_hands old new frame accepts; sent = []; split = refl; written = writes_nothing out0 };
-  stopped = stopped;
-  stands = record {
-    many = many;
+frame_fails : (old mid new : Playing) (frame : List ℕ) → Accepts (Take 1) (play_of old) (play_of mid) (reply.Frame frame) →
+    OnlyPlays old mid → play_of new ≡ play_of mid →
+    Puts {A = Unit {0}} mid.output new.output mid.unsent new.unsent frame (Err WriteFault) → Fails HasFilled old new
+frame_fails old mid new frame accepts only same puts = record {
+  mid = mid.output;
+  unsent = mid.unsent ++ frame;
+  writing = record {
+    frames = frame;
+    hands = ap output_of same ∙ take_hands (play_of old) (play_of mid) frame accepts;
+    sent = [];
+    split = ap (λ bytes. bytes ++ frame) (sym only.unsent);
+    written = subst (λ (out : Output). Writes old.output out []) (sym only.output) (writes_nothing old.output);
+  };
+  stopped = puts.0;
+  stands = subst (HasFilled (mid.unsent ++ frame)) (sym same) (record {
+    many = puts.1;
     before = old.journal;
     taken =
         ap (λ (p : Play). p.journal) accepts.does
         ∙ ap (λ (moment : ℕ). old.journal ++ record { moment = moment; act = Take 1 } ∷ []) (sym (ap (λ (p : Play). p.clock) accepts.does));
-  };
+  });
 }
 
-pub frame_sends : {A : Type 0} →
-    (out0 out1 : Output) (unsent0 unsent1 : List ℕ) (old new : Play) (frame : List ℕ) (result : Result A Stop) →
-    Accepts (Take 1) old new (reply.Frame frame) →
-    Puts out0 out1 unsent0 unsent1 frame result → Sends HasFilled out0 out1 unsent0 unsent1 old new result
-frame_sends out0 out1 unsent0 unsent1 old new frame (Ok done) accepts puts =
-    frame_put out0 out1 unsent0 unsent1 old new frame puts.0 accepts puts.1 puts.2
-frame_sends out0 out1 unsent0 unsent1 old new frame (Err (Over end)) accepts puts = absurd puts
-frame_sends out0 out1 unsent0 unsent1 old new frame (Err OutOfMemory) accepts puts = absurd puts
-frame_sends out0 out1 unsent0 unsent1 old new frame (Err WriteFault) accepts puts =
-    frame_fails out0 out1 unsent0 old new frame accepts puts.0 puts.1
+pub frame_sends : {A : Type 0} → (old mid new : Playing) (frame : List ℕ) (result : Result A Stop) →
+    Accepts (Take 1) (play_of old) (play_of mid) (reply.Frame frame) → OnlyPlays old mid → play_of new ≡ play_of mid →
+    Puts mid.output new.output mid.unsent new.unsent frame result → Sends HasFilled old new result
+frame_sends old mid new frame (Ok done) accepts only same puts = frame_put old mid new frame accepts only same puts
+frame_sends old mid new frame (Err (Over end)) accepts only same puts = absurd puts
+frame_sends old mid new frame (Err OutOfMemory) accepts only same puts = absurd puts
+frame_sends old mid new frame (Err WriteFault) accepts only same puts = frame_fails old mid new frame accepts only same puts
+
+-- so it was taken, or the play broke off
+pub frame_does : {A : Type 0} → (old mid new : Playing) (frame : List ℕ) (result : Result A Stop) →
+    Accepts (Take 1) (play_of old) (play_of mid) (reply.Frame frame) → play_of new ≡ play_of mid →
+    Puts mid.output new.output mid.unsent new.unsent frame result → Does (after_trying_act (Take 1)) (play_of old) (play_of new) result
+frame_does old mid new frame (Ok done) accepts same puts =
+    same ∙ does_enters (Take 1) (play_of old) (play_of mid) (Ok (Some _)) refl accepts
+frame_does old mid new frame (Err (Over end)) accepts same puts = absurd puts
+frame_does old mid new frame (Err OutOfMemory) accepts same puts = absurd puts
+frame_does old mid new frame (Err WriteFault) accepts same puts =
+    let is = same ∙ does_enters (Take 1) (play_of old) (play_of mid) (Ok (Some _)) refl accepts in
+    subst (λ (p : Play). IsPlayFront (play_of new) p) is (begins_self (play_of new))
 
 -- a Take for each frame that waited is to be entered
 pub taken_first : (start : Play) →

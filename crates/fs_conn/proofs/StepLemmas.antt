@@ -12,14 +12,15 @@ use Rattle.fs_machine.specs.declared.refusal.Refusal.TheVariants as refusal
 use Rattle.fs_machine.specs.Entries.{cost_of, is_full}
 use Rattle.fs_machine.specs.Questions.{owes}
 use Rattle.fs_machine.specs.Step.{step, refusal_of, refused_where}
-use Rattle.fs_machine.specs.Runs.{View, state_of, IsSame}
+use Rattle.fs_machine.specs.Runs.{View, state_of}
 use Rattle.fs_machine.specs.Frames.{handed_in, handed_from}
 use Rattle.fs_machine.proofs.FrameLemmas.{some_cost, handed_more, command_refused}
 use Rattle.fs_conn.specs.declared.end.End.{End}
 use Rattle.fs_conn.specs.declared.stop.Stop.{Stop}
 use Rattle.fs_conn.specs.declared.stop.Stop.TheVariants.{Over, OutOfMemory, WriteFault}
 use Rattle.fs_conn.specs.Play.{Play, switch_of, output_of, is_over, after_judging, after_trying_act, reads_on}
-use Rattle.fs_conn.specs.Steps.{play_of, spent, IsPlayFront, Halts, Does, entry_of, Accepts, Rejects, Enters, Works}
+use Rattle.fs_conn.specs.Steps.{spent, IsPlayFront, Halts, Does, entry_of, Accepts, Rejects, Enters, Works}
+use Rattle.fs_conn.specs.Playing.{Playing, play_of}
 use Rattle.fs_conn.proofs.PlayLemmas.{begins_trans, Goes, goes_entered}
 
 -- ---- one step after another
@@ -32,16 +33,20 @@ halts_on g goes WriteFault p mid halts = begins_trans p mid (g mid) halts (goes.
 
 -- ---- entering
 
+-- the play that a machine has come to at a moment
+abbrev pub play_at : View → ℕ → Play
+play_at machine clock = record { config = machine.config; journal = machine.journal; clock = clock; end = None }
+
 -- an act that is not refused is entered
 pub accepts : (old new : View) (clock : ℕ) (act : Act) (reply : Reply) → new.config ≡ old.config →
-    new.journal ≡ old.journal ++ entry_of act (play_of old clock) ∷ [] →
-    refusal_of (state_of old) (entry_of act (play_of old clock)) ≡ None →
-    reply ≡ (step (state_of old) (entry_of act (play_of old clock))).reply →
+    new.journal ≡ old.journal ++ entry_of act (play_at old clock) ∷ [] →
+    refusal_of (state_of old) (entry_of act (play_at old clock)) ≡ None →
+    reply ≡ (step (state_of old) (entry_of act (play_at old clock))).reply →
     (state_of new).cost ≡ min ((state_of old).cost + cost_of act) (2 ^ 64 - 1) →
     (state_of old).cost + 65600 ≤ min old.config.settings.journal_limit (2 ^ 64 - 1) →
-    Accepts act (play_of old clock) (play_of new clock) reply
+    Accepts act (play_at old clock) (play_at new clock) reply
 accepts old new clock act reply config journal defined reply_is cost free =
-    let entry = entry_of act (play_of old clock) in
+    let entry = entry_of act (play_at old clock) in
     let some = some_cost act in record {
       defined = defined;
       does = rw (config, journal) refl;
@@ -52,10 +57,6 @@ accepts old new clock act reply config journal defined reply_is cost free =
           ∙ concat-append (handed_from 1 (empty old.config) old.journal) (handed_in 1 act (state_of old)));
       costs = record { more = omega (arith, cost, some, free); free = omega (arith, free) };
     }
-
--- an act that is refused changes nothing
-pub rejects : (old new : View) (clock : ℕ) → IsSame old new → play_of new clock ≡ play_of old clock
-rejects old new clock same = rw (same.config, same.journal) refl
 
 -- whatever entering did, the step of the definition was done or halted
 does_accepts : (act : Act) (old new : Play) (reply : Reply) → Accepts act old new reply → is_over old ≡ false →
@@ -106,16 +107,17 @@ never_over : (end : End) → None ≡ Some end → ⊥
 never_over end same = cc
 
 -- a connection that reads commands and is owed no reply gives one
-pub never_rejects : (machine : View) (clock : ℕ) (new : Play) (block : List ℕ) → reads_on (play_of machine clock) ≡ true →
-    owes (state_of machine) 1 ≡ false → Rejects (Command 1 block) (play_of machine clock) new → ⊥
-never_rejects machine clock new block is_reading owes_none refused =
-    by (is_full (state_of machine))
+pub never_rejects : (s : Playing) (new : Play) (block : List ℕ) → reads_on (play_of s) ≡ true →
+    owes (switch_of (play_of s)) 1 ≡ false → Rejects (Command 1 block) (play_of s) new → ⊥
+never_rejects s new block is_reading owes_none refused =
+    let switch = switch_of (play_of s) in
+    by (is_full switch)
     (sym refused.same ∙ refused.does
-    ∙ ap (λ cause. after_judging cause (entry_of (Command 1 block) (play_of machine clock)) (play_of machine clock))
-    (command_refused (state_of machine) clock 1 block is_reading owes_none))
+    ∙ ap (λ cause. after_judging cause (entry_of (Command 1 block) (play_of s)) (play_of s))
+    (command_refused switch s.clock 1 block is_reading owes_none))
   where
-    by : (full : Bool) → play_of machine clock
-        ≡ after_judging (refused_where full (refusal.JournalFull (state_of machine).cost (state_of machine).settings.journal_limit)
-        None) (entry_of (Command 1 block) (play_of machine clock)) (play_of machine clock) → ⊥
+    by : (full : Bool) → play_of s
+        ≡ after_judging (refused_where full (refusal.JournalFull (spent (play_of s)) (switch_of (play_of s)).settings.journal_limit)
+        None) (entry_of (Command 1 block) (play_of s)) (play_of s) → ⊥
     by true same = absurd (never_over _ (ap (λ (q : Play). q.end) same))
-    by false same = longer (play_of machine clock) (entry_of (Command 1 block) (play_of machine clock)) same
+    by false same = longer (play_of s) (entry_of (Command 1 block) (play_of s)) same

@@ -33,19 +33,20 @@ use Rattle.fs_conn.specs.declared.end.End.{End}
 use Rattle.fs_conn.specs.declared.end.End.TheVariants.{Exit, AuthRefused, Eof}
 use Rattle.fs_conn.specs.declared.stop.Stop.{Stop}
 use Rattle.fs_conn.specs.declared.stop.Stop.TheVariants.{Over, OutOfMemory, WriteFault}
-use Rattle.fs_conn.specs.declared.reading.Filled.{Filled}
-use Rattle.fs_conn.specs.declared.reading.Filled.TheVariants.{More}
-use Rattle.fs_conn.specs.Play.{Play, switch_of, output_of, new_play, is_over, with_end, after_trying_act, after_taking_all, after_following}
+use Rattle.fs_conn.specs.declared.wire.Filled.{Filled}
+use Rattle.fs_conn.specs.declared.wire.Filled.TheVariants.{More}
+use Rattle.fs_conn.specs.Play.{Play, switch_of, output_of, new_play, with_end, after_trying_act, after_taking_all, after_following}
 use Rattle.fs_conn.specs.Play.{after_act, reads_on, takes_commands, after_command, after_commands, after_opening, after_input_end}
 use Rattle.fs_conn.specs.Play.{after_conversing, after_closing, end_by, farewell, end_behind, played, played_as}
-use Rattle.fs_conn.specs.Steps.{spent, IsPlayFront, Halts, Costs, Enters, Writing, Sends, HasFilled, MayClose}
-use Rattle.fs_conn.specs.Turns.{Fills, WritesFirst, HasRead, HasWritten, behind_frame, before_read, StoppedBy, Stands, is_told, Ends}
+use Rattle.fs_conn.specs.Steps.{spent, IsPlayFront, Halts, Costs, Enters, Fills, WritesFirst}
+use Rattle.fs_conn.specs.Playing.{Playing, play_of, IsNew, ReadsNothing, OnlyPlays, Writing, Sends, HasFilled, MayClose}
+use Rattle.fs_conn.specs.Turns.{HasRead, HasWritten, behind_frame, before_read, HasSent, StoppedBy, Stands, is_told, Ends}
 use Rattle.fs_conn.specs.Turns.{Concludes, Stops, work_left}
 use Rattle.fs_conn.proofs.PlayLemmas.{begins_self, begins_trans, Goes, goes_entered, goes_ended, goes_all_taken, goes_followed}
 use Rattle.fs_conn.proofs.PlayLemmas.{goes_all_commanded, goes_closed}
 use Rattle.fs_conn.proofs.StepLemmas.{halts_on, does_enters}
 use Rattle.fs_conn.proofs.SettleLemmas.{is_none}
-use Rattle.fs_conn.proofs.SendLemmas.{writing_none, writing_all}
+use Rattle.fs_conn.proofs.SendLemmas.{writing_none}
 use Rattle.fs_conn.proofs.WriteLemmas.{written_then, written_all, written_read, written_whole, stopped_unwritten, stopped_sends, may_close}
 
 -- ---- what follows the last command
@@ -98,11 +99,10 @@ reads_still s sound here none = by (conn_of s 1) refl
         ∙ reads_in c.phase c.parting (sound.parted 1 c is) (λ ended. here.hears (ap (option_and_then parting_of) is ∙ ended))
         (sym (ap (λ found. end_by (option_and_then parting_of found)) is) ∙ none)
 
-pub is_reading : (p : Play) (parting : Option Parting) (last : Option End) → AreOwed (switch_of p) → IsHere 1 (switch_of p) →
-    owes (switch_of p) 1 ≡ false →
-    parting ≡ parting_at (switch_of p) 1 → last ≡ end_by parting → ((end : End) → last ≡ Some end → ⊥) → IsReading p
-is_reading p parting last sound here free parting_is last_is never =
-    let none : farewell p ≡ None = sym (last_is ∙ ap end_by parting_is) ∙ is_none last never in
+pub is_reading : (p : Play) (last : Option End) → AreOwed (switch_of p) → IsHere 1 (switch_of p) → owes (switch_of p) 1 ≡ false →
+    last ≡ farewell p → ((end : End) → last ≡ Some end → ⊥) → IsReading p
+is_reading p last sound here free last_is never =
+    let none : farewell p ≡ None = sym last_is ∙ is_none last never in
     let reading = reads_still (switch_of p) sound here none in record {
       reads = reading;
       owed = free;
@@ -168,22 +168,22 @@ snoc_play config p blocks block is reading =
 -- ---- how a conversation stops
 
 -- a play that is a front of what these blocks give stopped, whatever follows in its input
-pub stops_short : (config : Configuration) (in0 in1 : Input) (out0 out1 : Output) (unsent : List ℕ) (stop : Stop) (p : Play)
-    (blocks : List (List ℕ)) (rest : List ℕ) →
-    AllByRecursion IsBlock blocks → HasRead in0 in1 (concat blocks ++ rest) false → Halts stop p
-    (after_commands (after_opening config) blocks) →
-    StoppedBy config out0 out1 (concat blocks ++ rest) false unsent stop p → Stops config in0 out0 in1 out1 unsent stop p
-stops_short config in0 in1 out0 out1 unsent stop p blocks rest are_blocks has_read halts stopped =
+pub stops_short : (start now : Playing) (stop : Stop) (blocks : List (List ℕ)) (rest : List ℕ) →
+    AllByRecursion IsBlock blocks → HasRead start.input now.input (concat blocks ++ rest) false → Halts stop (play_of now)
+    (after_commands (after_opening start.config) blocks) →
+    StoppedBy start now (concat blocks ++ rest) false stop → Stops start now stop
+stops_short start now stop blocks rest are_blocks has_read halts stopped =
     let input = concat blocks ++ rest in
+    let p = play_of now in
     let further =
     halts_on (λ q. after_commands q (blocks_of rest)) (goes_all_commanded (blocks_of rest)) stop p
-    (after_commands (after_opening config) blocks) halts in
-    let all = subst (λ (q : Play). Halts stop p q) (after_conversing-append config blocks rest are_blocks) further in
-    let whole = halts_on (concluded input false) (goes_concluded input false) stop p (after_conversing config input) all in record {
+    (after_commands (after_opening start.config) blocks) halts in
+    let all = subst (λ (q : Play). Halts stop p q) (after_conversing-append start.config blocks rest are_blocks) further in
+    let whole = halts_on (concluded input false) (goes_concluded input false) stop p (after_conversing start.config input) all in record {
       input = input;
       read_failed = false;
       has_read = has_read;
-      halts = subst (λ (q : Play). Halts stop p q) (played_is config input false) whole;
+      halts = subst (λ (q : Play). Halts stop p q) (played_is start.config input false) whole;
       stopped = stopped;
     }
 
@@ -191,175 +191,154 @@ begins_is : (p whole : Play) → p ≡ whole → IsPlayFront p whole
 begins_is p whole is = subst (λ (q : Play). IsPlayFront p q) is (begins_self p)
 
 -- the play of what was read, where no further block is in front of that
-stands_read : (config : Configuration) (in0 in1 : Input) (out0 out1 : Output) (unsent : List ℕ) (stream : Stream) (p : Play) →
-    (stands : Stands config in0 out0 in1 out1 unsent stream p) → HasNoBlock stream.rest →
-    p ≡ after_conversing config (concat stands.blocks ++ stream.rest)
-stands_read config in0 in1 out0 out1 unsent stream p stands no_block =
-    ap (after_commands p) (sym (blocks_of-no_block stream.rest no_block)) ∙ ap (λ q. after_commands q (blocks_of stream.rest))
-    stands.play_is
-    ∙ after_conversing-append config stands.blocks stream.rest stands.are_blocks
+stands_read : (start now : Playing) (stream : Stream) → (stands : Stands start now stream) → HasNoBlock stream.rest →
+    play_of now ≡ after_conversing start.config (concat stands.blocks ++ stream.rest)
+stands_read start now stream stands no_block =
+    ap (after_commands (play_of now)) (sym (blocks_of-no_block stream.rest no_block))
+    ∙ ap (λ q. after_commands q (blocks_of stream.rest)) stands.play_is
+    ∙ after_conversing-append start.config stands.blocks stream.rest stands.are_blocks
 
 -- all was written, and then a piece was read
-pub written_fed : (config : Configuration) (in0 in1 : Input) (out0 out1 out2 : Output) (unsent : List ℕ) (stream : Stream) (p : Play)
-    (piece : List ℕ) →
-    (stands : Stands config in0 out0 in1 out1 unsent stream p) → HasNoBlock stream.rest → length piece ≤ 16384 → Writes out1 out2 unsent →
-    HasWritten config out0 out2 (concat stands.blocks ++ (stream.rest ++ piece)) [] p
-written_fed config in0 in1 out0 out1 out2 unsent stream p piece stands no_block few writes =
-    subst (λ (input : List ℕ). HasWritten config out0 out2 input [] p) (append_assoc (concat stands.blocks) stream.rest piece)
-    (written_read config out0 out2 (concat stands.blocks ++ stream.rest) piece p
-    (stands_read config in0 in1 out0 out1 unsent stream p stands no_block)
-    (written_all config out0 out1 out2 _ unsent p stands.written writes) few)
+written_fed : (start now : Playing) (out : Output) (stream : Stream) (piece : List ℕ) → (stands : Stands start now stream) →
+    HasNoBlock stream.rest → length piece ≤ 16384 → Writes now.output out now.unsent →
+    HasWritten start.config start.output out (concat stands.blocks ++ (stream.rest ++ piece)) [] (play_of now)
+written_fed start now out stream piece stands no_block few writes =
+    subst (λ (input : List ℕ). HasWritten start.config start.output out input [] (play_of now))
+    (append_assoc (concat stands.blocks) stream.rest piece)
+    (written_read start.config start.output out (concat stands.blocks ++ stream.rest) piece (play_of now)
+    (stands_read start now stream stands no_block)
+    (written_all start now out _ stands.written writes) few)
 
 -- what was read, with a piece more
-reads_fed : (config : Configuration) (in0 in1 in2 : Input) (out0 out1 : Output) (unsent : List ℕ) (stream : Stream) (p : Play)
-    (piece : List ℕ) →
-    (stands : Stands config in0 out0 in1 out1 unsent stream p) → Reads in1 in2 piece →
-    Reads in0 in2 (concat stands.blocks ++ (stream.rest ++ piece))
-reads_fed config in0 in1 in2 out0 out1 unsent stream p piece stands reads =
-    subst (λ (xs : List ℕ). Reads in0 in2 xs) (append_assoc (concat stands.blocks) stream.rest piece)
-    (reads_both in0 in1 in2 _ piece stands.reads reads)
+reads_fed : (start now : Playing) (stream : Stream) (in1 : Input) (piece : List ℕ) → (stands : Stands start now stream) →
+    Reads now.input in1 piece → Reads start.input in1 (concat stands.blocks ++ (stream.rest ++ piece))
+reads_fed start now stream in1 piece stands reads =
+    subst (λ (xs : List ℕ). Reads start.input in1 xs) (append_assoc (concat stands.blocks) stream.rest piece)
+    (reads_both start.input now.input in1 _ piece stands.reads reads)
+
+-- all was written, and the play is the same
+sent_fed : (start old new : Playing) (input : List ℕ) → play_of new ≡ play_of old → new.unsent ≡ [] →
+    HasWritten start.config start.output new.output input [] (play_of old) → HasSent start new input
+sent_fed start old new input same none written =
+    subst (λ (bytes : List ℕ). HasWritten start.config start.output new.output input bytes (play_of new)) (sym none)
+    (subst (λ (p : Play). HasWritten start.config start.output new.output input [] p) (sym same) written)
 
 -- memory was wanting for what was read, or a write before that failed
-pub stops_filling : (config : Configuration) (in0 in1 in2 : Input) (out0 out1 out2 : Output) (unsent left : List ℕ)
-    (stream mid new : Stream) (stop : Stop) (p : Play) →
-    Stands config in0 out0 in1 out1 unsent stream p → HasNoBlock stream.rest → Fills in1 in2 mid new (Err stop) →
-    WritesFirst {A = Filled} out1 out2 unsent left (Err stop) →
-    Stops config in0 out0 in2 out2 left stop p
-stops_filling config in0 in1 in2 out0 out1 out2 unsent left stream mid new (Over end) p stands no_block fills writes = absurd fills
-stops_filling config in0 in1 in2 out0 out1 out2 unsent left stream mid new OutOfMemory p stands no_block fills writes =
-    stops_short config in0 in2 out0 out2 left OutOfMemory p stands.blocks (stream.rest ++ fills.0) stands.are_blocks
+pub stops_filling : (start old new : Playing) (before mid after : Stream) (stop : Stop) → Stands start old before → HasNoBlock before.rest →
+    Fills old.input new.input mid after (Err stop) → WritesFirst {A = Filled} old.output new.output old.unsent new.unsent (Err stop) →
+    play_of new ≡ play_of old →
+    Stops start new stop
+stops_filling start old new before mid after (Over end) stands no_block fills writes same = absurd fills
+stops_filling start old new before mid after OutOfMemory stands no_block fills writes same =
+    stops_short start new OutOfMemory stands.blocks (before.rest ++ fills.0) stands.are_blocks
     (record {
-      reads =
-          reads_fed config in0 in1 in2 out0 out1 unsent stream p fills.0 stands fills.2;
+      reads = reads_fed start old before new.input fills.0 stands fills.2;
       faults = fills.3 ∙ stands.read_faults;
     })
-    (begins_is p (after_commands (after_opening config) stands.blocks) stands.play_is)
-    (subst (λ (bytes : List ℕ). HasWritten config out0 out2 (concat stands.blocks ++ (stream.rest ++ fills.0)) bytes p) (sym writes.1)
-    (written_fed config in0 in1 out0 out1 out2 unsent stream p fills.0 stands no_block fills.1 writes.0))
-stops_filling config in0 in1 in2 out0 out1 out2 unsent left stream mid new WriteFault p stands no_block fills writes =
-    stops_short config in0 in2 out0 out2 left WriteFault p stands.blocks stream.rest stands.are_blocks
+    (begins_is (play_of new) (after_commands (after_opening start.config) stands.blocks) (same ∙ stands.play_is))
+    (sent_fed start old new _ same writes.1 (written_fed start old new.output before fills.0 stands no_block fills.1 writes.0))
+stops_filling start old new before mid after WriteFault stands no_block fills writes same =
+    stops_short start new WriteFault stands.blocks before.rest stands.are_blocks
     (record {
-      reads = subst (λ (i : Input). Reads in0 i (concat stands.blocks ++ stream.rest)) (sym fills.0) stands.reads;
+      reads = subst (λ (i : Input). Reads start.input i (concat stands.blocks ++ before.rest)) (sym fills.0) stands.reads;
       faults = ap (λ (i : Input). i.faults) fills.0 ∙ stands.read_faults;
     })
-    (begins_is p (after_commands (after_opening config) stands.blocks) stands.play_is)
+    (begins_is (play_of new) (after_commands (after_opening start.config) stands.blocks) (same ∙ stands.play_is))
     (record {
-      mid = out1;
-      unsent = unsent;
-      written = stands.written;
+      mid = old.output;
+      unsent = old.unsent;
+      written =
+          subst (λ (p : Play). HasWritten start.config start.output old.output (concat stands.blocks ++ before.rest) old.unsent p)
+          (sym same) stands.written;
       stopped = writes;
-      point = before_read (stands_read config in0 in1 out0 out1 unsent stream p stands no_block);
+      point = before_read (same ∙ stands_read start old before stands no_block);
     })
 
 -- what was written stands behind a block that was handed out
-written_behind : (config : Configuration) (in0 in1 : Input) (out0 out1 : Output) (unsent : List ℕ) (old new : Stream) (p mid : Play)
-    (block : List ℕ) →
-    (stands : Stands config in0 out0 in1 out1 unsent old p) → HandsOut old new block → output_of mid ≡ output_of p →
-    HasWritten config out0 out1 (concat (stands.blocks ++ block ∷ []) ++ new.rest) unsent mid
-written_behind config in0 in1 out0 out1 unsent old new p mid block stands hands_out output =
-    written_then config out0 out1 out1 _ unsent unsent p mid
-    (subst (λ (input : List ℕ). HasWritten config out0 out1 input unsent p)
-    (snoc_whole stands.blocks block new.rest old.rest hands_out.rest) stands.written)
-    (writing_none out1 unsent p mid output)
+written_behind : (start old mid : Playing) (before after : Stream) (block : List ℕ) → (stands : Stands start old before) →
+    HandsOut before after block → output_of (play_of mid) ≡ output_of (play_of old) → OnlyPlays old mid →
+    HasSent start mid (concat (stands.blocks ++ block ∷ []) ++ after.rest)
+written_behind start old mid before after block stands hands_out output only =
+    written_then start old mid _
+    (subst (λ (input : List ℕ). HasSent start old input) (snoc_whole stands.blocks block after.rest before.rest hands_out.rest)
+    stands.written)
+    (writing_none old mid output only)
 
 -- what a block gives stopped
-stops_behind : (config : Configuration) (in0 in1 : Input) (out0 out1 out2 : Output) (unsent left : List ℕ) (stop : Stop) (old new : Stream)
-    (p later : Play) (block : List ℕ) →
-    (stands : Stands config in0 out0 in1 out1 unsent old p) → HandsOut old new block → takes_commands p ≡ true →
-    Halts stop later (after_act (Command 1 block) p) →
-    StoppedBy config out0 out2 (concat (stands.blocks ++ block ∷ []) ++ new.rest) false left stop later →
-    Stops config in0 out0 in1 out2 left stop later
-stops_behind config in0 in1 out0 out1 out2 unsent left stop old new p later block stands hands_out reading halts stopped =
-    stops_short config in0 in1 out0 out2 left stop later (stands.blocks ++ block ∷ []) new.rest
+pub stops_behind : (start old new : Playing) (stop : Stop) (before after : Stream) (block : List ℕ) → (stands : Stands start old before) →
+    HandsOut before after block → takes_commands (play_of old) ≡ true → new.input ≡ old.input →
+    Halts stop (play_of new) (after_act (Command 1 block) (play_of old)) →
+    StoppedBy start new (concat (stands.blocks ++ block ∷ []) ++ after.rest) false stop → Stops start new stop
+stops_behind start old new stop before after block stands hands_out reading same halts stopped =
+    stops_short start new stop (stands.blocks ++ block ∷ []) after.rest
     (AllByRecursion-append IsBlock stands.blocks (block ∷ []) stands.are_blocks (hands_out.is_block, tt))
-    (record {
-      reads = subst (λ (xs : List ℕ). Reads in0 in1 xs) (snoc_whole stands.blocks block new.rest old.rest hands_out.rest) stands.reads;
+    (rw same (record {
+      reads = subst (λ (xs : List ℕ). Reads start.input old.input xs)
+          (snoc_whole stands.blocks block after.rest before.rest hands_out.rest) stands.reads;
       faults = stands.read_faults;
-    })
-    (subst (λ (q : Play). Halts stop later q) (snoc_play config p stands.blocks block stands.play_is reading) halts) stopped
+    }))
+    (subst (λ (q : Play). Halts stop (play_of new) q)
+    (snoc_play start.config (play_of old) stands.blocks block stands.play_is reading) halts)
+    stopped
 
 -- the command of a block was not entered
-pub stops_command : (config : Configuration) (in0 in1 : Input) (out0 out1 : Output) (unsent : List ℕ) (stop : Stop) (old new : Stream)
-    (p later : Play) (block : List ℕ) →
-    Stands config in0 out0 in1 out1 unsent old p → HandsOut old new block → takes_commands p ≡ true →
-    Halts stop later (after_trying_act (Command 1 block) p) → output_of later ≡ output_of p → stop ≢ WriteFault →
-    Stops config in0 out0 in1 out1 unsent stop later
-stops_command config in0 in1 out0 out1 unsent stop old new p later block stands hands_out reading halts output unwritten =
-    stops_behind config in0 in1 out0 out1 out1 unsent unsent stop old new p later block stands hands_out reading
-    (halts_on after_following goes_followed stop later (after_trying_act (Command 1 block) p) halts)
-    (stopped_unwritten config out0 out1 _ false unsent stop later unwritten
-    (written_behind config in0 in1 out0 out1 unsent old new p later block stands hands_out output))
+pub stops_command : (start old new : Playing) (stop : Stop) (before after : Stream) (block : List ℕ) →
+    Stands start old before → HandsOut before after block → takes_commands (play_of old) ≡ true →
+    Halts stop (play_of new) (after_trying_act (Command 1 block) (play_of old)) →
+    output_of (play_of new) ≡ output_of (play_of old) → OnlyPlays old new → stop ≢ WriteFault → Stops start new stop
+stops_command start old new stop before after block stands hands_out reading halts output only unwritten =
+    stops_behind start old new stop before after block stands hands_out reading only.input
+    (halts_on after_following goes_followed stop (play_of new) (after_trying_act (Command 1 block) (play_of old)) halts)
+    (stopped_unwritten start new _ false stop unwritten (written_behind start old new before after block stands hands_out output only))
 
 -- or not all that comes of it
-pub stops_following : (config : Configuration) (in0 in1 : Input) (out0 out1 out2 : Output) (unsent left : List ℕ) (stop : Stop)
-    (old new : Stream) (p mid later : Play) (block : List ℕ) →
-    Stands config in0 out0 in1 out1 unsent old p → HandsOut old new block → takes_commands p ≡ true → mid ≡ after_trying_act
-    (Command 1 block) p →
-    output_of mid ≡ output_of p →
-    Halts stop later (after_following mid) → Sends {A = Unit {0}} HasFilled out1 out2 unsent left mid later (Err stop) →
-    Stops config in0 out0 in1 out2 left stop later
-stops_following config in0 in1 out0 out1 out2 unsent left stop old new p mid later block stands hands_out reading mid_is output halts sends
-    =
-    stops_behind config in0 in1 out0 out1 out2 unsent left stop old new p later block stands hands_out reading
-    (subst (λ (q : Play). Halts stop later (after_following q)) mid_is halts)
-    (stopped_sends config HasFilled out0 out1 out2 _ false unsent left stop mid later
-    (written_behind config in0 in1 out0 out1 unsent old new p mid block stands hands_out output) sends
-    (λ bytes filled. behind_frame filled))
+pub stops_following : (start old mid new : Playing) (stop : Stop) (before after : Stream) (block : List ℕ) →
+    Stands start old before → HandsOut before after block → takes_commands (play_of old) ≡ true →
+    play_of mid ≡ after_trying_act (Command 1 block) (play_of old) → output_of (play_of mid) ≡ output_of (play_of old) → OnlyPlays old mid →
+    Halts stop (play_of new) (after_following (play_of mid)) → Sends {A = Unit {0}} HasFilled mid new (Err stop) → ReadsNothing mid new →
+    Stops start new stop
+stops_following start old mid new stop before after block stands hands_out reading mid_is output only halts sends nothing =
+    stops_behind start old new stop before after block stands hands_out reading (nothing.input ∙ only.input)
+    (subst (λ (q : Play). Halts stop (play_of new) (after_following q)) mid_is halts)
+    (stopped_sends HasFilled start mid new _ false stop
+    (written_behind start old mid before after block stands hands_out output only) sends (λ bytes filled. behind_frame filled))
 
 -- ---- how it goes on
 
--- the connection came, and nothing was read yet
-pub stands_first : (config : Configuration) (in0 in1 : Input) (out0 out1 : Output) (unsent : List ℕ) (stream : Stream) (mid p : Play) →
-    in1 ≡ in0 → stream ≡ new_stream → mid ≡ after_trying_act Arrive (new_play config) → p ≡ after_following mid → HasWritten config out0
-    out1 [] unsent p →
-    Stands config in0 out0 in1 out1 unsent stream p
-stands_first config in0 in1 out0 out1 unsent stream mid p in_is stream_is mid_is p_is written = record {
-  blocks = [];
-  are_blocks = tt;
-  reads = rw (in_is, stream_is) (reads_nothing in0);
-  read_faults = ap (λ i. i.faults) in_is;
-  play_is = p_is ∙ ap after_following mid_is;
-  written = subst (λ (s : Stream). HasWritten config out0 out1 s.rest unsent p) (sym stream_is) written;
-}
-
 -- a block was answered
-pub goes_on_behind : (config : Configuration) (in0 in1 : Input) (out0 out1 out2 : Output) (unsent left : List ℕ) (old new : Stream)
-    (p mid later : Play) (block : List ℕ) →
-    Stands config in0 out0 in1 out1 unsent old p → HandsOut old new block → takes_commands p ≡ true → mid ≡ after_trying_act
-    (Command 1 block) p →
-    output_of mid ≡ output_of p →
-    later ≡ after_following mid → Writing out1 out2 unsent left mid later → Stands config in0 out0 in1 out2 left new later
-goes_on_behind config in0 in1 out0 out1 out2 unsent left old new p mid later block stands hands_out reading mid_is output later_is writing =
-    record {
+pub goes_on_behind : (start old mid new : Playing) (before after : Stream) (block : List ℕ) →
+    Stands start old before → HandsOut before after block → takes_commands (play_of old) ≡ true →
+    play_of mid ≡ after_trying_act (Command 1 block) (play_of old) → output_of (play_of mid) ≡ output_of (play_of old) → OnlyPlays old mid →
+    play_of new ≡ after_following (play_of mid) → Writing mid new → ReadsNothing mid new → Stands start new after
+goes_on_behind start old mid new before after block stands hands_out reading mid_is output only new_is writing nothing =
+    let same : new.input ≡ old.input = nothing.input ∙ only.input in record {
       blocks = stands.blocks ++ block ∷ [];
       are_blocks = AllByRecursion-append IsBlock stands.blocks (block ∷ []) stands.are_blocks (hands_out.is_block, tt);
-      reads = subst (λ (xs : List ℕ). Reads in0 in1 xs) (snoc_whole stands.blocks block new.rest old.rest hands_out.rest) stands.reads;
-      read_faults = stands.read_faults;
-      play_is = later_is ∙ ap after_following mid_is ∙ snoc_play config p stands.blocks block stands.play_is reading;
+      reads = rw same
+          (subst (λ (xs : List ℕ). Reads start.input old.input xs)
+          (snoc_whole stands.blocks block after.rest before.rest hands_out.rest) stands.reads);
+      read_faults = ap (λ i. i.faults) same ∙ stands.read_faults;
+      play_is = new_is ∙ ap after_following mid_is ∙ snoc_play start.config (play_of old) stands.blocks block stands.play_is reading;
       written =
-          written_then config out0 out1 out2 _ unsent left mid later
-          (written_behind config in0 in1 out0 out1 unsent old new p mid block stands hands_out output) writing;
+          written_then start mid new _ (written_behind start old mid before after block stands hands_out output only) writing;
     }
 
 -- a piece was read, once all was written
-pub goes_on_fed : (config : Configuration) (in0 in1 in2 : Input) (out0 out1 out2 : Output) (unsent left : List ℕ) (old mid new : Stream)
-    (p : Play) →
-    Stands config in0 out0 in1 out1 unsent old p → HasNoBlock old.rest → mid.rest ≡ old.rest → Fills in1 in2 mid new (Ok More) →
-    WritesFirst {A = Filled} out1 out2 unsent left (Ok More) →
-    Stands config in0 out0 in2 out2 left new p
-goes_on_fed config in0 in1 in2 out0 out1 out2 unsent left old mid new p stands no_block same fills writes =
+pub goes_on_fed : (start old new : Playing) (before mid after : Stream) → Stands start old before → HasNoBlock before.rest →
+    mid.rest ≡ before.rest → Fills old.input new.input mid after (Ok More) →
+    WritesFirst {A = Filled} old.output new.output old.unsent new.unsent (Ok More) → play_of new ≡ play_of old → Stands start new after
+goes_on_fed start old new before mid after stands no_block rest_same fills writes same =
     let piece = fills.0 in
-    let rest : new.rest ≡ old.rest ++ piece = ap (λ (s : Stream). s.rest) fills.5 ∙ ap (λ xs. xs ++ piece) same in record {
+    let rest : after.rest ≡ before.rest ++ piece = ap (λ (s : Stream). s.rest) fills.5 ∙ ap (λ xs. xs ++ piece) rest_same in record {
       blocks = stands.blocks;
       are_blocks = stands.are_blocks;
-      reads = subst (λ (xs : List ℕ). Reads in0 in2 (concat stands.blocks ++ xs)) (sym rest)
-          (reads_fed config in0 in1 in2 out0 out1 unsent old p piece stands fills.3);
+      reads = subst (λ (xs : List ℕ). Reads start.input new.input (concat stands.blocks ++ xs)) (sym rest)
+          (reads_fed start old before new.input piece stands fills.3);
       read_faults = fills.4 ∙ stands.read_faults;
-      play_is = stands.play_is;
+      play_is = same ∙ stands.play_is;
       written =
-          subst (λ (xs : List ℕ). HasWritten config out0 out2 (concat stands.blocks ++ xs) left p) (sym rest)
-          (subst (λ (bytes : List ℕ). HasWritten config out0 out2 (concat stands.blocks ++ (old.rest ++ piece)) bytes p) (sym writes.1)
-          (written_fed config in0 in1 out0 out1 out2 unsent old p piece stands no_block fills.2 writes.0));
+          subst (λ (xs : List ℕ). HasSent start new (concat stands.blocks ++ xs)) (sym rest)
+          (sent_fed start old new _ same writes.1 (written_fed start old new.output before piece stands no_block fills.2 writes.0));
     }
 
 -- ---- how it ends
@@ -375,11 +354,10 @@ farewell_told (Some way.AuthRefused) end is = let same : AuthRefused ≡ end = c
 farewell_told (Some way.EndOfInput) end is = absurd (cc)
 
 -- the connection reads no further command
-pub ends_by_farewell : (config : Configuration) (in0 in1 : Input) (out0 out1 : Output) (unsent : List ℕ) (end : End) (stream : Stream)
-    (p : Play) →
-    Stands config in0 out0 in1 out1 unsent stream p → AreOwed (switch_of p) → farewell p ≡ Some end →
-    Ends config in0 out0 in1 out1 unsent end p
-ends_by_farewell config in0 in1 out0 out1 unsent end stream p stands sound last =
+pub ends_by_farewell : (start now : Playing) (end : End) (stream : Stream) → Stands start now stream → AreOwed (switch_of (play_of now)) →
+    farewell (play_of now) ≡ Some end → Ends start now end
+ends_by_farewell start now end stream stands sound last =
+    let p = play_of now in
     let told = farewell_told (parting_at (switch_of p) 1) end last in record {
       input = concat stands.blocks ++ stream.rest;
       read_failed = false;
@@ -388,7 +366,7 @@ ends_by_farewell config in0 in1 out0 out1 unsent end stream p stands sound last 
           sym (after_commands-none p (blocks_of stream.rest)
           (ap (λ b. b && not (owes (switch_of p) 1)) (reads_no_more (switch_of p) end sound last)))
           ∙ ap (λ q. after_commands q (blocks_of stream.rest)) stands.play_is
-          ∙ after_conversing-append config stands.blocks stream.rest stands.are_blocks;
+          ∙ after_conversing-append start.config stands.blocks stream.rest stands.are_blocks;
       written = stands.written;
       end_is = sym (ap (λ last. end_behind last (fault_of (rest_of (concat stands.blocks ++ stream.rest))) false) last);
       told = told.0;
@@ -396,37 +374,29 @@ ends_by_farewell config in0 in1 out0 out1 unsent end stream p stands sound last 
     }
 
 -- no block is in front, and none will be read
-pub ends_between : (config : Configuration) (in0 in1 in2 : Input) (out0 out1 out2 : Output) (unsent left : List ℕ) (end : End)
-    (old : Stream) (p : Play) (read_failed : Bool) →
-    Stands config in0 out0 in1 out1 unsent old p → HasNoBlock old.rest → farewell p ≡ None → Reads in1 in2 [] →
-    in2.faults ≡ (if read_failed then raised in1.faults else in1.faults) →
-    Writing out1 out2 unsent left p p → end ≡ end_behind None (fault_of old.rest) read_failed → is_told end ≡ true →
-    (end ≡ Eof → IsAtEnd in2.left) →
-    Ends config in0 out0 in2 out2 left end p
-ends_between config in0 in1 in2 out0 out1 out2 unsent left end old p read_failed stands no_block none reads faults writing end_is told
-    at_end =
-    let input = concat stands.blocks ++ old.rest in
-    let rest : fault_of old.rest ≡ fault_of (rest_of input) =
-    ap fault_of (sym (rest_of-append stands.blocks old.rest stands.are_blocks ∙ rest_of-no_block old.rest no_block)) in record {
+pub ends_between : (start old new : Playing) (end : End) (stream : Stream) (read_failed : Bool) →
+    Stands start old stream → HasNoBlock stream.rest → farewell (play_of old) ≡ None → Reads old.input new.input [] →
+    new.input.faults ≡ (if read_failed then raised old.input.faults else old.input.faults) →
+    Writing old new → play_of new ≡ play_of old → end ≡ end_behind None (fault_of stream.rest) read_failed → is_told end ≡ true →
+    (end ≡ Eof → IsAtEnd new.input.left) → Ends start new end
+ends_between start old new end stream read_failed stands no_block none reads faults writing same end_is told at_end =
+    let input = concat stands.blocks ++ stream.rest in
+    let rest : fault_of stream.rest ≡ fault_of (rest_of input) =
+    ap fault_of (sym (rest_of-append stands.blocks stream.rest stands.are_blocks ∙ rest_of-no_block stream.rest no_block)) in record {
       input = input;
       read_failed = read_failed;
       has_read = record {
-        reads = subst (λ (xs : List ℕ). Reads in0 in2 xs) (append-nil input) (reads_both in0 in1 in2 _ [] stands.reads reads);
+        reads = subst (λ (xs : List ℕ). Reads start.input new.input xs) (append-nil input)
+            (reads_both start.input old.input new.input _ [] stands.reads reads);
         faults = faults ∙ ap (λ n. if read_failed then raised n else n) stands.read_faults;
       };
-      play_is = stands_read config in0 in1 out0 out1 unsent old p stands no_block;
-      written = written_then config out0 out1 out2 input unsent left p p stands.written writing;
+      play_is = same ∙ stands_read start old stream stands no_block;
+      written = written_then start old new input stands.written writing;
       end_is = end_is ∙ ap (λ fault. end_behind None fault read_failed) rest
-          ∙ ap (λ last. end_behind last (fault_of (rest_of input)) read_failed) (sym none);
+          ∙ ap (λ last. end_behind last (fault_of (rest_of input)) read_failed) (sym (ap farewell same ∙ none));
       told = told;
       at_end = at_end;
     }
-
--- all that was unsent was written before a read
-pub writes_first : (out0 out1 : Output) (unsent left : List ℕ) (p : Play) → Writes out0 out1 unsent → left ≡ [] →
-    Writing out0 out1 unsent left p p
-writes_first out0 out1 unsent left p writes none =
-    subst (λ (bytes : List ℕ). Writing out0 out1 unsent bytes p p) (sym none) (writing_all out0 out1 unsent p writes)
 
 -- a read that failed read nothing
 pub reads_failed : (in0 : Input) → Reads in0 (record in0 { faults = raised in0.faults }) []
@@ -456,103 +426,127 @@ falls_fed p old new piece no_block well same some =
 -- ---- the end
 
 -- a connection that came to its end was closed
-pub concludes : (config : Configuration) (in0 in1 : Input) (out0 out1 out2 : Output) (unsent left : List ℕ) (end : End) (p later : Play) →
-    Ends config in0 out0 in1 out1 unsent end p → is_over later ≡ false → later ≡ after_closing p → Writing out1 out2 unsent left p later →
-    left ≡ [] →
-    Concludes config in0 out0 in1 out2 end later
-concludes config in0 in1 out0 out1 out2 unsent left end p later ends goes_on later_is writing none =
+pub concludes : (start old new : Playing) (end : End) → Ends start old end → play_of new ≡ after_closing (play_of old) → Writing old new →
+    ReadsNothing old new → new.unsent ≡ [] → Concludes start new end
+concludes start old new end ends new_is writing nothing none =
+    let p = play_of old in
+    let later = play_of new in
     let same = ap after_closing ends.play_is in
-    let whole : with_end end later ≡ played config ends.input ends.read_failed =
+    let whole : with_end end later ≡ played start.config ends.input ends.read_failed =
     ap (λ how. with_end how later)
     (ends.end_is ∙ ap (λ q. end_behind (farewell q) (fault_of (rest_of ends.input)) ends.read_failed) ends.play_is)
-    ∙ ap (with_end (end_behind (farewell (after_conversing config ends.input)) (fault_of (rest_of ends.input)) ends.read_failed))
-    (later_is ∙ same)
-    ∙ played_is config ends.input ends.read_failed in record {
+    ∙ ap (with_end (end_behind (farewell (after_conversing start.config ends.input)) (fault_of (rest_of ends.input)) ends.read_failed))
+    (new_is ∙ same)
+    ∙ played_is start.config ends.input ends.read_failed in record {
       input = ends.input;
       read_failed = ends.read_failed;
-      has_read = ends.has_read;
-      play_is = sym whole ∙ ap (λ b. cond b later (record later { end = Some end })) goes_on;
+      has_read = rw nothing.input ends.has_read;
+      play_is = sym whole;
       written =
-          written_whole config out0 out2 ends.input left later
-          (written_then config out0 out1 out2 ends.input unsent left p later ends.written writing) none;
+          written_whole start.config start.output new.output ends.input new.unsent later
+          (written_then start old new ends.input ends.written writing) none;
       told = ends.told;
-      at_end = ends.at_end;
+      at_end = rw nothing.input ends.at_end;
     }
 
 -- the closing of a connection stopped
-pub stops_closing : (config : Configuration) (in0 in1 : Input) (out0 out1 out2 : Output) (unsent left : List ℕ) (end : End) (stop : Stop)
-    (p later : Play) →
-    Ends config in0 out0 in1 out1 unsent end p → Halts stop later (after_closing p) →
-    Sends {A = Unit {0}} (MayClose p) out1 out2 unsent left p later (Err stop) →
-    Stops config in0 out0 in1 out2 left stop later
-stops_closing config in0 in1 out0 out1 out2 unsent left end stop p later ends halts sends =
+pub stops_closing : (start old new : Playing) (end : End) (stop : Stop) → Ends start old end →
+    Halts stop (play_of new) (after_closing (play_of old)) → Sends {A = Unit {0}} (MayClose (play_of old)) old new (Err stop) →
+    ReadsNothing old new → Stops start new stop
+stops_closing start old new end stop ends halts sends nothing =
+    let p = play_of old in
+    let later = play_of new in
     let how = end_behind (farewell p) (fault_of (rest_of ends.input)) ends.read_failed in
     let whole = halts_on (with_end how) (goes_ended how) stop later (after_closing p) halts in record {
       input = ends.input;
       read_failed = ends.read_failed;
-      has_read = ends.has_read;
+      has_read = rw nothing.input ends.has_read;
       halts =
           subst (λ (q : Play). Halts stop later q)
-          (ap (concluded ends.input ends.read_failed) ends.play_is ∙ played_is config ends.input ends.read_failed) whole;
+          (ap (concluded ends.input ends.read_failed) ends.play_is ∙ played_is start.config ends.input ends.read_failed) whole;
       stopped =
-          stopped_sends config (MayClose p) out0 out1 out2 ends.input ends.read_failed unsent left stop p later ends.written sends
-          (λ bytes may. may_close config ends.input ends.read_failed bytes p later ends.play_is may);
+          stopped_sends (MayClose p) start old new ends.input ends.read_failed stop ends.written sends
+          (λ bytes may. may_close start.config ends.input ends.read_failed bytes p later ends.play_is may);
     }
 
 -- it stopped as it came
-stops_first : (config : Configuration) (in0 in1 : Input) (out0 out1 : Output) (unsent : List ℕ) (stop : Stop) (p : Play) →
-    in1 ≡ in0 → Halts stop p (after_opening config) → StoppedBy config out0 out1 [] false unsent stop p →
-    Stops config in0 out0 in1 out1 unsent stop p
-stops_first config in0 in1 out0 out1 unsent stop p in_is halts stopped =
-    stops_short config in0 in1 out0 out1 unsent stop p [] [] tt
-    (record { reads = rw in_is (reads_nothing in0); faults = ap (λ i. i.faults) in_is }) halts stopped
+stops_first : (start now : Playing) (stop : Stop) → now.input ≡ start.input → Halts stop (play_of now) (after_opening start.config) →
+    StoppedBy start now [] false stop → Stops start now stop
+stops_first start now stop same halts stopped =
+    stops_short start now stop [] [] tt
+    (record { reads = rw same (reads_nothing start.input); faults = ap (λ i. i.faults) same }) halts stopped
+
+-- a play before any entry
+new_is : (start : Playing) → IsNew start → play_of start ≡ new_play start.config
+new_is start is = rw (is.journal, is.clock) refl
 
 -- it came, and nothing was written yet
-pub came : (config : Configuration) (first mid : Play) → first ≡ new_play config → mid ≡ after_trying_act Arrive first →
-    mid ≡ after_trying_act Arrive (new_play config)
-came config first mid first_is mid_is = mid_is ∙ ap (after_trying_act Arrive) first_is
+pub record Comes (start mid : Playing) : Type 0 where
+  pub play_is : play_of mid ≡ after_trying_act Arrive (new_play start.config)
+  pub written : HasSent start mid []
+  pub input : mid.input ≡ start.input
 
-pub written_came : (config : Configuration) (out0 : Output) (unsent : List ℕ) (first mid : Play) → first ≡ new_play config →
-    output_of mid ≡ output_of first → unsent ≡ [] → HasWritten config out0 out0 [] unsent mid
-written_came config out0 unsent first mid first_is output none = record {
+written_came : (start mid : Playing) → IsNew start → output_of (play_of mid) ≡ output_of (play_of start) → OnlyPlays start mid →
+    HasSent start mid []
+written_came start mid is output only = record {
   sent = [];
-  split = output ∙ ap output_of first_is ∙ sym none;
-  written = writes_nothing out0;
+  split = output ∙ ap output_of (new_is start is) ∙ sym (only.unsent ∙ is.unsent);
+  written = subst (λ (out : Output). Writes start.output out []) (sym only.output) (writes_nothing start.output);
   prompt = inl refl;
 }
 
+pub came : (start mid : Playing) → IsNew start → play_of mid ≡ after_trying_act Arrive (play_of start) →
+    output_of (play_of mid) ≡ output_of (play_of start) → OnlyPlays start mid → Comes start mid
+came start mid is mid_is output only = record {
+  play_is = mid_is ∙ ap (after_trying_act Arrive) (new_is start is);
+  written = written_came start mid is output only;
+  input = only.input;
+}
+
 -- its coming was not entered
-pub stops_coming : (config : Configuration) (in0 : Input) (out0 : Output) (unsent : List ℕ) (stop : Stop) (first p : Play) →
-    first ≡ new_play config → Halts stop p (after_trying_act Arrive first) → output_of p ≡ output_of first → unsent ≡ [] → stop ≢ WriteFault
-    →
-    Stops config in0 out0 in0 out0 unsent stop p
-stops_coming config in0 out0 unsent stop first p first_is halts output none unwritten =
-    let halts_begun = subst (λ (q : Play). Halts stop p (after_trying_act Arrive q)) first_is halts in
-    stops_first config in0 in0 out0 out0 unsent stop p refl
-    (halts_on after_following goes_followed stop p (after_trying_act Arrive (new_play config)) halts_begun)
-    (stopped_unwritten config out0 out0 [] false unsent stop p unwritten (written_came config out0 unsent first p first_is output none))
+pub stops_coming : (start now : Playing) (stop : Stop) → IsNew start → Halts stop (play_of now) (after_trying_act Arrive (play_of start)) →
+    output_of (play_of now) ≡ output_of (play_of start) → OnlyPlays start now → stop ≢ WriteFault → Stops start now stop
+stops_coming start now stop is halts output only unwritten =
+    let begun = subst (λ (q : Play). Halts stop (play_of now) (after_trying_act Arrive q)) (new_is start is) halts in
+    stops_first start now stop only.input
+    (halts_on after_following goes_followed stop (play_of now) (after_trying_act Arrive (new_play start.config)) begun)
+    (stopped_unwritten start now [] false stop unwritten (written_came start now is output only))
 
 -- what comes of that stopped
-pub stops_opening : (config : Configuration) (in0 in1 : Input) (out0 out1 : Output) (unsent left : List ℕ) (stop : Stop) (mid p : Play) →
-    mid ≡ after_trying_act Arrive (new_play config) → in1 ≡ in0 → Halts stop p (after_following mid) → HasWritten config out0 out0 [] unsent
-    mid →
-    Sends {A = Unit {0}} HasFilled out0 out1 unsent left mid p (Err stop) → Stops config in0 out0 in1 out1 left stop p
-stops_opening config in0 in1 out0 out1 unsent left stop mid p mid_is in_is halts written sends =
-    stops_first config in0 in1 out0 out1 left stop p in_is (subst (λ (q : Play). Halts stop p (after_following q)) mid_is halts)
-    (stopped_sends config HasFilled out0 out0 out1 [] false unsent left stop mid p written sends (λ bytes filled. behind_frame filled))
+pub stops_opening : (start mid now : Playing) (stop : Stop) → Comes start mid → Halts stop (play_of now) (after_following (play_of mid)) →
+    Sends {A = Unit {0}} HasFilled mid now (Err stop) → ReadsNothing mid now → Stops start now stop
+stops_opening start mid now stop comes halts sends nothing =
+    stops_first start now stop (nothing.input ∙ comes.input)
+    (subst (λ (q : Play). Halts stop (play_of now) (after_following q)) comes.play_is halts)
+    (stopped_sends HasFilled start mid now [] false stop comes.written sends (λ bytes filled. behind_frame filled))
 
 -- memory was wanting before anything was read
-pub stops_opened : (config : Configuration) (in0 in1 : Input) (out0 out1 : Output) (unsent : List ℕ) (mid p : Play) →
-    in1 ≡ in0 → mid ≡ after_trying_act Arrive (new_play config) → p ≡ after_following mid → HasWritten config out0 out1 [] unsent p →
-    Stops config in0 out0 in1 out1 unsent OutOfMemory p
-stops_opened config in0 in1 out0 out1 unsent mid p in_is mid_is p_is written =
-    stops_first config in0 in1 out0 out1 unsent OutOfMemory p in_is (begins_is p (after_opening config) (p_is ∙ ap after_following mid_is))
-    written
+pub stops_opened : (start mid now : Playing) → Comes start mid → play_of now ≡ after_following (play_of mid) → Writing mid now →
+    ReadsNothing mid now → Stops start now OutOfMemory
+stops_opened start mid now comes now_is writing nothing =
+    stops_first start now OutOfMemory (nothing.input ∙ comes.input)
+    (begins_is (play_of now) (after_opening start.config) (now_is ∙ ap after_following comes.play_is))
+    (written_then start mid now [] comes.written writing)
+
+-- the connection came, and nothing was read yet
+pub stands_first : (start mid now : Playing) (stream : Stream) → Comes start mid → play_of now ≡ after_following (play_of mid) →
+    Writing mid now → ReadsNothing mid now → stream ≡ new_stream → Stands start now stream
+stands_first start mid now stream comes now_is writing nothing stream_is =
+    let same : now.input ≡ start.input = nothing.input ∙ comes.input in record {
+      blocks = [];
+      are_blocks = tt;
+      reads = rw (same, stream_is) (reads_nothing start.input);
+      read_faults = ap (λ i. i.faults) same;
+      play_is = now_is ∙ ap after_following comes.play_is;
+      written = subst (λ (s : Stream). HasSent start now s.rest) (sym stream_is) (written_then start mid now [] comes.written writing);
+    }
 
 -- the end of the input was not entered
-pub input_ended_stops : (p later : Play) (stop : Stop) → is_over p ≡ false → reads_on p ≡ true →
-    Enters (Close 1 EndOfInput) p later (Err stop) → Halts stop later (after_input_end p)
-input_ended_stops p later stop goes_on reading enters =
+pub input_ended_stops : (old new : Playing) (stop : Stop) → reads_on (play_of old) ≡ true →
+    Enters (Close 1 EndOfInput) (play_of old) (play_of new) (Err stop) → Halts stop (play_of new) (after_input_end (play_of old))
+input_ended_stops old new stop reading enters =
+    let p = play_of old in
     let end = after_trying_act (Close 1 EndOfInput) p in
-    subst (λ (q : Play). Halts stop later q) (sym (ap (λ b. cond b (after_taking_all end) p) reading))
-    (halts_on after_taking_all goes_all_taken stop later end (does_enters (Close 1 EndOfInput) p later (Err stop) goes_on enters))
+    subst (λ (q : Play). Halts stop (play_of new) q) (sym (ap (λ b. cond b (after_taking_all end) p) reading))
+    (halts_on after_taking_all goes_all_taken stop (play_of new) end
+    (does_enters (Close 1 EndOfInput) p (play_of new) (Err stop) refl enters))

@@ -7,9 +7,9 @@ use Rattle.fs_ports.proofs.Sides.{writes_both, stopped_later}
 use Rattle.fs_conn.specs.declared.stop.Stop.{Stop}
 use Rattle.fs_conn.specs.declared.stop.Stop.TheVariants.{Over, OutOfMemory, WriteFault}
 use Rattle.fs_conn.specs.Play.{Play, output_of, after_conversing, after_input_end}
-use Rattle.fs_conn.specs.Steps.{Writing, Fails, Sends, MayClose}
-use Rattle.fs_conn.specs.Turns.{IsPrompt, HasWritten, WritesAt, behind_frame, before_close, FailsAt, StoppedBy}
-use Rattle.fs_conn.proofs.SendLemmas.{writing_all}
+use Rattle.fs_conn.specs.Playing.{Playing, play_of, Writing, with_written, Fails, Sends, MayClose}
+use Rattle.fs_conn.specs.Turns.{IsPrompt, HasWritten, WritesAt, behind_frame, before_close, FailsAt, HasSent, StoppedBy}
+use Rattle.fs_conn.proofs.SendLemmas.{writes_first}
 
 -- what was prompt stays so, whatever is written behind it
 prompt_more : (config : Configuration) (input sent more : List ℕ) → (input ≡ []) ⊎ IsPrompt config input sent →
@@ -25,23 +25,23 @@ prompt_more config input sent more (inr prompt) = inr (record {
 })
 
 -- a step handed out and wrote more
-pub written_then : (config : Configuration) (out0 out1 out2 : Output) (input unsent left : List ℕ) (p q : Play) →
-    HasWritten config out0 out1 input unsent p → Writing out1 out2 unsent left p q → HasWritten config out0 out2 input left q
-written_then config out0 out1 out2 input unsent left p q first then = record {
+pub written_then : (start old new : Playing) (input : List ℕ) → HasSent start old input → Writing old new → HasSent start new input
+written_then start old new input first then = record {
   sent = first.sent ++ then.sent;
   split =
-      then.hands ∙ ap (λ xs. xs ++ then.frames) first.split ∙ append_assoc first.sent unsent then.frames
+      then.hands ∙ ap (λ xs. xs ++ then.frames) first.split ∙ append_assoc first.sent old.unsent then.frames
       ∙ ap (λ xs. first.sent ++ xs) then.split
-      ∙ sym (append_assoc first.sent then.sent left);
-  written = writes_both out0 out1 out2 first.sent then.sent first.written then.written;
-  prompt = prompt_more config input first.sent then.sent first.prompt;
+      ∙ sym (append_assoc first.sent then.sent new.unsent);
+  written = writes_both start.output old.output new.output first.sent then.sent first.written then.written;
+  prompt = prompt_more start.config input first.sent then.sent first.prompt;
 }
 
 -- all was written
-pub written_all : (config : Configuration) (out0 out1 out2 : Output) (input unsent : List ℕ) (p : Play) →
-    HasWritten config out0 out1 input unsent p → Writes out1 out2 unsent → HasWritten config out0 out2 input [] p
-written_all config out0 out1 out2 input unsent p first writes =
-    written_then config out0 out1 out2 input unsent [] p p first (writing_all out1 out2 unsent p writes)
+pub written_all : (start now : Playing) (out : Output) (input : List ℕ) → HasSent start now input → Writes now.output out now.unsent →
+    HasSent start (with_written out [] now) input
+written_all start now out input first writes =
+    let cleared = with_written out [] now in
+    written_then start now cleared input first (writes_first now cleared refl writes refl)
 
 sent_whole : (handed sent unsent : List ℕ) → handed ≡ sent ++ unsent → unsent ≡ [] → sent ≡ handed
 sent_whole handed sent unsent split none = sym (split ∙ ap (λ xs. sent ++ xs) none ∙ append-nil sent)
@@ -72,38 +72,32 @@ written_read config out0 out1 input piece p p_is written few = record {
 -- ---- a play that stopped
 
 -- not by a write
-pub stopped_unwritten : (config : Configuration) (out0 out1 : Output) (input : List ℕ) (read_failed : Bool) (unsent : List ℕ) (stop : Stop)
-    (p : Play) →
-    stop ≢ WriteFault → HasWritten config out0 out1 input unsent p → StoppedBy config out0 out1 input read_failed unsent stop p
-stopped_unwritten config out0 out1 input read_failed unsent (Over end) p unwritten written = written
-stopped_unwritten config out0 out1 input read_failed unsent OutOfMemory p unwritten written = written
-stopped_unwritten config out0 out1 input read_failed unsent WriteFault p unwritten written = absurd (unwritten refl)
+pub stopped_unwritten : (start now : Playing) (input : List ℕ) (read_failed : Bool) (stop : Stop) → stop ≢ WriteFault →
+    HasSent start now input → StoppedBy start now input read_failed stop
+stopped_unwritten start now input read_failed (Over end) unwritten written = written
+stopped_unwritten start now input read_failed OutOfMemory unwritten written = written
+stopped_unwritten start now input read_failed WriteFault unwritten written = absurd (unwritten refl)
 
-fails_at : (config : Configuration) (point : List ℕ → Play → Type 0) (out0 out1 out2 : Output) (input : List ℕ) (read_failed : Bool)
-    (unsent : List ℕ) (p q : Play) →
-    HasWritten config out0 out1 input unsent p → Fails point out1 out2 unsent p q →
-    ((bytes : List ℕ) → point bytes q → WritesAt config input read_failed bytes q) →
-    FailsAt config out0 out2 input read_failed q
-fails_at config point out0 out1 out2 input read_failed unsent p q written fails is_point = record {
+fails_at : (point : List ℕ → Play → Type 0) (start old new : Playing) (input : List ℕ) (read_failed : Bool) → HasSent start old input →
+    Fails point old new → ((bytes : List ℕ) → point bytes (play_of new) → WritesAt start.config input read_failed bytes (play_of new)) →
+    FailsAt start.config start.output new.output input read_failed (play_of new)
+fails_at point start old new input read_failed written fails is_point = record {
   mid = fails.mid;
   unsent = fails.unsent;
-  written = written_then config out0 out1 fails.mid input unsent fails.unsent p q written fails.writing;
+  written = written_then start old (with_written fails.mid fails.unsent new) input written fails.writing;
   stopped = fails.stopped;
   point = is_point fails.unsent fails.stands;
 }
 
 -- in a step that wrote this
-pub stopped_sends : (config : Configuration) (point : List ℕ → Play → Type 0) (out0 out1 out2 : Output) (input : List ℕ)
-    (read_failed : Bool) (unsent left : List ℕ) (stop : Stop) (p q : Play) →
-    HasWritten config out0 out1 input unsent p → Sends {A = Unit {0}} point out1 out2 unsent left p q (Err stop) →
-    ((bytes : List ℕ) → point bytes q → WritesAt config input read_failed bytes q) →
-    StoppedBy config out0 out2 input read_failed left stop q
-stopped_sends config point out0 out1 out2 input read_failed unsent left (Over end) p q written sends is_point =
-    written_then config out0 out1 out2 input unsent left p q written sends
-stopped_sends config point out0 out1 out2 input read_failed unsent left OutOfMemory p q written sends is_point =
-    written_then config out0 out1 out2 input unsent left p q written sends
-stopped_sends config point out0 out1 out2 input read_failed unsent left WriteFault p q written sends is_point =
-    fails_at config point out0 out1 out2 input read_failed unsent p q written sends is_point
+pub stopped_sends : (point : List ℕ → Play → Type 0) (start old new : Playing) (input : List ℕ) (read_failed : Bool) (stop : Stop) →
+    HasSent start old input → Sends {A = Unit {0}} point old new (Err stop) →
+    ((bytes : List ℕ) → point bytes (play_of new) → WritesAt start.config input read_failed bytes (play_of new)) →
+    StoppedBy start new input read_failed stop
+stopped_sends point start old new input read_failed (Over end) written sends is_point = written_then start old new input written sends
+stopped_sends point start old new input read_failed OutOfMemory written sends is_point = written_then start old new input written sends
+stopped_sends point start old new input read_failed WriteFault written sends is_point =
+    fails_at point start old new input read_failed written sends is_point
 
 -- the points at which a connection that came to its end may be closed
 pub may_close : (config : Configuration) (input : List ℕ) (read_failed : Bool) (unsent : List ℕ) (p later : Play) →

@@ -1,27 +1,27 @@
 -- What a step of a play did, and what stopped it.
 use Rattle.std.specs.Prelude.{◌≡◌, ◌≢◌, ℕ, ◌+◌, ◌<◌, ◌≤◌, Bool, true, false, List, [], ◌∷◌, ◌++◌, length, Option, None, Some, Result, Ok}
-use Rattle.std.specs.Prelude.{Err, IfErr, ◌⊎◌}
+use Rattle.std.specs.Prelude.{Err, IfErr}
 use Rattle.std.specs.List.{concat}
-use Rattle.fs_ports.specs.Ports.{Output, Writes, Stopped}
+use Rattle.std.specs.Io.KnownBytes.{IsAtEnd}
+use Rattle.fs_ports.specs.Counts.{raised}
+use Rattle.fs_ports.specs.Ports.{Input, Output, Reads, Writes, Stopped}
+use Rattle.fs_frame.specs.Stream.{Stream, fed_with}
 use Rattle.fs_machine.specs.declared.due.DueActor.{DueActor}
 use Rattle.fs_machine.specs.declared.due.DueActor.TheVariants as actor
 use Rattle.fs_machine.specs.declared.entry.Entry.{Entry}
 use Rattle.fs_machine.specs.declared.entry.Act.{Act}
-use Rattle.fs_machine.specs.declared.entry.Act.TheVariants.{Take, Work, Job}
+use Rattle.fs_machine.specs.declared.entry.Act.TheVariants.{Work, Job}
 use Rattle.fs_machine.specs.declared.reply.Reply.{Reply}
 use Rattle.fs_machine.specs.Step.{step, refusal_of}
-use Rattle.fs_machine.specs.Runs.{View}
 use Rattle.fs_machine.specs.Frames.{handed_in}
 use Rattle.fs_conn.specs.declared.end.End.{End}
 use Rattle.fs_conn.specs.declared.end.End.TheVariants.{Exit, AuthRefused, Eof, ReadFault, WriteFault as ends_by_write, TooLong, BadLength}
 use Rattle.fs_conn.specs.declared.end.End.TheVariants.{JournalFull, Memory, Runaway}
 use Rattle.fs_conn.specs.declared.stop.Stop.{Stop}
 use Rattle.fs_conn.specs.declared.stop.Stop.TheVariants.{Over, OutOfMemory, WriteFault}
-use Rattle.fs_conn.specs.Play.{Play, switch_of, output_of, after_trying_act, after_input_end}
-
--- the play that a machine has come to at a moment, which goes on
-abbrev pub play_of : View → ℕ → Play
-play_of machine clock = record { config = machine.config; journal = machine.journal; clock = clock; end = None }
+use Rattle.fs_conn.specs.declared.wire.Filled.{Filled}
+use Rattle.fs_conn.specs.declared.wire.Filled.TheVariants.{More, AtEnd, ReadFailed}
+use Rattle.fs_conn.specs.Play.{Play, switch_of, output_of, after_trying_act}
 
 -- what its entries cost
 abbrev pub spent : Play → ℕ
@@ -107,40 +107,7 @@ pub record Works (old new : Play) : Type 0 where
   pub output : output_of new ≡ output_of old
   pub spent : spent old ≤ spent new
 
--- ---- frames
-
--- frames were handed out, and behind what was unsent before them they were written, but for what is unsent now
-pub record Writing (out0 out1 : Output) (unsent0 unsent1 : List ℕ) (old new : Play) : Type 0 where
-  pub frames : List ℕ
-  pub hands : output_of new ≡ output_of old ++ frames
-  pub sent : List ℕ
-  pub split : unsent0 ++ frames ≡ sent ++ unsent1
-  pub written : Writes out0 out1 sent
-
--- or what was unsent then was to be written, at such a point, and a write of it failed
-pub record Fails (point : List ℕ → Play → Type 0) (out0 out1 : Output) (unsent0 : List ℕ) (old new : Play) : Type 0 where
-  pub mid : Output
-  pub unsent : List ℕ
-  pub writing : Writing out0 mid unsent0 unsent old new
-  pub stopped : Stopped mid out1 unsent
-  pub stands : point unsent new
-
--- what a step wrote
-abbrev pub Sends : {A : Type 0} → (List ℕ → Play → Type 0) → Output → Output → List ℕ → List ℕ → Play → Play → Result A Stop → Type 0
-Sends point out0 out1 unsent0 unsent1 old new (Ok done) = Writing out0 out1 unsent0 unsent1 old new
-Sends point out0 out1 unsent0 unsent1 old new (Err (Over end)) = Writing out0 out1 unsent0 unsent1 old new
-Sends point out0 out1 unsent0 unsent1 old new (Err OutOfMemory) = Writing out0 out1 unsent0 unsent1 old new
-Sends point out0 out1 unsent0 unsent1 old new (Err WriteFault) = Fails point out0 out1 unsent0 old new
-
--- the last entry of a play took a frame at the clock's moment, with which at least 65,536 bytes are unsent
-pub record HasFilled (unsent : List ℕ) (p : Play) : Type 0 where
-  pub many : 65536 ≤ length unsent
-  pub before : List Entry
-  pub taken : p.journal ≡ before ++ entry_of (Take 1) p ∷ []
-
--- so it has, or its input has ended and it is to be closed
-abbrev pub MayClose : Play → List ℕ → Play → Type 0
-MayClose old unsent new = HasFilled unsent new ⊎ (new ≡ after_input_end old)
+-- ---- bytes
 
 -- what putting a frame behind what is unsent did
 abbrev pub Puts : {A : Type 0} → Output → Output → List ℕ → List ℕ → List ℕ → Result A Stop → Type 0
@@ -155,3 +122,22 @@ Clears out0 out1 old new (Ok done) = Writes out0 out1 old × (new ≡ [])
 Clears out0 out1 old new (Err (Over end)) = ⊥
 Clears out0 out1 old new (Err OutOfMemory) = ⊥
 Clears out0 out1 old new (Err WriteFault) = Stopped out0 out1 old
+
+-- what reading more of a link did, at most 16,384 bytes
+abbrev pub Fills : Input → Input → Stream → Stream → Result Filled Stop → Type 0
+Fills in0 in1 old new (Ok More) =
+    (piece : List ℕ) × (0 < length piece) × (length piece ≤ 16384) × Reads in0 in1
+    piece × (in1.faults ≡ in0.faults) × (new ≡ fed_with old piece)
+Fills in0 in1 old new (Ok AtEnd) = IsAtEnd in1.left × (in1 ≡ in0) × (new ≡ old)
+Fills in0 in1 old new (Ok ReadFailed) = (in1 ≡ record in0 { faults = raised in0.faults }) × (new ≡ old)
+Fills in0 in1 old new (Err (Over end)) = ⊥
+Fills in0 in1 old new (Err OutOfMemory) =
+    (piece : List ℕ) × (length piece ≤ 16384) × Reads in0 in1 piece × (in1.faults ≡ in0.faults) × (new ≡ old)
+Fills in0 in1 old new (Err WriteFault) = (in1 ≡ in0) × (new ≡ old)
+
+-- before that all that was unsent was written, or a write of it failed
+abbrev pub WritesFirst : {A : Type 0} → Output → Output → List ℕ → List ℕ → Result A Stop → Type 0
+WritesFirst out0 out1 old new (Ok done) = Writes out0 out1 old × (new ≡ [])
+WritesFirst out0 out1 old new (Err (Over end)) = ⊥
+WritesFirst out0 out1 old new (Err OutOfMemory) = Writes out0 out1 old × (new ≡ [])
+WritesFirst out0 out1 old new (Err WriteFault) = Stopped out0 out1 old

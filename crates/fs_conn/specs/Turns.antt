@@ -8,7 +8,7 @@ use Rattle.fs_ports.specs.Counts.{raised}
 use Rattle.fs_ports.specs.Ports.{Input, Output, Reads, Writes, Stopped}
 use Rattle.fs_frame.specs.Block.{IsBlock, fault_of}
 use Rattle.fs_frame.specs.Blocks.{rest_of}
-use Rattle.fs_frame.specs.Stream.{Stream, fed_with}
+use Rattle.fs_frame.specs.Stream.{Stream}
 use Rattle.fs_machine.specs.declared.entry.Entry.{Entry}
 use Rattle.fs_machine.specs.declared.entry.Act.TheVariants.{Close}
 use Rattle.fs_machine.specs.declared.entry.Closing.TheVariants.{Failed}
@@ -18,32 +18,12 @@ use Rattle.fs_conn.specs.declared.end.End.{End}
 use Rattle.fs_conn.specs.declared.end.End.TheVariants as ends
 use Rattle.fs_conn.specs.declared.stop.Stop.{Stop}
 use Rattle.fs_conn.specs.declared.stop.Stop.TheVariants.{Over, OutOfMemory, WriteFault}
-use Rattle.fs_conn.specs.declared.reading.Filled.{Filled}
-use Rattle.fs_conn.specs.declared.reading.Filled.TheVariants.{More, AtEnd, ReadFailed}
 use Rattle.fs_conn.specs.declared.conversation.Turn.{Turn}
 use Rattle.fs_conn.specs.declared.conversation.Turn.TheVariants.{GoOn, Done}
 use Rattle.fs_conn.specs.Play.{Play, switch_of, bytes_handed, output_of, after_opening, after_commands, after_conversing, after_input_end}
 use Rattle.fs_conn.specs.Play.{farewell, end_behind, played}
-use Rattle.fs_conn.specs.Steps.{spent, Halts, HasFilled}
-
--- what reading more of a link did, at most 16,384 bytes
-abbrev pub Fills : Input → Input → Stream → Stream → Result Filled Stop → Type 0
-Fills in0 in1 old new (Ok More) =
-    (piece : List ℕ) × (0 < length piece) × (length piece ≤ 16384) × Reads in0 in1
-    piece × (in1.faults ≡ in0.faults) × (new ≡ fed_with old piece)
-Fills in0 in1 old new (Ok AtEnd) = IsAtEnd in1.left × (in1 ≡ in0) × (new ≡ old)
-Fills in0 in1 old new (Ok ReadFailed) = (in1 ≡ record in0 { faults = raised in0.faults }) × (new ≡ old)
-Fills in0 in1 old new (Err (Over end)) = ⊥
-Fills in0 in1 old new (Err OutOfMemory) =
-    (piece : List ℕ) × (length piece ≤ 16384) × Reads in0 in1 piece × (in1.faults ≡ in0.faults) × (new ≡ old)
-Fills in0 in1 old new (Err WriteFault) = (in1 ≡ in0) × (new ≡ old)
-
--- before that all that was unsent was written, or a write of it failed
-abbrev pub WritesFirst : {A : Type 0} → Output → Output → List ℕ → List ℕ → Result A Stop → Type 0
-WritesFirst out0 out1 old new (Ok done) = Writes out0 out1 old × (new ≡ [])
-WritesFirst out0 out1 old new (Err (Over end)) = ⊥
-WritesFirst out0 out1 old new (Err OutOfMemory) = Writes out0 out1 old × (new ≡ [])
-WritesFirst out0 out1 old new (Err WriteFault) = Stopped out0 out1 old
+use Rattle.fs_conn.specs.Steps.{spent, Halts}
+use Rattle.fs_conn.specs.Playing.{Playing, play_of, HasFilled}
 
 -- the bytes that were read, and whether the reading failed behind them
 pub record HasRead (in0 in1 : Input) (input : List ℕ) (read_failed : Bool) : Type 0 where
@@ -84,23 +64,26 @@ pub record FailsAt (config : Configuration) (out0 out1 : Output) (input : List �
   pub stopped : Stopped mid out1 unsent
   pub point : WritesAt config input read_failed unsent p
 
--- what was written by a play that stopped
-abbrev pub StoppedBy : Configuration → Output → Output → List ℕ → Bool → List ℕ → Stop → Play → Type 0
-StoppedBy config out0 out1 input read_failed unsent (Over end) p = HasWritten config out0 out1 input unsent p
-StoppedBy config out0 out1 input read_failed unsent OutOfMemory p = HasWritten config out0 out1 input unsent p
-StoppedBy config out0 out1 input read_failed unsent WriteFault p = FailsAt config out0 out1 input read_failed p
+-- since it began a play has written what it handed out, but for what is unsent
+abbrev pub HasSent : Playing → Playing → List ℕ → Type 0
+HasSent start now input = HasWritten start.config start.output now.output input now.unsent (play_of now)
+
+-- what was written since then by a play that stopped
+abbrev pub StoppedBy : Playing → Playing → List ℕ → Bool → Stop → Type 0
+StoppedBy start now input read_failed (Over end) = HasSent start now input
+StoppedBy start now input read_failed OutOfMemory = HasSent start now input
+StoppedBy start now input read_failed WriteFault = FailsAt start.config start.output now.output input read_failed (play_of now)
 
 -- ---- turns
 
--- the connection goes on: what was read, entered and written so far
-pub record Stands (config : Configuration) (in0 : Input) (out0 : Output) (in1 : Input) (out1 : Output) (unsent : List ℕ) (stream : Stream)
-    (p : Play) : Type 0 where
+-- the connection goes on: what was read, entered and written since it began
+pub record Stands (start now : Playing) (stream : Stream) : Type 0 where
   pub blocks : List (List ℕ)
   pub are_blocks : AllByRecursion IsBlock blocks
-  pub reads : Reads in0 in1 (concat blocks ++ stream.rest)
-  pub read_faults : in1.faults ≡ in0.faults
-  pub play_is : p ≡ after_commands (after_opening config) blocks
-  pub written : HasWritten config out0 out1 (concat blocks ++ stream.rest) unsent p
+  pub reads : Reads start.input now.input (concat blocks ++ stream.rest)
+  pub read_faults : now.input.faults ≡ start.input.faults
+  pub play_is : play_of now ≡ after_commands (after_opening start.config) blocks
+  pub written : HasSent start now (concat blocks ++ stream.rest)
 
 -- an end that neither a failed write nor want of memory brings
 abbrev pub is_told : End → Bool
@@ -116,42 +99,39 @@ is_told (ends.JournalFull cost limit) = true
 is_told (ends.Runaway count) = true
 
 -- the connection came to this end, and is not closed yet
-pub record Ends (config : Configuration) (in0 : Input) (out0 : Output) (in1 : Input) (out1 : Output) (unsent : List ℕ) (end : End)
-    (p : Play) : Type 0 where
+pub record Ends (start now : Playing) (end : End) : Type 0 where
   pub input : List ℕ
   pub read_failed : Bool
-  pub has_read : HasRead in0 in1 input read_failed
-  pub play_is : p ≡ after_conversing config input
-  pub written : HasWritten config out0 out1 input unsent p
-  pub end_is : end ≡ end_behind (farewell p) (fault_of (rest_of input)) read_failed
+  pub has_read : HasRead start.input now.input input read_failed
+  pub play_is : play_of now ≡ after_conversing start.config input
+  pub written : HasSent start now input
+  pub end_is : end ≡ end_behind (farewell (play_of now)) (fault_of (rest_of input)) read_failed
   pub told : is_told end ≡ true
-  pub at_end : end ≡ ends.Eof → IsAtEnd in1.left
+  pub at_end : end ≡ ends.Eof → IsAtEnd now.input.left
 
 -- the connection was closed after this end, or the play came to it before
-pub record Concludes (config : Configuration) (in0 : Input) (out0 : Output) (in1 : Input) (out1 : Output) (end : End)
-    (p : Play) : Type 0 where
+pub record Concludes (start now : Playing) (end : End) : Type 0 where
   pub input : List ℕ
   pub read_failed : Bool
-  pub has_read : HasRead in0 in1 input read_failed
-  pub play_is : played config input read_failed ≡ record p { end = Some end }
-  pub written : Writes out0 out1 (output_of p)
+  pub has_read : HasRead start.input now.input input read_failed
+  pub play_is : played start.config input read_failed ≡ record (play_of now) { end = Some end }
+  pub written : Writes start.output now.output (output_of (play_of now))
   pub told : is_told end ≡ true
-  pub at_end : end ≡ ends.Eof → IsAtEnd in1.left
+  pub at_end : end ≡ ends.Eof → IsAtEnd now.input.left
 
 -- the play stopped
-pub record Stops (config : Configuration) (in0 : Input) (out0 : Output) (in1 : Input) (out1 : Output) (unsent : List ℕ) (stop : Stop)
-    (p : Play) : Type 0 where
+pub record Stops (start now : Playing) (stop : Stop) : Type 0 where
   pub input : List ℕ
   pub read_failed : Bool
-  pub has_read : HasRead in0 in1 input read_failed
-  pub halts : Halts stop p (played config input read_failed)
-  pub stopped : StoppedBy config out0 out1 input read_failed unsent stop p
+  pub has_read : HasRead start.input now.input input read_failed
+  pub halts : Halts stop (play_of now) (played start.config input read_failed)
+  pub stopped : StoppedBy start now input read_failed stop
 
 -- what one turn did: the connection goes on, came to an end or stopped
-abbrev pub Turns : Configuration → Input → Output → Input → Output → List ℕ → Stream → Play → Result Turn Stop → Type 0
-Turns config in0 out0 in1 out1 unsent stream p (Ok GoOn) = Stands config in0 out0 in1 out1 unsent stream p
-Turns config in0 out0 in1 out1 unsent stream p (Ok (Done end)) = Ends config in0 out0 in1 out1 unsent end p
-Turns config in0 out0 in1 out1 unsent stream p (Err stop) = Stops config in0 out0 in1 out1 unsent stop p
+abbrev pub Turns : Playing → Playing → Stream → Result Turn Stop → Type 0
+Turns start now stream (Ok GoOn) = Stands start now stream
+Turns start now stream (Ok (Done end)) = Ends start now end
+Turns start now stream (Err stop) = Stops start now stop
 
 -- how much there is to do at most: the cost that the journal has left, and for each unit of it the bytes that may be read before a block is
 -- whole
@@ -171,9 +151,9 @@ OnGoOn (Ok (Done end)) fact = Unit {0}
 OnGoOn (Err stop) fact = Unit {0}
 
 -- what a conversation did: it was closed after its end, or stopped
-abbrev pub Converses : Configuration → Input → Output → Input → Output → List ℕ → Play → Result End Stop → Type 0
-Converses config in0 out0 in1 out1 unsent p (Ok end) = Concludes config in0 out0 in1 out1 end p
-Converses config in0 out0 in1 out1 unsent p (Err stop) = Stops config in0 out0 in1 out1 unsent stop p
+abbrev pub Converses : Playing → Playing → Result End Stop → Type 0
+Converses start now (Ok end) = Concludes start now end
+Converses start now (Err stop) = Stops start now stop
 
 -- ---- the end
 

@@ -1,28 +1,20 @@
-//! A turn of a conversation, the conversation, and the play.
+//! A turn of a conversation, the conversation, and how it ends.
 
-ghost use Rattle.std.specs.Prelude.{◌≡◌, false, [], IsTrue};
-ghost use Rattle.fs_doc.specs.Reading.{Configuration};
-ghost use Rattle.fs_ports.specs.Ports.{Input, Output};
+ghost use Rattle.std.specs.Prelude.{◌≡◌, false, IsTrue};
 ghost use Rattle.fs_machine.specs.Here.{IsHere};
 ghost use Rattle.fs_machine.specs.Questions.{owes};
-ghost use Rattle.fs_machine.specs.Runs.{state_of};
-ghost use Rattle.fs_conn.specs.Play.{end_by};
-ghost use Rattle.fs_conn.specs.Steps.{play_of};
+ghost use Rattle.fs_conn.specs.Play as spec;
+ghost use Rattle.fs_conn.specs.Play.{switch_of};
+ghost use Rattle.fs_conn.specs.Playing.{Playing, seen, play_of, IsNew};
 ghost use Rattle.fs_conn.specs.Turns.{Stands, Turns, Falls, OnGoOn, Converses, Plays};
 
 use crate::end::End;
-use crate::ending::{break_off, finish};
-use crate::entering::{CONN, arrive, command};
-use crate::reading::{Filled, fill};
-use crate::sending::follow;
+use crate::playing::{CONN, Play};
 use crate::stop::Stop;
-use crate::unsent::Unsent;
+use crate::wire::Filled;
 use fs_frame::{Blocks, Next};
-use fs_machine::Machine;
 use fs_ports::Link;
 use fs_state::Parting;
-use fs_text::Memory;
-use std::alloc::Global;
 
 // What one turn of a conversation came to.
 #[derive(Clone, Copy, Debug)]
@@ -31,105 +23,83 @@ enum Turn {
     Done(End),
 }
 
-/// Plays a whole connection over a link: it comes, its commands are read, worked and answered, and it goes.
-///
-/// The clock is the play's own. It begins at 0, and goes on only while the connection is owed a reply.
-pub fn play<L: Link>(alloc: Global, machine: &mut Machine, link: &mut L) -> End
-    requires waits { IsTrue (L.input link.old).waits }
-    requires begun { machine.old.journal ≡ [] }
-    ensures config { machine.new.config ≡ machine.old.config }
-    ensures plays { Plays machine.old.config (L.input link.old) (L.output link.old)
-        (L.input link.new) (L.output link.new) machine.new.journal result }
-{
-    let mut unsent = match Unsent::new(alloc) {
-        Ok(unsent) => unsent,
-        Err(Memory) => return End::Memory,
-    };
-    let mut clock = 0;
-    match converse(alloc, machine, &mut clock, &mut unsent, link) {
-        Ok(end) => end,
-        Err(stop) => break_off(machine, clock, &mut unsent, link, stop),
+impl<L: Link> Play<'_, '_, L> {
+    /// Plays the whole connection, for which nothing was done yet.
+    pub(crate) fn whole(&mut self) -> End
+        requires waits { IsTrue self.old.wire.input.waits }
+        requires new { IsNew (seen self.old) }
+        ensures config { self.new.machine.now.config ≡ self.old.machine.now.config }
+        ensures lent { (seen self.new).lent ≡ (seen self.old).lent }
+        ensures plays { Plays self.old.machine.now.config self.old.wire.input self.old.wire.output
+            self.new.wire.input self.new.wire.output self.new.machine.now.journal result }
+    {
+        match self.converse() {
+            Ok(end) => end,
+            Err(stop) => self.break_off(stop),
+        }
     }
-}
 
-fn converse<L: Link>(
-    alloc: Global,
-    machine: &mut Machine,
-    clock: &mut u64,
-    unsent: &mut Unsent,
-    link: &mut L,
-) -> Result<End, Stop>
-    requires waits { IsTrue (L.input link.old).waits }
-    requires begun { machine.old.journal ≡ [] }
-    requires clock { clock.old ≡ 0 }
-    requires unsent { unsent.old ≡ [] }
-    ensures { Converses machine.old.config (L.input link.old) (L.output link.old)
-        (L.input link.new) (L.output link.new) unsent.new (play_of machine.new clock.new) result }
-{
-    arrive(machine, *clock)?;
-    follow(machine, clock, unsent, link)?;
-    let mut blocks = Blocks::new(alloc)?;
-    loop {
-        match take_turn(alloc, machine, clock, &mut blocks, unsent, link)? {
-            Turn::GoOn => {}
-            Turn::Done(end) => {
-                finish(machine, *clock, unsent, link)?;
-                return Ok(end);
+    fn converse(&mut self) -> Result<End, Stop>
+        requires waits { IsTrue self.old.wire.input.waits }
+        requires new { IsNew (seen self.old) }
+        ensures converses { Converses (seen self.old) (seen self.new) result }
+        ensures lent { (seen self.new).lent ≡ (seen self.old).lent }
+    {
+        self.arrive()?;
+        self.follow()?;
+        let mut blocks = Blocks::new(self.alloc)?;
+        loop {
+            match self.take_turn(&mut blocks)? {
+                Turn::GoOn => {}
+                Turn::Done(end) => {
+                    self.finish()?;
+                    return Ok(end);
+                }
             }
         }
     }
-}
 
-// Takes the next block, or reads more where none is there; or finds that the connection reads no further one.
-fn take_turn<L: Link>(
-    alloc: Global,
-    machine: &mut Machine,
-    clock: &mut u64,
-    blocks: &mut Blocks,
-    unsent: &mut Unsent,
-    link: &mut L,
-) -> Result<Turn, Stop>
-    requires waits { IsTrue (L.input link.old).waits }
-    requires here { IsHere 1 (state_of machine.old) }
-    requires free { owes (state_of machine.old) 1 ≡ false }
-    ensures waits { (L.input link.new).waits ≡ (L.input link.old).waits }
-    ensures here { OnGoOn result (IsHere 1 (state_of machine.new)) }
-    ensures free { OnGoOn result (owes (state_of machine.new) 1 ≡ false) }
-    ensures turns { (config : Configuration) (in0 : Input) (out0 : Output)
-        → Stands config in0 out0 (L.input link.old) (L.output link.old) unsent.old blocks.old
-        (play_of machine.old clock.old)
-        → Turns config in0 out0 (L.input link.new) (L.output link.new) unsent.new blocks.new
-        (play_of machine.new clock.new) result }
-    ensures falls { Falls (play_of machine.old clock.old) blocks.old (play_of machine.new clock.new) blocks.new
-        result }
-{
-    machine.sound();
-    if let Some(end) = farewell(machine.parting(CONN)) {
-        return Ok(Turn::Done(end));
-    }
-    match blocks.next_block() {
-        Next::Block(block) => {
-            command(alloc, machine, *clock, block.bytes())?;
-            follow(machine, clock, unsent, link)?;
-            Ok(Turn::GoOn)
+    // Takes the next block, or reads more where none is there; or finds that the connection reads no further one.
+    fn take_turn(&mut self, blocks: &mut Blocks) -> Result<Turn, Stop>
+        requires waits { IsTrue self.old.wire.input.waits }
+        requires here { IsHere 1 (switch_of (play_of (seen self.old))) }
+        requires free { owes (switch_of (play_of (seen self.old))) 1 ≡ false }
+        ensures waits { self.new.wire.input.waits ≡ self.old.wire.input.waits }
+        ensures here { OnGoOn result (IsHere 1 (switch_of (play_of (seen self.new)))) }
+        ensures free { OnGoOn result (owes (switch_of (play_of (seen self.new))) 1 ≡ false) }
+        ensures turns { (start : Playing) → Stands start (seen self.old) blocks.old
+            → Turns start (seen self.new) blocks.new result }
+        ensures falls { Falls (play_of (seen self.old)) blocks.old (play_of (seen self.new)) blocks.new result }
+        ensures lent { (seen self.new).lent ≡ (seen self.old).lent }
+    {
+        self.machine.sound();
+        if let Some(end) = self.farewell() {
+            return Ok(Turn::Done(end));
         }
-        Next::NeedMore => match fill(blocks, unsent, link)? {
-            Filled::More => Ok(Turn::GoOn),
-            Filled::AtEnd => Ok(Turn::Done(End::Eof)),
-            Filled::ReadFailed => Ok(Turn::Done(End::ReadFault)),
-        },
-        Next::TooLong { len } => Ok(Turn::Done(End::TooLong { len })),
-        Next::BadLength => Ok(Turn::Done(End::BadLength)),
+        match blocks.next_block() {
+            Next::Block(block) => {
+                self.command(block.bytes())?;
+                self.follow()?;
+                Ok(Turn::GoOn)
+            }
+            Next::NeedMore => match self.wire.fill(blocks)? {
+                Filled::More => Ok(Turn::GoOn),
+                Filled::AtEnd => Ok(Turn::Done(End::Eof)),
+                Filled::ReadFailed => Ok(Turn::Done(End::ReadFault)),
+            },
+            Next::TooLong { len } => Ok(Turn::Done(End::TooLong { len })),
+            Next::BadLength => Ok(Turn::Done(End::BadLength)),
+        }
     }
-}
 
-// How a connection ends that reads no further command, by what it parted for.
-fn farewell(parting: Option<Parting>) -> Option<End>
-    ensures { result ≡ end_by parting }
-{
-    match parting? {
-        Parting::Exit => Some(End::Exit),
-        Parting::AuthRefused => Some(End::AuthRefused),
-        Parting::EndOfInput => None,
+    // How the connection ends where it reads no further command, by what it parted for.
+    fn farewell(&self) -> Option<End>
+        ensures { result ≡ spec.farewell (play_of (seen self.now)) }
+    {
+        match self.machine.parting(CONN)? {
+            Parting::Exit => Some(End::Exit),
+            Parting::AuthRefused => Some(End::AuthRefused),
+            Parting::EndOfInput => None,
+        }
     }
 }

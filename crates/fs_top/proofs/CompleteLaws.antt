@@ -18,7 +18,7 @@ use Rattle.fs_conn.specs.Turns.{HasRead}
 use Rattle.fs_top.specs.Told.{Told, Asked, file_asked, told_words, told_read, told_asked}
 use Rattle.fs_top.specs.Runs.{CarriesOut, completes, fails_to_write, lacks_memory, fails_for_memory, Completes, BreaksForMemory}
 use Rattle.fs_top.specs.Runs.{RefusesPattern, IsPlayed, Gives, IsTold, IsBuilt, Ran, HasReadings, IsGiven, NoneRose, DoesAll}
-use Rattle.fs_top.proofs.RunLaws.{failed_read}
+use Rattle.fs_top.proofs.CauseLaws.{failed_read}
 
 -- what holds of each element holds of the one behind a front
 at_seam : {X : Type 0} (P : X → Type 0) (front : List X) (x : X) (back : List X) → All P (front ++ x ∷ back) → P x

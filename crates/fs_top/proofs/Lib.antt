@@ -1,3 +1,4 @@
+mod CauseLaws
 mod CompleteLaws
 mod CountLaws
 mod PartLaws

@@ -1,5 +1,6 @@
 use Rattle.std.proofs.Common.{sym, ◌∙◌}
-use Rattle.fs_top.proofs.RunLaws.{ran, cause_document, cause_unreadable, cause_write, cause_full, cause_away, cause_bad_block}
+use Rattle.fs_top.proofs.RunLaws.{ran}
+use Rattle.fs_top.proofs.CauseLaws.{cause_document, cause_unreadable, cause_write, cause_full, cause_away, cause_bad_block}
 use Rattle.fs_top.proofs.CompleteLaws.{complete}
 use Rattle.fs_top.proofs.program.run.Goals as goal
 

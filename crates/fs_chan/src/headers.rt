@@ -1,10 +1,12 @@
 //! The headers that tell of a channel.
-ghost use Rattle.std.specs.Prelude.{◌≡◌, [], ◌∷◌, ◌++◌, IfOk, OnOk};
-ghost use Rattle.fs_text.specs.Headers.{with_values};
+ghost use Rattle.std.specs.Prelude.{◌≡◌, IfOk, OnOk};
+ghost use Rattle.fs_text.specs.Headers.{taking, with_values};
+ghost use Rattle.fs_chan.specs.Changes.{in_state};
 ghost use Rattle.fs_chan.specs.Headers as spec;
 
 use crate::chan::Chan;
-use fs_text::{Headers, Memory, Txt, decimal};
+use fs_text::{HeaderSink, Headers, Memory, State, give};
+use itoa::Buffer;
 use std::alloc::Global;
 
 impl Chan {
@@ -16,37 +18,57 @@ impl Chan {
     pub fn headers(&self, alloc: Global) -> Result<Headers, Memory>
         ensures { IfOk result (λ headers. headers ≡ spec.channel_headers self.now) }
     {
-        let number = decimal(alloc, self.state.number() as u64)?;
-        let profile = &*self.profile;
-        let mut given = Given {
-            alloc,
-            headers: Headers::new(alloc),
-        };
-        given.add("Channel-State", self.state.name().as_bytes())?;
-        given.add("Channel-State-Number", number.as_bytes())?;
-        given.add("Channel-Name", profile.chan_name.as_bytes())?;
-        given.add("Unique-ID", self.uuid.as_bytes())?;
-        given.add("Call-Direction", self.direction.name().as_bytes())?;
-        given.add("Answer-State", self.answer_state().as_bytes())?;
-        given.add("Caller-Caller-ID-Name", profile.caller_id_name.as_bytes())?;
-        given.add(
-            "Caller-Caller-ID-Number",
-            profile.caller_id_number.as_bytes(),
-        )?;
-        given.add(
-            "Caller-Destination-Number",
-            profile.destination_number.as_bytes(),
-        )?;
-        given.add("Caller-Context", profile.context.as_bytes())?;
-        given.add("Other-Leg-Unique-ID", self.peer_uuid())?;
-        Ok(given.headers)
+        let mut headers = Headers::new(alloc);
+        self.tell_in(self.state, &mut headers)?;
+        Ok(headers)
     }
 
-    /// `hangup` once it is hung up, and before `answered` or `ringing`.
-    fn answer_state(&self) -> &'static str
-        ensures { result.now ≡ spec.answer_state self.now }
+    /// Gives a sink the headers that tell of the channel, as [`headers`](Chan::headers) has them, if it were in this
+    /// state.
+    pub fn tell_in<S: HeaderSink>(&self, state: State, sink: &mut S) -> Result<(), Memory>
+        ensures { OnOk result
+            (sink.new ≡ taking S.taken (spec.channel_headers (in_state state self.now)) sink.old) }
     {
-        if !self.is_live() {
+        self.tell_state(state, sink)?;
+        self.tell_profile(sink)?;
+        give(sink, "Other-Leg-Unique-ID", self.peer_uuid())
+    }
+
+    // The headers up to its state of answer.
+    fn tell_state<S: HeaderSink>(&self, state: State, sink: &mut S) -> Result<(), Memory>
+        ensures { OnOk result
+            (sink.new ≡ taking S.taken (with_values (spec.state_headers (in_state state self.now))) sink.old) }
+    {
+        let mut digits = Buffer::new();
+        let number = digits.format(state.number());
+        give(sink, "Channel-State", state.name().as_bytes())?;
+        give(sink, "Channel-State-Number", number.as_bytes())?;
+        give(sink, "Channel-Name", self.profile.chan_name.as_bytes())?;
+        give(sink, "Unique-ID", self.uuid.as_bytes())?;
+        give(sink, "Call-Direction", self.direction.name().as_bytes())?;
+        give(sink, "Answer-State", self.answer_state(state).as_bytes())
+    }
+
+    // The headers of its profile.
+    fn tell_profile<S: HeaderSink>(&self, sink: &mut S) -> Result<(), Memory>
+        ensures { OnOk result
+            (sink.new ≡ taking S.taken (with_values (spec.profile_headers self.now.profile)) sink.old) }
+    {
+        let profile = &*self.profile;
+        let name = profile.caller_id_name.as_bytes();
+        let number = profile.caller_id_number.as_bytes();
+        let destination = profile.destination_number.as_bytes();
+        give(sink, "Caller-Caller-ID-Name", name)?;
+        give(sink, "Caller-Caller-ID-Number", number)?;
+        give(sink, "Caller-Destination-Number", destination)?;
+        give(sink, "Caller-Context", profile.context.as_bytes())
+    }
+
+    // `hangup` in a state that it is hung up in, and before `answered` or `ringing`.
+    fn answer_state(&self, state: State) -> &'static str
+        ensures { result.now ≡ spec.answer_state (in_state state self.now) }
+    {
+        if state.number() >= State::CsHangup.number() {
             "hangup"
         } else if self.answered.is_some() {
             "answered"
@@ -55,7 +77,7 @@ impl Chan {
         }
     }
 
-    /// The identifier of its peer, or nothing.
+    // The identifier of its peer, or nothing.
     fn peer_uuid(&self) -> &[u8]
         ensures { result.now ≡ spec.peer_uuid self.now.peer }
     {
@@ -63,26 +85,5 @@ impl Chan {
             Some(peer) => peer.uuid.as_bytes(),
             None => &[],
         }
-    }
-}
-
-/// The headers that were given a value.
-#[derive(Drop)]
-struct Given {
-    alloc: Global,
-    headers: Headers,
-}
-
-impl Given {
-    /// Adds a header, unless its value is empty.
-    fn add(&mut self, name: &str, value: &[u8]) -> Result<(), Memory>
-        ensures { OnOk result (self.new.headers ≡ self.old.headers ++ with_values ((name.now, value.now) ∷ [])) }
-    {
-        if value.is_empty() {
-            return Ok(());
-        }
-        let name = Txt::of(self.alloc, name.as_bytes())?;
-        let value = Txt::of(self.alloc, value)?;
-        self.headers.push(name, value)
     }
 }

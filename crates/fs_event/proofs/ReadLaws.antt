@@ -193,7 +193,8 @@ plain_is_lines event is =
     let front = written event.headers in
     let back = body_line event.body is.body in
     let both = lines-append (with_values event.headers) (body_header event.body) in
-    rw (front, back, both) (append_assoc (lines (with_values event.headers) ++ lines (body_header event.body)) (codes "\n") event.body)
+    let seam = append_assoc (lines (body_header event.body)) (codes "\n") event.body in
+    rw (front, back, both, seam) (sym (append_assoc (lines (with_values event.headers)) (lines (body_header event.body)) (codes "\n" ++ event.body)))
 
 pub plain_is_read : (event : Event) → IsTellable event → read_text (plain event) ≡ told event
 unfolding told

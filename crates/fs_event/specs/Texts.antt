@@ -11,6 +11,10 @@ use Rattle.fs_event.specs.declared.event.Event.{Event}
 abbrev pub escaped_line : Text × Text → Text
 escaped_line header = header_line (header.0, escape header.1)
 
+-- what stands behind the name in that line
+abbrev pub escaped_value : Text → Text
+escaped_value value = codes ": " ++ escape value ++ codes "\n"
+
 -- a header with an empty value is left out
 unfoldable pub line_with_value : Text × Text → Text
 line_with_value header = if length header.1 == 0 then [] else escaped_line header
@@ -23,10 +27,18 @@ length_line len = header_line (codes "Content-Length", decimal len)
 unfoldable pub body_length : Text → Text
 body_length body = if length body == 0 then [] else length_line (length body)
 
+-- what stands behind the headers
+abbrev pub ending : Text → Text
+ending body = body_length body ++ codes "\n" ++ body
+
 -- the plain text of an event
 unfoldable pub plain : Event → Text
-plain event = concat (map line_with_value event.headers) ++ body_length event.body ++ codes "\n" ++ event.body
+plain event = concat (map line_with_value event.headers) ++ ending event.body
+
+-- the frame of a plain text
+abbrev pub frame_of : Text → Text
+frame_of text = length_line (length text) ++ codes "Content-Type: text/event-plain\n\n" ++ text
 
 -- the frame of an event
 unfoldable pub frame : Event → Text
-frame event = length_line (length (plain event)) ++ codes "Content-Type: text/event-plain\n\n" ++ plain event
+frame event = frame_of (plain event)

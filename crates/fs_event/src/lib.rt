@@ -7,4 +7,4 @@ mod texts;
 
 pub use event::Event;
 pub use laws::read_back;
-pub use texts::{frame, plain};
+pub use texts::{EventText, frame, plain};

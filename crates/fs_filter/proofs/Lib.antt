@@ -1,3 +1,4 @@
 pub mod AskedLemmas
 pub mod SubscriptionLemmas
 pub mod SetLemmas
+pub mod SieveLemmas

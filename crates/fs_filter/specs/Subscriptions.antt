@@ -119,6 +119,23 @@ has_filter filters header value = list_any (is_meant header value) filters
 abbrev pub lets_through : Filters → List (Text × Text) → Bool
 lets_through filters headers = length filters == 0 || list_any (has_pair headers) filters
 
+-- one of the filters is this header with its value
+abbrev pub is_asked : Filters → Text × Text → Bool
+is_asked filters header = list_any (same_pair header) filters
+
+-- filters, and whether an event with the headers that they have seen so far is let through
+pub record Sieve : Type 0 where
+  pub filters : Filters
+  pub passed : Bool
+
+-- they have seen none
+abbrev pub sieve_of : Filters → Sieve
+sieve_of filters = record { filters = filters; passed = length filters == 0 }
+
+-- they have seen one more
+abbrev pub sifted : Text × Text → Sieve → Sieve
+sifted header sieve = record sieve { passed = sieve.passed || is_asked sieve.filters header }
+
 -- ---- all of it
 
 -- what a connection subscribed, whether it listens, and its filters

@@ -62,16 +62,11 @@ impl Filters {
         found
     }
 
-    /// Whether there is no filter, or some filter is one of these headers with its value.
-    pub fn let_through(&self, headers: &[(Txt, Txt)]) -> bool
-        ensures { result ≡ spec.lets_through self.now headers.now }
+    /// The filters, in order.
+    pub fn pairs(&self) -> &[(Txt, Txt)]
+        ensures { result.now ≡ self.now }
     {
-        self.pairs.is_empty()
-            || self.pairs.iter().any(|filter| has_pair(
-                headers,
-                filter.0.as_bytes(),
-                filter.1.as_bytes(),
-            ))
+        self.pairs.as_slice()
     }
 }
 

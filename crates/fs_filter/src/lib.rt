@@ -5,9 +5,11 @@ mod asked;
 mod filters;
 mod laws;
 mod shared;
+mod sieve;
 mod subclasses;
 mod subs;
 
 pub use laws::subscriptions_are_sets;
 pub use shared::SharedSubs;
+pub use sieve::Sieve;
 pub use subs::Subs;

@@ -4,6 +4,7 @@ ghost use Rattle.std.specs.Prelude.{◌≡◌, true, IfOk, OnOk, OnErr};
 ghost use Rattle.fs_filter.specs.Asked.{asked_in, is_known, lent};
 ghost use Rattle.fs_filter.specs.Subscriptions as spec;
 
+use crate::sieve::Sieve;
 use crate::subs::Subs;
 use fs_event::Event;
 use fs_text::{EventName, Memory};
@@ -92,6 +93,16 @@ impl SharedSubs {
         match &self.shared {
             Some(subs) => subs.wants(event),
             None => false,
+        }
+    }
+
+    /// The filters, to be given headers one by one. Takes no memory.
+    pub fn sieve(&self, alloc: Global) -> Sieve<'_>
+        ensures { result ≡ spec.sieve_of self.now.filters }
+    {
+        match &self.shared {
+            Some(subs) => subs.sieve(),
+            None => Sieve::of(alloc, &[]),
         }
     }
 

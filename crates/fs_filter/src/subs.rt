@@ -6,9 +6,10 @@ ghost use Rattle.fs_filter.specs.Subscriptions as spec;
 
 use crate::asked::{Asked, words_in};
 use crate::filters::Filters;
+use crate::sieve::Sieve;
 use crate::subclasses::Subclasses;
 use fs_event::Event;
-use fs_text::{EventName, Memory};
+use fs_text::{EventName, Headers, Memory};
 use std::alloc::Global;
 use std::marker::Model;
 
@@ -168,8 +169,26 @@ impl Subs {
     pub fn wants(&self, event: &Event) -> bool
         ensures { result ≡ spec.wants self.now event.now }
     {
-        self.hears(event.name, event.subclass.as_bytes())
-            && self.filters.let_through(event.headers.pairs())
+        self.hears(event.name, event.subclass.as_bytes()) && self.let_through(&event.headers)
+    }
+
+    // Whether there is no filter, or some filter is one of these headers with its value.
+    #[tactic(auto, using(crate::proofs::SieveLemmas::sifted_lets))]
+    fn let_through(&self, headers: &Headers) -> bool
+        ensures { result ≡ spec.lets_through self.now.filters headers.now }
+    {
+        let mut sieve = self.sieve();
+        for (name, value) in headers.pairs() {
+            sieve.see(name.as_bytes(), value.as_bytes());
+        }
+        sieve.passes()
+    }
+
+    /// The filters, to be given headers one by one. Takes no memory.
+    pub fn sieve(&self) -> Sieve<'_>
+        ensures { result ≡ spec.sieve_of self.now.filters }
+    {
+        Sieve::of(self.alloc(), self.filters.pairs())
     }
 
     // Where its lists take their memory from.

@@ -1,51 +1,63 @@
-//! What an event tells, with the frame that connections are sent of it.
-ghost use Rattle.std.specs.Prelude.{◌≡◌, IfOk};
-ghost use Rattle.fs_event.specs.Texts.{frame};
+//! The frame of an event, and who takes it.
+ghost use Rattle.std.specs.Prelude.{◌≡◌, ◌∷◌, ◌++◌, [], false, get_or, OnOk};
+ghost use Rattle.std.specs.List.{list_any};
 
-use fs_event::Event as Telling;
 use fs_text::{Memory, Txt};
 use std::alloc::Global;
 use std::marker::Model;
 
-/// What an event tells, with its frame. A contract sees what is told.
+/// The frame of an event, and which connections it is to be sent.
 #[derive(Drop)]
 pub(crate) struct Post {
-    telling: Telling,
-    frame: Txt,
+    /// The frame.
+    pub frame: Txt,
+    /// The connections that want the event.
+    pub takers: Takers,
 }
 
-impl Model for Post {
-    ghost use Rattle.std.specs.Prelude.{◌≡◌};
-    ghost use Rattle.fs_event.specs.Texts as texts;
-    ghost use Rattle.fs_event.specs.declared.event.Event.{Event};
-
-    ghost Value = { Event };
-
-    ghost view = { λ p. p.telling };
-
-    ghost invariant = { λ p. p.frame ≡ texts.frame p.telling };
+/// Which connections want an event, by their seats. A contract sees for each seat whether the one there does.
+#[derive(Drop)]
+pub(crate) struct Takers {
+    seats: Vec<bool>,
 }
 
-impl Post {
-    /// What is told, with its frame.
-    pub fn of(alloc: Global, telling: Telling) -> Result<Post, Memory>
-        ensures { IfOk result (λ post. post ≡ telling) }
+impl Model for Takers {
+    ghost use Rattle.std.specs.Prelude.{Bool, List};
+
+    ghost Value = { List Bool };
+
+    ghost view = { λ t. t.seats.items };
+}
+
+impl Takers {
+    /// No seat was asked yet.
+    pub fn new(alloc: Global) -> Takers
+        ensures { result ≡ [] }
     {
-        let frame = fs_event::frame(alloc, &telling)?;
-        Ok(Post { telling, frame })
+        Takers {
+            seats: Vec::new(alloc),
+        }
     }
 
-    /// What is told.
-    pub fn telling(&self) -> &Telling
-        ensures { result.now ≡ self.now }
+    /// The next seat was asked.
+    pub fn push(&mut self, wants: bool) -> Result<(), Memory>
+        ensures { OnOk result (self.new ≡ self.old ++ wants ∷ []) }
     {
-        &self.telling
+        self.seats.push(wants)?;
+        Ok(())
     }
 
-    /// Its frame.
-    pub fn frame(&self) -> &Txt
-        ensures { result.now ≡ frame self.now }
+    /// Whether the connection at a seat wants it; none does at a seat that was not asked.
+    pub fn has(&self, seat: usize) -> bool
+        ensures { result ≡ get_or self.now seat false }
     {
-        &self.frame
+        self.seats.get(seat).copied().unwrap_or(false)
+    }
+
+    /// Whether some connection wants it.
+    pub fn has_one(&self) -> bool
+        ensures { result ≡ list_any (λ wants. wants) self.now }
+    {
+        self.seats.iter().any(|wants| *wants)
     }
 }

@@ -13,12 +13,12 @@ use crate::event::Event;
 use crate::gift::Gift;
 use crate::losses::Losses;
 use crate::outgoing::{Frames, Outgoing};
-use crate::post::Post;
+use crate::post::{Post, Takers};
 use crate::switch::Core;
-use fs_event::Event as Telling;
+use fs_event::EventText;
 use fs_filter::SharedSubs;
 use fs_seats::{Numbered, Rows, Table};
-use fs_text::{EventName, Memory};
+use fs_text::{EventName, Memory, Txt};
 use std::alloc::Global;
 
 /// The most events that may wait for a connection.
@@ -47,9 +47,9 @@ impl<'a> Draft<'a> {
 
     // ---- what is told
 
-    /// What the events of the entry tell that some connection wants.
+    /// The posts of the events of the entry that some connection wants.
     fn told(&self) -> Result<Vec<Post>, Memory>
-        ensures { IfOk result (λ told. told.items ≡ spec.told self.now.base (drafted self.now)) }
+        ensures { IfOk result (λ told. told.items ≡ spec.posts_told self.now.base (drafted self.now)) }
     {
         let core = self.core;
         if self.delta.news.as_slice().is_empty() || core.is_deaf() {
@@ -60,36 +60,88 @@ impl<'a> Draft<'a> {
 
     /// The same, event by event. They are numbered by how many there were before.
     fn tell_all(&self) -> Result<Vec<Post>, Memory>
-        ensures { IfOk result (λ told. told.items ≡ spec.told self.now.base (drafted self.now)) }
+        ensures { IfOk result (λ told. told.items ≡ spec.posts_told self.now.base (drafted self.now)) }
     {
         let core = self.core;
         let news = self.delta.news.as_slice();
+        let mut text = EventText::new(self.alloc())?;
         let mut told = Vec::new(self.alloc());
         let mut number = core.counts.all();
         for event in news {
             number = number.saturating_add(1);
-            if let Some(post) = self.tell_wanted(number, event)? {
+            if let Some(post) = self.tell_wanted(&mut text, number, event)? {
                 told.push(post)?;
             }
         }
         Ok(told)
     }
 
-    /// What an event tells, where it has this number and some connection wants it.
+    /// The post of an event, where it has this number and some connection wants it.
     #[tactic(auto, using(crate::proofs::PostLemmas::untold_unheard))]
-    fn tell_wanted(&self, number: u64, event: &Event) -> Result<Option<Post>, Memory>
+    fn tell_wanted(&self, text: &mut EventText, number: u64, event: &Event) -> Result<Option<Post>, Memory>
         ensures { IfOk result
-            (λ post. post ≡ spec.told_of self.now.base (drafted self.now) number event.now) }
+            (λ post. post ≡ spec.post_told self.now.base (drafted self.now) number event.now) }
+    {
+        if !self.core.hears(event.name, b"") {
+            return Ok(None);
+        }
+        let takers = self.takers(number, event)?;
+        if !takers.has_one() {
+            return Ok(None);
+        }
+        let frame = self.frame(text, number, event)?;
+        Ok(Some(Post { frame, takers }))
+    }
+
+    /// The frame of an event, where it has this number. It is formed in a text that may have been used before.
+    fn frame(&self, text: &mut EventText, number: u64, event: &Event) -> Result<Txt, Memory>
+        ensures { IfOk result
+            (λ frame. frame ≡ frame (spec.telling_of self.now.base (drafted self.now) number event.now)) }
+    {
+        text.clear();
+        self.tell_headers(text, number, event)?;
+        text.end(b"")?;
+        text.frame()
+    }
+
+    /// Which connections want an event, where it has this number.
+    fn takers(&self, number: u64, event: &Event) -> Result<Takers, Memory>
+        ensures { IfOk result (λ takers. takers
+            ≡ spec.takers_of self.now.base.conns (spec.telling_of self.now.base (drafted self.now) number event.now)) }
     {
         let core = self.core;
-        if !core.hears(event.name, b"") {
-            return Ok(None);
+        let mut takers = Takers::new(self.alloc());
+        for seat in 0..core.conns.filled() {
+            takers.push(self.wants_at(seat, number, event)?)?;
         }
-        let telling = self.telling(number, event)?;
-        if !core.wants(&telling) {
-            return Ok(None);
+        Ok(takers)
+    }
+
+    /// Whether the connection that stands at a seat, if one does, wants an event, where it has this number.
+    fn wants_at(&self, seat: usize, number: u64, event: &Event) -> Result<bool, Memory>
+        ensures { IfOk result (λ wants. wants
+            ≡ spec.wants_at (spec.telling_of self.now.base (drafted self.now) number event.now)
+            (held_in self.now.base.conns seat)) }
+    {
+        let core = self.core;
+        match core.conns.get(seat) {
+            Some(row) if row.held.subs.hears(event.name, b"") => {
+                self.is_let_through(&row.held.subs, number, event)
+            }
+            _ => Ok(false),
         }
-        Ok(Some(Post::of(self.alloc(), telling)?))
+    }
+
+    /// Whether filters let an event through, where it has this number.
+    fn is_let_through(&self, subs: &SharedSubs, number: u64, event: &Event) -> Result<bool, Memory>
+        ensures { IfOk result (λ through. through
+            ≡ lets_through subs.now.filters (spec.headers_of self.now.base (drafted self.now) number event.now)) }
+    {
+        let mut sieve = subs.sieve(self.alloc());
+        if !sieve.passes() {
+            self.tell_headers(&mut sieve, number, event)?;
+        }
+        Ok(sieve.passes())
     }
 
     // ---- who is told
@@ -117,25 +169,24 @@ impl<'a> Draft<'a> {
     {
         let core = self.core;
         match core.conns.get(seat) {
-            Some(row) => self.post_to(row, told),
+            Some(row) => self.post_to(seat, row, told),
             None => Ok(()),
         }
     }
 
     /// A connection is posted what it wants of these, as far as there is room, and loses the rest.
     #[tactic(auto, using(crate::proofs::PostLemmas::posted_there))]
-    fn post_to(&mut self, row: &Numbered<Conn>, told: &[Post]) -> Result<(), Memory>
+    fn post_to(&mut self, seat: usize, row: &Numbered<Conn>, told: &[Post]) -> Result<(), Memory>
         ensures { Brings result self.old self.new
             (spec.posted_to self.old.base told.now row.now (drafted self.old)) }
     {
-        let subs = &row.held.subs;
-        if subs.is_idle() || !self.is_there(row.number) {
+        if row.held.subs.is_idle() || !self.is_there(row.number) {
             return Ok(());
         }
         let room = self.room_for(row.number);
-        let frames = frames_within(self.alloc(), subs, told, room)?;
+        let frames = frames_within(self.alloc(), seat, told, room)?;
         self.add_post(row.number, frames)?;
-        self.lose(row.number, lost_behind(subs, told, room))
+        self.lose(row.number, lost_behind(seat, told, room))
     }
 
     /// Whether the connection of a number is there.
@@ -256,66 +307,35 @@ impl Core {
             None => false,
         }
     }
-
-    /// Whether some connection wants an event.
-    #[tactic(auto, using(fs_seats::proofs::SeatLemmas::filled_rules))]
-    fn wants(&self, telling: &Telling) -> bool
-        ensures { result ≡ spec.is_wanted self.now.conns telling.now }
-    {
-        for seat in 0..self.conns.filled() {
-            if self.wants_at(seat, telling) {
-                return true;
-            }
-        }
-        false
-    }
-
-    /// Whether the connection that stands at a seat does.
-    fn wants_at(&self, seat: usize, telling: &Telling) -> bool
-        ensures { result ≡ spec.wants_at telling.now (held_in self.now.conns seat) }
-    {
-        match self.conns.get(seat) {
-            Some(row) => row.held.subs.wants(telling),
-            None => false,
-        }
-    }
 }
 
-/// The frames of the events that a connection wants of these, as many as there is room for.
-fn frames_within(
-    alloc: Global,
-    subs: &SharedSubs,
-    told: &[Post],
-    room: usize,
-) -> Result<Frames, Memory>
-    ensures { IfOk result
-        (λ frames. frames ≡ spec.frames_within room (spec.wanted_by subs.now told.now)) }
+/// The frames of those of these that the connection at a seat wants, as many as there is room for.
+fn frames_within(alloc: Global, seat: usize, told: &[Post], room: usize) -> Result<Frames, Memory>
+    ensures { IfOk result (λ frames. frames ≡ spec.frames_within room (spec.frames_at seat told.now)) }
 {
     let mut frames = Frames::new(alloc);
     for post in told {
-        if frames.len() < room && subs.wants(post.telling()) {
-            frames.push(Outgoing::Event(post.frame().copy()?))?;
+        if frames.len() < room && post.takers.has(seat) {
+            frames.push(Outgoing::Event(post.frame.copy()?))?;
         }
     }
     Ok(frames)
 }
 
-/// How many events that a connection wants there are behind those for which there is room.
+/// How many the connection at a seat wants behind those for which there is room.
 #[tactic(auto, using(crate::proofs::PostLemmas::count_rules))]
-fn lost_behind(subs: &SharedSubs, told: &[Post], room: usize) -> u64
-    ensures { result ≡ length (spec.wanted_by subs.now told.now) - room }
+fn lost_behind(seat: usize, told: &[Post], room: usize) -> u64
+    ensures { result ≡ length (spec.frames_at seat told.now) - room }
 {
     if told.len() <= room {
         return 0;
     }
-    wanted_among(subs, told).saturating_sub(room) as u64
+    wanted_among(seat, told).saturating_sub(room) as u64
 }
 
-/// How many of these a connection wants.
-fn wanted_among(subs: &SharedSubs, told: &[Post]) -> usize
-    ensures { result ≡ count_by (wants subs.now) told.now }
+/// How many of these the connection at a seat wants.
+fn wanted_among(seat: usize, told: &[Post]) -> usize
+    ensures { result ≡ count_by (spec.is_taken seat) told.now }
 {
-    told.iter()
-        .filter(|post| subs.wants(post.telling()))
-        .count()
+    told.iter().filter(|post| post.takers.has(seat)).count()
 }

@@ -1,7 +1,7 @@
 //! All that an event tells: what was told in short, and what the entry leaves.
-ghost use Rattle.std.specs.Prelude.{◌≡◌, [], ◌∷◌, ◌++◌, take, IfOk, OnOk};
+ghost use Rattle.std.specs.Prelude.{◌≡◌, take, OnOk};
 ghost use Rattle.std.specs.Option.{option_copied};
-ghost use Rattle.fs_text.specs.Headers.{with_values};
+ghost use Rattle.fs_text.specs.Headers.{taking, with_values, variable_header};
 ghost use Rattle.fs_state.specs.Drafts.{drafted};
 ghost use Rattle.fs_state.specs.Posting as spec;
 
@@ -9,58 +9,54 @@ use crate::draft::Draft;
 use crate::event::{Detail, Event};
 use fs_bridge::Row;
 use fs_chan::{Action, Chan};
-use fs_event::Event as Telling;
-use fs_text::{Cause, EventName, Headers, Memory, State, Txt, decimal, escape};
+use fs_text::{Cause, EventName, HeaderSink, Memory, State, Txt, give, give_variable};
 use fs_vars::Vars;
-use std::alloc::Global;
+use itoa::Buffer;
 
 // The most bytes of an application's argument that an event tells.
 const ARGUMENT_TOLD: usize = 1_024;
 
+// The bytes of an identifier.
+const UUID_LEN: usize = 36;
+
 impl<'a> Draft<'a> {
-    /// All that an event of the entry in hand tells, where it has this number.
-    #[tactic(auto, unfolding(crate::specs::Posting::telling_of))]
-    pub(crate) fn telling(&self, number: u64, event: &Event) -> Result<Telling, Memory>
-        ensures { IfOk result
-            (λ telling. telling ≡ spec.telling_of self.now.base (drafted self.now) number event.now) }
+    /// Gives a sink all headers of an event of the entry in hand, where it has this number.
+    #[tactic(auto, unfolding(crate::specs::Posting::headers_of))]
+    pub(crate) fn tell_headers<S: HeaderSink>(&self, sink: &mut S, number: u64, event: &Event) -> Result<(), Memory>
+        ensures { OnOk result (sink.new
+            ≡ taking S.taken (spec.headers_of self.now.base (drafted self.now) number event.now) sink.old) }
     {
-        let alloc = self.alloc();
-        let mut told = Told::new(alloc);
-        self.tell_first(&mut told, number, event.name)?;
-        self.tell_chan(&mut told, event.slot)?;
-        self.tell_detail(&mut told, event)?;
-        Ok(Telling {
-            name: event.name,
-            subclass: Txt::of(alloc, b"")?,
-            headers: told.into_headers(),
-            body: Txt::of(alloc, b"")?,
-        })
+        self.tell_first(sink, number, event.name)?;
+        self.tell_chan(sink, event.slot)?;
+        self.tell_detail(sink, event)
     }
 
     /// Tells what all events tell.
-    fn tell_first(&self, told: &mut Told, number: u64, name: EventName) -> Result<(), Memory>
-        ensures { OnOk result (told.new ≡ told.old ++ spec.first_headers (drafted self.now) number name) }
+    fn tell_first<S: HeaderSink>(&self, sink: &mut S, number: u64, name: EventName) -> Result<(), Memory>
+        ensures { OnOk result (sink.new
+            ≡ taking S.taken (spec.first_headers (drafted self.now) number name) sink.old) }
     {
-        let alloc = self.alloc();
-        let core_id = self.settings().core_uuid;
-        told.put(b"Event-Name", Txt::of(alloc, name.name().as_bytes())?)?;
-        told.put(b"Core-UUID", core_id.uuid(alloc, 0)?)?;
-        told.put(b"Event-Sequence", decimal(alloc, number)?)?;
-        told.put(b"Event-Date-Timestamp", decimal(alloc, self.moment())?)?;
-        Ok(())
+        let mut uuid = [0; UUID_LEN];
+        let core = self.settings().core_uuid.uuid_in(0, &mut uuid);
+        let mut sequence = Buffer::new();
+        let mut moment = Buffer::new();
+        sink.put(b"Event-Name", name.name().as_bytes())?;
+        sink.put(b"Core-UUID", core.as_bytes())?;
+        sink.put(b"Event-Sequence", sequence.format(number).as_bytes())?;
+        sink.put(b"Event-Date-Timestamp", moment.format(self.moment()).as_bytes())
     }
 
     /// Tells of the channel in a slot, as the entry leaves it; of one that is gone by then as it was, in its last
     /// state.
-    fn tell_chan(&self, told: &mut Told, slot: u16) -> Result<(), Memory>
-        ensures { OnOk result (told.new
-            ≡ told.old ++ spec.headers_of_chan (spec.chan_told self.now.base (drafted self.now) slot)) }
+    fn tell_chan<S: HeaderSink>(&self, sink: &mut S, slot: u16) -> Result<(), Memory>
+        ensures { OnOk result (sink.new
+            ≡ taking S.taken (spec.headers_of_chan (spec.chan_told self.now.base (drafted self.now) slot)) sink.old) }
     {
         if let Some(chan) = self.chan(slot) {
-            return told.append(chan.headers(self.alloc())?);
+            return chan.tell_in(chan.state, sink);
         }
         match self.core.chan(slot) {
-            Some(was) => told.append(headers_of_gone(self.alloc(), was)?),
+            Some(was) => was.tell_in(State::CsDestroy, sink),
             None => Ok(()),
         }
     }
@@ -77,33 +73,33 @@ impl<'a> Draft<'a> {
     }
 
     /// Tells what the event tells beside its channel.
-    fn tell_detail(&self, told: &mut Told, event: &Event) -> Result<(), Memory>
-        ensures { OnOk result (told.new ≡ told.old ++ with_values
-            (spec.detail_headers self.now.base (drafted self.now) event.now.slot event.now.detail)) }
+    fn tell_detail<S: HeaderSink>(&self, sink: &mut S, event: &Event) -> Result<(), Memory>
+        ensures { OnOk result (sink.new
+            ≡ taking S.taken (with_values
+            (spec.detail_headers self.now.base (drafted self.now) event.now.slot event.now.detail)) sink.old) }
     {
         match &event.detail {
             Detail::Plain => Ok(()),
-            Detail::Application(action) => told.tell_application(action),
-            Detail::Bridge(row) => self.tell_bridge(told, *row),
+            Detail::Application(action) => tell_application(sink, action),
+            Detail::Bridge(row) => self.tell_bridge(sink, *row),
             Detail::Unbridge(row, cause) => {
-                self.tell_bridge(told, *row)?;
-                told.tell_cause(*cause)
+                self.tell_bridge(sink, *row)?;
+                tell_cause(sink, *cause)
             }
-            Detail::Hangup(cause) => told.tell_cause(*cause),
-            Detail::Report => self.tell_report(told, event.slot),
+            Detail::Hangup(cause) => tell_cause(sink, *cause),
+            Detail::Report => self.tell_report(sink, event.slot),
         }
     }
 
     /// Tells the legs of a bridge, and its number.
-    fn tell_bridge(&self, told: &mut Told, row: Row) -> Result<(), Memory>
-        ensures { OnOk result (told.new
-            ≡ told.old ++ with_values (spec.bridge_headers self.now.base (drafted self.now) row)) }
+    fn tell_bridge<S: HeaderSink>(&self, sink: &mut S, row: Row) -> Result<(), Memory>
+        ensures { OnOk result (sink.new
+            ≡ taking S.taken (with_values (spec.bridge_headers self.now.base (drafted self.now) row)) sink.old) }
     {
-        let number = decimal(self.alloc(), row.number)?;
-        told.add(b"Bridge-A-Unique-ID", self.uuid_told(row.caller))?;
-        told.add(b"Bridge-B-Unique-ID", self.uuid_told(row.answerer))?;
-        told.add(b"Bridge-Number", number.as_bytes())?;
-        Ok(())
+        let mut digits = Buffer::new();
+        give(sink, "Bridge-A-Unique-ID", self.uuid_told(row.caller))?;
+        give(sink, "Bridge-B-Unique-ID", self.uuid_told(row.answerer))?;
+        give(sink, "Bridge-Number", digits.format(row.number).as_bytes())
     }
 
     /// The identifier of the channel in a slot, or nothing where none is or was there.
@@ -117,124 +113,28 @@ impl<'a> Draft<'a> {
     }
 
     /// Tells how the call of the channel in a slot was.
-    fn tell_report(&self, told: &mut Told, slot: u16) -> Result<(), Memory>
-        ensures { OnOk result (told.new ≡ told.old ++ with_values
-            (spec.report_headers (spec.chan_told self.now.base (drafted self.now) slot))) }
+    fn tell_report<S: HeaderSink>(&self, sink: &mut S, slot: u16) -> Result<(), Memory>
+        ensures { OnOk result (sink.new
+            ≡ taking S.taken (with_values
+            (spec.report_headers (spec.chan_told self.now.base (drafted self.now) slot))) sink.old) }
     {
         let Some(chan) = self.chan_or_gone(slot) else {
             return Ok(());
         };
         if let Some(cause) = chan.cause {
-            told.tell_cause(cause)?;
+            tell_cause(sink, cause)?;
         }
-        told.tell_variables(&chan.vars)
+        tell_variables(sink, &chan.vars)
     }
 }
 
-/// The headers of a channel that is gone, as it was, in its last state.
-fn headers_of_gone(alloc: Global, was: &Chan) -> Result<Headers, Memory>
-    ensures { IfOk result (λ headers. headers ≡ spec.headers_of_gone was.now) }
+/// Tells an application, and the first bytes of its argument.
+fn tell_application<S: HeaderSink>(sink: &mut S, action: &Action) -> Result<(), Memory>
+    ensures { OnOk result (sink.new
+        ≡ taking S.taken (with_values (spec.application_headers action.now)) sink.old) }
 {
-    let mut gone = was.copy()?;
-    gone.enter(State::CsDestroy);
-    gone.headers(alloc)
-}
-
-/// The headers that are told so far. A contract sees them as that list.
-#[derive(Drop)]
-pub(crate) struct Told {
-    alloc: Global,
-    pairs: Vec<(Txt, Txt)>,
-}
-
-impl std::marker::Model for Told {
-    ghost use Rattle.fs_vars.specs.Pairs.{Pairs};
-
-    ghost Value = { Pairs };
-
-    ghost view = { λ t. t.pairs.items };
-}
-
-impl Told {
-    /// Nothing is told yet.
-    fn new(alloc: Global) -> Told
-        ensures { result ≡ [] }
-    {
-        Told {
-            alloc,
-            pairs: Vec::new(alloc),
-        }
-    }
-
-    /// All that was told.
-    fn into_headers(self) -> Headers
-        ensures { result ≡ self }
-    {
-        Headers::from(self.pairs)
-    }
-
-    /// Tells a header.
-    fn put(&mut self, name: &[u8], value: Txt) -> Result<(), Memory>
-        ensures { OnOk result (self.new ≡ self.old ++ (name.now, value) ∷ []) }
-    {
-        let name = Txt::of(self.alloc, name)?;
-        self.pairs.push((name, value))?;
-        Ok(())
-    }
-
-    /// Tells a header, unless its value is empty.
-    fn add(&mut self, name: &[u8], value: &[u8]) -> Result<(), Memory>
-        ensures { OnOk result (self.new ≡ self.old ++ with_values ((name.now, value.now) ∷ [])) }
-    {
-        if value.is_empty() {
-            return Ok(());
-        }
-        let value = Txt::of(self.alloc, value)?;
-        self.put(name, value)
-    }
-
-    /// Tells these headers.
-    fn append(&mut self, headers: Headers) -> Result<(), Memory>
-        ensures { OnOk result (self.new ≡ self.old ++ headers) }
-    {
-        let mut pairs = Vec::from(headers);
-        self.pairs.append(&mut pairs)?;
-        Ok(())
-    }
-
-    /// Tells an application, and the first bytes of its argument.
-    fn tell_application(&mut self, action: &Action) -> Result<(), Memory>
-        ensures { OnOk result (self.new ≡ self.old ++ with_values (spec.application_headers action.now)) }
-    {
-        self.add(b"Application", action.application.as_bytes())?;
-        self.add(b"Application-Data", argument_told(action))?;
-        Ok(())
-    }
-
-    /// Tells why a channel was hung up, or a bridge ended.
-    fn tell_cause(&mut self, cause: Cause) -> Result<(), Memory>
-        ensures { OnOk result (self.new ≡ self.old ++ with_values (spec.cause_header cause)) }
-    {
-        self.add(b"Hangup-Cause", cause.name().as_bytes())
-    }
-
-    /// Tells variables, in order, with their names escaped.
-    fn tell_variables(&mut self, vars: &Vars) -> Result<(), Memory>
-        ensures { OnOk result (self.new ≡ self.old ++ with_values (spec.variable_headers vars.now)) }
-    {
-        for (name, value) in vars.pairs() {
-            self.tell_variable(name, value)?;
-        }
-        Ok(())
-    }
-
-    /// Tells a variable, with its name escaped.
-    fn tell_variable(&mut self, name: &[u8], value: &Txt) -> Result<(), Memory>
-        ensures { OnOk result (self.new ≡ self.old ++ with_values (spec.variable_header (name.now, value.now) ∷ [])) }
-    {
-        let name = variable_name(self.alloc, name)?;
-        self.add(&name, value.as_bytes())
-    }
+    give(sink, "Application", action.application.as_bytes())?;
+    give(sink, "Application-Data", argument_told(action))
 }
 
 /// The first bytes of an application's argument.
@@ -246,12 +146,20 @@ fn argument_told(action: &Action) -> &[u8]
     &argument[..ARGUMENT_TOLD.min(argument.len())]
 }
 
-/// The name of the header of a variable.
-fn variable_name(alloc: Global, name: &[u8]) -> Result<Vec<u8>, Memory>
-    ensures { IfOk result (λ text. text.items ≡ spec.variable_name name.now) }
+/// Tells why a channel was hung up, or a bridge ended.
+fn tell_cause<S: HeaderSink>(sink: &mut S, cause: Cause) -> Result<(), Memory>
+    ensures { OnOk result (sink.new ≡ taking S.taken (with_values (spec.cause_header cause)) sink.old) }
 {
-    let escaped = escape(alloc, name)?;
-    let mut text = Vec::from_slice(alloc, b"variable_")?;
-    text.extend_from_slice(escaped.as_bytes())?;
-    Ok(text)
+    give(sink, "Hangup-Cause", cause.name().as_bytes())
+}
+
+/// Tells variables, in order, with their names escaped.
+fn tell_variables<S: HeaderSink>(sink: &mut S, vars: &Vars) -> Result<(), Memory>
+    ensures { OnOk result (sink.new
+        ≡ taking S.taken (with_values (spec.variable_headers vars.now)) sink.old) }
+{
+    for (name, value) in vars.pairs() {
+        give_variable(sink, name, value.as_bytes())?;
+    }
+    Ok(())
 }

@@ -4,5 +4,6 @@ pub mod IdLemmas
 pub mod NumberLemmas
 pub mod Offsets
 pub mod TableLemmas
+pub mod TakingLemmas
 pub mod TheTables
 pub mod NamingLemmas

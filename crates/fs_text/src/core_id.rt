@@ -59,8 +59,16 @@ impl CoreId {
         ensures { IfOk result (λ t. t ≡ uuid self.now n) }
     {
         let mut buffer = Uuid::encode_buffer();
-        let text = hyphenated(self.high, FIRST + n, &mut buffer);
-        Txt::of(alloc, text.as_bytes())
+        Txt::of(alloc, self.uuid_in(n, &mut buffer).as_bytes())
+    }
+
+    /// The same text, written into a buffer of at least 36 bytes. Takes no memory.
+    pub fn uuid_in<'a>(&self, n: u64, buffer: &'a mut [u8]) -> &'a str
+        requires number { n < 2 ^ 62 }
+        requires room { 36 ≤ length buffer.old }
+        ensures { result.now ≡ uuid self.now n }
+    {
+        hyphenated(self.high, FIRST + n, buffer)
     }
 
     /// Whether a text is a UUID, in any of its forms, whose high half is this switch's.

@@ -1,6 +1,6 @@
 //! How the values of headers are escaped.
 
-ghost use Rattle.std.specs.Prelude.{◌≡◌, ◌<◌, ℕ, List, IfOk, All};
+ghost use Rattle.std.specs.Prelude.{◌≡◌, ◌<◌, ◌++◌, ℕ, List, IfOk, OnOk, All};
 ghost use Rattle.percent_encoding.specs.Percent.{percent_decode};
 ghost use Rattle.fs_text.specs.Escape.{escape, IsClean};
 
@@ -43,8 +43,19 @@ pub fn escape(alloc: Global, bytes: &[u8]) -> Result<Txt, Memory>
     ensures escaped { IfOk result (λ t. t ≡ escape bytes.now) }
     ensures clean { IfOk result (All IsClean) }
 {
-    let escaped = percent_encode(bytes, MARKS).into_cow(alloc)?;
-    Txt::of(alloc, escaped.as_bytes())
+    let mut escaped = Vec::with_capacity(alloc, bytes.len())?;
+    push_escaped(&mut escaped, bytes)?;
+    Txt::from_vec(escaped)
+}
+
+/// Adds the escapes of some bytes to a text.
+pub fn push_escaped(text: &mut Vec<u8>, bytes: &[u8]) -> Result<(), Memory>
+    ensures { OnOk result (text.new.items ≡ text.old.items ++ escape bytes.now) }
+{
+    for piece in percent_encode(bytes, MARKS) {
+        text.extend_from_slice(piece.as_bytes())?;
+    }
+    Ok(())
 }
 
 /// Law: percent-decoding gives an escaped text back.

@@ -1,8 +1,9 @@
-//! Lists of names and values, and the lines that tell them.
+//! Lists of names and values, what takes them one by one, and the lines that tell them.
 
-ghost use Rattle.std.specs.Prelude.{◌≡◌, [], ◌∷◌, ◌++◌, length, take, OnOk, OnErr};
+ghost use Rattle.std.specs.Prelude.{◌≡◌, ℕ, List, [], ◌∷◌, ◌++◌, length, take, IfOk, OnOk, OnErr};
 ghost use Rattle.fs_text.specs.Headers as spec;
 
+use crate::escapes::push_escaped;
 use crate::memory::Memory;
 use crate::text::Txt;
 use std::alloc::Global;
@@ -68,6 +69,65 @@ impl From<Headers> for Vec<(Txt, Txt)> {
     fn from(headers: Headers) -> Vec<(Txt, Txt)> {
         headers.pairs
     }
+}
+
+/// What takes headers one by one: a list, a text, a filter.
+pub trait HeaderSink {
+    // What it is once it has taken a header.
+    ghost taken: { List ℕ × List ℕ → Self → Self };
+
+    /// Takes a header.
+    fn put(&mut self, name: &[u8], value: &[u8]) -> Result<(), Memory>
+        ensures { OnOk result (self.new ≡ Self.taken (name.now, value.now) self.old) };
+
+    /// Takes the header of a variable: `variable_`, and its name escaped.
+    fn put_variable(&mut self, name: &[u8], value: &[u8]) -> Result<(), Memory>
+        ensures { OnOk result (self.new ≡ Self.taken (spec.variable_name name.now, value.now) self.old) };
+}
+
+/// Gives a sink a header, unless its value is empty.
+pub fn give<S: HeaderSink>(sink: &mut S, name: &str, value: &[u8]) -> Result<(), Memory>
+    ensures { OnOk result
+        (sink.new ≡ spec.taking S.taken (spec.with_values ((name.now, value.now) ∷ [])) sink.old) }
+{
+    if value.is_empty() {
+        return Ok(());
+    }
+    sink.put(name.as_bytes(), value)
+}
+
+/// Gives a sink the header of a variable, unless its value is empty.
+pub fn give_variable<S: HeaderSink>(sink: &mut S, name: &[u8], value: &[u8]) -> Result<(), Memory>
+    ensures { OnOk result
+        (sink.new ≡ spec.taking S.taken (spec.with_values ((spec.variable_name name.now, value.now) ∷ [])) sink.old) }
+{
+    if value.is_empty() {
+        return Ok(());
+    }
+    sink.put_variable(name, value)
+}
+
+impl HeaderSink for Headers {
+    ghost taken = { λ header headers. headers ++ header ∷ [] };
+
+    fn put(&mut self, name: &[u8], value: &[u8]) -> Result<(), Memory> {
+        let alloc = *self.pairs.allocator();
+        self.push(Txt::of(alloc, name)?, Txt::of(alloc, value)?)
+    }
+
+    fn put_variable(&mut self, name: &[u8], value: &[u8]) -> Result<(), Memory> {
+        let alloc = *self.pairs.allocator();
+        self.push(variable_name(alloc, name)?, Txt::of(alloc, value)?)
+    }
+}
+
+/// The name of the header of a variable: `variable_`, and its name escaped.
+pub fn variable_name(alloc: Global, name: &[u8]) -> Result<Txt, Memory>
+    ensures { IfOk result (λ text. text ≡ spec.variable_name name.now) }
+{
+    let mut text = Vec::from_slice(alloc, b"variable_")?;
+    push_escaped(&mut text, name)?;
+    Txt::from_vec(text)
 }
 
 /// Adds the line of a header to a text.

@@ -16,9 +16,9 @@ mod words;
 
 pub use causes::Cause;
 pub use core_id::CoreId;
-pub use escapes::{escape, escape_law};
+pub use escapes::{escape, escape_law, push_escaped};
 pub use event_names::EventName;
-pub use headers::{Headers, push_header};
+pub use headers::{HeaderSink, Headers, give, give_variable, push_header, variable_name};
 pub use memory::Memory;
 pub use numbers::{decimal, decimal_law, read_u64};
 pub use search::offset_of;

@@ -1,8 +1,0 @@
-use Rattle.std.proofs.Common.{◌∙◌, ap}
-use Rattle.fs_text.specs.CoreId.{uuid}
-use Rattle.fs_text.proofs.core_id.CoreId.uuid.Goals as goal
-
-pub returns : goal.returns
-unfolding uuid
-returns c =
-    rw (c.as_bytes.ensures.value ∙ c.hyphenated-text.ensures ∙ ap (λ high. uuid high c.args.n) c.self.view_is) at c.of.ensures

@@ -1,4 +1,3 @@
-pub mod HeaderLemmas
 pub mod NameLemmas
 pub mod WorkLemmas
 pub mod TargetLemmas

@@ -58,6 +58,13 @@ impl EventText {
         Ok(())
     }
 
+    /// The text.
+    pub fn into_text(self) -> Result<Txt, Memory>
+        ensures { IfOk result (λ t. t ≡ self) }
+    {
+        Txt::from_vec(self.bytes)
+    }
+
     /// The frame of the text: its length and its type stand in front.
     pub fn frame(&self) -> Result<Txt, Memory>
         ensures { IfOk result (λ t. t ≡ spec.frame_of self.now) }
@@ -114,8 +121,7 @@ impl HeaderSink for EventText {
 pub fn plain(alloc: Global, event: &Event) -> Result<Txt, Memory>
     ensures { IfOk result (λ t. t ≡ spec.plain event.now) }
 {
-    let text = EventText::of(alloc, event)?;
-    Txt::from_vec(text.bytes)
+    EventText::of(alloc, event)?.into_text()
 }
 
 /// The frame of an event: its plain text, with the length and the type of that in front.

@@ -6,5 +6,4 @@ pub mod CountLemmas
 pub mod LegTables
 pub mod GiftLemmas
 pub mod HangupLemmas
-pub mod TellLemmas
 pub mod PostLemmas

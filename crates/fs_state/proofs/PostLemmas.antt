@@ -1,17 +1,20 @@
 -- What an entry posts of its events, as a draft forms it: what nobody wants is left out, and connections are gone through one by one.
 use Rattle.std.proofs.Common.{◌≡◌, ℕ, suc, ◌+◌, ◌-◌, ◌^◌, ◌<◌, ◌≤◌, ◌==◌, min, Bool, true, false, ◌&&◌, ◌||◌, cond, if◌then◌else◌, List}
 use Rattle.std.proofs.Common.{[], ◌∷◌, ◌++◌, length, map, take, drop, get_or, Option, None, Some, refl, sym, ap, subst, ◌∙◌}
-use Rattle.std.proofs.Common.{append_assoc, append-nil, arith}
-use Rattle.std.specs.Prelude.{is_some, filter, count_by}
+use Rattle.std.proofs.Common.{append_assoc, append-nil, arith, zero, inl, inr}
+use Rattle.std.specs.Prelude.{is_some, filter, count_by, option_map}
+use Rattle.std.specs.List.{list_any}
+use Rattle.std.proofs.Math.ListN.{get_or-map}
 use Rattle.std.proofs.Math.Seq.{take-nil, take-length}
-use Rattle.std.proofs.lemmas.Bool.{true≢false, eqb-true}
-use Rattle.std.proofs.lemmas.List.{at_drop_more, get_or-drop, length-map, length-take, length-append, take_min, take-append-le, map-append}
+use Rattle.std.proofs.lemmas.Bool.{true≢false, eqb-true, cases_lt}
+use Rattle.std.proofs.lemmas.List.{at_drop_more, get_or-drop, get_or-take, length-map, length-take, length-append, take_min, take_more}
+use Rattle.std.proofs.lemmas.List.{take-append-le, map-append}
 use Rattle.std.proofs.lemmas.List.Elements.{filter_more}
 use Rattle.std.proofs.lemmas.List.Sums.{length-filter, count_by-le-length}
 use Rattle.fs_text.specs.Texts.{Text}
 use Rattle.fs_event.specs.declared.event.Event.{Event as Telling}
 use Rattle.fs_event.specs.Texts.{frame}
-use Rattle.fs_filter.specs.Subscriptions.{Subscription, HearsNothing, lets_through, wants}
+use Rattle.fs_filter.specs.Subscriptions.{Subscription, lets_through, wants}
 use Rattle.fs_seats.specs.declared.numbered.Numbered.{Numbered}
 use Rattle.fs_seats.specs.Seats.{held_in, first_seat, IsEmptyFrom}
 use Rattle.fs_seats.specs.Rows.{seat_of}
@@ -19,12 +22,14 @@ use Rattle.fs_state.specs.declared.conn.Conn.{Conn}
 use Rattle.fs_state.specs.declared.event.Event.{Event}
 use Rattle.fs_state.specs.declared.gift.Gift.{Gift}
 use Rattle.fs_state.specs.declared.outgoing.Outgoing.TheVariants as outgoing
+use Rattle.fs_state.specs.declared.post.Post.{Post}
 use Rattle.fs_state.specs.Frames.{Frames}
 use Rattle.fs_state.specs.Losses.{Losses}
 use Rattle.fs_state.specs.Switch.{Switch}
 use Rattle.fs_state.specs.Posting.{telling_of, tellings_from, tellings, wanted_by, posts_of, wanted_of, posts_at, posts_from, with_loss_of}
 use Rattle.fs_state.specs.Posting.{losses_from, posts, losses_after, with_posts, wants_at, is_wanted, hears_at, is_heard, AreDeaf, told_of}
-use Rattle.fs_state.specs.Posting.{told, room_for, frames_within, gifts_of, with_post, with_lost, posted_to, posted_at, posted_over}
+use Rattle.fs_state.specs.Posting.{told, post_of, posts_told, is_taken, frames_at, room_for, frames_within, gifts_of, with_post, with_lost}
+use Rattle.fs_state.specs.Posting.{left_for, posted_to, posted_at, posted_over}
 
 -- ---- what nobody hears nobody wants
 
@@ -60,6 +65,20 @@ unheard_from telling (held ∷ conns) k none = by (hears_at telling.name telling
 unheard : (conns : Seats) (telling : Telling) → is_heard conns telling.name telling.subclass ≡ false → is_wanted conns telling ≡ false
 unheard conns telling none = unheard_from telling conns 0 none
 
+-- one of these connections wants an event
+abbrev wants_any : Telling → Seats → Bool
+wants_any telling [] = false
+wants_any telling (held ∷ conns) = wants_at telling held || wants_any telling conns
+
+any_seat : (telling : Telling) (conns : Seats) (k : ℕ) → is_some (first_seat (wants_at telling) conns k) ≡ wants_any telling conns
+any_seat telling [] k = refl
+any_seat telling (held ∷ conns) k = by (wants_at telling held) (any_seat telling conns (k + 1))
+  where
+    by : (b : Bool) → is_some (first_seat (wants_at telling) conns (k + 1)) ≡ wants_any telling conns →
+        is_some (if b then Some k else first_seat (wants_at telling) conns (k + 1)) ≡ (b || wants_any telling conns)
+    by true rest = refl
+    by false rest = rest
+
 -- an event that nobody hears is not told
 pub untold_unheard : (before s : Switch) (number : ℕ) (event : Event) → is_heard before.conns event.name [] ≡ false →
     told_of before s number event ≡ None
@@ -68,11 +87,16 @@ untold_unheard before s number event none =
     ap (λ b. if b then Some (telling_of before s number event) else None) (unheard before.conns (telling_of before s number event) none)
 
 -- one that somebody wants is
-pub told_wanted : (before s : Switch) (number : ℕ) (event : Event) (telling : Telling) → telling ≡ telling_of before s number event →
-    is_wanted before.conns telling ≡ true → Some telling ≡ told_of before s number event
-told_wanted before s number event telling is wanted =
-    ap (λ (t : Telling). Some t) is
-    ∙ sym (ap (λ b. if b then Some (telling_of before s number event) else None) (ap (is_wanted before.conns) (sym is) ∙ wanted))
+pub told_wanted : (before s : Switch) (number : ℕ) (event : Event) → is_wanted before.conns (telling_of before s number event) ≡ true →
+    told_of before s number event ≡ Some (telling_of before s number event)
+told_wanted before s number event wanted =
+    ap (λ b. if b then Some (telling_of before s number event) else None) wanted
+
+-- one that nobody wants is not
+pub told_unwanted : (before s : Switch) (number : ℕ) (event : Event) → is_wanted before.conns (telling_of before s number event) ≡ false →
+    told_of before s number event ≡ None
+told_unwanted before s number event unwanted =
+    ap (λ b. if b then Some (telling_of before s number event) else None) unwanted
 
 -- where nobody hears anything none is
 deaf_filter : (conns : Seats) (all : List Telling) → AreDeaf conns → filter (is_wanted conns) all ≡ []
@@ -110,63 +134,107 @@ pub told_whole : (before s : Switch) → told_from before s (s.counts.all + 1) s
 unfolding tellings
 told_whole before s = refl
 
-told_case : (b : Bool) (telling : Telling) (more : List Telling) (post : Option Telling) → post ≡ (if b then Some telling else None) →
-    (t : Telling) → post ≡ Some t → cond b (telling ∷ more) more ≡ t ∷ more
-told_case true telling more post is t some =
-    let same : Some telling ≡ Some t = sym is ∙ some in
-    let one : telling ≡ t = cc in
-    ap (λ t. t ∷ more) one
-told_case false telling more post is t some = let no : None ≡ Some t = sym is ∙ some in absurd cc
+-- the posts of those events
+abbrev pub posts_left : ℕ → Switch → Switch → ℕ → List Event → List Post
+posts_left seats before s number events = map (post_of (take seats before.conns)) (told_from before s number events)
 
-untold_case : (b : Bool) (telling : Telling) (more : List Telling) (post : Option Telling) → post ≡ (if b then Some telling else None) →
-    post ≡ None → cond b (telling ∷ more) more ≡ more
-untold_case true telling more post is none = let no : Some telling ≡ None = sym is ∙ none in absurd cc
-untold_case false telling more post is none = refl
+told_case : (of : Telling → Post) (b : Bool) (telling : Telling) (more : List Telling) (post : Option Post) →
+    post ≡ option_map of (if b then Some telling else None) → (p : Post) → post ≡ Some p →
+    map of (cond b (telling ∷ more) more) ≡ p ∷ map of more
+told_case of true telling more post is p some =
+    let same : Some (of telling) ≡ Some p = sym is ∙ some in
+    let one : of telling ≡ p = cc in
+    ap (λ (p : Post). p ∷ map of more) one
+told_case of false telling more post is p some = let no : None ≡ Some p = sym is ∙ some in absurd cc
+
+untold_case : (of : Telling → Post) (b : Bool) (telling : Telling) (more : List Telling) (post : Option Post) →
+    post ≡ option_map of (if b then Some telling else None) → post ≡ None →
+    map of (cond b (telling ∷ more) more) ≡ map of more
+untold_case of true telling more post is none = let no : Some (of telling) ≡ None = sym is ∙ none in absurd cc
+untold_case of false telling more post is none = refl
 
 -- the next event is told, or not
-pub told_next : (before s : Switch) (posts all : List Telling) (events : List Event) (number n i : ℕ) (d : Event) (t : Telling)
-    (post : Option Telling) →
+pub told_next : (seats : ℕ) (before s : Switch) (posts all : List Post) (events : List Event) (number n i : ℕ) (d : Event) (p : Post)
+    (post : Option Post) →
     i < length events → number ≡ min n (2 ^ 64 - 1) →
-    posts ++ told_from before s n (drop i events) ≡ all →
-    post ≡ told_of before s number (get_or events i d) → post ≡ Some t →
-    (posts ++ t ∷ []) ++ told_from before s (n + 1) (drop (i + 1) events) ≡ all
-told_next before s posts all events number n i d t post within is kept told some =
+    posts ++ posts_left seats before s n (drop i events) ≡ all →
+    post ≡ option_map (post_of (take seats before.conns)) (told_of before s number (get_or events i d)) → post ≡ Some p →
+    (posts ++ p ∷ []) ++ posts_left seats before s (n + 1) (drop (i + 1) events) ≡ all
+told_next seats before s posts all events number n i d p post within is kept told some =
+    let of = post_of (take seats before.conns) in
     let event = get_or events i d in
     let more = told_from before s (n + 1) (drop (i + 1) events) in
-    let here : told_from before s n (drop i events) ≡ t ∷ more =
-    at_drop_more (told_from before s n) events i d within
-    ∙ told_case (is_wanted before.conns (telling_of before s (min n (2 ^ 64 - 1)) event)) (telling_of before s (min n (2 ^ 64 - 1)) event)
-    more post (told ∙ ap (λ k. told_of before s k event) is) t some in
-    append_assoc posts (t ∷ []) more ∙ sym (ap (λ rest. posts ++ rest) here) ∙ kept
+    let here : posts_left seats before s n (drop i events) ≡ p ∷ map of more =
+    at_drop_more (posts_left seats before s n) events i d within
+    ∙ told_case of (is_wanted before.conns (telling_of before s (min n (2 ^ 64 - 1)) event)) (telling_of before s (min n (2 ^ 64 - 1)) event)
+    more post (told ∙ ap (λ k. option_map of (told_of before s k event)) is) p some in
+    append_assoc posts (p ∷ []) (map of more) ∙ sym (ap (λ rest. posts ++ rest) here) ∙ kept
 
-pub told_skip : (before s : Switch) (posts all : List Telling) (events : List Event) (number n i : ℕ) (d : Event)
-    (post : Option Telling) →
+pub told_skip : (seats : ℕ) (before s : Switch) (posts all : List Post) (events : List Event) (number n i : ℕ) (d : Event)
+    (post : Option Post) →
     i < length events → number ≡ min n (2 ^ 64 - 1) →
-    posts ++ told_from before s n (drop i events) ≡ all →
-    post ≡ told_of before s number (get_or events i d) → post ≡ None →
-    posts ++ told_from before s (n + 1) (drop (i + 1) events) ≡ all
-told_skip before s posts all events number n i d post within is kept told none =
+    posts ++ posts_left seats before s n (drop i events) ≡ all →
+    post ≡ option_map (post_of (take seats before.conns)) (told_of before s number (get_or events i d)) → post ≡ None →
+    posts ++ posts_left seats before s (n + 1) (drop (i + 1) events) ≡ all
+told_skip seats before s posts all events number n i d post within is kept told none =
+    let of = post_of (take seats before.conns) in
     let event = get_or events i d in
     let more = told_from before s (n + 1) (drop (i + 1) events) in
-    let here : told_from before s n (drop i events) ≡ more =
-    at_drop_more (told_from before s n) events i d within
-    ∙ untold_case (is_wanted before.conns (telling_of before s (min n (2 ^ 64 - 1)) event))
-    (telling_of before s (min n (2 ^ 64 - 1)) event) more post (told ∙ ap (λ k. told_of before s k event) is) none in
+    let here : posts_left seats before s n (drop i events) ≡ map of more =
+    at_drop_more (posts_left seats before s n) events i d within
+    ∙ untold_case of (is_wanted before.conns (telling_of before s (min n (2 ^ 64 - 1)) event))
+    (telling_of before s (min n (2 ^ 64 - 1)) event) more post (told ∙ ap (λ k. option_map of (told_of before s k event)) is) none in
     sym (ap (λ rest. posts ++ rest) here) ∙ kept
+
+-- ---- who wants it
+
+-- whether one of some connections does
+pub taken_any : (telling : Telling) (conns : Seats) → list_any (λ wants. wants) (map (wants_at telling) conns) ≡ wants_any telling conns
+taken_any telling [] = refl
+taken_any telling (held ∷ conns) = ap (λ more. wants_at telling held || more) (taken_any telling conns)
+
+-- where no more seats are filled nobody else does
+none_wants : (telling : Telling) (conns : Seats) → ((k : ℕ) → held_in conns k ≡ None) → wants_any telling conns ≡ false
+none_wants telling [] none = refl
+none_wants telling (held ∷ conns) none =
+    ap (λ here. wants_at telling here || wants_any telling conns) (none 0) ∙ none_wants telling conns (λ k. none (suc k))
+
+front_any : (telling : Telling) (seats : ℕ) (conns : Seats) → ((k : ℕ) → seats ≤ k → held_in conns k ≡ None) →
+    wants_any telling (take seats conns) ≡ wants_any telling conns
+front_any telling zero conns none = ap (wants_any telling) (take-nil conns) ∙ sym (none_wants telling conns (λ k. none k (omega arith)))
+front_any telling (suc seats) [] none = refl
+front_any telling (suc seats) (held ∷ conns) none =
+    ap (λ more. wants_at telling held || more) (front_any telling seats conns (λ k from. none (suc k) (omega (arith, from))))
+
+pub wanted_front : (telling : Telling) (seats : ℕ) (conns : Seats) → IsEmptyFrom seats conns →
+    list_any (λ wants. wants) (map (wants_at telling) (take seats conns)) ≡ is_wanted conns telling
+wanted_front telling seats conns empty =
+    taken_any telling (take seats conns) ∙ front_any telling seats conns empty.each ∙ sym (any_seat telling conns 0)
+
+-- the next seat is asked
+pub taken_next : (telling : Telling) (conns : Seats) (seat : ℕ) (asked : List Bool) (wants : Bool) → seat < length conns →
+    asked ≡ map (wants_at telling) (take seat conns) → wants ≡ wants_at telling (held_in conns seat) →
+    asked ++ wants ∷ [] ≡ map (wants_at telling) (take (seat + 1) conns)
+taken_next telling conns seat asked wants within is here =
+    ap (λ some. some ++ wants ∷ []) is
+    ∙ ap (λ wants. map (wants_at telling) (take seat conns) ++ wants ∷ []) here
+    ∙ sym (ap (map (wants_at telling)) (take_more conns seat None within)
+    ∙ map-append (wants_at telling) (take seat conns) (held_in conns seat ∷ []))
 
 -- ---- the frames of one connection
 
-map_if : (b : Bool) (telling : Telling) → map frame (cond b (telling ∷ []) []) ≡ cond b (frame telling ∷ []) []
-map_if true telling = refl
-map_if false telling = refl
+map_if : (b : Bool) (post : Post) → map (λ (post : Post). post.frame) (cond b (post ∷ []) []) ≡ cond b (post.frame ∷ []) []
+map_if true post = refl
+map_if false post = refl
 
-wanted_more : (subs : Subscription) (all : List Telling) (i : ℕ) (d : Telling) → i < length all →
-    wanted_by subs (take (i + 1) all)
-    ≡ wanted_by subs (take i all) ++ cond (wants subs (get_or all i d)) (frame (get_or all i d) ∷ []) []
-wanted_more subs all i d within =
-    ap (map frame) (filter_more (wants subs) all i d within)
-    ∙ map-append frame (filter (wants subs) (take i all)) (cond (wants subs (get_or all i d)) (get_or all i d ∷ []) [])
-    ∙ ap (λ more. wanted_by subs (take i all) ++ more) (map_if (wants subs (get_or all i d)) (get_or all i d))
+taken_more : (seat : ℕ) (posts : List Post) (i : ℕ) (d : Post) → i < length posts →
+    frames_at seat (take (i + 1) posts)
+    ≡ frames_at seat (take i posts) ++ cond (is_taken seat (get_or posts i d)) ((get_or posts i d).frame ∷ []) []
+taken_more seat posts i d within =
+    ap (map (λ (post : Post). post.frame)) (filter_more (is_taken seat) posts i d within)
+    ∙ map-append (λ (post : Post). post.frame) (filter (is_taken seat) (take i posts))
+    (cond (is_taken seat (get_or posts i d)) (get_or posts i d ∷ []) [])
+    ∙ ap (λ more. frames_at seat (take i posts) ++ more) (map_if (is_taken seat (get_or posts i d)) (get_or posts i d))
 
 within_length : (room : ℕ) (texts : List Text) → length (frames_within room texts) ≡ min room (length texts)
 within_length room texts = length-map (take room texts) outgoing.Event ∙ length-take room texts
@@ -191,47 +259,80 @@ within_full room texts more full =
     ap (map outgoing.Event) (take-append-le room texts more (omega (arith, full, within_length room texts)))
 
 -- the next event is wanted, and there is room
-pub frame_taken : (room i : ℕ) (subs : Subscription) (all : List Telling) (frames : Frames) (d : Telling) → i < length all →
-    frames ≡ frames_within room (wanted_by subs (take i all)) → length frames < room → wants subs (get_or all i d) ≡ true →
-    frames ++ outgoing.Event (frame (get_or all i d)) ∷ [] ≡ frames_within room (wanted_by subs (take (i + 1) all))
-frame_taken room i subs all frames d within is more wanted =
-    let room_left : length (frames_within room (wanted_by subs (take i all))) < room =
+pub frame_taken : (room i seat : ℕ) (posts : List Post) (frames : Frames) (d : Post) → i < length posts →
+    frames ≡ frames_within room (frames_at seat (take i posts)) → length frames < room → is_taken seat (get_or posts i d) ≡ true →
+    frames ++ outgoing.Event (get_or posts i d).frame ∷ [] ≡ frames_within room (frames_at seat (take (i + 1) posts))
+frame_taken room i seat posts frames d within is more wanted =
+    let room_left : length (frames_within room (frames_at seat (take i posts))) < room =
     subst (λ (some : Frames). length some < room) is more in
-    ap (λ (some : Frames). some ++ outgoing.Event (frame (get_or all i d)) ∷ []) is
-    ∙ sym (ap (frames_within room) (wanted_more subs all i d within
-    ∙ ap (λ b. wanted_by subs (take i all) ++ cond b (frame (get_or all i d) ∷ []) []) wanted)
-    ∙ within_room room (wanted_by subs (take i all)) (frame (get_or all i d)) room_left)
+    ap (λ (some : Frames). some ++ outgoing.Event (get_or posts i d).frame ∷ []) is
+    ∙ sym (ap (frames_within room) (taken_more seat posts i d within
+    ∙ ap (λ b. frames_at seat (take i posts) ++ cond b ((get_or posts i d).frame ∷ []) []) wanted)
+    ∙ within_room room (frames_at seat (take i posts)) (get_or posts i d).frame room_left)
 
 -- there is no room
-pub frame_lost : (room i : ℕ) (subs : Subscription) (all : List Telling) (frames : Frames) (d : Telling) → i < length all →
-    frames ≡ frames_within room (wanted_by subs (take i all)) → room ≤ length frames →
-    frames ≡ frames_within room (wanted_by subs (take (i + 1) all))
-frame_lost room i subs all frames d within is full =
-    let none_left : room ≤ length (frames_within room (wanted_by subs (take i all))) =
+pub frame_lost : (room i seat : ℕ) (posts : List Post) (frames : Frames) (d : Post) → i < length posts →
+    frames ≡ frames_within room (frames_at seat (take i posts)) → room ≤ length frames →
+    frames ≡ frames_within room (frames_at seat (take (i + 1) posts))
+frame_lost room i seat posts frames d within is full =
+    let none_left : room ≤ length (frames_within room (frames_at seat (take i posts))) =
     subst (λ (some : Frames). room ≤ length some) is full in
     is
-    ∙ sym (ap (frames_within room) (wanted_more subs all i d within)
-    ∙ within_full room (wanted_by subs (take i all)) (cond (wants subs (get_or all i d)) (frame (get_or all i d) ∷ []) []) none_left)
+    ∙ sym (ap (frames_within room) (taken_more seat posts i d within)
+    ∙ within_full room (frames_at seat (take i posts)) (cond (is_taken seat (get_or posts i d)) ((get_or posts i d).frame ∷ []) []) none_left)
 
 -- it is not wanted
-pub frame_unwanted : (room i : ℕ) (subs : Subscription) (all : List Telling) (frames : Frames) (d : Telling) → i < length all →
-    frames ≡ frames_within room (wanted_by subs (take i all)) → wants subs (get_or all i d) ≡ false →
-    frames ≡ frames_within room (wanted_by subs (take (i + 1) all))
-frame_unwanted room i subs all frames d within is unwanted =
+pub frame_unwanted : (room i seat : ℕ) (posts : List Post) (frames : Frames) (d : Post) → i < length posts →
+    frames ≡ frames_within room (frames_at seat (take i posts)) → is_taken seat (get_or posts i d) ≡ false →
+    frames ≡ frames_within room (frames_at seat (take (i + 1) posts))
+frame_unwanted room i seat posts frames d within is unwanted =
     is
-    ∙ sym (ap (frames_within room) (wanted_more subs all i d within
-    ∙ ap (λ b. wanted_by subs (take i all) ++ cond b (frame (get_or all i d) ∷ []) []) unwanted
-    ∙ append-nil (wanted_by subs (take i all))))
+    ∙ sym (ap (frames_within room) (taken_more seat posts i d within
+    ∙ ap (λ b. frames_at seat (take i posts) ++ cond b ((get_or posts i d).frame ∷ []) []) unwanted
+    ∙ append-nil (frames_at seat (take i posts))))
 
 -- how many are wanted
-pub wanted_count : (subs : Subscription) (all : List Telling) → length (wanted_by subs all) ≡ count_by (wants subs) all
-wanted_count subs all = length-map (filter (wants subs) all) frame ∙ length-filter (wants subs) all
+pub wanted_count : (seat : ℕ) (posts : List Post) → length (frames_at seat posts) ≡ count_by (is_taken seat) posts
+wanted_count seat posts = length-map (filter (is_taken seat) posts) (λ (post : Post). post.frame) ∙ length-filter (is_taken seat) posts
 
 -- no more than there are
-pub wanted_few : (subs : Subscription) (all : List Telling) → length (wanted_by subs all) ≤ length all
-wanted_few subs all = omega (arith, wanted_count subs all, count_by-le-length (wants subs) all)
+pub wanted_few : (seat : ℕ) (posts : List Post) → length (frames_at seat posts) ≤ length posts
+wanted_few seat posts = omega (arith, wanted_count seat posts, count_by-le-length (is_taken seat) posts)
 
 pub ruleset count_rules = (wanted_count, wanted_few)
+
+front_held : (seats seat : ℕ) (conns : Seats) (row : Numbered Conn) → IsEmptyFrom seats conns → held_in conns seat ≡ Some row →
+    held_in (take seats conns) seat ≡ Some row
+front_held seats seat conns row empty held =
+    elim (cases_lt seat seats) [
+      | inl before ↦ get_or-take seats conns seat None before ∙ held
+      | inr behind ↦ let no : Some row ≡ None = sym held ∙ empty.each seat behind in absurd cc
+    ]
+
+-- the connection at a seat wants of these events what it has subscribed
+taken_at : (seats seat : ℕ) (conns : Seats) (row : Numbered Conn) (telling : Telling) → IsEmptyFrom seats conns →
+    held_in conns seat ≡ Some row →
+    is_taken seat (post_of (take seats conns) telling) ≡ wants row.held.subs telling
+taken_at seats seat conns row telling empty held =
+    get_or-map (wants_at telling) (take seats conns) seat None
+    ∙ ap (wants_at telling) (front_held seats seat conns row empty held)
+
+pub taken_frames : (seats seat : ℕ) (conns : Seats) (row : Numbered Conn) (all : List Telling) → IsEmptyFrom seats conns →
+    held_in conns seat ≡ Some row →
+    frames_at seat (map (post_of (take seats conns)) all) ≡ wanted_by row.held.subs all
+taken_frames seats seat conns row [] empty held = refl
+taken_frames seats seat conns row (telling ∷ all) empty held =
+    by (is_taken seat (post_of (take seats conns) telling)) (wants row.held.subs telling) (taken_at seats seat conns row telling empty held)
+    (taken_frames seats seat conns row all empty held)
+  where
+    by : (taken wanted : Bool) → taken ≡ wanted → frames_at seat (map (post_of (take seats conns)) all) ≡ wanted_by row.held.subs all →
+        map (λ (post : Post). post.frame) (cond taken (post_of (take seats conns) telling ∷ filter (is_taken seat)
+        (map (post_of (take seats conns)) all)) (filter (is_taken seat) (map (post_of (take seats conns)) all)))
+        ≡ map frame (cond wanted (telling ∷ filter (wants row.held.subs) all) (filter (wants row.held.subs) all))
+    by true true same rest = ap (λ more. frame telling ∷ more) rest
+    by false false same rest = rest
+    by true false same rest = absurd (true≢false same)
+    by false true same rest = absurd (true≢false (sym same))
 
 -- ---- one connection
 
@@ -243,80 +344,66 @@ empty_post conn room s =
     ∙ ap (λ (gifts : List Gift). record s { posted = gifts }) (append-nil s.posted)
 
 -- where nothing is wanted nothing is posted
-posted_none : (before : Switch) (all : List Telling) (row : Numbered Conn) (s : Switch) → wanted_of s.conns all row ≡ [] →
-    posted_to before all row s ≡ s
-posted_none before all row s none =
-    ap (λ (texts : List Text). with_lost row.number (length texts - room_for before row.number)
-    (with_post row.number (frames_within (room_for before row.number) texts) s)) none
+posted_none : (before : Switch) (texts : List Text) (row : Numbered Conn) (s : Switch) → left_for s row texts ≡ [] →
+    posted_to before texts row s ≡ s
+posted_none before texts row s none =
+    ap (λ (some : List Text). with_lost row.number (length some - room_for before row.number)
+    (with_post row.number (frames_within (room_for before row.number) some) s)) none
     ∙ empty_post row.number (room_for before row.number) s
-
-deaf_wanted : (subs : Subscription) (all : List Telling) → HearsNothing subs → filter (wants subs) all ≡ []
-deaf_wanted subs [] deaf = refl
-deaf_wanted subs (telling ∷ all) deaf =
-    ap (λ b. cond (b && lets_through subs.filters telling.headers) (telling ∷ filter (wants subs) all) (filter (wants subs) all))
-    (deaf telling.name telling.subclass)
-    ∙ deaf_wanted subs all deaf
 
 nothing_if : (b : Bool) (texts : List Text) → texts ≡ [] → (if b then texts else []) ≡ []
 nothing_if true texts none = none
 nothing_if false texts none = refl
 
--- nothing is wanted by a connection that has subscribed nothing
-pub posted_deaf : (before : Switch) (all : List Telling) (row : Numbered Conn) (s : Switch) → HearsNothing row.held.subs →
-    posted_to before all row s ≡ s
-posted_deaf before all row s deaf =
-    posted_none before all row s
-    (nothing_if (is_some (seat_of s.conns row.number)) (wanted_by row.held.subs all) (ap (map frame) (deaf_wanted row.held.subs all deaf)))
+-- nothing is posted to one that is not there any more
+pub posted_gone : (before : Switch) (texts : List Text) (row : Numbered Conn) (s : Switch) →
+    is_some (seat_of s.conns row.number) ≡ false → posted_to before texts row s ≡ s
+posted_gone before texts row s gone =
+    posted_none before texts row s (ap (λ b. if b then texts else []) gone)
 
--- nor by one that is not there any more
-pub posted_gone : (before : Switch) (all : List Telling) (row : Numbered Conn) (s : Switch) →
-    is_some (seat_of s.conns row.number) ≡ false → posted_to before all row s ≡ s
-posted_gone before all row s gone =
-    posted_none before all row s (ap (λ b. if b then wanted_by row.held.subs all else []) gone)
-
--- one that is there wants what it has subscribed
-pub posted_there : (before : Switch) (all : List Telling) (row : Numbered Conn) (s : Switch) →
+-- one that is there is posted all
+pub posted_there : (before : Switch) (texts : List Text) (row : Numbered Conn) (s : Switch) →
     is_some (seat_of s.conns row.number) ≡ true →
-    posted_to before all row s
-    ≡ with_lost row.number (length (wanted_by row.held.subs all) - room_for before row.number)
-    (with_post row.number (frames_within (room_for before row.number) (wanted_by row.held.subs all)) s)
-posted_there before all row s there =
-    ap (λ b. let texts = if b then wanted_by row.held.subs all else [] in
-    with_lost row.number (length texts - room_for before row.number)
-    (with_post row.number (frames_within (room_for before row.number) texts) s)) there
+    posted_to before texts row s
+    ≡ with_lost row.number (length texts - room_for before row.number)
+    (with_post row.number (frames_within (room_for before row.number) texts) s)
+posted_there before texts row s there =
+    ap (λ b. let left = if b then texts else [] in
+    with_lost row.number (length left - room_for before row.number)
+    (with_post row.number (frames_within (room_for before row.number) left) s)) there
 
 -- ---- one connection after another
 
-pub over_next : (before : Switch) (all : List Telling) (conns : Seats) (seat : ℕ) (s : Switch) → seat < length conns →
-    posted_over before all (drop seat conns) s
-    ≡ posted_over before all (drop (seat + 1) conns) (posted_at before all (held_in conns seat) s)
-over_next before all conns seat s within = at_drop_more (λ left. posted_over before all left s) conns seat None within
+pub over_next : (before : Switch) (posts : List Post) (conns : Seats) (seat : ℕ) (s : Switch) → seat < length conns →
+    posted_over before posts seat (drop seat conns) s
+    ≡ posted_over before posts (seat + 1) (drop (seat + 1) conns) (posted_at before posts seat (held_in conns seat) s)
+over_next before posts conns seat s within = at_drop_more (λ left. posted_over before posts seat left s) conns seat None within
 
-over_none : (before : Switch) (all : List Telling) (left : Seats) (s : Switch) → ((k : ℕ) → held_in left k ≡ None) →
-    posted_over before all left s ≡ s
-over_none before all [] s none = refl
-over_none before all (held ∷ left) s none =
-    ap (λ here. posted_over before all left (posted_at before all here s)) (none 0)
-    ∙ over_none before all left s (λ k. none (suc k))
+over_none : (before : Switch) (posts : List Post) (seat : ℕ) (left : Seats) (s : Switch) → ((k : ℕ) → held_in left k ≡ None) →
+    posted_over before posts seat left s ≡ s
+over_none before posts seat [] s none = refl
+over_none before posts seat (held ∷ left) s none =
+    ap (λ here. posted_over before posts (seat + 1) left (posted_at before posts seat here s)) (none 0)
+    ∙ over_none before posts (seat + 1) left s (λ k. none (suc k))
 
 -- where nothing stands any more
-pub over_empty : (before : Switch) (all : List Telling) (conns : Seats) (from : ℕ) (s : Switch) → IsEmptyFrom from conns →
-    posted_over before all (drop from conns) s ≡ s
-over_empty before all conns from s empty =
-    over_none before all (drop from conns) s (λ k. get_or-drop from conns k None ∙ empty.each (from + k) (omega arith))
+pub over_empty : (before : Switch) (posts : List Post) (conns : Seats) (from : ℕ) (s : Switch) → IsEmptyFrom from conns →
+    posted_over before posts from (drop from conns) s ≡ s
+over_empty before posts conns from s empty =
+    over_none before posts from (drop from conns) s (λ k. get_or-drop from conns k None ∙ empty.each (from + k) (omega arith))
 
 -- where nothing is told
-over_nothing : (before : Switch) (conns : Seats) (s : Switch) → posted_over before [] conns s ≡ s
-over_nothing before [] s = refl
-over_nothing before (None ∷ conns) s = over_nothing before conns s
-over_nothing before (Some row ∷ conns) s =
-    ap (posted_over before [] conns) (posted_none before [] row s (nothing_if (is_some (seat_of s.conns row.number)) [] refl))
-    ∙ over_nothing before conns s
+over_nothing : (before : Switch) (seat : ℕ) (conns : Seats) (s : Switch) → posted_over before [] seat conns s ≡ s
+over_nothing before seat [] s = refl
+over_nothing before seat (None ∷ conns) s = over_nothing before (seat + 1) conns s
+over_nothing before seat (Some row ∷ conns) s =
+    ap (posted_over before [] (seat + 1) conns) (posted_none before [] row s (nothing_if (is_some (seat_of s.conns row.number)) [] refl))
+    ∙ over_nothing before (seat + 1) conns s
 
-pub over_untold : (before : Switch) (all : List Telling) (conns : Seats) (s : Switch) → (length all == 0) ≡ true →
-    posted_over before all conns s ≡ s
-over_untold before all conns s none =
-    ap (λ (some : List Telling). posted_over before some conns s) (none_there all none) ∙ over_nothing before conns s
+pub over_untold : (before : Switch) (posts : List Post) (seat : ℕ) (conns : Seats) (s : Switch) → (length posts == 0) ≡ true →
+    posted_over before posts seat conns s ≡ s
+over_untold before posts seat conns s none =
+    ap (λ (some : List Post). posted_over before some seat conns s) (none_there posts none) ∙ over_nothing before seat conns s
 
 pub ruleset over_rules = (over_next, over_empty, over_untold)
 
@@ -341,16 +428,23 @@ gifts_posts : (conn : ℕ) (texts : List Text) → gifts_of conn (map outgoing.E
 gifts_posts conn [] = refl
 gifts_posts conn (text ∷ texts) = refl
 
-over_done : (before : Switch) (all : List Telling) (conns : Seats) (s : Switch) →
-    posted_over before all conns s
+over_done : (before : Switch) (seats : ℕ) (all : List Telling) (whole : Seats) (seat : ℕ) (conns : Seats) (s : Switch) →
+    IsEmptyFrom seats whole → ((k : ℕ) → held_in whole (seat + k) ≡ held_in conns k) →
+    posted_over before (map (post_of (take seats whole)) all) seat conns s
     ≡ record s { posted = s.posted ++ gifts_over before s.conns all conns; losses = losses_over before s.conns all conns s.losses }
-over_done before all [] s = sym (ap (λ (gifts : List Gift). record s { posted = gifts }) (append-nil s.posted))
-over_done before all (None ∷ conns) s = over_done before all conns s
-over_done before all (Some row ∷ conns) s =
+over_done before seats all whole seat [] s empty same = sym (ap (λ (gifts : List Gift). record s { posted = gifts }) (append-nil s.posted))
+over_done before seats all whole seat (None ∷ conns) s empty same =
+    over_done before seats all whole (seat + 1) conns s empty (λ k. ap (held_in whole) (omega arith) ∙ same (suc k))
+over_done before seats all whole seat (Some row ∷ conns) s empty same =
+    let posts = map (post_of (take seats whole)) all in
+    let here : held_in whole seat ≡ Some row = ap (held_in whole) {x = seat} {y = seat + 0} (omega arith) ∙ same 0 in
     let texts = take (room_for before row.number) (wanted_of s.conns all row) in
     let lost = length (wanted_of s.conns all row) - room_for before row.number in
     let losses = losses_over before s.conns all conns (with_loss_of row.number lost s.losses) in
-    over_done before all conns (posted_to before all row s)
+    ap (λ (texts : List Text). posted_over before posts (seat + 1) conns (posted_to before texts row s))
+    (taken_frames seats seat whole row all empty here)
+    ∙ over_done before seats all whole (seat + 1) conns (posted_to before (wanted_by row.held.subs all) row s) empty
+    (λ k. ap (held_in whole) (omega arith) ∙ same (suc k))
     ∙ ap (λ (gifts : List Gift). record s { posted = (s.posted ++ gifts) ++ gifts_over before s.conns all conns; losses = losses })
     (gifts_posts row.number texts)
     ∙ ap (λ (gifts : List Gift). record s { posted = gifts; losses = losses })
@@ -370,20 +464,6 @@ from_losses before s (Some row ∷ conns) losses =
     (with_loss_of row.number (length (wanted_of s.conns (tellings before s) row) - room_for before row.number) losses)
 
 -- ---- what nobody wants may be left out
-
--- one of these connections wants an event
-abbrev wants_any : Telling → Seats → Bool
-wants_any telling [] = false
-wants_any telling (held ∷ conns) = wants_at telling held || wants_any telling conns
-
-any_seat : (telling : Telling) (conns : Seats) (k : ℕ) → is_some (first_seat (wants_at telling) conns k) ≡ wants_any telling conns
-any_seat telling [] k = refl
-any_seat telling (held ∷ conns) k = by (wants_at telling held) (any_seat telling conns (k + 1))
-  where
-    by : (b : Bool) → is_some (first_seat (wants_at telling) conns (k + 1)) ≡ wants_any telling conns →
-        is_some (if b then Some k else first_seat (wants_at telling) conns (k + 1)) ≡ (b || wants_any telling conns)
-    by true rest = refl
-    by false rest = rest
 
 -- each event that one of these connections wants is told
 abbrev AreTold : (Telling → Bool) → Seats → Type 0
@@ -457,16 +537,16 @@ losses_told before there is_told all (Some row ∷ conns) losses each =
 each_told : (conns : Seats) → AreTold (is_wanted conns) conns
 each_told conns telling wanted = any_seat telling conns 0 ∙ wanted
 
-pub all_posted : (before s : Switch) →
-    posted_over before (told before s) before.conns (record s { posted = [] }) ≡ with_posts before s
+pub all_posted : (seats : ℕ) (before s : Switch) → IsEmptyFrom seats before.conns →
+    posted_over before (posts_told seats before s) 0 before.conns (record s { posted = [] }) ≡ with_posts before s
 unfolding posts losses_after
-all_posted before s =
+all_posted seats before s empty =
     let conns = before.conns in
     let gifts : gifts_over before s.conns (told before s) conns ≡ posts_from before s conns =
     gifts_told before s.conns (is_wanted conns) (tellings before s) conns (each_told conns) ∙ from_gifts before s conns in
     let losses : losses_over before s.conns (told before s) conns s.losses ≡ losses_from before s conns s.losses =
     losses_told before s.conns (is_wanted conns) (tellings before s) conns s.losses (each_told conns)
     ∙ from_losses before s conns s.losses in
-    over_done before (told before s) conns (record s { posted = [] })
+    over_done before seats (told before s) conns 0 conns (record s { posted = [] }) empty (λ k. refl)
     ∙ ap (λ (gifts : List Gift). record s { posted = gifts; losses = losses_over before s.conns (told before s) conns s.losses }) gifts
     ∙ ap (λ (losses : Losses). record s { posted = posts_from before s conns; losses = losses }) losses

@@ -1,13 +1,12 @@
 -- What an entry tells the connections that subscribed its events.
 use Rattle.std.specs.Prelude.{◌≡◌, ℕ, ◌+◌, ◌-◌, ◌^◌, ◌==◌, min, Bool, false, if◌then◌else◌, List, [], ◌∷◌, ◌++◌, length, map, filter}
-use Rattle.std.specs.Prelude.{take, codes, Option, None, Some, is_some, option_map}
+use Rattle.std.specs.Prelude.{take, get_or, codes, Option, None, Some, is_some, option_map}
 use Rattle.std.specs.Option.{option_or}
 use Rattle.std.specs.Fmt.{decimal}
 use Rattle.fs_text.specs.CoreId as core_id
 use Rattle.fs_text.specs.Cause.{cause_name}
-use Rattle.fs_text.specs.Escape.{escape}
 use Rattle.fs_text.specs.EventName.{event_name}
-use Rattle.fs_text.specs.Headers.{with_values}
+use Rattle.fs_text.specs.Headers.{with_values, variable_header}
 use Rattle.fs_text.specs.Texts.{Text}
 use Rattle.fs_text.specs.declared.causes.Cause.{Cause}
 use Rattle.fs_text.specs.declared.event_names.EventName.{EventName}
@@ -31,6 +30,7 @@ use Rattle.fs_state.specs.declared.event.Detail.{Detail}
 use Rattle.fs_state.specs.declared.event.Detail.TheVariants as detail
 use Rattle.fs_state.specs.declared.gift.Gift.{Gift}
 use Rattle.fs_state.specs.declared.outgoing.Outgoing.TheVariants as outgoing
+use Rattle.fs_state.specs.declared.post.Post.{Post}
 use Rattle.fs_state.specs.Losses.{Losses, with_loss}
 use Rattle.fs_state.specs.Outboxes.{Frames, events_in}
 use Rattle.fs_state.specs.Switch.{Switch, chan_at, outgoing_for}
@@ -95,14 +95,6 @@ abbrev pub cause_headers : Option Cause → Pairs
 cause_headers None = []
 cause_headers (Some cause) = cause_header cause
 
--- a variable, with its name escaped
-abbrev pub variable_name : Text → Text
-variable_name name = codes "variable_" ++ escape name
-
--- the header of a variable
-abbrev pub variable_header : Text × Text → Text × Text
-variable_header pair = (variable_name pair.0, pair.1)
-
 -- the headers of all variables, in order
 abbrev pub variable_headers : Variables → Pairs
 variable_headers vars = map variable_header vars.pairs
@@ -121,16 +113,16 @@ detail_headers before s slot (detail.Unbridge row cause) = bridge_headers before
 detail_headers before s slot (detail.Hangup cause) = cause_header cause
 detail_headers before s slot detail.Report = report_headers (chan_told before s slot)
 
+-- all headers of an event, where it has this number
+unfoldable pub headers_of : Switch → Switch → ℕ → Event → Pairs
+headers_of before s number event =
+    first_headers s number event.name ++ headers_of_chan (chan_told before s event.slot)
+    ++ with_values (detail_headers before s event.slot event.detail)
+
 -- all that an event tells, where it has this number
 unfoldable pub telling_of : Switch → Switch → ℕ → Event → Telling
-telling_of before s number event = record {
-  name = event.name;
-  subclass = [];
-  headers =
-      first_headers s number event.name ++ headers_of_chan (chan_told before s event.slot)
-      ++ with_values (detail_headers before s event.slot event.detail);
-  body = [];
-}
+telling_of before s number event =
+    record { name = event.name; subclass = []; headers = headers_of before s number event; body = [] }
 
 -- all that events tell, the first of which has this number; the number stands still at 2^64 - 1
 abbrev pub tellings_from : Switch → Switch → ℕ → List Event → List Telling
@@ -243,6 +235,22 @@ told_of before s number event =
 abbrev pub told : Switch → Switch → List Telling
 told before s = filter (is_wanted before.conns) (tellings before s)
 
+-- the frame of an event, with who of the connections at the first seats wants it
+abbrev pub post_of : List (Option (Numbered Conn)) → Telling → Post
+post_of front telling = record { frame = frame telling; takers = map (wants_at telling) front }
+
+-- so of the events that some connection wants
+abbrev pub posts_told : ℕ → Switch → Switch → List Post
+posts_told seats before s = map (post_of (take seats before.conns)) (told before s)
+
+-- the connection at a seat wants it
+abbrev pub is_taken : ℕ → Post → Bool
+is_taken seat post = get_or post.takers seat false
+
+-- the frames that it wants
+abbrev pub frames_at : ℕ → List Post → List Text
+frames_at seat posts = map (λ (post : Post). post.frame) (filter (is_taken seat) posts)
+
 -- for so many events there is room behind the frames that wait for a connection
 abbrev pub room_for : Switch → ℕ → ℕ
 room_for before conn = room_behind (outgoing_for before conn)
@@ -264,18 +272,23 @@ with_post conn frames s = record s { posted = s.posted ++ gifts_of conn frames }
 abbrev pub with_lost : ℕ → ℕ → Switch → Switch
 with_lost conn lost s = record s { losses = with_loss_of conn lost s.losses }
 
--- a connection is posted what it wants of these, as far as there is room
-abbrev pub posted_to : Switch → List Telling → Numbered Conn → Switch → Switch
-posted_to before all row s =
-    with_lost row.number (length (wanted_of s.conns all row) - room_for before row.number)
-    (with_post row.number (frames_within (room_for before row.number) (wanted_of s.conns all row)) s)
+-- what is left of these for a connection, which may be gone by then
+abbrev pub left_for : Switch → Numbered Conn → List Text → List Text
+left_for s row texts = if is_some (seat_of s.conns row.number) then texts else []
 
--- so is the one that stands at a seat, if one does
-abbrev pub posted_at : Switch → List Telling → Option (Numbered Conn) → Switch → Switch
-posted_at before all None s = s
-posted_at before all (Some row) s = posted_to before all row s
+-- a connection is posted these, as far as there is room
+abbrev pub posted_to : Switch → List Text → Numbered Conn → Switch → Switch
+posted_to before texts row s =
+    with_lost row.number (length (left_for s row texts) - room_for before row.number)
+    (with_post row.number (frames_within (room_for before row.number) (left_for s row texts)) s)
 
--- so are those that stand at seats, one after another
-abbrev pub posted_over : Switch → List Telling → List (Option (Numbered Conn)) → Switch → Switch
-posted_over before all [] s = s
-posted_over before all (held ∷ conns) s = posted_over before all conns (posted_at before all held s)
+-- the one that stands at a seat, if one does, is posted what it wants
+abbrev pub posted_at : Switch → List Post → ℕ → Option (Numbered Conn) → Switch → Switch
+posted_at before posts seat None s = s
+posted_at before posts seat (Some row) s = posted_to before (frames_at seat posts) row s
+
+-- so are those that stand at seats from one on, one after another
+abbrev pub posted_over : Switch → List Post → ℕ → List (Option (Numbered Conn)) → Switch → Switch
+posted_over before posts seat [] s = s
+posted_over before posts seat (held ∷ conns) s =
+    posted_over before posts (seat + 1) conns (posted_at before posts seat held s)

@@ -1,7 +1,8 @@
 //! What an entry posts of its events.
-ghost use Rattle.std.specs.Prelude.{◌≡◌, [], ◌-◌, true, is_some, count_by, length, IfOk};
-ghost use Rattle.fs_filter.specs.Subscriptions.{wants};
-ghost use Rattle.fs_seats.specs.Seats.{held_in};
+ghost use Rattle.std.specs.Prelude.{◌≡◌, [], ◌-◌, ◌≤◌, true, is_some, count_by, length, map, take, option_map, IfOk};
+ghost use Rattle.fs_event.specs.Texts.{frame};
+ghost use Rattle.fs_filter.specs.Subscriptions.{lets_through};
+ghost use Rattle.fs_seats.specs.Seats.{held_in, IsEmptyFrom};
 ghost use Rattle.fs_seats.specs.Rows.{seat_of};
 ghost use Rattle.fs_state.specs.Drafts.{drafted, Brings, with_losses_in};
 ghost use Rattle.fs_state.specs.Losses.{Losses, with_loss};
@@ -32,7 +33,7 @@ impl<'a> Draft<'a> {
     pub fn post(&mut self) -> Result<(), Memory>
         ensures { Brings result self.old self.new (spec.with_posts self.old.base (drafted self.old)) }
     {
-        let told = self.told()?;
+        let told = self.told(self.core.conns.filled())?;
         self.clear_posted();
         self.post_all(&told)
     }
@@ -47,20 +48,24 @@ impl<'a> Draft<'a> {
 
     // ---- what is told
 
-    /// The posts of the events of the entry that some connection wants.
-    fn told(&self) -> Result<Vec<Post>, Memory>
-        ensures { IfOk result (λ told. told.items ≡ spec.posts_told self.now.base (drafted self.now)) }
+    /// The posts of the events of the entry that some connection wants, where no more than so many seats are filled.
+    fn told(&self, seats: usize) -> Result<Vec<Post>, Memory>
+        requires within { seats ≤ length self.now.base.conns }
+        requires empty { IsEmptyFrom seats self.now.base.conns }
+        ensures { IfOk result (λ told. told.items ≡ spec.posts_told seats self.now.base (drafted self.now)) }
     {
         let core = self.core;
         if self.delta.news.as_slice().is_empty() || core.is_deaf() {
             return Ok(Vec::new(self.alloc()));
         }
-        self.tell_all()
+        self.tell_all(seats)
     }
 
     /// The same, event by event. They are numbered by how many there were before.
-    fn tell_all(&self) -> Result<Vec<Post>, Memory>
-        ensures { IfOk result (λ told. told.items ≡ spec.posts_told self.now.base (drafted self.now)) }
+    fn tell_all(&self, seats: usize) -> Result<Vec<Post>, Memory>
+        requires within { seats ≤ length self.now.base.conns }
+        requires empty { IsEmptyFrom seats self.now.base.conns }
+        ensures { IfOk result (λ told. told.items ≡ spec.posts_told seats self.now.base (drafted self.now)) }
     {
         let core = self.core;
         let news = self.delta.news.as_slice();
@@ -69,7 +74,7 @@ impl<'a> Draft<'a> {
         let mut number = core.counts.all();
         for event in news {
             number = number.saturating_add(1);
-            if let Some(post) = self.tell_wanted(&mut text, number, event)? {
+            if let Some(post) = self.tell_wanted(&mut text, seats, number, event)? {
                 told.push(post)?;
             }
         }
@@ -78,14 +83,23 @@ impl<'a> Draft<'a> {
 
     /// The post of an event, where it has this number and some connection wants it.
     #[tactic(auto, using(crate::proofs::PostLemmas::untold_unheard))]
-    fn tell_wanted(&self, text: &mut EventText, number: u64, event: &Event) -> Result<Option<Post>, Memory>
+    fn tell_wanted(
+        &self,
+        text: &mut EventText,
+        seats: usize,
+        number: u64,
+        event: &Event,
+    ) -> Result<Option<Post>, Memory>
+        requires within { seats ≤ length self.now.base.conns }
+        requires empty { IsEmptyFrom seats self.now.base.conns }
         ensures { IfOk result
-            (λ post. post ≡ spec.post_told self.now.base (drafted self.now) number event.now) }
+            (λ post. post ≡ option_map (spec.post_of (take seats self.now.base.conns))
+            (spec.told_of self.now.base (drafted self.now) number event.now)) }
     {
         if !self.core.hears(event.name, b"") {
             return Ok(None);
         }
-        let takers = self.takers(number, event)?;
+        let takers = self.takers(seats, number, event)?;
         if !takers.has_one() {
             return Ok(None);
         }
@@ -104,14 +118,15 @@ impl<'a> Draft<'a> {
         text.frame()
     }
 
-    /// Which connections want an event, where it has this number.
-    fn takers(&self, number: u64, event: &Event) -> Result<Takers, Memory>
+    /// Which of the connections at the first seats want an event, where it has this number.
+    fn takers(&self, seats: usize, number: u64, event: &Event) -> Result<Takers, Memory>
+        requires within { seats ≤ length self.now.base.conns }
         ensures { IfOk result (λ takers. takers
-            ≡ spec.takers_of self.now.base.conns (spec.telling_of self.now.base (drafted self.now) number event.now)) }
+            ≡ map (spec.wants_at (spec.telling_of self.now.base (drafted self.now) number event.now))
+            (take seats self.now.base.conns)) }
     {
-        let core = self.core;
         let mut takers = Takers::new(self.alloc());
-        for seat in 0..core.conns.filled() {
+        for seat in 0..seats {
             takers.push(self.wants_at(seat, number, event)?)?;
         }
         Ok(takers)
@@ -138,9 +153,10 @@ impl<'a> Draft<'a> {
             ≡ lets_through subs.now.filters (spec.headers_of self.now.base (drafted self.now) number event.now)) }
     {
         let mut sieve = subs.sieve(self.alloc());
-        if !sieve.passes() {
-            self.tell_headers(&mut sieve, number, event)?;
+        if sieve.passes() {
+            return Ok(true);
         }
+        self.tell_headers(&mut sieve, number, event)?;
         Ok(sieve.passes())
     }
 
@@ -150,7 +166,7 @@ impl<'a> Draft<'a> {
     #[tactic(auto, using(crate::proofs::PostLemmas::over_rules))]
     fn post_all(&mut self, told: &[Post]) -> Result<(), Memory>
         ensures { Brings result self.old self.new
-            (spec.posted_over self.old.base told.now self.old.base.conns (drafted self.old)) }
+            (spec.posted_over self.old.base told.now 0 self.old.base.conns (drafted self.old)) }
     {
         if told.is_empty() {
             return Ok(());
@@ -165,7 +181,7 @@ impl<'a> Draft<'a> {
     /// The connection that stood at a seat before the entry, if one did, is posted what it wants of these.
     fn post_at(&mut self, seat: usize, told: &[Post]) -> Result<(), Memory>
         ensures { Brings result self.old self.new
-            (spec.posted_at self.old.base told.now (held_in self.old.base.conns seat) (drafted self.old)) }
+            (spec.posted_at self.old.base told.now seat (held_in self.old.base.conns seat) (drafted self.old)) }
     {
         let core = self.core;
         match core.conns.get(seat) {
@@ -174,13 +190,13 @@ impl<'a> Draft<'a> {
         }
     }
 
-    /// A connection is posted what it wants of these, as far as there is room, and loses the rest.
+    /// The connection at a seat is posted what it wants of these, as far as there is room, and loses the rest.
     #[tactic(auto, using(crate::proofs::PostLemmas::posted_there))]
     fn post_to(&mut self, seat: usize, row: &Numbered<Conn>, told: &[Post]) -> Result<(), Memory>
         ensures { Brings result self.old self.new
-            (spec.posted_to self.old.base told.now row.now (drafted self.old)) }
+            (spec.posted_to self.old.base (spec.frames_at seat told.now) row.now (drafted self.old)) }
     {
-        if row.held.subs.is_idle() || !self.is_there(row.number) {
+        if !self.is_there(row.number) {
             return Ok(());
         }
         let room = self.room_for(row.number);

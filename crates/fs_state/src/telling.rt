@@ -22,7 +22,12 @@ const UUID_LEN: usize = 36;
 impl<'a> Draft<'a> {
     /// Gives a sink all headers of an event of the entry in hand, where it has this number.
     #[tactic(auto, unfolding(crate::specs::Posting::headers_of))]
-    pub(crate) fn tell_headers<S: HeaderSink>(&self, sink: &mut S, number: u64, event: &Event) -> Result<(), Memory>
+    pub(crate) fn tell_headers<S: HeaderSink>(
+        &self,
+        sink: &mut S,
+        number: u64,
+        event: &Event,
+    ) -> Result<(), Memory>
         ensures { OnOk result (sink.new
             ≡ taking S.taken (spec.headers_of self.now.base (drafted self.now) number event.now) sink.old) }
     {
@@ -32,7 +37,12 @@ impl<'a> Draft<'a> {
     }
 
     /// Tells what all events tell.
-    fn tell_first<S: HeaderSink>(&self, sink: &mut S, number: u64, name: EventName) -> Result<(), Memory>
+    fn tell_first<S: HeaderSink>(
+        &self,
+        sink: &mut S,
+        number: u64,
+        name: EventName,
+    ) -> Result<(), Memory>
         ensures { OnOk result (sink.new
             ≡ taking S.taken (spec.first_headers (drafted self.now) number name) sink.old) }
     {
@@ -43,7 +53,10 @@ impl<'a> Draft<'a> {
         sink.put(b"Event-Name", name.name().as_bytes())?;
         sink.put(b"Core-UUID", core.as_bytes())?;
         sink.put(b"Event-Sequence", sequence.format(number).as_bytes())?;
-        sink.put(b"Event-Date-Timestamp", moment.format(self.moment()).as_bytes())
+        sink.put(
+            b"Event-Date-Timestamp",
+            moment.format(self.moment()).as_bytes(),
+        )
     }
 
     /// Tells of the channel in a slot, as the entry leaves it; of one that is gone by then as it was, in its last

@@ -1,13 +1,13 @@
 use Rattle.std.proofs.Common.{◌≡◌, ◌+◌, ◌-◌, ◌^◌, ◌++◌, min, drop}
 use Rattle.fs_state.specs.Drafts.{drafted}
-use Rattle.fs_state.specs.Posting.{told}
-use Rattle.fs_state.proofs.PostLemmas.{told_from}
+use Rattle.fs_state.specs.Posting.{posts_told}
+use Rattle.fs_state.proofs.PostLemmas.{posts_left}
 use Rattle.fs_state.proofs.draft.Draft.tell_all.Given as goal
 
 -- what is told so far, and what the events that are left tell, is all
 abbrev pub invariant-loop-event : goal.invariant-loop-event
 invariant-loop-event l =
     (l.number ≡ min (l.self.base.counts.all + l.event-index) (2 ^ 64 - 1))
-    × (l.told.items ++ told_from l.self.base (drafted l.self) (l.self.base.counts.all + l.event-index + 1)
+    × (l.told.items ++ posts_left l.seats l.self.base (drafted l.self) (l.self.base.counts.all + l.event-index + 1)
     (drop l.event-index (drafted l.self).news)
-    ≡ told l.self.base (drafted l.self))
+    ≡ posts_told l.seats l.self.base (drafted l.self))

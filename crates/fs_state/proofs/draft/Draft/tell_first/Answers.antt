@@ -1,21 +1,19 @@
-use Rattle.fs_state.specs.Drafts.{drafted}
-use Rattle.fs_state.specs.Posting as spec
-use Rattle.fs_state.proofs.TellLemmas.{put_told}
 use Rattle.fs_state.proofs.draft.Draft.tell_first.Goals as goal
 
 pub returns : goal.returns
-returns c =
+returns g c =
     rw (
-      c.in_ok-put-4.ensures,
       c.in_ok-put-3.ensures,
       c.in_ok-put-2.ensures,
       c.in_ok-put.ensures,
-      c.in_ok-of.ensures,
       c.as_bytes.ensures.value,
       c.name.ensures,
-      c.in_ok-uuid.ensures,
+      c.as_bytes-2.ensures.value,
+      c.uuid_in-core.ensures,
       c.settings.ensures,
-      c.in_ok-decimal.ensures,
-      c.in_ok-decimal-2.ensures,
+      c.as_bytes-3.ensures.value,
+      c.format.ensures.text,
+      c.as_bytes-4.ensures.value,
+      c.format-2.ensures.text,
       c.moment.ensures,
-    ) (put_told c.args.told.now (spec.first_headers (drafted c.args.self.now) c.args.number c.args.name))
+    ) at c.put-4.ensures

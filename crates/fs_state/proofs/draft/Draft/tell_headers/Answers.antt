@@ -1,0 +1,20 @@
+use Rattle.std.proofs.Common.{◌++◌, ◌∙◌, ap}
+use Rattle.fs_text.specs.Headers.{taking, with_values}
+use Rattle.fs_text.proofs.TakingLemmas.{taking_append}
+use Rattle.fs_state.specs.Drafts.{drafted}
+use Rattle.fs_state.specs.Posting as spec
+use Rattle.fs_state.proofs.draft.Draft.tell_headers.Goals as goal
+
+pub returns : goal.returns
+unfolding spec.headers_of
+returns g c =
+    let taken = g.S.HeaderSink.taken in
+    let base = c.args.self.now.base in
+    let s = drafted c.args.self.now in
+    let event = c.args.event.now in
+    let first = spec.first_headers s c.args.number event.name in
+    let chan = spec.headers_of_chan (spec.chan_told base s event.slot) in
+    let detail = with_values (spec.detail_headers base s event.slot event.detail) in
+    rw (taking_append taken (first ++ chan) detail c.args.sink.now
+    ∙ ap (taking taken detail) (taking_append taken first chan c.args.sink.now))
+    (rw (c.in_ok-tell_chan.ensures, c.in_ok-tell_first.ensures) at c.tell_detail.ensures)

@@ -6,7 +6,6 @@ ghost use Rattle.fs_filter.specs.Subscriptions as spec;
 
 use crate::sieve::Sieve;
 use crate::subs::Subs;
-use fs_event::Event;
 use fs_text::{EventName, Memory};
 use std::alloc::Global;
 use std::marker::Model;
@@ -82,16 +81,6 @@ impl SharedSubs {
     {
         match &self.shared {
             Some(subs) => subs.hears(name, subclass),
-            None => false,
-        }
-    }
-
-    /// Whether the connection is to be told of an event, as [`Subs::wants`] says. Takes no memory.
-    pub fn wants(&self, event: &Event) -> bool
-        ensures { result ≡ spec.wants self.now event.now }
-    {
-        match &self.shared {
-            Some(subs) => subs.wants(event),
             None => false,
         }
     }

@@ -133,18 +133,21 @@ impl<'a> Draft<'a> {
     }
 
     /// Whether the connection that stands at a seat, if one does, wants an event, where it has this number.
+    #[tactic(auto, unfolding(crate::specs::Posting::telling_of))]
     fn wants_at(&self, seat: usize, number: u64, event: &Event) -> Result<bool, Memory>
         ensures { IfOk result (λ wants. wants
             ≡ spec.wants_at (spec.telling_of self.now.base (drafted self.now) number event.now)
             (held_in self.now.base.conns seat)) }
     {
         let core = self.core;
-        match core.conns.get(seat) {
-            Some(row) if row.held.subs.hears(event.name, b"") => {
-                self.is_let_through(&row.held.subs, number, event)
-            }
-            _ => Ok(false),
+        let Some(row) = core.conns.get(seat) else {
+            return Ok(false);
+        };
+        let subs = &row.held.subs;
+        if !subs.hears(event.name, b"") {
+            return Ok(false);
         }
+        self.is_let_through(subs, number, event)
     }
 
     /// Whether filters let an event through, where it has this number.

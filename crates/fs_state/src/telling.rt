@@ -21,7 +21,6 @@ const UUID_LEN: usize = 36;
 
 impl<'a> Draft<'a> {
     /// Gives a sink all headers of an event of the entry in hand, where it has this number.
-    #[tactic(auto, unfolding(crate::specs::Posting::headers_of))]
     pub(crate) fn tell_headers<S: HeaderSink>(
         &self,
         sink: &mut S,

@@ -6,7 +6,7 @@ use Rattle.fs_state.proofs.draft.Draft.tell_bridge.Goals as goal
 pub returns : goal.returns
 returns g c =
     rw (
-      ← given_is g.S.HeaderSink.taken (spec.bridge_headers c.args.self.now.base (drafted c.args.self.now) c.args.row) c.args.sink.now
+    ← given_is g.S.HeaderSink.taken (spec.bridge_headers c.args.self.now.base (drafted c.args.self.now) c.args.row) c.args.sink.now
     )
     (rw (
       c.in_ok-give-2.ensures,

@@ -201,7 +201,7 @@ none_wants telling (held ∷ conns) none =
 
 front_any : (telling : Telling) (seats : ℕ) (conns : Seats) → ((k : ℕ) → seats ≤ k → held_in conns k ≡ None) →
     wants_any telling (take seats conns) ≡ wants_any telling conns
-front_any telling zero conns none = ap (wants_any telling) (take-nil conns) ∙ sym (none_wants telling conns (λ k. none k (omega arith)))
+front_any telling zero conns none = sym (none_wants telling conns (λ k. none k (omega arith)))
 front_any telling (suc seats) [] none = refl
 front_any telling (suc seats) (held ∷ conns) none =
     ap (λ more. wants_at telling held || more) (front_any telling seats conns (λ k from. none (suc k) (omega (arith, from))))
@@ -547,6 +547,6 @@ all_posted seats before s empty =
     let losses : losses_over before s.conns (told before s) conns s.losses ≡ losses_from before s conns s.losses =
     losses_told before s.conns (is_wanted conns) (tellings before s) conns s.losses (each_told conns)
     ∙ from_losses before s conns s.losses in
-    over_done before seats (told before s) conns 0 conns (record s { posted = [] }) empty (λ k. refl)
+    over_done before seats (told before s) conns 0 conns (record s { posted = [] }) empty (λ k. ap (held_in conns) (omega arith))
     ∙ ap (λ (gifts : List Gift). record s { posted = gifts; losses = losses_over before s.conns (told before s) conns s.losses }) gifts
     ∙ ap (λ (losses : Losses). record s { posted = posts_from before s conns; losses = losses }) losses

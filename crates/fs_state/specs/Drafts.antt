@@ -1,5 +1,5 @@
 -- What a draft changes of a switch.
-use Rattle.std.specs.Prelude.{◌≡◌, ℕ, ◌++◌, Option, None, Result, unwrap_or, OnOk, []}
+use Rattle.std.specs.Prelude.{◌≡◌, ℕ, Option, None, Result, unwrap_or, OnOk, []}
 use Rattle.fs_bridge.specs.Bridges.{BridgeRows}
 use Rattle.fs_chan.specs.declared.chan.Chan.{Chan}
 use Rattle.fs_seats.specs.Sheets.{written}

@@ -33,7 +33,8 @@ impl<'a> Draft<'a> {
     pub fn post(&mut self) -> Result<(), Memory>
         ensures { Brings result self.old self.new (spec.with_posts self.old.base (drafted self.old)) }
     {
-        let told = self.told(self.core.conns.filled())?;
+        let core = self.core;
+        let told = self.told(core.conns.filled())?;
         self.clear_posted();
         self.post_all(&told)
     }
@@ -110,7 +111,7 @@ impl<'a> Draft<'a> {
     /// The frame of an event, where it has this number. It is formed in a text that may have been used before.
     fn frame(&self, text: &mut EventText, number: u64, event: &Event) -> Result<Txt, Memory>
         ensures { IfOk result
-            (λ frame. frame ≡ frame (spec.telling_of self.now.base (drafted self.now) number event.now)) }
+            (λ text. text ≡ frame (spec.telling_of self.now.base (drafted self.now) number event.now)) }
     {
         text.clear();
         self.tell_headers(text, number, event)?;

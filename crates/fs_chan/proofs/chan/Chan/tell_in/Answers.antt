@@ -12,8 +12,8 @@ returns g c =
     let chan = in_state c.args.state c.args.self.now in
     let front = spec.state_headers chan ++ spec.profile_headers chan.profile in
     rw (
-      taking_values taken front (spec.peer_header chan) c.args.sink.now
-      ∙ ap (taking taken (with_values (spec.peer_header chan)))
-      (taking_values taken (spec.state_headers chan) (spec.profile_headers chan.profile) c.args.sink.now)
+    taking_values taken front (spec.peer_header chan) c.args.sink.now
+    ∙ ap (taking taken (with_values (spec.peer_header chan)))
+    (taking_values taken (spec.state_headers chan) (spec.profile_headers chan.profile) c.args.sink.now)
     )
     (rw (c.in_ok-tell_profile.ensures, c.in_ok-tell_state.ensures, c.peer_uuid.ensures) at c.give.ensures)

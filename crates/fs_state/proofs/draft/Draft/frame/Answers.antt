@@ -1,5 +1,5 @@
-use Rattle.std.proofs.Common.{[], ◌++◌}
-use Rattle.fs_event.specs.Texts.{plain, frame, frame_of}
+use Rattle.std.proofs.Common.{[]}
+use Rattle.fs_event.specs.Texts.{plain, frame}
 use Rattle.fs_event.proofs.LineLemmas.{taking_lines}
 use Rattle.fs_state.specs.Drafts.{drafted}
 use Rattle.fs_state.specs.Posting as spec

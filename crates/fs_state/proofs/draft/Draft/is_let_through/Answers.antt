@@ -1,5 +1,5 @@
 use Rattle.std.proofs.Common.{◌≡◌, true, ap, sym, ◌∙◌}
-use Rattle.fs_filter.specs.Subscriptions.{sieve_of, lets_through, Sieve}
+use Rattle.fs_filter.specs.Subscriptions.{sieve_of, Sieve}
 use Rattle.fs_filter.proofs.SieveLemmas.{sifted_lets, passed_lets}
 use Rattle.fs_state.specs.Drafts.{drafted}
 use Rattle.fs_state.specs.Posting as spec

@@ -1,4 +1,4 @@
-use Rattle.std.proofs.Common.{◌≡◌, ℕ, List, [], ap, subst, sym, ◌∙◌}
+use Rattle.std.proofs.Common.{◌≡◌, ℕ, List, [], ap, subst, ◌∙◌}
 use Rattle.std.proofs.lemmas.Result.{on_ok_weaker}
 use Rattle.fs_seats.specs.Seats.{IsEmptyFrom}
 use Rattle.fs_state.specs.declared.post.Post.{Post}
@@ -23,7 +23,7 @@ returns c =
     let s = drafted c.args.self.now in
     let same = c.clear_posted.ensures.base in
     let kept : c.self.inside.core.now ≡ base = ap (λ (d : Drafted). d.base) c.self.view_is in
-    let empty : IsEmptyFrom c.filled.result base.conns = subst (λ (t : Switch). IsEmptyFrom c.filled.result t.conns) kept c.filled.ensures.empty in
+    let empty : IsEmptyFrom c.filled.result base.conns = subst (λ (t : Switch). IsEmptyFrom c.filled.result t.conns) (c.core.view_is ∙ kept) c.filled.ensures.empty in
     let tells : c.deref.result.now ≡ posts_told c.filled.result base s = c.deref.ensures.value ∙ c.in_ok-told.ensures in (
       c.post_all.ensures.0 ∙ same,
       on_ok_weaker c.post_all.result (λ e. e ∙ done c.filled.result base s _ _ _ empty same tells c.clear_posted.ensures.none)

@@ -42,7 +42,7 @@ loop-event-preserved c =
     let tells : post ≡ option_map of (told_of base s c.saturating_add-number.result (get_or s.news i event)) =
     c.in_ok-post.ensures
     ∙ ap (λ event. option_map of (told_of base s c.saturating_add-number.result event)) (c.event-item.is ∙ ap (λ events. get_or events i event) news) in
-    elim c.match-branch-2.branch [
+    elim c.match-branch-3.branch [
       | in-Some+in_ok-push w ↦ (
         omega (arith, number),
         rw (w.told-is, w.in_ok-push.ensures.items, next)

@@ -1,8 +1,5 @@
-use Rattle.std.proofs.Common.{◌≡◌, Bool, true, false, take, ap, sym, ◌∙◌}
+use Rattle.std.proofs.Common.{◌≡◌, true, false, take, ap, sym, ◌∙◌}
 use Rattle.std.specs.Prelude.{option_map}
-use Rattle.fs_event.specs.declared.event.Event.{Event as Telling}
-use Rattle.fs_event.specs.Texts.{frame}
-use Rattle.fs_state.specs.declared.post.Post.{Post}
 use Rattle.fs_state.specs.Drafts.{drafted}
 use Rattle.fs_state.specs.Posting as spec
 use Rattle.fs_state.proofs.PostLemmas.{told_wanted, told_unwanted, wanted_front}

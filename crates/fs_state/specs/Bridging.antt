@@ -15,7 +15,7 @@ use Rattle.fs_state.specs.Hangups.{lives_at}
 
 -- a bridge has begun
 abbrev pub bridge_event : Row → Event
-bridge_event row = record { name = ChannelBridge; slot = row.caller; detail = Bridge row }
+bridge_event row = record { name = ChannelBridge; subject = Some row.caller; detail = Bridge row }
 
 -- two slots can be joined: they differ, their channels are live, neither is in a bridge, and there is a number for one more
 abbrev pub can_join : ℕ → ℕ → Switch → Bool

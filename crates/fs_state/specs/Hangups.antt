@@ -87,7 +87,7 @@ after_ends ended s = fold (λ t e. after_end e.0 e.1 t) s ended
 
 -- a bridge has ended of a cause
 abbrev pub unbridge_event : Ended → Event
-unbridge_event e = record { name = ChannelUnbridge; slot = e.0.caller; detail = Unbridge e.0 e.1 }
+unbridge_event e = record { name = ChannelUnbridge; subject = Some e.0.caller; detail = Unbridge e.0 e.1 }
 
 -- ---- who is hung up
 

@@ -25,7 +25,7 @@ use Rattle.fs_state.specs.Switch.{Switch, chan_at, with_chan, orig_of, with_orig
 
 -- an event of the channel in a slot that tells nothing beside it
 abbrev pub plain_event : EventName → ℕ → Event
-plain_event name slot = record { name = name; slot = slot; detail = detail.Plain }
+plain_event name slot = record { name = name; subject = Some slot; detail = detail.Plain }
 
 -- the channel in a slot is changed; where there is none nothing changes
 abbrev pub with_changed_chan_from : (Chan → Chan) → ℕ → Option Chan → Switch → Switch
@@ -84,7 +84,7 @@ application_told (Some action) = detail.Application action
 
 -- an application begins, or is over
 abbrev pub application_event : EventName → Option Action → ℕ → Event
-application_event name action slot = record { name = name; slot = slot; detail = application_told action }
+application_event name action slot = record { name = name; subject = Some slot; detail = application_told action }
 
 -- what a channel runs
 abbrev pub running_of : Chan → Option Action
@@ -193,11 +193,11 @@ after_answer slot s = for_slot after_one_answer (partner_at s slot) (after_one_a
 
 -- why the channel in a slot is hung up
 abbrev pub hangup_event : Cause → ℕ → Event
-hangup_event cause slot = record { name = ChannelHangup; slot = slot; detail = detail.Hangup cause }
+hangup_event cause slot = record { name = ChannelHangup; subject = Some slot; detail = detail.Hangup cause }
 
 -- how the call of the channel in a slot was
 abbrev pub report_event : ℕ → Event
-report_event slot = record { name = ChannelHangupComplete; slot = slot; detail = detail.Report }
+report_event slot = record { name = ChannelHangupComplete; subject = Some slot; detail = detail.Report }
 
 -- an origination is given up, if the channel in a slot owns it
 abbrev pub given_up_by : ℕ → ℕ → Option Orig → Switch → Switch

@@ -50,6 +50,16 @@ chan_told before s slot = here_or_gone (chan_at s slot) (chan_at before slot)
 abbrev pub chan_left : Switch → Switch → ℕ → Option Chan
 chan_left before s slot = option_or (chan_at s slot) (chan_at before slot)
 
+-- the channel that an event tells of, if it tells of one
+abbrev pub subject_told : Switch → Switch → Option ℕ → Option Chan
+subject_told before s None = None
+subject_told before s (Some slot) = chan_told before s slot
+
+-- the same, but for the state of one that is gone
+abbrev pub subject_left : Switch → Switch → Option ℕ → Option Chan
+subject_left before s None = None
+subject_left before s (Some slot) = chan_left before s slot
+
 -- the headers of a channel that is gone
 abbrev pub headers_of_gone : Chan → Pairs
 headers_of_gone c = channel_headers (in_state CsDestroy c)
@@ -105,19 +115,19 @@ report_headers None = []
 report_headers (Some c) = cause_headers c.cause ++ variable_headers c.vars
 
 -- what an event tells beside its channel
-abbrev pub detail_headers : Switch → Switch → ℕ → Detail → Pairs
-detail_headers before s slot detail.Plain = []
-detail_headers before s slot (detail.Application action) = application_headers action
-detail_headers before s slot (detail.Bridge row) = bridge_headers before s row
-detail_headers before s slot (detail.Unbridge row cause) = bridge_headers before s row ++ cause_header cause
-detail_headers before s slot (detail.Hangup cause) = cause_header cause
-detail_headers before s slot detail.Report = report_headers (chan_told before s slot)
+abbrev pub detail_headers : Switch → Switch → Option ℕ → Detail → Pairs
+detail_headers before s subject detail.Plain = []
+detail_headers before s subject (detail.Application action) = application_headers action
+detail_headers before s subject (detail.Bridge row) = bridge_headers before s row
+detail_headers before s subject (detail.Unbridge row cause) = bridge_headers before s row ++ cause_header cause
+detail_headers before s subject (detail.Hangup cause) = cause_header cause
+detail_headers before s subject detail.Report = report_headers (subject_told before s subject)
 
 -- all headers of an event, where it has this number
 unfoldable pub headers_of : Switch → Switch → ℕ → Event → Pairs
 headers_of before s number event =
-    first_headers s number event.name ++ headers_of_chan (chan_told before s event.slot)
-    ++ with_values (detail_headers before s event.slot event.detail)
+    first_headers s number event.name ++ headers_of_chan (subject_told before s event.subject)
+    ++ with_values (detail_headers before s event.subject event.detail)
 
 -- all that an event tells, where it has this number
 unfoldable pub telling_of : Switch → Switch → ℕ → Event → Telling

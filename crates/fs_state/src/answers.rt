@@ -114,7 +114,7 @@ impl<'a> Draft<'a> {
     {
         self.tell(Event {
             name: EventName::ChannelHangup,
-            slot,
+            subject: Some(slot),
             detail: Detail::Hangup(cause),
         })
     }

@@ -44,7 +44,7 @@ impl<'a> Draft<'a> {
         self.set_peer(answerer, caller)?;
         self.tell(Event {
             name: EventName::ChannelBridge,
-            slot: caller,
+            subject: Some(caller),
             detail: Detail::Bridge(Row {
                 number,
                 caller,

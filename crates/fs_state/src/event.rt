@@ -11,8 +11,8 @@ use std::marker::Model;
 pub struct Event {
     /// Which event it is.
     pub name: EventName,
-    /// The slot of the channel that it tells of, which is the caller's where it tells of a bridge.
-    pub slot: u16,
+    /// The slot of the channel that it tells of, if it tells of one, which is the caller's where it tells of a bridge.
+    pub subject: Option<u16>,
     /// What it tells beside the channel.
     pub detail: Detail,
 }
@@ -21,7 +21,7 @@ impl Drop for Event {
     fn drop(self) {
         let Event {
             name: _name,
-            slot: _slot,
+            subject: _subject,
             detail: _detail,
         } = self;
     }

@@ -139,7 +139,7 @@ impl<'a> Draft<'a> {
         match end {
             Some(end) => self.tell(Event {
                 name: EventName::ChannelUnbridge,
-                slot: end.0.caller,
+                subject: Some(end.0.caller),
                 detail: Detail::Unbridge(end.0, end.1),
             }),
             None => Ok(()),

@@ -20,7 +20,7 @@ impl<'a> Draft<'a> {
     {
         self.tell(Event {
             name,
-            slot,
+            subject: Some(slot),
             detail: Detail::Plain,
         })
     }
@@ -151,7 +151,11 @@ impl<'a> Draft<'a> {
             Some(action) => Detail::Application(action),
             None => Detail::Plain,
         };
-        self.tell(Event { name, slot, detail })
+        self.tell(Event {
+            name,
+            subject: Some(slot),
+            detail,
+        })
     }
 
     /// What the channel in a slot is to run next is used up, and it has begun an application.
@@ -187,7 +191,7 @@ impl<'a> Draft<'a> {
     {
         self.tell(Event {
             name: EventName::ChannelHangupComplete,
-            slot,
+            subject: Some(slot),
             detail: Detail::Report,
         })?;
         self.enter(slot, State::CsReporting)

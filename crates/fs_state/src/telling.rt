@@ -31,7 +31,7 @@ impl<'a> Draft<'a> {
             ≡ taking S.taken (spec.headers_of self.now.base (drafted self.now) number event.now) sink.old) }
     {
         self.tell_first(sink, number, event.name)?;
-        self.tell_chan(sink, event.slot)?;
+        self.tell_subject(sink, event.subject)?;
         self.tell_detail(sink, event)
     }
 
@@ -56,6 +56,17 @@ impl<'a> Draft<'a> {
             b"Event-Date-Timestamp",
             moment.format(self.moment()).as_bytes(),
         )
+    }
+
+    /// Tells of the channel that an event tells of, if it tells of one.
+    fn tell_subject<S: HeaderSink>(&self, sink: &mut S, subject: Option<u16>) -> Result<(), Memory>
+        ensures { OnOk result (sink.new ≡ taking S.taken
+            (spec.headers_of_chan (spec.subject_told self.now.base (drafted self.now) subject)) sink.old) }
+    {
+        match subject {
+            Some(slot) => self.tell_chan(sink, slot),
+            None => Ok(()),
+        }
     }
 
     /// Tells of the channel in a slot, as the entry leaves it; of one that is gone by then as it was, in its last
@@ -84,11 +95,19 @@ impl<'a> Draft<'a> {
         }
     }
 
+    /// The same of the channel that an event tells of, if it tells of one.
+    fn subject_or_gone(&self, subject: Option<u16>) -> Option<&Chan>
+        ensures { option_copied result
+            ≡ spec.subject_left self.now.base (drafted self.now) subject }
+    {
+        self.chan_or_gone(subject?)
+    }
+
     /// Tells what the event tells beside its channel.
     fn tell_detail<S: HeaderSink>(&self, sink: &mut S, event: &Event) -> Result<(), Memory>
         ensures { OnOk result (sink.new
             ≡ taking S.taken (with_values
-            (spec.detail_headers self.now.base (drafted self.now) event.now.slot event.now.detail)) sink.old) }
+            (spec.detail_headers self.now.base (drafted self.now) event.now.subject event.now.detail)) sink.old) }
     {
         match &event.detail {
             Detail::Plain => Ok(()),
@@ -99,7 +118,7 @@ impl<'a> Draft<'a> {
                 tell_cause(sink, *cause)
             }
             Detail::Hangup(cause) => tell_cause(sink, *cause),
-            Detail::Report => self.tell_report(sink, event.slot),
+            Detail::Report => self.tell_report(sink, event.subject),
         }
     }
 
@@ -124,13 +143,13 @@ impl<'a> Draft<'a> {
         }
     }
 
-    /// Tells how the call of the channel in a slot was.
-    fn tell_report<S: HeaderSink>(&self, sink: &mut S, slot: u16) -> Result<(), Memory>
+    /// Tells how the call of the channel was that an event tells of.
+    fn tell_report<S: HeaderSink>(&self, sink: &mut S, subject: Option<u16>) -> Result<(), Memory>
         ensures { OnOk result (sink.new
             ≡ taking S.taken (with_values
-            (spec.report_headers (spec.chan_told self.now.base (drafted self.now) slot))) sink.old) }
+            (spec.report_headers (spec.subject_told self.now.base (drafted self.now) subject))) sink.old) }
     {
-        let Some(chan) = self.chan_or_gone(slot) else {
+        let Some(chan) = self.subject_or_gone(subject) else {
             return Ok(());
         };
         if let Some(cause) = chan.cause {

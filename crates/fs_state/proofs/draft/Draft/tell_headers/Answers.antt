@@ -13,8 +13,8 @@ returns g c =
     let s = drafted c.args.self.now in
     let event = c.args.event.now in
     let first = spec.first_headers s c.args.number event.name in
-    let chan = spec.headers_of_chan (spec.chan_told base s event.slot) in
-    let detail = with_values (spec.detail_headers base s event.slot event.detail) in
+    let chan = spec.headers_of_chan (spec.subject_told base s event.subject) in
+    let detail = with_values (spec.detail_headers base s event.subject event.detail) in
     rw (taking_append taken (first ++ chan) detail c.args.sink.now
     ∙ ap (taking taken detail) (taking_append taken first chan c.args.sink.now))
-    (rw (c.in_ok-tell_chan.ensures, c.in_ok-tell_first.ensures) at c.tell_detail.ensures)
+    (rw (c.in_ok-tell_subject.ensures, c.in_ok-tell_first.ensures) at c.tell_detail.ensures)

@@ -110,7 +110,7 @@ def echo(_switch, text):
 def expand_and_run(switch, text):
     """What the text comes to is run as an api command. It is no expand again."""
     text, identifier = text.lstrip(" "), None
-    if switch.coming and text.startswith("uuid:") and " " in text:
+    if text.startswith("uuid:") and " " in text:
         identifier, _, text = text.removeprefix("uuid:").partition(" ")
         text = text.lstrip(" ")
     if text == "":
@@ -128,7 +128,7 @@ def expand_and_run(switch, text):
     return answer(switch, expanded)
 
 
-@command("create_uuid", known=COMING)
+@command("create_uuid")
 def create_uuid(switch, _words):
     return switch.draw_identifier()
 
@@ -175,7 +175,7 @@ def uuid_getvar(switch, words):
     return find(switch, identifier).variables.get(name, "_undef_")
 
 
-@command("uuid_setvar", "<uuid> <name> [value*]", takes_text=True, known=COMING)
+@command("uuid_setvar", "<uuid> <name> [value*]", takes_text=True)
 def uuid_setvar(switch, text):
     """The value is the rest of the line."""
     identifier, name = need(words_of(text), 2)[:2]
@@ -186,7 +186,7 @@ def uuid_setvar(switch, text):
     return "+OK\n"
 
 
-@command("uuid_dump", "<uuid>", known=COMING)
+@command("uuid_dump", "<uuid>")
 def uuid_dump(switch, words):
     channel = find(switch, need(words, 1)[0])
     return header_lines([*channel.headers(), *variable_headers(channel)])

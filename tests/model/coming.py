@@ -5,7 +5,8 @@ from commands import COMING, MOST_MESSAGES
 from further import Further
 from jobs import MOST_JOBS
 from kinds import Mixture
-from limits import Bytes, Limits, Room
+from limits import Room
+from messages import Messages, Variables
 from random_plays import LONGEST_SLEEP, bridged, rings, waits
 from streams import Blocks, Streams
 from tables import identifier
@@ -25,51 +26,16 @@ class Jobs(Further):
         )
 
 
-class Messages(Further):
-    """Messages to channels in each state and each wait, and commands that move the same channels."""
+class MessagesBeside(Messages):
+    """The same, beside calls and jobs that are begun in the background."""
 
-    def command(self, session):
-        usual = super().command
-        return self.chosen(
-            session,
-            (6, lambda: usual(session)),
-            (8, lambda: self.message(session)),
-            (0.5, lambda: self.channel_command(session)),
-        )
+    background = True
 
 
-class Variables(Further):
-    """Variables and texts of channels, with odd names and values at their limits."""
+class VariablesBeside(Variables):
+    """The same, and some of it in the background."""
 
-    LARGEST = Limits.LARGEST
-
-    def command(self, session):
-        usual = super().command
-        return self.chosen(
-            session,
-            (5, lambda: usual(session)),
-            (8, lambda: self.channel_command(session)),
-            (2, lambda: self.variable_at_limits(session)),
-            (1, lambda: self.in_background(self.channel_command(session))),
-            (1, lambda: self.message(session)),
-        )
-
-    def variable_at_limits(self, session):
-        channel = self.channel(session)
-        name = self.one_of(*Bytes.NAMES, "n" * 256, "n" * 257, "hangup_cause", "export_vars", "uuid")
-        return self.one_of(
-            f"api uuid_setvar {channel} {name} {self.one_of(*Bytes.VALUES, '', 'a,b')}",
-            f"api uuid_setvar {channel} {name} {self.LARGEST}",
-            f"api uuid_setvar {channel} a {self.LARGEST}",
-            f"api uuid_setvar {channel} b {self.LARGEST[:self.random.randint(16370, 16384)]}",
-            f"api uuid_setvar {channel} {name} {self.LARGEST}x",
-            f"api expand uuid:{channel} echo ${{a}}${{a}}${{a}}${{a}}",
-            f"api expand uuid:{channel} echo ${{a}}${{a}}${{a}}${{a}}1",
-            f"api expand uuid:{channel} uuid_setvar {channel} b ${{a}}",
-            f"api expand uuid:{channel} ${{a}}",
-            f"api uuid_dump {channel}",
-            f"sendmsg {channel}\ncall-command: execute\nexecute-app-name: log\nexecute-app-arg: {'${a}' * 5}",
-        )
+    background = True
 
 
 class Shutdowns(Further):
@@ -200,5 +166,5 @@ class FurtherStreams(Streams):
         return self.spaced("api", name, *self.some(lambda: identifier(self.random.randint(1, 3)), 0, 1), *odd)
 
 
-ALL = (Jobs, Messages, Variables, Shutdowns, Crowds, Everything, FurtherBlocks, FurtherStreams)
+ALL = (Jobs, MessagesBeside, VariablesBeside, Shutdowns, Crowds, Everything, FurtherBlocks, FurtherStreams)
 COMING_KINDS = {kind.__name__.lower(): kind for kind in ALL}

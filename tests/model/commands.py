@@ -166,9 +166,9 @@ COMMANDS = {
     "nixevent": Connection.nixevent,
     "noevents": Connection.noevents,
     "filter": Connection.filter,
+    "sendmsg": Connection.sendmsg,
 }
 
 COMING = {
     "bgapi": Connection.bgapi,
-    "sendmsg": Connection.sendmsg,
 }

@@ -3,6 +3,7 @@
 from dialplan import Document, Extension
 from layers import Layers
 from limits import Bytes, Limits, Room
+from messages import Messages, Variables
 from rings import Rings
 from spelling import Spelling
 from streams import Blocks, Streams
@@ -44,5 +45,5 @@ class Mixture(Layers):
         return super().command(session)
 
 
-ALL = (Words, Layers, Rings, Times, Bytes, Limits, Spelling, Room, Mixture, Blocks, Streams)
+ALL = (Words, Layers, Rings, Times, Bytes, Limits, Spelling, Room, Mixture, Messages, Variables, Blocks, Streams)
 KINDS = {kind.__name__.lower(): kind for kind in ALL}

@@ -95,7 +95,7 @@ class Streams(Blocks):
         "nosuch", "Api echo x", "API echo x", " api echo x", "\tapi", "apix", "exitt", "Exit", ":", "\x00",
         " ", "\r", "Content-Length: 5", "bgapi echo x", "sendmsg", "sendmsg x", "connect x", "Noevents",
     )
-    UNKNOWN_API = ("", "Echo hi", "\techo x", "'echo' x", "status", "create_uuid")
+    UNKNOWN_API = ("", "Echo hi", "\techo x", "'echo' x", "status", "uuid_dumps")
     EVENT_WORDS = (
         *EVENTS, "ALL", "CUSTOM", "all", "custom", "plain", "xml", "json", "CHANNEL", "channel_create",
         "fifo::info", "CHANNEL_CREATE,CHANNEL_STATE", "CHANNEL_HANGUP\t",

@@ -100,6 +100,7 @@ class Words(Layers):
             "nosuch",
             "api msleep 3600001",
             "api uuid_park",
+            "api create_uuid",
             "api originate x",
             f"api  uuid_exists   {channel}",
             f"api uuid_kill {channel}  CALL_REJECTED x",
@@ -107,6 +108,10 @@ class Words(Layers):
             f"api uuid_transfer {channel} e1 XML other",
             f"api uuid_transfer {channel} e1  xml",
             "api hupall frob",
+            f"api uuid_setvar {channel} a  {self.one_of('b  c', '_undef_', '')}",
+            f"api uuid_setvar {channel}",
+            f"api uuid_dump {channel}",
+            "api uuid_dump",
         )
         usual = super().command
         return self.weighed((20, lambda: usual(session)), (1, lambda: self.one_of(*odd)))

@@ -30,7 +30,12 @@ fn tell_made(made: Result<Api, Memory>, answer: &mut Answer) {
 fn tell_command(api: &Api, answer: &mut Answer) {
     match api {
         Api::Echo { text } => answer.named("Echo", text.as_bytes()),
-        Api::Expand { text } => answer.named("Expand", text.as_bytes()),
+        Api::Expand { uuid: None, text } => answer.named("Expand", text.as_bytes()),
+        Api::Expand {
+            uuid: Some(uuid),
+            text,
+        } => answer.named_two("Expand", uuid.as_bytes(), text.as_bytes()),
+        Api::CreateUuid => answer.line("CreateUuid"),
         Api::GlobalGetvar { name: None } => answer.line("GlobalGetvar"),
         Api::GlobalGetvar { name: Some(name) } => answer.named("GlobalGetvar", name.as_bytes()),
         Api::GlobalSetvar { name, value } => answer.named_two(
@@ -49,11 +54,18 @@ fn tell_command(api: &Api, answer: &mut Answer) {
             answer.named("UuidKill", uuid.as_bytes());
             tell_cause(*cause, answer);
         }
+        Api::UuidSetvar { uuid, name, value } => answer.named_three(
+            "UuidSetvar",
+            uuid.as_bytes(),
+            name.as_bytes(),
+            value.as_bytes(),
+        ),
         Api::UuidGetvar { uuid, name } => answer.named_two(
             "UuidGetvar",
             uuid.as_bytes(),
             name.as_bytes(),
         ),
+        Api::UuidDump { uuid } => answer.named("UuidDump", uuid.as_bytes()),
         Api::UuidPark { uuid } => answer.named("UuidPark", uuid.as_bytes()),
         Api::UuidTransfer { uuid, to } => {
             answer.named_two("UuidTransfer", uuid.as_bytes(), to.exten.as_bytes());

@@ -14,15 +14,16 @@ use Rattle.fs_chan.specs.Changes.{IsShortTarget}
 use Rattle.fs_chan.specs.Targets.{target_in}
 use Rattle.fs_chan.proofs.TargetLemmas.{words_short}
 use Rattle.fs_api.specs.declared.api.Api.{Api}
-use Rattle.fs_api.specs.declared.api.Api.TheVariants.{Expand, UuidGetvar, UuidBridge}
+use Rattle.fs_api.specs.declared.api.Api.TheVariants.{Expand, UuidSetvar, UuidGetvar, UuidBridge}
 use Rattle.fs_api.specs.declared.usages.Which.{Which}
 use Rattle.fs_api.specs.declared.usages.Which.TheVariants as which
-use Rattle.fs_text.specs.Words.{word_of, behind_word}
+use Rattle.fs_text.specs.Words.{behind_byte, word_of, behind_word}
 use Rattle.fs_text.specs.Texts.{Text}
 use Rattle.fs_api.specs.Words.{behind_quoted, quoted_word}
 use Rattle.fs_api.specs.Originates.{plain_word, originate_with, originate_to, originate_of}
+use Rattle.fs_api.specs.Readings.{names_channel, expand_of}
 use Rattle.fs_api.specs.Readings.{needs, global_setvar_of, global_getvar_of, msleep_for, uuid_exists_of, uuid_kill_of, uuid_getvar_of}
-use Rattle.fs_api.specs.Readings.{uuid_bridge_of, uuid_park_of, hupall_of, api_named}
+use Rattle.fs_api.specs.Readings.{uuid_setvar_of, uuid_dump_of, uuid_bridge_of, uuid_park_of, hupall_of, api_named}
 use Rattle.fs_api.specs.Transfers.{transfer_to, uuid_transfer_of}
 use Rattle.fs_api.specs.Ranges.{IsInRange}
 
@@ -59,6 +60,12 @@ needs_in_range : (usage : Which) (read : Text → Api) (arguments : Text) → ((
 needs_in_range usage read [] each = tt
 needs_in_range usage read (byte ∷ bytes) each = each (byte ∷ bytes)
 
+expanding_in_range : (arguments : Text) → IsInRange (expand_of arguments)
+expanding_in_range arguments =
+    either IsInRange (names_channel arguments) _ _
+    (λ _. needs_in_range which.Expand (Expand (Some (behind_byte 58 (word_of arguments)))) (behind_word arguments) (λ _. tt))
+    (λ _. tt)
+
 getting_in_range : (arguments : Text) → IsInRange (global_getvar_of arguments)
 getting_in_range [] = tt
 getting_in_range (byte ∷ bytes) = tt
@@ -86,6 +93,11 @@ reading_in_range : (arguments : Text) → IsInRange (uuid_getvar_of arguments)
 reading_in_range arguments =
     needs_in_range which.UuidGetvar (λ name. UuidGetvar (word_of arguments) (word_of name)) (behind_word arguments) (λ _. tt)
 
+setting_in_range : (arguments : Text) → IsInRange (uuid_setvar_of arguments)
+setting_in_range arguments =
+    needs_in_range which.UuidSetvar (λ name. UuidSetvar (word_of arguments) (word_of name) (behind_word name)) (behind_word arguments)
+    (λ _. tt)
+
 joining_in_range : (arguments : Text) → IsInRange (uuid_bridge_of arguments)
 joining_in_range arguments =
     needs_in_range which.UuidBridge (λ other. UuidBridge (word_of arguments) (word_of other)) (behind_word arguments) (λ _. tt)
@@ -94,7 +106,8 @@ named_in_range : (name arguments : Text) → IsInRange (api_named name arguments
 unfolding api_named
 named_in_range name arguments =
     either IsInRange (bytes_eq name (codes "echo")) _ _ (λ _. tt)
-    (λ _. either IsInRange (bytes_eq name (codes "expand")) _ _ (λ _. needs_in_range which.Expand Expand arguments (λ _. tt))
+    (λ _. either IsInRange (bytes_eq name (codes "expand")) _ _ (λ _. needs_in_range which.Expand expand_of arguments expanding_in_range)
+    (λ _. either IsInRange (bytes_eq name (codes "create_uuid")) _ _ (λ _. tt)
     (λ _. either IsInRange (bytes_eq name (codes "global_getvar")) _ _ (λ _. getting_in_range arguments)
     (λ _. either IsInRange (bytes_eq name (codes "global_setvar")) _ _ (λ _. needs_in_range which.GlobalSetvar global_setvar_of arguments
     (λ _. tt))
@@ -103,14 +116,17 @@ named_in_range name arguments =
     (λ _. either IsInRange (bytes_eq name (codes "originate")) _ _ (λ _. originate_in_range arguments)
     (λ _. either IsInRange (bytes_eq name (codes "uuid_bridge")) _ _
     (λ _. needs_in_range which.UuidBridge uuid_bridge_of arguments joining_in_range)
+    (λ _. either IsInRange (bytes_eq name (codes "uuid_dump")) _ _ (λ _. needs_in_range which.UuidDump uuid_dump_of arguments (λ _. tt))
     (λ _. either IsInRange (bytes_eq name (codes "uuid_exists")) _ _ (λ _. needs_in_range which.UuidExists uuid_exists_of arguments
     (λ _. tt))
     (λ _. either IsInRange (bytes_eq name (codes "uuid_getvar")) _ _
     (λ _. needs_in_range which.UuidGetvar uuid_getvar_of arguments reading_in_range)
     (λ _. either IsInRange (bytes_eq name (codes "uuid_kill")) _ _ (λ _. needs_in_range which.UuidKill uuid_kill_of arguments (λ _. tt))
     (λ _. either IsInRange (bytes_eq name (codes "uuid_park")) _ _ (λ _. needs_in_range which.UuidPark uuid_park_of arguments (λ _. tt))
+    (λ _. either IsInRange (bytes_eq name (codes "uuid_setvar")) _ _
+    (λ _. needs_in_range which.UuidSetvar uuid_setvar_of arguments setting_in_range)
     (λ _. either IsInRange (bytes_eq name (codes "uuid_transfer")) _ _ (λ _. transferring_in_range arguments)
-    (λ _. tt)))))))))))))
+    (λ _. tt))))))))))))))))
 
 -- what is read of a name and its arguments, once it is read
 pub IfOk-in_range : (name arguments : Text) (result : Result Api Memory) → IfOk result (λ api. api ≡ api_named name arguments) →

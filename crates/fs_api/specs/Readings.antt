@@ -1,14 +1,14 @@
 -- How the text of an api command is read.
-use Rattle.std.specs.Prelude.{ℕ, nat_le, if◌then◌else◌, [], ◌∷◌, Option, None, Some, codes}
+use Rattle.std.specs.Prelude.{ℕ, nat_le, nat_lt, Bool, ◌&&◌, if◌then◌else◌, [], ◌∷◌, length, Option, None, Some, codes}
 use Rattle.std.specs.Str.{bytes_eq}
 use Rattle.fs_text.specs.Number.{read_u64}
-use Rattle.fs_text.specs.Words.{name_in, value_in, without_spaces, word_of, behind_word}
+use Rattle.fs_text.specs.Words.{name_in, value_in, before_byte, behind_byte, without_spaces, word_of, behind_word}
 use Rattle.fs_text.specs.Cause.{cause_or_clearing}
 use Rattle.fs_text.specs.declared.causes.Cause.TheVariants.{ManagerRequest}
 use Rattle.fs_text.specs.Texts.{Text}
 use Rattle.fs_api.specs.declared.api.Api.{Api}
-use Rattle.fs_api.specs.declared.api.Api.TheVariants.{Echo, Expand, GlobalGetvar, GlobalSetvar, Msleep, UuidExists, UuidKill, UuidGetvar}
-use Rattle.fs_api.specs.declared.api.Api.TheVariants.{UuidBridge, UuidPark, Hupall, Usage, Unknown}
+use Rattle.fs_api.specs.declared.api.Api.TheVariants.{Echo, Expand, CreateUuid, GlobalGetvar, GlobalSetvar, Msleep, UuidExists, UuidKill}
+use Rattle.fs_api.specs.declared.api.Api.TheVariants.{UuidSetvar, UuidGetvar, UuidDump, UuidBridge, UuidPark, Hupall, Usage, Unknown}
 use Rattle.fs_api.specs.declared.usages.Which.{Which}
 use Rattle.fs_api.specs.declared.usages.Which.TheVariants as which
 use Rattle.fs_api.specs.Originates.{originate_of}
@@ -18,6 +18,23 @@ use Rattle.fs_api.specs.Transfers.{uuid_transfer_of}
 abbrev pub needs : Which → (Text → Api) → Text → Api
 needs usage read [] = Usage usage
 needs usage read (byte ∷ bytes) = read (byte ∷ bytes)
+
+-- the first word is `uuid:` and an identifier, and a space stands behind it
+abbrev pub names_channel : Text → Bool
+names_channel arguments =
+    bytes_eq (before_byte 58 (word_of arguments)) (codes "uuid")
+    && nat_lt (length (before_byte 58 (word_of arguments))) (length (word_of arguments))
+    && nat_lt (length (word_of arguments)) (length arguments)
+
+-- a text that is to be expanded as a channel knows things, if there is one
+abbrev pub expand_over : Text → Text → Api
+expand_over uuid text = needs which.Expand (Expand (Some uuid)) text
+
+-- the channel may be named in front of the text
+abbrev pub expand_of : Text → Api
+expand_of arguments =
+    if names_channel arguments then expand_over (behind_byte 58 (word_of arguments)) (behind_word arguments)
+    else Expand None arguments
 
 -- a word that sets a global: what stands before its first `=`, to what stands behind it
 abbrev pub global_setvar_of : Text → Api
@@ -47,6 +64,14 @@ uuid_park_of arguments = UuidPark (word_of arguments)
 abbrev pub uuid_getvar_of : Text → Api
 uuid_getvar_of arguments = needs which.UuidGetvar (λ name. UuidGetvar (word_of arguments) (word_of name)) (behind_word arguments)
 
+-- the name behind the identifier, and the rest of the line as its value
+abbrev pub uuid_setvar_of : Text → Api
+uuid_setvar_of arguments =
+    needs which.UuidSetvar (λ name. UuidSetvar (word_of arguments) (word_of name) (behind_word name)) (behind_word arguments)
+
+abbrev pub uuid_dump_of : Text → Api
+uuid_dump_of arguments = UuidDump (word_of arguments)
+
 abbrev pub uuid_bridge_of : Text → Api
 uuid_bridge_of arguments = needs which.UuidBridge (λ other. UuidBridge (word_of arguments) (word_of other)) (behind_word arguments)
 
@@ -59,19 +84,22 @@ hupall_of (byte ∷ bytes) = Hupall (cause_or_clearing (word_of (byte ∷ bytes)
 unfoldable pub api_named : Text → Text → Api
 api_named name arguments =
     if bytes_eq name (codes "echo") then Echo arguments
-    else (if bytes_eq name (codes "expand") then needs which.Expand Expand arguments
+    else (if bytes_eq name (codes "expand") then needs which.Expand expand_of arguments
+    else (if bytes_eq name (codes "create_uuid") then CreateUuid
     else (if bytes_eq name (codes "global_getvar") then global_getvar_of arguments
     else (if bytes_eq name (codes "global_setvar") then needs which.GlobalSetvar global_setvar_of arguments
     else (if bytes_eq name (codes "hupall") then hupall_of arguments
     else (if bytes_eq name (codes "msleep") then msleep_of arguments
     else (if bytes_eq name (codes "originate") then originate_of arguments
     else (if bytes_eq name (codes "uuid_bridge") then needs which.UuidBridge uuid_bridge_of arguments
+    else (if bytes_eq name (codes "uuid_dump") then needs which.UuidDump uuid_dump_of arguments
     else (if bytes_eq name (codes "uuid_exists") then needs which.UuidExists uuid_exists_of arguments
     else (if bytes_eq name (codes "uuid_getvar") then needs which.UuidGetvar uuid_getvar_of arguments
     else (if bytes_eq name (codes "uuid_kill") then needs which.UuidKill uuid_kill_of arguments
     else (if bytes_eq name (codes "uuid_park") then needs which.UuidPark uuid_park_of arguments
+    else (if bytes_eq name (codes "uuid_setvar") then needs which.UuidSetvar uuid_setvar_of arguments
     else (if bytes_eq name (codes "uuid_transfer") then uuid_transfer_of arguments
-    else Unknown name))))))))))))
+    else Unknown name)))))))))))))))
 
 -- the api command that a text is
 abbrev pub api_of : Text → Api
@@ -84,7 +112,7 @@ echoed text =
 
 -- a command, where `expand` is none
 abbrev pub without_expand : Api → Api
-without_expand (Expand text) = Unknown (codes "expand")
+without_expand (Expand uuid text) = Unknown (codes "expand")
 without_expand (Usage which.Expand) = Unknown (codes "expand")
 without_expand other = other
 

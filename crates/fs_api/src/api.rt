@@ -11,10 +11,14 @@ pub enum Api {
     Echo {
         text: Txt,
     },
-    /// The text is expanded, and run as an api command.
+    /// The text is expanded, over what the channel of an identifier knows or, without one, over the globals, and run as
+    /// an api command.
     Expand {
+        uuid: Option<Txt>,
         text: Txt,
     },
+    /// A new identifier is asked for.
+    CreateUuid,
     /// The value of a global is asked for, or, without a name, all globals.
     GlobalGetvar {
         name: Option<Txt>,
@@ -51,10 +55,20 @@ pub enum Api {
         uuid: Txt,
         other: Txt,
     },
+    /// A variable of a channel is to be set.
+    UuidSetvar {
+        uuid: Txt,
+        name: Txt,
+        value: Txt,
+    },
     /// The value of a channel's variable is asked for.
     UuidGetvar {
         uuid: Txt,
         name: Txt,
+    },
+    /// All that is told of a channel is asked for, with its variables.
+    UuidDump {
+        uuid: Txt,
     },
     /// All live channels are to be hung up.
     Hupall {
@@ -79,7 +93,11 @@ impl Drop for Api {
     fn drop(self) {
         match self {
             Api::Echo { text: _text } => {}
-            Api::Expand { text: _text } => {}
+            Api::Expand {
+                uuid: _uuid,
+                text: _text,
+            } => {}
+            Api::CreateUuid => {}
             Api::GlobalGetvar { name: _name } => {}
             Api::GlobalSetvar {
                 name: _name,
@@ -100,10 +118,16 @@ impl Drop for Api {
                 uuid: _uuid,
                 other: _other,
             } => {}
+            Api::UuidSetvar {
+                uuid: _uuid,
+                name: _name,
+                value: _value,
+            } => {}
             Api::UuidGetvar {
                 uuid: _uuid,
                 name: _name,
             } => {}
+            Api::UuidDump { uuid: _uuid } => {}
             Api::Hupall { cause: _ } => {}
             Api::Originate {
                 url: _url,

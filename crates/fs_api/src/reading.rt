@@ -1,6 +1,7 @@
 //! How the text of an api command is read.
 
 ghost use Rattle.std.specs.Prelude.{◌≡◌, IfOk, option_map};
+ghost use Rattle.fs_text.specs.Words.{behind_byte, word_of, behind_word};
 ghost use Rattle.fs_api.specs.Ranges.{IsInRange};
 ghost use Rattle.fs_api.specs.Readings as spec;
 ghost use Rattle.fs_api.specs.declared.api.Api.TheVariants as variant;
@@ -63,7 +64,9 @@ fn named(alloc: Global, name: &[u8], arguments: &[u8]) -> Result<Api, Memory>
         let text = Txt::of(alloc, arguments)?;
         Ok(Api::Echo { text })
     } else if name == b"expand".as_slice() {
-        expanding(alloc, arguments)
+        expand_of(alloc, arguments)
+    } else if name == b"create_uuid".as_slice() {
+        Ok(Api::CreateUuid)
     } else if name == b"global_getvar".as_slice() {
         global_getvar_of(alloc, arguments)
     } else if name == b"global_setvar".as_slice() {
@@ -76,6 +79,8 @@ fn named(alloc: Global, name: &[u8], arguments: &[u8]) -> Result<Api, Memory>
         originate_of(alloc, arguments)
     } else if name == b"uuid_bridge".as_slice() {
         uuid_bridge_of(alloc, arguments)
+    } else if name == b"uuid_dump".as_slice() {
+        uuid_dump_of(alloc, arguments)
     } else if name == b"uuid_exists".as_slice() {
         uuid_exists_of(alloc, arguments)
     } else if name == b"uuid_getvar".as_slice() {
@@ -84,6 +89,8 @@ fn named(alloc: Global, name: &[u8], arguments: &[u8]) -> Result<Api, Memory>
         uuid_kill_of(alloc, arguments)
     } else if name == b"uuid_park".as_slice() {
         uuid_park_of(alloc, arguments)
+    } else if name == b"uuid_setvar".as_slice() {
+        uuid_setvar_of(alloc, arguments)
     } else if name == b"uuid_transfer".as_slice() {
         uuid_transfer_of(alloc, arguments)
     } else {
@@ -91,14 +98,41 @@ fn named(alloc: Global, name: &[u8], arguments: &[u8]) -> Result<Api, Memory>
     }
 }
 
-fn expanding(alloc: Global, arguments: &[u8]) -> Result<Api, Memory>
-    ensures { IfOk result (λ api. api ≡ spec.needs which.Expand variant.Expand arguments.now) }
+fn expand_of(alloc: Global, arguments: &[u8]) -> Result<Api, Memory>
+    ensures { IfOk result (λ api. api ≡ spec.needs which.Expand spec.expand_of arguments.now) }
 {
     if arguments.is_empty() {
         return Ok(Api::Usage(Which::Expand));
     }
+    if names_channel(arguments) {
+        return expand_over(alloc, arguments);
+    }
     let text = Txt::of(alloc, arguments)?;
-    Ok(Api::Expand { text })
+    Ok(Api::Expand { uuid: None, text })
+}
+
+// Whether the first word is `uuid:` and an identifier, and a space stands behind it.
+fn names_channel(arguments: &[u8]) -> bool
+    ensures { result ≡ spec.names_channel arguments.now }
+{
+    let (word, _) = cut_word(arguments);
+    let (name, _) = cut_at(b':', word);
+    name == b"uuid".as_slice() && name.len() < word.len() && word.len() < arguments.len()
+}
+
+// A text behind the identifier of a channel.
+fn expand_over(alloc: Global, arguments: &[u8]) -> Result<Api, Memory>
+    ensures { IfOk result (λ api. api
+        ≡ spec.expand_over (behind_byte 58 (word_of arguments.now)) (behind_word arguments.now)) }
+{
+    let (word, text) = cut_word(arguments);
+    if text.is_empty() {
+        return Ok(Api::Usage(Which::Expand));
+    }
+    let (_, uuid) = cut_at(b':', word);
+    let uuid = Some(Txt::of(alloc, uuid)?);
+    let text = Txt::of(alloc, text)?;
+    Ok(Api::Expand { uuid, text })
 }
 
 fn global_getvar_of(alloc: Global, arguments: &[u8]) -> Result<Api, Memory>
@@ -161,6 +195,17 @@ fn uuid_bridge_of(alloc: Global, arguments: &[u8]) -> Result<Api, Memory>
     Ok(Api::UuidBridge { uuid, other })
 }
 
+fn uuid_dump_of(alloc: Global, arguments: &[u8]) -> Result<Api, Memory>
+    ensures { IfOk result (λ api. api ≡ spec.needs which.UuidDump spec.uuid_dump_of arguments.now) }
+{
+    if arguments.is_empty() {
+        return Ok(Api::Usage(Which::UuidDump));
+    }
+    let (word, _) = cut_word(arguments);
+    let uuid = Txt::of(alloc, word)?;
+    Ok(Api::UuidDump { uuid })
+}
+
 fn uuid_exists_of(alloc: Global, arguments: &[u8]) -> Result<Api, Memory>
     ensures { IfOk result (λ api. api ≡ spec.needs which.UuidExists spec.uuid_exists_of arguments.now) }
 {
@@ -207,4 +252,18 @@ fn uuid_park_of(alloc: Global, arguments: &[u8]) -> Result<Api, Memory>
     let (word, _) = cut_word(arguments);
     let uuid = Txt::of(alloc, word)?;
     Ok(Api::UuidPark { uuid })
+}
+
+fn uuid_setvar_of(alloc: Global, arguments: &[u8]) -> Result<Api, Memory>
+    ensures { IfOk result (λ api. api ≡ spec.needs which.UuidSetvar spec.uuid_setvar_of arguments.now) }
+{
+    let (word, behind) = cut_word(arguments);
+    if arguments.is_empty() || behind.is_empty() {
+        return Ok(Api::Usage(Which::UuidSetvar));
+    }
+    let (name, value) = cut_word(behind);
+    let uuid = Txt::of(alloc, word)?;
+    let name = Txt::of(alloc, name)?;
+    let value = Txt::of(alloc, value)?;
+    Ok(Api::UuidSetvar { uuid, name, value })
 }

@@ -11,10 +11,12 @@ pub enum Which {
     Msleep,
     Originate,
     UuidBridge,
+    UuidDump,
     UuidExists,
     UuidGetvar,
     UuidKill,
     UuidPark,
+    UuidSetvar,
     UuidTransfer,
 }
 
@@ -31,10 +33,12 @@ pub fn usage(which: Which) -> &'static str
             "<call url> <exten>|&<app>(<args>) [dialplan] [context] [cid_name] [cid_num] [timeout]"
         }
         Which::UuidBridge => "<uuid> <other_uuid>",
+        Which::UuidDump => "<uuid>",
         Which::UuidExists => "<uuid>",
         Which::UuidGetvar => "<uuid> <name>",
         Which::UuidKill => "<uuid> [cause]",
         Which::UuidPark => "<uuid>",
+        Which::UuidSetvar => "<uuid> <name> [value*]",
         Which::UuidTransfer => "<uuid> <exten> [dialplan] [context]",
     }
 }

@@ -1,5 +1,5 @@
 -- What each change makes of a channel.
-use Rattle.std.specs.Prelude.{ℕ, ◌+◌, ◌*◌, ◌≤◌, nat_lt, Bool, List, [], length, Option, None, Some, IfSome, unwrap_or, codes}
+use Rattle.std.specs.Prelude.{ℕ, ◌+◌, ◌*◌, ◌≤◌, nat_lt, Bool, List, [], ◌∷◌, ◌++◌, length, Option, None, Some, IfSome, unwrap_or, codes}
 use Rattle.fs_text.specs.declared.states.State.{State}
 use Rattle.fs_text.specs.declared.states.State.TheVariants.{CsNew, CsRouting, CsExecute, CsPark, CsHangup}
 use Rattle.fs_text.specs.declared.causes.Cause.{Cause}
@@ -93,6 +93,16 @@ may_route c = nat_lt c.hops 70
 -- routed once more, with the variables and the actions that the dialplan gave
 abbrev pub routed : Variables → List Action → Chan → Chan
 routed vars actions c = record c { vars = vars; actions = actions; hops = c.hops + 1; state = CsExecute }
+
+-- ---- messages
+
+-- there is room for one more message: 1,000 may wait to be run
+abbrev pub takes_message : Chan → Bool
+takes_message c = nat_lt (length c.messages) 1000
+
+-- with one more, behind the others
+abbrev pub with_message : Action → Chan → Chan
+with_message message c = record c { messages = c.messages ++ message ∷ [] }
 
 -- ---- waiting
 

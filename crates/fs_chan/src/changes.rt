@@ -1,8 +1,8 @@
 //! Each single change of a channel.
-ghost use Rattle.std.specs.Prelude.{◌≡◌, true, OnOk, OnErr, is_none};
+ghost use Rattle.std.specs.Prelude.{◌≡◌, true, if◌then◌else◌, IfOk, OnOk, OnErr, is_none};
 ghost use Rattle.fs_chan.specs.Changes as spec;
 
-use crate::action::Actions;
+use crate::action::{Action, Actions};
 use crate::chan::Chan;
 use crate::left::ActionsLeft;
 use crate::moment::moment_after;
@@ -10,6 +10,10 @@ use crate::target::Target3;
 use crate::wait::Wait;
 use fs_text::{Cause, Memory, State};
 use fs_vars::Vars;
+use std::alloc::Global;
+
+/// The most messages that may wait to be run.
+const MOST_MESSAGES: usize = 1_000;
 
 impl Chan {
     /// Comes into a state; nothing else changes.
@@ -66,6 +70,21 @@ impl Chan {
         self.hops += 1;
         self.state = State::CsExecute;
         Ok(())
+    }
+
+    /// Is sent a message, which it is to run behind those that wait, and says whether there was room for it: 1,000 may
+    /// wait.
+    pub fn take_message(&mut self, alloc: Global, message: Action) -> Result<bool, Memory>
+        ensures answer { IfOk result (λ taken. taken ≡ spec.takes_message self.old) }
+        ensures ok { IfOk result (λ taken. self.new
+            ≡ (if taken then spec.with_message message self.old else self.old)) }
+        ensures err { OnErr result (self.new ≡ self.old) }
+    {
+        if self.messages.len() >= MOST_MESSAGES {
+            return Ok(false);
+        }
+        self.messages.push(alloc, message)?;
+        Ok(true)
     }
 
     /// Goes on once what it waited for is over: the running application is complete.

@@ -1,10 +1,11 @@
 //! Actions that a channel has left, shared between its copies.
-ghost use Rattle.std.specs.Prelude.{◌≡◌, ◌==◌, [], drop, length, IfOk};
+ghost use Rattle.std.specs.Prelude.{◌≡◌, ◌==◌, [], ◌∷◌, ◌++◌, drop, length, IfOk, OnOk, OnErr};
 ghost use Rattle.std.specs.Option.{option_copied};
 ghost use Rattle.fs_chan.specs.Work.{first_of};
 
 use crate::action::{Action, Actions};
 use fs_text::Memory;
+use std::alloc::Global;
 use std::marker::Model;
 use std::sync::ArcSlice;
 
@@ -19,13 +20,15 @@ pub struct ActionsLeft {
 }
 
 impl Model for ActionsLeft {
-    ghost use Rattle.std.specs.Prelude.{List, [], drop, option_map, unwrap_or};
+    ghost use Rattle.std.specs.Prelude.{◌≤◌, List, [], drop, length, option_map, unwrap_or};
     ghost use Rattle.std.specs.Arc.{arc_slice_items};
     ghost use Rattle.fs_chan.specs.declared.action.Action.{Action};
 
     ghost Value = { List Action };
 
     ghost view = { λ left. drop left.done (unwrap_or (option_map arc_slice_items left.all) []) };
+
+    ghost invariant = { λ left. left.done ≤ length (unwrap_or (option_map arc_slice_items left.all) []) };
 }
 
 impl ActionsLeft {
@@ -47,6 +50,13 @@ impl ActionsLeft {
         })
     }
 
+    /// How many there are.
+    pub fn len(&self) -> usize
+        ensures { result ≡ length self.now }
+    {
+        self.as_slice().len()
+    }
+
     /// Whether there is none.
     pub fn is_empty(&self) -> bool
         ensures { result ≡ (length self.now == 0) }
@@ -62,6 +72,31 @@ impl ActionsLeft {
             Some(all) => all.as_slice().get(self.done),
             None => None,
         }
+    }
+
+    // All of them.
+    fn as_slice(&self) -> &[Action]
+        ensures { result.now ≡ self.now }
+    {
+        match &self.all {
+            Some(all) => &all.as_slice()[self.done..],
+            None => &[],
+        }
+    }
+
+    /// Puts an action behind all others. Its copies stay as they are.
+    pub fn push(&mut self, alloc: Global, action: Action) -> Result<(), Memory>
+        ensures ok { OnOk result (self.new ≡ self.old ++ action ∷ []) }
+        ensures err { OnErr result (self.new ≡ self.old) }
+    {
+        let mut all = copied(alloc, self.as_slice())?;
+        all.push(action)?;
+        let all = ArcSlice::from_vec(all)?;
+        *self = ActionsLeft {
+            all: Some(all),
+            done: 0,
+        };
+        Ok(())
     }
 
     /// Leaves the first one behind, if there is one.
@@ -95,4 +130,15 @@ impl ActionsLeft {
             done: self.done,
         })
     }
+}
+
+// These actions once more, with room for another.
+fn copied(alloc: Global, actions: &[Action]) -> Result<Vec<Action>, Memory>
+    ensures { IfOk result (λ all. all.items ≡ actions.now) }
+{
+    let mut all = Vec::with_capacity(alloc, actions.len().saturating_add(1))?;
+    for action in actions {
+        all.push(action.copy()?)?;
+    }
+    Ok(all)
 }

@@ -94,3 +94,21 @@ filter_added header value = bracketed (codes "+OK filter added. ") header value
 -- the filters are gone: those of the header where no value is named
 unfoldable pub filter_deleted : List ℕ → Option (List ℕ) → List ℕ
 filter_deleted header value = bracketed (codes "+OK filter deleted. ") header (unwrap_or value [])
+
+-- ---- the texts of replies that messages have
+
+-- the message was taken
+unfoldable pub message_taken : List ℕ
+message_taken = codes "+OK"
+
+-- no live channel has this identifier
+unfoldable pub invalid_session : List ℕ → List ℕ
+invalid_session uuid = codes "-ERR invalid session id [" ++ uuid ++ codes "]"
+
+-- the call of the message is none
+unfoldable pub invalid_call : List ℕ
+invalid_call = codes "-ERR invalid call-command"
+
+-- so many messages wait that there is no room for another
+unfoldable pub messages_full : List ℕ
+messages_full = codes "-ERR message queue full"

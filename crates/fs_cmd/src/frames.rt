@@ -12,7 +12,7 @@ use std::alloc::Global;
 // The bytes that are set aside for the headers of a frame, so that it is formed in one buffer.
 const HEADER_ROOM: usize = 80;
 
-// The bytes that are set aside for what stands round a filter in a reply's text.
+// The bytes that are set aside for what stands round a filter or an identifier in a reply's text.
 const BRACKET_ROOM: usize = 32;
 
 /// The first frame of a connection.
@@ -101,6 +101,19 @@ pub fn filter_deleted(alloc: Global, header: &[u8], value: Option<&[u8]>) -> Res
     ensures { IfOk result (λ t. t ≡ spec.filter_deleted header.now (option_copied value.entry)) }
 {
     bracketed(alloc, b"+OK filter deleted. ", header, value.unwrap_or(&[]))
+}
+
+/// The reply's text where no live channel has the identifier that a message names.
+#[tactic(auto, unfolding(crate::specs::Frames::invalid_session))]
+pub fn invalid_session(alloc: Global, uuid: &[u8]) -> Result<Txt, Memory>
+    ensures { IfOk result (λ t. t ≡ spec.invalid_session uuid.now) }
+{
+    let room = uuid.len().saturating_add(BRACKET_ROOM);
+    let mut text = Vec::with_capacity(alloc, room)?;
+    text.extend_from_slice(b"-ERR invalid session id [")?;
+    text.extend_from_slice(uuid)?;
+    text.push(b']')?;
+    Txt::from_vec(text)
 }
 
 // A header and a value in brackets, behind a head.

@@ -6,5 +6,7 @@ mod frames;
 mod message;
 
 pub use command::{Command, Form};
-pub use frames::{api_reply, auth_request, filter_added, filter_deleted, notice, reply};
+pub use frames::{
+    api_reply, auth_request, filter_added, filter_deleted, invalid_session, notice, reply,
+};
 pub use message::Message;

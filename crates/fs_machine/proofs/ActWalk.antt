@@ -1,5 +1,5 @@
 -- The walk goes on: jobs, commands and all acts.
-use Rattle.std.proofs.Common.{◌≡◌, ℕ, ◌*◌, nat_lt, Bool, true, false, if◌then◌else◌, [], ◌∷◌, length, Option, None, Some}
+use Rattle.std.proofs.Common.{◌≡◌, ℕ, ◌*◌, nat_lt, Bool, true, false, if◌then◌else◌, [], ◌∷◌, Option, None, Some}
 use Rattle.std.proofs.Common.{◌++◌, ◌∙◌, Result, Ok, Err, refl, sym, ap}
 use Rattle.std.specs.Prelude.{◌&&◌, map}
 use Rattle.std.specs.Option.{option_or}
@@ -9,10 +9,11 @@ use Rattle.fs_text.specs.declared.causes.Cause.{Cause}
 use Rattle.fs_vars.specs.Variables.{can_set, set_to}
 use Rattle.fs_vars.specs.Expansion.{expanded}
 use Rattle.fs_cmd.specs.Commands as command
-use Rattle.fs_cmd.specs.Commands.{Command, command_of}
+use Rattle.fs_cmd.specs.Commands.{Command, command_of, Message, Execute, Hangup, BadCall}
 use Rattle.fs_cmd.specs.Frames.{reply, api_reply, notice, accepted, invalid, bye, not_found}
 use Rattle.fs_cmd.specs.Frames.{event_enabled, format_unsupported, event_disabled, no_longer_listening, not_listening}
 use Rattle.fs_cmd.specs.Frames.{filter_added, filter_deleted, invalid_syntax, filter_not_found}
+use Rattle.fs_cmd.specs.Frames.{message_taken, invalid_session, invalid_call, messages_full}
 use Rattle.fs_cmd.specs.declared.command.Form.{Form}
 use Rattle.fs_cmd.specs.declared.command.Form.TheVariants.{Plain, Json, Xml}
 use Rattle.fs_filter.specs.Asked.{asked_in}
@@ -20,6 +21,7 @@ use Rattle.fs_filter.specs.Subscriptions.{Subscription, subscribed, unsubscribed
 use Rattle.fs_api.specs.declared.api.Api.{Api}
 use Rattle.fs_api.specs.declared.api.Api.TheVariants as api
 use Rattle.fs_api.specs.Readings.{api_of, expanded_api_of}
+use Rattle.fs_chan.specs.declared.action.Action.{Action}
 use Rattle.fs_chan.specs.Moments.{moment_after}
 use Rattle.fs_dial.specs.declared.fault.DialFault.{DialFault}
 use Rattle.fs_dial.specs.DialStrings.{Dial, dial_string}
@@ -38,10 +40,11 @@ use Rattle.fs_bridge.specs.declared.row.BridgeKind.TheVariants.{Joined}
 use Rattle.fs_bridge.specs.Closure.{Members}
 use Rattle.fs_text.specs.declared.causes.Cause.TheVariants.{OriginatorCancel}
 use Rattle.fs_text.specs.declared.states.State.TheVariants.{CsExchangeMedia}
-use Rattle.fs_chan.specs.Changes.{in_state, is_live, parked, transferred}
+use Rattle.fs_chan.specs.Changes.{in_state, is_live, parked, transferred, takes_message, with_message}
+use Rattle.fs_chan.specs.Exports.{with_set}
 use Rattle.fs_chan.specs.declared.chan.Chan.{Chan}
 use Rattle.fs_chan.specs.declared.wait.Wait.TheVariants.{Ready}
-use Rattle.fs_state.specs.Switch.{Switch, chan_at, job_of, slot_named, is_full_of_jobs}
+use Rattle.fs_state.specs.Switch.{Switch, chan_at, with_chan, job_of, slot_named, is_full_of_jobs}
 use Rattle.fs_state.specs.Moves.{plain_event, after_move}
 use Rattle.fs_state.specs.Hangups.{after_hangups, legs_at, lives, lives_at}
 use Rattle.fs_state.specs.Bridging.{can_join, joined_as, after_join}
@@ -62,13 +65,15 @@ use Rattle.fs_state.specs.Leaving.{after_leaving_others}
 use Rattle.fs_machine.proofs.LeaveLemmas.{left_free, parked_stays, transferred_stays}
 use Rattle.fs_machine.proofs.BondLeaves.{departed_lone}
 use Rattle.fs_machine.specs.Hangups.{all_slots}
-use Rattle.fs_machine.specs.Api.{kill_done, msleep_done, dialed, originate_done, done_plainly}
-use Rattle.fs_machine.specs.Api.{done_by}
+use Rattle.fs_machine.specs.Applications.{unless_too_long, argument_in}
+use Rattle.fs_machine.specs.Api.{kill_done, with_variable, variable_set_on, variable_set_at, msleep_done, dialed, originate_done}
+use Rattle.fs_machine.specs.Api.{chan_named, done_plainly, done_expanded, done_over, done_by}
 use Rattle.fs_machine.specs.Commands.{with_reply, after_dismissal, after_password, with_response_of, command_done_in, command_done}
 use Rattle.fs_machine.specs.Commands.{after_asking, unless_unknown, after_subscribing, after_unsubscribing, after_silence, after_deletion}
-use Rattle.fs_machine.specs.Commands.{with_filter_added, with_filters_deleted}
+use Rattle.fs_machine.specs.Commands.{with_filter_added, with_filters_deleted, queued_on, message_done, message_done_at, message_sent}
 use Rattle.fs_machine.specs.Step.{after_close, act_done}
-use Rattle.fs_machine.proofs.Kept.{IsApart, hold_in, Stays, Fact, KeptByCalls, DoesJob, KeptByJobs, KeptByDials, LeavesBy, IsShortWinner}
+use Rattle.fs_machine.proofs.Kept.{IsApart, hold_in, Stays, Stage, Fact, KeptByCalls, DoesJob, KeptByJobs, KeptByDials, LeavesBy}
+use Rattle.fs_machine.proofs.Kept.{IsShortWinner}
 use Rattle.fs_machine.proofs.DrawnLemmas.{SameDrawn, both_left_drawn}
 use Rattle.fs_machine.proofs.Kept.{WasApart, KeptByApi, KeptByCommands, api_among, KeptByMoves}
 use Rattle.fs_machine.proofs.ShortLemmas.{NamesShort, api_short, expanded_short}
@@ -76,7 +81,8 @@ use Rattle.fs_machine.proofs.DialLemmas.{dialed_groups}
 use Rattle.fs_machine.proofs.JoinLemmas.{apart_now, apart_hung, apart_left, DialsNone, left_dials, left_dials_still, CanMeet}
 use Rattle.fs_machine.proofs.JoinLemmas.{meets_now, join_meets, media_meets, ready_lone}
 use Rattle.fs_machine.proofs.JoinLemmas.{media_stays}
-use Rattle.fs_machine.proofs.StayLemmas.{moved_plain}
+use Rattle.fs_machine.proofs.StayLemmas.{moved_plain, early_vars, same_vars, quiet_stays}
+use Rattle.fs_machine.proofs.LimitLemmas.{with_set_limited}
 use Rattle.fs_machine.proofs.TryWalk.{verdict_kept}
 use Rattle.fs_machine.proofs.Walk.{worked_kept}
 use Rattle.fs_machine.proofs.RestLemmas.{hung_rest, does_same}
@@ -113,13 +119,32 @@ module _ (before : Switch) (P : Fact) (calls : KeptByCalls P) (dials : KeptByDia
 
 -- an api command may make a leg, which is a pair of channels
 module _ (conn : ℕ) (P : Fact) (calls : KeptByCalls P) (commands : KeptByApi conn P) where
-  done_either : (test : Bool) (x y : Done) → P (Some 0) x.state → P (Some 0) y.state → P (Some 0) (if test then x else y).state
+  done_either : {b : Stage} (test : Bool) (x y : Done) → P b x.state → P b y.state → P b (if test then x else y).state
   done_either true x y first second = first
   done_either false x y first second = second
 
   killed_kept : (cause : Cause) (slot : Option ℕ) {s : Switch} → P None s → P (Some 0) (kill_done cause slot s).state
   killed_kept cause None h = commands.spent h
   killed_kept cause (Some slot) h = calls.hung ((slot, cause) ∷ []) h (commands.spent h)
+
+  -- a variable of a channel is set, which nobody else sees
+  variable_kept : (name value : Text) (slot : ℕ) (c : Chan) {s : Switch} → chan_at s slot ≡ Some c → P None s →
+      P None (with_chan slot (Some (with_variable name value c)) s)
+  variable_kept name value slot c is h =
+      calls.touches.changed slot c (with_variable name value c) is
+      (quiet_stays c (with_variable name value c) (record { links = refl; direction = refl; state = refl; profile = refl })
+      (early_vars c.vars (with_set c.vars name value) (with_set_limited c.vars name value)))
+      h
+
+  variable_set_kept : (name value : Text) (found : Option ℕ) {s : Switch} → P None s →
+      P (Some 0) (variable_set_at name value found s).state
+  variable_set_kept name value None h = commands.spent h
+  variable_set_kept name value (Some slot) {s} h = by (chan_at s slot) refl
+    where
+      by : (chan : Option Chan) → chan_at s slot ≡ chan → P (Some 0) (variable_set_on name value slot chan s).state
+      by None is = commands.spent h
+      by (Some c) is =
+          done_either (can_set c.vars name value) _ _ (commands.spent (variable_kept name value slot c is h)) (commands.spent h)
 
   slept_kept : (milliseconds : ℕ) {s : Switch} → P None s → P (Some 0) (msleep_done conn milliseconds s).state
   slept_kept milliseconds {s} h = by (is_full_of_jobs s) refl
@@ -242,36 +267,49 @@ module _ (conn : ℕ) (P : Fact) (calls : KeptByCalls P) (commands : KeptByApi c
       by None = commands.spent h
       by (Some slot) = ready slot (is_ready (chan_at s slot)) refl
 
-  done_plainly_kept : (what : Api) {s : Switch} → NamesShort what → P None s → P (Some 0) (done_plainly conn what s).state
-  done_plainly_kept (api.Echo text) short h = commands.spent h
-  done_plainly_kept (api.Expand text) short h = commands.spent h
-  done_plainly_kept (api.GlobalGetvar name) short h = commands.spent h
+  -- at most one identifier is drawn for no slot
+  done_plainly_kept : (what : Api) {s : Switch} → NamesShort what → P None s → P (Some 1) (done_plainly conn what s).state
+  done_plainly_kept (api.Echo text) short h = calls.more (commands.spent h)
+  done_plainly_kept (api.Expand uuid text) short h = calls.more (commands.spent h)
+  done_plainly_kept api.CreateUuid short h = commands.draws h
+  done_plainly_kept (api.GlobalGetvar name) short h = calls.more (commands.spent h)
   done_plainly_kept (api.GlobalSetvar name value) {s} short h =
-      done_either (can_set s.globals name value) _ _ (calls.touches.globals (set_to s.globals name value) (commands.spent h))
-      (commands.spent h)
-  done_plainly_kept (api.Msleep milliseconds) short h = slept_kept milliseconds h
-  done_plainly_kept (api.UuidExists uuid) short h = commands.spent h
-  done_plainly_kept (api.UuidKill uuid cause) {s} short h = killed_kept cause (slot_named uuid s) h
-  done_plainly_kept (api.UuidGetvar uuid name) short h = commands.spent h
-  done_plainly_kept (api.UuidBridge uuid other) short h = bridged_kept uuid other h
-  done_plainly_kept (api.UuidPark uuid) short h = sent_kept parked uuid (λ c live lone free. parked_stays c live lone free) h
+      calls.more (done_either (can_set s.globals name value) _ _ (calls.touches.globals (set_to s.globals name value) (commands.spent h))
+      (commands.spent h))
+  done_plainly_kept (api.Msleep milliseconds) short h = calls.more (slept_kept milliseconds h)
+  done_plainly_kept (api.UuidExists uuid) short h = calls.more (commands.spent h)
+  done_plainly_kept (api.UuidKill uuid cause) {s} short h = calls.more (killed_kept cause (slot_named uuid s) h)
+  done_plainly_kept (api.UuidSetvar uuid name value) {s} short h = calls.more (variable_set_kept name value (slot_named uuid s) h)
+  done_plainly_kept (api.UuidGetvar uuid name) short h = calls.more (commands.spent h)
+  done_plainly_kept (api.UuidDump uuid) short h = calls.more (commands.spent h)
+  done_plainly_kept (api.UuidBridge uuid other) short h = calls.more (bridged_kept uuid other h)
+  done_plainly_kept (api.UuidPark uuid) short h =
+      calls.more (sent_kept parked uuid (λ c live lone free. parked_stays c live lone free) h)
   done_plainly_kept (api.UuidTransfer uuid to) short h =
-      sent_kept (transferred to) uuid (λ c live lone free. transferred_stays to c short live lone free) h
-  done_plainly_kept (api.Hupall cause) {s} short h = calls.hung (map (λ slot. (slot, cause)) (all_slots s)) h (commands.spent h)
+      calls.more (sent_kept (transferred to) uuid (λ c live lone free. transferred_stays to c short live lone free) h)
+  done_plainly_kept (api.Hupall cause) {s} short h =
+      calls.more (calls.hung (map (λ slot. (slot, cause)) (all_slots s)) h (commands.spent h))
   done_plainly_kept (api.Originate url winner cid_name cid_number timeout) short h =
-      originated_kept url winner (record { name = cid_name; number = cid_number }) timeout short h
-  done_plainly_kept (api.Usage which) short h = commands.spent h
-  done_plainly_kept (api.Unknown name) short h = commands.spent h
+      calls.more (originated_kept url winner (record { name = cid_name; number = cid_number }) timeout short h)
+  done_plainly_kept (api.Usage which) short h = calls.more (commands.spent h)
+  done_plainly_kept (api.Unknown name) short h = calls.more (commands.spent h)
 
-  pub done_kept : (what : Api) {s : Switch} → NamesShort what → P None s → P (Some 0) (done_by conn what s).state
-  done_kept (api.Expand text) {s} short h =
-      let given : Text = expanded s.globals.pairs text in
-      done_either (nat_lt 65536 (length given)) _ _ (commands.spent h) (done_plainly_kept (expanded_api_of given) (expanded_short given) h)
+  whole_kept : (whole : Option Text) {s : Switch} → P None s → P (Some 1) (done_expanded conn whole s).state
+  whole_kept None h = calls.more (commands.spent h)
+  whole_kept (Some text) h = done_plainly_kept (expanded_api_of text) (expanded_short text) h
+
+  over_kept : (text : Text) (found : Option Chan) {s : Switch} → P None s → P (Some 1) (done_over conn text found s).state
+  over_kept text None h = calls.more (commands.spent h)
+  over_kept text (Some c) {s} h = whole_kept (argument_in c s text) h
+
+  pub done_kept : (what : Api) {s : Switch} → NamesShort what → P None s → P (Some 1) (done_by conn what s).state
+  done_kept (api.Expand None text) {s} short h = whole_kept (unless_too_long (expanded s.globals.pairs text)) h
+  done_kept (api.Expand (Some uuid) text) {s} short h = over_kept text (chan_named uuid s) h
   done_kept other short h = done_plainly_kept other short h
 
 -- a command may be one of these
 module _ (conn : ℕ) (P : Fact) (calls : KeptByCalls P) (commands : KeptByCommands conn P) where
-  responded_kept : (answer : Option Text) {s : Switch} → P (Some 0) s → P (Some 0) (with_response_of conn answer s)
+  responded_kept : (answer : Option Text) {b : Stage} {s : Switch} → P b s → P b (with_response_of conn answer s)
   responded_kept None h = h
   responded_kept (Some answer) h = commands.gave (api_reply answer) h
 
@@ -323,34 +361,68 @@ module _ (conn : ℕ) (P : Fact) (calls : KeptByCalls P) (commands : KeptByComma
       by true = asked_kept (with_filters_deleted header value) (filter_deleted header value) h
       by false = replied_kept filter_not_found h
 
+  -- ---- messages
+
+  queued_kept : (uuid : Text) (message : Action) (slot : ℕ) {s : Switch} → P None s →
+      P (Some 0) (queued_on conn uuid message slot (chan_at s slot) s)
+  queued_kept uuid message slot {s} h = by (chan_at s slot) refl
+    where
+      room : (c : Chan) (test : Bool) → chan_at s slot ≡ Some c →
+          P (Some 0)
+          (if test then with_reply conn message_taken (with_chan slot (Some (with_message message c)) s) else with_reply conn messages_full s)
+      room c true is =
+          replied_kept message_taken (commands.spent (calls.touches.changed slot c (with_message message c) is
+          (quiet_stays c (with_message message c) (record { links = refl; direction = refl; state = refl; profile = refl })
+          (same_vars c.vars c.vars refl)) h))
+      room c false is = replied_kept messages_full (commands.spent h)
+
+      by : (chan : Option Chan) → chan_at s slot ≡ chan → P (Some 0) (queued_on conn uuid message slot chan s)
+      by None is = replied_kept (invalid_session uuid) (commands.spent h)
+      by (Some c) is = room c (takes_message c) is
+
+  message_kept : (uuid : Text) (message : Message) (slot : ℕ) {s : Switch} → P None s → P (Some 0) (message_done conn uuid message slot s)
+  message_kept uuid (Execute application argument) slot h =
+      queued_kept uuid (record { application = application; argument = argument }) slot h
+  message_kept uuid (Hangup cause) slot h = replied_kept message_taken (calls.hung ((slot, cause) ∷ []) h (commands.spent h))
+  message_kept uuid BadCall slot h = replied_kept invalid_call (commands.spent h)
+
+  messaged_at : (uuid : Text) (message : Message) (found : Option ℕ) {s : Switch} → P None s →
+      P (Some 0) (message_done_at conn uuid message found s)
+  messaged_at uuid message None h = replied_kept (invalid_session uuid) (commands.spent h)
+  messaged_at uuid message (Some slot) h = message_kept uuid message slot h
+
+  messaged_kept : (uuid : Option Text) (message : Message) {s : Switch} → P None s → P (Some 0) (message_sent conn uuid message s)
+  messaged_kept None message h = replied_kept (invalid_session []) (commands.spent h)
+  messaged_kept (Some uuid) message {s} h = messaged_at uuid message (slot_named uuid s) h
+
   -- ---- all commands
 
-  pub commanded_kept : (c : Command) {s : Switch} → P None s → P (Some 0) (command_done conn c s)
+  pub commanded_kept : (c : Command) {s : Switch} → P None s → P (Some 1) (command_done conn c s)
   unfolding command_done
   commanded_kept c {s} h = by (phase_at s conn) refl c
     where
-      by : (at : Phase) → phase_at s conn ≡ at → (given : Command) → P (Some 0) (command_done_in at conn given s)
-      by phase.Fresh is (command.Auth given) = offered_kept given is (commands.spent h)
-      by phase.Fresh is command.Exit = dismissed_kept parting.Exit bye tt (commands.spent h)
-      by phase.Fresh is _ = replied_kept not_found (commands.spent h)
-      by phase.Ready is (command.Auth given) = replied_kept not_found (commands.spent h)
-      by phase.Ready is command.Exit = dismissed_kept parting.Exit bye tt (commands.spent h)
+      by : (at : Phase) → phase_at s conn ≡ at → (given : Command) → P (Some 1) (command_done_in at conn given s)
+      by phase.Fresh is (command.Auth given) = calls.more (offered_kept given is (commands.spent h))
+      by phase.Fresh is command.Exit = calls.more (dismissed_kept parting.Exit bye tt (commands.spent h))
+      by phase.Fresh is _ = calls.more (replied_kept not_found (commands.spent h))
+      by phase.Ready is (command.Auth given) = calls.more (replied_kept not_found (commands.spent h))
+      by phase.Ready is command.Exit = calls.more (dismissed_kept parting.Exit bye tt (commands.spent h))
       by phase.Ready is (command.Api text) =
           responded_kept (done_by conn (api_of text) s).reply
           (done_kept conn P calls (api_among commands) (api_of text) (api_short text) h)
-      by phase.Ready is (command.Event form names) = subscribed_kept form names (commands.spent h)
-      by phase.Ready is (command.Nixevent names) = unsubscribed_kept names (commands.spent h)
-      by phase.Ready is command.Noevents = silenced_kept (commands.spent h)
+      by phase.Ready is (command.Event form names) = calls.more (subscribed_kept form names (commands.spent h))
+      by phase.Ready is (command.Nixevent names) = calls.more (unsubscribed_kept names (commands.spent h))
+      by phase.Ready is command.Noevents = calls.more (silenced_kept (commands.spent h))
       by phase.Ready is (command.Filter header value) =
-          asked_kept (with_filter_added header value) (filter_added header value) (commands.spent h)
-      by phase.Ready is (command.FilterDelete header value) = deleted_kept header value (commands.spent h)
-      by phase.Ready is command.BadFilter = replied_kept invalid_syntax (commands.spent h)
-      by phase.Ready is (command.Bgapi text job) = replied_kept not_found (commands.spent h)
-      by phase.Ready is (command.Sendmsg uuid message) = replied_kept not_found (commands.spent h)
-      by phase.Ready is command.Connect = replied_kept not_found (commands.spent h)
-      by phase.Ready is command.Unknown = replied_kept not_found (commands.spent h)
-      by phase.Ending is given = commands.spent h
-      by phase.Closed is given = commands.spent h
+          calls.more (asked_kept (with_filter_added header value) (filter_added header value) (commands.spent h))
+      by phase.Ready is (command.FilterDelete header value) = calls.more (deleted_kept header value (commands.spent h))
+      by phase.Ready is command.BadFilter = calls.more (replied_kept invalid_syntax (commands.spent h))
+      by phase.Ready is (command.Bgapi text job) = calls.more (replied_kept not_found (commands.spent h))
+      by phase.Ready is (command.Sendmsg uuid message) = calls.more (messaged_kept uuid message h)
+      by phase.Ready is command.Connect = calls.more (replied_kept not_found (commands.spent h))
+      by phase.Ready is command.Unknown = calls.more (replied_kept not_found (commands.spent h))
+      by phase.Ending is given = calls.more (commands.spent h)
+      by phase.Closed is given = calls.more (commands.spent h)
 
 -- ---- all acts
 
@@ -363,11 +435,10 @@ module _ (before : Switch) (P : Fact) (kept : KeptByMoves before P) where
   closed_kept closing.Sent conn h = kept.visits.left conn h
   closed_kept closing.Failed conn h = kept.visits.left conn h
 
-  -- an act frees one slot at most
+  -- an act frees one slot at most, or draws one identifier for none
   pub acted_kept : (a : Act) → P None before → P (Some 1) (act_done a before).state
   acted_kept act.Arrive h = kept.calls.more (kept.visits.arrived h)
-  acted_kept (act.Command conn block) h =
-      kept.calls.more (commanded_kept conn P kept.calls (kept.commands conn) (command_of block) h)
+  acted_kept (act.Command conn block) h = commanded_kept conn P kept.calls (kept.commands conn) (command_of block) h
   acted_kept (act.Take conn) h = kept.calls.more (kept.visits.taken conn (spent h))
   acted_kept (act.Close conn how) h = kept.calls.more (closed_kept how conn (spent h))
   acted_kept (act.Work slot) h = worked_kept before P kept.calls kept.dials slot h

@@ -362,6 +362,7 @@ module _ (before : Switch) (stand : LegsStand (roles_of before)) (left : has_num
   berthing_commands : (conn : ℕ) → KeptByCommands conn Berthing
   berthing_commands conn = record {
     spent = λ h. ((kept.commands conn).spent h.0, h.1);
+    draws = λ h. ((kept.commands conn).draws h.0, h.1);
     noticed = λ frame h. ((kept.commands conn).noticed frame h.0, h.1);
     gave = λ frame h. ((kept.commands conn).gave frame h.0, h.1);
     asked = λ change {s = s} h. ((kept.commands conn).asked change h.0, conn_berthed (with_subs_changed change) conn s h.1);

@@ -26,7 +26,7 @@ use Rattle.fs_seats.specs.Seats.{held_in, with_held}
 use Rattle.fs_seats.proofs.HeldLemmas.{held_here, held_within}
 use Rattle.fs_seats.proofs.TableLemmas.{still_there, not_free}
 use Rattle.fs_state.proofs.LegTables.{berthed}
-use Rattle.fs_state.specs.Switch.{Switch, chan_at, with_chan, bridge_at, with_bridge, next_orig_number, with_event}
+use Rattle.fs_state.specs.Switch.{Switch, chan_at, with_chan, bridge_at, with_bridge, next_orig_number, with_event, with_next_identifier}
 use Rattle.fs_state.specs.Switch.{without_orig}
 use Rattle.fs_state.specs.Moves.{with_changed_chan_from, after_move_from, after_move, orig_changed, leg_changed}
 use Rattle.fs_state.specs.Moves.{orig_given_up}
@@ -437,3 +437,4 @@ bonds_moves before stand =
     moves_by_front before Bonding bonds_same bonds_calls bonds_births (bonds_dials before)
     (λ job conn winner caller orig leg slots does won h.
     won_bonds winner (unwrap_or leg.slot 0) (raced slots before) (winner_peerless before orig leg slots stand won h) h)
+    (λ s h. as_bonds s (with_next_identifier s) refl refl h)

@@ -56,6 +56,7 @@ module _ (P Q : Fact) where
   both_commands : (conn : ℕ) → KeptByCommands conn P → KeptByCommands conn Q → KeptByCommands conn (Both P Q)
   both_commands conn p q = record {
     spent = λ h. (p.spent h.0, q.spent h.1);
+    draws = λ h. (p.draws h.0, q.draws h.1);
     noticed = λ frame h. (p.noticed frame h.0, q.noticed frame h.1);
     gave = λ frame h. (p.gave frame h.0, q.gave frame h.1);
     asked = λ change h. (p.asked change h.0, q.asked change h.1);

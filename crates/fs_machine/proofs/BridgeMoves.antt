@@ -12,7 +12,7 @@ use Rattle.fs_chan.specs.declared.chan.Chan.{Chan}
 use Rattle.fs_chan.specs.Bridging.{bridged, in_media}
 use Rattle.fs_text.specs.Texts.{Text}
 use Rattle.fs_state.specs.declared.event.Event.{Event}
-use Rattle.fs_state.specs.Switch.{Switch, chan_at, with_bridge}
+use Rattle.fs_state.specs.Switch.{Switch, chan_at, with_bridge, with_next_identifier}
 use Rattle.fs_state.specs.Bridging.{bridge_event, can_join, peer_of, with_peer_from, with_peer, joined_as}
 use Rattle.fs_machine.specs.declared.call.Call.{Call}
 use Rattle.fs_machine.specs.BridgeEvents.{begun, ended}
@@ -118,3 +118,4 @@ module _ (past : List Event) where
       (dials_by_remains before (Telling past) front_tells remains_tell births_tell
       (λ slot u lively h. moved_tells past (λ number. 0) in_media slot u h))
       (λ job conn winner caller orig leg slots does won h. won_tells winner (unwrap_or leg.slot 0) (raced slots before) h)
+      (λ s h. same_tells past (λ number. 0) s (with_next_identifier s) refl h)

@@ -414,6 +414,7 @@ told_moves before = record {
   dials = told_dials before;
   commands = λ conn. record {
     spent = λ h. h;
+    draws = λ h. h;
     noticed = λ frame h. h;
     gave = λ frame h. h;
     asked = λ change {s = s} h. conn_told (with_subs_changed change) conn s h;

@@ -179,3 +179,4 @@ fit_moves before stand winners =
     (dials_by_remains before Fit fit_same remains_moves births_fit (λ slot u lively h. media_fit slot u lively h))
     (λ job conn winner caller orig leg slots does won h. wins_fit job conn winner caller orig leg slots before does
     (winner_lively before orig leg slots won stand) winners h)
+    (λ s h. h)

@@ -41,6 +41,7 @@ use Rattle.fs_state.specs.declared.job.JobWork.TheVariants.{Sleep, Originate}
 use Rattle.fs_state.specs.Counts.{Tallies}
 use Rattle.fs_state.specs.Switch.{Switch, chan_at, with_chan, with_bridge, conn_of, orig_of, next_orig_number}
 use Rattle.fs_state.specs.Switch.{next_job_number, with_new_job, without_job, without_orig, with_event, bridge_at, without_bridge}
+use Rattle.fs_state.specs.Switch.{with_next_identifier}
 use Rattle.fs_state.specs.Moves.{plain_event, application_event, running_at, with_changed_chan, after_move, orig_changed_from, orig_changed}
 use Rattle.fs_state.specs.Moves.{leg_changed, is_owner, given_up_by, orig_given_up}
 use Rattle.fs_state.specs.Hangups.{lives, lives_at, row_at, unbridge_event, after_end, after_outliving, after_survival, after_hangups}
@@ -365,12 +366,14 @@ module _ (before : Switch) (P : Fact) (same : (b : Stage) (t u : Switch) → P b
 
 -- ---- what happens to connections and jobs
 
--- a fact that reads neither these nor originations is kept by all moves, if what channels do keeps it, and a leg that wins
+-- a fact that reads neither these nor originations is kept by all moves, if what channels do keeps it, a leg that wins, and an identifier
+-- that is drawn for no slot
 module _ (before : Switch) (P : Fact) (same : (b : Stage) (t u : Switch) → P b t → front_of u ≡ front_of t → P b u)
     (calls : KeptByCalls P) (births : KeptByBirths P) (dials : KeptByDials before P)
     (wins : (job conn : ℕ) (winner : Winner) (caller : Caller) (orig : ℕ) (leg : OrigLeg) (slots : List ℕ) →
     DoesJob (raced slots before) job conn (Originate orig winner caller) → HasWon before orig leg slots →
-    P (Some 0) (raced slots before) → P (Some 0) (after_winning winner (unwrap_or leg.slot 0) (raced slots before))) where
+    P (Some 0) (raced slots before) → P (Some 0) (after_winning winner (unwrap_or leg.slot 0) (raced slots before)))
+    (draws : (s : Switch) → P None s → P (Some 1) (with_next_identifier s)) where
   changed_same : (change : Conn → Conn) (conn n : ℕ) (s : Switch) → P (Some n) s → P (Some n) (conn_changed change conn s)
   changed_same change conn n s h = same (Some n) s _ h (conn_changed_front change conn s)
 
@@ -410,6 +413,7 @@ module _ (before : Switch) (P : Fact) (same : (b : Stage) (t u : Switch) → P b
     dials = dials;
     commands = λ conn. record {
       spent = births.spent;
+      draws = λ {s = s} h. draws s h;
       noticed = λ frame h. same _ _ _ h refl;
       gave = λ frame h. same _ _ _ h refl;
       asked = λ change {n = n} {s = s} h. changed_same (with_subs_changed change) conn n s h;

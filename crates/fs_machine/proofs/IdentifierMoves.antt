@@ -1,4 +1,5 @@
--- Each act draws no more identifiers than it fills slots, but for those that it frees, and each identifier stands in one slot.
+-- Each act draws no more identifiers than it fills slots, but for those that it frees and one that it draws for no slot, and each
+-- identifier stands in one slot.
 use Rattle.std.proofs.Common.{◌≡◌, ℕ, ◌+◌, ◌<◌, Bool, false, List, length, Option, None, Some, unwrap_or, refl, sym, ap, subst, ◌∙◌, arith}
 use Rattle.std.proofs.Common.{length-set}
 use Rattle.fs_text.specs.Texts.{Text}
@@ -23,14 +24,14 @@ use Rattle.fs_machine.proofs.HangLemmas.{dies, Falls, Cut, Unbridged, Rests, Par
 use Rattle.fs_machine.proofs.FrontLemmas.{Front, front_of, orig_changed_front, KeptByRemains, joins_by_remains, calls_by_remains}
 use Rattle.fs_machine.proofs.FrontLemmas.{dials_by_remains, moves_by_front, parts_by_remains}
 use Rattle.fs_machine.proofs.SeenLemmas.{Seen, seen, put, Numbers, numbers_then, numbers_quietly, numbers_more, numbers_same, numbers_gone}
-use Rattle.fs_machine.proofs.SeenLemmas.{numbers_new, numbers_named}
+use Rattle.fs_machine.proofs.SeenLemmas.{numbers_new, numbers_named, numbers_drawn}
 use Rattle.fs_machine.proofs.NameLemmas.{name_foreign, name_unheld, leg_chan, with_leg, leg_channels}
 
 abbrev pub freed_by : Stage → ℕ
 freed_by None = 0
 freed_by (Some n) = n
 
--- so many slots at most were freed since that are not filled again
+-- so many slots at most were freed since that are not filled again, and identifiers drawn for none
 abbrev pub NumbersFrom : Seen → Fact
 NumbersFrom x b t = Numbers (freed_by b) x (seen t)
 
@@ -144,3 +145,4 @@ module _ (x : Seen) where
       (dials_by_remains before (NumbersFrom x) same_numbers remains_numbers births_numbers
       (λ at u live h. media_numbers at u h))
       (λ job conn winner caller orig leg slots does won h. won_numbers winner (unwrap_or leg.slot 0) (raced slots before) h)
+      (λ s h. numbers_drawn x (seen s) h)

@@ -5,7 +5,7 @@ use Rattle.fs_bridge.specs.declared.row.BridgeKind.{BridgeKind}
 use Rattle.fs_bridge.specs.declared.row.BridgeKind.TheVariants.{Dial}
 use Rattle.fs_chan.specs.Bridging.{in_media}
 use Rattle.fs_orig.specs.Changes.{with_answer}
-use Rattle.fs_state.specs.Switch.{Switch, with_chan, without_orig, next_orig_number, with_event}
+use Rattle.fs_state.specs.Switch.{Switch, with_chan, without_orig, next_orig_number, with_event, with_next_identifier}
 use Rattle.fs_state.specs.Moves.{after_move, orig_changed, leg_changed}
 use Rattle.fs_state.specs.Hangups.{after_hangups}
 use Rattle.fs_state.specs.Bridging.{joined_as}
@@ -111,6 +111,7 @@ module _ (before : Switch) where
       (λ job conn winner caller orig leg slots does won h.
       counts_same (Some 0) (raced slots before) (after_winning winner (unwrap_or leg.slot 0) (raced slots before)) h
       (won_drawn winner (unwrap_or leg.slot 0) (raced slots before)))
+      (λ s h. spent_counts s (with_next_identifier s) h refl)
 
   -- so an act joins no more than one
   pub acted_joins : (act : Act) → (act_done act before).state.bridges.drawn ≤ before.bridges.drawn + 1

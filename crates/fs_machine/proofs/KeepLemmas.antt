@@ -24,6 +24,7 @@ use Rattle.fs_state.specs.declared.conn.Parting.TheVariants as parting
 use Rattle.fs_state.specs.declared.job.JobWork.{JobWork}
 use Rattle.fs_state.specs.declared.job.JobWork.TheVariants.{Sleep, Originate}
 use Rattle.fs_state.specs.Switch.{Switch, conn_of, next_orig_number, next_job_number, is_full_of_jobs, with_new_job, without_job}
+use Rattle.fs_state.specs.Switch.{with_next_identifier}
 use Rattle.fs_state.specs.Switch.{without_orig, with_frame_now, with_notice}
 use Rattle.fs_machine.specs.declared.entry.Act.{Act}
 use Rattle.fs_machine.specs.declared.entry.Act.TheVariants as act
@@ -301,6 +302,9 @@ module _ (conn : ℕ) (s : Switch) where
       keeps_trans s t (conn_changed (parted parting.AuthRefused) conn t) h (parted_keeps parting.AuthRefused conn t)
   leaves_keeps parting.EndOfInput leaves h = absurd leaves
 
+  draws_keep : {t : Switch} → Keeps (Some conn) false s t → Keeps (Some conn) false s (with_next_identifier t)
+  draws_keep {t} h = keeps_on s t (with_next_identifier t) h refl
+
   sleeps_keep : (until : ℕ) {t : Switch} → is_full_of_jobs t ≡ false → Keeps (Some conn) false s t →
       Keeps (Some conn) false s (after_job_begin conn (Sleep until) t)
   sleeps_keep until {t} room h = keeps_trans s t (after_job_begin conn (Sleep until) t) h (owing_keeps conn (Sleep until) t)
@@ -316,6 +320,7 @@ module _ (conn : ℕ) (s : Switch) where
   commands_keep : KeptByCommands conn (KeepsFrom (Some conn) s)
   commands_keep = record {
     spent = λ h. h;
+    draws = λ h. draws_keep h;
     noticed = λ frame h. noticed_keeps frame h;
     gave = λ frame h. gave_keeps frame h;
     asked = λ change h. asked_keeps change h;

@@ -36,7 +36,7 @@ use Rattle.fs_state.specs.declared.job.JobWork.{JobWork}
 use Rattle.fs_state.specs.declared.job.JobWork.TheVariants as work
 use Rattle.fs_state.specs.Switch.{Switch, chan_at, with_chan, bridge_at, is_full_of_jobs, job_of, without_conn, with_frame_taken}
 use Rattle.fs_state.specs.Switch.{with_event}
-use Rattle.fs_state.specs.Switch.{next_orig_number, orig_of, without_orig, with_frame_now, with_notice}
+use Rattle.fs_state.specs.Switch.{next_orig_number, orig_of, without_orig, with_frame_now, with_notice, with_next_identifier}
 use Rattle.fs_state.specs.Moves.{orig_changed, leg_changed}
 use Rattle.fs_state.specs.Hangups.{lives_at, after_hangups, after_hangups_for}
 use Rattle.fs_state.specs.Bridging.{can_join, joined_as}
@@ -57,7 +57,7 @@ use Rattle.fs_machine.specs.Sound.{is_idle, HasLeg}
 use Rattle.fs_machine.proofs.LimitLemmas.{AreLimited, cause_key}
 
 -- How far an entry has come: nothing has begun in it that draws a number, and no bridge has ended; or such a thing may have, and so many
--- slots at most were freed that are not filled again. An identifier is drawn only for a slot that is filled.
+-- slots at most were freed that are not filled again, with each identifier counted that was drawn for no slot.
 abbrev pub Stage : Type 0
 Stage = Option ℕ
 
@@ -272,6 +272,7 @@ IsShortWinner (Route to) = IsShortTarget (target_of to)
 -- what api commands do to what is no channel
 pub record KeptByApi (conn : ℕ) (P : Fact) : Type 0 where
   pub spent : {s : Switch} → P None s → P (Some 0) s
+  pub draws : {s : Switch} → P None s → P (Some 1) (with_next_identifier s)
   pub sleeps : (until : ℕ) {s : Switch} → is_full_of_jobs s ≡ false → P None s → P (Some 0) (after_job_begin conn (work.Sleep until) s)
   pub originates : (groups : List (List LegPlan)) (winner : Winner) (caller : Caller) (timeout : Option ℕ) {s : Switch} →
       AreGroups groups → IsShortWinner winner → is_full_of_jobs s ≡ false → P None s →
@@ -280,6 +281,7 @@ pub record KeptByApi (conn : ℕ) (P : Fact) : Type 0 where
 -- what the commands of a connection do
 pub record KeptByCommands (conn : ℕ) (P : Fact) : Type 0 where
   pub spent : {s : Switch} → P None s → P (Some 0) s
+  pub draws : {s : Switch} → P None s → P (Some 1) (with_next_identifier s)
   pub noticed : (frame : Text) {b : Stage} {s : Switch} → P b s → P b (with_notice conn frame s)
   pub gave : (frame : Text) {b : Stage} {s : Switch} → P b s → P b (with_frame_now conn frame s)
   pub asked : (change : Subscription → Subscription) {n : ℕ} {s : Switch} → P (Some n) s →
@@ -295,6 +297,7 @@ pub record KeptByCommands (conn : ℕ) (P : Fact) : Type 0 where
 pub api_among : {conn : ℕ} {P : Fact} → KeptByCommands conn P → KeptByApi conn P
 api_among kept = record {
   spent = λ h. kept.spent h;
+  draws = λ h. kept.draws h;
   sleeps = λ until room h. kept.sleeps until room h;
   originates = λ groups winner caller timeout are short room h. kept.originates groups winner caller timeout are short room h;
 }

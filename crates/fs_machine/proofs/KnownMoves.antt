@@ -148,6 +148,7 @@ early_moves before = record {
   };
   commands = λ conn. record {
     spent = λ {s = s} h. early_spent before s h;
+    draws = λ {s = s} h. early_spent before s h;
     noticed = λ frame {b = b} {s = s} h. early_noticed before b conn frame s h;
     gave = λ frame {b = b} {s = s} h. early_gave before b conn frame s h;
     asked = λ change {n = n} {s = s} h. conn_early before n (with_subs_changed change) conn s h;

@@ -440,6 +440,7 @@ module _ (before : Switch) (stand : LegsStand (roles_of before)) where
     dials = legs_dials;
     commands = λ conn. record {
       spent = λ h. h;
+      draws = λ h. h;
       noticed = λ frame h. h;
       gave = λ frame h. h;
       asked = λ change {s = s} h. same_roles s (conn_changed (with_subs_changed change) conn s)

@@ -8,6 +8,7 @@ pub mod LimitLemmas
 pub mod Kept
 pub mod DialLemmas
 pub mod ShortLemmas
+pub mod DumpLemmas
 pub mod StayLemmas
 pub mod ClosureLemmas
 pub mod HangLemmas

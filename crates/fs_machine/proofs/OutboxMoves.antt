@@ -124,6 +124,7 @@ replying_moves before = record {
   dials = dials_by_rest before Replying (λ b t u h same. rest_replies t u same h) (λ t h. h);
   commands = λ conn. record {
     spent = λ h. h;
+    draws = λ h. h;
     noticed = λ frame {s = s} h. (h.0, h.1, reply_more conn frame s.notices h.2);
     gave = λ frame {s = s} h. (reply_more conn frame s.replies h.0, h.1, h.2);
     asked = λ change {s = s} h. changed_replies (with_subs_changed change) conn s h;

@@ -157,6 +157,7 @@ module _ (b : Books) (conn : ℕ) (c : Conn) (there : row_of b.conns conn ≡ So
   commands_go : KeptByCommands conn (GoesFrom b)
   commands_go = record {
     spent = λ {s = s} h. goes_spent b sound s h.0;
+    draws = λ {s = s} h. goes_spent b sound s h.0;
     noticed = λ frame {b = stage} {s = s} h. noticed_goes frame stage s h;
     gave = λ frame {b = stage} {s = s} h. gave_goes frame stage s h;
     asked = λ change {s = s} h. asked_goes change s h;

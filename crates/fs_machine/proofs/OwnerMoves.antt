@@ -576,6 +576,7 @@ module _ (before : Switch) (stand : LegsStand (roles_of before)) (bonding : Kept
     dials = owning_dials;
     commands = λ conn. record {
       spent = λ {s = s} h. record { bonds = (bonding.commands conn).spent {s = s} h.bonds; owned = h.owned; room = tt };
+      draws = λ {s = s} h. record { bonds = (bonding.commands conn).draws {s = s} h.bonds; owned = h.owned; room = tt };
       noticed = λ frame {b = b} {s = s} h.
           record { bonds = (bonding.commands conn).noticed frame {b = b} {s = s} h.bonds; owned = h.owned; room = h.room };
       gave = λ frame {b = b} {s = s} h.

@@ -1,5 +1,5 @@
 -- What a connection parts for: its own command, or what others do.
-use Rattle.std.proofs.Common.{◌≡◌, ◌≢◌, ℕ, zero, suc, ◌+◌, Bool, true, false, if◌then◌else◌, List, Option, None, Some, unwrap_or, inl}
+use Rattle.std.proofs.Common.{◌≡◌, ◌≢◌, ℕ, zero, suc, ◌+◌, Bool, true, false, if◌then◌else◌, List, [], ◌∷◌, Option, None, Some, unwrap_or, inl}
 use Rattle.std.proofs.Common.{refl, sym, ap, ◌∙◌}
 use Rattle.std.specs.Option.{option_and_then}
 use Rattle.std.specs.Str.{bytes_eq}
@@ -8,12 +8,15 @@ use Rattle.std.proofs.lemmas.Option.{none-some}
 use Rattle.std.proofs.lemmas.Slice.Eq.{bytes_eq-Decides}
 use Rattle.fs_text.specs.Texts.{Text}
 use Rattle.fs_cmd.specs.Commands as command
-use Rattle.fs_cmd.specs.Commands.{Command, command_of}
-use Rattle.fs_cmd.specs.Frames.{accepted, invalid, bye, format_unsupported}
+use Rattle.fs_cmd.specs.Commands.{Command, command_of, Message, Execute, Hangup, BadCall}
+use Rattle.fs_cmd.specs.Frames.{accepted, invalid, bye, format_unsupported, message_taken, invalid_session, invalid_call, messages_full}
 use Rattle.fs_cmd.specs.declared.command.Form.{Form}
 use Rattle.fs_cmd.specs.declared.command.Form.TheVariants.{Plain, Json, Xml}
 use Rattle.fs_filter.specs.Subscriptions.{Subscription, has_filter}
 use Rattle.fs_api.specs.Readings.{api_of}
+use Rattle.fs_chan.specs.declared.action.Action.{Action}
+use Rattle.fs_chan.specs.declared.chan.Chan.{Chan}
+use Rattle.fs_chan.specs.Changes.{takes_message, with_message}
 use Rattle.fs_orig.specs.declared.caller.Caller.{Caller}
 use Rattle.fs_orig.specs.declared.orig.Owner.TheVariants as owner
 use Rattle.fs_orig.specs.declared.plan.LegPlan.{LegPlan}
@@ -31,6 +34,8 @@ use Rattle.fs_state.specs.declared.conn.Parting.TheVariants as parting
 use Rattle.fs_state.specs.declared.job.JobWork.{JobWork}
 use Rattle.fs_state.specs.declared.job.JobWork.TheVariants.{Sleep, Originate}
 use Rattle.fs_state.specs.Switch.{Switch, empty, conn_of, next_orig_number, next_job_number, with_new_job, at_moment}
+use Rattle.fs_state.specs.Switch.{with_next_identifier, chan_at, with_chan, slot_named}
+use Rattle.fs_state.specs.Hangups.{after_hangup}
 use Rattle.fs_machine.specs.declared.entry.Act.{Act}
 use Rattle.fs_machine.specs.declared.entry.Act.TheVariants as act
 use Rattle.fs_machine.specs.Connections.{phase_of, phase_at, conn_changed_from, conn_changed, admitted, parted, owed_since}
@@ -41,7 +46,7 @@ use Rattle.fs_machine.specs.Attempts.{first_group, orig_begun, originate_begun}
 use Rattle.fs_machine.specs.Owing.{after_job_begin}
 use Rattle.fs_machine.specs.Api.{done_by}
 use Rattle.fs_machine.specs.Commands.{with_reply, after_dismissal, after_password, with_response_of, after_asking, after_subscribing}
-use Rattle.fs_machine.specs.Commands.{command_done_in, command_done}
+use Rattle.fs_machine.specs.Commands.{queued_on, message_done, message_done_at, message_sent, command_done_in, command_done}
 use Rattle.fs_machine.specs.Done.{Done}
 use Rattle.fs_machine.specs.Step.{reads, new_conn, step}
 use Rattle.fs_machine.specs.Concerns.{KeepsPhase, KeepsOrParts}
@@ -138,6 +143,7 @@ module _ (conn : ℕ) (s : Switch) where
   api_keeps : KeptByApi conn (KeepsFrom conn s)
   api_keeps = record {
     spent = λ h. h;
+    draws = λ {s = t} h. keeps_trans conn s t (with_next_identifier t) h (keeps_same conn t (with_next_identifier t) refl);
     sleeps = λ until {s = t} room h. owing_keeps (Sleep until) t h;
     originates = λ groups winner caller timeout {s = t} are short room h. originates_keeps groups winner caller timeout t h;
   }
@@ -257,6 +263,33 @@ responded_keeps : (conn : ℕ) (answer : Option Text) (s t : Switch) → KeepsPh
 responded_keeps conn None s t keeps = keeps
 responded_keeps conn (Some answer) s t keeps = keeps_trans conn s t (with_response_of conn (Some answer) t) keeps (keeps_same conn t _ refl)
 
+queued_keeps : (conn : ℕ) (uuid : Text) (message : Action) (slot : ℕ) (found : Option Chan) (s : Switch) →
+    KeepsPhase conn s (queued_on conn uuid message slot found s)
+queued_keeps conn uuid message slot None s = replied_keeps conn (invalid_session uuid) s
+queued_keeps conn uuid message slot (Some c) s =
+    let taken : Switch = with_reply conn message_taken (with_chan slot (Some (with_message message c)) s) in
+    either_keeps conn s (takes_message c) taken (with_reply conn messages_full s) (keeps_same conn s taken refl)
+    (replied_keeps conn messages_full s)
+
+message_keeps : (conn : ℕ) (uuid : Text) (message : Message) (slot : ℕ) (s : Switch) → KeepsPhase conn s (message_done conn uuid message slot s)
+message_keeps conn uuid (Execute application argument) slot s =
+    queued_keeps conn uuid (record { application = application; argument = argument }) slot (chan_at s slot) s
+message_keeps conn uuid (Hangup cause) slot s =
+    let hung : Switch = after_hangup cause slot s in
+    let keeps : KeepsPhase conn s hung =
+    (calls_keep conn s).hung ((slot, cause) ∷ []) {s = s} (keeps_same conn s s refl) (keeps_same conn s s refl) in
+    keeps_trans conn s hung (with_reply conn message_taken hung) keeps (keeps_same conn hung (with_reply conn message_taken hung) refl)
+message_keeps conn uuid BadCall slot s = replied_keeps conn invalid_call s
+
+found_keeps : (conn : ℕ) (uuid : Text) (message : Message) (found : Option ℕ) (s : Switch) →
+    KeepsPhase conn s (message_done_at conn uuid message found s)
+found_keeps conn uuid message None s = replied_keeps conn (invalid_session uuid) s
+found_keeps conn uuid message (Some slot) s = message_keeps conn uuid message slot s
+
+sent_keeps : (conn : ℕ) (uuid : Option Text) (message : Message) (s : Switch) → KeepsPhase conn s (message_sent conn uuid message s)
+sent_keeps conn None message s = replied_keeps conn (invalid_session []) s
+sent_keeps conn (Some uuid) message s = found_keeps conn uuid message (slot_named uuid s) s
+
 -- a command in a phase in which commands are read
 commanded_parts : (conn : ℕ) (now : Phase) (given : Command) (s : Switch) → reads now ≡ true → phase_at s conn ≡ now →
     parting_at s conn ≡ None → CommandParts conn given s (command_done_in now conn given s)
@@ -281,6 +314,8 @@ commanded_parts conn phase.Ready (command.Filter header value) s reading at none
 commanded_parts conn phase.Ready (command.FilterDelete header value) s reading at none =
     keeps_unparted conn (command.FilterDelete header value) s _ none
     (either_keeps conn s (has_filter (subs_at s conn).filters header value) _ _ (asked_keeps conn _ _ s) (replied_keeps conn _ s))
+commanded_parts conn phase.Ready (command.Sendmsg uuid message) s reading at none =
+    keeps_unparted conn (command.Sendmsg uuid message) s _ none (sent_keeps conn uuid message s)
 commanded_parts conn phase.Ready given s reading at none = keeps_unparted conn given s _ none (replied_keeps conn _ s)
 commanded_parts conn phase.Ending given s reading at none = absurd (cc reading)
 commanded_parts conn phase.Closed given s reading at none = absurd (cc reading)

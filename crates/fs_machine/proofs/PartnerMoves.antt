@@ -360,3 +360,4 @@ partners_moves before =
       ties = won_partners winner (unwrap_or leg.slot 0) (raced slots before) h.ties;
       zero = won_zero winner (unwrap_or leg.slot 0) (raced slots before) h.zero;
     })
+    (λ s h. record { ties = h.ties; zero = h.zero })

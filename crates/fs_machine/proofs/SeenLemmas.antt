@@ -1,9 +1,9 @@
 -- What of a switch tells identifiers, and what becomes of it.
 use Rattle.std.proofs.Common.{◌≡◌, ℕ, ◌+◌, ◌-◌, ◌<◌, ◌≤◌, ◌^◌, min, false, List, length, Option, None, Some, option_map, refl, sym, ap, ◌∙◌}
-use Rattle.std.proofs.Common.{arith, length-set}
+use Rattle.std.proofs.Common.{inl, inr, arith, length-set}
 use Rattle.fs_text.specs.CoreId.{uuid, owns, IsCore}
 use Rattle.fs_text.specs.Texts.{Text}
-use Rattle.fs_text.proofs.NamingLemmas.{Naming, naming_kept, naming_more, naming_named}
+use Rattle.fs_text.proofs.NamingLemmas.{IsKnown, Naming, naming_kept, naming_more, naming_named}
 use Rattle.fs_doc.specs.declared.settings.Settings.{Settings}
 use Rattle.fs_chan.specs.declared.chan.Chan.{Chan}
 use Rattle.fs_seats.specs.Seats.{held_in, with_held}
@@ -35,8 +35,8 @@ pub record Named (x : Seen) : Type 0 where
   pub core : IsCore x.settings.core_uuid
   pub naming : Naming x.settings.core_uuid x.identifiers (uuid_in x.channels)
 
--- No more identifiers are drawn than slots are filled, but for so many that were freed, and each identifier stands in one slot still,
--- unless the numbers are used up.
+-- No more identifiers are drawn than slots are filled, but for so many slots that were freed or identifiers that were drawn for none, and
+-- each identifier stands in one slot still, unless the numbers are used up.
 pub record Numbers (more : ℕ) (x y : Seen) : Type 0 where
   pub names : y.identifiers < 2 ^ 62 - 1 → Named x → Named y
   pub few : y.identifiers < 2 ^ 62 - 1 → x.identifiers < 2 ^ 62 - 1
@@ -68,6 +68,34 @@ numbers_quietly more x y z first then = record {
 pub numbers_more : (x y : Seen) → Numbers 0 x y → Numbers 1 x y
 numbers_more x y numbers =
     record { names = numbers.names; few = numbers.few; most = omega (arith, numbers.most); slots = numbers.slots }
+
+-- ---- an identifier is drawn for no slot
+
+-- each is known to be drawn still
+naming_later : (core drawn more : ℕ) (name : ℕ → Option Text) → drawn ≤ more → Naming core drawn name → Naming core more name
+naming_later core drawn more name later h = record {
+  known = λ a text e. still text (h.known a text e);
+  once = h.once;
+}
+  where
+    still : (text : Text) → IsKnown core drawn text → IsKnown core more text
+    still text (inl old) = inl (record { number = old.number; so_far = omega (arith, old.so_far, later); is = old.is })
+    still text (inr foreign) = inr foreign
+
+pub numbers_drawn : (x y : Seen) → Numbers 0 x y → Numbers 1 x (record y { identifiers = min (y.identifiers + 1) (2 ^ 62 - 1) })
+numbers_drawn x y numbers = record {
+  names = λ few h.
+      let before : Named y = numbers.names (omega (arith, few)) h in
+      record {
+        core = before.core;
+        naming =
+            naming_later y.settings.core_uuid y.identifiers (min (y.identifiers + 1) (2 ^ 62 - 1)) (uuid_in y.channels) (omega (arith, few))
+            before.naming;
+      };
+  few = λ few. numbers.few (omega (arith, few));
+  most = omega (arith, numbers.most);
+  slots = numbers.slots;
+}
 
 -- ---- something else stands in a slot
 

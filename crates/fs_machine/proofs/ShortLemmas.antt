@@ -6,7 +6,7 @@ use Rattle.std.proofs.lemmas.Bool.{leb-true, not-false}
 use Rattle.std.proofs.lemmas.List.{length-take}
 use Rattle.fs_text.specs.CoreId.{uuid}
 use Rattle.fs_text.specs.Number.{read_u64}
-use Rattle.fs_text.specs.Words.{without_spaces, word_of, behind_word, is_short}
+use Rattle.fs_text.specs.Words.{behind_byte, without_spaces, word_of, behind_word, is_short}
 use Rattle.fs_text.specs.Texts.{Text}
 use Rattle.fs_text.proofs.IdLemmas.{uuid_length}
 use Rattle.fs_text.specs.declared.causes.Cause.TheVariants.{NoRouteDestination, DestinationOutOfOrder, InvalidNumberFormat}
@@ -181,6 +181,15 @@ needs_short : (usage : Which) (read : Text → Api) (arguments : Text) → ((tex
 needs_short usage read [] short = tt
 needs_short usage read (byte ∷ bytes) short = short (byte ∷ bytes)
 
+expanding_short : (arguments : Text) → NamesShort (readings.expand_of arguments)
+expanding_short arguments = by (readings.names_channel arguments)
+  where
+    by : (b : Bool) →
+        NamesShort (if b then readings.expand_over (behind_byte 58 (word_of arguments)) (behind_word arguments) else api.Expand None arguments)
+    by true =
+        needs_short which.Expand (api.Expand (Some (behind_byte 58 (word_of arguments)))) (behind_word arguments) (λ text. tt)
+    by false = tt
+
 reading_short : (arguments : Text) → NamesShort (readings.uuid_getvar_of arguments)
 reading_short arguments =
     needs_short which.UuidGetvar (λ name. api.UuidGetvar (word_of arguments) (word_of name)) (behind_word arguments) (λ name. tt)
@@ -192,64 +201,79 @@ transferred_short uuid (Some to) short = short
 transferring_short : (arguments : Text) → NamesShort (transfers.uuid_transfer_of arguments)
 transferring_short arguments = transferred_short (word_of arguments) _ (words_short (behind_word arguments))
 
+setting_short : (arguments : Text) → NamesShort (readings.uuid_setvar_of arguments)
+setting_short arguments =
+    needs_short which.UuidSetvar (λ name. api.UuidSetvar (word_of arguments) (word_of name) (behind_word name)) (behind_word arguments)
+    (λ name. tt)
+
 joining_short : (arguments : Text) → NamesShort (readings.uuid_bridge_of arguments)
 joining_short arguments =
     needs_short which.UuidBridge (λ other. api.UuidBridge (word_of arguments) (word_of other)) (behind_word arguments) (λ other. tt)
 
 -- whichever name it has
-command_short : (echoes expands gets sets hangs sleeps tries bridges exists reads kills parks sends : Bool) (name arguments : Text) →
+command_short : (echoes expands creates gets sets hangs sleeps tries bridges dumps exists reads kills parks changes sends : Bool)
+    (name arguments : Text) →
     NamesShort
     (if echoes then api.Echo arguments
-    else (if expands then readings.needs which.Expand api.Expand arguments
+    else (if expands then readings.needs which.Expand readings.expand_of arguments
+    else (if creates then api.CreateUuid
     else (if gets then readings.global_getvar_of arguments
     else (if sets then readings.needs which.GlobalSetvar readings.global_setvar_of arguments
     else (if hangs then readings.hupall_of arguments
     else (if sleeps then readings.msleep_of arguments
     else (if tries then originates.originate_of arguments
     else (if bridges then readings.needs which.UuidBridge readings.uuid_bridge_of arguments
+    else (if dumps then readings.needs which.UuidDump readings.uuid_dump_of arguments
     else (if exists then readings.needs which.UuidExists readings.uuid_exists_of arguments
     else (if reads then readings.needs which.UuidGetvar readings.uuid_getvar_of arguments
     else (if kills then readings.needs which.UuidKill readings.uuid_kill_of arguments
     else (if parks then readings.needs which.UuidPark readings.uuid_park_of arguments
+    else (if changes then readings.needs which.UuidSetvar readings.uuid_setvar_of arguments
     else (if sends then transfers.uuid_transfer_of arguments
-    else api.Unknown name)))))))))))))
-command_short true expands gets sets hangs sleeps tries bridges exists reads kills parks sends name arguments =
+    else api.Unknown name))))))))))))))))
+command_short true expands creates gets sets hangs sleeps tries bridges dumps exists reads kills parks changes sends name arguments =
     tt
-command_short false true gets sets hangs sleeps tries bridges exists reads kills parks sends name arguments =
-    needs_short which.Expand api.Expand arguments (λ text. tt)
-command_short false false true sets hangs sleeps tries bridges exists reads kills parks sends name arguments =
+command_short false true creates gets sets hangs sleeps tries bridges dumps exists reads kills parks changes sends name arguments =
+    needs_short which.Expand readings.expand_of arguments expanding_short
+command_short false false true gets sets hangs sleeps tries bridges dumps exists reads kills parks changes sends name arguments =
+    tt
+command_short false false false true sets hangs sleeps tries bridges dumps exists reads kills parks changes sends name arguments =
     getting_short arguments
-command_short false false false true hangs sleeps tries bridges exists reads kills parks sends name arguments =
+command_short false false false false true hangs sleeps tries bridges dumps exists reads kills parks changes sends name arguments =
     needs_short which.GlobalSetvar readings.global_setvar_of arguments (λ text. tt)
-command_short false false false false true sleeps tries bridges exists reads kills parks sends name arguments =
+command_short false false false false false true sleeps tries bridges dumps exists reads kills parks changes sends name arguments =
     hanging_short arguments
-command_short false false false false false true tries bridges exists reads kills parks sends name arguments =
+command_short false false false false false false true tries bridges dumps exists reads kills parks changes sends name arguments =
     sleeping_short (read_u64 (word_of arguments))
-command_short false false false false false false true bridges exists reads kills parks sends name arguments =
+command_short false false false false false false false true bridges dumps exists reads kills parks changes sends name arguments =
     originate_short arguments
-command_short false false false false false false false true exists reads kills parks sends name arguments =
+command_short false false false false false false false false true dumps exists reads kills parks changes sends name arguments =
     needs_short which.UuidBridge readings.uuid_bridge_of arguments joining_short
-command_short false false false false false false false false true reads kills parks sends name arguments =
+command_short false false false false false false false false false true exists reads kills parks changes sends name arguments =
+    needs_short which.UuidDump readings.uuid_dump_of arguments (λ text. tt)
+command_short false false false false false false false false false false true reads kills parks changes sends name arguments =
     needs_short which.UuidExists readings.uuid_exists_of arguments (λ text. tt)
-command_short false false false false false false false false false true kills parks sends name arguments =
+command_short false false false false false false false false false false false true kills parks changes sends name arguments =
     needs_short which.UuidGetvar readings.uuid_getvar_of arguments reading_short
-command_short false false false false false false false false false false true parks sends name arguments =
+command_short false false false false false false false false false false false false true parks changes sends name arguments =
     needs_short which.UuidKill readings.uuid_kill_of arguments (λ text. tt)
-command_short false false false false false false false false false false false true sends name arguments =
+command_short false false false false false false false false false false false false false true changes sends name arguments =
     needs_short which.UuidPark readings.uuid_park_of arguments (λ text. tt)
-command_short false false false false false false false false false false false false true name arguments =
+command_short false false false false false false false false false false false false false false true sends name arguments =
+    needs_short which.UuidSetvar readings.uuid_setvar_of arguments setting_short
+command_short false false false false false false false false false false false false false false false true name arguments =
     transferring_short arguments
-command_short false false false false false false false false false false false false false name arguments = tt
+command_short false false false false false false false false false false false false false false false false name arguments = tt
 
 named_short : (name arguments : Text) → NamesShort (api_named name arguments)
 unfolding api_named
-named_short name arguments = command_short _ _ _ _ _ _ _ _ _ _ _ _ _ name arguments
+named_short name arguments = command_short _ _ _ _ _ _ _ _ _ _ _ _ _ _ _ _ name arguments
 
 pub api_short : (text : Text) → NamesShort (api_of text)
 api_short text = named_short (word_of (without_spaces text)) (behind_word (without_spaces text))
 
 without_short : (command : Api) → NamesShort command → NamesShort (without_expand command)
-without_short (api.Expand text) short = tt
+without_short (api.Expand uuid text) short = tt
 without_short (api.Usage which.Expand) short = tt
 without_short other short = short
 

@@ -304,6 +304,7 @@ trying_moves before = record {
   };
   commands = λ conn. record {
     spent = λ {s = s} h. spent s h;
+    draws = λ h. record { apart = h.apart; next = tt };
     noticed = λ frame {s = s} h. record { apart = h.apart; next = h.next };
     gave = λ frame {s = s} h. record { apart = h.apart; next = h.next };
     asked = λ change {n = n} {s = s} h. conn_trials (Some n) (with_subs_changed change) conn s h;

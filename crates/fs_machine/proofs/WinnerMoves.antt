@@ -98,6 +98,7 @@ winners_moves before = record {
   dials = dials_by_rest before Winners (λ b t u h same. rest_winners t u same h) (λ t h. h);
   commands = λ conn. record {
     spent = λ h. h;
+    draws = λ h. h;
     noticed = λ frame h. h;
     gave = λ frame h. h;
     asked = λ change {s = s} h. same_winners s (conn_changed (with_subs_changed change) conn s)

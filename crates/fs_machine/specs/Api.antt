@@ -1,5 +1,5 @@
 -- What an api command replies, and what it does to the switch.
-use Rattle.std.specs.Prelude.{ℕ, nat_lt, [], ◌++◌, length, map, Bool, Option, None, Some, is_some, unwrap_or, Result, Ok, Err, codes}
+use Rattle.std.specs.Prelude.{ℕ, [], ◌++◌, map, Bool, Option, None, Some, is_some, unwrap_or, Result, Ok, Err, codes}
 use Rattle.std.specs.Prelude.{if◌then◌else◌}
 use Rattle.std.specs.List.{concat}
 use Rattle.std.specs.Option.{option_and_then, option_or}
@@ -15,15 +15,18 @@ use Rattle.fs_api.specs.Readings.{expanded_api_of}
 use Rattle.fs_api.specs.Usages.{usage_of}
 use Rattle.fs_chan.specs.declared.chan.Chan.{Chan}
 use Rattle.fs_chan.specs.Changes.{parked, transferred}
+use Rattle.fs_chan.specs.Exports.{with_set, with_vars}
 use Rattle.fs_dial.specs.declared.fault.DialFault.{DialFault}
 use Rattle.fs_dial.specs.DialStrings.{Dial, dial_string}
 use Rattle.fs_orig.specs.declared.caller.Caller.{Caller}
 use Rattle.fs_orig.specs.declared.winner.Winner.{Winner}
 use Rattle.fs_orig.specs.Plans.{plans_of}
 use Rattle.fs_orig.specs.Timeouts.{braces_timeout}
-use Rattle.fs_state.specs.Switch.{Switch, chan_at, slot_named, is_full_of_jobs}
+use Rattle.fs_state.specs.Switch.{Switch, chan_at, with_chan, slot_named, is_full_of_jobs, with_next_identifier, identifier_of}
 use Rattle.fs_state.specs.Hangups.{after_hangup}
+use Rattle.fs_machine.specs.Applications.{unless_too_long, argument_in}
 use Rattle.fs_machine.specs.Done.{Done, says, no_reply_yet}
+use Rattle.fs_machine.specs.Dumping.{dump_text}
 use Rattle.fs_machine.specs.Hangups.{after_hangup_of_all}
 use Rattle.fs_machine.specs.Joining.{uuid_bridge_done}
 use Rattle.fs_machine.specs.Leaving.{sent_done}
@@ -71,6 +74,29 @@ killed_as cause uuid s = kill_done cause (slot_named uuid s) s
 abbrev pub hupall_done : Cause → Switch → Done
 hupall_done cause s = says (hupall_text cause) (after_hangup_of_all cause s)
 
+-- an identifier is drawn, and told
+abbrev pub identifier_told : Switch → Done
+identifier_told s = let t = with_next_identifier s in says (identifier_of t) t
+
+-- a channel with a variable set, where no limit is passed
+abbrev pub with_variable : Text → Text → Chan → Chan
+with_variable name value c = with_vars (with_set c.vars name value) c
+
+-- a variable of the channel in a slot was set, where no limit is passed
+abbrev pub variable_set_on : Text → Text → ℕ → Option Chan → Switch → Done
+variable_set_on name value slot None s = says no_channel s
+variable_set_on name value slot (Some c) s =
+    if can_set c.vars name value then says ok (with_chan slot (Some (with_variable name value c)) s) else says limit_passed s
+
+-- so in the slot of a live channel, if there is one
+abbrev pub variable_set_at : Text → Text → Option ℕ → Switch → Done
+variable_set_at name value None s = says no_channel s
+variable_set_at name value (Some slot) s = variable_set_on name value slot (chan_at s slot) s
+
+-- so of the live channel of an identifier
+abbrev pub set_variable : Text → Text → Text → Switch → Done
+set_variable uuid name value s = variable_set_at name value (slot_named uuid s) s
+
 -- the value of a variable
 abbrev pub variable_text : Text → Option Chan → Text
 variable_text name None = no_channel
@@ -102,7 +128,8 @@ originate_done conn url winner caller timeout s =
 -- what a command of a connection does that expands no text
 abbrev pub done_plainly : ℕ → Api → Switch → Done
 done_plainly conn (api.Echo text) s = says text s
-done_plainly conn (api.Expand text) s = says (api_not_found (codes "expand")) s
+done_plainly conn (api.Expand uuid text) s = says (api_not_found (codes "expand")) s
+done_plainly conn api.CreateUuid s = identifier_told s
 done_plainly conn (api.GlobalGetvar name) s = says (global_text name s.globals.pairs) s
 done_plainly conn (api.GlobalSetvar name value) s = set_global name value s
 done_plainly conn (api.Msleep milliseconds) s = msleep_done conn milliseconds s
@@ -111,18 +138,27 @@ done_plainly conn (api.UuidKill uuid cause) s = killed_as cause uuid s
 done_plainly conn (api.UuidBridge uuid other) s = uuid_bridge_done uuid other s
 done_plainly conn (api.UuidPark uuid) s = sent_done parked uuid s
 done_plainly conn (api.UuidTransfer uuid to) s = sent_done (transferred to) uuid s
+done_plainly conn (api.UuidSetvar uuid name value) s = set_variable uuid name value s
 done_plainly conn (api.UuidGetvar uuid name) s = says (variable_text name (chan_named uuid s)) s
+done_plainly conn (api.UuidDump uuid) s = says (dump_text (chan_named uuid s)) s
 done_plainly conn (api.Hupall cause) s = hupall_done cause s
 done_plainly conn (api.Originate url winner cid_name cid_number timeout) s =
     originate_done conn url winner (record { name = cid_name; number = cid_number }) timeout s
 done_plainly conn (api.Usage which) s = says (usage_text (usage_of which)) s
 done_plainly conn (api.Unknown name) s = says (api_not_found name) s
 
--- what a text does that was expanded: it is run as a command, unless it is too long
-abbrev pub done_expanded : ℕ → Text → Switch → Done
-done_expanded conn text s = if nat_lt 65536 (length text) then says too_long_text s else done_plainly conn (expanded_api_of text) s
+-- what a text does that was expanded: it is run as a command, unless it was too long
+abbrev pub done_expanded : ℕ → Option Text → Switch → Done
+done_expanded conn None s = says too_long_text s
+done_expanded conn (Some text) s = done_plainly conn (expanded_api_of text) s
+
+-- so of one that is expanded over what a channel knows, if there is one
+abbrev pub done_over : ℕ → Text → Option Chan → Switch → Done
+done_over conn text None s = says no_channel s
+done_over conn text (Some c) s = done_expanded conn (argument_in c s text) s
 
 -- what an api command does
 abbrev pub done_by : ℕ → Api → Switch → Done
-done_by conn (api.Expand text) s = done_expanded conn (expanded s.globals.pairs text) s
+done_by conn (api.Expand None text) s = done_expanded conn (unless_too_long (expanded s.globals.pairs text)) s
+done_by conn (api.Expand (Some uuid) text) s = done_over conn text (chan_named uuid s) s
 done_by conn other s = done_plainly conn other s

@@ -6,9 +6,11 @@ use Rattle.fs_cmd.specs.declared.command.Form.{Form}
 use Rattle.fs_cmd.specs.declared.command.Form.TheVariants.{Plain, Json, Xml}
 use Rattle.fs_cmd.specs.Commands.{Command, Auth, Exit, Api, Unknown}
 use Rattle.fs_cmd.specs.Commands.{Event, Nixevent, Noevents, Filter, FilterDelete, BadFilter, Bgapi, Sendmsg, Connect}
+use Rattle.fs_cmd.specs.Commands.{Message, Execute, Hangup, BadCall}
 use Rattle.fs_cmd.specs.Frames.{reply, api_reply, notice, accepted, invalid, bye, not_found}
 use Rattle.fs_cmd.specs.Frames.{event_enabled, no_keywords, format_unsupported, event_disabled, no_longer_listening, not_listening}
 use Rattle.fs_cmd.specs.Frames.{filter_added, filter_deleted, invalid_syntax, filter_not_found}
+use Rattle.fs_cmd.specs.Frames.{message_taken, invalid_session, invalid_call, messages_full}
 use Rattle.fs_filter.specs.Asked.{Asked, asked_in, is_known}
 use Rattle.fs_filter.specs.Subscriptions.{Subscription, subscribed, unsubscribed, cleared, with_filter, without_filter, has_filter}
 use Rattle.fs_api.specs.Readings.{api_of}
@@ -16,7 +18,11 @@ use Rattle.fs_state.specs.declared.conn.Phase.{Phase}
 use Rattle.fs_state.specs.declared.conn.Phase.TheVariants.{Fresh, Ready, Ending, Closed}
 use Rattle.fs_state.specs.declared.conn.Parting.{Parting}
 use Rattle.fs_state.specs.declared.conn.Parting.TheVariants as parting
-use Rattle.fs_state.specs.Switch.{Switch, with_frame_now, with_notice}
+use Rattle.fs_chan.specs.declared.action.Action.{Action}
+use Rattle.fs_chan.specs.declared.chan.Chan.{Chan}
+use Rattle.fs_chan.specs.Changes.{takes_message, with_message}
+use Rattle.fs_state.specs.Switch.{Switch, chan_at, with_chan, slot_named, with_frame_now, with_notice}
+use Rattle.fs_state.specs.Hangups.{after_hangup}
 use Rattle.fs_machine.specs.Connections.{phase_at, conn_changed, admitted, parted, with_subs_changed, subs_at}
 use Rattle.fs_machine.specs.Done.{Done}
 use Rattle.fs_machine.specs.Api.{done_by}
@@ -87,6 +93,32 @@ after_deletion conn header value s =
     then after_asking conn (with_filters_deleted header value) (filter_deleted header value) s
     else with_reply conn filter_not_found s
 
+-- ---- messages
+
+-- the channel in a slot is to run an application behind what was sent to it before, if there is room for it
+abbrev pub queued_on : ℕ → Text → Action → ℕ → Option Chan → Switch → Switch
+queued_on conn uuid message slot None s = with_reply conn (invalid_session uuid) s
+queued_on conn uuid message slot (Some c) s =
+    if takes_message c then with_reply conn message_taken (with_chan slot (Some (with_message message c)) s)
+    else with_reply conn messages_full s
+
+-- what a message to the channel in a slot does
+abbrev pub message_done : ℕ → Text → Message → ℕ → Switch → Switch
+message_done conn uuid (Execute application argument) slot s =
+    queued_on conn uuid (record { application = application; argument = argument }) slot (chan_at s slot) s
+message_done conn uuid (Hangup cause) slot s = with_reply conn message_taken (after_hangup cause slot s)
+message_done conn uuid BadCall slot s = with_reply conn invalid_call s
+
+-- so in the slot of the live channel of an identifier, if there is one
+abbrev pub message_done_at : ℕ → Text → Message → Option ℕ → Switch → Switch
+message_done_at conn uuid message None s = with_reply conn (invalid_session uuid) s
+message_done_at conn uuid message (Some slot) s = message_done conn uuid message slot s
+
+-- what `sendmsg` does; whom it is for has to be named
+abbrev pub message_sent : ℕ → Option Text → Message → Switch → Switch
+message_sent conn None message s = with_reply conn (invalid_session []) s
+message_sent conn (Some uuid) message s = message_done_at conn uuid message (slot_named uuid s) s
+
 -- ---- all commands
 
 -- what a command does in a phase of its connection; before a password was accepted `auth` and `exit` alone are known, and
@@ -106,7 +138,7 @@ command_done_in Ready conn (Filter header value) s =
 command_done_in Ready conn (FilterDelete header value) s = after_deletion conn header value s
 command_done_in Ready conn BadFilter s = with_reply conn invalid_syntax s
 command_done_in Ready conn (Bgapi text job) s = with_reply conn not_found s
-command_done_in Ready conn (Sendmsg uuid message) s = with_reply conn not_found s
+command_done_in Ready conn (Sendmsg uuid message) s = message_sent conn uuid message s
 command_done_in Ready conn Connect s = with_reply conn not_found s
 command_done_in Ready conn Unknown s = with_reply conn not_found s
 command_done_in Ending conn command s = s

@@ -17,6 +17,7 @@ pub mod Done
 pub mod Hangups
 pub mod Joining
 pub mod Leaving
+pub mod Dumping
 pub mod Api
 pub mod Commands
 pub mod Step

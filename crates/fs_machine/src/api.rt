@@ -1,6 +1,6 @@
 //! What an api command replies, and what it does to the switch.
 
-ghost use Rattle.std.specs.Prelude.{◌≡◌, ◌≤◌, ◌++◌, length, Some, is_some, Ok, IfOk, IfErr, OnOk};
+ghost use Rattle.std.specs.Prelude.{◌≡◌, ◌≤◌, ◌++◌, length, None, Some, is_some, Ok, IfOk, IfErr, OnOk};
 ghost use Rattle.std.specs.Option.{option_copied};
 ghost use Rattle.fs_vars.specs.Outputs.{IsTextRefusal};
 ghost use Rattle.fs_vars.specs.Expansion.{expanded};
@@ -10,9 +10,13 @@ ghost use Rattle.fs_dial.specs.DialStrings.{dial_of};
 ghost use Rattle.fs_state.specs.Drafts.{drafted};
 ghost use Rattle.fs_state.specs.Switch.{slot_named};
 ghost use Rattle.fs_machine.specs.Api as spec;
+ghost use Rattle.fs_machine.specs.Applications.{unless_too_long};
 ghost use Rattle.fs_machine.specs.Done.{ComesTo};
+ghost use Rattle.fs_machine.specs.Dumping.{dump_text};
 
+use crate::applications::argument_in;
 use crate::attempts::begin_originate;
+use crate::dumping::dump;
 use crate::globals::set_global;
 use crate::hangups::hang_up_everyone;
 use crate::jobs::begin_sleep;
@@ -35,25 +39,64 @@ pub(crate) fn run_api(draft: &mut Draft<'_>, conn: u32, api: &Api) -> Result<Opt
     ensures done { IfOk result (ComesTo (spec.done_by conn api.now (drafted draft.old)) (drafted draft.new)) }
 {
     match api {
-        Api::Expand { text } => run_expanded(draft, conn, text),
+        Api::Expand { uuid: None, text } => run_expanded(draft, conn, text),
+        Api::Expand {
+            uuid: Some(uuid),
+            text,
+        } => run_over(draft, conn, uuid, text),
         api => run_plainly(draft, conn, api),
     }
 }
 
 // Runs a text as an api command, once it is expanded over the globals.
-#[tactic(auto, unfolding(crate::specs::Texts::too_long_text))]
 fn run_expanded(draft: &mut Draft<'_>, conn: u32, text: &Txt) -> Result<Option<Txt>, Memory>
     ensures base { draft.new.base ≡ draft.old.base }
     ensures done { IfOk result
-        (ComesTo (spec.done_by conn (Expand text.now) (drafted draft.old)) (drafted draft.new)) }
+        (ComesTo (spec.done_by conn (Expand None text.now) (drafted draft.old)) (drafted draft.new)) }
+{
+    let whole = whole_globally(draft, text)?;
+    run_whole(draft, conn, whole)
+}
+
+// Runs a text as an api command, once it is expanded over what the live channel of an identifier knows.
+#[tactic(auto, unfolding(crate::specs::Texts::no_channel))]
+fn run_over(draft: &mut Draft<'_>, conn: u32, uuid: &Txt, text: &Txt) -> Result<Option<Txt>, Memory>
+    ensures base { draft.new.base ≡ draft.old.base }
+    ensures done { IfOk result
+        (ComesTo (spec.done_over conn text.now (spec.chan_named uuid.now (drafted draft.old)) (drafted draft.old))
+        (drafted draft.new)) }
+{
+    let Some(chan) = chan_named(draft, uuid) else {
+        return says(draft.alloc(), b"-ERR No such channel!\n");
+    };
+    let whole = argument_in(draft, chan, text)?;
+    run_whole(draft, conn, whole)
+}
+
+// Runs a text that was expanded as an api command, unless it was too long.
+#[tactic(auto, unfolding(crate::specs::Texts::too_long_text))]
+fn run_whole(draft: &mut Draft<'_>, conn: u32, whole: Option<Txt>) -> Result<Option<Txt>, Memory>
+    ensures base { draft.new.base ≡ draft.old.base }
+    ensures done { IfOk result (ComesTo (spec.done_expanded conn whole (drafted draft.old)) (drafted draft.new)) }
 {
     let alloc = draft.alloc();
-    match expand_globally(alloc, draft.globals(), text.as_bytes()) {
-        Ok(whole) => {
+    match whole {
+        Some(whole) => {
             let api = Api::of_expanded(alloc, whole.as_bytes())?;
             run_plainly(draft, conn, &api)
         }
-        Err(Refused::TooLong { .. }) => says(alloc, b"-ERR too long\n"),
+        None => says(alloc, b"-ERR too long\n"),
+    }
+}
+
+// Expands a text over the globals alone, unless it gets too long.
+fn whole_globally(draft: &Draft<'_>, text: &Txt) -> Result<Option<Txt>, Memory>
+    ensures { IfOk result (λ whole. whole
+        ≡ unless_too_long (expanded (drafted draft.now).globals.pairs text.now)) }
+{
+    match expand_globally(draft.alloc(), draft.globals(), text.as_bytes()) {
+        Ok(whole) => Ok(Some(whole)),
+        Err(Refused::TooLong { .. }) => Ok(None),
         Err(Refused::Memory) => Err(Memory),
     }
 }
@@ -83,6 +126,7 @@ fn run_plainly(draft: &mut Draft<'_>, conn: u32, api: &Api) -> Result<Option<Txt
     match api {
         Api::Echo { text } => Ok(Some(text.copy()?)),
         Api::Expand { .. } => Ok(Some(api_not_found(alloc, b"expand")?)),
+        Api::CreateUuid => tell_identifier(draft),
         Api::GlobalGetvar { name } => get_global(alloc, draft.globals(), name.as_ref()),
         Api::GlobalSetvar { name, value } => answer_set(draft, name, value),
         Api::Msleep { milliseconds } => sleep(draft, conn, *milliseconds),
@@ -94,7 +138,9 @@ fn run_plainly(draft: &mut Draft<'_>, conn: u32, api: &Api) -> Result<Option<Txt
             let to = to.copy()?;
             send_channel(draft, uuid, Onward::Transfer(to))
         }
+        Api::UuidSetvar { uuid, name, value } => set_variable(draft, uuid, name, value),
         Api::UuidGetvar { uuid, name } => get_variable(draft, uuid, name),
+        Api::UuidDump { uuid } => dump_channel(draft, uuid),
         Api::Hupall { cause } => hang_up_all(draft, *cause),
         Api::Originate {
             url,
@@ -160,6 +206,40 @@ fn hang_up_all(draft: &mut Draft<'_>, cause: Cause) -> Result<Option<Txt>, Memor
     Ok(Some(reply))
 }
 
+// Draws an identifier.
+fn tell_identifier(draft: &mut Draft<'_>) -> Result<Option<Txt>, Memory>
+    ensures base { draft.new.base ≡ draft.old.base }
+    ensures done { IfOk result (ComesTo (spec.identifier_told (drafted draft.old)) (drafted draft.new)) }
+{
+    Ok(Some(draft.draw_identifier()?))
+}
+
+// Sets a variable of a live channel, and replies whether no limit is passed.
+#[tactic(auto, unfolding(crate::specs::Texts::ok, crate::specs::Texts::no_channel, crate::specs::Texts::limit_passed))]
+fn set_variable(
+    draft: &mut Draft<'_>,
+    uuid: &Txt,
+    name: &Txt,
+    value: &Txt,
+) -> Result<Option<Txt>, Memory>
+    ensures base { draft.new.base ≡ draft.old.base }
+    ensures done { IfOk result
+        (ComesTo (spec.set_variable uuid.now name.now value.now (drafted draft.old)) (drafted draft.new)) }
+{
+    let alloc = draft.alloc();
+    let Some(slot) = draft.slot_named(uuid.as_bytes()) else {
+        return says(alloc, b"-ERR No such channel!\n");
+    };
+    let Some(mut chan) = draft.copy_chan(slot)? else {
+        return says(alloc, b"-ERR No such channel!\n");
+    };
+    if !chan.vars.set(name.as_bytes(), value.as_bytes())? {
+        return says(alloc, b"-ERR variable limit passed\n");
+    }
+    draft.put_chan(slot, Some(chan))?;
+    says(alloc, b"+OK\n")
+}
+
 // The value of a variable of a live channel.
 #[tactic(auto, unfolding(crate::specs::Texts::no_channel, crate::specs::Texts::undefined))]
 fn get_variable(draft: &Draft<'_>, uuid: &Txt, name: &Txt) -> Result<Option<Txt>, Memory>
@@ -173,6 +253,19 @@ fn get_variable(draft: &Draft<'_>, uuid: &Txt, name: &Txt) -> Result<Option<Txt>
     match chan.vars.get(name.as_bytes()) {
         Some(value) => Ok(Some(value.copy()?)),
         None => says(alloc, b"_undef_"),
+    }
+}
+
+// All that is told of a live channel.
+#[tactic(auto, unfolding(crate::specs::Texts::no_channel))]
+fn dump_channel(draft: &Draft<'_>, uuid: &Txt) -> Result<Option<Txt>, Memory>
+    ensures { IfOk result
+        (λ said. said ≡ Some (dump_text (spec.chan_named uuid.now (drafted draft.now)))) }
+{
+    let alloc = draft.alloc();
+    match chan_named(draft, uuid) {
+        Some(chan) => Ok(Some(dump(alloc, chan)?)),
+        None => says(alloc, b"-ERR No such channel!\n"),
     }
 }
 

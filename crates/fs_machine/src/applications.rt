@@ -36,9 +36,9 @@ pub(crate) fn run_next(draft: &mut Draft<'_>, slot: u16) -> Result<(), Memory>
     execute_within(draft, slot, application, argument)
 }
 
-// Expands an argument over what a channel knows, unless it gets too long. One that stands as it is written is shared.
+/// Expands an argument over what a channel knows, unless it gets too long. One that stands as it is written is shared.
 #[tactic(auto, unfolding(fs_vars::specs::Scopes::known_in))]
-fn argument_in(draft: &Draft<'_>, chan: &Chan, text: &Txt) -> Result<Option<Txt>, Memory>
+pub(crate) fn argument_in(draft: &Draft<'_>, chan: &Chan, text: &Txt) -> Result<Option<Txt>, Memory>
     ensures { IfOk result (λ found. found ≡ spec.argument_in chan.now (drafted draft.now) text.now) }
 {
     if is_plain(text.as_bytes()) {

@@ -12,6 +12,7 @@ ghost use Rattle.fs_machine.specs.Commands as spec;
 
 use crate::api::run_api;
 use crate::connections::{admit, part, phase_at};
+use crate::messages::send_message;
 use crate::replies::give_reply;
 use crate::subscribing::{
     add_filter, delete_filters, fall_silent, refuse_filter, subscribe, unsubscribe,
@@ -65,11 +66,9 @@ fn do_when_ready(draft: &mut Draft<'_>, conn: u32, command: Command<'_>) -> Resu
         Command::Filter { header, value } => add_filter(draft, conn, header, value),
         Command::FilterDelete { header, value } => delete_filters(draft, conn, header, value),
         Command::BadFilter => refuse_filter(draft, conn),
-        Command::Auth { .. }
-        | Command::Bgapi { .. }
-        | Command::Sendmsg { .. }
-        | Command::Connect
-        | Command::Unknown => refuse(draft, conn),
+        Command::Sendmsg { uuid, message } => send_message(draft, conn, uuid, message),
+        Command::Auth { .. } | Command::Bgapi { .. } | Command::Connect | Command::Unknown =>
+            refuse(draft, conn),
     }
 }
 

@@ -1,4 +1,4 @@
-use Rattle.std.proofs.Common.{[], ◌∙◌}
+use Rattle.std.proofs.Common.{[]}
 use Rattle.fs_text.proofs.TakingLemmas.{taking_list}
 use Rattle.fs_chan.specs.Headers as spec
 use Rattle.fs_chan.proofs.chan.Chan.headers.Goals as goal

@@ -54,7 +54,7 @@ class Connection:
         if word == "api":
             answer = api.answer(self.switch, block.rest)
             return [] if answer is None else [api_response(answer)]
-        do = COMMANDS.get(word) or (COMING.get(word) if self.switch.coming else None)
+        do = COMMANDS.get(word)
         return [command_reply(do(self, block) if do else UNKNOWN_COMMAND)]
 
     def end(self):
@@ -167,8 +167,5 @@ COMMANDS = {
     "noevents": Connection.noevents,
     "filter": Connection.filter,
     "sendmsg": Connection.sendmsg,
-}
-
-COMING = {
     "bgapi": Connection.bgapi,
 }

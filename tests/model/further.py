@@ -1,4 +1,4 @@
-"""What plays of messages, of what channels have and of what is still to come choose their commands of."""
+"""What plays of messages, of channels, of jobs and of what is still to come choose their commands of."""
 
 from dialplan import Action, Extension
 from random_plays import (
@@ -31,9 +31,6 @@ def has_messages(channel):
 
 class Further(Words):
     """What all of these kinds choose their commands of."""
-
-    # Whether some commands are run in the background.
-    background = True
 
     HEADER_NAMES = ("Job-UUID", "job-uuid", "JOB-UUID")
     JOB_NAMES = (
@@ -93,8 +90,6 @@ class Further(Words):
 
     def in_background(self, line):
         """The command of an api line as a job, which may be given a name."""
-        if not self.background:
-            return line
         rest = line.removeprefix("api")
         name = ""
         if self.chance(0.35):

@@ -1,6 +1,8 @@
-"""All kinds of random plays, and one that mixes them."""
+"""All kinds of random plays, and two that mix them."""
 
+from background import Crowds, FurtherBlocks, FurtherStreams, Jobs
 from dialplan import Document, Extension
+from further import Further
 from layers import Layers
 from limits import Bytes, Limits, Room
 from messages import Messages, Variables
@@ -45,5 +47,24 @@ class Mixture(Layers):
         return super().command(session)
 
 
-ALL = (Words, Layers, Rings, Times, Bytes, Limits, Spelling, Room, Mixture, Messages, Variables, Blocks, Streams)
+class Everything(Mixture, Further):
+    """Documents of several kinds in one, all commands, and longer plays."""
+
+    def command(self, session):
+        usual = super().command
+        return self.chosen(
+            session,
+            (10, lambda: usual(session)),
+            (4, lambda: self.job(session)),
+            (4, lambda: self.message(session)),
+            (2, lambda: self.channel_command(session)),
+            (1, self.event_command),
+            (0.1, lambda: self.one_of(*self.SHUTDOWNS, *self.NO_SHUTDOWNS)),
+        )
+
+
+ALL = (
+    Words, Layers, Rings, Times, Bytes, Limits, Spelling, Room, Mixture, Messages, Variables, Jobs, Crowds,
+    Everything, Blocks, FurtherBlocks, Streams, FurtherStreams,
+)
 KINDS = {kind.__name__.lower(): kind for kind in ALL}

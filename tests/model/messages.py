@@ -7,8 +7,6 @@ from limits import Bytes, Limits
 class Messages(Further):
     """Messages to channels in each state and each wait, and commands that move the same channels."""
 
-    background = False
-
     def command(self, session):
         usual = super().command
         return self.chosen(
@@ -23,8 +21,6 @@ class Variables(Further):
     """Variables and texts of channels, with odd names and values at their limits."""
 
     LARGEST = Limits.LARGEST
-    background = False
-
     def command(self, session):
         usual = super().command
         return self.chosen(

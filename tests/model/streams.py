@@ -93,7 +93,7 @@ class Streams(Blocks):
     PASSWORDS = ("secret", "two words", " lead", "trail ", "p" * 256, "\xff\x01\t", "x\r", "\r")
     UNKNOWN = (
         "nosuch", "Api echo x", "API echo x", " api echo x", "\tapi", "apix", "exitt", "Exit", ":", "\x00",
-        " ", "\r", "Content-Length: 5", "bgapi echo x", "sendmsg", "sendmsg x", "connect x", "Noevents",
+        " ", "\r", "Content-Length: 5", "bgapix", "sendmsg", "sendmsg x", "connect x", "Noevents",
     )
     UNKNOWN_API = ("", "Echo hi", "\techo x", "'echo' x", "status", "uuid_dumps")
     EVENT_WORDS = (

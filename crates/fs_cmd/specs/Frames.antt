@@ -95,6 +95,16 @@ filter_added header value = bracketed (codes "+OK filter added. ") header value
 unfoldable pub filter_deleted : List ℕ → Option (List ℕ) → List ℕ
 filter_deleted header value = bracketed (codes "+OK filter deleted. ") header (unwrap_or value [])
 
+-- ---- the texts of replies that jobs in the background have
+
+-- the job of this identifier has begun
+unfoldable pub job_begun : List ℕ → List ℕ
+job_begun uuid = codes "+OK Job-UUID: " ++ uuid
+
+-- as many jobs as there may be are there
+unfoldable pub jobs_full : List ℕ
+jobs_full = codes "-ERR too many jobs"
+
 -- ---- the texts of replies that messages have
 
 -- the message was taken

@@ -1,7 +1,7 @@
--- The walk goes on: jobs, commands and all acts.
+-- The walk goes on: commands, jobs and all acts.
 use Rattle.std.proofs.Common.{◌≡◌, ℕ, ◌*◌, nat_lt, Bool, true, false, if◌then◌else◌, [], ◌∷◌, Option, None, Some}
 use Rattle.std.proofs.Common.{◌++◌, ◌∙◌, Result, Ok, Err, refl, sym, ap}
-use Rattle.std.specs.Prelude.{◌&&◌, map}
+use Rattle.std.specs.Prelude.{◌&&◌, map, codes}
 use Rattle.std.specs.Option.{option_or}
 use Rattle.std.specs.Str.{bytes_eq}
 use Rattle.fs_text.specs.Texts.{Text}
@@ -13,6 +13,7 @@ use Rattle.fs_cmd.specs.Commands.{Command, command_of, Message, Execute, Hangup,
 use Rattle.fs_cmd.specs.Frames.{reply, api_reply, notice, accepted, invalid, bye, not_found}
 use Rattle.fs_cmd.specs.Frames.{event_enabled, format_unsupported, event_disabled, no_longer_listening, not_listening}
 use Rattle.fs_cmd.specs.Frames.{filter_added, filter_deleted, invalid_syntax, filter_not_found}
+use Rattle.fs_cmd.specs.Frames.{job_begun, jobs_full}
 use Rattle.fs_cmd.specs.Frames.{message_taken, invalid_session, invalid_call, messages_full}
 use Rattle.fs_cmd.specs.declared.command.Form.{Form}
 use Rattle.fs_cmd.specs.declared.command.Form.TheVariants.{Plain, Json, Xml}
@@ -33,6 +34,9 @@ use Rattle.fs_state.specs.declared.conn.Phase.{Phase}
 use Rattle.fs_state.specs.declared.conn.Phase.TheVariants as phase
 use Rattle.fs_state.specs.declared.conn.Parting.{Parting}
 use Rattle.fs_state.specs.declared.conn.Parting.TheVariants as parting
+use Rattle.fs_state.specs.declared.job.Asker.{Asker}
+use Rattle.fs_state.specs.declared.job.Asker.TheVariants as asker
+use Rattle.fs_state.specs.declared.job.Background.{Background}
 use Rattle.fs_state.specs.declared.job.Job.{Job}
 use Rattle.fs_state.specs.declared.job.JobWork.{JobWork}
 use Rattle.fs_state.specs.declared.job.JobWork.TheVariants as work
@@ -44,7 +48,7 @@ use Rattle.fs_chan.specs.Changes.{in_state, is_live, parked, transferred, takes_
 use Rattle.fs_chan.specs.Exports.{with_set}
 use Rattle.fs_chan.specs.declared.chan.Chan.{Chan}
 use Rattle.fs_chan.specs.declared.wait.Wait.TheVariants.{Ready}
-use Rattle.fs_state.specs.Switch.{Switch, chan_at, with_chan, job_of, slot_named, is_full_of_jobs}
+use Rattle.fs_state.specs.Switch.{Switch, chan_at, with_chan, job_of, without_job, slot_named, is_full_of_jobs}
 use Rattle.fs_state.specs.Moves.{plain_event, after_move}
 use Rattle.fs_state.specs.Hangups.{after_hangups, legs_at, lives, lives_at}
 use Rattle.fs_state.specs.Bridging.{can_join, joined_as, after_join}
@@ -53,10 +57,13 @@ use Rattle.fs_machine.specs.declared.entry.Act.TheVariants as act
 use Rattle.fs_machine.specs.declared.entry.Closing.{Closing}
 use Rattle.fs_machine.specs.declared.entry.Closing.TheVariants as closing
 use Rattle.fs_machine.specs.declared.attempts.Party.TheVariants as party
+use Rattle.fs_machine.specs.declared.owing.Giver.{Giver}
+use Rattle.fs_machine.specs.declared.owing.Giver.TheVariants as giver
 use Rattle.fs_machine.specs.Texts.{ok, too_many_jobs, made_text, no_channel, not_ready}
 use Rattle.fs_machine.specs.Connections.{phase_at, conn_changed, admitted, subs_at}
 use Rattle.fs_machine.specs.Attempts.{after_verdict_on}
-use Rattle.fs_machine.specs.Jobs.{sleep_begun, after_job_work, job_done_from, job_done}
+use Rattle.fs_machine.specs.Owing.{job_uuid, background_begun, job_event}
+use Rattle.fs_machine.specs.Jobs.{told_if, command_run, after_job_work, job_done_from, job_done}
 use Rattle.fs_machine.specs.Done.{Done, says, no_reply_yet}
 use Rattle.fs_machine.specs.Joining.{both_left, in_the_way, after_leaving, both_in_media, joined_done, bridged_unless, bridge_done_at}
 use Rattle.fs_machine.specs.Joining.{uuid_bridge_done, is_ready}
@@ -66,16 +73,18 @@ use Rattle.fs_machine.proofs.LeaveLemmas.{left_free, parked_stays, transferred_s
 use Rattle.fs_machine.proofs.BondLeaves.{departed_lone}
 use Rattle.fs_machine.specs.Hangups.{all_slots}
 use Rattle.fs_machine.specs.Applications.{unless_too_long, argument_in}
-use Rattle.fs_machine.specs.Api.{kill_done, with_variable, variable_set_on, variable_set_at, msleep_done, dialed, originate_done}
+use Rattle.fs_machine.specs.Api.{kill_done, with_variable, variable_set_on, variable_set_at, sleep_begun, msleep_done, dialed}
+use Rattle.fs_machine.specs.Api.{originate_done}
 use Rattle.fs_machine.specs.Api.{chan_named, done_plainly, done_expanded, done_over, done_by}
 use Rattle.fs_machine.specs.Commands.{with_reply, after_dismissal, after_password, with_response_of, command_done_in, command_done}
 use Rattle.fs_machine.specs.Commands.{after_asking, unless_unknown, after_subscribing, after_unsubscribing, after_silence, after_deletion}
+use Rattle.fs_machine.specs.Commands.{with_begun_told, after_background}
 use Rattle.fs_machine.specs.Commands.{with_filter_added, with_filters_deleted, queued_on, message_done, message_done_at, message_sent}
 use Rattle.fs_machine.specs.Step.{after_close, act_done}
 use Rattle.fs_machine.proofs.Kept.{IsApart, hold_in, Stays, Stage, Fact, KeptByCalls, DoesJob, KeptByJobs, KeptByDials, LeavesBy}
 use Rattle.fs_machine.proofs.Kept.{IsShortWinner}
 use Rattle.fs_machine.proofs.DrawnLemmas.{SameDrawn, both_left_drawn}
-use Rattle.fs_machine.proofs.Kept.{WasApart, KeptByApi, KeptByCommands, api_among, KeptByMoves}
+use Rattle.fs_machine.proofs.Kept.{WasApart, MayGoOn, KeptByApi, KeptByCommands, KeptByMoves}
 use Rattle.fs_machine.proofs.ShortLemmas.{NamesShort, api_short, expanded_short}
 use Rattle.fs_machine.proofs.DialLemmas.{dialed_groups}
 use Rattle.fs_machine.proofs.JoinLemmas.{apart_now, apart_hung, apart_left, DialsNone, left_dials, left_dials_still, CanMeet}
@@ -87,38 +96,10 @@ use Rattle.fs_machine.proofs.TryWalk.{verdict_kept}
 use Rattle.fs_machine.proofs.Walk.{worked_kept}
 use Rattle.fs_machine.proofs.RestLemmas.{hung_rest, does_same}
 
--- ---- jobs
-
-module _ (before : Switch) (P : Fact) (calls : KeptByCalls P) (dials : KeptByDials before P) (jobs : KeptByJobs before P) where
-  job_tried_kept : (number conn orig : ℕ) (winner : Winner) (caller : Caller) →
-      DoesJob before number conn (work.Originate orig winner caller) → P None before → P (Some 0) before →
-      P (Some 0) (after_verdict_on (record { orig = orig; party = party.Job number conn winner caller }) before)
-  job_tried_kept number conn orig winner caller does early h =
-      verdict_kept before P calls (record { orig = orig; party = party.Job number conn winner caller })
-      (λ s. DoesJob s number conn (work.Originate orig winner caller)) (λ named can. does_same can (hung_rest named before))
-      (λ cause s can over k. jobs.failed number conn winner caller orig cause can over k)
-      (λ leg slots can won k. jobs.wins number conn winner caller orig leg slots can won k)
-      (λ o group is next enters k.
-      dials.regroups orig o group caller is (record { group = group; next = next; enters = enters; filled = λ some. some }) k)
-      does early h
-
-  job_works_kept : (what : JobWork) (number conn : ℕ) → DoesJob before number conn what → P None before → P (Some 0) before →
-      P (Some 0) (after_job_work what number conn before)
-  job_works_kept (work.Sleep until) number conn does early h = jobs.woken number conn until ok does h
-  job_works_kept (work.Originate orig winner caller) number conn does early h = job_tried_kept number conn orig winner caller does early h
-
-  pub job_kept : (number : ℕ) → P None before → P (Some 0) before → P (Some 0) (job_done number before)
-  unfolding job_done
-  job_kept number early h = by (job_of before number) refl
-    where
-      by : (found : Option Job) → job_of before number ≡ found → P (Some 0) (job_done_from number found before)
-      by None is = h
-      by (Some job) is = job_works_kept job.work number job.conn (record { there = is }) early h
-
 -- ---- commands
 
 -- an api command may make a leg, which is a pair of channels
-module _ (conn : ℕ) (P : Fact) (calls : KeptByCalls P) (commands : KeptByApi conn P) where
+module _ (who : Giver) (P : Fact) (calls : KeptByCalls P) (commands : KeptByApi who P) where
   done_either : {b : Stage} (test : Bool) (x y : Done) → P b x.state → P b y.state → P b (if test then x else y).state
   done_either true x y first second = first
   done_either false x y first second = second
@@ -146,30 +127,30 @@ module _ (conn : ℕ) (P : Fact) (calls : KeptByCalls P) (commands : KeptByApi c
       by (Some c) is =
           done_either (can_set c.vars name value) _ _ (commands.spent (variable_kept name value slot c is h)) (commands.spent h)
 
-  slept_kept : (milliseconds : ℕ) {s : Switch} → P None s → P (Some 0) (msleep_done conn milliseconds s).state
-  slept_kept milliseconds {s} h = by (is_full_of_jobs s) refl
+  slept_kept : (milliseconds : ℕ) {s : Switch} → MayGoOn P who s → P None s → P (Some 0) (msleep_done who milliseconds s).state
+  slept_kept milliseconds {s} may h = by (is_full_of_jobs s) refl
     where
       by : (full : Bool) → is_full_of_jobs s ≡ full →
-          P (Some 0) (if full then says too_many_jobs s else no_reply_yet (sleep_begun conn milliseconds s)).state
+          P (Some 0) (if full then says too_many_jobs s else no_reply_yet (sleep_begun who milliseconds s)).state
       by true is = commands.spent h
-      by false is = commands.sleeps (moment_after s.moment (milliseconds * 1000)) is h
+      by false is = commands.sleeps (moment_after s.moment (milliseconds * 1000)) may is h
 
   dialed_kept : (url : Text) (read : Result Dial DialFault) → dial_string url ≡ read → (winner : Winner) (caller : Caller)
-      (timeout : Option ℕ) {s : Switch} → IsShortWinner winner → is_full_of_jobs s ≡ false → P None s →
-      P (Some 0) (dialed conn read winner caller timeout s).state
-  dialed_kept url (Err fault) is winner caller timeout short room h = commands.spent h
-  dialed_kept url (Ok dial) is winner caller timeout short room h =
-      commands.originates (plans_of dial) winner caller (option_or timeout (braces_timeout dial)) (dialed_groups url dial is) short room
-      h
+      (timeout : Option ℕ) {s : Switch} → MayGoOn P who s → IsShortWinner winner → is_full_of_jobs s ≡ false → P None s →
+      P (Some 0) (dialed who read winner caller timeout s).state
+  dialed_kept url (Err fault) is winner caller timeout may short room h = commands.spent h
+  dialed_kept url (Ok dial) is winner caller timeout may short room h =
+      commands.originates (plans_of dial) winner caller (option_or timeout (braces_timeout dial)) may (dialed_groups url dial is) short
+      room h
 
-  originated_kept : (url : Text) (winner : Winner) (caller : Caller) (timeout : Option ℕ) {s : Switch} → IsShortWinner winner → P None s →
-      P (Some 0) (originate_done conn url winner caller timeout s).state
-  originated_kept url winner caller timeout {s} short h = by (is_full_of_jobs s) refl
+  originated_kept : (url : Text) (winner : Winner) (caller : Caller) (timeout : Option ℕ) {s : Switch} → MayGoOn P who s →
+      IsShortWinner winner → P None s → P (Some 0) (originate_done who url winner caller timeout s).state
+  originated_kept url winner caller timeout {s} may short h = by (is_full_of_jobs s) refl
     where
       by : (full : Bool) → is_full_of_jobs s ≡ full →
-          P (Some 0) (if full then says too_many_jobs s else dialed conn (dial_string url) winner caller timeout s).state
+          P (Some 0) (if full then says too_many_jobs s else dialed who (dial_string url) winner caller timeout s).state
       by true is = commands.spent h
-      by false is = dialed_kept url (dial_string url) refl winner caller timeout short is h
+      by false is = dialed_kept url (dial_string url) refl winner caller timeout may short is h
 
   media_kept : (slot : ℕ) {s : Switch} → CanMeet s slot → P (Some 0) s → P (Some 0) (after_move (in_state CsExchangeMedia) slot s)
   media_kept slot {s} meets h =
@@ -268,44 +249,91 @@ module _ (conn : ℕ) (P : Fact) (calls : KeptByCalls P) (commands : KeptByApi c
       by (Some slot) = ready slot (is_ready (chan_at s slot)) refl
 
   -- at most one identifier is drawn for no slot
-  done_plainly_kept : (what : Api) {s : Switch} → NamesShort what → P None s → P (Some 1) (done_plainly conn what s).state
-  done_plainly_kept (api.Echo text) short h = calls.more (commands.spent h)
-  done_plainly_kept (api.Expand uuid text) short h = calls.more (commands.spent h)
-  done_plainly_kept api.CreateUuid short h = commands.draws h
-  done_plainly_kept (api.GlobalGetvar name) short h = calls.more (commands.spent h)
-  done_plainly_kept (api.GlobalSetvar name value) {s} short h =
+  done_plainly_kept : (what : Api) {s : Switch} → MayGoOn P who s → NamesShort what → P None s →
+      P (Some 1) (done_plainly who what s).state
+  done_plainly_kept (api.Echo text) may short h = calls.more (commands.spent h)
+  done_plainly_kept (api.Expand uuid text) may short h = calls.more (commands.spent h)
+  done_plainly_kept api.CreateUuid may short h = commands.draws h
+  done_plainly_kept (api.GlobalGetvar name) may short h = calls.more (commands.spent h)
+  done_plainly_kept (api.GlobalSetvar name value) {s} may short h =
       calls.more (done_either (can_set s.globals name value) _ _ (calls.touches.globals (set_to s.globals name value) (commands.spent h))
       (commands.spent h))
-  done_plainly_kept (api.Msleep milliseconds) short h = calls.more (slept_kept milliseconds h)
-  done_plainly_kept (api.UuidExists uuid) short h = calls.more (commands.spent h)
-  done_plainly_kept (api.UuidKill uuid cause) {s} short h = calls.more (killed_kept cause (slot_named uuid s) h)
-  done_plainly_kept (api.UuidSetvar uuid name value) {s} short h = calls.more (variable_set_kept name value (slot_named uuid s) h)
-  done_plainly_kept (api.UuidGetvar uuid name) short h = calls.more (commands.spent h)
-  done_plainly_kept (api.UuidDump uuid) short h = calls.more (commands.spent h)
-  done_plainly_kept (api.UuidBridge uuid other) short h = calls.more (bridged_kept uuid other h)
-  done_plainly_kept (api.UuidPark uuid) short h =
+  done_plainly_kept (api.Msleep milliseconds) may short h = calls.more (slept_kept milliseconds may h)
+  done_plainly_kept (api.UuidExists uuid) may short h = calls.more (commands.spent h)
+  done_plainly_kept (api.UuidKill uuid cause) {s} may short h = calls.more (killed_kept cause (slot_named uuid s) h)
+  done_plainly_kept (api.UuidSetvar uuid name value) {s} may short h = calls.more (variable_set_kept name value (slot_named uuid s) h)
+  done_plainly_kept (api.UuidGetvar uuid name) may short h = calls.more (commands.spent h)
+  done_plainly_kept (api.UuidDump uuid) may short h = calls.more (commands.spent h)
+  done_plainly_kept (api.UuidBridge uuid other) may short h = calls.more (bridged_kept uuid other h)
+  done_plainly_kept (api.UuidPark uuid) may short h =
       calls.more (sent_kept parked uuid (λ c live lone free. parked_stays c live lone free) h)
-  done_plainly_kept (api.UuidTransfer uuid to) short h =
+  done_plainly_kept (api.UuidTransfer uuid to) may short h =
       calls.more (sent_kept (transferred to) uuid (λ c live lone free. transferred_stays to c short live lone free) h)
-  done_plainly_kept (api.Hupall cause) {s} short h =
+  done_plainly_kept (api.Hupall cause) {s} may short h =
       calls.more (calls.hung (map (λ slot. (slot, cause)) (all_slots s)) h (commands.spent h))
-  done_plainly_kept (api.Originate url winner cid_name cid_number timeout) short h =
-      calls.more (originated_kept url winner (record { name = cid_name; number = cid_number }) timeout short h)
-  done_plainly_kept (api.Usage which) short h = calls.more (commands.spent h)
-  done_plainly_kept (api.Unknown name) short h = calls.more (commands.spent h)
+  done_plainly_kept (api.Originate url winner cid_name cid_number timeout) may short h =
+      calls.more (originated_kept url winner (record { name = cid_name; number = cid_number }) timeout may short h)
+  done_plainly_kept (api.Usage which) may short h = calls.more (commands.spent h)
+  done_plainly_kept (api.Unknown name) may short h = calls.more (commands.spent h)
 
-  whole_kept : (whole : Option Text) {s : Switch} → P None s → P (Some 1) (done_expanded conn whole s).state
-  whole_kept None h = calls.more (commands.spent h)
-  whole_kept (Some text) h = done_plainly_kept (expanded_api_of text) (expanded_short text) h
+  whole_kept : (whole : Option Text) {s : Switch} → MayGoOn P who s → P None s → P (Some 1) (done_expanded who whole s).state
+  whole_kept None may h = calls.more (commands.spent h)
+  whole_kept (Some text) may h = done_plainly_kept (expanded_api_of text) may (expanded_short text) h
 
-  over_kept : (text : Text) (found : Option Chan) {s : Switch} → P None s → P (Some 1) (done_over conn text found s).state
-  over_kept text None h = calls.more (commands.spent h)
-  over_kept text (Some c) {s} h = whole_kept (argument_in c s text) h
+  over_kept : (text : Text) (found : Option Chan) {s : Switch} → MayGoOn P who s → P None s → P (Some 1) (done_over who text found s).state
+  over_kept text None may h = calls.more (commands.spent h)
+  over_kept text (Some c) {s} may h = whole_kept (argument_in c s text) may h
 
-  pub done_kept : (what : Api) {s : Switch} → NamesShort what → P None s → P (Some 1) (done_by conn what s).state
-  done_kept (api.Expand None text) {s} short h = whole_kept (unless_too_long (expanded s.globals.pairs text)) h
-  done_kept (api.Expand (Some uuid) text) {s} short h = over_kept text (chan_named uuid s) h
-  done_kept other short h = done_plainly_kept other short h
+  pub done_kept : (what : Api) {s : Switch} → MayGoOn P who s → NamesShort what → P None s → P (Some 1) (done_by who what s).state
+  done_kept (api.Expand None text) {s} may short h = whole_kept (unless_too_long (expanded s.globals.pairs text)) may h
+  done_kept (api.Expand (Some uuid) text) {s} may short h = over_kept text (chan_named uuid s) may h
+  done_kept other may short h = done_plainly_kept other may short h
+
+-- ---- jobs
+
+module _ (before : Switch) (P : Fact) (calls : KeptByCalls P) (dials : KeptByDials before P) (jobs : KeptByJobs before P) where
+  -- a job was taken out, and runs its command
+  run_kept : (number : ℕ) (job : Background) → DoesJob before number (asker.Background job) work.Run → P None before →
+      P (Some 1) (command_run number job before)
+  run_kept number job does early =
+      told_kept (done_by (giver.Job number job) (api_of job.command) (without_job number before)).reply
+      (done_kept (giver.Job number job) P calls (jobs.runs number job) (api_of job.command) {s = without_job number before}
+      (record { past = before; first = early; does = does; left = refl }) (api_short job.command) (jobs.out number job does early))
+    where
+      told_kept : (answer : Option Text) {s : Switch} → P (Some 1) s → P (Some 1) (told_if job answer s)
+      told_kept None h = h
+      told_kept (Some answer) h = calls.touches.told (job_event job answer) (refl, tt) h
+
+  job_tried_kept : (number orig : ℕ) (who : Asker) (winner : Winner) (caller : Caller) →
+      DoesJob before number who (work.Originate orig winner caller) → P None before → P (Some 0) before →
+      P (Some 0) (after_verdict_on (record { orig = orig; party = party.Job number who winner caller }) before)
+  job_tried_kept number orig who winner caller does early h =
+      verdict_kept before P calls (record { orig = orig; party = party.Job number who winner caller })
+      (λ s. DoesJob s number who (work.Originate orig winner caller)) (λ named can. does_same can (hung_rest named before))
+      (λ cause s can over k. jobs.failed number who winner caller orig cause can over k)
+      (λ leg slots can won k. jobs.wins number who winner caller orig leg slots can won k)
+      (λ o group is next enters k.
+      dials.regroups orig o group caller is (record { group = group; next = next; enters = enters; filled = λ some. some }) k)
+      does early h
+
+  job_works_kept : (what : JobWork) (number : ℕ) (who : Asker) → DoesJob before number who what → P None before → P (Some 0) before →
+      P (Some 1) (after_job_work what number who before)
+  job_works_kept work.Run number (asker.Conn conn) does early h = calls.more h
+  job_works_kept work.Run number (asker.Background job) does early h = run_kept number job does early
+  job_works_kept (work.Sleep until) number who does early h = calls.more (jobs.woken number who until ok does h)
+  job_works_kept (work.Originate orig winner caller) number who does early h =
+      calls.more (job_tried_kept number orig who winner caller does early h)
+
+  -- a command that it runs may draw an identifier for no slot
+  pub job_kept : (number : ℕ) → P None before → P (Some 0) before → P (Some 1) (job_done number before)
+  unfolding job_done
+  job_kept number early h = by (job_of before number) refl
+    where
+      by : (found : Option Job) → job_of before number ≡ found → P (Some 1) (job_done_from number found before)
+      by None is = calls.more h
+      by (Some job) is = job_works_kept job.work number job.asker (record { there = is }) early h
+
+-- ---- commands of the event socket
 
 -- a command may be one of these
 module _ (conn : ℕ) (P : Fact) (calls : KeptByCalls P) (commands : KeptByCommands conn P) where
@@ -361,6 +389,19 @@ module _ (conn : ℕ) (P : Fact) (calls : KeptByCalls P) (commands : KeptByComma
       by true = asked_kept (with_filters_deleted header value) (filter_deleted header value) h
       by false = replied_kept filter_not_found h
 
+  -- ---- jobs in the background
+
+  behind_kept : (given : Option Text) (text : Text) {s : Switch} → P None s → P (Some 1) (after_background conn given text s)
+  behind_kept given text {s} h = by (is_full_of_jobs s) refl
+    where
+      by : (full : Bool) → is_full_of_jobs s ≡ full →
+          P (Some 1)
+          (if full then with_reply conn jobs_full s else with_begun_told conn (job_uuid given s) (background_begun given text s))
+      by true is = calls.more (replied_kept jobs_full (commands.api.spent h))
+      by false is =
+          commands.gave (reply (job_begun (job_uuid given s)) ((codes "Job-UUID", job_uuid given s) ∷ []))
+          (commands.backgrounds given text is h)
+
   -- ---- messages
 
   queued_kept : (uuid : Text) (message : Action) (slot : ℕ) {s : Switch} → P None s →
@@ -371,28 +412,28 @@ module _ (conn : ℕ) (P : Fact) (calls : KeptByCalls P) (commands : KeptByComma
           P (Some 0)
           (if test then with_reply conn message_taken (with_chan slot (Some (with_message message c)) s) else with_reply conn messages_full s)
       room c true is =
-          replied_kept message_taken (commands.spent (calls.touches.changed slot c (with_message message c) is
+          replied_kept message_taken (commands.api.spent (calls.touches.changed slot c (with_message message c) is
           (quiet_stays c (with_message message c) (record { links = refl; direction = refl; state = refl; profile = refl })
           (same_vars c.vars c.vars refl)) h))
-      room c false is = replied_kept messages_full (commands.spent h)
+      room c false is = replied_kept messages_full (commands.api.spent h)
 
       by : (chan : Option Chan) → chan_at s slot ≡ chan → P (Some 0) (queued_on conn uuid message slot chan s)
-      by None is = replied_kept (invalid_session uuid) (commands.spent h)
+      by None is = replied_kept (invalid_session uuid) (commands.api.spent h)
       by (Some c) is = room c (takes_message c) is
 
   message_kept : (uuid : Text) (message : Message) (slot : ℕ) {s : Switch} → P None s → P (Some 0) (message_done conn uuid message slot s)
   message_kept uuid (Execute application argument) slot h =
       queued_kept uuid (record { application = application; argument = argument }) slot h
-  message_kept uuid (Hangup cause) slot h = replied_kept message_taken (calls.hung ((slot, cause) ∷ []) h (commands.spent h))
-  message_kept uuid BadCall slot h = replied_kept invalid_call (commands.spent h)
+  message_kept uuid (Hangup cause) slot h = replied_kept message_taken (calls.hung ((slot, cause) ∷ []) h (commands.api.spent h))
+  message_kept uuid BadCall slot h = replied_kept invalid_call (commands.api.spent h)
 
   messaged_at : (uuid : Text) (message : Message) (found : Option ℕ) {s : Switch} → P None s →
       P (Some 0) (message_done_at conn uuid message found s)
-  messaged_at uuid message None h = replied_kept (invalid_session uuid) (commands.spent h)
+  messaged_at uuid message None h = replied_kept (invalid_session uuid) (commands.api.spent h)
   messaged_at uuid message (Some slot) h = message_kept uuid message slot h
 
   messaged_kept : (uuid : Option Text) (message : Message) {s : Switch} → P None s → P (Some 0) (message_sent conn uuid message s)
-  messaged_kept None message h = replied_kept (invalid_session []) (commands.spent h)
+  messaged_kept None message h = replied_kept (invalid_session []) (commands.api.spent h)
   messaged_kept (Some uuid) message {s} h = messaged_at uuid message (slot_named uuid s) h
 
   -- ---- all commands
@@ -402,33 +443,33 @@ module _ (conn : ℕ) (P : Fact) (calls : KeptByCalls P) (commands : KeptByComma
   commanded_kept c {s} h = by (phase_at s conn) refl c
     where
       by : (at : Phase) → phase_at s conn ≡ at → (given : Command) → P (Some 1) (command_done_in at conn given s)
-      by phase.Fresh is (command.Auth given) = calls.more (offered_kept given is (commands.spent h))
-      by phase.Fresh is command.Exit = calls.more (dismissed_kept parting.Exit bye tt (commands.spent h))
-      by phase.Fresh is _ = calls.more (replied_kept not_found (commands.spent h))
-      by phase.Ready is (command.Auth given) = calls.more (replied_kept not_found (commands.spent h))
-      by phase.Ready is command.Exit = calls.more (dismissed_kept parting.Exit bye tt (commands.spent h))
+      by phase.Fresh is (command.Auth given) = calls.more (offered_kept given is (commands.api.spent h))
+      by phase.Fresh is command.Exit = calls.more (dismissed_kept parting.Exit bye tt (commands.api.spent h))
+      by phase.Fresh is _ = calls.more (replied_kept not_found (commands.api.spent h))
+      by phase.Ready is (command.Auth given) = calls.more (replied_kept not_found (commands.api.spent h))
+      by phase.Ready is command.Exit = calls.more (dismissed_kept parting.Exit bye tt (commands.api.spent h))
       by phase.Ready is (command.Api text) =
-          responded_kept (done_by conn (api_of text) s).reply
-          (done_kept conn P calls (api_among commands) (api_of text) (api_short text) h)
-      by phase.Ready is (command.Event form names) = calls.more (subscribed_kept form names (commands.spent h))
-      by phase.Ready is (command.Nixevent names) = calls.more (unsubscribed_kept names (commands.spent h))
-      by phase.Ready is command.Noevents = calls.more (silenced_kept (commands.spent h))
+          responded_kept (done_by (giver.Conn conn) (api_of text) s).reply
+          (done_kept (giver.Conn conn) P calls commands.api (api_of text) tt (api_short text) h)
+      by phase.Ready is (command.Event form names) = calls.more (subscribed_kept form names (commands.api.spent h))
+      by phase.Ready is (command.Nixevent names) = calls.more (unsubscribed_kept names (commands.api.spent h))
+      by phase.Ready is command.Noevents = calls.more (silenced_kept (commands.api.spent h))
       by phase.Ready is (command.Filter header value) =
-          calls.more (asked_kept (with_filter_added header value) (filter_added header value) (commands.spent h))
-      by phase.Ready is (command.FilterDelete header value) = calls.more (deleted_kept header value (commands.spent h))
-      by phase.Ready is command.BadFilter = calls.more (replied_kept invalid_syntax (commands.spent h))
-      by phase.Ready is (command.Bgapi text job) = calls.more (replied_kept not_found (commands.spent h))
+          calls.more (asked_kept (with_filter_added header value) (filter_added header value) (commands.api.spent h))
+      by phase.Ready is (command.FilterDelete header value) = calls.more (deleted_kept header value (commands.api.spent h))
+      by phase.Ready is command.BadFilter = calls.more (replied_kept invalid_syntax (commands.api.spent h))
+      by phase.Ready is (command.Bgapi text job) = behind_kept job text h
       by phase.Ready is (command.Sendmsg uuid message) = calls.more (messaged_kept uuid message h)
-      by phase.Ready is command.Connect = calls.more (replied_kept not_found (commands.spent h))
-      by phase.Ready is command.Unknown = calls.more (replied_kept not_found (commands.spent h))
-      by phase.Ending is given = calls.more (commands.spent h)
-      by phase.Closed is given = calls.more (commands.spent h)
+      by phase.Ready is command.Connect = calls.more (replied_kept not_found (commands.api.spent h))
+      by phase.Ready is command.Unknown = calls.more (replied_kept not_found (commands.api.spent h))
+      by phase.Ending is given = calls.more (commands.api.spent h)
+      by phase.Closed is given = calls.more (commands.api.spent h)
 
 -- ---- all acts
 
 module _ (before : Switch) (P : Fact) (kept : KeptByMoves before P) where
   spent : {s : Switch} → P None s → P (Some 0) s
-  spent h = (kept.commands 0).spent h
+  spent h = (kept.commands 0).api.spent h
 
   closed_kept : (how : Closing) (conn : ℕ) {s : Switch} → P (Some 0) s → P (Some 0) (after_close how conn s)
   closed_kept closing.EndOfInput conn h = kept.visits.silent conn h
@@ -442,4 +483,4 @@ module _ (before : Switch) (P : Fact) (kept : KeptByMoves before P) where
   acted_kept (act.Take conn) h = kept.calls.more (kept.visits.taken conn (spent h))
   acted_kept (act.Close conn how) h = kept.calls.more (closed_kept how conn (spent h))
   acted_kept (act.Work slot) h = worked_kept before P kept.calls kept.dials slot h
-  acted_kept (act.Job number) h = kept.calls.more (job_kept before P kept.calls kept.dials kept.jobs number h (spent h))
+  acted_kept (act.Job number) h = job_kept before P kept.calls kept.dials kept.jobs number h (spent h)

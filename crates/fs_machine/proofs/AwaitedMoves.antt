@@ -22,29 +22,32 @@ use Rattle.fs_seats.specs.Seats.{held_in, with_held}
 use Rattle.fs_seats.specs.Rows.{row_of, with_new_row}
 use Rattle.fs_state.specs.declared.conn.Conn.{Conn}
 use Rattle.fs_state.specs.declared.conn.Parting.TheVariants as parting
+use Rattle.fs_state.specs.declared.job.Asker.{Asker}
 use Rattle.fs_state.specs.declared.job.JobWork.{JobWork}
 use Rattle.fs_state.specs.declared.job.JobWork.TheVariants.{Sleep, Originate}
-use Rattle.fs_state.specs.Switch.{Switch, chan_at, without_orig, next_orig_number, next_job_number, with_new_job, without_job}
+use Rattle.fs_state.specs.Switch.{Switch, chan_at, without_orig, next_orig_number}
 use Rattle.fs_state.specs.Moves.{after_move}
 use Rattle.fs_state.proofs.LegTables.{Origs}
 use Rattle.fs_machine.specs.declared.call.Call.{Call}
 use Rattle.fs_machine.specs.Texts.{made_text, failed_text}
-use Rattle.fs_machine.specs.Connections.{conn_changed, admitted, parted, owed_since, not_owed, with_subs_changed}
+use Rattle.fs_machine.specs.Connections.{conn_changed, admitted, parted, with_subs_changed}
 use Rattle.fs_machine.specs.Originations.{seconds, pair_made, MadeGroup, group_made, won_by, after_winning}
 use Rattle.fs_machine.specs.Attempts.{first_group, orig_begun, originate_begun, with_group}
 use Rattle.fs_machine.specs.Bridging.{caller_of, group_dialed}
 use Rattle.fs_machine.specs.Dialing.{tried_by_slot}
-use Rattle.fs_machine.specs.Owing.{after_job_begin, after_job_end}
+use Rattle.fs_machine.specs.declared.owing.Giver.{Giver}
+use Rattle.fs_machine.specs.declared.owing.Giver.TheVariants as giver
+use Rattle.fs_machine.specs.Owing.{job_number, after_job_begin, background_begun, after_job_end}
 use Rattle.fs_chan.specs.Moments.{moment_after}
 use Rattle.fs_machine.proofs.Kept.{Stage, hold_in, Fact, KeptByTouches, KeptByCalls, KeptByBirths, DoesJob, raced, KeptByJobs, KeptByDials}
-use Rattle.fs_machine.proofs.Kept.{apart_by, KeptByCommands, KeptByMoves}
+use Rattle.fs_machine.proofs.Kept.{apart_by, goes_on_by, KeptByApi, KeptByCommands, KeptByMoves}
 use Rattle.fs_machine.proofs.JoinLemmas.{both_left_kept}
 use Rattle.fs_machine.proofs.StayLemmas.{moved_there}
 use Rattle.fs_machine.proofs.NameLemmas.{leg_chan, far_chan, pair_channels}
-use Rattle.fs_machine.proofs.FrontLemmas.{conn_unread}
 use Rattle.fs_machine.proofs.Walk.{group_made_kept}
 use Rattle.fs_machine.proofs.LegLemmas.{Channels, Roles, roles_of, LegsStand}
 use Rattle.fs_machine.proofs.LegBirths.{pair_roles, pair_spares}
+use Rattle.fs_machine.proofs.LegMoves.{conn_roles, begun_roles, background_roles, ended_roles}
 use Rattle.fs_machine.proofs.OwnerLemmas.{KeepsOwner}
 use Rattle.fs_machine.proofs.BondTables.{Bonds, NoSlot, Stood, stood}
 use Rattle.fs_machine.proofs.JoinableLemmas.{winner_joins}
@@ -175,13 +178,13 @@ roles_await : (s t : Switch) → roles_of t ≡ roles_of s → Awaits s → Awai
 roles_await s t same h = subst (λ (r : Roles). Await NoSlot r.channels r.origs) (sym same) h
 
 conn_await : (change : Conn → Conn) (conn : ℕ) (s : Switch) → Awaits s → Awaits (conn_changed change conn s)
-conn_await change conn s h = roles_await s (conn_changed change conn s) (conn_unread roles_of (λ conns t. refl) change conn s) h
+conn_await change conn s h = roles_await s (conn_changed change conn s) (conn_roles change conn s) h
 
-ended_await : (number conn : ℕ) (answer : Text) (s : Switch) → Awaits s → Awaits (after_job_end number conn answer s)
-ended_await number conn answer s h = conn_await not_owed conn (without_job number s) h
+ended_await : (number : ℕ) (who : Asker) (answer : Text) (s : Switch) → Awaits s → Awaits (after_job_end number who answer s)
+ended_await number who answer s h = roles_await s (after_job_end number who answer s) (ended_roles number who answer s) h
 
-owing_await : (conn : ℕ) (what : JobWork) (s : Switch) → Awaits s → Awaits (after_job_begin conn what s)
-owing_await conn what s h = conn_await (owed_since s.entries) conn (with_new_job (record { conn = conn; work = what }) s) h
+owing_await : (by : Giver) (what : JobWork) (s : Switch) → Awaits s → Awaits (after_job_begin by what s)
+owing_await by what s h = roles_await s (after_job_begin by what s) (begun_roles by what s) h
 
 -- an origination goes that no slot owns
 unowned_await : (orig : ℕ) (s : Switch) → ((slot : ℕ) → HasOwner s.origs orig slot → ⊥) → Awaits s → Awaits (without_orig orig s)
@@ -203,8 +206,8 @@ winning_origs winner slot s = moved_there (λ (t : Switch). t.origs ≡ s.origs)
 
 module _ (before : Switch) (stand : LegsStand (roles_of before)) (left : has_number_left before.bridges ≡ true) (Q : Fact)
     (kept : KeptByMoves before Q) (bonds : (b : Stage) (t : Switch) → Q b t → Bonds t)
-    (jobs_own : (t : Switch) → Q (Some 0) t → (job conn orig : ℕ) (winner : Winner) (caller : Caller) →
-    DoesJob t job conn (Originate orig winner caller) → (slot : ℕ) → HasOwner t.origs orig slot → ⊥)
+    (jobs_own : (t : Switch) → Q (Some 0) t → (job : ℕ) (who : Asker) (orig : ℕ) (winner : Winner) (caller : Caller) →
+    DoesJob t job who (Originate orig winner caller) → (slot : ℕ) → HasOwner t.origs orig slot → ⊥)
     (fresh : (t : Switch) → Q None t → row_of t.origs (next_orig_number t) ≡ None)
     (room : (t : Switch) → Q None t → (slot : ℕ) (c : Chan) → chan_at t slot ≡ Some c → awaited_by c ≡ None → (new : Orig) →
     row_of (with_new_row t.origs (next_orig_number t) new) (next_orig_number t) ≡ Some new) where
@@ -243,27 +246,58 @@ module _ (before : Switch) (stand : LegsStand (roles_of before)) (left : has_num
     gone = λ slot old {s = s} there dead early h. (kept.calls.gone slot old there dead early.0 h.0, left_await NoSlot s.channels s.origs slot h.1);
   }
 
-  -- ---- jobs
+  -- ---- what begins and ends jobs
+
+  originated_await : (by : Giver) (groups : List (List LegPlan)) (winner : Winner) (caller : Caller) (timeout : Option ℕ) (s : Switch) →
+      Waiting None s → Awaits (originate_begun by groups winner caller timeout s)
+  originated_await by groups winner caller timeout s h =
+      let number : ℕ = next_orig_number s in
+      let made : MadeGroup = group_made (first_group groups) caller number s in
+      let t : Switch = made.state in
+      let born : Born s 0 (chan_at s 0) t = group_born (first_group groups) caller number 0 s h.1 in
+      let new : Orig = new_orig (owner.Job (job_number by t)) groups made.legs (moment_after t.moment (seconds (unwrap_or timeout 60))) in
+      let none : row_of t.origs (next_orig_number t) ≡ None =
+      ap (row_of t.origs) (born_number s t born.drawn) ∙ ap (λ (origs : Origs). row_of origs number) born.origs ∙ fresh s h.0 in
+      owing_await by (Originate number winner caller)
+      (orig_begun (owner.Job (job_number by t)) groups made.legs (unwrap_or timeout 60) t)
+      (rows_await NoSlot t.channels t.origs (with_new_row t.origs (next_orig_number t) new) (stay_new t.origs (next_orig_number t) new none)
+      born.awaits)
+
+  api_wait : (by : Giver) → KeptByApi by Q → KeptByApi by Waiting
+  api_wait by q = record {
+    spent = λ h. (q.spent h.0, h.1);
+    draws = λ h. (q.draws h.0, h.1);
+    sleeps = λ until {s = s} may free h. (
+      q.sleeps until (goes_on_by Waiting Q by s may (λ t k. k.0)) free h.0,
+      owing_await by (Sleep until) s h.1,
+    );
+    originates = λ groups winner caller timeout {s = s} may are short free h. (
+      q.originates groups winner caller timeout (goes_on_by Waiting Q by s may (λ t k. k.0)) are short free h.0,
+      originated_await by groups winner caller timeout s h,
+    );
+  }
 
   jobs_wait : KeptByJobs before Waiting
   jobs_wait = record {
-    woken = λ number conn until answer {s = s} does h. (
-      kept.jobs.woken number conn until answer does h.0,
-      ended_await number conn answer s h.1,
+    out = λ number job does h. (kept.jobs.out number job does h.0, h.1);
+    runs = λ number job. api_wait (giver.Job number job) (kept.jobs.runs number job);
+    woken = λ number who until answer {s = s} does h. (
+      kept.jobs.woken number who until answer does h.0,
+      ended_await number who answer s h.1,
     );
-    failed = λ job conn winner caller orig cause {s = s} does over h. (
-      kept.jobs.failed job conn winner caller orig cause does over h.0,
-      ended_await job conn (failed_text cause) (without_orig orig s)
-          (unowned_await orig s (jobs_own s h.0 job conn orig winner caller does) h.1),
+    failed = λ job who winner caller orig cause {s = s} does over h. (
+      kept.jobs.failed job who winner caller orig cause does over h.0,
+      ended_await job who (failed_text cause) (without_orig orig s)
+          (unowned_await orig s (jobs_own s h.0 job who orig winner caller does) h.1),
     );
-    wins = λ job conn winner caller orig leg slots does won h.
+    wins = λ job who winner caller orig leg slots does won h.
         let s : Switch = raced slots before in
         let at : ℕ = unwrap_or leg.slot 0 in
         let t : Switch = after_winning winner at s in (
-          kept.jobs.wins job conn winner caller orig leg slots does won h.0,
-          ended_await job conn (made_text leg.uuid) (without_orig orig t)
+          kept.jobs.wins job who winner caller orig leg slots does won h.0,
+          ended_await job who (made_text leg.uuid) (without_orig orig t)
               (unowned_await orig t
-              (λ slot owned. jobs_own s h.0 job conn orig winner caller does slot
+              (λ slot owned. jobs_own s h.0 job who orig winner caller does slot
               (subst (λ (origs : Origs). HasOwner origs orig slot) (winning_origs winner at s) owned)) (winning_await winner at s h.1)),
         );
   }
@@ -308,35 +342,17 @@ module _ (before : Switch) (stand : LegsStand (roles_of before)) (left : has_num
 
   -- ---- commands
 
-  originated_await : (conn : ℕ) (groups : List (List LegPlan)) (winner : Winner) (caller : Caller) (timeout : Option ℕ) (s : Switch) →
-      Waiting None s → Awaits (originate_begun conn groups winner caller timeout s)
-  originated_await conn groups winner caller timeout s h =
-      let number : ℕ = next_orig_number s in
-      let made : MadeGroup = group_made (first_group groups) caller number s in
-      let t : Switch = made.state in
-      let born : Born s 0 (chan_at s 0) t = group_born (first_group groups) caller number 0 s h.1 in
-      let new : Orig =
-      new_orig (owner.Job (next_job_number t)) groups made.legs (moment_after t.moment (seconds (unwrap_or timeout 60))) in
-      let none : row_of t.origs (next_orig_number t) ≡ None =
-      ap (row_of t.origs) (born_number s t born.drawn) ∙ ap (λ (origs : Origs). row_of origs number) born.origs ∙ fresh s h.0 in
-      owing_await conn (Originate number winner caller)
-      (orig_begun (owner.Job (next_job_number t)) groups made.legs (unwrap_or timeout 60) t)
-      (rows_await NoSlot t.channels t.origs (with_new_row t.origs (next_orig_number t) new) (stay_new t.origs (next_orig_number t) new none)
-      born.awaits)
-
   commands_wait : (conn : ℕ) → KeptByCommands conn Waiting
   commands_wait conn = record {
-    spent = λ h. ((kept.commands conn).spent h.0, h.1);
-    draws = λ h. ((kept.commands conn).draws h.0, h.1);
+    api = api_wait (giver.Conn conn) (kept.commands conn).api;
     noticed = λ frame h. ((kept.commands conn).noticed frame h.0, h.1);
     gave = λ frame h. ((kept.commands conn).gave frame h.0, h.1);
     asked = λ change {s = s} h. ((kept.commands conn).asked change h.0, conn_await (with_subs_changed change) conn s h.1);
     admitted = λ {s = s} new h. ((kept.commands conn).admitted new h.0, conn_await admitted conn s h.1);
     parted = λ why {s = s} leaves h. ((kept.commands conn).parted why leaves h.0, conn_await (parted why) conn s h.1);
-    sleeps = λ until {s = s} free h. ((kept.commands conn).sleeps until free h.0, owing_await conn (Sleep until) s h.1);
-    originates = λ groups winner caller timeout {s = s} are short free h. (
-      (kept.commands conn).originates groups winner caller timeout are short free h.0,
-      originated_await conn groups winner caller timeout s h,
+    backgrounds = λ given command {s = s} free h. (
+      (kept.commands conn).backgrounds given command free h.0,
+      roles_await s (background_begun given command s) (background_roles given command s) h.1,
     );
   }
 

@@ -28,25 +28,27 @@ use Rattle.fs_seats.specs.Rows.{row_of, without_row, with_new_row}
 use Rattle.fs_seats.proofs.TableLemmas.{kept_without}
 use Rattle.fs_state.specs.declared.conn.Conn.{Conn}
 use Rattle.fs_state.specs.declared.conn.Parting.TheVariants as parting
+use Rattle.fs_state.specs.declared.job.Asker.{Asker}
 use Rattle.fs_state.specs.declared.job.JobWork.{JobWork}
 use Rattle.fs_state.specs.declared.job.JobWork.TheVariants.{Sleep, Originate}
-use Rattle.fs_state.specs.Switch.{Switch, chan_at, with_chan, with_bridge, next_orig_number, next_job_number, without_orig, with_new_job}
-use Rattle.fs_state.specs.Switch.{without_job, is_full_of_jobs}
+use Rattle.fs_state.specs.Switch.{Switch, chan_at, with_chan, with_bridge, next_orig_number, without_orig, is_full_of_jobs}
 use Rattle.fs_state.specs.Moves.{after_move_from, after_move}
 use Rattle.fs_state.specs.Hangups.{lives_at}
 use Rattle.fs_state.specs.Bridging.{peer_of, with_peer_from, with_peer, joined_as}
 use Rattle.fs_state.proofs.LegTables.{berthed}
 use Rattle.fs_machine.specs.Texts.{made_text, failed_text}
-use Rattle.fs_machine.specs.Connections.{conn_changed, admitted, parted, owed_since, not_owed, with_subs_changed}
+use Rattle.fs_machine.specs.Connections.{conn_changed, admitted, parted, with_subs_changed}
 use Rattle.fs_machine.specs.Originations.{seconds, MadeGroup, group_made, won_by, after_winning}
 use Rattle.fs_machine.specs.Attempts.{first_group, orig_begun, originate_begun, awaits}
 use Rattle.fs_machine.specs.Bridging.{caller_of, group_dialed, goes_on, after_going_on, disposed, bridge_failed_from, after_bridge_failure}
 use Rattle.fs_machine.specs.Bridging.{after_bridge_win}
 use Rattle.fs_machine.specs.Dialing.{tried_by_slot}
-use Rattle.fs_machine.specs.Owing.{after_job_begin, after_job_end}
+use Rattle.fs_machine.specs.declared.owing.Giver.{Giver}
+use Rattle.fs_machine.specs.declared.owing.Giver.TheVariants as giver
+use Rattle.fs_machine.specs.Owing.{job_number, after_job_begin, background_begun, after_job_end}
 use Rattle.fs_machine.specs.Sound.{IsLegIn}
 use Rattle.fs_machine.proofs.Kept.{Stage, Fact, Links, KeptByTouches, KeptByCalls, raced, HasWon, IsOver, KeptByJobs, KeptByDials}
-use Rattle.fs_machine.proofs.Kept.{apart_by, KeptByCommands, KeptByMoves}
+use Rattle.fs_machine.proofs.Kept.{apart_by, goes_on_by, KeptByApi, KeptByCommands, KeptByMoves}
 use Rattle.fs_machine.proofs.StayLemmas.{state_told_kept, moved_there, changed_there}
 use Rattle.fs_machine.proofs.CameLemmas.{CameFrom, came_self, came_hung}
 use Rattle.fs_machine.proofs.ClosureLemmas.{NoneAtZero}
@@ -55,7 +57,7 @@ use Rattle.fs_machine.proofs.WonLemmas.{joinable_won_kept}
 use Rattle.fs_machine.proofs.JoinableLemmas.{winner_joins}
 use Rattle.fs_machine.proofs.LegLemmas.{roles_of, Roles, IsLegOf, LegsStand, put_legs, without_legs}
 use Rattle.fs_machine.proofs.LegHangups.{winning_leg}
-use Rattle.fs_machine.proofs.LegMoves.{conn_roles, won_roles}
+use Rattle.fs_machine.proofs.LegMoves.{conn_roles, begun_roles, background_roles, ended_roles, won_roles}
 use Rattle.fs_machine.proofs.PartnerMoves.{zero_put, not_zero}
 use Rattle.fs_machine.proofs.BondTables.{Bonds, Bonding, NoSlot}
 use Rattle.fs_machine.proofs.BondMoves.{bonds_touches}
@@ -157,11 +159,11 @@ roles_berthed s t same h = subst (BerthedBut NoSlot) (sym same) h
 conn_berthed : (change : Conn → Conn) (conn : ℕ) (s : Switch) → Berthed s → Berthed (conn_changed change conn s)
 conn_berthed change conn s h = roles_berthed s (conn_changed change conn s) (conn_roles change conn s) h
 
-ended_berthed : (number conn : ℕ) (answer : Text) (s : Switch) → Berthed s → Berthed (after_job_end number conn answer s)
-ended_berthed number conn answer s h = conn_berthed not_owed conn (without_job number s) h
+ended_berthed : (number : ℕ) (who : Asker) (answer : Text) (s : Switch) → Berthed s → Berthed (after_job_end number who answer s)
+ended_berthed number who answer s h = roles_berthed s (after_job_end number who answer s) (ended_roles number who answer s) h
 
-begun_by_job : (conn : ℕ) (what : JobWork) (s : Switch) → Berthed s → Berthed (after_job_begin conn what s)
-begun_by_job conn what s h = conn_berthed (owed_since s.entries) conn (with_new_job (record { conn = conn; work = what }) s) h
+begun_by_job : (by : Giver) (what : JobWork) (s : Switch) → Berthed s → Berthed (after_job_begin by what s)
+begun_by_job by what s h = roles_berthed s (after_job_begin by what s) (begun_roles by what s) h
 
 won_lone : (winner : Winner) (c : Chan) → (won_by winner c).leg_of ≡ None
 won_lone (App application argument) c = refl
@@ -291,20 +293,48 @@ module _ (before : Switch) (stand : LegsStand (roles_of before)) (left : has_num
     );
   }
 
+  -- ---- what begins and ends jobs
+
+  originated_berthed : (who : Giver) (groups : List (List LegPlan)) (winner : Winner) (caller : Caller) (timeout : Option ℕ) (s : Switch) →
+      is_full_of_jobs s ≡ false → Berthing None s → Berthed (originate_begun who groups winner caller timeout s)
+  originated_berthed who groups winner caller timeout s free h =
+      let number : ℕ = next_orig_number s in
+      let made : MadeGroup = group_made (first_group groups) caller number s in
+      let by : Owner = owner.Job (job_number who made.state) in
+      let new : Orig = new_orig by groups made.legs (moment_after made.state.moment (seconds (unwrap_or timeout 60))) in
+      begun_by_job who (Originate number winner caller) (orig_begun by groups made.legs (unwrap_or timeout 60) made.state)
+      (begun_berthed (first_group groups) caller s new refl (room_for_job s h.0 free new) h.1)
+
+  berthing_api : (by : Giver) → KeptByApi by Q → KeptByApi by Berthing
+  berthing_api by q = record {
+    spent = λ h. (q.spent h.0, h.1);
+    draws = λ h. (q.draws h.0, h.1);
+    sleeps = λ until {s = s} may free h. (
+      q.sleeps until (goes_on_by Berthing Q by s may (λ t k. k.0)) free h.0,
+      begun_by_job by (Sleep until) s h.1,
+    );
+    originates = λ groups winner caller timeout {s = s} may are short free h. (
+      q.originates groups winner caller timeout (goes_on_by Berthing Q by s may (λ t k. k.0)) are short free h.0,
+      originated_berthed by groups winner caller timeout s free h,
+    );
+  }
+
   berthing_jobs : KeptByJobs before Berthing
   berthing_jobs = record {
-    woken = λ number conn until answer {s = s} does h. (
-      kept.jobs.woken number conn until answer does h.0,
-      ended_berthed number conn answer s h.1,
+    out = λ number job does h. (kept.jobs.out number job does h.0, h.1);
+    runs = λ number job. berthing_api (giver.Job number job) (kept.jobs.runs number job);
+    woken = λ number who until answer {s = s} does h. (
+      kept.jobs.woken number who until answer does h.0,
+      ended_berthed number who answer s h.1,
     );
-    failed = λ job conn winner caller orig cause {s = s} does over h. (
-      kept.jobs.failed job conn winner caller orig cause does over h.0,
-      ended_berthed job conn (failed_text cause) (without_orig orig s) (over_berthed s orig (bonds (Some 0) s h.0) over h.1),
+    failed = λ job who winner caller orig cause {s = s} does over h. (
+      kept.jobs.failed job who winner caller orig cause does over h.0,
+      ended_berthed job who (failed_text cause) (without_orig orig s) (over_berthed s orig (bonds (Some 0) s h.0) over h.1),
     );
-    wins = λ job conn winner caller orig leg slots does won h.
+    wins = λ job who winner caller orig leg slots does won h.
         let s : Switch = raced slots before in (
-          kept.jobs.wins job conn winner caller orig leg slots does won h.0,
-          ended_berthed job conn (made_text leg.uuid) (without_orig orig (after_winning winner (unwrap_or leg.slot 0) s))
+          kept.jobs.wins job who winner caller orig leg slots does won h.0,
+          ended_berthed job who (made_text leg.uuid) (without_orig orig (after_winning winner (unwrap_or leg.slot 0) s))
               (winning_berthed winner orig leg slots won (bonds (Some 0) s h.0) h.1),
         );
   }
@@ -349,29 +379,17 @@ module _ (before : Switch) (stand : LegsStand (roles_of before)) (left : has_num
 
   -- ---- commands
 
-  originated_berthed : (conn : ℕ) (groups : List (List LegPlan)) (winner : Winner) (caller : Caller) (timeout : Option ℕ) (s : Switch) →
-      is_full_of_jobs s ≡ false → Berthing None s → Berthed (originate_begun conn groups winner caller timeout s)
-  originated_berthed conn groups winner caller timeout s free h =
-      let number : ℕ = next_orig_number s in
-      let made : MadeGroup = group_made (first_group groups) caller number s in
-      let by : Owner = owner.Job (next_job_number made.state) in
-      let new : Orig = new_orig by groups made.legs (moment_after made.state.moment (seconds (unwrap_or timeout 60))) in
-      begun_by_job conn (Originate number winner caller) (orig_begun by groups made.legs (unwrap_or timeout 60) made.state)
-      (begun_berthed (first_group groups) caller s new refl (room_for_job s h.0 free new) h.1)
-
   berthing_commands : (conn : ℕ) → KeptByCommands conn Berthing
   berthing_commands conn = record {
-    spent = λ h. ((kept.commands conn).spent h.0, h.1);
-    draws = λ h. ((kept.commands conn).draws h.0, h.1);
+    api = berthing_api (giver.Conn conn) (kept.commands conn).api;
     noticed = λ frame h. ((kept.commands conn).noticed frame h.0, h.1);
     gave = λ frame h. ((kept.commands conn).gave frame h.0, h.1);
     asked = λ change {s = s} h. ((kept.commands conn).asked change h.0, conn_berthed (with_subs_changed change) conn s h.1);
     admitted = λ {s = s} fresh h. ((kept.commands conn).admitted fresh h.0, conn_berthed admitted conn s h.1);
     parted = λ why {s = s} leaves h. ((kept.commands conn).parted why leaves h.0, conn_berthed (parted why) conn s h.1);
-    sleeps = λ until {s = s} free h. ((kept.commands conn).sleeps until free h.0, begun_by_job conn (Sleep until) s h.1);
-    originates = λ groups winner caller timeout {s = s} are short free h. (
-      (kept.commands conn).originates groups winner caller timeout are short free h.0,
-      originated_berthed conn groups winner caller timeout s free h,
+    backgrounds = λ given command {s = s} free h. (
+      (kept.commands conn).backgrounds given command free h.0,
+      roles_berthed s (background_begun given command s) (background_roles given command s) h.1,
     );
   }
 

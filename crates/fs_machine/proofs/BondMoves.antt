@@ -435,6 +435,6 @@ bonds_dials before = record {
 pub bonds_moves : (before : Switch) → LegsStand (roles_of before) → KeptByMoves before Bonding
 bonds_moves before stand =
     moves_by_front before Bonding bonds_same bonds_calls bonds_births (bonds_dials before)
-    (λ job conn winner caller orig leg slots does won h.
+    (λ job who winner caller orig leg slots does won h.
     won_bonds winner (unwrap_or leg.slot 0) (raced slots before) (winner_peerless before orig leg slots stand won h) h)
     (λ s h. as_bonds s (with_next_identifier s) refl refl h)

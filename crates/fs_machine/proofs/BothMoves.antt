@@ -1,7 +1,10 @@
 -- Two facts that each bear every move do so together.
 use Rattle.std.proofs.Common.{ℕ}
 use Rattle.fs_state.specs.Switch.{Switch}
-use Rattle.fs_machine.proofs.Kept.{apart_by, Fact, KeptByTouches, KeptByCalls, KeptByJobs, KeptByDials, KeptByCommands, KeptByVisits, KeptByMoves}
+use Rattle.fs_machine.specs.declared.owing.Giver.{Giver}
+use Rattle.fs_machine.specs.declared.owing.Giver.TheVariants as giver
+use Rattle.fs_machine.proofs.Kept.{apart_by, goes_on_by, Fact, KeptByTouches, KeptByCalls, KeptByApi, KeptByJobs, KeptByDials}
+use Rattle.fs_machine.proofs.Kept.{KeptByCommands, KeptByVisits, KeptByMoves}
 
 abbrev pub Both : Fact → Fact → Fact
 Both P Q b s = P b s × Q b s
@@ -32,14 +35,30 @@ module _ (P Q : Fact) where
     gone = λ slot old there dead early h. (p.gone slot old there dead early.0 h.0, q.gone slot old there dead early.1 h.1);
   }
 
+  both_api : (by : Giver) → KeptByApi by P → KeptByApi by Q → KeptByApi by (Both P Q)
+  both_api by p q = record {
+    spent = λ h. (p.spent h.0, q.spent h.1);
+    draws = λ h. (p.draws h.0, q.draws h.1);
+    sleeps = λ until {s = s} may room h. (
+      p.sleeps until (goes_on_by (Both P Q) P by s may (λ t k. k.0)) room h.0,
+      q.sleeps until (goes_on_by (Both P Q) Q by s may (λ t k. k.1)) room h.1,
+    );
+    originates = λ groups winner caller timeout {s = s} may are short room h. (
+      p.originates groups winner caller timeout (goes_on_by (Both P Q) P by s may (λ t k. k.0)) are short room h.0,
+      q.originates groups winner caller timeout (goes_on_by (Both P Q) Q by s may (λ t k. k.1)) are short room h.1,
+    );
+  }
+
   module _ (before : Switch) where
     both_jobs : KeptByJobs before P → KeptByJobs before Q → KeptByJobs before (Both P Q)
     both_jobs p q = record {
-      woken = λ number conn until answer does h. (p.woken number conn until answer does h.0, q.woken number conn until answer does h.1);
-      failed = λ job conn winner caller orig cause does over h.
-          (p.failed job conn winner caller orig cause does over h.0, q.failed job conn winner caller orig cause does over h.1);
-      wins = λ job conn winner caller orig leg slots does won h.
-          (p.wins job conn winner caller orig leg slots does won h.0, q.wins job conn winner caller orig leg slots does won h.1);
+      out = λ number job does h. (p.out number job does h.0, q.out number job does h.1);
+      runs = λ number job. both_api (giver.Job number job) (p.runs number job) (q.runs number job);
+      woken = λ number who until answer does h. (p.woken number who until answer does h.0, q.woken number who until answer does h.1);
+      failed = λ job who winner caller orig cause does over h.
+          (p.failed job who winner caller orig cause does over h.0, q.failed job who winner caller orig cause does over h.1);
+      wins = λ job who winner caller orig leg slots does won h.
+          (p.wins job who winner caller orig leg slots does won h.0, q.wins job who winner caller orig leg slots does won h.1);
     }
 
     both_dials : KeptByDials before P → KeptByDials before Q → KeptByDials before (Both P Q)
@@ -55,16 +74,13 @@ module _ (P Q : Fact) where
 
   both_commands : (conn : ℕ) → KeptByCommands conn P → KeptByCommands conn Q → KeptByCommands conn (Both P Q)
   both_commands conn p q = record {
-    spent = λ h. (p.spent h.0, q.spent h.1);
-    draws = λ h. (p.draws h.0, q.draws h.1);
+    api = both_api (giver.Conn conn) p.api q.api;
     noticed = λ frame h. (p.noticed frame h.0, q.noticed frame h.1);
     gave = λ frame h. (p.gave frame h.0, q.gave frame h.1);
     asked = λ change h. (p.asked change h.0, q.asked change h.1);
     admitted = λ fresh h. (p.admitted fresh h.0, q.admitted fresh h.1);
     parted = λ why leaves h. (p.parted why leaves h.0, q.parted why leaves h.1);
-    sleeps = λ until room h. (p.sleeps until room h.0, q.sleeps until room h.1);
-    originates = λ groups winner caller timeout are short room h.
-        (p.originates groups winner caller timeout are short room h.0, q.originates groups winner caller timeout are short room h.1);
+    backgrounds = λ given command room h. (p.backgrounds given command room h.0, q.backgrounds given command room h.1);
   }
 
   both_visits : KeptByVisits P → KeptByVisits Q → KeptByVisits (Both P Q)

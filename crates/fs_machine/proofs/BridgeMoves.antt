@@ -117,5 +117,5 @@ module _ (past : List Event) where
       births_tell
       (dials_by_remains before (Telling past) front_tells remains_tell births_tell
       (λ slot u lively h. moved_tells past (λ number. 0) in_media slot u h))
-      (λ job conn winner caller orig leg slots does won h. won_tells winner (unwrap_or leg.slot 0) (raced slots before) h)
+      (λ job who winner caller orig leg slots does won h. won_tells winner (unwrap_or leg.slot 0) (raced slots before) h)
       (λ s h. same_tells past (λ number. 0) s (with_next_identifier s) refl h)

@@ -29,9 +29,11 @@ use Rattle.fs_seats.specs.Rows.{seat_of, row_of}
 use Rattle.fs_seats.proofs.RowLemmas.{each_put_at}
 use Rattle.fs_state.specs.declared.conn.Conn.{Conn}
 use Rattle.fs_state.specs.declared.conn.Parting.TheVariants as parting
+use Rattle.fs_state.specs.declared.job.Asker.{Asker}
+use Rattle.fs_state.specs.declared.job.Asker.TheVariants as asker
 use Rattle.fs_state.specs.declared.job.JobWork.{JobWork}
 use Rattle.fs_state.specs.declared.job.JobWork.TheVariants.{Sleep, Originate}
-use Rattle.fs_state.specs.Switch.{Switch, chan_at, orig_of, next_orig_number, next_job_number, with_new_job, without_job}
+use Rattle.fs_state.specs.Switch.{Switch, chan_at, orig_of, next_orig_number, with_new_job, without_job}
 use Rattle.fs_state.specs.Switch.{without_orig, with_bridge}
 use Rattle.fs_state.specs.Moves.{orig_changed_from, orig_changed, leg_changed_at, leg_changed, after_move, orig_given_up}
 use Rattle.fs_state.proofs.LegTables.{Origs, row_there, set_here, set_there}
@@ -42,8 +44,11 @@ use Rattle.fs_machine.specs.Originations.{set_all, no_variables, own_uuid, call_
 use Rattle.fs_machine.specs.Originations.{made_in, free_pair, loopback_made, made_with, made_of, leg_made, MadeGroup, group_made, won_by}
 use Rattle.fs_machine.specs.Originations.{after_winning, leg_end}
 use Rattle.fs_machine.specs.Attempts.{first_group, orig_begun, originate_begun, with_group}
-use Rattle.fs_machine.specs.Owing.{after_job_begin, after_job_end}
-use Rattle.fs_machine.proofs.Kept.{Fact, KeptByBirths, raced, AreGroups, KeptByMoves, KeptByTouches, KeptByJobs, KeptByDials, ArePlans}
+use Rattle.fs_machine.specs.declared.owing.Giver.{Giver}
+use Rattle.fs_machine.specs.declared.owing.Giver.TheVariants as giver
+use Rattle.fs_machine.specs.Owing.{job_number, after_job_begin, background_begun, after_job_end}
+use Rattle.fs_machine.proofs.Kept.{Fact, KeptByBirths, raced, AreGroups, KeptByMoves, KeptByTouches, KeptByApi, KeptByJobs, KeptByDials}
+use Rattle.fs_machine.proofs.Kept.{ArePlans}
 use Rattle.fs_machine.proofs.Walk.{group_made_kept, behind_filled, disposed_kept}
 use Rattle.fs_machine.proofs.FrontLemmas.{conn_unread}
 use Rattle.std.specs.Option.{option_and_then}
@@ -305,11 +310,19 @@ first_filled groups are = by (slice_get groups 0) refl are.some
 conn_told : (change : Conn → Conn) (conn : ℕ) (s : Switch) → AllTold s.origs → AllTold (conn_changed change conn s).origs
 conn_told change conn s h = subst AllTold (sym (conn_unread (λ (t : Switch). t.origs) (λ conns t. refl) change conn s)) h
 
-owing_told : (conn : ℕ) (what : JobWork) (s : Switch) → AllTold s.origs → AllTold (after_job_begin conn what s).origs
-owing_told conn what s h = conn_told (owed_since s.entries) conn (with_new_job (record { conn = conn; work = what }) s) h
+owing_told : (by : Giver) (what : JobWork) (s : Switch) → AllTold s.origs → AllTold (after_job_begin by what s).origs
+owing_told (giver.Conn conn) what s h =
+    conn_told (owed_since s.entries) conn (with_new_job (record { asker = asker.Conn conn; work = what }) s) h
+owing_told (giver.Job number job) what s h = h
 
-ended_told : (number conn : ℕ) (answer : Text) (s : Switch) → AllTold s.origs → AllTold (after_job_end number conn answer s).origs
-ended_told number conn answer s h = conn_told not_owed conn (without_job number s) h
+background_told : (given : Option Text) (command : Text) (s : Switch) → AllTold s.origs → AllTold (background_begun given command s).origs
+background_told None command s h = h
+background_told (Some uuid) command s h = h
+
+ended_told : (number : ℕ) (who : Asker) (answer : Text) (s : Switch) → AllTold s.origs →
+    AllTold (after_job_end number who answer s).origs
+ended_told number (asker.Conn conn) answer s h = conn_told not_owed conn (without_job number s) h
+ended_told number (asker.Background job) answer s h = h
 
 won_told : (winner : Winner) (slot : ℕ) (s : Switch) → AllTold s.origs → AllTold (after_winning winner slot s).origs
 unfolding after_winning
@@ -334,14 +347,14 @@ begun_told by groups plans caller timeout s are some h =
       filled = are.filled;
     })
 
-originates_told : (conn : ℕ) (groups : List (List LegPlan)) (winner : Winner) (caller : Caller) (timeout : Option ℕ) (s : Switch) →
-    AreGroups groups → AllTold s.origs → AllTold (originate_begun conn groups winner caller timeout s).origs
-originates_told conn groups winner caller timeout s are h =
+originates_told : (by : Giver) (groups : List (List LegPlan)) (winner : Winner) (caller : Caller) (timeout : Option ℕ) (s : Switch) →
+    AreGroups groups → AllTold s.origs → AllTold (originate_begun by groups winner caller timeout s).origs
+originates_told by groups winner caller timeout s are h =
     let plans : List LegPlan = first_group groups in
     let made : MadeGroup = group_made plans caller (next_orig_number s) s in
-    owing_told conn (Originate (next_orig_number s) winner caller)
-    (orig_begun (owner.Job (next_job_number made.state)) groups made.legs (unwrap_or timeout 60) made.state)
-    (begun_told (owner.Job (next_job_number made.state)) groups plans caller (unwrap_or timeout 60) s are (first_filled groups are) h)
+    owing_told by (Originate (next_orig_number s) winner caller)
+    (orig_begun (owner.Job (job_number by made.state)) groups made.legs (unwrap_or timeout 60) made.state)
+    (begun_told (owner.Job (job_number by made.state)) groups plans caller (unwrap_or timeout 60) s are (first_filled groups are) h)
 
 -- a channel dials them, each with what it exports
 dials_told : (slot : ℕ) (c : Chan) (groups : List (List LegPlan)) (timeout : ℕ) (s : Switch) → AreGroups groups → AllTold s.origs →
@@ -377,14 +390,24 @@ regroups_told number o plans caller s there are h =
         }
         by false = told
 
+told_api : (by : Giver) → KeptByApi by Told
+told_api by = record {
+  spent = λ h. h;
+  draws = λ h. h;
+  sleeps = λ until {s = s} may room h. owing_told by (Sleep until) s h;
+  originates = λ groups winner caller timeout {s = s} may are short room h. originates_told by groups winner caller timeout s are h;
+}
+
 told_jobs : (before : Switch) → KeptByJobs before Told
 told_jobs before = record {
-  woken = λ number conn until answer {s = s} does h. ended_told number conn answer s h;
-  failed = λ job conn winner caller orig cause {s = s} does over h.
-      ended_told job conn (failed_text cause) (without_orig orig s) (without_told orig s h);
-  wins = λ job conn winner caller orig leg slots does won h.
+  out = λ number job does h. h;
+  runs = λ number job. told_api (giver.Job number job);
+  woken = λ number who until answer {s = s} does h. ended_told number who answer s h;
+  failed = λ job who winner caller orig cause {s = s} does over h.
+      ended_told job who (failed_text cause) (without_orig orig s) (without_told orig s h);
+  wins = λ job who winner caller orig leg slots does won h.
       let t : Switch = after_winning winner (unwrap_or leg.slot 0) (raced slots before) in
-      ended_told job conn (made_text leg.uuid) (without_orig orig t)
+      ended_told job who (made_text leg.uuid) (without_orig orig t)
       (without_told orig t (won_told winner (unwrap_or leg.slot 0) (raced slots before) h));
 }
 
@@ -413,15 +436,13 @@ told_moves before = record {
   jobs = told_jobs before;
   dials = told_dials before;
   commands = λ conn. record {
-    spent = λ h. h;
-    draws = λ h. h;
+    api = told_api (giver.Conn conn);
     noticed = λ frame h. h;
     gave = λ frame h. h;
     asked = λ change {s = s} h. conn_told (with_subs_changed change) conn s h;
     admitted = λ {s = s} fresh h. conn_told admitted conn s h;
     parted = λ why {s = s} leaves h. conn_told (parted why) conn s h;
-    sleeps = λ until {s = s} room h. owing_told conn (Sleep until) s h;
-    originates = λ groups winner caller timeout {s = s} are short room h. originates_told conn groups winner caller timeout s are h;
+    backgrounds = λ given command {s = s} room h. background_told given command s h;
   };
   visits = record {
     arrived = λ h. h;

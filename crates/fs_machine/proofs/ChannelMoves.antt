@@ -15,6 +15,7 @@ use Rattle.fs_orig.specs.declared.winner.Winner.TheVariants.{App, Route}
 use Rattle.fs_orig.specs.Endpoints.{IsShortAddress}
 use Rattle.fs_seats.specs.Seats.{held_in, with_held}
 use Rattle.fs_seats.proofs.RowLemmas.{each_put}
+use Rattle.fs_state.specs.declared.job.Asker.{Asker}
 use Rattle.fs_state.specs.declared.job.JobWork.TheVariants.{Originate}
 use Rattle.fs_state.specs.Switch.{Switch, chan_at, with_chan, with_next_identifier, identifier_of}
 use Rattle.fs_state.specs.Moves.{after_move_from, after_move, orig_changed}
@@ -131,15 +132,15 @@ won_at_fit winner slot s short live h = by (chan_at s slot) refl
         (won_by winner c).state slot {s = with_chan slot (Some (won_by winner c)) s}
         (put_fit slot (won_by winner c) s (won_by_fit winner c short (live c is) (fit_there s slot c is h)) h)
 
-wins_fit : (job conn : ℕ) (winner : Winner) (caller : Caller) (orig : ℕ) (leg : OrigLeg) (slots : List ℕ) (s : Switch) →
-    DoesJob (raced slots s) job conn (Originate orig winner caller) → Lively (raced slots s) (unwrap_or leg.slot 0) →
+wins_fit : (job : ℕ) (who : Asker) (winner : Winner) (caller : Caller) (orig : ℕ) (leg : OrigLeg) (slots : List ℕ) (s : Switch) →
+    DoesJob (raced slots s) job who (Originate orig winner caller) → Lively (raced slots s) (unwrap_or leg.slot 0) →
     WinnersAreShort s.jobs → AllFit (raced slots s).channels →
     AllFit (after_winning winner (unwrap_or leg.slot 0) (raced slots s)).channels
-wins_fit job conn winner caller orig leg slots s does lively short h =
+wins_fit job who winner caller orig leg slots s does lively short h =
     let t : Switch = raced slots s in
     let named : Members = map (λ slot. (slot, LoseRace)) slots in
     won_at_fit winner (unwrap_or leg.slot 0) t
-    (winner_of_job t job conn orig winner caller does (rest_winners s t (hung_rest named s) short)) lively h
+    (winner_of_job t job who orig winner caller does (rest_winners s t (hung_rest named s) short)) lively h
 
 -- ---- every move
 
@@ -177,6 +178,6 @@ fit_moves before stand winners =
     moves_by_front before Fit fit_same
     (calls_by_remains before Fit fit_same remains_moves births_fit (λ slot u lively h. media_fit slot u lively h)) births_fit
     (dials_by_remains before Fit fit_same remains_moves births_fit (λ slot u lively h. media_fit slot u lively h))
-    (λ job conn winner caller orig leg slots does won h. wins_fit job conn winner caller orig leg slots before does
+    (λ job who winner caller orig leg slots does won h. wins_fit job who winner caller orig leg slots before does
     (winner_lively before orig leg slots won stand) winners h)
     (λ s h. h)

@@ -44,7 +44,7 @@ same_moves s =
     (calls_by_rest (Same s) (λ b t u h same. by_rest t u same ∙ h) (λ t h. h))
     (births_by_rest (Same s) (λ b t u h same. by_rest t u same ∙ h) (λ t h. h))
     (dials_by_rest s (Same s) (λ b t u h same. by_rest t u same ∙ h) (λ t h. h))
-    (λ job conn winner caller orig leg slots does won h.
+    (λ job who winner caller orig leg slots does won h.
     by_rest (raced slots s) (after_winning winner (unwrap_or leg.slot 0) (raced slots s))
     (won_rest winner (unwrap_or leg.slot 0) (raced slots s)) ∙ h)
     (λ t h. h)

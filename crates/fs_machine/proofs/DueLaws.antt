@@ -23,7 +23,7 @@ use Rattle.fs_seats.specs.Least.{lesser}
 use Rattle.fs_seats.proofs.LeastLemmas.{lesser_is, least_held, least_never}
 use Rattle.fs_state.specs.declared.job.Job.{Job}
 use Rattle.fs_state.specs.declared.job.JobWork.{JobWork}
-use Rattle.fs_state.specs.declared.job.JobWork.TheVariants.{Sleep, Originate}
+use Rattle.fs_state.specs.declared.job.JobWork.TheVariants.{Run, Sleep, Originate}
 use Rattle.fs_state.specs.Switch.{Switch, empty, orig_of, job_of, at_moment}
 use Rattle.fs_machine.specs.declared.due.DueActor.{DueActor}
 use Rattle.fs_machine.specs.declared.due.DueActor.TheVariants as actor
@@ -158,6 +158,7 @@ orig_comes now moment (Some o) is =
 
 work_comes : (s : Switch) (now moment : ℕ) (work : JobWork) → work_due (record s { moment = now }) work ≡ Some (At moment) →
     work_due (record s { moment = moment }) work ≡ Some Now
+work_comes s now moment Run is = absurd (cc)
 work_comes s now moment (Sleep until) is = ap Some (has_come_at now until moment (same_Some (due_at now until) (At moment) is))
 work_comes s now moment (Originate orig winner caller) is = orig_comes now moment (orig_of s orig) is
 

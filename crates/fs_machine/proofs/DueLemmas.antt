@@ -12,7 +12,7 @@ use Rattle.fs_seats.specs.Least.{lesser}
 use Rattle.fs_seats.proofs.LeastLemmas.{IsAfter, lesser_after, least_after}
 use Rattle.fs_state.specs.declared.job.Job.{Job}
 use Rattle.fs_state.specs.declared.job.JobWork.{JobWork}
-use Rattle.fs_state.specs.declared.job.JobWork.TheVariants.{Sleep, Originate}
+use Rattle.fs_state.specs.declared.job.JobWork.TheVariants.{Run, Sleep, Originate}
 use Rattle.fs_state.specs.Switch.{Switch, orig_of, at_moment}
 use Rattle.fs_machine.specs.declared.due.DueActor.TheVariants as actor
 use Rattle.fs_machine.specs.Due.{orig_due, due_by, work_due, later_of, chan_moment, row_moment, due_slot, due_job, first_chan_moment}
@@ -37,6 +37,7 @@ chan_after s None n h = absurd (cc)
 chan_after s (Some c) n h = waits_after s c (awaited_by c) n (later_at (due_by s c (awaited_by c)) n h)
 
 work_after : (s : Switch) (work : JobWork) (n : ℕ) → work_due s work ≡ Some (At n) → s.moment < n
+work_after s Run n h = absurd (cc)
 work_after s (Sleep until) n h = to_come_at s.moment until n (cc)
 work_after s (Originate orig winner caller) n h = orig_after s.moment (orig_of s orig) n h
 

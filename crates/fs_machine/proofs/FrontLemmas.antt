@@ -36,11 +36,13 @@ use Rattle.fs_seats.specs.Rows.{with_row}
 use Rattle.fs_state.specs.declared.conn.Conn.{Conn}
 use Rattle.fs_state.specs.declared.conn.Parting.TheVariants as parting
 use Rattle.fs_state.specs.declared.event.Event.{Event}
+use Rattle.fs_state.specs.declared.job.Asker.{Asker}
+use Rattle.fs_state.specs.declared.job.Asker.TheVariants as asker
 use Rattle.fs_state.specs.declared.job.JobWork.{JobWork}
 use Rattle.fs_state.specs.declared.job.JobWork.TheVariants.{Sleep, Originate}
 use Rattle.fs_state.specs.Counts.{Tallies}
 use Rattle.fs_state.specs.Switch.{Switch, chan_at, with_chan, with_bridge, conn_of, orig_of, next_orig_number}
-use Rattle.fs_state.specs.Switch.{next_job_number, with_new_job, without_job, without_orig, with_event, bridge_at, without_bridge}
+use Rattle.fs_state.specs.Switch.{with_new_job, without_job, without_orig, with_event, bridge_at, without_bridge}
 use Rattle.fs_state.specs.Switch.{with_next_identifier}
 use Rattle.fs_state.specs.Moves.{plain_event, application_event, running_at, with_changed_chan, after_move, orig_changed_from, orig_changed}
 use Rattle.fs_state.specs.Moves.{leg_changed, is_owner, given_up_by, orig_given_up}
@@ -51,7 +53,9 @@ use Rattle.fs_machine.specs.Texts.{made_text, failed_text}
 use Rattle.fs_machine.specs.Connections.{conn_changed_from, conn_changed, admitted, parted, owed_since, not_owed, with_subs_changed}
 use Rattle.fs_machine.specs.Originations.{MadeGroup, group_made, after_winning}
 use Rattle.fs_machine.specs.Attempts.{first_group, orig_begun, tried_by_job, originate_begun, with_group}
-use Rattle.fs_machine.specs.Owing.{after_job_begin, after_job_end}
+use Rattle.fs_machine.specs.declared.owing.Giver.{Giver}
+use Rattle.fs_machine.specs.declared.owing.Giver.TheVariants as giver
+use Rattle.fs_machine.specs.Owing.{job_number, after_job_begin, background_begun, job_event, after_job_end}
 use Rattle.fs_machine.specs.Bridging.{caller_of, group_dialed, goes_on, after_going_on, bridge_failed_from, after_bridge_failure, disposed}
 use Rattle.fs_machine.specs.Bridging.{after_bridge_win}
 use Rattle.fs_machine.specs.Dialing.{tried_by_slot}
@@ -60,7 +64,7 @@ use Rattle.fs_machine.specs.Leaving.{after_departure}
 use Rattle.fs_machine.proofs.Kept.{Stage, Fact, TellsNoBridge, Links, Remains, Stays, KeptByTouches, KeptByCalls, KeptByBirths, DoesJob}
 use Rattle.fs_machine.proofs.Kept.{KeptByDials}
 use Rattle.fs_machine.proofs.Kept.{raced}
-use Rattle.fs_machine.proofs.Kept.{HasWon, KeptByMoves}
+use Rattle.fs_machine.proofs.Kept.{HasWon, KeptByApi, KeptByMoves}
 use Rattle.fs_machine.proofs.StayLemmas.{application_plain, moved_plain, changed_there, park_lives}
 use Rattle.fs_machine.proofs.JoinLemmas.{both_left_kept}
 use Rattle.fs_machine.proofs.LeaveLemmas.{others_left}
@@ -118,11 +122,10 @@ conn_unread read same change conn s = by (conn_of s conn)
 conn_changed_front : (change : Conn → Conn) (conn : ℕ) (s : Switch) → front_of (conn_changed change conn s) ≡ front_of s
 conn_changed_front change conn s = conn_unread front_of (λ conns t. refl) change conn s
 
-owing_front : (conn : ℕ) (work : JobWork) (s : Switch) → front_of (after_job_begin conn work s) ≡ front_of s
-owing_front conn work s = conn_changed_front (owed_since s.entries) conn (with_new_job (record { conn = conn; work = work }) s)
-
-ended_front : (number conn : ℕ) (answer : Text) (s : Switch) → front_of (after_job_end number conn answer s) ≡ front_of s
-ended_front number conn answer s = conn_changed_front not_owed conn (without_job number s)
+begun_front : (by : Giver) (work : JobWork) (s : Switch) → front_of (after_job_begin by work s) ≡ front_of s
+begun_front (giver.Conn conn) work s =
+    conn_changed_front (owed_since s.entries) conn (with_new_job (record { asker = asker.Conn conn; work = work }) s)
+begun_front (giver.Job number job) work s = refl
 
 pub given_up_front : (slot : ℕ) (awaited : Option ℕ) (s : Switch) → front_of (orig_given_up slot awaited s) ≡ front_of s
 given_up_front slot None s = refl
@@ -370,57 +373,69 @@ module _ (before : Switch) (P : Fact) (same : (b : Stage) (t u : Switch) → P b
 -- that is drawn for no slot
 module _ (before : Switch) (P : Fact) (same : (b : Stage) (t u : Switch) → P b t → front_of u ≡ front_of t → P b u)
     (calls : KeptByCalls P) (births : KeptByBirths P) (dials : KeptByDials before P)
-    (wins : (job conn : ℕ) (winner : Winner) (caller : Caller) (orig : ℕ) (leg : OrigLeg) (slots : List ℕ) →
-    DoesJob (raced slots before) job conn (Originate orig winner caller) → HasWon before orig leg slots →
+    (wins : (job : ℕ) (who : Asker) (winner : Winner) (caller : Caller) (orig : ℕ) (leg : OrigLeg) (slots : List ℕ) →
+    DoesJob (raced slots before) job who (Originate orig winner caller) → HasWon before orig leg slots →
     P (Some 0) (raced slots before) → P (Some 0) (after_winning winner (unwrap_or leg.slot 0) (raced slots before)))
     (draws : (s : Switch) → P None s → P (Some 1) (with_next_identifier s)) where
   changed_same : (change : Conn → Conn) (conn n : ℕ) (s : Switch) → P (Some n) s → P (Some n) (conn_changed change conn s)
   changed_same change conn n s h = same (Some n) s _ h (conn_changed_front change conn s)
 
-  ended_same : (number conn : ℕ) (answer : Text) (s : Switch) → P (Some 0) s → P (Some 0) (after_job_end number conn answer s)
-  ended_same number conn answer s h = same (Some 0) s _ h (ended_front number conn answer s)
+  -- an answer that is told is an event that tells of no bridge
+  ended_same : (number : ℕ) (who : Asker) (answer : Text) (s : Switch) → P (Some 0) s → P (Some 0) (after_job_end number who answer s)
+  ended_same number (asker.Conn conn) answer s h = same (Some 0) s _ h (conn_changed_front not_owed conn (without_job number s))
+  ended_same number (asker.Background job) answer s h =
+      calls.touches.told (job_event job answer) (refl, tt) (same (Some 0) s (without_job number s) h refl)
 
-  over_same : (job conn orig : ℕ) (answer : Text) (s : Switch) → P (Some 0) s →
-      P (Some 0) (after_job_end job conn answer (without_orig orig s))
-  over_same job conn orig answer s h = ended_same job conn answer (without_orig orig s) (same (Some 0) s _ h refl)
+  over_same : (job : ℕ) (who : Asker) (orig : ℕ) (answer : Text) (s : Switch) → P (Some 0) s →
+      P (Some 0) (after_job_end job who answer (without_orig orig s))
+  over_same job who orig answer s h = ended_same job who answer (without_orig orig s) (same (Some 0) s _ h refl)
 
-  sleeps_same : (conn until : ℕ) (s : Switch) → P None s → P (Some 0) (after_job_begin conn (Sleep until) s)
-  sleeps_same conn until s h = same (Some 0) s _ (births.spent h) (owing_front conn (Sleep until) s)
+  tried_same : (by : Giver) (groups : List (List LegPlan)) (winner : Winner) (caller : Caller) (timeout orig : ℕ) (made : MadeGroup) →
+      P (Some 0) made.state → P (Some 0) (tried_by_job by groups winner caller timeout orig made)
+  tried_same by groups winner caller timeout orig made h =
+      same (Some 0) made.state _ h (begun_front by (Originate orig winner caller)
+      (orig_begun (owner.Job (job_number by made.state)) groups made.legs timeout made.state))
 
-  tried_same : (conn : ℕ) (groups : List (List LegPlan)) (winner : Winner) (caller : Caller) (timeout orig : ℕ) (made : MadeGroup) →
-      P (Some 0) made.state → P (Some 0) (tried_by_job conn groups winner caller timeout orig made)
-  tried_same conn groups winner caller timeout orig made h =
-      same (Some 0) made.state _ h (owing_front conn (Originate orig winner caller)
-      (orig_begun (owner.Job (next_job_number made.state)) groups made.legs timeout made.state))
-
-  originates_same : (conn : ℕ) (groups : List (List LegPlan)) (winner : Winner) (caller : Caller) (timeout : Option ℕ) (s : Switch) →
-      P None s → P (Some 0) (originate_begun conn groups winner caller timeout s)
-  originates_same conn groups winner caller timeout s h =
-      tried_same conn groups winner caller (unwrap_or timeout 60) (next_orig_number s)
+  originates_same : (by : Giver) (groups : List (List LegPlan)) (winner : Winner) (caller : Caller) (timeout : Option ℕ) (s : Switch) →
+      P None s → P (Some 0) (originate_begun by groups winner caller timeout s)
+  originates_same by groups winner caller timeout s h =
+      tried_same by groups winner caller (unwrap_or timeout 60) (next_orig_number s)
       (group_made (first_group groups) caller (next_orig_number s) s)
       (group_made_kept P births (first_group groups) caller (next_orig_number s) {n = 0} {s = s} (births.spent h))
+
+  api_same : (by : Giver) → KeptByApi by P
+  api_same by = record {
+    spent = births.spent;
+    draws = λ {s = s} h. draws s h;
+    sleeps = λ until {s = s} may room h. same (Some 0) s _ (births.spent h) (begun_front by (Sleep until) s);
+    originates = λ groups winner caller timeout {s = s} may are short room h. originates_same by groups winner caller timeout s h;
+  }
+
+  backgrounds_same : (given : Option Text) (command : Text) (s : Switch) → P None s → P (Some 1) (background_begun given command s)
+  backgrounds_same None command s h = same (Some 1) (with_next_identifier s) _ (draws s h) refl
+  backgrounds_same (Some uuid) command s h = same (Some 1) s _ (calls.more (births.spent h)) refl
 
   pub moves_by_front : KeptByMoves before P
   moves_by_front = record {
     calls = calls;
     jobs = record {
-      woken = λ number conn until answer {s = s} does h. ended_same number conn answer s h;
-      failed = λ job conn winner caller orig cause {s = s} does over h. over_same job conn orig (failed_text cause) s h;
-      wins = λ job conn winner caller orig leg slots does won h.
-          over_same job conn orig (made_text leg.uuid) (after_winning winner (unwrap_or leg.slot 0) (raced slots before))
-          (wins job conn winner caller orig leg slots does won h);
+      out = λ number job {s = s} does h. same None s (without_job number s) h refl;
+      runs = λ number job. api_same (giver.Job number job);
+      woken = λ number who until answer {s = s} does h. ended_same number who answer s h;
+      failed = λ job who winner caller orig cause {s = s} does over h. over_same job who orig (failed_text cause) s h;
+      wins = λ job who winner caller orig leg slots does won h.
+          over_same job who orig (made_text leg.uuid) (after_winning winner (unwrap_or leg.slot 0) (raced slots before))
+          (wins job who winner caller orig leg slots does won h);
     };
     dials = dials;
     commands = λ conn. record {
-      spent = births.spent;
-      draws = λ {s = s} h. draws s h;
+      api = api_same (giver.Conn conn);
       noticed = λ frame h. same _ _ _ h refl;
       gave = λ frame h. same _ _ _ h refl;
       asked = λ change {n = n} {s = s} h. changed_same (with_subs_changed change) conn n s h;
       admitted = λ {n = n} {s = s} fresh h. changed_same admitted conn n s h;
       parted = λ why {n = n} {s = s} leaves h. changed_same (parted why) conn n s h;
-      sleeps = λ until {s = s} room h. sleeps_same conn until s h;
-      originates = λ groups winner caller timeout {s = s} are short room h. originates_same conn groups winner caller timeout s h;
+      backgrounds = λ given command {s = s} room h. backgrounds_same given command s h;
     };
     visits = record {
       arrived = λ h. same _ _ _ (births.spent h) refl;

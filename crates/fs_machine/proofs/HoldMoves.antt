@@ -26,10 +26,11 @@ use Rattle.fs_seats.specs.Seats.{held_in, with_held}
 use Rattle.fs_seats.proofs.TableLemmas.{IsWrittenOrKept, written_or_kept, kept_without}
 use Rattle.fs_state.specs.declared.conn.Conn.{Conn}
 use Rattle.fs_state.specs.declared.conn.Parting.TheVariants as parting
+use Rattle.fs_state.specs.declared.job.Asker.{Asker}
+use Rattle.fs_state.specs.declared.job.Asker.TheVariants as asker
 use Rattle.fs_state.specs.declared.job.JobWork.{JobWork}
 use Rattle.fs_state.specs.declared.job.JobWork.TheVariants.{Sleep, Originate}
-use Rattle.fs_state.specs.Switch.{Switch, chan_at, with_bridge, next_orig_number, next_job_number, without_orig, with_new_job}
-use Rattle.fs_state.specs.Switch.{without_job}
+use Rattle.fs_state.specs.Switch.{Switch, chan_at, with_bridge, next_orig_number, without_orig, with_new_job, without_job}
 use Rattle.fs_state.specs.Moves.{after_move, orig_changed, leg_changed}
 use Rattle.fs_state.specs.Hangups.{legs_at, after_hangups}
 use Rattle.fs_state.specs.Bridging.{peer_of, with_peer_from, with_peer, joined_as}
@@ -42,9 +43,11 @@ use Rattle.fs_machine.specs.Bridging.{after_bridge_win}
 use Rattle.fs_machine.specs.Dialing.{tried_by_slot}
 use Rattle.fs_machine.specs.Joining.{after_leaving, both_left}
 use Rattle.fs_machine.specs.Leaving.{after_departure}
-use Rattle.fs_machine.specs.Owing.{after_job_begin, after_job_end}
+use Rattle.fs_machine.specs.declared.owing.Giver.{Giver}
+use Rattle.fs_machine.specs.declared.owing.Giver.TheVariants as giver
+use Rattle.fs_machine.specs.Owing.{job_number, after_job_begin, background_begun, after_job_end}
 use Rattle.fs_machine.proofs.Kept.{Stage, Fact, hold_in, Links, Stays, KeptByTouches, KeptByCalls, KeptByBirths, raced, KeptByJobs, KeptByDials}
-use Rattle.fs_machine.proofs.Kept.{apart_by, KeptByCommands, KeptByMoves}
+use Rattle.fs_machine.proofs.Kept.{apart_by, goes_on_by, KeptByApi, KeptByCommands, KeptByMoves}
 use Rattle.fs_machine.proofs.StayLemmas.{moved_there, changed_there, orig_changed_channels}
 use Rattle.fs_machine.proofs.CameLemmas.{rest_holds}
 use Rattle.fs_machine.proofs.ClosureLemmas.{NoneAtZero}
@@ -214,11 +217,18 @@ dialed_held slot c groups timeout s h =
 conn_held : (change : Conn → Conn) (conn : ℕ) (s : Switch) → AllHeld s → AllHeld (conn_changed change conn s)
 conn_held change conn s h = subst HeldIn (sym (conn_unread (λ (t : Switch). t.channels) (λ conns t. refl) change conn s)) h
 
-ended_held : (number conn : ℕ) (answer : Text) (s : Switch) → AllHeld s → AllHeld (after_job_end number conn answer s)
-ended_held number conn answer s h = conn_held not_owed conn (without_job number s) h
+ended_held : (number : ℕ) (who : Asker) (answer : Text) (s : Switch) → AllHeld s → AllHeld (after_job_end number who answer s)
+ended_held number (asker.Conn conn) answer s h = conn_held not_owed conn (without_job number s) h
+ended_held number (asker.Background job) answer s h = h
 
-begun_held : (conn : ℕ) (what : JobWork) (s : Switch) → AllHeld s → AllHeld (after_job_begin conn what s)
-begun_held conn what s h = conn_held (owed_since s.entries) conn (with_new_job (record { conn = conn; work = what }) s) h
+begun_held : (by : Giver) (what : JobWork) (s : Switch) → AllHeld s → AllHeld (after_job_begin by what s)
+begun_held (giver.Conn conn) what s h =
+    conn_held (owed_since s.entries) conn (with_new_job (record { asker = asker.Conn conn; work = what }) s) h
+begun_held (giver.Job number job) what s h = h
+
+background_held : (given : Option Text) (command : Text) (s : Switch) → AllHeld s → AllHeld (background_begun given command s)
+background_held None command s h = h
+background_held (Some uuid) command s h = h
 
 won_free : (winner : Winner) (c : Chan) → IsHeld (won_by winner c)
 won_free (App application argument) c = ready_held (won_by (App application argument) c) refl
@@ -228,13 +238,13 @@ winning_held : (winner : Winner) (slot : ℕ) (s : Switch) → AllHeld s → All
 unfolding after_winning
 winning_held winner slot s h = moved_held (won_by winner) slot s (λ c held. won_free winner c) h
 
-originated_held : (conn : ℕ) (groups : List (List LegPlan)) (winner : Winner) (caller : Caller) (timeout : Option ℕ) (s : Switch) →
-    AllHeld s → AllHeld (originate_begun conn groups winner caller timeout s)
-originated_held conn groups winner caller timeout s h =
+originated_held : (by : Giver) (groups : List (List LegPlan)) (winner : Winner) (caller : Caller) (timeout : Option ℕ) (s : Switch) →
+    AllHeld s → AllHeld (originate_begun by groups winner caller timeout s)
+originated_held by groups winner caller timeout s h =
     let number : ℕ = next_orig_number s in
     let made : MadeGroup = group_made (first_group groups) caller number s in
-    begun_held conn (Originate number winner caller)
-    (orig_begun (owner.Job (next_job_number made.state)) groups made.legs (unwrap_or timeout 60) made.state)
+    begun_held by (Originate number winner caller)
+    (orig_begun (owner.Job (job_number by made.state)) groups made.legs (unwrap_or timeout 60) made.state)
     (group_held (first_group groups) caller number s h)
 
 -- ---- every move
@@ -283,21 +293,37 @@ module _ (before : Switch) (Q : Fact) (kept : KeptByMoves before Q) (bonds : (b 
     );
   }
 
+  holding_api : (by : Giver) → KeptByApi by Q → KeptByApi by Holding
+  holding_api by q = record {
+    spent = λ h. (q.spent h.0, h.1);
+    draws = λ h. (q.draws h.0, h.1);
+    sleeps = λ until {s = s} may free h. (
+      q.sleeps until (goes_on_by Holding Q by s may (λ t k. k.0)) free h.0,
+      begun_held by (Sleep until) s h.1,
+    );
+    originates = λ groups winner caller timeout {s = s} may are short free h. (
+      q.originates groups winner caller timeout (goes_on_by Holding Q by s may (λ t k. k.0)) are short free h.0,
+      originated_held by groups winner caller timeout s h.1,
+    );
+  }
+
   holding_jobs : KeptByJobs before Holding
   holding_jobs = record {
-    woken = λ number conn until answer {s = s} does h. (
-      kept.jobs.woken number conn until answer does h.0,
-      ended_held number conn answer s h.1,
+    out = λ number job does h. (kept.jobs.out number job does h.0, h.1);
+    runs = λ number job. holding_api (giver.Job number job) (kept.jobs.runs number job);
+    woken = λ number who until answer {s = s} does h. (
+      kept.jobs.woken number who until answer does h.0,
+      ended_held number who answer s h.1,
     );
-    failed = λ job conn winner caller orig cause {s = s} does over h. (
-      kept.jobs.failed job conn winner caller orig cause does over h.0,
-      ended_held job conn (failed_text cause) (without_orig orig s) h.1,
+    failed = λ job who winner caller orig cause {s = s} does over h. (
+      kept.jobs.failed job who winner caller orig cause does over h.0,
+      ended_held job who (failed_text cause) (without_orig orig s) h.1,
     );
-    wins = λ job conn winner caller orig leg slots does won h.
+    wins = λ job who winner caller orig leg slots does won h.
         let s : Switch = raced slots before in
         let t : Switch = after_winning winner (unwrap_or leg.slot 0) s in (
-          kept.jobs.wins job conn winner caller orig leg slots does won h.0,
-          ended_held job conn (made_text leg.uuid) (without_orig orig t) (winning_held winner (unwrap_or leg.slot 0) s h.1),
+          kept.jobs.wins job who winner caller orig leg slots does won h.0,
+          ended_held job who (made_text leg.uuid) (without_orig orig t) (winning_held winner (unwrap_or leg.slot 0) s h.1),
         );
   }
 
@@ -325,17 +351,15 @@ module _ (before : Switch) (Q : Fact) (kept : KeptByMoves before Q) (bonds : (b 
 
   holding_commands : (conn : ℕ) → KeptByCommands conn Holding
   holding_commands conn = record {
-    spent = λ h. ((kept.commands conn).spent h.0, h.1);
-    draws = λ h. ((kept.commands conn).draws h.0, h.1);
+    api = holding_api (giver.Conn conn) (kept.commands conn).api;
     noticed = λ frame h. ((kept.commands conn).noticed frame h.0, h.1);
     gave = λ frame h. ((kept.commands conn).gave frame h.0, h.1);
     asked = λ change {s = s} h. ((kept.commands conn).asked change h.0, conn_held (with_subs_changed change) conn s h.1);
     admitted = λ {s = s} new h. ((kept.commands conn).admitted new h.0, conn_held admitted conn s h.1);
     parted = λ why {s = s} leaves h. ((kept.commands conn).parted why leaves h.0, conn_held (parted why) conn s h.1);
-    sleeps = λ until {s = s} free h. ((kept.commands conn).sleeps until free h.0, begun_held conn (Sleep until) s h.1);
-    originates = λ groups winner caller timeout {s = s} are short free h. (
-      (kept.commands conn).originates groups winner caller timeout are short free h.0,
-      originated_held conn groups winner caller timeout s h.1,
+    backgrounds = λ given command {s = s} free h. (
+      (kept.commands conn).backgrounds given command free h.0,
+      background_held given command s h.1,
     );
   }
 

@@ -144,5 +144,5 @@ module _ (x : Seen) where
       births_numbers
       (dials_by_remains before (NumbersFrom x) same_numbers remains_numbers births_numbers
       (λ at u live h. media_numbers at u h))
-      (λ job conn winner caller orig leg slots does won h. won_numbers winner (unwrap_or leg.slot 0) (raced slots before) h)
+      (λ job who winner caller orig leg slots does won h. won_numbers winner (unwrap_or leg.slot 0) (raced slots before) h)
       (λ s h. numbers_drawn x (seen s) h)

@@ -108,7 +108,7 @@ module _ (before : Switch) where
   counting_moves =
       moves_by_front before (Counting before) (λ b s t h same. counts_same b s t h (ap (λ (f : Front). f.bridges.drawn) same)) calls births
       dials
-      (λ job conn winner caller orig leg slots does won h.
+      (λ job who winner caller orig leg slots does won h.
       counts_same (Some 0) (raced slots before) (after_winning winner (unwrap_or leg.slot 0) (raced slots before)) h
       (won_drawn winner (unwrap_or leg.slot 0) (raced slots before)))
       (λ s h. spent_counts s (with_next_identifier s) h refl)

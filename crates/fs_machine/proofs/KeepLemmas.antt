@@ -21,9 +21,11 @@ use Rattle.fs_state.specs.declared.conn.Conn.{Conn}
 use Rattle.fs_state.specs.declared.conn.Phase.TheVariants.{Fresh}
 use Rattle.fs_state.specs.declared.conn.Parting.{Parting}
 use Rattle.fs_state.specs.declared.conn.Parting.TheVariants as parting
+use Rattle.fs_state.specs.declared.job.Asker.{Asker}
+use Rattle.fs_state.specs.declared.job.Asker.TheVariants as asker
 use Rattle.fs_state.specs.declared.job.JobWork.{JobWork}
 use Rattle.fs_state.specs.declared.job.JobWork.TheVariants.{Sleep, Originate}
-use Rattle.fs_state.specs.Switch.{Switch, conn_of, next_orig_number, next_job_number, is_full_of_jobs, with_new_job, without_job}
+use Rattle.fs_state.specs.Switch.{Switch, conn_of, next_orig_number, with_new_job, without_job}
 use Rattle.fs_state.specs.Switch.{with_next_identifier}
 use Rattle.fs_state.specs.Switch.{without_orig, with_frame_now, with_notice}
 use Rattle.fs_machine.specs.declared.entry.Act.{Act}
@@ -36,11 +38,13 @@ use Rattle.fs_machine.specs.Questions.{parting_of, owed_of}
 use Rattle.fs_machine.specs.Originations.{MadeGroup, group_made, after_winning}
 use Rattle.fs_machine.specs.Attempts.{first_group, orig_begun, tried_by_job, originate_begun}
 use Rattle.fs_machine.specs.Jobs.{job_done}
-use Rattle.fs_machine.specs.Owing.{after_job_begin, after_job_end}
+use Rattle.fs_machine.specs.declared.owing.Giver.{Giver}
+use Rattle.fs_machine.specs.declared.owing.Giver.TheVariants as giver
+use Rattle.fs_machine.specs.Owing.{job_number, after_job_begin, background_begun, after_job_end}
 use Rattle.fs_machine.specs.Commands.{command_done}
 use Rattle.fs_machine.specs.Work.{after_work}
 use Rattle.fs_machine.specs.Step.{is_closed, act_done}
-use Rattle.fs_machine.proofs.Kept.{Fact, KeptByCalls, raced, KeptByJobs, KeptByDials, LeavesBy, KeptByCommands}
+use Rattle.fs_machine.proofs.Kept.{Fact, KeptByCalls, raced, KeptByApi, KeptByJobs, KeptByDials, LeavesBy, KeptByCommands}
 use Rattle.fs_machine.proofs.RestLemmas.{Rest, rest_of, calls_by_rest, dials_by_rest, group_made_rest, worked_rest, won_rest}
 use Rattle.fs_machine.proofs.ActWalk.{job_kept, commanded_kept}
 
@@ -218,27 +222,35 @@ parted_keeps why conn s = own_changed_keeps (parted why) (λ c h. refl) (parted_
 
 -- ---- jobs
 
-owing_keeps : (conn : ℕ) (work : JobWork) (s : Switch) → Keeps (Some conn) false s (after_job_begin conn work s)
-owing_keeps conn work s =
-    let begun : Switch = with_new_job (record { conn = conn; work = work }) s in
+-- the connection whose act it is that a command is given, if one gives it
+abbrev acting : Giver → Option ℕ
+acting (giver.Conn conn) = Some conn
+acting (giver.Job number job) = None
+
+owing_keeps : (by : Giver) (work : JobWork) (s : Switch) → Keeps (acting by) false s (after_job_begin by work s)
+owing_keeps (giver.Conn conn) work s =
+    let begun : Switch = with_new_job (record { asker = asker.Conn conn; work = work }) s in
     keeps_trans s begun (conn_changed (owed_since s.entries) conn begun) (keeps_same s begun refl)
     (own_changed_keeps (owed_since s.entries) (λ c h. h) (λ none c heard. heard) conn begun)
+owing_keeps (giver.Job number job) work s = keeps_same s (after_job_begin (giver.Job number job) work s) refl
 
-ended_keeps : {who : Option ℕ} → (number conn : ℕ) (answer : Text) (s : Switch) → Keeps who false s (after_job_end number conn answer s)
-ended_keeps number conn answer s =
-    keeps_on s (conn_changed not_owed conn (without_job number s)) (after_job_end number conn answer s)
+ended_keeps : {who : Option ℕ} → (number : ℕ) (from : Asker) (answer : Text) (s : Switch) →
+    Keeps who false s (after_job_end number from answer s)
+ended_keeps number (asker.Conn conn) answer s =
+    keeps_on s (conn_changed not_owed conn (without_job number s)) (after_job_end number (asker.Conn conn) answer s)
     (keeps_trans s (without_job number s) (conn_changed not_owed conn (without_job number s)) (keeps_same s (without_job number s) refl)
     (conn_changed_keeps not_owed (λ c h. h) (λ none c heard. heard) conn (λ apart c. record { phase = refl; parting = refl; owed = λ none. refl })
     (without_job number s)))
     refl
+ended_keeps number (asker.Background job) answer s = keeps_same s (after_job_end number (asker.Background job) answer s) refl
 
-begun_keeps : (conn : ℕ) (groups : List (List LegPlan)) (winner : Winner) (caller : Caller) (timeout orig : ℕ) (made : MadeGroup)
+begun_keeps : (by : Giver) (groups : List (List LegPlan)) (winner : Winner) (caller : Caller) (timeout orig : ℕ) (made : MadeGroup)
     (s : Switch) → sockets_of made.state ≡ sockets_of s →
-    Keeps (Some conn) false s (tried_by_job conn groups winner caller timeout orig made)
-begun_keeps conn groups winner caller timeout orig made s same =
-    let begun : Switch = orig_begun (owner.Job (next_job_number made.state)) groups made.legs timeout made.state in
-    keeps_trans s begun (tried_by_job conn groups winner caller timeout orig made) (keeps_same s begun same)
-    (owing_keeps conn (Originate orig winner caller) begun)
+    Keeps (acting by) false s (tried_by_job by groups winner caller timeout orig made)
+begun_keeps by groups winner caller timeout orig made s same =
+    let begun : Switch = orig_begun (owner.Job (job_number by made.state)) groups made.legs timeout made.state in
+    keeps_trans s begun (tried_by_job by groups winner caller timeout orig made) (keeps_same s begun same)
+    (owing_keeps by (Originate orig winner caller) begun)
 
 -- ---- every move
 
@@ -249,28 +261,51 @@ KeepsFrom who s b t = Keeps who false s t
 calls_keep : (who : Option ℕ) (s : Switch) → KeptByCalls (KeepsFrom who s)
 calls_keep who s = calls_by_rest (KeepsFrom who s) (λ b t u h same. keeps_on s t u h (sockets_same t u same)) (λ t h. h)
 
--- the jobs that end
-module _ (s : Switch) where
-  over_keeps : (job conn orig : ℕ) (answer : Text) (t u : Switch) → sockets_of u ≡ sockets_of t → Keeps None false s t →
-      Keeps None false s (after_job_end job conn answer (without_orig orig u))
-  over_keeps job conn orig answer t u same h =
-      keeps_trans s (without_orig orig u) (after_job_end job conn answer (without_orig orig u))
-      (keeps_on s t (without_orig orig u) h same)
-      (ended_keeps job conn answer (without_orig orig u))
+-- api commands
+module _ (by : Giver) (s : Switch) where
+  sleeps_keep : (until : ℕ) {t : Switch} → Keeps (acting by) false s t → Keeps (acting by) false s (after_job_begin by (Sleep until) t)
+  sleeps_keep until {t} h = keeps_trans s t (after_job_begin by (Sleep until) t) h (owing_keeps by (Sleep until) t)
 
-  wins_keep : (job conn orig : ℕ) (winner : Winner) (leg : OrigLeg) (t : Switch) → Keeps None false s t →
-      Keeps None false s (after_job_end job conn (made_text leg.uuid)
+  originates_keep : (groups : List (List LegPlan)) (winner : Winner) (caller : Caller) (timeout : Option ℕ) {t : Switch} →
+      Keeps (acting by) false s t → Keeps (acting by) false s (originate_begun by groups winner caller timeout t)
+  originates_keep groups winner caller timeout {t} h =
+      let made : MadeGroup = group_made (first_group groups) caller (next_orig_number t) t in
+      keeps_trans s t (originate_begun by groups winner caller timeout t) h
+      (begun_keeps by groups winner caller (unwrap_or timeout 60) (next_orig_number t) made t
+      (sockets_same t made.state (group_made_rest (first_group groups) caller (next_orig_number t) t)))
+
+  api_keep : KeptByApi by (KeepsFrom (acting by) s)
+  api_keep = record {
+    spent = λ h. h;
+    draws = λ {s = t} h. keeps_on s t (with_next_identifier t) h refl;
+    sleeps = λ until may room h. sleeps_keep until h;
+    originates = λ groups winner caller timeout may are short room h. originates_keep groups winner caller timeout h;
+  }
+
+-- the jobs that run a command, and those that end
+module _ (s : Switch) where
+  over_keeps : (job : ℕ) (who : Asker) (orig : ℕ) (answer : Text) (t u : Switch) → sockets_of u ≡ sockets_of t → Keeps None false s t →
+      Keeps None false s (after_job_end job who answer (without_orig orig u))
+  over_keeps job who orig answer t u same h =
+      keeps_trans s (without_orig orig u) (after_job_end job who answer (without_orig orig u))
+      (keeps_on s t (without_orig orig u) h same)
+      (ended_keeps job who answer (without_orig orig u))
+
+  wins_keep : (job : ℕ) (who : Asker) (orig : ℕ) (winner : Winner) (leg : OrigLeg) (t : Switch) → Keeps None false s t →
+      Keeps None false s (after_job_end job who (made_text leg.uuid)
       (without_orig orig (after_winning winner (unwrap_or leg.slot 0) t)))
-  wins_keep job conn orig winner leg t h =
+  wins_keep job who orig winner leg t h =
       let u : Switch = after_winning winner (unwrap_or leg.slot 0) t in
-      over_keeps job conn orig (made_text leg.uuid) t u (sockets_same t u (won_rest winner (unwrap_or leg.slot 0) t)) h
+      over_keeps job who orig (made_text leg.uuid) t u (sockets_same t u (won_rest winner (unwrap_or leg.slot 0) t)) h
 
   jobs_keep : KeptByJobs s (KeepsFrom None s)
   jobs_keep = record {
-    woken = λ number conn until answer {s = t} does h. keeps_trans s t (after_job_end number conn answer t) h
-        (ended_keeps number conn answer t);
-    failed = λ job conn winner caller orig cause {s = t} does over h. over_keeps job conn orig (failed_text cause) t t refl h;
-    wins = λ job conn winner caller orig leg slots does won h. wins_keep job conn orig winner leg (raced slots s) h;
+    out = λ number job {s = t} does h. keeps_on s t (without_job number t) h refl;
+    runs = λ number job. api_keep (giver.Job number job) s;
+    woken = λ number who until answer {s = t} does h. keeps_trans s t (after_job_end number who answer t) h
+        (ended_keeps number who answer t);
+    failed = λ job who winner caller orig cause {s = t} does over h. over_keeps job who orig (failed_text cause) t t refl h;
+    wins = λ job who winner caller orig leg slots does won h. wins_keep job who orig winner leg (raced slots s) h;
   }
 
   dials_keep : KeptByDials s (KeepsFrom None s)
@@ -302,32 +337,20 @@ module _ (conn : ℕ) (s : Switch) where
       keeps_trans s t (conn_changed (parted parting.AuthRefused) conn t) h (parted_keeps parting.AuthRefused conn t)
   leaves_keeps parting.EndOfInput leaves h = absurd leaves
 
-  draws_keep : {t : Switch} → Keeps (Some conn) false s t → Keeps (Some conn) false s (with_next_identifier t)
-  draws_keep {t} h = keeps_on s t (with_next_identifier t) h refl
-
-  sleeps_keep : (until : ℕ) {t : Switch} → is_full_of_jobs t ≡ false → Keeps (Some conn) false s t →
-      Keeps (Some conn) false s (after_job_begin conn (Sleep until) t)
-  sleeps_keep until {t} room h = keeps_trans s t (after_job_begin conn (Sleep until) t) h (owing_keeps conn (Sleep until) t)
-
-  originates_keep : (groups : List (List LegPlan)) (winner : Winner) (caller : Caller) (timeout : Option ℕ) {t : Switch} →
-      Keeps (Some conn) false s t → Keeps (Some conn) false s (originate_begun conn groups winner caller timeout t)
-  originates_keep groups winner caller timeout {t} h =
-      let made : MadeGroup = group_made (first_group groups) caller (next_orig_number t) t in
-      keeps_trans s t (originate_begun conn groups winner caller timeout t) h
-      (begun_keeps conn groups winner caller (unwrap_or timeout 60) (next_orig_number t) made t
-      (sockets_same t made.state (group_made_rest (first_group groups) caller (next_orig_number t) t)))
+  background_keeps : (given : Option Text) (command : Text) {t : Switch} → Keeps (Some conn) false s t →
+      Keeps (Some conn) false s (background_begun given command t)
+  background_keeps None command {t} h = keeps_on s t (background_begun None command t) h refl
+  background_keeps (Some uuid) command {t} h = keeps_on s t (background_begun (Some uuid) command t) h refl
 
   commands_keep : KeptByCommands conn (KeepsFrom (Some conn) s)
   commands_keep = record {
-    spent = λ h. h;
-    draws = λ h. draws_keep h;
+    api = api_keep (giver.Conn conn) s;
     noticed = λ frame h. noticed_keeps frame h;
     gave = λ frame h. gave_keeps frame h;
     asked = λ change h. asked_keeps change h;
     admitted = λ fresh h. admitted_keeps fresh h;
     parted = λ why leaves h. leaves_keeps why leaves h;
-    sleeps = sleeps_keep;
-    originates = λ groups winner caller timeout are short room h. originates_keep groups winner caller timeout h;
+    backgrounds = λ given command room h. background_keeps given command h;
   }
 
 -- ---- what acts keep

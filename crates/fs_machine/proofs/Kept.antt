@@ -32,9 +32,13 @@ use Rattle.fs_state.specs.declared.conn.Parting.TheVariants as parting
 use Rattle.fs_state.specs.declared.event.Detail.{Detail}
 use Rattle.fs_state.specs.declared.event.Detail.TheVariants as detail
 use Rattle.fs_state.specs.declared.event.Event.{Event}
+use Rattle.fs_state.specs.declared.job.Asker.{Asker}
+use Rattle.fs_state.specs.declared.job.Asker.TheVariants as asker
+use Rattle.fs_state.specs.declared.job.Background.{Background}
 use Rattle.fs_state.specs.declared.job.JobWork.{JobWork}
 use Rattle.fs_state.specs.declared.job.JobWork.TheVariants as work
-use Rattle.fs_state.specs.Switch.{Switch, chan_at, with_chan, bridge_at, is_full_of_jobs, job_of, without_conn, with_frame_taken}
+use Rattle.fs_state.specs.Switch.{Switch, chan_at, with_chan, bridge_at, is_full_of_jobs, job_of, without_job, without_conn}
+use Rattle.fs_state.specs.Switch.{with_frame_taken}
 use Rattle.fs_state.specs.Switch.{with_event}
 use Rattle.fs_state.specs.Switch.{next_orig_number, orig_of, without_orig, with_frame_now, with_notice, with_next_identifier}
 use Rattle.fs_state.specs.Moves.{orig_changed, leg_changed}
@@ -43,6 +47,8 @@ use Rattle.fs_state.specs.Bridging.{can_join, joined_as}
 use Rattle.fs_machine.specs.declared.attempts.Party.TheVariants as party
 use Rattle.fs_machine.specs.declared.attempts.WonLeg.{WonLeg}
 use Rattle.fs_machine.specs.declared.call.Call.{Call}
+use Rattle.fs_machine.specs.declared.owing.Giver.{Giver}
+use Rattle.fs_machine.specs.declared.owing.Giver.TheVariants as giver
 use Rattle.fs_machine.specs.EventNames.{can_tell}
 use Rattle.fs_machine.specs.Connections.{phase_at, conn_changed, admitted, parted, with_subs_changed}
 use Rattle.fs_machine.specs.Originations.{pair_made, is_misnamed, target_of, group_made}
@@ -51,7 +57,7 @@ use Rattle.fs_machine.specs.Attempts.{first_group, originate_begun, awaits, fail
 use Rattle.fs_machine.specs.Dialing.{tried_by_slot}
 use Rattle.fs_machine.specs.Joining.{both_left}
 use Rattle.fs_machine.specs.Leaving.{after_departure}
-use Rattle.fs_machine.specs.Owing.{after_job_begin, after_job_end}
+use Rattle.fs_machine.specs.Owing.{after_job_begin, background_begun, after_job_end}
 use Rattle.fs_machine.specs.Step.{arrived}
 use Rattle.fs_machine.specs.Sound.{is_idle, HasLeg}
 use Rattle.fs_machine.proofs.LimitLemmas.{AreLimited, cause_key}
@@ -178,9 +184,9 @@ pub record KeptByBirths (P : Fact) : Type 0 where
 
 -- ---- moves of those who try originations
 
--- a job of this number does this work for this connection
-pub record DoesJob (s : Switch) (number conn : ℕ) (what : JobWork) : Type 0 where
-  pub there : job_of s number ≡ Some (record { conn = conn; work = what })
+-- a job of this number does this work for whoever is told its answer
+pub record DoesJob (s : Switch) (number : ℕ) (who : Asker) (what : JobWork) : Type 0 where
+  pub there : job_of s number ≡ Some (record { asker = who; work = what })
 
 -- the legs in these slots have lost the race
 abbrev pub raced : List ℕ → Switch → Switch
@@ -218,21 +224,59 @@ pub record ArePlans (o : Orig) (plans : List LegPlan) : Type 0 where
   pub enters : may_enter_next o ≡ true
   pub filled : IsSome (slice_get group 0) → IsSome (slice_get plans 0)
 
--- the jobs that end
-pub record KeptByJobs (before : Switch) (P : Fact) : Type 0 where
-  pub woken : (number conn until : ℕ) (answer : Text) {s : Switch} → DoesJob s number conn (work.Sleep until) → P (Some 0) s →
-      P (Some 0) (after_job_end number conn answer s)
-  pub failed : (job conn : ℕ) (winner : Winner) (caller : Caller) (orig : ℕ) (cause : Cause) {s : Switch} →
-      DoesJob s job conn (work.Originate orig winner caller) → IsOver before s orig → P (Some 0) s →
-      P (Some 0) (failed_for (party.Job job conn winner caller) orig cause s)
-  pub wins : (job conn : ℕ) (winner : Winner) (caller : Caller) (orig : ℕ) (leg : OrigLeg) (slots : List ℕ) →
-      DoesJob (raced slots before) job conn (work.Originate orig winner caller) → HasWon before orig leg slots →
-      P (Some 0) (raced slots before) → P (Some 0) (won_for (party.Job job conn winner caller) orig (won_of leg) (raced slots before))
-
 -- there is a group, and each has a leg
 pub record AreGroups (groups : List (List LegPlan)) : Type 0 where
   pub some : IsSome (slice_get groups 0)
   pub filled : (k : ℕ) (group : List LegPlan) → slice_get groups k ≡ Some group → IsSome (slice_get group 0)
+
+-- ---- api commands
+
+-- the texts that a winner is routed by can stand in a profile
+abbrev pub IsShortWinner : Winner → Type 0
+IsShortWinner (App application argument) = Unit {0}
+IsShortWinner (Route to) = IsShortTarget (target_of to)
+
+-- nothing had begun in the entry but a job, which was to run its command and was taken out for that
+pub record IsTakenOut (P : Fact) (number : ℕ) (job : Background) (s : Switch) : Type 0 where
+  pub past : Switch
+  pub first : P None past
+  pub does : DoesJob past number (asker.Background job) work.Run
+  pub left : s ≡ without_job number past
+
+-- whoever gives a command may let a job go on behind it: a job that gives one was taken out
+abbrev pub MayGoOn : Fact → Giver → Switch → Type 0
+MayGoOn P (giver.Conn conn) s = Unit {0}
+MayGoOn P (giver.Job number job) s = IsTakenOut P number job s
+
+-- so it may by what a fact tells
+pub goes_on_by : (P Q : Fact) (by : Giver) (s : Switch) → MayGoOn P by s → ((t : Switch) → P None t → Q None t) → MayGoOn Q by s
+goes_on_by P Q (giver.Conn conn) s may tells = may
+goes_on_by P Q (giver.Job number job) s may tells =
+    record { past = may.past; first = tells may.past may.first; does = may.does; left = may.left }
+
+-- what api commands do to what is no channel
+pub record KeptByApi (by : Giver) (P : Fact) : Type 0 where
+  pub spent : {s : Switch} → P None s → P (Some 0) s
+  pub draws : {s : Switch} → P None s → P (Some 1) (with_next_identifier s)
+  pub sleeps : (until : ℕ) {s : Switch} → MayGoOn P by s → is_full_of_jobs s ≡ false → P None s →
+      P (Some 0) (after_job_begin by (work.Sleep until) s)
+  pub originates : (groups : List (List LegPlan)) (winner : Winner) (caller : Caller) (timeout : Option ℕ) {s : Switch} →
+      MayGoOn P by s → AreGroups groups → IsShortWinner winner → is_full_of_jobs s ≡ false → P None s →
+      P (Some 0) (originate_begun by groups winner caller timeout s)
+
+-- the jobs that run a command, and those that end
+pub record KeptByJobs (before : Switch) (P : Fact) : Type 0 where
+  pub out : (number : ℕ) (job : Background) {s : Switch} → DoesJob s number (asker.Background job) work.Run → P None s →
+      P None (without_job number s)
+  pub runs : (number : ℕ) (job : Background) → KeptByApi (giver.Job number job) P
+  pub woken : (number : ℕ) (who : Asker) (until : ℕ) (answer : Text) {s : Switch} → DoesJob s number who (work.Sleep until) → P (Some 0) s →
+      P (Some 0) (after_job_end number who answer s)
+  pub failed : (job : ℕ) (who : Asker) (winner : Winner) (caller : Caller) (orig : ℕ) (cause : Cause) {s : Switch} →
+      DoesJob s job who (work.Originate orig winner caller) → IsOver before s orig → P (Some 0) s →
+      P (Some 0) (failed_for (party.Job job who winner caller) orig cause s)
+  pub wins : (job : ℕ) (who : Asker) (winner : Winner) (caller : Caller) (orig : ℕ) (leg : OrigLeg) (slots : List ℕ) →
+      DoesJob (raced slots before) job who (work.Originate orig winner caller) → HasWon before orig leg slots →
+      P (Some 0) (raced slots before) → P (Some 0) (won_for (party.Job job who winner caller) orig (won_of leg) (raced slots before))
 
 -- a channel that lives and runs something: nothing holds it, and it is no leg of an origination
 pub record IsAtWork (c : Chan) : Type 0 where
@@ -264,43 +308,17 @@ LeavesBy parting.Exit = Unit {0}
 LeavesBy parting.AuthRefused = Unit {0}
 LeavesBy parting.EndOfInput = ⊥
 
--- the texts that a winner is routed by can stand in a profile
-abbrev pub IsShortWinner : Winner → Type 0
-IsShortWinner (App application argument) = Unit {0}
-IsShortWinner (Route to) = IsShortTarget (target_of to)
-
--- what api commands do to what is no channel
-pub record KeptByApi (conn : ℕ) (P : Fact) : Type 0 where
-  pub spent : {s : Switch} → P None s → P (Some 0) s
-  pub draws : {s : Switch} → P None s → P (Some 1) (with_next_identifier s)
-  pub sleeps : (until : ℕ) {s : Switch} → is_full_of_jobs s ≡ false → P None s → P (Some 0) (after_job_begin conn (work.Sleep until) s)
-  pub originates : (groups : List (List LegPlan)) (winner : Winner) (caller : Caller) (timeout : Option ℕ) {s : Switch} →
-      AreGroups groups → IsShortWinner winner → is_full_of_jobs s ≡ false → P None s →
-      P (Some 0) (originate_begun conn groups winner caller timeout s)
-
 -- what the commands of a connection do
 pub record KeptByCommands (conn : ℕ) (P : Fact) : Type 0 where
-  pub spent : {s : Switch} → P None s → P (Some 0) s
-  pub draws : {s : Switch} → P None s → P (Some 1) (with_next_identifier s)
+  pub api : KeptByApi (giver.Conn conn) P
   pub noticed : (frame : Text) {b : Stage} {s : Switch} → P b s → P b (with_notice conn frame s)
   pub gave : (frame : Text) {b : Stage} {s : Switch} → P b s → P b (with_frame_now conn frame s)
   pub asked : (change : Subscription → Subscription) {n : ℕ} {s : Switch} → P (Some n) s →
       P (Some n) (conn_changed (with_subs_changed change) conn s)
   pub admitted : {n : ℕ} {s : Switch} → phase_at s conn ≡ Fresh → P (Some n) s → P (Some n) (conn_changed admitted conn s)
   pub parted : (why : Parting) {n : ℕ} {s : Switch} → LeavesBy why → P (Some n) s → P (Some n) (conn_changed (parted why) conn s)
-  pub sleeps : (until : ℕ) {s : Switch} → is_full_of_jobs s ≡ false → P None s → P (Some 0) (after_job_begin conn (work.Sleep until) s)
-  pub originates : (groups : List (List LegPlan)) (winner : Winner) (caller : Caller) (timeout : Option ℕ) {s : Switch} →
-      AreGroups groups → IsShortWinner winner → is_full_of_jobs s ≡ false → P None s →
-      P (Some 0) (originate_begun conn groups winner caller timeout s)
-
--- api commands among them
-pub api_among : {conn : ℕ} {P : Fact} → KeptByCommands conn P → KeptByApi conn P
-api_among kept = record {
-  spent = λ h. kept.spent h;
-  draws = λ h. kept.draws h;
-  sleeps = λ until room h. kept.sleeps until room h;
-  originates = λ groups winner caller timeout are short room h. kept.originates groups winner caller timeout are short room h;
-}
+  pub backgrounds : (given : Option Text) (command : Text) {s : Switch} → is_full_of_jobs s ≡ false → P None s →
+      P (Some 1) (background_begun given command s)
 
 -- how connections come and go, and take their frames
 pub record KeptByVisits (P : Fact) : Type 0 where

@@ -15,12 +15,16 @@ use Rattle.fs_orig.specs.Plans.{all_behind}
 use Rattle.fs_seats.specs.Seats.{least_free}
 use Rattle.fs_seats.specs.Rows.{seat_of, row_of, with_new_row}
 use Rattle.fs_seats.proofs.RowLemmas.{row_none, seat_stands, row_of-with_new_row_same}
-use Rattle.fs_seats.proofs.TableLemmas.{row_found, taken_in, full_taken}
+use Rattle.fs_seats.proofs.TableLemmas.{row_found, row_removed, taken_in, full_taken}
 use Rattle.fs_state.specs.declared.conn.Conn.{Conn}
 use Rattle.fs_state.specs.declared.conn.Parting.TheVariants as parting
+use Rattle.fs_state.specs.declared.job.Asker.{Asker}
+use Rattle.fs_state.specs.declared.job.Asker.TheVariants as asker
+use Rattle.fs_state.specs.declared.job.Background.{Background}
 use Rattle.fs_state.specs.declared.job.Job.{Job}
-use Rattle.fs_state.specs.declared.job.JobWork.TheVariants.{Sleep, Originate}
-use Rattle.fs_state.specs.Switch.{Switch, chan_at, next_orig_number, next_job_number, is_full_of_jobs, without_orig, with_new_job, without_job}
+use Rattle.fs_state.specs.declared.job.JobWork.{JobWork}
+use Rattle.fs_state.specs.declared.job.JobWork.TheVariants.{Run, Sleep, Originate}
+use Rattle.fs_state.specs.Switch.{Switch, chan_at, next_orig_number, is_full_of_jobs, without_orig, with_new_job, without_job}
 use Rattle.fs_state.specs.Switch.{with_frame_now, with_notice}
 use Rattle.fs_state.specs.Moves.{after_move}
 use Rattle.fs_machine.specs.Texts.{made_text, failed_text}
@@ -29,8 +33,10 @@ use Rattle.fs_machine.specs.Originations.{MadeGroup, group_made, after_winning}
 use Rattle.fs_machine.specs.Attempts.{first_group, orig_begun, originate_begun, with_group}
 use Rattle.fs_machine.specs.Bridging.{after_bridge_failure, after_bridge_win, caller_of, group_dialed}
 use Rattle.fs_machine.specs.Dialing.{tried_by_slot}
-use Rattle.fs_machine.specs.Owing.{after_job_begin, after_job_end}
-use Rattle.fs_machine.proofs.Kept.{Stage, Fact, raced, DoesJob, KeptByMoves}
+use Rattle.fs_machine.specs.declared.owing.Giver.{Giver}
+use Rattle.fs_machine.specs.declared.owing.Giver.TheVariants as giver
+use Rattle.fs_machine.specs.Owing.{job_number, after_job_begin, background_begun, after_job_end}
+use Rattle.fs_machine.proofs.Kept.{Stage, Fact, raced, DoesJob, KeptByApi, KeptByMoves}
 use Rattle.fs_machine.proofs.BondMoves.{bonds_moves}
 use Rattle.fs_machine.proofs.BothMoves.{Both, both_moves}
 use Rattle.fs_machine.proofs.IdentifierMoves.{NumbersFrom, numbers_moves}
@@ -39,6 +45,7 @@ use Rattle.fs_machine.proofs.FrontLemmas.{conn_unread}
 use Rattle.fs_machine.proofs.RestLemmas.{Rest}
 use Rattle.fs_machine.proofs.OwedBooks.{Jobs, tried_by, Tries}
 use Rattle.fs_machine.proofs.OwedJobs.{orig_seat}
+use Rattle.fs_machine.proofs.OwedLemmas.{tries_woken}
 use Rattle.fs_machine.proofs.OwedLosses.{Loses, calls_by_losses, moved_loses, group_loses, regrouped_loses, failure_loses, winning_loses}
 use Rattle.fs_machine.proofs.OwedLosses.{bridge_won_loses}
 use Rattle.fs_machine.proofs.OwedTables.{by_job, by_slot, of_slot, owned_at, owned_in, IsOwnedAt, owned_there, taken_apart}
@@ -50,11 +57,15 @@ use Rattle.fs_machine.proofs.TrialMoves.{Trying, trying_moves}
 
 -- ---- what was so as the entry began
 
--- Before anything has begun jobs are those that were, and own what they owned, and no number of an origination was drawn. Later one was at
--- most.
+-- whatever is owned, jobs try it as those did that were
+abbrev pub TryAsBefore : Jobs → Jobs → Type 0
+TryAsBefore old new = (owned : List (Option ℕ)) (drawn : ℕ) → Tries old owned drawn → Tries new owned drawn
+
+-- Before anything has begun jobs try what those tried that were, and own what they owned, and no number of an origination was drawn. Later
+-- one was at most.
 abbrev pub Early : Switch → Fact
 Early before None t =
-    (owned_in by_job t.origs ≡ owned_in by_job before.origs) × (t.jobs ≡ before.jobs) × (t.drawn.origs ≡ before.drawn.origs)
+    (owned_in by_job t.origs ≡ owned_in by_job before.origs) × TryAsBefore before.jobs t.jobs × (t.drawn.origs ≡ before.drawn.origs)
 Early before (Some n) t = t.drawn.origs ≤ before.drawn.origs + 1
 
 same_most : (before t u : Switch) → u.drawn.origs ≡ t.drawn.origs → t.drawn.origs ≤ before.drawn.origs + 1 →
@@ -62,8 +73,11 @@ same_most : (before t u : Switch) → u.drawn.origs ≡ t.drawn.origs → t.draw
 same_most before t u same h = omega (arith, same, h)
 
 early_loses : (before : Switch) (b : Stage) (t u : Switch) → Early before b t → Loses t u → Early before b u
-early_loses before None t u h loses =
-    (loses.jobs ∙ h.0, ap (λ (r : Rest). r.jobs) loses.rest ∙ h.1, loses.drawn ∙ h.2)
+early_loses before None t u h loses = (
+  loses.jobs ∙ h.0,
+  subst (TryAsBefore before.jobs) (sym (ap (λ (r : Rest). r.jobs) loses.rest)) h.1,
+  loses.drawn ∙ h.2,
+)
 early_loses before (Some n) t u h loses = same_most before t u loses.drawn h
 
 early_spent : (before t : Switch) → Early before None t → t.drawn.origs ≤ before.drawn.origs + 1
@@ -81,24 +95,41 @@ conn_early : (before : Switch) (n : ℕ) (change : Conn → Conn) (conn : ℕ) (
 conn_early before n change conn t h =
     same_most before t (conn_changed change conn t) (conn_unread (λ (u : Switch). u.drawn.origs) (λ conns u. refl) change conn t) h
 
-ended_early : (before : Switch) (number conn : ℕ) (answer : Text) (t : Switch) → Early before (Some 0) t →
-    Early before (Some 0) (after_job_end number conn answer t)
-ended_early before number conn answer t h = conn_early before 0 not_owed conn (without_job number t) h
+-- a job is taken out that tries nothing
+out_early : (before : Switch) (number : ℕ) (job : Background) (t : Switch) → DoesJob t number (asker.Background job) Run →
+    Early before None t → Early before None (without_job number t)
+out_early before number job t does h =
+    let found = row_found t.jobs number (record { asker = asker.Background job; work = Run }) does.there in (
+      h.0,
+      λ owned drawn tries. subst (λ (jobs : Jobs). Tries jobs owned drawn) (sym (row_removed t.jobs number found.0 found.2.at))
+          (tries_woken t.jobs owned drawn found.0 found.1 found.2.there (ap (λ (y : Job). tried_by y.work) found.3) (h.1 owned drawn tries)),
+      h.2,
+    )
 
-sleeping_early : (before : Switch) (conn until : ℕ) (t : Switch) → Early before None t →
-    Early before (Some 0) (after_job_begin conn (Sleep until) t)
-sleeping_early before conn until t h =
-    conn_early before 0 (owed_since t.entries) conn (with_new_job (record { conn = conn; work = Sleep until }) t) (early_spent before t h)
+ended_early : (before : Switch) (number : ℕ) (who : Asker) (answer : Text) (t : Switch) → Early before (Some 0) t →
+    Early before (Some 0) (after_job_end number who answer t)
+ended_early before number (asker.Conn conn) answer t h = conn_early before 0 not_owed conn (without_job number t) h
+ended_early before number (asker.Background job) answer t h = h
 
-originated_early : (before : Switch) (conn : ℕ) (groups : List (List LegPlan)) (winner : Winner) (caller : Caller) (timeout : Option ℕ)
-    (t : Switch) → Early before None t → Early before (Some 0) (originate_begun conn groups winner caller timeout t)
-originated_early before conn groups winner caller timeout t h =
+begun_early : (before : Switch) (by : Giver) (what : JobWork) (t : Switch) → Early before (Some 0) t →
+    Early before (Some 0) (after_job_begin by what t)
+begun_early before (giver.Conn conn) what t h =
+    conn_early before 0 (owed_since t.entries) conn (with_new_job (record { asker = asker.Conn conn; work = what }) t) h
+begun_early before (giver.Job number job) what t h = h
+
+originated_early : (before : Switch) (by : Giver) (groups : List (List LegPlan)) (winner : Winner) (caller : Caller) (timeout : Option ℕ)
+    (t : Switch) → Early before None t → Early before (Some 0) (originate_begun by groups winner caller timeout t)
+originated_early before by groups winner caller timeout t h =
     let number : ℕ = next_orig_number t in
     let made : MadeGroup = group_made (first_group groups) caller number t in
-    let begun : Switch = orig_begun (owner.Job (next_job_number made.state)) groups made.legs (unwrap_or timeout 60) made.state in
-    conn_early before 0 (owed_since begun.entries) conn
-    (with_new_job (record { conn = conn; work = Originate number winner caller }) begun)
+    let begun : Switch = orig_begun (owner.Job (job_number by made.state)) groups made.legs (unwrap_or timeout 60) made.state in
+    begun_early before by (Originate number winner caller) begun
     (early_begun before t made.state begun h (group_loses (first_group groups) caller number t).drawn refl)
+
+background_early : (before : Switch) (given : Option Text) (command : Text) (t : Switch) → Early before None t →
+    Early before (Some 1) (background_begun given command t)
+background_early before None command t h = early_spent before t h
+background_early before (Some uuid) command t h = early_spent before t h
 
 dialed_early : (before : Switch) (slot : ℕ) (c : Chan) (groups : List (List LegPlan)) (timeout : ℕ) (t : Switch) → Early before None t →
     Early before (Some 0)
@@ -122,16 +153,26 @@ early_gave : (before : Switch) (b : Stage) (conn : ℕ) (frame : List ℕ) (t : 
 early_gave before None conn frame t h = h
 early_gave before (Some n) conn frame t h = h
 
+early_api : (before : Switch) (by : Giver) → KeptByApi by (Early before)
+early_api before by = record {
+  spent = λ {s = s} h. early_spent before s h;
+  draws = λ {s = s} h. early_spent before s h;
+  sleeps = λ until {s = s} may room h. begun_early before by (Sleep until) s (early_spent before s h);
+  originates = λ groups winner caller timeout {s = s} may are short room h. originated_early before by groups winner caller timeout s h;
+}
+
 pub early_moves : (before : Switch) → KeptByMoves before (Early before)
 early_moves before = record {
   calls = calls_by_losses (Early before) (early_loses before) (λ t h. h);
   jobs = record {
-    woken = λ number conn until answer {s = s} does h. ended_early before number conn answer s h;
-    failed = λ job conn winner caller orig cause {s = s} does over h. ended_early before job conn (failed_text cause) (without_orig orig s) h;
-    wins = λ job conn winner caller orig leg slots does won h.
+    out = λ number job {s = s} does h. out_early before number job s does h;
+    runs = λ number job. early_api before (giver.Job number job);
+    woken = λ number who until answer {s = s} does h. ended_early before number who answer s h;
+    failed = λ job who winner caller orig cause {s = s} does over h. ended_early before job who (failed_text cause) (without_orig orig s) h;
+    wins = λ job who winner caller orig leg slots does won h.
         let s : Switch = raced slots before in
         let t : Switch = after_winning winner (unwrap_or leg.slot 0) s in
-        ended_early before job conn (made_text leg.uuid) (without_orig orig t)
+        ended_early before job who (made_text leg.uuid) (without_orig orig t)
         (early_loses before (Some 0) s t h (winning_loses winner (unwrap_or leg.slot 0) s));
   };
   dials = record {
@@ -147,15 +188,13 @@ early_moves before = record {
         early_loses before (Some 0) s (after_bridge_win slot (unwrap_or leg.slot 0) s) h (bridge_won_loses slot (unwrap_or leg.slot 0) s);
   };
   commands = λ conn. record {
-    spent = λ {s = s} h. early_spent before s h;
-    draws = λ {s = s} h. early_spent before s h;
+    api = early_api before (giver.Conn conn);
     noticed = λ frame {b = b} {s = s} h. early_noticed before b conn frame s h;
     gave = λ frame {b = b} {s = s} h. early_gave before b conn frame s h;
     asked = λ change {n = n} {s = s} h. conn_early before n (with_subs_changed change) conn s h;
     admitted = λ {n = n} {s = s} fresh h. conn_early before n admitted conn s h;
     parted = λ why {n = n} {s = s} leaves h. conn_early before n (parted why) conn s h;
-    sleeps = λ until {s = s} room h. sleeping_early before conn until s h;
-    originates = λ groups winner caller timeout {s = s} are short room h. originated_early before conn groups winner caller timeout s h;
+    backgrounds = λ given command {s = s} room h. background_early before given command s h;
   };
   visits = record {
     arrived = λ {s = s} h. early_spent before s h;
@@ -182,10 +221,10 @@ known_moves before legs =
 -- ---- what comes of it
 
 -- no slot owns what a job tries
-pub jobs_apart : (before t : Switch) → Known before (Some 0) t → (job conn orig : ℕ) (winner : Winner) (caller : Caller) →
-    DoesJob t job conn (Originate orig winner caller) → (slot : ℕ) (o : Orig) → row_of t.origs orig ≡ Some o → o.owner ≡ owner.Slot slot → ⊥
-jobs_apart before t known job conn orig winner caller does slot o there owned =
-    let found = row_found t.jobs job (record { conn = conn; work = Originate orig winner caller }) does.there in
+pub jobs_apart : (before t : Switch) → Known before (Some 0) t → (job : ℕ) (who : Asker) (orig : ℕ) (winner : Winner) (caller : Caller) →
+    DoesJob t job who (Originate orig winner caller) → (slot : ℕ) (o : Orig) → row_of t.origs orig ≡ Some o → o.owner ≡ owner.Slot slot → ⊥
+jobs_apart before t known job who orig winner caller does slot o there owned =
+    let found = row_found t.jobs job (record { asker = who; work = Originate orig winner caller }) does.there in
     let at : IsOwnedAt of_slot t.origs orig o = owned_there of_slot t.origs orig o there in
     known.1.1.1.1.apart.apart found.0 at.seat orig found.1 found.2.there (ap (λ (y : Job). tried_by y.work) found.3)
     (at.told ∙ ap (λ (by : Owner). of_slot by orig) owned)
@@ -254,7 +293,7 @@ module _ (before : Switch) (tries : Tries before.jobs (owned_in by_job before.or
       let same_slots : length t.channels ≡ length before.channels = known.1.1.0.slots in
       let within : length t.channels ≤ 257 = omega (arith, same_slots, slots) in
       orig_seat t.jobs t.origs before.drawn.origs q.0
-      (subst (λ (jobs : Jobs). Tries jobs (owned_in by_job t.origs) before.drawn.origs) (sym known.1.1.1.0.1)
+      (known.1.1.1.0.1 (owned_in by_job t.origs) before.drawn.origs
       (subst (λ (owned : List (Option ℕ)). Tries before.jobs owned before.drawn.origs) (sym known.1.1.1.0.0) tries))
       (few_slots t owners.numbers owners.wait known.1.0.zero within) q.1
 

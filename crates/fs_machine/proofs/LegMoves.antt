@@ -28,10 +28,12 @@ use Rattle.fs_seats.proofs.HeldLemmas.{held_here, held_there, held_within}
 use Rattle.fs_seats.proofs.RowLemmas.{none_stands, numbers-with_row, seat_of-without_row_same, distinct-without_row, within-without_row}
 use Rattle.fs_state.specs.declared.conn.Conn.{Conn}
 use Rattle.fs_state.specs.declared.conn.Parting.TheVariants as parting
+use Rattle.fs_state.specs.declared.job.Asker.{Asker}
+use Rattle.fs_state.specs.declared.job.Asker.TheVariants as asker
 use Rattle.fs_state.specs.declared.job.JobWork.{JobWork}
 use Rattle.fs_state.specs.declared.job.JobWork.TheVariants.{Sleep, Originate}
 use Rattle.fs_state.specs.Switch.{Switch, chan_at, with_chan, next_orig_number, orig_of, without_orig, with_new_job, without_job}
-use Rattle.fs_state.specs.Switch.{with_bridge, next_job_number}
+use Rattle.fs_state.specs.Switch.{with_bridge}
 use Rattle.fs_state.specs.Moves.{after_move_from, orig_changed_from, orig_changed, leg_changed, with_changed_chan, after_move}
 use Rattle.fs_state.specs.Moves.{orig_given_up}
 use Rattle.fs_state.specs.Hangups.{after_hangups}
@@ -41,7 +43,9 @@ use Rattle.fs_machine.specs.Texts.{made_text, failed_text}
 use Rattle.fs_machine.specs.Connections.{conn_changed, admitted, parted, owed_since, not_owed, with_subs_changed}
 use Rattle.fs_machine.specs.Originations.{MadeGroup, group_made, won_by, after_winning}
 use Rattle.fs_machine.specs.Attempts.{first_group, orig_begun, tried_by_job, originate_begun, with_group}
-use Rattle.fs_machine.specs.Owing.{after_job_begin, after_job_end}
+use Rattle.fs_machine.specs.declared.owing.Giver.{Giver}
+use Rattle.fs_machine.specs.declared.owing.Giver.TheVariants as giver
+use Rattle.fs_machine.specs.Owing.{job_number, after_job_begin, background_begun, after_job_end}
 use Rattle.fs_machine.specs.Bridging.{caller_of, group_dialed, goes_on, after_going_on, bridge_failed_from, after_bridge_failure}
 use Rattle.fs_machine.specs.Bridging.{after_bridge_win, disposed}
 use Rattle.fs_machine.specs.Dialing.{tried_by_slot}
@@ -49,7 +53,7 @@ use Rattle.fs_machine.specs.Joining.{after_leaving}
 use Rattle.fs_machine.specs.Leaving.{after_departure}
 use Rattle.fs_machine.proofs.LeaveLemmas.{departed_kept}
 use Rattle.fs_machine.proofs.FrontLemmas.{conn_unread}
-use Rattle.fs_machine.proofs.Kept.{Fact, Links, KeptByTouches, KeptByCalls, KeptByBirths, KeptByDials, raced, KeptByMoves}
+use Rattle.fs_machine.proofs.Kept.{Fact, Links, KeptByTouches, KeptByCalls, KeptByBirths, KeptByApi, KeptByDials, raced, KeptByMoves}
 use Rattle.fs_machine.proofs.JoinLemmas.{both_left_kept}
 use Rattle.fs_machine.proofs.StayLemmas.{state_told_kept, moved_there, changed_there, orig_changed_channels}
 use Rattle.fs_machine.proofs.HangLemmas.{dies, given_up_kept, hangups_kept}
@@ -101,6 +105,20 @@ same_roles s t same h = subst Stand (sym same) h
 
 pub conn_roles : (change : Conn → Conn) (conn : ℕ) (s : Switch) → roles_of (conn_changed change conn s) ≡ roles_of s
 conn_roles change conn s = conn_unread roles_of (λ conns t. refl) change conn s
+
+-- what begins and ends jobs leaves all that legs see
+pub begun_roles : (by : Giver) (what : JobWork) (s : Switch) → roles_of (after_job_begin by what s) ≡ roles_of s
+begun_roles (giver.Conn conn) what s =
+    conn_roles (owed_since s.entries) conn (with_new_job (record { asker = asker.Conn conn; work = what }) s)
+begun_roles (giver.Job number job) what s = refl
+
+pub background_roles : (given : Option Text) (command : Text) (s : Switch) → roles_of (background_begun given command s) ≡ roles_of s
+background_roles None command s = refl
+background_roles (Some uuid) command s = refl
+
+pub ended_roles : (number : ℕ) (who : Asker) (answer : Text) (s : Switch) → roles_of (after_job_end number who answer s) ≡ roles_of s
+ended_roles number (asker.Conn conn) answer s = conn_roles not_owed conn (without_job number s)
+ended_roles number (asker.Background job) answer s = refl
 
 -- what keeps legs, and draws none
 legs_then : (s t : Switch) → t.drawn.origs ≡ s.drawn.origs → (LegsStand (roles_of s) → LegsStand (roles_of t)) →
@@ -342,9 +360,9 @@ pub same_next : (plans : List LegPlan) (caller : Caller) (s : Switch) →
     next_orig_number (group_made plans caller (next_orig_number s) s).state ≡ next_orig_number s
 same_next plans caller s = ap (λ (n : ℕ). min (n + 1) (2 ^ 64 - 1)) (group_drawn plans caller (next_orig_number s) s)
 
-originates_legs : (conn : ℕ) (groups : List (List LegPlan)) (winner : Winner) (caller : Caller) (timeout : Option ℕ) (s : Switch) →
-    Stand (roles_of s) → Stand (roles_of (originate_begun conn groups winner caller timeout s))
-originates_legs conn groups winner caller timeout s h =
+originates_legs : (who : Giver) (groups : List (List LegPlan)) (winner : Winner) (caller : Caller) (timeout : Option ℕ) (s : Switch) →
+    Stand (roles_of s) → Stand (roles_of (originate_begun who groups winner caller timeout s))
+originates_legs who groups winner caller timeout s h =
     tried (group_made plans caller (next_orig_number s) s) (same_next plans caller s) (group_stands plans caller (next_orig_number s) s)
     (group_made_kept Legs legs_births plans caller (next_orig_number s) {n = 0} {s = s} h)
   where
@@ -353,13 +371,12 @@ originates_legs conn groups winner caller timeout s h =
 
     tried : (made : MadeGroup) → next_orig_number made.state ≡ next_orig_number s →
         GroupStands (next_orig_number s) made.legs s.channels made.state.channels → Stand (roles_of made.state) →
-        Stand (roles_of (tried_by_job conn groups winner caller (unwrap_or timeout 60) (next_orig_number s) made))
+        Stand (roles_of (tried_by_job who groups winner caller (unwrap_or timeout 60) (next_orig_number s) made))
     tried made same stands h =
         let work : JobWork = Originate (next_orig_number s) winner caller in
-        let by : Owner = owner.Job (next_job_number made.state) in
+        let by : Owner = owner.Job (job_number who made.state) in
         let t : Switch = orig_begun by groups made.legs (unwrap_or timeout 60) made.state in
-        same_roles t (after_job_begin conn work t)
-        (conn_roles (owed_since t.entries) conn (with_new_job (record { conn = conn; work = work }) t))
+        same_roles t (after_job_begin who work t) (begun_roles who work t)
         (begun_legs by groups (unwrap_or timeout 60) (next_orig_number s) s.channels made same stands h)
 
 dialed_legs : (slot : ℕ) (c : Chan) (groups : List (List LegPlan)) (timeout : ℕ) (s : Switch) → Stand (roles_of s) →
@@ -406,8 +423,17 @@ legs_calls = record {
       (free_follows s.channels slot None (λ c is. ap is_live (same_Some c old (sym is ∙ there)) ∙ dead)) (h few);
 }
 
-ended_legs : (number conn : ℕ) (answer : Text) (s : Switch) → Stand (roles_of s) → Stand (roles_of (after_job_end number conn answer s))
-ended_legs number conn answer s h = same_roles s (after_job_end number conn answer s) (conn_roles not_owed conn (without_job number s)) h
+ended_legs : (number : ℕ) (who : Asker) (answer : Text) (s : Switch) → Stand (roles_of s) →
+    Stand (roles_of (after_job_end number who answer s))
+ended_legs number who answer s h = same_roles s (after_job_end number who answer s) (ended_roles number who answer s) h
+
+legs_api : (by : Giver) → KeptByApi by Legs
+legs_api by = record {
+  spent = λ h. h;
+  draws = λ h. h;
+  sleeps = λ until {s = s} may room h. same_roles s (after_job_begin by (Sleep until) s) (begun_roles by (Sleep until) s) h;
+  originates = λ groups winner caller timeout {s = s} may are short room h. originates_legs by groups winner caller timeout s h;
+}
 
 -- the legs that stood before stand as others lose the race
 module _ (before : Switch) (stand : LegsStand (roles_of before)) where
@@ -429,27 +455,26 @@ module _ (before : Switch) (stand : LegsStand (roles_of before)) where
   legs_moves = record {
     calls = legs_calls;
     jobs = record {
-      woken = λ number conn until answer {s = s} does h. ended_legs number conn answer s h;
-      failed = λ job conn winner caller orig cause {s = s} does over h. ended_legs job conn (failed_text cause) (without_orig orig s)
+      out = λ number job does h. h;
+      runs = λ number job. legs_api (giver.Job number job);
+      woken = λ number who until answer {s = s} does h. ended_legs number who answer s h;
+      failed = λ job who winner caller orig cause {s = s} does over h. ended_legs job who (failed_text cause) (without_orig orig s)
           (λ few. without_legs orig s (h few));
-      wins = λ job conn winner caller orig leg slots does won h.
+      wins = λ job who winner caller orig leg slots does won h.
           let s : Switch = raced slots before in
-          ended_legs job conn (made_text leg.uuid) (without_orig orig (after_winning winner (unwrap_or leg.slot 0) s))
+          ended_legs job who (made_text leg.uuid) (without_orig orig (after_winning winner (unwrap_or leg.slot 0) s))
           (λ few. won_legs winner orig leg s (winning_leg before orig leg slots won stand) (raced_legs slots));
     };
     dials = legs_dials;
     commands = λ conn. record {
-      spent = λ h. h;
-      draws = λ h. h;
+      api = legs_api (giver.Conn conn);
       noticed = λ frame h. h;
       gave = λ frame h. h;
       asked = λ change {s = s} h. same_roles s (conn_changed (with_subs_changed change) conn s)
           (conn_roles (with_subs_changed change) conn s) h;
       admitted = λ {s = s} fresh h. same_roles s (conn_changed admitted conn s) (conn_roles admitted conn s) h;
       parted = λ why {s = s} leaves h. same_roles s (conn_changed (parted why) conn s) (conn_roles (parted why) conn s) h;
-      sleeps = λ until {s = s} room h. same_roles s (after_job_begin conn (Sleep until) s)
-          (conn_roles (owed_since s.entries) conn (with_new_job (record { conn = conn; work = Sleep until }) s)) h;
-      originates = λ groups winner caller timeout {s = s} are short room h. originates_legs conn groups winner caller timeout s h;
+      backgrounds = λ given command {s = s} room h. same_roles s (background_begun given command s) (background_roles given command s) h;
     };
     visits = record {
       arrived = λ h. h;

@@ -541,5 +541,5 @@ module _ (before : Switch) (bonds : Bonds before) (stand : LegsStand (roles_of b
   pub ending_moves : KeptByMoves before (Ending before)
   ending_moves =
       moves_by_front before (Ending before) (same_at before) calls_end (births_end before) dials_end
-      (λ job conn winner caller orig leg slots does won h. won_ended before winner (unwrap_or leg.slot 0) (raced slots before) h)
+      (λ job who winner caller orig leg slots does won h. won_ended before winner (unwrap_or leg.slot 0) (raced slots before) h)
       (λ s h. spent_at before s h)

@@ -14,13 +14,15 @@ use Rattle.fs_orig.specs.declared.winner.Winner.{Winner}
 use Rattle.fs_state.specs.declared.conn.Conn.{Conn}
 use Rattle.fs_state.specs.declared.conn.Parting.TheVariants as parting
 use Rattle.fs_state.specs.declared.gift.Gift.{Gift}
+use Rattle.fs_state.specs.declared.job.Asker.{Asker}
+use Rattle.fs_state.specs.declared.job.Asker.TheVariants as asker
 use Rattle.fs_state.specs.declared.job.JobWork.{JobWork}
 use Rattle.fs_state.specs.declared.job.JobWork.TheVariants.{Sleep, Originate}
 use Rattle.fs_state.specs.declared.outgoing.Outgoing.TheVariants.{Reply}
 use Rattle.fs_state.specs.Drawn as numbers
 use Rattle.fs_state.specs.Frames.{Frames, is_event, events_in}
 use Rattle.fs_state.specs.Posting.{most_events, room_behind, posts, with_posts}
-use Rattle.fs_state.specs.Switch.{Switch, empty, conn_of, next_orig_number, next_job_number, with_new_job, without_job}
+use Rattle.fs_state.specs.Switch.{Switch, empty, conn_of, next_orig_number, with_new_job, without_job}
 use Rattle.fs_state.specs.Switch.{without_orig, without_conn, outgoing_for, with_frame_taken, gift_of, at_moment, all_given, after_entry}
 use Rattle.fs_state.proofs.GiftLemmas.{events_append, events_drop}
 use Rattle.fs_machine.specs.declared.entry.Entry.{Entry}
@@ -33,11 +35,13 @@ use Rattle.fs_machine.specs.Connections.{with_subs_changed}
 use Rattle.fs_machine.specs.Entries.{cost_of}
 use Rattle.fs_machine.specs.Originations.{MadeGroup, group_made, after_winning}
 use Rattle.fs_machine.specs.Attempts.{first_group, orig_begun, originate_begun}
-use Rattle.fs_machine.specs.Owing.{after_job_begin, after_job_end}
+use Rattle.fs_machine.specs.declared.owing.Giver.{Giver}
+use Rattle.fs_machine.specs.declared.owing.Giver.TheVariants as giver
+use Rattle.fs_machine.specs.Owing.{job_number, after_job_begin, background_begun, after_job_end}
 use Rattle.fs_machine.specs.Runs.{run_from, IsRunFrom}
 use Rattle.fs_machine.specs.Sound.{EventsAreFew}
 use Rattle.fs_machine.specs.Step.{is_closed, refusal_of, act_done, step}
-use Rattle.fs_machine.proofs.Kept.{Fact, raced, KeptByMoves}
+use Rattle.fs_machine.proofs.Kept.{Fact, raced, KeptByApi, KeptByMoves}
 use Rattle.fs_machine.proofs.ActWalk.{acted_kept}
 use Rattle.fs_machine.proofs.RestLemmas.{Rest, rest_of, calls_by_rest, dials_by_rest, group_made_rest, won_rest}
 use Rattle.fs_machine.proofs.KeepLemmas.{act_keeps}
@@ -88,50 +92,65 @@ changed_replies change conn s h = by (conn_of s conn)
     by None = h
     by (Some c) = h
 
-owing_replies : (conn : ℕ) (what : JobWork) (s : Switch) → Replies s → Replies (after_job_begin conn what s)
-owing_replies conn what s h = changed_replies (owed_since s.entries) conn (with_new_job (record { conn = conn; work = what }) s) h
+owing_replies : (by : Giver) (what : JobWork) (s : Switch) → Replies s → Replies (after_job_begin by what s)
+owing_replies (giver.Conn conn) what s h =
+    changed_replies (owed_since s.entries) conn (with_new_job (record { asker = asker.Conn conn; work = what }) s) h
+owing_replies (giver.Job number job) what s h = h
 
-ended_replies : (number conn : ℕ) (answer : Text) (s : Switch) → Replies s → Replies (after_job_end number conn answer s)
-ended_replies number conn answer s h =
+ended_replies : (number : ℕ) (who : Asker) (answer : Text) (s : Switch) → Replies s → Replies (after_job_end number who answer s)
+ended_replies number (asker.Conn conn) answer s h =
     let over : Switch = conn_changed not_owed conn (without_job number s) in
     let k : Replies over = changed_replies not_owed conn (without_job number s) h in
     (k.0, reply_more conn (api_reply answer) over.late k.1, k.2)
+ended_replies number (asker.Background job) answer s h = h
 
-originates_replies : (conn : ℕ) (groups : List (List LegPlan)) (winner : Winner) (caller : Caller) (timeout : Option ℕ) (s : Switch) →
-    Replies s → Replies (originate_begun conn groups winner caller timeout s)
-originates_replies conn groups winner caller timeout s h =
+originates_replies : (by : Giver) (groups : List (List LegPlan)) (winner : Winner) (caller : Caller) (timeout : Option ℕ) (s : Switch) →
+    Replies s → Replies (originate_begun by groups winner caller timeout s)
+originates_replies by groups winner caller timeout s h =
     let made : MadeGroup = group_made (first_group groups) caller (next_orig_number s) s in
-    owing_replies conn (Originate (next_orig_number s) winner caller)
-    (orig_begun (owner.Job (next_job_number made.state)) groups made.legs (unwrap_or timeout 60) made.state)
+    owing_replies by (Originate (next_orig_number s) winner caller)
+    (orig_begun (owner.Job (job_number by made.state)) groups made.legs (unwrap_or timeout 60) made.state)
     (rest_replies s made.state (group_made_rest (first_group groups) caller (next_orig_number s) s) h)
+
+background_replies : (given : Option Text) (command : Text) (s : Switch) → Replies s → Replies (background_begun given command s)
+background_replies None command s h = h
+background_replies (Some uuid) command s h = h
 
 -- every move gives replies alone
 abbrev Replying : Fact
 Replying b s = Replies s
 
+replying_api : (by : Giver) → KeptByApi by Replying
+replying_api by = record {
+  spent = λ h. h;
+  draws = λ h. h;
+  sleeps = λ until {s = s} may room h. owing_replies by (Sleep until) s h;
+  originates = λ groups winner caller timeout {s = s} may are short room h. originates_replies by groups winner caller timeout s h;
+}
+
 replying_moves : (before : Switch) → KeptByMoves before Replying
 replying_moves before = record {
   calls = calls_by_rest Replying (λ b t u h same. rest_replies t u same h) (λ t h. h);
   jobs = record {
-    woken = λ number conn until answer {s = s} does h. ended_replies number conn answer s h;
-    failed = λ job conn winner caller orig cause {s = s} does over h. ended_replies job conn (failed_text cause) (without_orig orig s) h;
-    wins = λ job conn winner caller orig leg slots does won h.
+    out = λ number job does h. h;
+    runs = λ number job. replying_api (giver.Job number job);
+    woken = λ number who until answer {s = s} does h. ended_replies number who answer s h;
+    failed = λ job who winner caller orig cause {s = s} does over h. ended_replies job who (failed_text cause) (without_orig orig s) h;
+    wins = λ job who winner caller orig leg slots does won h.
         let t : Switch = raced slots before in
         let u : Switch = after_winning winner (unwrap_or leg.slot 0) t in
-        ended_replies job conn (made_text leg.uuid) (without_orig orig u)
+        ended_replies job who (made_text leg.uuid) (without_orig orig u)
         (rest_replies t u (won_rest winner (unwrap_or leg.slot 0) t) h);
   };
   dials = dials_by_rest before Replying (λ b t u h same. rest_replies t u same h) (λ t h. h);
   commands = λ conn. record {
-    spent = λ h. h;
-    draws = λ h. h;
+    api = replying_api (giver.Conn conn);
     noticed = λ frame {s = s} h. (h.0, h.1, reply_more conn frame s.notices h.2);
     gave = λ frame {s = s} h. (reply_more conn frame s.replies h.0, h.1, h.2);
     asked = λ change {s = s} h. changed_replies (with_subs_changed change) conn s h;
     admitted = λ {s = s} fresh h. changed_replies admitted conn s h;
     parted = λ why {s = s} leaves h. changed_replies (parted why) conn s h;
-    sleeps = λ until {s = s} room h. owing_replies conn (Sleep until) s h;
-    originates = λ groups winner caller timeout {s = s} are short room h. originates_replies conn groups winner caller timeout s h;
+    backgrounds = λ given command {s = s} room h. background_replies given command s h;
   };
   visits = record {
     arrived = λ {s = s} h. (reply_more (numbers.with_conn s.drawn).conns auth_request s.replies h.0, h.1, h.2);

@@ -18,8 +18,12 @@ use Rattle.fs_state.specs.declared.conn.Phase.{Phase}
 use Rattle.fs_state.specs.declared.conn.Phase.TheVariants as phase
 use Rattle.fs_state.specs.declared.conn.Parting.{Parting}
 use Rattle.fs_state.specs.declared.conn.Parting.TheVariants as parting
+use Rattle.fs_state.specs.declared.job.Asker.{Asker}
+use Rattle.fs_state.specs.declared.job.Asker.TheVariants as asker
+use Rattle.fs_state.specs.declared.job.Background.{Background}
 use Rattle.fs_state.specs.declared.job.JobWork.TheVariants as work
-use Rattle.fs_state.specs.Switch.{Switch, conn_of, is_full_of_jobs, without_orig, with_frame_now, with_notice, next_orig_number}
+use Rattle.fs_state.specs.Switch.{Switch, conn_of, is_full_of_jobs, without_job, without_orig, with_frame_now, with_notice}
+use Rattle.fs_state.specs.Switch.{next_orig_number}
 use Rattle.fs_machine.specs.declared.entry.Act.{Act}
 use Rattle.fs_machine.specs.declared.entry.Act.TheVariants as act
 use Rattle.fs_machine.specs.declared.entry.Closing.{Closing}
@@ -30,18 +34,20 @@ use Rattle.fs_machine.specs.Connections.{phase_of, phase_at, conn_changed, admit
 use Rattle.fs_machine.specs.Questions.{owed_of, owed_to}
 use Rattle.fs_machine.specs.Originations.{group_made, after_winning, seconds, MadeGroup}
 use Rattle.fs_machine.specs.Attempts.{originate_begun, with_group, first_group, orig_begun, awaits}
-use Rattle.fs_machine.specs.Owing.{after_job_begin, after_job_end}
+use Rattle.fs_machine.specs.declared.owing.Giver.{Giver}
+use Rattle.fs_machine.specs.declared.owing.Giver.TheVariants as giver
+use Rattle.fs_machine.specs.Owing.{after_job_begin, background_begun, after_job_end}
 use Rattle.fs_machine.specs.Step.{reads, busy, refused_act, after_close, act_done}
 use Rattle.fs_machine.specs.Owed.{PartsIn}
 use Rattle.fs_machine.proofs.Kept.{Stage, Fact, KeptByCalls, DoesJob, raced, KeptByJobs, KeptByCommands, KeptByTouches, KeptByDials}
-use Rattle.fs_machine.proofs.Kept.{apart_by, KeptByMoves}
+use Rattle.fs_machine.proofs.Kept.{apart_by, MayGoOn, goes_on_by, KeptByApi, KeptByMoves}
 use Rattle.fs_machine.proofs.Walk.{worked_kept}
 use Rattle.fs_machine.proofs.RestLemmas.{does_same, won_rest}
 use Rattle.fs_machine.proofs.OrderLemmas.{none_refused}
 use Rattle.fs_machine.proofs.ActWalk.{job_kept, commanded_kept}
 use Rattle.fs_machine.proofs.OwedBooks.{Books, books_of, Sound, Goes, Few, SlotsAreFew, books_lose}
 use Rattle.fs_machine.proofs.OwedJobs.{near_self, parts_of, goes_conn, goes_gone, goes_arrived, goes_sleep, goes_originate, goes_woken}
-use Rattle.fs_machine.proofs.OwedJobs.{goes_over, goes_drawn}
+use Rattle.fs_machine.proofs.OwedJobs.{goes_over, goes_drawn, MayBegin, goes_background, goes_out, out_may}
 use Rattle.fs_text.specs.declared.causes.Cause.{Cause}
 use Rattle.fs_chan.specs.declared.chan.Chan.{Chan}
 use Rattle.fs_chan.specs.Bridging.{exported_pairs, awaiting}
@@ -77,34 +83,106 @@ may_owe s conn reading none = by (conn_of s conn) refl
 
 -- ---- every move
 
--- at first the books are what they were, and slots own few originations; once something has begun they are as they must be, near what
--- they were
+-- but for jobs, the books are what they were
+abbrev IsFrom : Books → Switch → Type 0
+IsFrom b t = books_of t ≡ record b { jobs = t.jobs }
+
+-- at first the books are as they must be, and but for jobs what they were, and slots own few originations; once something has begun they
+-- are as they must be, near what they were
 abbrev GoesFrom : Books → Fact
-GoesFrom b None t = (books_of t ≡ b) × SlotsAreFew t
+GoesFrom b None t = Sound (books_of t) × IsFrom b t × SlotsAreFew t
 GoesFrom b (Some n) t = Goes b (books_of t)
 
 goes_loses : (b : Books) (stage : Stage) (t u : Switch) → GoesFrom b stage t → Loses t u → GoesFrom b stage u
 goes_loses b None t u h loses =
-    let few : taken_in (owned_in by_slot t.origs) ≤ 256 = h.1 in
+    let few : taken_in (owned_in by_slot t.origs) ≤ 256 = h.2 in
     let less : taken_in (owned_in by_slot u.origs) ≤ taken_in (owned_in by_slot t.origs) = loses.slots in
-    (books_lose t u loses ∙ h.0, omega (arith, few, less))
+    let same : books_of u ≡ books_of t = books_lose t u loses in (
+      subst (λ (x : Books). Sound x) (sym same) h.0,
+      same ∙ (h.1 ∙ ap (λ (x : Books). record b { jobs = x.jobs }) (sym same)),
+      omega (arith, few, less),
+    )
 goes_loses b (Some n) t u h loses = subst (λ (x : Books). Goes b x) (sym (books_lose t u loses)) h
 
 calls_go : (b : Books) → KeptByCalls (GoesFrom b)
 calls_go b = calls_by_losses (GoesFrom b) (goes_loses b) (λ t h. h)
 
-goes_spent : (b : Books) → Sound b → (t : Switch) → books_of t ≡ b → Goes b (books_of t)
-goes_spent b sound t same = subst (λ (x : Books). Goes b x) (sym same) (record { sound = sound; near = near_self b })
-
 -- what goes from a switch of these books goes from them
-goes_from : (b : Books) → Few b → Sound b → (s t : Switch) → books_of s ≡ b →
-    (Few (books_of s) → Sound (books_of s) → Goes (books_of s) (books_of t)) → Goes b (books_of t)
-goes_from b few sound s t same goes =
-    subst (λ (x : Books). Goes x (books_of t)) same (goes (subst Few (sym same) few) (subst Sound (sym same) sound))
+goes_on_from : (b : Books) (t : Switch) (new : Books) → IsFrom b t → Goes (books_of t) new → Goes b new
+goes_on_from b t new same h =
+    let goes : Goes (record b { jobs = t.jobs }) new = subst (λ (x : Books). Goes x new) same h in
+    record {
+      sound = goes.sound;
+      near = record {
+        conns = goes.near.conns;
+        jobs = goes.near.jobs;
+        origs = goes.near.origs;
+        cost = goes.near.cost;
+        limit = goes.near.limit;
+      };
+    }
 
--- the commands of a connection that is there and is owed nothing, where few numbers were drawn
-module _ (b : Books) (conn : ℕ) (c : Conn) (there : row_of b.conns conn ≡ Some c) (none : c.owed ≡ None) (few : Few b)
-    (sound : Sound b) where
+goes_spent : (b : Books) (t : Switch) → GoesFrom b None t → Goes b (books_of t)
+goes_spent b t h = goes_on_from b t (books_of t) h.1 (record { sound = h.0; near = near_self (books_of t) })
+
+-- so it does where few numbers were drawn
+goes_from : (b : Books) → Few b → (s t : Switch) → GoesFrom b None s →
+    (Few (books_of s) → Sound (books_of s) → Goes (books_of s) (books_of t)) → Goes b (books_of t)
+goes_from b few s t h goes =
+    let same_few : Few (record b { jobs = s.jobs }) = record { conns = few.conns; jobs = few.jobs; origs = few.origs } in
+    goes_on_from b s (books_of t) h.1 (goes (subst (λ (x : Books). Few x) (sym h.1) same_few) h.0)
+
+a_seat : (s : Switch) → is_full_of_jobs s ≡ false → (q : ℕ) × (least_free s.jobs 0 ≡ Some q)
+a_seat s room = by (least_free s.jobs 0) refl room
+  where
+    by : (found : Option ℕ) → least_free s.jobs 0 ≡ found → is_none found ≡ false → (q : ℕ) × (least_free s.jobs 0 ≡ Some q)
+    by None is room = absurd (cc)
+    by (Some q) is room = (q, is)
+
+-- ---- api commands
+
+-- where a giver may let a job go on, one may begin for it
+abbrev LetsBegin : Books → Giver → Type 0
+LetsBegin b by = (s : Switch) → GoesFrom b None s → MayGoOn (GoesFrom b) by s → MayBegin (books_of s) by
+
+-- a connection that is there and is owed nothing
+conn_may : (b : Books) (conn : ℕ) (c : Conn) → row_of b.conns conn ≡ Some c → c.owed ≡ None → LetsBegin b (giver.Conn conn)
+conn_may b conn c there none s h may = (c, ap (λ (x : Books). row_of x.conns conn) h.1 ∙ there, none)
+
+-- a job that was taken out
+job_may : (b : Books) (number : ℕ) (job : Background) → LetsBegin b (giver.Job number job)
+job_may b number job s h may =
+    subst (λ (t : Switch). MayBegin (books_of t) (giver.Job number job)) (sym may.left) (out_may may.past number job may.does may.first.0)
+
+-- where few numbers were drawn
+module _ (b : Books) (by : Giver) (few : Few b) (has : LetsBegin b by) where
+  sleeps_go : (until : ℕ) (s : Switch) → MayGoOn (GoesFrom b) by s → is_full_of_jobs s ≡ false → GoesFrom b None s →
+      Goes b (books_of (after_job_begin by (work.Sleep until) s))
+  sleeps_go until s may room h =
+      let seat = a_seat s room in
+      goes_from b few s (after_job_begin by (work.Sleep until) s) h (goes_sleep s by until seat.0 (has s h may) seat.1)
+
+  originates_go : (groups : List (List LegPlan)) (winner : Winner) (caller : Caller) (timeout : Option ℕ) (s : Switch) →
+      MayGoOn (GoesFrom b) by s → is_full_of_jobs s ≡ false → GoesFrom b None s →
+      Goes b (books_of (originate_begun by groups winner caller timeout s))
+  originates_go groups winner caller timeout s may room h =
+      let seat = a_seat s room in
+      goes_from b few s (originate_begun by groups winner caller timeout s) h
+      (λ few sound. goes_originate s by groups winner caller timeout seat.0 (has s h may) seat.1 few h.2 sound)
+
+  api_goes : KeptByApi by (GoesFrom b)
+  api_goes = record {
+    spent = λ {s = s} h. goes_spent b s h;
+    draws = λ {s = s} h. goes_spent b s h;
+    sleeps = λ until {s = s} may room h. sleeps_go until s may room h;
+    originates = λ groups winner caller timeout {s = s} may are short room h.
+        originates_go groups winner caller timeout s may room h;
+  }
+
+-- ---- the commands of a connection
+
+-- of one that is there and is owed nothing, where few numbers were drawn
+module _ (b : Books) (conn : ℕ) (c : Conn) (there : row_of b.conns conn ≡ Some c) (none : c.owed ≡ None) (few : Few b) where
   parted_goes : (why : Parting) (s : Switch) → Goes b (books_of s) → Goes b (books_of (conn_changed (parted why) conn s))
   parted_goes why s h = goes_conn b (parted why) conn s (λ x is. something_there why) (λ x. refl) h
 
@@ -119,33 +197,6 @@ module _ (b : Books) (conn : ℕ) (c : Conn) (there : row_of b.conns conn ≡ So
   asked_goes change s h =
       goes_conn b (with_subs_changed change) conn s (λ x is. parts_of s conn x h.sound.linked.parts is) (λ x. refl) h
 
-  a_seat : (s : Switch) → is_full_of_jobs s ≡ false → (q : ℕ) × (least_free s.jobs 0 ≡ Some q)
-  a_seat s room = by (least_free s.jobs 0) refl room
-    where
-      by : (found : Option ℕ) → least_free s.jobs 0 ≡ found → is_none found ≡ false → (q : ℕ) × (least_free s.jobs 0 ≡ Some q)
-      by None is room = absurd (cc)
-      by (Some q) is room = (q, is)
-
-  -- what goes from a switch of these books goes from them
-  from : (s t : Switch) → books_of s ≡ b → (Few (books_of s) → Sound (books_of s) → Goes (books_of s) (books_of t)) → Goes b (books_of t)
-  from = goes_from b few sound
-
-  sleeps_go : (until : ℕ) (s : Switch) → is_full_of_jobs s ≡ false → books_of s ≡ b →
-      Goes b (books_of (after_job_begin conn (work.Sleep until) s))
-  sleeps_go until s room same =
-      let seat = a_seat s room in
-      from s (after_job_begin conn (work.Sleep until) s) same
-      (goes_sleep s conn until c seat.0 (ap (λ (x : Books). row_of x.conns conn) same ∙ there) none seat.1)
-
-  originates_go : (groups : List (List LegPlan)) (winner : Winner) (caller : Caller) (timeout : Option ℕ) (s : Switch) →
-      is_full_of_jobs s ≡ false → books_of s ≡ b → SlotsAreFew s →
-      Goes b (books_of (originate_begun conn groups winner caller timeout s))
-  originates_go groups winner caller timeout s room same slots =
-      let seat = a_seat s room in
-      from s (originate_begun conn groups winner caller timeout s) same
-      (λ few sound. goes_originate s conn groups winner caller timeout c seat.0 (ap (λ (x : Books). row_of x.conns conn) same ∙ there) none
-      seat.1 few slots sound)
-
   noticed_goes : (frame : Text) (stage : Stage) (s : Switch) → GoesFrom b stage s → GoesFrom b stage (with_notice conn frame s)
   noticed_goes frame None s h = h
   noticed_goes frame (Some n) s h = h
@@ -154,17 +205,21 @@ module _ (b : Books) (conn : ℕ) (c : Conn) (there : row_of b.conns conn ≡ So
   gave_goes frame None s h = h
   gave_goes frame (Some n) s h = h
 
+  backgrounds_go : (given : Option Text) (command : Text) (s : Switch) → is_full_of_jobs s ≡ false → GoesFrom b None s →
+      Goes b (books_of (background_begun given command s))
+  backgrounds_go given command s room h =
+      let seat = a_seat s room in
+      goes_from b few s (background_begun given command s) h (goes_background s given command seat.0 seat.1)
+
   commands_go : KeptByCommands conn (GoesFrom b)
   commands_go = record {
-    spent = λ {s = s} h. goes_spent b sound s h.0;
-    draws = λ {s = s} h. goes_spent b sound s h.0;
+    api = api_goes b (giver.Conn conn) few (conn_may b conn c there none);
     noticed = λ frame {b = stage} {s = s} h. noticed_goes frame stage s h;
     gave = λ frame {b = stage} {s = s} h. gave_goes frame stage s h;
     asked = λ change {s = s} h. asked_goes change s h;
     admitted = λ {s = s} new h. admitted_goes s new h;
     parted = λ why {s = s} leaves h. parted_goes why s h;
-    sleeps = λ until {s = s} room h. sleeps_go until s room h.0;
-    originates = λ groups winner caller timeout {s = s} are short room h. originates_go groups winner caller timeout s room h.0 h.1;
+    backgrounds = λ given command {s = s} room h. backgrounds_go given command s room h;
   }
 
 -- ---- jobs, and channels that dial
@@ -174,7 +229,7 @@ abbrev Beside : Books → Fact → Fact
 Beside b Q stage t = GoesFrom b stage t × Q stage t
 
 module _ (before : Switch) (Q : Fact) (kept : KeptByMoves before Q) (owns : (b : Stage) (t : Switch) → Q b t → OwnsAwaited t)
-    (numbers : (b : Stage) (t : Switch) → Q b t → Numbers t.origs t.drawn.origs) (b : Books) (few : Few b) (sound : Sound b) where
+    (numbers : (b : Stage) (t : Switch) → Q b t → Numbers t.origs t.drawn.origs) (b : Books) (few : Few b) where
   both_touched : KeptByTouches (Beside b Q)
   both_touched = record {
     told = λ event plain h. ((calls_go b).touches.told event plain h.0, kept.calls.touches.told event plain h.1);
@@ -204,26 +259,56 @@ module _ (before : Switch) (Q : Fact) (kept : KeptByMoves before Q) (owns : (b :
   }
 
   -- a job has ended with the origination that it tried
-  wins_go : (s : Switch) (job conn orig : ℕ) (winner : Winner) (caller : Caller) (leg : OrigLeg) → Numbers s.origs s.drawn.origs →
-      DoesJob s job conn (work.Originate orig winner caller) → Goes b (books_of s) →
-      Goes b (books_of (after_job_end job conn (made_text leg.uuid) (without_orig orig (after_winning winner (unwrap_or leg.slot 0) s))))
-  wins_go s job conn orig winner caller leg numbered does h =
+  wins_go : (s : Switch) (job : ℕ) (who : Asker) (orig : ℕ) (winner : Winner) (caller : Caller) (leg : OrigLeg) →
+      Numbers s.origs s.drawn.origs → DoesJob s job who (work.Originate orig winner caller) → Goes b (books_of s) →
+      Goes b (books_of (after_job_end job who (made_text leg.uuid) (without_orig orig (after_winning winner (unwrap_or leg.slot 0) s))))
+  wins_go s job who orig winner caller leg numbered does h =
       let slot : ℕ = unwrap_or leg.slot 0 in
       let t : Switch = after_winning winner slot s in
-      goes_over b t job conn orig winner caller (made_text leg.uuid) (winning_numbers winner slot s numbered)
+      goes_over b t job who orig winner caller (made_text leg.uuid) (winning_numbers winner slot s numbered)
       (does_same does (won_rest winner slot s)) (goes_loses b (Some 0) s t h (winning_loses winner slot s))
+
+  -- a job is taken out to run its command
+  out_goes : (number : ℕ) (job : Background) (s : Switch) → DoesJob s number (asker.Background job) work.Run → GoesFrom b None s →
+      GoesFrom b None (without_job number s)
+  out_goes number job s does h = (
+    (goes_out s number job does h.0).sound,
+    ap (λ (x : Books). record x { jobs = (without_job number s).jobs }) h.1,
+    h.2,
+  )
+
+  -- and may go on behind it
+  both_run : (number : ℕ) (job : Background) → KeptByApi (giver.Job number job) (Beside b Q)
+  both_run number job =
+      let by : Giver = giver.Job number job in
+      let has : LetsBegin b by = job_may b number job in
+      let runs : KeptByApi by Q = kept.jobs.runs number job in
+      record {
+        spent = λ {s = s} h. (goes_spent b s h.0, runs.spent h.1);
+        draws = λ {s = s} h. ((api_goes b by few has).draws {s = s} h.0, runs.draws h.1);
+        sleeps = λ until {s = s} may room h. (
+          sleeps_go b by few has until s (goes_on_by (Beside b Q) (GoesFrom b) by s may (λ t k. k.0)) room h.0,
+          runs.sleeps until (goes_on_by (Beside b Q) Q by s may (λ t k. k.1)) room h.1,
+        );
+        originates = λ groups winner caller timeout {s = s} may are short room h. (
+          originates_go b by few has groups winner caller timeout s (goes_on_by (Beside b Q) (GoesFrom b) by s may (λ t k. k.0)) room h.0,
+          runs.originates groups winner caller timeout (goes_on_by (Beside b Q) Q by s may (λ t k. k.1)) are short room h.1,
+        );
+      }
 
   jobs_go : KeptByJobs before (Beside b Q)
   jobs_go = record {
-    woken = λ number conn until answer {s = s} does h.
-        (goes_woken b s number conn until answer does h.0, kept.jobs.woken number conn until answer does h.1);
-    failed = λ job conn winner caller orig cause {s = s} does over h. (
-      goes_over b s job conn orig winner caller (failed_text cause) (numbers (Some 0) s h.1) does h.0,
-      kept.jobs.failed job conn winner caller orig cause does over h.1,
+    out = λ number job {s = s} does h. (out_goes number job s does h.0, kept.jobs.out number job does h.1);
+    runs = both_run;
+    woken = λ number who until answer {s = s} does h.
+        (goes_woken b s number who until answer does h.0, kept.jobs.woken number who until answer does h.1);
+    failed = λ job who winner caller orig cause {s = s} does over h. (
+      goes_over b s job who orig winner caller (failed_text cause) (numbers (Some 0) s h.1) does h.0,
+      kept.jobs.failed job who winner caller orig cause does over h.1,
     );
-    wins = λ job conn winner caller orig leg slots does won h. (
-      wins_go (raced slots before) job conn orig winner caller leg (numbers (Some 0) (raced slots before) h.1) does h.0,
-      kept.jobs.wins job conn winner caller orig leg slots does won h.1,
+    wins = λ job who winner caller orig leg slots does won h. (
+      wins_go (raced slots before) job who orig winner caller leg (numbers (Some 0) (raced slots before) h.1) does h.0,
+      kept.jobs.wins job who winner caller orig leg slots does won h.1,
     );
   }
 
@@ -265,10 +350,10 @@ module _ (before : Switch) (Q : Fact) (kept : KeptByMoves before Q) (owns : (b :
 
   dials_go : KeptByDials before (Beside b Q)
   dials_go = record {
-    spent = λ {s = s} h. (goes_spent b sound s h.0.0, kept.dials.spent h.1);
+    spent = λ {s = s} h. (goes_spent b s h.0, kept.dials.spent h.1);
     dials = λ slot c groups timeout {s = s} there works are h. (
-      goes_from b few sound s
-          (tried_by_slot slot groups timeout (next_orig_number s) (group_dialed (Some c) (first_group groups) (next_orig_number s) s)) h.0.0
+      goes_from b few s
+          (tried_by_slot slot groups timeout (next_orig_number s) (group_dialed (Some c) (first_group groups) (next_orig_number s) s)) h.0
           (dialed_goes slot c groups timeout s),
       kept.dials.dials slot c groups timeout there works are h.1,
     );
@@ -292,6 +377,10 @@ closed_goes closing.EndOfInput conn s h =
 closed_goes closing.Sent conn s h = goes_gone (books_of s) conn s h
 closed_goes closing.Failed conn s h = goes_gone (books_of s) conn s h
 
+-- the books of a switch are what they were
+at_first : (s : Switch) → Sound (books_of s) → SlotsAreFew s → GoesFrom (books_of s) None s
+at_first s h slots = (h, refl, slots)
+
 -- each act, beside such a fact
 pub goes_acted : (what : Act) (s : Switch) (Q : Fact) → KeptByMoves s Q → ((b : Stage) (t : Switch) → Q b t → OwnsAwaited t) →
     ((b : Stage) (t : Switch) → Q b t → Numbers t.origs t.drawn.origs) → refused_act what s ≡ None → Few (books_of s) →
@@ -299,16 +388,16 @@ pub goes_acted : (what : Act) (s : Switch) (Q : Fact) → KeptByMoves s Q → ((
 goes_acted act.Arrive s Q kept owns numbers accepts few h slots q = goes_arrived s few h
 goes_acted (act.Command conn block) s Q kept owns numbers accepts few h slots q =
     let passed = none_refused (not (reads (phase_at s conn))) refusal.Gone (busy (owed_to s conn)) accepts in
-    let giver = may_owe s conn (not-false (reads (phase_at s conn)) passed.0) (not_busy (owed_to s conn) passed.1) in
+    let given = may_owe s conn (not-false (reads (phase_at s conn)) passed.0) (not_busy (owed_to s conn) passed.1) in
     commanded_kept conn (GoesFrom (books_of s)) (calls_go (books_of s))
-    (commands_go (books_of s) conn giver.0 giver.1.there giver.1.none few h) (command_of block) {s = s} (refl, slots)
-goes_acted (act.Take conn) s Q kept owns numbers accepts few h slots q = goes_spent (books_of s) h s refl
+    (commands_go (books_of s) conn given.0 given.1.there given.1.none few) (command_of block) {s = s} (at_first s h slots)
+goes_acted (act.Take conn) s Q kept owns numbers accepts few h slots q = goes_spent (books_of s) s (at_first s h slots)
 goes_acted (act.Close conn how) s Q kept owns numbers accepts few h slots q =
-    closed_goes how conn s (goes_spent (books_of s) h s refl)
+    closed_goes how conn s (goes_spent (books_of s) s (at_first s h slots))
 goes_acted (act.Work slot) s Q kept owns numbers accepts few h slots q =
-    (worked_kept s (Beside (books_of s) Q) (both_called s Q kept owns numbers (books_of s) few h)
-    (dials_go s Q kept owns numbers (books_of s) few h) slot ((refl, slots), q)).0
+    (worked_kept s (Beside (books_of s) Q) (both_called s Q kept owns numbers (books_of s) few)
+    (dials_go s Q kept owns numbers (books_of s) few) slot (at_first s h slots, q)).0
 goes_acted (act.Job number) s Q kept owns numbers accepts few h slots q =
-    (job_kept s (Beside (books_of s) Q) (both_called s Q kept owns numbers (books_of s) few h)
-    (dials_go s Q kept owns numbers (books_of s) few h) (jobs_go s Q kept owns numbers (books_of s) few h) number
-    ((refl, slots), q) (goes_spent (books_of s) h s refl, kept.dials.spent q)).0
+    (job_kept s (Beside (books_of s) Q) (both_called s Q kept owns numbers (books_of s) few)
+    (dials_go s Q kept owns numbers (books_of s) few) (jobs_go s Q kept owns numbers (books_of s) few) number
+    (at_first s h slots, q) (goes_spent (books_of s) s (at_first s h slots), kept.dials.spent q)).0

@@ -6,9 +6,10 @@ use Rattle.fs_seats.specs.Seats.{held_in}
 use Rattle.fs_seats.proofs.TableLemmas.{one_if, taken_in}
 use Rattle.fs_seats.proofs.NumberLemmas.{Numbers}
 use Rattle.fs_state.specs.declared.conn.Conn.{Conn}
+use Rattle.fs_state.specs.declared.job.Asker.TheVariants as asker
 use Rattle.fs_state.specs.declared.job.Job.{Job}
 use Rattle.fs_state.specs.declared.job.JobWork.{JobWork}
-use Rattle.fs_state.specs.declared.job.JobWork.TheVariants.{Sleep, Originate}
+use Rattle.fs_state.specs.declared.job.JobWork.TheVariants.{Run, Sleep, Originate}
 use Rattle.fs_state.specs.Switch.{Switch}
 use Rattle.fs_machine.specs.Owed.{Parts}
 use Rattle.fs_machine.proofs.RestLemmas.{Rest, rest_of}
@@ -71,15 +72,16 @@ PartEach conns = (p : ℕ) (a : Numbered Conn) → held_in conns p ≡ Some a �
 -- ---- jobs and the connections that they are for
 
 abbrev pub HasJob : Jobs → ℕ → Type 0
-HasJob jobs conn = (q : ℕ) × (job : Numbered Job) × (held_in jobs q ≡ Some job) × (job.held.conn ≡ conn)
+HasJob jobs conn = (q : ℕ) × (job : Numbered Job) × (held_in jobs q ≡ Some job) × (job.held.asker ≡ asker.Conn conn)
 
--- a reply that is owed has one job, and the connection of a job is owed a reply, if it is still there
+-- a reply that is owed has one job, and the connection that a job is for is owed a reply, if it is still there
 pub record Owes (conns : Conns) (jobs : Jobs) (drawn : ℕ) : Type 0 where
   pub owed : (p : ℕ) (a : Numbered Conn) (since : ℕ) → held_in conns p ≡ Some a → a.held.owed ≡ Some since → HasJob jobs a.number
   pub owes : (q : ℕ) (job : Numbered Job) (p : ℕ) (a : Numbered Conn) → held_in jobs q ≡ Some job → held_in conns p ≡ Some a →
-      a.number ≡ job.held.conn → a.held.owed ≢ None
-  pub alone : (q r : ℕ) (a c : Numbered Job) → held_in jobs q ≡ Some a → held_in jobs r ≡ Some c → a.held.conn ≡ c.held.conn → q ≡ r
-  pub within : (q : ℕ) (job : Numbered Job) → held_in jobs q ≡ Some job → job.held.conn ≤ drawn
+      job.held.asker ≡ asker.Conn a.number → a.held.owed ≢ None
+  pub alone : (q r : ℕ) (a c : Numbered Job) (conn : ℕ) → held_in jobs q ≡ Some a → held_in jobs r ≡ Some c →
+      a.held.asker ≡ asker.Conn conn → c.held.asker ≡ asker.Conn conn → q ≡ r
+  pub within : (q : ℕ) (job : Numbered Job) (conn : ℕ) → held_in jobs q ≡ Some job → job.held.asker ≡ asker.Conn conn → conn ≤ drawn
 
 -- connections and jobs as they must be
 pub record Linked (conns : Conns) (jobs : Jobs) (drawn jobs_drawn : ℕ) : Type 0 where
@@ -92,6 +94,7 @@ pub record Linked (conns : Conns) (jobs : Jobs) (drawn jobs_drawn : ℕ) : Type 
 
 -- the origination that work tries, if it tries one
 abbrev pub tried_by : JobWork → Option ℕ
+tried_by Run = None
 tried_by (Sleep until) = None
 tried_by (Originate orig winner caller) = Some orig
 

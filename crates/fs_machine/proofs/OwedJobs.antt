@@ -17,26 +17,32 @@ use Rattle.fs_seats.proofs.RowLemmas.{free_least}
 use Rattle.fs_seats.proofs.TableLemmas.{something_there, IsRow, HasRow, row_found, no_row, row_written, row_removed, row_added, taken_in}
 use Rattle.fs_seats.proofs.TableLemmas.{full_taken, row_of_held}
 use Rattle.fs_state.specs.declared.conn.Conn.{Conn}
+use Rattle.fs_state.specs.declared.job.Asker.{Asker}
+use Rattle.fs_state.specs.declared.job.Asker.TheVariants as asker
+use Rattle.fs_state.specs.declared.job.Background.{Background}
 use Rattle.fs_state.specs.declared.job.Job.{Job}
 use Rattle.fs_state.specs.declared.job.JobWork.{JobWork}
-use Rattle.fs_state.specs.declared.job.JobWork.TheVariants.{Sleep, Originate}
+use Rattle.fs_state.specs.declared.job.JobWork.TheVariants.{Run, Sleep, Originate}
 use Rattle.fs_state.specs.Switch.{Switch, next_orig_number, next_job_number, conn_of, with_conn, with_new_job, with_new_orig, without_job}
 use Rattle.fs_state.specs.Switch.{without_conn, without_orig}
 use Rattle.fs_machine.specs.Connections.{conn_changed_from, conn_changed, owed_since, not_owed}
 use Rattle.fs_machine.specs.Originations.{seconds, MadeGroup, group_made}
 use Rattle.fs_machine.specs.Attempts.{first_group, tried_by_job, originate_begun}
-use Rattle.fs_machine.specs.Owing.{after_job_begin, after_job_end}
+use Rattle.fs_machine.specs.declared.owing.Giver.{Giver}
+use Rattle.fs_machine.specs.declared.owing.Giver.TheVariants as giver
+use Rattle.fs_machine.specs.Owing.{job_number, after_owing, after_job_begin, job_uuid, background_begun, after_job_end}
 use Rattle.fs_machine.specs.Step.{new_conn, arrived}
 use Rattle.fs_machine.specs.Owed.{Parts}
 use Rattle.fs_machine.proofs.OwedBooks.{Conns, Jobs, Books, books_of, books_same, PartEach, Linked, HasNumber, tried_by, trying_in, Tries}
 use Rattle.fs_machine.proofs.OwedBooks.{Sound, Near, Goes, Few, tries, books_with, books_lose, SlotsAreFew}
 use Rattle.fs_machine.proofs.Kept.{DoesJob}
 use Rattle.fs_machine.proofs.RestLemmas.{rest_of}
-use Rattle.fs_machine.proofs.OwedLemmas.{linked_changed, linked_gone, linked_come, linked_more, linked_begun, linked_ended, linked_dropped}
+use Rattle.fs_machine.proofs.OwedLemmas.{linked_changed, linked_gone, linked_come, linked_more, linked_begun, linked_apart, linked_ended}
+use Rattle.fs_machine.proofs.OwedLemmas.{linked_dropped, same_conn, no_conn, numbers_back, number_left}
 use Rattle.fs_machine.proofs.OwedLemmas.{tries_slept, tries_begun, tries_woken, tries_ended, trying_most, trying_begun}
 use Rattle.fs_orig.specs.declared.orig.Owner.{Owner}
 use Rattle.fs_orig.specs.declared.winner.Winner.TheVariants.{App}
-use Rattle.fs_seats.proofs.NumberLemmas.{Numbers}
+use Rattle.fs_seats.proofs.NumberLemmas.{Numbers, numbers_come}
 use Rattle.fs_state.proofs.LegTables.{Origs}
 use Rattle.fs_machine.proofs.OwedTables.{job_there, by_job, by_slot, owned_at, owned_in, owned_held, owned_added, owned_removed}
 use Rattle.fs_machine.proofs.OwedTables.{taken_apart}
@@ -137,27 +143,41 @@ goes_arrived s few h =
 
 -- ---- a job begins
 
--- the job of a number for a connection
-abbrev job_for : ℕ → ℕ → JobWork → Numbered Job
-job_for number conn work = record { number = number; held = record { conn = conn; work = work } }
+-- the job of a number, for whoever is told its answer
+abbrev job_for : ℕ → Asker → JobWork → Numbered Job
+job_for number who work = record { number = number; held = record { asker = who; work = work } }
+
+-- who is told the answer to the command of a giver
+abbrev asker_by : Giver → Asker
+asker_by (giver.Conn conn) = asker.Conn conn
+asker_by (giver.Job number job) = asker.Background job
+
+-- the job that goes on behind that command
+abbrev job_by : Giver → JobWork → Switch → Numbered Job
+job_by by work s = job_for (job_number by s) (asker_by by) work
+
+-- behind the command of a giver a job may go on: a connection is there that is owed nothing, or a number was drawn that no job has
+abbrev pub MayBegin : Books → Giver → Type 0
+MayBegin b (giver.Conn conn) = (c : Conn) × (row_of b.conns conn ≡ Some c) × (c.owed ≡ None)
+MayBegin b (giver.Job number job) = (number ≤ b.jobs_drawn) × ((q : ℕ) (x : Numbered Job) → held_in b.jobs q ≡ Some x → x.number ≢ number)
 
 -- it begins for a connection that is owed nothing, where a seat for it is free
 goes_owing : (b : Books) (u : Switch) (conn : ℕ) (work : JobWork) (c : Conn) (q : ℕ) → conn_of u conn ≡ Some c → c.owed ≡ None →
     least_free u.jobs 0 ≡ Some q →
     u.drawn.jobs < 2 ^ 30 → u.drawn.jobs ≡ b.jobs_drawn → Linked u.conns u.jobs u.drawn.conns u.drawn.jobs →
-    Tries (with_held u.jobs q (Some (job_for (next_job_number u) conn work))) (owned_in by_job u.origs) u.drawn.origs →
-    Near b (books_of u) → Goes b (books_of (after_job_begin conn work u))
+    Tries (with_held u.jobs q (Some (job_for (next_job_number u) (asker.Conn conn) work))) (owned_in by_job u.origs) u.drawn.origs →
+    Near b (books_of u) → Goes b (books_of (after_owing conn work u))
 goes_owing b u conn work c q is none is_free few same_jobs linked tries near =
     let found = row_found u.conns conn c is in
     let free = free_least u.jobs q is_free in
     let next : next_job_number u ≡ u.drawn.jobs + 1 = omega (arith, few) in
-    let held : Job = record { conn = conn; work = work } in
-    let job : Numbered Job = job_for (next_job_number u) conn work in
+    let held : Job = record { asker = asker.Conn conn; work = work } in
+    let job : Numbered Job = job_for (next_job_number u) (asker.Conn conn) work in
     let new : Numbered Conn = record { number = conn; held = owed_since u.entries c } in
     let begun_fit : Linked (with_held u.conns found.0 (Some new)) (with_held u.jobs q (Some job)) u.drawn.conns (u.drawn.jobs + 1) =
     linked_begun u.conns u.jobs u.drawn.conns u.drawn.jobs found.0 q found.1 new job found.2.there
     (ap (λ (y : Conn). y.owed) found.3 ∙ none) (sym found.2.numbered) (something_there u.entries)
-    (parts_of u conn c linked.parts is) free.1 free.0 (sym found.2.numbered) next linked in
+    (parts_of u conn c linked.parts is) free.1 free.0 (ap asker.Conn (sym found.2.numbered)) next linked in
     let fits : Linked (with_held u.conns found.0 (Some new)) (with_held u.jobs q (Some job)) u.drawn.conns (next_job_number u) =
     subst (λ (n : ℕ). Linked (with_held u.conns found.0 (Some new)) (with_held u.jobs q (Some job)) u.drawn.conns n) (sym next) begun_fit in
     let goes : Goes b
@@ -179,16 +199,90 @@ goes_owing b u conn work c q is none is_free few same_jobs linked tries near =
     subst (λ (there : Option Conn). Goes b (books_of (conn_changed_from (owed_since u.entries) conn there (with_new_job held u))))
     (sym is) with_both
 
+-- one begins at that seat that is for no connection
+goes_apart : (b : Books) (u : Switch) (number more : ℕ) (job : Background) (work : JobWork) (q : ℕ) → least_free u.jobs 0 ≡ Some q →
+    Numbers (with_held u.jobs q (Some (job_for number (asker.Background job) work))) more → more ≤ b.jobs_drawn + 1 →
+    Linked u.conns u.jobs u.drawn.conns u.drawn.jobs →
+    Tries (with_held u.jobs q (Some (job_for number (asker.Background job) work))) (owned_in by_job u.origs) u.drawn.origs →
+    Near b (books_of u) →
+    Goes b
+    (record (books_of u)
+    { jobs = with_new_row u.jobs number (record { asker = asker.Background job; work = work }); jobs_drawn = more })
+goes_apart b u number more job work q is_free numbers near_more linked tries near =
+    let free = free_least u.jobs q is_free in
+    let held : Job = record { asker = asker.Background job; work = work } in
+    let row : Numbered Job = job_for number (asker.Background job) work in
+    let goes : Goes b (record (books_of u) { jobs = with_held u.jobs q (Some row); jobs_drawn = more }) = record {
+      sound = record {
+        linked = linked_apart u.conns u.jobs u.drawn.conns u.drawn.jobs more q row free.0 (λ conn. no_conn job conn) numbers linked;
+        tries = tries;
+      };
+      near = record { conns = near.conns; jobs = near_more; origs = near.origs; cost = near.cost; limit = near.limit };
+    } in
+    subst (λ (jobs : Jobs). Goes b (record (books_of u) { jobs = jobs; jobs_drawn = more })) (sym (row_added u.jobs number q held is_free))
+    goes
+
+-- a job goes on behind a command
+goes_begun : (b : Books) (u : Switch) (by : Giver) (work : JobWork) (q : ℕ) → MayBegin (books_of u) by → least_free u.jobs 0 ≡ Some q →
+    u.drawn.jobs < 2 ^ 30 → u.drawn.jobs ≡ b.jobs_drawn → Linked u.conns u.jobs u.drawn.conns u.drawn.jobs →
+    Tries (with_held u.jobs q (Some (job_by by work u))) (owned_in by_job u.origs) u.drawn.origs →
+    Near b (books_of u) → Goes b (books_of (after_job_begin by work u))
+goes_begun b u (giver.Conn conn) work q may is_free few same linked tries near =
+    goes_owing b u conn work may.0 q may.1 may.2 is_free few same linked tries near
+goes_begun b u (giver.Job number job) work q may is_free few same linked tries near =
+    goes_apart b u number u.drawn.jobs job work q is_free
+    (numbers_back u.jobs u.drawn.jobs q (job_for number (asker.Background job) work) may.0 may.1 linked.job_numbers)
+    (omega (arith, same)) linked tries near
+
 -- msleep
-pub goes_sleep : (s : Switch) (conn until : ℕ) (c : Conn) (q : ℕ) → conn_of s conn ≡ Some c → c.owed ≡ None → least_free s.jobs 0 ≡ Some q →
-    Few (books_of s) →
-    Sound (books_of s) → Goes (books_of s) (books_of (after_job_begin conn (Sleep until) s))
-goes_sleep s conn until c q is none is_free few h =
+pub goes_sleep : (s : Switch) (by : Giver) (until q : ℕ) → MayBegin (books_of s) by → least_free s.jobs 0 ≡ Some q → Few (books_of s) →
+    Sound (books_of s) → Goes (books_of s) (books_of (after_job_begin by (Sleep until) s))
+goes_sleep s by until q may is_free few h =
     let free = free_least s.jobs q is_free in
-    goes_owing (books_of s) s conn (Sleep until) c q is none is_free few.jobs refl h.linked
-    (tries_slept s.jobs (owned_in by_job s.origs) s.drawn.origs q (job_for (next_job_number s) conn (Sleep until)) free.1 free.0 refl
-    h.tries)
+    goes_begun (books_of s) s by (Sleep until) q may is_free few.jobs refl h.linked
+    (tries_slept s.jobs (owned_in by_job s.origs) s.drawn.origs q (job_by by (Sleep until) s) free.1 free.0 refl h.tries)
     (near_self (books_of s))
+
+-- a job in the background begins, whose identifier was drawn or given
+pub goes_background : (s : Switch) (given : Option Text) (command : Text) (q : ℕ) → least_free s.jobs 0 ≡ Some q → Few (books_of s) →
+    Sound (books_of s) → Goes (books_of s) (books_of (background_begun given command s))
+goes_background s given command q is_free few h = by given goes
+  where
+    job : Background
+    job = record { uuid = job_uuid given s; command = command }
+
+    row : Numbered Job
+    row = job_for (next_job_number s) (asker.Background job) Run
+
+    next : next_job_number s ≡ s.drawn.jobs + 1
+    next = let most : s.drawn.jobs < 2 ^ 30 = few.jobs in omega (arith, most)
+
+    fresh : Numbers (with_held s.jobs q (Some row)) (next_job_number s)
+    fresh = subst (λ (n : ℕ). Numbers (with_held s.jobs q (Some row)) n) (sym next)
+        (numbers_come s.jobs s.drawn.jobs q row next h.linked.job_numbers)
+
+    tried : Tries (with_held s.jobs q (Some row)) (owned_in by_job s.origs) s.drawn.origs
+    tried =
+        let free = free_least s.jobs q is_free in
+        tries_slept s.jobs (owned_in by_job s.origs) s.drawn.origs q row free.1 free.0 refl h.tries
+
+    goes : Goes (books_of s)
+        (record (books_of s)
+        { jobs = with_new_row s.jobs (next_job_number s) (record { asker = asker.Background job; work = Run }); jobs_drawn = next_job_number s })
+    goes =
+        goes_apart (books_of s) s (next_job_number s) (next_job_number s) job Run q is_free fresh (omega (arith, next)) h.linked tried
+        (near_self (books_of s))
+
+    by : (given : Option Text) →
+        Goes (books_of s)
+        (record (books_of s) {
+          jobs = with_new_row s.jobs (next_job_number s)
+              (record { asker = asker.Background (record { uuid = job_uuid given s; command = command }); work = Run });
+          jobs_drawn = next_job_number s;
+        }) →
+        Goes (books_of s) (books_of (background_begun given command s))
+    by None h = h
+    by (Some uuid) h = h
 
 -- ---- an origination begins
 
@@ -196,7 +290,7 @@ goes_sleep s conn until c q is none is_free few h =
 trying_fewer : (jobs : Jobs) (q : ℕ) → least_free jobs 0 ≡ Some q → trying_in jobs + 1 ≤ length jobs
 trying_fewer jobs q is_free =
     let free = free_least jobs q is_free in
-    let job : Numbered Job = job_for 0 0 (Originate 0 (App [] []) (record { name = []; number = [] })) in
+    let job : Numbered Job = job_for 0 (asker.Conn 0) (Originate 0 (App [] []) (record { name = []; number = [] })) in
     let more : trying_in (with_held jobs q (Some job)) ≡ trying_in jobs + tries (Some job) = trying_begun jobs q job free.1 free.0 in
     let one : tries (Some job) ≡ 1 = refl in
     let most : trying_in (with_held jobs q (Some job)) ≤ length (with_held jobs q (Some job)) = trying_most (with_held jobs q (Some job)) in
@@ -216,16 +310,21 @@ orig_seat jobs origs drawn q h slots is_free none =
     let lengths : length (owned_in by_job origs) ≡ length origs = length-map origs (owned_at by_job) in
     omega (arith, all, apart, fewer, slots, most, job_seats, orig_seats, lengths)
 
+-- an origination more changes nothing of that
+may_still : (by : Giver) (t : Switch) (o : Orig) → MayBegin (books_of t) by → MayBegin (books_of (with_new_orig o t)) by
+may_still (giver.Conn conn) t o may = may
+may_still (giver.Job number job) t o may = may
+
 -- at that seat it is there, and the job that tries it
-begun_at : (b : Books) (t : Switch) (conn orig job : ℕ) (winner : Winner) (caller : Caller) (o : Orig) (c : Conn) (q p : ℕ) →
-    conn_of t conn ≡ Some c → c.owed ≡ None → least_free t.jobs 0 ≡ Some q →
+begun_at : (b : Books) (t : Switch) (by : Giver) (orig job : ℕ) (winner : Winner) (caller : Caller) (o : Orig) (q p : ℕ) →
+    MayBegin (books_of t) by → least_free t.jobs 0 ≡ Some q →
     least_free t.origs 0 ≡ Some p → t.drawn.jobs < 2 ^ 30 → orig ≡ t.drawn.origs + 1 → next_orig_number t ≡ t.drawn.origs + 1 →
     o.owner ≡ owner.Job job → Sound (books_of t) → b ≡ books_of t →
-    Goes b (books_of (after_job_begin conn (Originate orig winner caller) (with_new_orig o t)))
-begun_at b t conn orig owning winner caller o c q p is none is_free is_orig_free few is_next next owns h same =
+    Goes b (books_of (after_job_begin by (Originate orig winner caller) (with_new_orig o t)))
+begun_at b t by orig owning winner caller o q p may is_free is_orig_free few is_next next owns h same =
     let free = free_least t.jobs q is_free in
     let orig_free = free_least t.origs p is_orig_free in
-    let job : Numbered Job = job_for (next_job_number t) conn (Originate orig winner caller) in
+    let job : Numbered Job = job_by by (Originate orig winner caller) (with_new_orig o t) in
     let lengths : length (owned_in by_job t.origs) ≡ length t.origs = length-map t.origs (owned_at by_job) in
     let number_within : p < length (owned_in by_job t.origs) = subst (λ (n : ℕ). p < n) (sym lengths) orig_free.1 in
     let tried : Tries (with_held t.jobs q (Some job)) (with_held (owned_in by_job t.origs) p (Some (t.drawn.origs + 1)))
@@ -242,16 +341,15 @@ begun_at b t conn orig owning winner caller o c q p is none is_free is_orig_free
     ∙ ap (λ (by : Owner). with_held (owned_in by_job t.origs) p (by_job by (next_orig_number t))) owns)) tried_next in
     let near_t : Near (books_of t) (books_of (with_new_orig o t)) =
     record { conns = omega arith; jobs = omega arith; origs = omega (arith, next); cost = refl; limit = refl } in
-    goes_owing b (with_new_orig o t) conn (Originate orig winner caller) c q is none is_free few
+    goes_begun b (with_new_orig o t) by (Originate orig winner caller) q (may_still by t o may) is_free few
     (sym (ap (λ (x : Books). x.jobs_drawn) same)) h.linked tried_there
     (subst (λ (old : Books). Near old (books_of (with_new_orig o t))) (sym same) near_t)
 
 -- originate, once the legs of its first group were made
-goes_tried : (s : Switch) (made : MadeGroup) (conn : ℕ) (groups : List (List LegPlan)) (winner : Winner) (caller : Caller) (timeout : ℕ)
-    (c : Conn) (q : ℕ) → books_of made.state ≡ books_of s →
-    conn_of s conn ≡ Some c → c.owed ≡ None → least_free s.jobs 0 ≡ Some q → Few (books_of s) → SlotsAreFew made.state →
-    Sound (books_of s) → Goes (books_of s) (books_of (tried_by_job conn groups winner caller timeout (next_orig_number s) made))
-goes_tried s made conn groups winner caller timeout c q same is none is_free few slots h = by (least_free made.state.origs 0) refl
+goes_tried : (s : Switch) (made : MadeGroup) (by : Giver) (groups : List (List LegPlan)) (winner : Winner) (caller : Caller) (timeout : ℕ)
+    (q : ℕ) → books_of made.state ≡ books_of s → MayBegin (books_of s) by → least_free s.jobs 0 ≡ Some q → Few (books_of s) → SlotsAreFew made.state →
+    Sound (books_of s) → Goes (books_of s) (books_of (tried_by_job by groups winner caller timeout (next_orig_number s) made))
+goes_tried s made by groups winner caller timeout q same may is_free few slots h = at (least_free made.state.origs 0) refl
   where
     drawn : made.state.drawn.origs ≡ s.drawn.origs
     drawn = ap (λ (b : Books). b.origs_drawn) same
@@ -265,29 +363,29 @@ goes_tried s made conn groups winner caller timeout c q same is none is_free few
     sound : Sound (books_of made.state)
     sound = subst (λ (b : Books). Sound b) (sym same) h
 
-    by : (found : Option ℕ) → least_free made.state.origs 0 ≡ found →
-        Goes (books_of s) (books_of (tried_by_job conn groups winner caller timeout (next_orig_number s) made))
-    by None is_none =
+    at : (found : Option ℕ) → least_free made.state.origs 0 ≡ found →
+        Goes (books_of s) (books_of (tried_by_job by groups winner caller timeout (next_orig_number s) made))
+    at None is_none =
         absurd
         (orig_seat made.state.jobs made.state.origs made.state.drawn.origs q sound.tries slots
         (ap (λ (b : Books). least_free b.jobs 0) same ∙ is_free) is_none)
-    by (Some p) is_orig_free =
-        begun_at (books_of s) made.state conn (next_orig_number s) (next_job_number made.state) winner caller
-        (new_orig (owner.Job (next_job_number made.state)) groups made.legs (moment_after made.state.moment (seconds timeout)))
-        c q p
-        (ap (λ (b : Books). row_of b.conns conn) same ∙ is) none
+    at (Some p) is_orig_free =
+        begun_at (books_of s) made.state by (next_orig_number s) (job_number by made.state) winner caller
+        (new_orig (owner.Job (job_number by made.state)) groups made.legs (moment_after made.state.moment (seconds timeout)))
+        q p
+        (subst (λ (b : Books). MayBegin b by) (sym same) may)
         (ap (λ (b : Books). least_free b.jobs 0) same ∙ is_free) is_orig_free few_jobs
         (omega (arith, few_origs, drawn)) (omega (arith, few_origs, drawn)) refl sound (sym same)
 
 -- originate
-pub goes_originate : (s : Switch) (conn : ℕ) (groups : List (List LegPlan)) (winner : Winner) (caller : Caller) (timeout : Option ℕ)
-    (c : Conn) (q : ℕ) → conn_of s conn ≡ Some c → c.owed ≡ None → least_free s.jobs 0 ≡ Some q → Few (books_of s) → SlotsAreFew s →
-    Sound (books_of s) → Goes (books_of s) (books_of (originate_begun conn groups winner caller timeout s))
-goes_originate s conn groups winner caller timeout c q is none is_free few slots h =
+pub goes_originate : (s : Switch) (by : Giver) (groups : List (List LegPlan)) (winner : Winner) (caller : Caller) (timeout : Option ℕ)
+    (q : ℕ) → MayBegin (books_of s) by → least_free s.jobs 0 ≡ Some q → Few (books_of s) → SlotsAreFew s →
+    Sound (books_of s) → Goes (books_of s) (books_of (originate_begun by groups winner caller timeout s))
+goes_originate s by groups winner caller timeout q may is_free few slots h =
     let made : MadeGroup = group_made (first_group groups) caller (next_orig_number s) s in
     let loses : Loses s made.state = group_loses (first_group groups) caller (next_orig_number s) s in
     let less : taken_in (owned_in by_slot made.state.origs) ≤ taken_in (owned_in by_slot s.origs) = loses.slots in
-    goes_tried s made conn groups winner caller (unwrap_or timeout 60) c q (books_lose s made.state loses) is none is_free few
+    goes_tried s made by groups winner caller (unwrap_or timeout 60) q (books_lose s made.state loses) may is_free few
     (omega (arith, less, slots)) h
 
 -- ---- a channel dials
@@ -319,32 +417,39 @@ goes_drawn s t rest jobs drawn h =
 
 -- ---- a job ends
 
--- it ends, and its connection, if it is there, is owed nothing any more
-goes_ended : (b : Books) (u : Switch) (number conn : ℕ) (answer : Text) (q : ℕ) (row : Numbered Job) → IsRow u.jobs number q row →
-    row.held.conn ≡ conn →
+-- it is gone, and was for no connection that is there
+goes_left : (b : Books) (u : Switch) (number q : ℕ) (row : Numbered Job) → IsRow u.jobs number q row →
+    ((p : ℕ) (a : Numbered Conn) → held_in u.conns p ≡ Some a → row.held.asker ≢ asker.Conn a.number) →
     Linked u.conns u.jobs u.drawn.conns u.drawn.jobs → Tries (with_held u.jobs q None) (owned_in by_job u.origs) u.drawn.origs →
-    Near b (books_of u) → Goes b (books_of (after_job_end number conn answer u))
-goes_ended b u number conn answer q row stands for linked tries near = by (conn_of u conn) refl
-  where
-    without : without_row u.jobs number ≡ with_held u.jobs q None
-    without = row_removed u.jobs number q stands.at
+    Near b (books_of u) → Goes b (books_of (without_job number u))
+goes_left b u number q row stands gone linked tries near =
+    let goes : Goes b (record (books_of u) { jobs = with_held u.jobs q None }) = record {
+      sound = record
+          { linked = linked_dropped u.conns u.jobs u.drawn.conns u.drawn.jobs q row stands.there gone linked; tries = tries };
+      near = record { conns = near.conns; jobs = near.jobs; origs = near.origs; cost = near.cost; limit = near.limit };
+    } in
+    subst (λ (jobs : Jobs). Goes b (record (books_of u) { jobs = jobs })) (sym (row_removed u.jobs number q stands.at)) goes
 
+-- it ends, and the connection that it is for, if it is there, is owed nothing any more
+goes_ended : (b : Books) (u : Switch) (number : ℕ) (who : Asker) (answer : Text) (q : ℕ) (row : Numbered Job) → IsRow u.jobs number q row →
+    row.held.asker ≡ who →
+    Linked u.conns u.jobs u.drawn.conns u.drawn.jobs → Tries (with_held u.jobs q None) (owned_in by_job u.origs) u.drawn.origs →
+    Near b (books_of u) → Goes b (books_of (after_job_end number who answer u))
+goes_ended b u number (asker.Background job) answer q row stands for linked tries near =
+    goes_left b u number q row stands (λ p a is same. no_conn job a.number (sym for ∙ same)) linked tries near
+goes_ended b u number (asker.Conn conn) answer q row stands for linked tries near = by (conn_of u conn) refl
+  where
     by : (found : Option Conn) → conn_of u conn ≡ found → Goes b (books_of (conn_changed_from not_owed conn found (without_job number u)))
     by None is =
-        let gone : (p : ℕ) (a : Numbered Conn) → held_in u.conns p ≡ Some a →
-        a.number ≢ row.held.conn = λ p a e same. no_row u.conns conn p a is e (same ∙ for) in
-        let goes : Goes b (record (books_of u) { jobs = with_held u.jobs q None }) = record {
-          sound = record
-              { linked = linked_dropped u.conns u.jobs u.drawn.conns u.drawn.jobs q row stands.there gone linked; tries = tries };
-          near = record { conns = near.conns; jobs = near.jobs; origs = near.origs; cost = near.cost; limit = near.limit };
-        } in
-        subst (λ (jobs : Jobs). Goes b (record (books_of u) { jobs = jobs })) (sym without) goes
+        goes_left b u number q row stands
+        (λ p a e same. no_row u.conns conn p a is e (same_conn a.number conn (sym same ∙ for)))
+        linked tries near
     by (Some c) is =
         let found = row_found u.conns conn c is in
         let new : Numbered Conn = record { number = conn; held = not_owed c } in
         let fits : Linked (with_held u.conns found.0 (Some new)) (with_held u.jobs q None) u.drawn.conns u.drawn.jobs =
         linked_ended u.conns u.jobs u.drawn.conns u.drawn.jobs found.0 q found.1 new row stands.there found.2.there
-        (found.2.numbered ∙ sym for) (sym found.2.numbered) refl
+        (for ∙ ap asker.Conn (sym found.2.numbered)) (sym found.2.numbered) refl
         (parts_of u conn c linked.parts is) linked in
         let goes : Goes b (record (books_of u) { conns = with_held u.conns found.0 (Some new); jobs = with_held u.jobs q None }) = record {
           sound = record { linked = fits; tries = tries };
@@ -353,18 +458,45 @@ goes_ended b u number conn answer q row stands for linked tries near = by (conn_
         let without_its_job : Goes b
         (record (books_of u) { conns = with_held u.conns found.0 (Some new); jobs = without_row u.jobs number }) =
         subst (λ (jobs : Jobs). Goes b (record (books_of u) { conns = with_held u.conns found.0 (Some new); jobs = jobs }))
-        (sym without) goes in
+        (sym (row_removed u.jobs number q stands.at)) goes in
         subst (λ (conns : Conns). Goes b (record (books_of u) { conns = conns; jobs = without_row u.jobs number }))
         (sym (row_written u.conns conn found.0 (not_owed c) found.2.at)) without_its_job
 
+-- a job that tries nothing is gone
+tries_left : (s : Switch) (number q : ℕ) (row : Numbered Job) (what : JobWork) → IsRow s.jobs number q row → row.held.work ≡ what →
+    tried_by what ≡ None → Sound (books_of s) → Tries (with_held s.jobs q None) (owned_in by_job s.origs) s.drawn.origs
+tries_left s number q row what stands same none h =
+    tries_woken s.jobs (owned_in by_job s.origs) s.drawn.origs q row stands.there (ap tried_by same ∙ none) h.tries
+
 -- a job that slept ends
-pub goes_woken : (b : Books) (s : Switch) (number conn until : ℕ) (answer : Text) → DoesJob s number conn (Sleep until) →
-    Goes b (books_of s) → Goes b (books_of (after_job_end number conn answer s))
-goes_woken b s number conn until answer does h =
-    let found = row_found s.jobs number (record { conn = conn; work = Sleep until }) does.there in
-    goes_ended b s number conn answer found.0 found.1 found.2 (ap (λ (y : Job). y.conn) found.3) h.sound.linked
-    (tries_woken s.jobs (owned_in by_job s.origs) s.drawn.origs found.0 found.1 found.2.there
-    (ap (λ (y : Job). tried_by y.work) found.3) h.sound.tries) h.near
+pub goes_woken : (b : Books) (s : Switch) (number : ℕ) (who : Asker) (until : ℕ) (answer : Text) → DoesJob s number who (Sleep until) →
+    Goes b (books_of s) → Goes b (books_of (after_job_end number who answer s))
+goes_woken b s number who until answer does h =
+    let found = row_found s.jobs number (record { asker = who; work = Sleep until }) does.there in
+    goes_ended b s number who answer found.0 found.1 found.2 (ap (λ (y : Job). y.asker) found.3) h.sound.linked
+    (tries_left s number found.0 found.1 (Sleep until) found.2 (ap (λ (y : Job). y.work) found.3) refl h.sound) h.near
+
+-- a job that is to run a command is taken out
+pub goes_out : (s : Switch) (number : ℕ) (job : Background) → DoesJob s number (asker.Background job) Run → Sound (books_of s) →
+    Goes (books_of s) (books_of (without_job number s))
+goes_out s number job does h =
+    let found = row_found s.jobs number (record { asker = asker.Background job; work = Run }) does.there in
+    goes_left (books_of s) s number found.0 found.1 found.2
+    (λ p a is same. no_conn job a.number (sym (ap (λ (y : Job). y.asker) found.3) ∙ same)) h.linked
+    (tries_left s number found.0 found.1 Run found.2 (ap (λ (y : Job). y.work) found.3) refl h) (near_self (books_of s))
+
+-- it may go on under its number
+pub out_may : (s : Switch) (number : ℕ) (job : Background) → DoesJob s number (asker.Background job) Run → Sound (books_of s) →
+    MayBegin (books_of (without_job number s)) (giver.Job number job)
+out_may s number job does h =
+    let found = row_found s.jobs number (record { asker = asker.Background job; work = Run }) does.there in
+    (subst (λ (n : ℕ). n ≤ s.drawn.jobs) found.2.numbered (h.linked.job_numbers.within found.0 found.1 found.2.there), left)
+  where
+    left : (q : ℕ) (x : Numbered Job) → held_in (without_row s.jobs number) q ≡ Some x → x.number ≢ number
+    left q x e same =
+        let found = row_found s.jobs number (record { asker = asker.Background job; work = Run }) does.there in
+        number_left s.jobs s.drawn.jobs found.0 found.1 found.2.there h.linked.job_numbers q x
+        (sym (ap (λ (jobs : Jobs). held_in jobs q) (row_removed s.jobs number found.0 found.2.at)) ∙ e) (same ∙ sym found.2.numbered)
 
 -- the row of the origination that it tried, which is the only one of its number
 job_row : (origs : Origs) (drawn p number : ℕ) → Numbers origs drawn → held_in (owned_in by_job origs) p ≡ Some number →
@@ -386,13 +518,13 @@ tries_without jobs origs drawn q number job numbers stands tried h =
     (tries_ended jobs (owned_in by_job origs) drawn q had.0 number job stands tried had.1 h)
 
 -- a job ends with the origination that it tried
-pub goes_over : (b : Books) (s : Switch) (number conn orig : ℕ) (winner : Winner) (caller : Caller) (answer : Text) →
-    Numbers s.origs s.drawn.origs → DoesJob s number conn (Originate orig winner caller) → Goes b (books_of s) →
-    Goes b (books_of (after_job_end number conn answer (without_orig orig s)))
-goes_over b s number conn orig winner caller answer numbers does h =
-    let found = row_found s.jobs number (record { conn = conn; work = Originate orig winner caller }) does.there in
+pub goes_over : (b : Books) (s : Switch) (number : ℕ) (who : Asker) (orig : ℕ) (winner : Winner) (caller : Caller) (answer : Text) →
+    Numbers s.origs s.drawn.origs → DoesJob s number who (Originate orig winner caller) → Goes b (books_of s) →
+    Goes b (books_of (after_job_end number who answer (without_orig orig s)))
+goes_over b s number who orig winner caller answer numbers does h =
+    let found = row_found s.jobs number (record { asker = who; work = Originate orig winner caller }) does.there in
     let fits : Tries (with_held s.jobs found.0 None) (owned_in by_job (without_row s.origs orig)) s.drawn.origs =
     tries_without s.jobs s.origs s.drawn.origs found.0 orig found.1 numbers found.2.there
     (ap (λ (y : Job). tried_by y.work) found.3) h.sound.tries in
-    goes_ended b (without_orig orig s) number conn answer found.0 found.1 found.2 (ap (λ (y : Job). y.conn) found.3) h.sound.linked fits
+    goes_ended b (without_orig orig s) number who answer found.0 found.1 found.2 (ap (λ (y : Job). y.asker) found.3) h.sound.linked fits
     (record { conns = h.near.conns; jobs = h.near.jobs; origs = h.near.origs; cost = h.near.cost; limit = h.near.limit })

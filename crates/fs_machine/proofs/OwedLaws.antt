@@ -12,9 +12,10 @@ use Rattle.fs_seats.proofs.TableLemmas.{something_there, one_there, HasRow, row_
 use Rattle.fs_seats.specs.Least.{lesser}
 use Rattle.fs_seats.proofs.LeastLemmas.{lesser_never, least_never}
 use Rattle.fs_state.specs.declared.conn.Conn.{Conn}
+use Rattle.fs_state.specs.declared.job.Asker.TheVariants as asker
 use Rattle.fs_state.specs.declared.job.Job.{Job}
 use Rattle.fs_state.specs.declared.job.JobWork.{JobWork}
-use Rattle.fs_state.specs.declared.job.JobWork.TheVariants.{Sleep, Originate}
+use Rattle.fs_state.specs.declared.job.JobWork.TheVariants.{Run, Sleep, Originate}
 use Rattle.fs_state.specs.Switch.{Switch, empty, orig_of, job_of, conn_of, at_moment}
 use Rattle.fs_machine.specs.declared.due.DueActor.TheVariants as actor
 use Rattle.fs_machine.specs.declared.entry.Entry.{Entry}
@@ -38,6 +39,7 @@ orig_is_due now x (Some o) is none = cc none
 -- work has a next moment, if its origination is there
 work_is_due : (s : Switch) (work : JobWork) →
     ((number : ℕ) → tried_by work ≡ Some number → HasNumber (owned_in by_job s.origs) number) → work_due s work ≢ None
+work_is_due s Run there none = cc none
 work_is_due s (Sleep until) there none = cc none
 work_is_due s (Originate orig winner caller) there none =
     let had = there orig refl in
@@ -60,7 +62,11 @@ job_is_due s q job h is none =
     (sym (ap (λ (held : Option Job). option_and_then (λ (j : Job). work_due s j.work) held) (job_is_known s q job h is)) ∙ none)
 
 pub are_owed : (s : Switch) → Sound (books_of s) → AreOwed s
-are_owed s h = record { owed = λ conn since is. owed conn since is; parted = λ conn c is. parts_of s conn c h.linked.parts is }
+are_owed s h = record {
+  owed = λ conn since is. owed conn since is;
+  due = λ q job is. job_is_due s q job h is;
+  parted = λ conn c is. parts_of s conn c h.linked.parts is;
+}
   where
     owed : (conn since : ℕ) → owed_to s conn ≡ Some since → HasOneJob s conn
     owed conn since is = by (conn_of s conn) refl
@@ -72,14 +78,14 @@ are_owed s h = record { owed = λ conn since is. owed conn since is; parted = λ
             let since_is : c.owed ≡ Some since = sym (ap (λ (found : Option Conn). option_and_then owed_of found) at) ∙ is in
             let had : HasJob s.jobs row.1.number =
             h.linked.owes.owed row.0 row.1 since row.2.there (ap (λ (y : Conn). y.owed) row.3 ∙ since_is) in
-            let for : had.1.held.conn ≡ conn = had.3 ∙ row.2.numbered in (
+            let for : had.1.held.asker ≡ asker.Conn conn = had.3 ∙ ap asker.Conn row.2.numbered in (
               had.0,
               had.1,
               record {
                 there = had.2;
                 owes = for;
                 known = job_is_known s had.0 had.1 h had.2;
-                alone = λ other another e same. h.linked.owes.alone other had.0 another had.1 e had.2 (same ∙ sym for);
+                alone = λ other another e same. h.linked.owes.alone other had.0 another had.1 conn e had.2 same for;
                 due = job_is_due s had.0 had.1 h had.2;
               },
             )
@@ -115,6 +121,7 @@ never_due s q row there is =
 
 -- at another moment the same work is due
 due_at_moment : (s : Switch) (now : ℕ) (work : JobWork) → work_due (at_moment now s) work ≡ None → work_due s work ≡ None
+due_at_moment s now Run is = absurd (cc is)
 due_at_moment s now (Sleep until) is = absurd (cc is)
 due_at_moment s now (Originate orig winner caller) is = by (orig_of s orig) is
   where

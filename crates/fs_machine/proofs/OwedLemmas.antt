@@ -11,9 +11,26 @@ use Rattle.fs_seats.proofs.TableLemmas.{IsWrittenOrKept, written_or_kept, kept_w
 use Rattle.fs_seats.proofs.TableLemmas.{taken_more, taken_less}
 use Rattle.fs_seats.proofs.NumberLemmas.{Numbers, numbers_changed, numbers_gone, numbers_come, numbers_more}
 use Rattle.fs_state.specs.declared.conn.Conn.{Conn}
+use Rattle.fs_state.specs.declared.job.Asker.{Asker}
+use Rattle.fs_state.specs.declared.job.Asker.TheVariants as asker
+use Rattle.fs_state.specs.declared.job.Background.{Background}
 use Rattle.fs_state.specs.declared.job.Job.{Job}
 use Rattle.fs_machine.specs.Owed.{Parts}
 use Rattle.fs_machine.proofs.OwedBooks.{Conns, Jobs, PartEach, HasJob, Owes, Linked, tried_by, tried_in, tries, trying_in, HasNumber, Tries}
+
+-- ---- who is told the answer of a job
+
+-- the connection that is owed it, if one is
+abbrev told_to : Asker → Option ℕ
+told_to (asker.Conn conn) = Some conn
+told_to (asker.Background job) = None
+
+pub same_conn : (a b : ℕ) → asker.Conn a ≡ asker.Conn b → a ≡ b
+same_conn a b e = same_Some a b (ap told_to e)
+
+-- a job in the background owes it to none
+pub no_conn : (job : Background) (conn : ℕ) → asker.Background job ≢ asker.Conn conn
+no_conn job conn e = none-some conn (ap told_to e)
 
 -- ---- phases
 
@@ -27,6 +44,38 @@ parts_put conns p new parts each q x e = by (written_or_kept conns p (Some new) 
 parts_gone : (conns : Conns) (p : ℕ) → PartEach conns → PartEach (with_held conns p None)
 parts_gone conns p each q x e = each q x (kept_without conns p q x e).1
 
+-- ---- numbers
+
+-- a thing comes, of a number that was drawn and that nothing has
+pub numbers_back : {T : Type 0} → (rows : List (Option (Numbered T))) (drawn p : ℕ) (new : Numbered T) → new.number ≤ drawn →
+    ((q : ℕ) (x : Numbered T) → held_in rows q ≡ Some x → x.number ≢ new.number) → Numbers rows drawn →
+    Numbers (with_held rows p (Some new)) drawn
+numbers_back {T} rows drawn p new most none h = record {
+  apart = λ q r x z ex ez e. apart q r x z (written_or_kept rows p (Some new) q x ex) (written_or_kept rows p (Some new) r z ez) e;
+  within = λ q x e. within q x (written_or_kept rows p (Some new) q x e);
+}
+  where
+    number_of : (x : Numbered T) → Some new ≡ Some x → new.number ≡ x.number
+    number_of x e = ap (λ (y : Numbered T). y.number) (same_Some new x e)
+
+    apart : (q r : ℕ) (x z : Numbered T) → IsWrittenOrKept rows p (Some new) q x →
+        IsWrittenOrKept rows p (Some new) r z → x.number ≡ z.number → q ≡ r
+    apart q r x z (inl one) (inl two) e = one.0 ∙ sym two.0
+    apart q r x z (inl one) (inr two) e = absurd (none r z two.1 (sym (number_of x one.1 ∙ e)))
+    apart q r x z (inr one) (inl two) e = absurd (none q x one.1 (e ∙ sym (number_of z two.1)))
+    apart q r x z (inr one) (inr two) e = h.apart q r x z one.1 two.1 e
+
+    within : (q : ℕ) (x : Numbered T) → IsWrittenOrKept rows p (Some new) q x → x.number ≤ drawn
+    within q x (inl here) = let is : new.number ≡ x.number = number_of x here.1 in omega (arith, is, most)
+    within q x (inr kept) = h.within q x kept.1
+
+-- a thing is gone: its number was drawn, and nothing has it any more
+pub number_left : {T : Type 0} → (rows : List (Option (Numbered T))) (drawn p : ℕ) (old : Numbered T) → held_in rows p ≡ Some old →
+    Numbers rows drawn → (q : ℕ) (x : Numbered T) → held_in (with_held rows p None) q ≡ Some x → x.number ≢ old.number
+number_left rows drawn p old there h q x e same =
+    let kept : (q ≢ p) × (held_in rows q ≡ Some x) = kept_without rows p q x e in
+    kept.0 (h.apart q p x old kept.1 there same)
+
 -- ---- replies that are owed
 
 -- a connection is changed that is owed what it was owed before
@@ -35,7 +84,8 @@ owes_changed : (conns : Conns) (jobs : Jobs) (drawn p : ℕ) (old new : Numbered
     Owes conns jobs drawn → Owes (with_held conns p (Some new)) jobs drawn
 owes_changed conns jobs drawn p old new there same same_owed h = record {
   owed = λ q x since e o. subst (λ (n : ℕ). HasJob jobs n) (was q x e).2 (h.owed q (was q x e).0 since (was q x e).1 ((was q x e).3 ∙ o));
-  owes = λ r job q x ej e is none. h.owes r job q (was q x e).0 ej (was q x e).1 ((was q x e).2 ∙ is) ((was q x e).3 ∙ none);
+  owes = λ r job q x ej e is none. h.owes r job q (was q x e).0 ej (was q x e).1 (is ∙ ap asker.Conn (sym (was q x e).2))
+      ((was q x e).3 ∙ none);
   alone = h.alone;
   within = h.within;
 }
@@ -71,7 +121,7 @@ owes_come conns jobs drawn p new fresh none h = record {
   owed = λ q x since e o. owed q x since (written_or_kept conns p (Some new) q x e) o;
   owes = λ r job q x ej e is. owes r job q x ej (written_or_kept conns p (Some new) q x e) is;
   alone = h.alone;
-  within = λ q job e. let is : job.held.conn ≤ drawn = h.within q job e in omega (arith, is);
+  within = λ q job conn e for. let is : conn ≤ drawn = h.within q job conn e for in omega (arith, is);
 }
   where
     owed : (q : ℕ) (x : Numbered Conn) (since : ℕ) → IsWrittenOrKept conns p (Some new) q x → x.held.owed ≡ Some since →
@@ -81,11 +131,11 @@ owes_come conns jobs drawn p new fresh none h = record {
     owed q x since (inr kept) o = h.owed q x since kept.1 o
 
     owes : (r : ℕ) (job : Numbered Job) (q : ℕ) (x : Numbered Conn) → held_in jobs r ≡ Some job → IsWrittenOrKept conns p (Some new) q x →
-        x.number ≡ job.held.conn → x.held.owed ≢ None
+        job.held.asker ≡ asker.Conn x.number → x.held.owed ≢ None
     owes r job q x ej (inl here) is =
         let number : new.number ≡ x.number = ap (λ (y : Numbered Conn). y.number) (same_Some new x here.1) in
-        let drawn_before : job.held.conn ≤ drawn = h.within r job ej in
-        absurd (omega (arith, number, drawn_before, fresh, is))
+        let drawn_before : x.number ≤ drawn = h.within r job x.number ej is in
+        absurd (omega (arith, number, drawn_before, fresh))
     owes r job q x ej (inr kept) is = h.owes r job q x ej kept.1 is
 
 owes_more : (conns : Conns) (jobs : Jobs) (drawn : ℕ) → Owes conns jobs drawn → Owes conns jobs (drawn + 1)
@@ -93,69 +143,111 @@ owes_more conns jobs drawn h = record {
   owed = h.owed;
   owes = h.owes;
   alone = h.alone;
-  within = λ q job e. let is : job.held.conn ≤ drawn = h.within q job e in omega (arith, is);
+  within = λ q job conn e for. let is : conn ≤ drawn = h.within q job conn e for in omega (arith, is);
 }
 
 -- a job begins for a connection that was owed nothing, and now is
 owes_begun : (conns : Conns) (jobs : Jobs) (drawn p q : ℕ) (old new : Numbered Conn) (job : Numbered Job) →
     held_in conns p ≡ Some old → old.held.owed ≡ None → new.number ≡ old.number → new.held.owed ≢ None →
-    q < length jobs → held_in jobs q ≡ None → job.held.conn ≡ old.number →
+    q < length jobs → held_in jobs q ≡ None → job.held.asker ≡ asker.Conn old.number →
     Numbers conns drawn → Owes conns jobs drawn → Owes (with_held conns p (Some new)) (with_held jobs q (Some job)) drawn
 owes_begun conns jobs drawn p q old new job there none same now within free for n h = record {
   owed = λ k x since e o. owed k x since (written_or_kept conns p (Some new) k x e) o;
   owes = λ r j k x ej e is. owes r j k x (written_or_kept jobs q (Some job) r j ej) (written_or_kept conns p (Some new) k x e) is;
-  alone = λ r t x z ex ez is. alone r t x z (written_or_kept jobs q (Some job) r x ex) (written_or_kept jobs q (Some job) t z ez) is;
-  within = λ r j e. drawn_for r j (written_or_kept jobs q (Some job) r j e);
+  alone = λ r t x z conn ex ez one two. alone r t x z conn (written_or_kept jobs q (Some job) r x ex)
+      (written_or_kept jobs q (Some job) t z ez) one two;
+  within = λ r j conn e is. drawn_for r j conn (written_or_kept jobs q (Some job) r j e) is;
 }
   where
-    conn_of : (j : Numbered Job) → Some job ≡ Some j → j.held.conn ≡ old.number
-    conn_of j e = sym (ap (λ (y : Numbered Job). y.held.conn) (same_Some job j e)) ∙ for
+    for_it : (j : Numbered Job) → Some job ≡ Some j → j.held.asker ≡ asker.Conn old.number
+    for_it j e = sym (ap (λ (y : Numbered Job). y.held.asker) (same_Some job j e)) ∙ for
 
     number_of : (x : Numbered Conn) → Some new ≡ Some x → x.number ≡ old.number
     number_of x e = sym (ap (λ (y : Numbered Conn). y.number) (same_Some new x e)) ∙ same
 
     -- no job was for it
-    no_job : (r : ℕ) (j : Numbered Job) → held_in jobs r ≡ Some j → j.held.conn ≡ old.number → ⊥
-    no_job r j e is = h.owes r j p old e there (sym is) none
+    no_job : (r : ℕ) (j : Numbered Job) → held_in jobs r ≡ Some j → j.held.asker ≡ asker.Conn old.number → ⊥
+    no_job r j e is = h.owes r j p old e there is none
 
     owed : (k : ℕ) (x : Numbered Conn) (since : ℕ) → IsWrittenOrKept conns p (Some new) k x → x.held.owed ≡ Some since →
         HasJob (with_held jobs q (Some job)) x.number
-    owed k x since (inl here) o = (q, job, held_here jobs q (Some job) within, for ∙ sym (number_of x here.1))
+    owed k x since (inl here) o = (q, job, held_here jobs q (Some job) within, for ∙ ap asker.Conn (sym (number_of x here.1)))
     owed k x since (inr kept) o =
         let had : HasJob jobs x.number = h.owed k x since kept.1 o in
         (had.0, had.1, still_there jobs q (Some job) had.0 had.1 (not_free jobs q had.0 had.1 free had.2) had.2, had.3)
 
     owes : (r : ℕ) (j : Numbered Job) (k : ℕ) (x : Numbered Conn) → IsWrittenOrKept jobs q (Some job) r j →
-        IsWrittenOrKept conns p (Some new) k x → x.number ≡ j.held.conn → x.held.owed ≢ None
+        IsWrittenOrKept conns p (Some new) k x → j.held.asker ≡ asker.Conn x.number → x.held.owed ≢ None
     owes r j k x of_job (inl here) is = subst (λ (y : Numbered Conn). y.held.owed ≢ None) (same_Some new x here.1) now
-    owes r j k x (inl begun) (inr kept) is = absurd (kept.0 (n.apart k p x old kept.1 there (is ∙ conn_of j begun.1)))
+    owes r j k x (inl begun) (inr kept) is =
+        absurd (kept.0 (n.apart k p x old kept.1 there (same_conn x.number old.number (sym is ∙ for_it j begun.1))))
     owes r j k x (inr before) (inr kept) is = h.owes r j k x before.1 kept.1 is
 
-    alone : (r t : ℕ) (x z : Numbered Job) → IsWrittenOrKept jobs q (Some job) r x →
-        IsWrittenOrKept jobs q (Some job) t z → x.held.conn ≡ z.held.conn → r ≡ t
-    alone r t x z (inl one) (inl two) is = one.0 ∙ sym two.0
-    alone r t x z (inl one) (inr two) is = absurd (no_job t z two.1 (sym is ∙ conn_of x one.1))
-    alone r t x z (inr one) (inl two) is = absurd (no_job r x one.1 (is ∙ conn_of z two.1))
-    alone r t x z (inr one) (inr two) is = h.alone r t x z one.1 two.1 is
+    alone : (r t : ℕ) (x z : Numbered Job) (conn : ℕ) → IsWrittenOrKept jobs q (Some job) r x →
+        IsWrittenOrKept jobs q (Some job) t z → x.held.asker ≡ asker.Conn conn → z.held.asker ≡ asker.Conn conn → r ≡ t
+    alone r t x z conn (inl one) (inl two) is too = one.0 ∙ sym two.0
+    alone r t x z conn (inl one) (inr two) is too = absurd (no_job t z two.1 (too ∙ (sym is ∙ for_it x one.1)))
+    alone r t x z conn (inr one) (inl two) is too = absurd (no_job r x one.1 (is ∙ (sym too ∙ for_it z two.1)))
+    alone r t x z conn (inr one) (inr two) is too = h.alone r t x z conn one.1 two.1 is too
 
-    drawn_for : (r : ℕ) (j : Numbered Job) → IsWrittenOrKept jobs q (Some job) r j → j.held.conn ≤ drawn
-    drawn_for r j (inl begun) = let is : j.held.conn ≡ old.number = conn_of j begun.1 in
-        let most : old.number ≤ drawn = n.within p old there in omega (arith, is, most)
-    drawn_for r j (inr before) = h.within r j before.1
+    drawn_for : (r : ℕ) (j : Numbered Job) (conn : ℕ) → IsWrittenOrKept jobs q (Some job) r j → j.held.asker ≡ asker.Conn conn →
+        conn ≤ drawn
+    drawn_for r j conn (inl begun) is =
+        let same_number : conn ≡ old.number = same_conn conn old.number (sym is ∙ for_it j begun.1) in
+        let most : old.number ≤ drawn = n.within p old there in
+        omega (arith, same_number, most)
+    drawn_for r j conn (inr before) is = h.within r j conn before.1 is
+
+-- a job begins that is for no connection
+owes_apart : (conns : Conns) (jobs : Jobs) (drawn q : ℕ) (job : Numbered Job) → held_in jobs q ≡ None →
+    ((conn : ℕ) → job.held.asker ≢ asker.Conn conn) → Owes conns jobs drawn → Owes conns (with_held jobs q (Some job)) drawn
+owes_apart conns jobs drawn q job free apart h = record {
+  owed = λ k x since e o. owed k x since e o;
+  owes = λ r j k x ej e is. owes r j k x (written_or_kept jobs q (Some job) r j ej) e is;
+  alone = λ r t x z conn ex ez one two. alone r t x z conn (written_or_kept jobs q (Some job) r x ex)
+      (written_or_kept jobs q (Some job) t z ez) one two;
+  within = λ r j conn e is. drawn_for r j conn (written_or_kept jobs q (Some job) r j e) is;
+}
+  where
+    for_none : (j : Numbered Job) (conn : ℕ) → Some job ≡ Some j → j.held.asker ≡ asker.Conn conn → ⊥
+    for_none j conn e is = apart conn (ap (λ (y : Numbered Job). y.held.asker) (same_Some job j e) ∙ is)
+
+    owed : (k : ℕ) (x : Numbered Conn) (since : ℕ) → held_in conns k ≡ Some x → x.held.owed ≡ Some since →
+        HasJob (with_held jobs q (Some job)) x.number
+    owed k x since e o =
+        let had : HasJob jobs x.number = h.owed k x since e o in
+        (had.0, had.1, still_there jobs q (Some job) had.0 had.1 (not_free jobs q had.0 had.1 free had.2) had.2, had.3)
+
+    owes : (r : ℕ) (j : Numbered Job) (k : ℕ) (x : Numbered Conn) → IsWrittenOrKept jobs q (Some job) r j →
+        held_in conns k ≡ Some x → j.held.asker ≡ asker.Conn x.number → x.held.owed ≢ None
+    owes r j k x (inl begun) e is = absurd (for_none j x.number begun.1 is)
+    owes r j k x (inr before) e is = h.owes r j k x before.1 e is
+
+    alone : (r t : ℕ) (x z : Numbered Job) (conn : ℕ) → IsWrittenOrKept jobs q (Some job) r x →
+        IsWrittenOrKept jobs q (Some job) t z → x.held.asker ≡ asker.Conn conn → z.held.asker ≡ asker.Conn conn → r ≡ t
+    alone r t x z conn (inl one) two is too = absurd (for_none x conn one.1 is)
+    alone r t x z conn (inr one) (inl two) is too = absurd (for_none z conn two.1 too)
+    alone r t x z conn (inr one) (inr two) is too = h.alone r t x z conn one.1 two.1 is too
+
+    drawn_for : (r : ℕ) (j : Numbered Job) (conn : ℕ) → IsWrittenOrKept jobs q (Some job) r j → j.held.asker ≡ asker.Conn conn →
+        conn ≤ drawn
+    drawn_for r j conn (inl begun) is = absurd (for_none j conn begun.1 is)
+    drawn_for r j conn (inr before) is = h.within r j conn before.1 is
 
 -- a job ends, and its connection is owed nothing any more
 owes_ended : (conns : Conns) (jobs : Jobs) (drawn p q : ℕ) (old new : Numbered Conn) (job : Numbered Job) →
-    held_in jobs q ≡ Some job → held_in conns p ≡ Some old → old.number ≡ job.held.conn → new.number ≡ old.number → new.held.owed ≡ None →
+    held_in jobs q ≡ Some job → held_in conns p ≡ Some old → job.held.asker ≡ asker.Conn old.number → new.number ≡ old.number →
+    new.held.owed ≡ None →
     Numbers conns drawn → Owes conns jobs drawn → Owes (with_held conns p (Some new)) (with_held jobs q None) drawn
 owes_ended conns jobs drawn p q old new job stands there for same none n h = record {
   owed = λ k x since e o. owed k x since (written_or_kept conns p (Some new) k x e) o;
   owes = λ r j k x ej e is. owes r j k x (kept_without jobs q r j ej) (written_or_kept conns p (Some new) k x e) is;
-  alone = λ r t x z ex ez is. h.alone r t x z (kept_without jobs q r x ex).1 (kept_without jobs q t z ez).1 is;
-  within = λ r j e. h.within r j (kept_without jobs q r j e).1;
+  alone = λ r t x z conn ex ez one two. h.alone r t x z conn (kept_without jobs q r x ex).1 (kept_without jobs q t z ez).1 one two;
+  within = λ r j conn e is. h.within r j conn (kept_without jobs q r j e).1 is;
 }
   where
-    number_of : (x : Numbered Conn) → Some new ≡ Some x → x.number ≡ job.held.conn
-    number_of x e = sym (ap (λ (y : Numbered Conn). y.number) (same_Some new x e)) ∙ (same ∙ for)
+    number_of : (x : Numbered Conn) → Some new ≡ Some x → x.number ≡ old.number
+    number_of x e = sym (ap (λ (y : Numbered Conn). y.number) (same_Some new x e)) ∙ same
 
     owed : (k : ℕ) (x : Numbered Conn) (since : ℕ) → IsWrittenOrKept conns p (Some new) k x → x.held.owed ≡ Some since →
         HasJob (with_held jobs q None) x.number
@@ -164,25 +256,26 @@ owes_ended conns jobs drawn p q old new job stands there for same none n h = rec
     owed k x since (inr kept) o =
         let had : HasJob jobs x.number = h.owed k x since kept.1 o in
         let is : had.0 ≡ q → job ≡ had.1 = λ at. one_there jobs q had.0 job had.1 stands had.2 at in
-        let number : had.0 ≡ q → x.number ≡ old.number = λ at. sym had.3
-        ∙ (sym (ap (λ (j : Numbered Job). j.held.conn) (is at)) ∙ sym for) in
+        let number : had.0 ≡ q → x.number ≡ old.number = λ at. same_conn x.number old.number
+        (sym had.3 ∙ (sym (ap (λ (j : Numbered Job). j.held.asker) (is at)) ∙ for)) in
         let other : had.0 ≢ q = λ at. kept.0 (n.apart k p x old kept.1 there (number at)) in
         (had.0, had.1, still_there jobs q None had.0 had.1 other had.2, had.3)
 
     owes : (r : ℕ) (j : Numbered Job) (k : ℕ) (x : Numbered Conn) → (r ≢ q) × (held_in jobs r ≡ Some j) →
-        IsWrittenOrKept conns p (Some new) k x → x.number ≡ j.held.conn → x.held.owed ≢ None
-    owes r j k x before (inl here) is = absurd (before.0 (h.alone r q j job before.1 stands (sym is ∙ number_of x here.1)))
+        IsWrittenOrKept conns p (Some new) k x → j.held.asker ≡ asker.Conn x.number → x.held.owed ≢ None
+    owes r j k x before (inl here) is =
+        absurd (before.0 (h.alone r q j job old.number before.1 stands (is ∙ ap asker.Conn (number_of x here.1)) for))
     owes r j k x before (inr kept) is = h.owes r j k x before.1 kept.1 is
 
--- a job ends whose connection is gone
+-- a job ends that is for no connection that is there
 owes_dropped : (conns : Conns) (jobs : Jobs) (drawn q : ℕ) (job : Numbered Job) →
-    held_in jobs q ≡ Some job → ((p : ℕ) (a : Numbered Conn) → held_in conns p ≡ Some a → a.number ≢ job.held.conn) →
+    held_in jobs q ≡ Some job → ((p : ℕ) (a : Numbered Conn) → held_in conns p ≡ Some a → job.held.asker ≢ asker.Conn a.number) →
     Owes conns jobs drawn → Owes conns (with_held jobs q None) drawn
 owes_dropped conns jobs drawn q job stands gone h = record {
   owed = λ k x since e o. owed k x since e o;
   owes = λ r j k x ej e is none. h.owes r j k x (kept_without jobs q r j ej).1 e is none;
-  alone = λ r t x z ex ez is. h.alone r t x z (kept_without jobs q r x ex).1 (kept_without jobs q t z ez).1 is;
-  within = λ r j e. h.within r j (kept_without jobs q r j e).1;
+  alone = λ r t x z conn ex ez one two. h.alone r t x z conn (kept_without jobs q r x ex).1 (kept_without jobs q t z ez).1 one two;
+  within = λ r j conn e is. h.within r j conn (kept_without jobs q r j e).1 is;
 }
   where
     owed : (k : ℕ) (x : Numbered Conn) (since : ℕ) → held_in conns k ≡ Some x → x.held.owed ≡ Some since →
@@ -190,7 +283,7 @@ owes_dropped conns jobs drawn q job stands gone h = record {
     owed k x since e o =
         let had : HasJob jobs x.number = h.owed k x since e o in
         let is : had.0 ≡ q → job ≡ had.1 = λ at. one_there jobs q had.0 job had.1 stands had.2 at in
-        let other : had.0 ≢ q = λ at. gone k x e (sym had.3 ∙ sym (ap (λ (j : Numbered Job). j.held.conn) (is at))) in
+        let other : had.0 ≢ q = λ at. gone k x e (ap (λ (j : Numbered Job). j.held.asker) (is at) ∙ had.3) in
         (had.0, had.1, still_there jobs q None had.0 had.1 other had.2, had.3)
 
 -- ---- connections and jobs
@@ -241,7 +334,7 @@ linked_more conns jobs drawn jobs_drawn h = record {
 -- a job begins for a connection that was owed nothing, and now is
 pub linked_begun : (conns : Conns) (jobs : Jobs) (drawn jobs_drawn p q : ℕ) (old new : Numbered Conn) (job : Numbered Job) →
     held_in conns p ≡ Some old → old.held.owed ≡ None → new.number ≡ old.number → new.held.owed ≢ None → Parts new.held →
-    q < length jobs → held_in jobs q ≡ None → job.held.conn ≡ old.number → job.number ≡ jobs_drawn + 1 →
+    q < length jobs → held_in jobs q ≡ None → job.held.asker ≡ asker.Conn old.number → job.number ≡ jobs_drawn + 1 →
     Linked conns jobs drawn jobs_drawn → Linked (with_held conns p (Some new)) (with_held jobs q (Some job)) drawn (jobs_drawn + 1)
 linked_begun conns jobs drawn jobs_drawn p q old new job there none same now parts within free for fresh h = record {
   numbers = numbers_changed conns drawn p old new there same h.numbers;
@@ -250,9 +343,21 @@ linked_begun conns jobs drawn jobs_drawn p q old new job there none same now par
   owes = owes_begun conns jobs drawn p q old new job there none same now within free for h.numbers h.owes;
 }
 
+-- a job begins that is for no connection
+pub linked_apart : (conns : Conns) (jobs : Jobs) (drawn jobs_drawn more q : ℕ) (job : Numbered Job) → held_in jobs q ≡ None →
+    ((conn : ℕ) → job.held.asker ≢ asker.Conn conn) → Numbers (with_held jobs q (Some job)) more → Linked conns jobs drawn jobs_drawn →
+    Linked conns (with_held jobs q (Some job)) drawn more
+linked_apart conns jobs drawn jobs_drawn more q job free apart numbers h = record {
+  numbers = h.numbers;
+  parts = h.parts;
+  job_numbers = numbers;
+  owes = owes_apart conns jobs drawn q job free apart h.owes;
+}
+
 -- a job ends, and its connection is owed nothing any more
 pub linked_ended : (conns : Conns) (jobs : Jobs) (drawn jobs_drawn p q : ℕ) (old new : Numbered Conn) (job : Numbered Job) →
-    held_in jobs q ≡ Some job → held_in conns p ≡ Some old → old.number ≡ job.held.conn → new.number ≡ old.number → new.held.owed ≡ None →
+    held_in jobs q ≡ Some job → held_in conns p ≡ Some old → job.held.asker ≡ asker.Conn old.number → new.number ≡ old.number →
+    new.held.owed ≡ None →
     Parts new.held →
     Linked conns jobs drawn jobs_drawn → Linked (with_held conns p (Some new)) (with_held jobs q None) drawn jobs_drawn
 linked_ended conns jobs drawn jobs_drawn p q old new job stands there for same none parts h = record {
@@ -262,9 +367,9 @@ linked_ended conns jobs drawn jobs_drawn p q old new job stands there for same n
   owes = owes_ended conns jobs drawn p q old new job stands there for same none h.numbers h.owes;
 }
 
--- a job ends whose connection is gone
+-- a job ends that is for no connection that is there
 pub linked_dropped : (conns : Conns) (jobs : Jobs) (drawn jobs_drawn q : ℕ) (job : Numbered Job) →
-    held_in jobs q ≡ Some job → ((p : ℕ) (a : Numbered Conn) → held_in conns p ≡ Some a → a.number ≢ job.held.conn) →
+    held_in jobs q ≡ Some job → ((p : ℕ) (a : Numbered Conn) → held_in conns p ≡ Some a → job.held.asker ≢ asker.Conn a.number) →
     Linked conns jobs drawn jobs_drawn → Linked conns (with_held jobs q None) drawn jobs_drawn
 linked_dropped conns jobs drawn jobs_drawn q job stands gone h = record {
   numbers = h.numbers;

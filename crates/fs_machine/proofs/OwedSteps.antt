@@ -37,8 +37,8 @@ holds_empty config small = record {
       owes = record {
         owed = λ p a since is o. absurd (none_held config.settings.max_connections p a is);
         owes = λ q job p a is_job is e. absurd (none_held 1024 q job is_job);
-        alone = λ q r a c is_a is_c e. absurd (none_held 1024 q a is_a);
-        within = λ q job is. absurd (none_held 1024 q job is);
+        alone = λ q r a c conn is_a is_c one two. absurd (none_held 1024 q a is_a);
+        within = λ q job conn is for. absurd (none_held 1024 q job is);
       };
     };
     tries = record {

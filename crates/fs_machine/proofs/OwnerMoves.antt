@@ -34,20 +34,22 @@ use Rattle.fs_seats.proofs.HeldLemmas.{IsFree, held_within}
 use Rattle.fs_seats.proofs.NumberLemmas.{Numbers}
 use Rattle.fs_state.specs.declared.conn.Conn.{Conn}
 use Rattle.fs_state.specs.declared.conn.Parting.TheVariants as parting
+use Rattle.fs_state.specs.declared.job.Asker.{Asker}
 use Rattle.fs_state.specs.declared.job.JobWork.{JobWork}
 use Rattle.fs_state.specs.declared.job.JobWork.TheVariants.{Sleep, Originate}
-use Rattle.fs_state.specs.Switch.{Switch, chan_at, with_chan, next_orig_number, orig_of, without_orig, with_new_job, without_job}
-use Rattle.fs_state.specs.Switch.{with_bridge, next_job_number}
+use Rattle.fs_state.specs.Switch.{Switch, chan_at, with_chan, next_orig_number, orig_of, without_orig, with_bridge}
 use Rattle.fs_state.specs.Moves.{after_move_from, orig_changed, leg_changed, after_move, orig_given_up}
 use Rattle.fs_state.specs.Hangups.{legs_at, after_hangups}
 use Rattle.fs_state.specs.Bridging.{peer_of, with_peer_from, with_peer, joined_as}
 use Rattle.fs_state.proofs.LegTables.{berthed}
 use Rattle.fs_machine.specs.declared.call.Call.{Call}
 use Rattle.fs_machine.specs.Texts.{made_text, failed_text}
-use Rattle.fs_machine.specs.Connections.{conn_changed, admitted, parted, owed_since, not_owed, with_subs_changed}
+use Rattle.fs_machine.specs.Connections.{conn_changed, admitted, parted, with_subs_changed}
 use Rattle.fs_machine.specs.Originations.{pair_made, MadeGroup, group_made, won_by, after_winning}
 use Rattle.fs_machine.specs.Attempts.{first_group, orig_begun, tried_by_job, originate_begun, with_group, awaits}
-use Rattle.fs_machine.specs.Owing.{after_job_end}
+use Rattle.fs_machine.specs.declared.owing.Giver.{Giver}
+use Rattle.fs_machine.specs.declared.owing.Giver.TheVariants as giver
+use Rattle.fs_machine.specs.Owing.{job_number, after_job_end}
 use Rattle.fs_machine.specs.Sound.{Awaits, IsOwnedBy}
 use Rattle.fs_machine.specs.Bridging.{caller_of, group_dialed, goes_on, after_going_on, bridge_failed_from, after_bridge_failure}
 use Rattle.fs_machine.specs.Bridging.{after_bridge_win, disposed}
@@ -56,7 +58,7 @@ use Rattle.fs_machine.specs.Joining.{after_leaving, both_left}
 use Rattle.fs_state.specs.Leaving.{after_leaving_others}
 use Rattle.fs_machine.proofs.NameLemmas.{leg_chan, far_chan, pair_channels}
 use Rattle.fs_machine.proofs.Kept.{Stage, Fact, Links, Stays, KeptByTouches, KeptByCalls, KeptByBirths, KeptByDials, raced, KeptByMoves}
-use Rattle.fs_machine.proofs.Kept.{hold_in, IsApt, IsAtWork, apart_by}
+use Rattle.fs_machine.proofs.Kept.{hold_in, IsApt, IsAtWork, apart_by, goes_on_by, KeptByApi}
 use Rattle.fs_machine.proofs.StayLemmas.{state_told_kept, moved_there, changed_there}
 use Rattle.fs_machine.proofs.HangLemmas.{given_up_kept}
 use Rattle.fs_machine.proofs.Walk.{disposed_kept, group_made_kept}
@@ -72,7 +74,7 @@ use Rattle.fs_machine.proofs.JoinLemmas.{rest_dials}
 use Rattle.fs_machine.proofs.OwnerHangups.{rest_owned, hung_owned}
 use Rattle.fs_machine.proofs.OwnerLeaves.{others_owned}
 use Rattle.fs_machine.proofs.LegMoves.{orig_changed_drawn, group_drawn}
-use Rattle.fs_machine.proofs.LegMoves.{conn_roles, won_roles}
+use Rattle.fs_machine.proofs.LegMoves.{conn_roles, begun_roles, background_roles, ended_roles, won_roles}
 use Rattle.fs_machine.proofs.LegMoves.{same_next}
 
 -- ---- the fact
@@ -297,9 +299,9 @@ made_next plans caller s room = (
   room_same None s (group_made plans caller (next_orig_number s) s).state (group_drawn plans caller (next_orig_number s) s) room,
 )
 
-originates_owned : (conn : ℕ) (groups : List (List LegPlan)) (winner : Winner) (caller : Caller) (timeout : Option ℕ) (s : Switch) →
-    RoomAt None s.drawn.origs → Owned (roles_of s) → Owned (roles_of (originate_begun conn groups winner caller timeout s))
-originates_owned conn groups winner caller timeout s room h =
+originates_owned : (by : Giver) (groups : List (List LegPlan)) (winner : Winner) (caller : Caller) (timeout : Option ℕ) (s : Switch) →
+    RoomAt None s.drawn.origs → Owned (roles_of s) → Owned (roles_of (originate_begun by groups winner caller timeout s))
+originates_owned by groups winner caller timeout s room h =
     tried (group_made plans caller (next_orig_number s) s) (made_next plans caller s room).1
     (made_owned plans caller (next_orig_number s) s h)
   where
@@ -307,12 +309,12 @@ originates_owned conn groups winner caller timeout s room h =
     plans = first_group groups
 
     tried : (made : MadeGroup) → RoomAt None made.state.drawn.origs → Owned (roles_of made.state) →
-        Owned (roles_of (tried_by_job conn groups winner caller (unwrap_or timeout 60) (next_orig_number s) made))
+        Owned (roles_of (tried_by_job by groups winner caller (unwrap_or timeout 60) (next_orig_number s) made))
     tried made free k =
         let work : JobWork = Originate (next_orig_number s) winner caller in
-        let job : ℕ = next_job_number made.state in
+        let job : ℕ = job_number by made.state in
         let t : Switch = orig_begun (owner.Job job) groups made.legs (unwrap_or timeout 60) made.state in
-        subst Owned (sym (conn_roles (owed_since t.entries) conn (with_new_job (record { conn = conn; work = work }) t)))
+        subst Owned (sym (begun_roles by work t))
         (begun_owned (roles_of made.state) (next_orig_number made.state) job _ (next_number made.state free) refl k)
 
 moved_roles : (change : Chan → Chan) (slot : ℕ) (c : Chan) (s : Switch) → chan_at s slot ≡ Some c →
@@ -544,39 +546,58 @@ module _ (before : Switch) (stand : LegsStand (roles_of before)) (bonding : Kept
         };
   }
 
-  ended_owned : (number conn : ℕ) (answer : Text) (s : Switch) → Owned (roles_of s) → Owned (roles_of (after_job_end number conn answer s))
-  ended_owned number conn answer s h = subst Owned (sym (conn_roles not_owed conn (without_job number s))) h
+  ended_owned : (number : ℕ) (who : Asker) (answer : Text) (s : Switch) → Owned (roles_of s) →
+      Owned (roles_of (after_job_end number who answer s))
+  ended_owned number who answer s h = subst Owned (sym (ended_roles number who answer s)) h
 
   conn_owned : (change : Conn → Conn) (conn : ℕ) (s : Switch) → Owned (roles_of s) → Owned (roles_of (conn_changed change conn s))
   conn_owned change conn s h = subst Owned (sym (conn_roles change conn s)) h
+
+  owning_api : (by : Giver) → KeptByApi by Bonding → KeptByApi by Owning
+  owning_api by bonds = record {
+    spent = λ {s = s} h. record { bonds = bonds.spent {s = s} h.bonds; owned = h.owned; room = tt };
+    draws = λ {s = s} h. record { bonds = bonds.draws {s = s} h.bonds; owned = h.owned; room = tt };
+    sleeps = λ until {s = s} may room h. record {
+      bonds = bonds.sleeps until {s = s} (goes_on_by Owning Bonding by s may (λ t k. k.bonds)) room h.bonds;
+      owned = subst Owned (sym (begun_roles by (Sleep until) s)) h.owned;
+      room = tt;
+    };
+    originates = λ groups winner caller timeout {s = s} may are short room h. record {
+      bonds = bonds.originates groups winner caller timeout {s = s} (goes_on_by Owning Bonding by s may (λ t k. k.bonds)) are short room h.bonds;
+      owned = originates_owned by groups winner caller timeout s h.room h.owned;
+      room = tt;
+    };
+  }
 
   pub owners_moves : KeptByMoves before Owning
   owners_moves = record {
     calls = owning_calls;
     jobs = record {
-      woken = λ number conn until answer {s = s} does h. record {
-        bonds = bonding.jobs.woken number conn until answer {s = s} does h.bonds;
-        owned = ended_owned number conn answer s h.owned;
+      out = λ number job {s = s} does h.
+          record { bonds = bonding.jobs.out number job {s = s} does h.bonds; owned = h.owned; room = h.room };
+      runs = λ number job. owning_api (giver.Job number job) (bonding.jobs.runs number job);
+      woken = λ number who until answer {s = s} does h. record {
+        bonds = bonding.jobs.woken number who until answer {s = s} does h.bonds;
+        owned = ended_owned number who answer s h.owned;
         room = tt;
       };
-      failed = λ job conn winner caller orig cause {s = s} does over h. record {
-        bonds = bonding.jobs.failed job conn winner caller orig cause {s = s} does over h.bonds;
-        owned = ended_owned job conn (failed_text cause) (without_orig orig s) (without_owned orig s h.owned);
+      failed = λ job who winner caller orig cause {s = s} does over h. record {
+        bonds = bonding.jobs.failed job who winner caller orig cause {s = s} does over h.bonds;
+        owned = ended_owned job who (failed_text cause) (without_orig orig s) (without_owned orig s h.owned);
         room = tt;
       };
-      wins = λ job conn winner caller orig leg slots does won h.
+      wins = λ job who winner caller orig leg slots does won h.
           let s : Switch = raced slots before in
           record {
-            bonds = bonding.jobs.wins job conn winner caller orig leg slots does won h.bonds;
-            owned = ended_owned job conn (made_text leg.uuid) (without_orig orig (after_winning winner (unwrap_or leg.slot 0) s))
+            bonds = bonding.jobs.wins job who winner caller orig leg slots does won h.bonds;
+            owned = ended_owned job who (made_text leg.uuid) (without_orig orig (after_winning winner (unwrap_or leg.slot 0) s))
                 (won_owned winner orig leg s (winning_leg before orig leg slots won stand) h.owned);
             room = tt;
           };
     };
     dials = owning_dials;
     commands = λ conn. record {
-      spent = λ {s = s} h. record { bonds = (bonding.commands conn).spent {s = s} h.bonds; owned = h.owned; room = tt };
-      draws = λ {s = s} h. record { bonds = (bonding.commands conn).draws {s = s} h.bonds; owned = h.owned; room = tt };
+      api = owning_api (giver.Conn conn) (bonding.commands conn).api;
       noticed = λ frame {b = b} {s = s} h.
           record { bonds = (bonding.commands conn).noticed frame {b = b} {s = s} h.bonds; owned = h.owned; room = h.room };
       gave = λ frame {b = b} {s = s} h.
@@ -596,14 +617,9 @@ module _ (before : Switch) (stand : LegsStand (roles_of before)) (bonding : Kept
         owned = conn_owned (parted why) conn s h.owned;
         room = tt;
       };
-      sleeps = λ until {s = s} room h. record {
-        bonds = (bonding.commands conn).sleeps until {s = s} room h.bonds;
-        owned = conn_owned (owed_since s.entries) conn (with_new_job (record { conn = conn; work = Sleep until }) s) h.owned;
-        room = tt;
-      };
-      originates = λ groups winner caller timeout {s = s} are short room h. record {
-        bonds = (bonding.commands conn).originates groups winner caller timeout {s = s} are short room h.bonds;
-        owned = originates_owned conn groups winner caller timeout s h.room h.owned;
+      backgrounds = λ given command {s = s} room h. record {
+        bonds = (bonding.commands conn).backgrounds given command {s = s} room h.bonds;
+        owned = subst Owned (sym (background_roles given command s)) h.owned;
         room = tt;
       };
     };

@@ -10,6 +10,7 @@ use Rattle.fs_text.specs.Texts.{Text}
 use Rattle.fs_cmd.specs.Commands as command
 use Rattle.fs_cmd.specs.Commands.{Command, command_of, Message, Execute, Hangup, BadCall}
 use Rattle.fs_cmd.specs.Frames.{accepted, invalid, bye, format_unsupported, message_taken, invalid_session, invalid_call, messages_full}
+use Rattle.fs_cmd.specs.Frames.{jobs_full}
 use Rattle.fs_cmd.specs.declared.command.Form.{Form}
 use Rattle.fs_cmd.specs.declared.command.Form.TheVariants.{Plain, Json, Xml}
 use Rattle.fs_filter.specs.Subscriptions.{Subscription, has_filter}
@@ -31,9 +32,10 @@ use Rattle.fs_state.specs.declared.conn.Phase.{Phase}
 use Rattle.fs_state.specs.declared.conn.Phase.TheVariants as phase
 use Rattle.fs_state.specs.declared.conn.Parting.{Parting}
 use Rattle.fs_state.specs.declared.conn.Parting.TheVariants as parting
+use Rattle.fs_state.specs.declared.job.Asker.TheVariants as asker
 use Rattle.fs_state.specs.declared.job.JobWork.{JobWork}
 use Rattle.fs_state.specs.declared.job.JobWork.TheVariants.{Sleep, Originate}
-use Rattle.fs_state.specs.Switch.{Switch, empty, conn_of, next_orig_number, next_job_number, with_new_job, at_moment}
+use Rattle.fs_state.specs.Switch.{Switch, empty, conn_of, next_orig_number, next_job_number, is_full_of_jobs, with_new_job, at_moment}
 use Rattle.fs_state.specs.Switch.{with_next_identifier, chan_at, with_chan, slot_named}
 use Rattle.fs_state.specs.Hangups.{after_hangup}
 use Rattle.fs_machine.specs.declared.entry.Act.{Act}
@@ -43,9 +45,11 @@ use Rattle.fs_machine.specs.Connections.{with_subs_changed, subs_at}
 use Rattle.fs_machine.specs.Questions.{parting_of, parting_at}
 use Rattle.fs_machine.specs.Originations.{MadeGroup, group_made}
 use Rattle.fs_machine.specs.Attempts.{first_group, orig_begun, originate_begun}
-use Rattle.fs_machine.specs.Owing.{after_job_begin}
+use Rattle.fs_machine.specs.declared.owing.Giver.TheVariants as giver
+use Rattle.fs_machine.specs.Owing.{after_job_begin, job_uuid, background_begun}
 use Rattle.fs_machine.specs.Api.{done_by}
 use Rattle.fs_machine.specs.Commands.{with_reply, after_dismissal, after_password, with_response_of, after_asking, after_subscribing}
+use Rattle.fs_machine.specs.Commands.{with_begun_told, after_background}
 use Rattle.fs_machine.specs.Commands.{queued_on, message_done, message_done_at, message_sent, command_done_in, command_done}
 use Rattle.fs_machine.specs.Done.{Done}
 use Rattle.fs_machine.specs.Step.{reads, new_conn, step}
@@ -122,15 +126,15 @@ module _ (conn : ℕ) (s : Switch) where
       calls_by_rest (KeepsFrom conn s)
       (λ b t u h same. keeps_trans conn s t u h (keeps_same conn t u (ap (λ (r : Rest). row_of r.conns conn) same))) (λ t h. h)
 
-  owing_keeps : (work : JobWork) (t : Switch) → KeepsPhase conn s t → KeepsPhase conn s (after_job_begin conn work t)
+  owing_keeps : (work : JobWork) (t : Switch) → KeepsPhase conn s t → KeepsPhase conn s (after_job_begin (giver.Conn conn) work t)
   owing_keeps work t h =
-      let begun : Switch = with_new_job (record { conn = conn; work = work }) t in
-      keeps_trans conn s t (after_job_begin conn work t) h
-      (keeps_trans conn t begun (after_job_begin conn work t) (keeps_same conn t begun refl)
+      let begun : Switch = with_new_job (record { asker = asker.Conn conn; work = work }) t in
+      keeps_trans conn s t (after_job_begin (giver.Conn conn) work t) h
+      (keeps_trans conn t begun (after_job_begin (giver.Conn conn) work t) (keeps_same conn t begun refl)
       (changed_keeps (owed_since t.entries) (λ c. refl) (λ c. refl) conn begun))
 
   originates_keeps : (groups : List (List LegPlan)) (winner : Winner) (caller : Caller) (timeout : Option ℕ) (t : Switch) →
-      KeepsPhase conn s t → KeepsPhase conn s (originate_begun conn groups winner caller timeout t)
+      KeepsPhase conn s t → KeepsPhase conn s (originate_begun (giver.Conn conn) groups winner caller timeout t)
   originates_keeps groups winner caller timeout t h =
       let made : MadeGroup = group_made (first_group groups) caller (next_orig_number t) t in
       let begun : Switch =
@@ -140,18 +144,18 @@ module _ (conn : ℕ) (s : Switch) where
       (keeps_same conn t begun
       (ap (λ (r : Rest). row_of r.conns conn) (group_made_rest (first_group groups) caller (next_orig_number t) t))))
 
-  api_keeps : KeptByApi conn (KeepsFrom conn s)
+  api_keeps : KeptByApi (giver.Conn conn) (KeepsFrom conn s)
   api_keeps = record {
     spent = λ h. h;
     draws = λ {s = t} h. keeps_trans conn s t (with_next_identifier t) h (keeps_same conn t (with_next_identifier t) refl);
-    sleeps = λ until {s = t} room h. owing_keeps (Sleep until) t h;
-    originates = λ groups winner caller timeout {s = t} are short room h. originates_keeps groups winner caller timeout t h;
+    sleeps = λ until {s = t} may room h. owing_keeps (Sleep until) t h;
+    originates = λ groups winner caller timeout {s = t} may are short room h. originates_keeps groups winner caller timeout t h;
   }
 
   -- they leave the connection that gives them as it is
-  done_keeps : (text : Text) → KeepsPhase conn s (done_by conn (api_of text) s).state
+  done_keeps : (text : Text) → KeepsPhase conn s (done_by (giver.Conn conn) (api_of text) s).state
   done_keeps text =
-      done_kept conn (KeepsFrom conn s) calls_keep api_keeps (api_of text) {s = s} (api_short text) (keeps_same conn s s refl)
+      done_kept (giver.Conn conn) (KeepsFrom conn s) calls_keep api_keeps (api_of text) {s = s} tt (api_short text) (keeps_same conn s s refl)
 
 -- ---- a command of its own
 
@@ -290,6 +294,18 @@ sent_keeps : (conn : ℕ) (uuid : Option Text) (message : Message) (s : Switch) 
 sent_keeps conn None message s = replied_keeps conn (invalid_session []) s
 sent_keeps conn (Some uuid) message s = found_keeps conn uuid message (slot_named uuid s) s
 
+-- a job begins in the background
+begun_keeps : (conn : ℕ) (given : Option Text) (text : Text) (s : Switch) → KeepsPhase conn s (background_begun given text s)
+begun_keeps conn None text s = keeps_same conn s (background_begun None text s) refl
+begun_keeps conn (Some uuid) text s = keeps_same conn s (background_begun (Some uuid) text s) refl
+
+background_keeps : (conn : ℕ) (given : Option Text) (text : Text) (s : Switch) → KeepsPhase conn s (after_background conn given text s)
+background_keeps conn given text s =
+    let begun : Switch = background_begun given text s in
+    let told : Switch = with_begun_told conn (job_uuid given s) begun in
+    either_keeps conn s (is_full_of_jobs s) (with_reply conn jobs_full s) told (replied_keeps conn jobs_full s)
+    (keeps_trans conn s begun told (begun_keeps conn given text s) (keeps_same conn begun told refl))
+
 -- a command in a phase in which commands are read
 commanded_parts : (conn : ℕ) (now : Phase) (given : Command) (s : Switch) → reads now ≡ true → phase_at s conn ≡ now →
     parting_at s conn ≡ None → CommandParts conn given s (command_done_in now conn given s)
@@ -300,7 +316,7 @@ commanded_parts conn phase.Ready (command.Auth word) s reading at none =
     keeps_unparted conn (command.Auth word) s _ none (replied_keeps conn _ s)
 commanded_parts conn phase.Ready command.Exit s reading at none = dismisses conn s (ap reads at ∙ reading)
 commanded_parts conn phase.Ready (command.Api text) s reading at none =
-    let done : Done = done_by conn (api_of text) s in
+    let done : Done = done_by (giver.Conn conn) (api_of text) s in
     keeps_unparted conn (command.Api text) s _ none (responded_keeps conn done.reply s done.state (done_keeps conn s text))
 commanded_parts conn phase.Ready (command.Event form names) s reading at none =
     keeps_unparted conn (command.Event form names) s _ none (subscribed_keeps conn form names s)
@@ -314,6 +330,8 @@ commanded_parts conn phase.Ready (command.Filter header value) s reading at none
 commanded_parts conn phase.Ready (command.FilterDelete header value) s reading at none =
     keeps_unparted conn (command.FilterDelete header value) s _ none
     (either_keeps conn s (has_filter (subs_at s conn).filters header value) _ _ (asked_keeps conn _ _ s) (replied_keeps conn _ s))
+commanded_parts conn phase.Ready (command.Bgapi text job) s reading at none =
+    keeps_unparted conn (command.Bgapi text job) s _ none (background_keeps conn job text s)
 commanded_parts conn phase.Ready (command.Sendmsg uuid message) s reading at none =
     keeps_unparted conn (command.Sendmsg uuid message) s _ none (sent_keeps conn uuid message s)
 commanded_parts conn phase.Ready given s reading at none = keeps_unparted conn given s _ none (replied_keeps conn _ s)

@@ -356,7 +356,7 @@ partners_moves before =
     births_partners
     (dials_by_remains before Partners same_partners remains_partners births_partners
     (λ at u live h. media_partners at u h))
-    (λ job conn winner caller orig leg slots does won h. record {
+    (λ job who winner caller orig leg slots does won h. record {
       ties = won_partners winner (unwrap_or leg.slot 0) (raced slots before) h.ties;
       zero = won_zero winner (unwrap_or leg.slot 0) (raced slots before) h.zero;
     })

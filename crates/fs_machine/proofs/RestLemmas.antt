@@ -24,6 +24,7 @@ use Rattle.fs_seats.specs.declared.numbered.Numbered.{Numbered}
 use Rattle.fs_seats.specs.Rows.{row_of}
 use Rattle.fs_state.specs.declared.conn.Conn.{Conn}
 use Rattle.fs_state.specs.declared.gift.Gift.{Gift}
+use Rattle.fs_state.specs.declared.job.Asker.{Asker}
 use Rattle.fs_state.specs.declared.job.Job.{Job}
 use Rattle.fs_state.specs.declared.job.JobWork.{JobWork}
 use Rattle.fs_state.specs.Counts.{Tallies}
@@ -266,6 +267,6 @@ worked_rest slot s =
 
 -- ---- a job is the one that it was
 
-pub does_same : {s t : Switch} {number conn : ℕ} {what : JobWork} → DoesJob s number conn what → rest_of t ≡ rest_of s →
-    DoesJob t number conn what
+pub does_same : {s t : Switch} {number : ℕ} {who : Asker} {what : JobWork} → DoesJob s number who what → rest_of t ≡ rest_of s →
+    DoesJob t number who what
 does_same {s} {t} {number} does same = record { there = ap (λ (r : Rest). row_of r.jobs number) same ∙ does.there }

@@ -231,7 +231,7 @@ known_first s few h = (
   record { bonds = h.bonds; owned = h.owned; room = omega (arith, few) },
   (
     record { ties = h.paired.ties; zero = h.paired.zero },
-    (numbers_stay (seen s), ((refl, refl, refl), record { apart = h.trials; next = omega (arith, few) })),
+    (numbers_stay (seen s), ((refl, (λ owned drawn tries. tries), refl), record { apart = h.trials; next = omega (arith, few) })),
   ),
 )
 
@@ -248,7 +248,7 @@ module _ (s : Switch) (few : s.drawn.origs < 2 ^ 30) (h : Standing s) where
   waiting_moves : KeptByMoves s Waiting
   waiting_moves =
       awaited_moves s h.legs (number_left s h) (Known s) (known_moves s h.legs) (λ b t known. known.0.bonds)
-      (λ t known job conn orig winner caller does slot has. jobs_apart s t known job conn orig winner caller does slot has.orig has.there
+      (λ t known job who orig winner caller does slot has. jobs_apart s t known job who orig winner caller does slot has.orig has.there
       has.owned)
       (fresh_number s) (room_there s (jobs_few s h) (all_seats s h) (slots_within s h))
 

@@ -1,7 +1,7 @@
 -- Each act keeps what jobs try apart from what slots own.
 use Rattle.fs_text.specs.Texts.{Text}
 use Rattle.fs_state.specs.declared.conn.Parting.TheVariants as parting
-use Rattle.fs_state.specs.declared.job.JobWork.TheVariants.{Sleep, Originate}
+use Rattle.fs_state.specs.declared.job.JobWork.TheVariants.{Run, Sleep, Originate}
 use Rattle.std.proofs.Common.{unwrap_or, ◌≡◌, ℕ, ◌+◌, ◌-◌, ◌^◌, ◌<◌, ◌≤◌, List, Option, None, Some, refl, sym, ap, subst, ◌∙◌, inl, inr}
 use Rattle.std.proofs.Common.{arith}
 use Rattle.std.proofs.lemmas.Option.{none-some, same_Some}
@@ -10,7 +10,7 @@ use Rattle.fs_machine.specs.Connections.{admitted, parted, conn_changed, owed_si
 use Rattle.fs_machine.specs.Originations.{after_winning, seconds, MadeGroup, group_made}
 use Rattle.fs_machine.specs.Attempts.{with_group, first_group, orig_begun, originate_begun}
 use Rattle.fs_machine.specs.Bridging.{after_bridge_failure, after_bridge_win, caller_of, group_dialed}
-use Rattle.fs_machine.proofs.Kept.{raced, KeptByMoves, Stage}
+use Rattle.fs_machine.proofs.Kept.{raced, KeptByApi, KeptByMoves, Stage}
 use Rattle.fs_machine.proofs.OwedLosses.{winning_loses, calls_by_losses, failure_loses, bridge_won_loses, regrouped_loses, Loses}
 use Rattle.fs_machine.proofs.OwedLosses.{moved_loses, group_loses}
 use Rattle.fs_machine.proofs.OwedTables.{owned_added, of_slot, owned_in, left_stood, untold_added}
@@ -30,12 +30,17 @@ use Rattle.fs_seats.specs.Seats.{held_in, with_held, least_free}
 use Rattle.fs_seats.specs.Rows.{seat_of, with_held_at, with_new_row, without_row}
 use Rattle.fs_seats.proofs.TableLemmas.{IsWrittenOrKept, written_or_kept, kept_without}
 use Rattle.fs_state.specs.declared.conn.Conn.{Conn}
+use Rattle.fs_state.specs.declared.job.Asker.{Asker}
+use Rattle.fs_state.specs.declared.job.Asker.TheVariants as asker
 use Rattle.fs_state.specs.declared.job.Job.{Job}
 use Rattle.fs_state.specs.declared.job.JobWork.{JobWork}
 use Rattle.fs_state.specs.Switch.{Switch, next_orig_number, next_job_number, with_new_job, without_job, without_orig}
+use Rattle.fs_state.specs.Switch.{with_next_identifier}
 use Rattle.fs_state.specs.Moves.{after_move}
 use Rattle.fs_machine.specs.Dialing.{tried_by_slot}
-use Rattle.fs_machine.specs.Owing.{after_job_begin, after_job_end}
+use Rattle.fs_machine.specs.declared.owing.Giver.{Giver}
+use Rattle.fs_machine.specs.declared.owing.Giver.TheVariants as giver
+use Rattle.fs_machine.specs.Owing.{job_number, after_job_begin, job_uuid, background_begun, after_job_end}
 use Rattle.fs_machine.proofs.FrontLemmas.{conn_unread}
 use Rattle.fs_machine.proofs.RestLemmas.{Rest}
 use Rattle.fs_machine.proofs.OwedBooks.{Jobs, tried_by}
@@ -123,12 +128,19 @@ job_left jobs number q job is = by (seat_of jobs number) refl
 conn_trials : (b : Stage) (change : Conn → Conn) (conn : ℕ) (s : Switch) → Trying b s → Trying b (conn_changed change conn s)
 conn_trials b change conn s h = same_trials b s (conn_changed change conn s) (conn_unread trials_of (λ conns t. refl) change conn s) h
 
-ended_trials : (number conn : ℕ) (answer : Text) (s : Switch) → Trying (Some 0) s → Trying (Some 0) (after_job_end number conn answer s)
-ended_trials number conn answer s h =
+left_trials : (b : Stage) (number : ℕ) (s : Switch) → Trying b s → Trying b (without_job number s)
+left_trials b number s h = record {
+  apart = fewer_jobs (trials_of s) (without_job number s).jobs (job_left s.jobs number) h.apart;
+  next = h.next;
+}
+
+ended_trials : (number : ℕ) (who : Asker) (answer : Text) (s : Switch) → Trying (Some 0) s →
+    Trying (Some 0) (after_job_end number who answer s)
+ended_trials number (asker.Conn conn) answer s h =
     let t : Switch = without_job number s in
-    let gone : Trying (Some 0) t = record { apart = fewer_jobs (trials_of s) t.jobs (job_left s.jobs number) h.apart; next = tt } in
-    let changed : Trying (Some 0) (conn_changed not_owed conn t) = conn_trials (Some 0) not_owed conn t gone in
+    let changed : Trying (Some 0) (conn_changed not_owed conn t) = conn_trials (Some 0) not_owed conn t (left_trials (Some 0) number s h) in
     record { apart = changed.apart; next = tt }
+ended_trials number (asker.Background job) answer s h = record { apart = (left_trials (Some 0) number s h).apart; next = tt }
 
 -- ---- what comes
 
@@ -156,21 +168,41 @@ more_jobs r q job new h = record {
     apart k p number other (inl here) tries is = (new number (its other number here.1 tries)).1 p is
     apart k p number other (inr kept) tries is = h.apart k p number other kept.1 tries is
 
-begun_trials : (conn : ℕ) (what : JobWork) (s : Switch) →
+-- so where it finds a seat, and where it finds none
+added_apart : (s : Switch) (number : ℕ) (job : Job) →
+    ((orig : ℕ) → tried_by job.work ≡ Some orig →
+    (orig ≤ s.drawn.origs) × ((p : ℕ) → held_in (owned_in of_slot s.origs) p ≡ Some orig → ⊥)) →
+    AreApart (trials_of s) → AreApart (record (trials_of s) { jobs = with_new_row s.jobs number job })
+added_apart s number job new h = by (least_free s.jobs 0)
+  where
+    row : Numbered Job
+    row = record { number = number; held = job }
+
+    by : (found : Option ℕ) → AreApart (record (trials_of s) { jobs = with_held_at {T = Numbered Job} s.jobs (Some row) found })
+    by None = h
+    by (Some q) = more_jobs (trials_of s) q row new h
+
+begun_trials : (by : Giver) (what : JobWork) (s : Switch) →
     ((number : ℕ) → tried_by what ≡ Some number →
     (number ≤ s.drawn.origs) × ((p : ℕ) → held_in (owned_in of_slot s.origs) p ≡ Some number → ⊥)) →
-    AreApart (trials_of s) → Trying (Some 0) (after_job_begin conn what s)
-begun_trials conn what s new h =
-    conn_trials (Some 0) (owed_since s.entries) conn (with_new_job (record { conn = conn; work = what }) s)
-    (record { apart = by (least_free s.jobs 0) refl; next = tt })
-  where
-    job : Numbered Job
-    job = record { number = next_job_number s; held = record { conn = conn; work = what } }
+    AreApart (trials_of s) → Trying (Some 0) (after_job_begin by what s)
+begun_trials (giver.Conn conn) what s new h =
+    let job : Job = record { asker = asker.Conn conn; work = what } in
+    conn_trials (Some 0) (owed_since s.entries) conn (with_new_job job s)
+    (record { apart = added_apart s (next_job_number s) job new h; next = tt })
+begun_trials (giver.Job number job) what s new h =
+    record { apart = added_apart s number (record { asker = asker.Background job; work = what }) new h; next = tt }
 
-    by : (found : Option ℕ) → least_free s.jobs 0 ≡ found →
-        AreApart (record (trials_of s) { jobs = with_held_at {T = Numbered Job} s.jobs (Some job) found })
-    by None is = h
-    by (Some q) is = more_jobs (trials_of s) q job new h
+-- a job in the background tries nothing as it begins
+background_trials : (given : Option Text) (command : Text) (s : Switch) → AreApart (trials_of s) →
+    Trying (Some 1) (background_begun given command s)
+background_trials None command s h =
+    let drawn : Switch = with_next_identifier s in
+    let job : Job = record { asker = asker.Background (record { uuid = job_uuid None s; command = command }); work = Run } in
+    record { apart = added_apart drawn (next_job_number drawn) job (λ orig tries. absurd (none-some orig tries)) h; next = tt }
+background_trials (Some uuid) command s h =
+    let job : Job = record { asker = asker.Background (record { uuid = uuid; command = command }); work = Run } in
+    record { apart = added_apart s (next_job_number s) job (λ orig tries. absurd (none-some orig tries)) h; next = tt }
 
 -- more numbers were drawn
 more_drawn : (r : Trials) (drawn : ℕ) → r.drawn ≤ drawn → AreApart r → AreApart (record r { drawn = drawn })
@@ -204,15 +236,15 @@ more_owned r p h = record {
 
 -- ---- originations begin
 
-originates_trials : (conn : ℕ) (groups : List (List LegPlan)) (winner : Winner) (caller : Caller) (timeout : Option ℕ) (s : Switch) →
-    Trying None s → Trying (Some 0) (originate_begun conn groups winner caller timeout s)
-originates_trials conn groups winner caller timeout s h =
+originates_trials : (from : Giver) (groups : List (List LegPlan)) (winner : Winner) (caller : Caller) (timeout : Option ℕ) (s : Switch) →
+    Trying None s → Trying (Some 0) (originate_begun from groups winner caller timeout s)
+originates_trials from groups winner caller timeout s h =
     let made : MadeGroup = group_made (first_group groups) caller (next_orig_number s) s in
     let loses : Loses s made.state = group_loses (first_group groups) caller (next_orig_number s) s in
     let first : Trying None made.state = loses_trials None s made.state h loses in
-    let o : Orig = new_orig (owner.Job (next_job_number made.state)) groups made.legs
+    let o : Orig = new_orig (owner.Job (job_number from made.state)) groups made.legs
     (moment_after made.state.moment (seconds (unwrap_or timeout 60))) in
-    let begun : Switch = orig_begun (owner.Job (next_job_number made.state)) groups made.legs (unwrap_or timeout 60) made.state in
+    let begun : Switch = orig_begun (owner.Job (job_number from made.state)) groups made.legs (unwrap_or timeout 60) made.state in
     let room : s.drawn.origs < 2 ^ 64 - 1 = h.next in
     let drawn : made.state.drawn.origs ≡ s.drawn.origs = loses.drawn in
     let next : begun.drawn.origs ≡ made.state.drawn.origs + 1 = omega (arith, room, drawn) in
@@ -222,7 +254,7 @@ originates_trials conn groups winner caller timeout s h =
     let apart : AreApart (trials_of begun) =
     subst (λ (l : List (Option ℕ)). AreApart (record { jobs = made.state.jobs; owned = l; drawn = begun.drawn.origs })) (sym same)
     (more_drawn (trials_of made.state) begun.drawn.origs (omega (arith, next)) first.apart) in
-    begun_trials conn (Originate (next_orig_number s) winner caller) begun
+    begun_trials from (Originate (next_orig_number s) winner caller) begun
     (λ number tries. new made.state begun first.apart next its same number (same_Some (next_orig_number s) number tries)) apart
   where
     new : (t begun : Switch) → AreApart (trials_of t) → begun.drawn.origs ≡ t.drawn.origs + 1 →
@@ -276,17 +308,27 @@ dials_trials slot c groups timeout s h =
 
 -- ---- every move
 
+trying_api : (by : Giver) → KeptByApi by Trying
+trying_api by = record {
+  spent = λ {s = s} h. spent s h;
+  draws = λ h. record { apart = h.apart; next = tt };
+  sleeps = λ until {s = s} may room h. begun_trials by (Sleep until) s (λ number tries. absurd (none-some number tries)) h.apart;
+  originates = λ groups winner caller timeout {s = s} may are short room h. originates_trials by groups winner caller timeout s h;
+}
+
 pub trying_moves : (before : Switch) → KeptByMoves before Trying
 trying_moves before = record {
   calls = calls_by_losses Trying loses_trials (λ t h. record { apart = h.apart; next = tt });
   jobs = record {
-    woken = λ number conn until answer {s = s} does h. ended_trials number conn answer s h;
-    failed = λ job conn winner caller orig cause {s = s} does over h.
-        ended_trials job conn (failed_text cause) (without_orig orig s) (without_trials orig s h);
-    wins = λ job conn winner caller orig leg slots does won h.
+    out = λ number job {s = s} does h. left_trials None number s h;
+    runs = λ number job. trying_api (giver.Job number job);
+    woken = λ number who until answer {s = s} does h. ended_trials number who answer s h;
+    failed = λ job who winner caller orig cause {s = s} does over h.
+        ended_trials job who (failed_text cause) (without_orig orig s) (without_trials orig s h);
+    wins = λ job who winner caller orig leg slots does won h.
         let s : Switch = raced slots before in
         let t : Switch = after_winning winner (unwrap_or leg.slot 0) s in
-        ended_trials job conn (made_text leg.uuid) (without_orig orig t)
+        ended_trials job who (made_text leg.uuid) (without_orig orig t)
         (without_trials orig t (loses_trials (Some 0) s t h (winning_loses winner (unwrap_or leg.slot 0) s)));
   };
   dials = record {
@@ -303,15 +345,13 @@ trying_moves before = record {
         (bridge_won_loses slot (unwrap_or leg.slot 0) s);
   };
   commands = λ conn. record {
-    spent = λ {s = s} h. spent s h;
-    draws = λ h. record { apart = h.apart; next = tt };
+    api = trying_api (giver.Conn conn);
     noticed = λ frame {s = s} h. record { apart = h.apart; next = h.next };
     gave = λ frame {s = s} h. record { apart = h.apart; next = h.next };
     asked = λ change {n = n} {s = s} h. conn_trials (Some n) (with_subs_changed change) conn s h;
     admitted = λ {n = n} {s = s} fresh h. conn_trials (Some n) admitted conn s h;
     parted = λ why {n = n} {s = s} leaves h. conn_trials (Some n) (parted why) conn s h;
-    sleeps = λ until {s = s} room h. begun_trials conn (Sleep until) s (λ number tries. absurd (none-some number tries)) h.apart;
-    originates = λ groups winner caller timeout {s = s} are short room h. originates_trials conn groups winner caller timeout s h;
+    backgrounds = λ given command {s = s} room h. background_trials given command s h.apart;
   };
   visits = record {
     arrived = λ h. record { apart = h.apart; next = tt };

@@ -1,5 +1,5 @@
 -- What an api command replies, and what it does to the switch.
-use Rattle.std.specs.Prelude.{ℕ, [], ◌++◌, map, Bool, Option, None, Some, is_some, unwrap_or, Result, Ok, Err, codes}
+use Rattle.std.specs.Prelude.{ℕ, ◌*◌, [], ◌++◌, map, Bool, Option, None, Some, is_some, unwrap_or, Result, Ok, Err, codes}
 use Rattle.std.specs.Prelude.{if◌then◌else◌}
 use Rattle.std.specs.List.{concat}
 use Rattle.std.specs.Option.{option_and_then, option_or}
@@ -16,12 +16,14 @@ use Rattle.fs_api.specs.Usages.{usage_of}
 use Rattle.fs_chan.specs.declared.chan.Chan.{Chan}
 use Rattle.fs_chan.specs.Changes.{parked, transferred}
 use Rattle.fs_chan.specs.Exports.{with_set, with_vars}
+use Rattle.fs_chan.specs.Moments.{moment_after}
 use Rattle.fs_dial.specs.declared.fault.DialFault.{DialFault}
 use Rattle.fs_dial.specs.DialStrings.{Dial, dial_string}
 use Rattle.fs_orig.specs.declared.caller.Caller.{Caller}
 use Rattle.fs_orig.specs.declared.winner.Winner.{Winner}
 use Rattle.fs_orig.specs.Plans.{plans_of}
 use Rattle.fs_orig.specs.Timeouts.{braces_timeout}
+use Rattle.fs_state.specs.declared.job.JobWork.TheVariants.{Sleep}
 use Rattle.fs_state.specs.Switch.{Switch, chan_at, with_chan, slot_named, is_full_of_jobs, with_next_identifier, identifier_of}
 use Rattle.fs_state.specs.Hangups.{after_hangup}
 use Rattle.fs_machine.specs.Applications.{unless_too_long, argument_in}
@@ -32,8 +34,9 @@ use Rattle.fs_machine.specs.Joining.{uuid_bridge_done}
 use Rattle.fs_machine.specs.Leaving.{sent_done}
 use Rattle.fs_machine.specs.Texts.{ok, yes, no, limit_passed, too_long_text, usage_text, api_not_found, no_channel, undefined}
 use Rattle.fs_machine.specs.Texts.{hupall_text, too_many_jobs, failed_text}
+use Rattle.fs_machine.specs.declared.owing.Giver.{Giver}
 use Rattle.fs_machine.specs.Attempts.{originate_begun}
-use Rattle.fs_machine.specs.Jobs.{sleep_begun}
+use Rattle.fs_machine.specs.Owing.{after_job_begin}
 
 -- ---- globals
 
@@ -108,57 +111,61 @@ chan_named uuid s = option_and_then (chan_at s) (slot_named uuid s)
 
 -- ---- jobs
 
--- the reply is owed for so many milliseconds, unless there are too many jobs
-abbrev pub msleep_done : ℕ → ℕ → Switch → Done
-msleep_done conn milliseconds s = if is_full_of_jobs s then says too_many_jobs s else no_reply_yet (sleep_begun conn milliseconds s)
+-- whoever gives a command is to wait so many milliseconds for its answer
+abbrev pub sleep_begun : Giver → ℕ → Switch → Switch
+sleep_begun by milliseconds s = after_job_begin by (Sleep (moment_after s.moment (milliseconds * 1000))) s
+
+-- the answer comes after so many milliseconds, unless there are too many jobs
+abbrev pub msleep_done : Giver → ℕ → Switch → Done
+msleep_done by milliseconds s = if is_full_of_jobs s then says too_many_jobs s else no_reply_yet (sleep_begun by milliseconds s)
 
 -- the legs of a dial string are tried, unless it has a fault; a timeout that was given comes before that of the braces
-abbrev pub dialed : ℕ → Result Dial DialFault → Winner → Caller → Option ℕ → Switch → Done
-dialed conn (Err fault) winner caller timeout s = says (failed_text InvalidNumberFormat) s
-dialed conn (Ok dial) winner caller timeout s =
-    no_reply_yet (originate_begun conn (plans_of dial) winner caller (option_or timeout (braces_timeout dial)) s)
+abbrev pub dialed : Giver → Result Dial DialFault → Winner → Caller → Option ℕ → Switch → Done
+dialed by (Err fault) winner caller timeout s = says (failed_text InvalidNumberFormat) s
+dialed by (Ok dial) winner caller timeout s =
+    no_reply_yet (originate_begun by (plans_of dial) winner caller (option_or timeout (braces_timeout dial)) s)
 
 -- the legs of a dial string are tried by a job, unless there are too many jobs
-abbrev pub originate_done : ℕ → Text → Winner → Caller → Option ℕ → Switch → Done
-originate_done conn url winner caller timeout s =
-    if is_full_of_jobs s then says too_many_jobs s else dialed conn (dial_string url) winner caller timeout s
+abbrev pub originate_done : Giver → Text → Winner → Caller → Option ℕ → Switch → Done
+originate_done by url winner caller timeout s =
+    if is_full_of_jobs s then says too_many_jobs s else dialed by (dial_string url) winner caller timeout s
 
 -- ---- commands
 
--- what a command of a connection does that expands no text
-abbrev pub done_plainly : ℕ → Api → Switch → Done
-done_plainly conn (api.Echo text) s = says text s
-done_plainly conn (api.Expand uuid text) s = says (api_not_found (codes "expand")) s
-done_plainly conn api.CreateUuid s = identifier_told s
-done_plainly conn (api.GlobalGetvar name) s = says (global_text name s.globals.pairs) s
-done_plainly conn (api.GlobalSetvar name value) s = set_global name value s
-done_plainly conn (api.Msleep milliseconds) s = msleep_done conn milliseconds s
-done_plainly conn (api.UuidExists uuid) s = says (told_whether (is_some (slot_named uuid s))) s
-done_plainly conn (api.UuidKill uuid cause) s = killed_as cause uuid s
-done_plainly conn (api.UuidBridge uuid other) s = uuid_bridge_done uuid other s
-done_plainly conn (api.UuidPark uuid) s = sent_done parked uuid s
-done_plainly conn (api.UuidTransfer uuid to) s = sent_done (transferred to) uuid s
-done_plainly conn (api.UuidSetvar uuid name value) s = set_variable uuid name value s
-done_plainly conn (api.UuidGetvar uuid name) s = says (variable_text name (chan_named uuid s)) s
-done_plainly conn (api.UuidDump uuid) s = says (dump_text (chan_named uuid s)) s
-done_plainly conn (api.Hupall cause) s = hupall_done cause s
-done_plainly conn (api.Originate url winner cid_name cid_number timeout) s =
-    originate_done conn url winner (record { name = cid_name; number = cid_number }) timeout s
-done_plainly conn (api.Usage which) s = says (usage_text (usage_of which)) s
-done_plainly conn (api.Unknown name) s = says (api_not_found name) s
+-- what a command does that expands no text
+abbrev pub done_plainly : Giver → Api → Switch → Done
+done_plainly by (api.Echo text) s = says text s
+done_plainly by (api.Expand uuid text) s = says (api_not_found (codes "expand")) s
+done_plainly by api.CreateUuid s = identifier_told s
+done_plainly by (api.GlobalGetvar name) s = says (global_text name s.globals.pairs) s
+done_plainly by (api.GlobalSetvar name value) s = set_global name value s
+done_plainly by (api.Msleep milliseconds) s = msleep_done by milliseconds s
+done_plainly by (api.UuidExists uuid) s = says (told_whether (is_some (slot_named uuid s))) s
+done_plainly by (api.UuidKill uuid cause) s = killed_as cause uuid s
+done_plainly by (api.UuidBridge uuid other) s = uuid_bridge_done uuid other s
+done_plainly by (api.UuidPark uuid) s = sent_done parked uuid s
+done_plainly by (api.UuidTransfer uuid to) s = sent_done (transferred to) uuid s
+done_plainly by (api.UuidSetvar uuid name value) s = set_variable uuid name value s
+done_plainly by (api.UuidGetvar uuid name) s = says (variable_text name (chan_named uuid s)) s
+done_plainly by (api.UuidDump uuid) s = says (dump_text (chan_named uuid s)) s
+done_plainly by (api.Hupall cause) s = hupall_done cause s
+done_plainly by (api.Originate url winner cid_name cid_number timeout) s =
+    originate_done by url winner (record { name = cid_name; number = cid_number }) timeout s
+done_plainly by (api.Usage which) s = says (usage_text (usage_of which)) s
+done_plainly by (api.Unknown name) s = says (api_not_found name) s
 
 -- what a text does that was expanded: it is run as a command, unless it was too long
-abbrev pub done_expanded : ℕ → Option Text → Switch → Done
-done_expanded conn None s = says too_long_text s
-done_expanded conn (Some text) s = done_plainly conn (expanded_api_of text) s
+abbrev pub done_expanded : Giver → Option Text → Switch → Done
+done_expanded by None s = says too_long_text s
+done_expanded by (Some text) s = done_plainly by (expanded_api_of text) s
 
 -- so of one that is expanded over what a channel knows, if there is one
-abbrev pub done_over : ℕ → Text → Option Chan → Switch → Done
-done_over conn text None s = says no_channel s
-done_over conn text (Some c) s = done_expanded conn (argument_in c s text) s
+abbrev pub done_over : Giver → Text → Option Chan → Switch → Done
+done_over by text None s = says no_channel s
+done_over by text (Some c) s = done_expanded by (argument_in c s text) s
 
 -- what an api command does
-abbrev pub done_by : ℕ → Api → Switch → Done
-done_by conn (api.Expand None text) s = done_expanded conn (unless_too_long (expanded s.globals.pairs text)) s
-done_by conn (api.Expand (Some uuid) text) s = done_over conn text (chan_named uuid s) s
-done_by conn other s = done_plainly conn other s
+abbrev pub done_by : Giver → Api → Switch → Done
+done_by by (api.Expand None text) s = done_expanded by (unless_too_long (expanded s.globals.pairs text)) s
+done_by by (api.Expand (Some uuid) text) s = done_over by text (chan_named uuid s) s
+done_by by other s = done_plainly by other s

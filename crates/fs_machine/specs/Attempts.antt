@@ -20,7 +20,7 @@ use Rattle.fs_orig.specs.Legs.{is_at, living_slot, living_slots}
 use Rattle.fs_orig.specs.Changes.{new_orig, at_next_group}
 use Rattle.fs_orig.specs.Verdicts.{next_group, verdict_of}
 use Rattle.fs_state.specs.declared.job.JobWork.TheVariants.{Originate}
-use Rattle.fs_state.specs.Switch.{Switch, next_orig_number, next_job_number, chan_at, orig_of, with_new_orig, without_orig}
+use Rattle.fs_state.specs.Switch.{Switch, next_orig_number, chan_at, orig_of, with_new_orig, without_orig}
 use Rattle.fs_state.specs.Hangups.{after_hangup, after_hangups_for}
 use Rattle.fs_state.specs.Moves.{orig_changed, for_slot}
 use Rattle.fs_machine.specs.Texts.{failed_text, made_text}
@@ -30,7 +30,8 @@ use Rattle.fs_machine.specs.declared.attempts.Party.TheVariants as party
 use Rattle.fs_machine.specs.declared.attempts.WonLeg.{WonLeg}
 use Rattle.fs_machine.specs.Bridging.{after_bridge_failure, after_bridge_win, group_dialed}
 use Rattle.fs_machine.specs.Originations.{seconds, MadeGroup, group_made, after_winning}
-use Rattle.fs_machine.specs.Owing.{after_job_begin, after_job_end}
+use Rattle.fs_machine.specs.declared.owing.Giver.{Giver}
+use Rattle.fs_machine.specs.Owing.{job_number, after_job_begin, after_job_end}
 
 -- the group that is tried first
 abbrev pub first_group : List (List LegPlan) → List LegPlan
@@ -41,15 +42,15 @@ abbrev pub orig_begun : Owner → List (List LegPlan) → List OrigLeg → ℕ �
 orig_begun by groups legs timeout s = with_new_orig (new_orig by groups legs (moment_after s.moment (seconds timeout))) s
 
 -- the legs of the first group were made for the origination of a number: it is tried by a job
-abbrev pub tried_by_job : ℕ → List (List LegPlan) → Winner → Caller → ℕ → ℕ → MadeGroup → Switch
-tried_by_job conn groups winner caller timeout orig made =
-    after_job_begin conn (Originate orig winner caller)
-    (orig_begun (owner.Job (next_job_number made.state)) groups made.legs timeout made.state)
+abbrev pub tried_by_job : Giver → List (List LegPlan) → Winner → Caller → ℕ → ℕ → MadeGroup → Switch
+tried_by_job by groups winner caller timeout orig made =
+    after_job_begin by (Originate orig winner caller)
+    (orig_begun (owner.Job (job_number by made.state)) groups made.legs timeout made.state)
 
 -- an origination begins; without a timeout it has a minute
-abbrev pub originate_begun : ℕ → List (List LegPlan) → Winner → Caller → Option ℕ → Switch → Switch
-originate_begun conn groups winner caller timeout s =
-    tried_by_job conn groups winner caller (unwrap_or timeout 60) (next_orig_number s)
+abbrev pub originate_begun : Giver → List (List LegPlan) → Winner → Caller → Option ℕ → Switch → Switch
+originate_begun by groups winner caller timeout s =
+    tried_by_job by groups winner caller (unwrap_or timeout 60) (next_orig_number s)
     (group_made (first_group groups) caller (next_orig_number s) s)
 
 -- ---- who tries it
@@ -60,7 +61,7 @@ awaits slot orig s = is_at orig (option_and_then awaited_by (chan_at s slot))
 
 -- it has failed: the job has ended with a reply, or the channel in the slot has failed to bridge, if it still waits
 abbrev pub failed_for : Party → ℕ → Cause → Switch → Switch
-failed_for (party.Job job conn winner caller) orig cause s = after_job_end job conn (failed_text cause) (without_orig orig s)
+failed_for (party.Job job who winner caller) orig cause s = after_job_end job who (failed_text cause) (without_orig orig s)
 failed_for (party.Slot slot) orig cause s = if awaits slot orig s then after_bridge_failure cause slot (without_orig orig s) else s
 
 -- a leg, as the channel in a slot
@@ -73,14 +74,14 @@ won_leg leg = option_map (won_in leg) leg.slot
 
 -- a leg has won: it does what the job asks, which has ended with a reply, or it is joined to the channel that still waits
 abbrev pub won_for : Party → ℕ → WonLeg → Switch → Switch
-won_for (party.Job job conn winner caller) orig leg s =
-    after_job_end job conn (made_text leg.uuid) (without_orig orig (after_winning winner leg.slot s))
+won_for (party.Job job who winner caller) orig leg s =
+    after_job_end job who (made_text leg.uuid) (without_orig orig (after_winning winner leg.slot s))
 won_for (party.Slot slot) orig leg s =
     if awaits slot orig s then after_bridge_win slot leg.slot (without_orig orig s) else s
 
 -- the legs of a group, made for a job's caller, or as the channel in the slot hands on its variables and its caller id
 abbrev pub group_for : Party → List LegPlan → ℕ → Switch → MadeGroup
-group_for (party.Job job conn winner caller) plans orig s = group_made plans caller orig s
+group_for (party.Job job who winner caller) plans orig s = group_made plans caller orig s
 group_for (party.Slot slot) plans orig s = group_dialed (chan_at s slot) plans orig s
 
 -- ---- what comes of it

@@ -1,5 +1,5 @@
 -- What the commands of the event socket do.
-use Rattle.std.specs.Prelude.{ℕ, [], Option, None, Some, if◌then◌else◌}
+use Rattle.std.specs.Prelude.{ℕ, [], ◌∷◌, codes, Option, None, Some, if◌then◌else◌}
 use Rattle.std.specs.Str.{bytes_eq}
 use Rattle.fs_text.specs.Texts.{Text}
 use Rattle.fs_cmd.specs.declared.command.Form.{Form}
@@ -10,6 +10,7 @@ use Rattle.fs_cmd.specs.Commands.{Message, Execute, Hangup, BadCall}
 use Rattle.fs_cmd.specs.Frames.{reply, api_reply, notice, accepted, invalid, bye, not_found}
 use Rattle.fs_cmd.specs.Frames.{event_enabled, no_keywords, format_unsupported, event_disabled, no_longer_listening, not_listening}
 use Rattle.fs_cmd.specs.Frames.{filter_added, filter_deleted, invalid_syntax, filter_not_found}
+use Rattle.fs_cmd.specs.Frames.{job_begun, jobs_full}
 use Rattle.fs_cmd.specs.Frames.{message_taken, invalid_session, invalid_call, messages_full}
 use Rattle.fs_filter.specs.Asked.{Asked, asked_in, is_known}
 use Rattle.fs_filter.specs.Subscriptions.{Subscription, subscribed, unsubscribed, cleared, with_filter, without_filter, has_filter}
@@ -21,10 +22,12 @@ use Rattle.fs_state.specs.declared.conn.Parting.TheVariants as parting
 use Rattle.fs_chan.specs.declared.action.Action.{Action}
 use Rattle.fs_chan.specs.declared.chan.Chan.{Chan}
 use Rattle.fs_chan.specs.Changes.{takes_message, with_message}
-use Rattle.fs_state.specs.Switch.{Switch, chan_at, with_chan, slot_named, with_frame_now, with_notice}
+use Rattle.fs_state.specs.Switch.{Switch, chan_at, with_chan, slot_named, with_frame_now, with_notice, is_full_of_jobs}
 use Rattle.fs_state.specs.Hangups.{after_hangup}
 use Rattle.fs_machine.specs.Connections.{phase_at, conn_changed, admitted, parted, with_subs_changed, subs_at}
+use Rattle.fs_machine.specs.declared.owing.Giver.TheVariants as giver
 use Rattle.fs_machine.specs.Done.{Done}
+use Rattle.fs_machine.specs.Owing.{job_uuid, background_begun}
 use Rattle.fs_machine.specs.Api.{done_by}
 
 -- a reply
@@ -93,6 +96,18 @@ after_deletion conn header value s =
     then after_asking conn (with_filters_deleted header value) (filter_deleted header value) s
     else with_reply conn filter_not_found s
 
+-- ---- jobs in the background
+
+-- a job has begun, of this identifier
+abbrev pub with_begun_told : ℕ → Text → Switch → Switch
+with_begun_told conn uuid s = with_frame_now conn (reply (job_begun uuid) ((codes "Job-UUID", uuid) ∷ [])) s
+
+-- a job is to run a command, unless there are too many jobs
+abbrev pub after_background : ℕ → Option Text → Text → Switch → Switch
+after_background conn given command s =
+    if is_full_of_jobs s then with_reply conn jobs_full s
+    else with_begun_told conn (job_uuid given s) (background_begun given command s)
+
 -- ---- messages
 
 -- the channel in a slot is to run an application behind what was sent to it before, if there is room for it
@@ -129,7 +144,7 @@ command_done_in Fresh conn Exit s = after_dismissal conn parting.Exit bye s
 command_done_in Fresh conn _ s = with_reply conn not_found s
 command_done_in Ready conn (Auth given) s = with_reply conn not_found s
 command_done_in Ready conn Exit s = after_dismissal conn parting.Exit bye s
-command_done_in Ready conn (Api text) s = with_response conn (done_by conn (api_of text) s)
+command_done_in Ready conn (Api text) s = with_response conn (done_by (giver.Conn conn) (api_of text) s)
 command_done_in Ready conn (Event form names) s = after_subscribing conn form names s
 command_done_in Ready conn (Nixevent names) s = after_unsubscribing conn names s
 command_done_in Ready conn Noevents s = after_silence conn s
@@ -137,7 +152,7 @@ command_done_in Ready conn (Filter header value) s =
     after_asking conn (with_filter_added header value) (filter_added header value) s
 command_done_in Ready conn (FilterDelete header value) s = after_deletion conn header value s
 command_done_in Ready conn BadFilter s = with_reply conn invalid_syntax s
-command_done_in Ready conn (Bgapi text job) s = with_reply conn not_found s
+command_done_in Ready conn (Bgapi text job) s = after_background conn job text s
 command_done_in Ready conn (Sendmsg uuid message) s = message_sent conn uuid message s
 command_done_in Ready conn Connect s = with_reply conn not_found s
 command_done_in Ready conn Unknown s = with_reply conn not_found s

@@ -13,7 +13,7 @@ use Rattle.fs_seats.specs.Seats.{first_seat}
 use Rattle.fs_seats.specs.Least.{lesser, least_of}
 use Rattle.fs_state.specs.declared.job.Job.{Job}
 use Rattle.fs_state.specs.declared.job.JobWork.{JobWork}
-use Rattle.fs_state.specs.declared.job.JobWork.TheVariants.{Sleep, Originate}
+use Rattle.fs_state.specs.declared.job.JobWork.TheVariants.{Run, Sleep, Originate}
 use Rattle.fs_state.specs.Switch.{Switch, chan_at, orig_of, job_of, at_moment}
 use Rattle.fs_machine.specs.declared.due.DueActor.{DueActor}
 use Rattle.fs_machine.specs.declared.due.DueActor.TheVariants as actor
@@ -40,6 +40,7 @@ slot_due slot s = chan_due s (chan_at s slot)
 
 -- when a job with this work has something to do
 abbrev pub work_due : Switch → JobWork → Option Due
+work_due s Run = Some Now
 work_due s (Sleep until) = Some (due_at s.moment until)
 work_due s (Originate orig winner caller) = orig_due s.moment (orig_of s orig)
 

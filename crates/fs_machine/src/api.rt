@@ -7,7 +7,7 @@ ghost use Rattle.fs_vars.specs.Expansion.{expanded};
 ghost use Rattle.fs_api.specs.declared.api.Api.TheVariants.{Expand};
 ghost use Rattle.fs_api.specs.Ranges.{IsInRange};
 ghost use Rattle.fs_dial.specs.DialStrings.{dial_of};
-ghost use Rattle.fs_state.specs.Drafts.{drafted};
+ghost use Rattle.fs_state.specs.Drafts.{drafted, Brings};
 ghost use Rattle.fs_state.specs.Switch.{slot_named};
 ghost use Rattle.fs_machine.specs.Api as spec;
 ghost use Rattle.fs_machine.specs.Applications.{unless_too_long};
@@ -19,71 +19,84 @@ use crate::attempts::begin_originate;
 use crate::dumping::dump;
 use crate::globals::set_global;
 use crate::hangups::hang_up_everyone;
-use crate::jobs::begin_sleep;
 use crate::joining::bridge_channels;
 use crate::leaving::{Onward, send_channel};
+use crate::owing::{Giver, begin_job};
 use crate::texts::{api_not_found, failed_text, hupall_text, says, usage_text};
 use fs_api::{Api, usage};
-use fs_chan::Chan;
+use fs_chan::{Chan, moment_after};
 use fs_dial::{DialKind, DialString, parse};
 use fs_orig::{Caller, LegPlans, Winner, braces_timeout};
-use fs_state::Draft;
+use fs_state::{Draft, JobWork};
 use fs_text::{Cause, Memory, Txt};
 use fs_vars::{Profile, Refused, Scope, Vars, expand};
 use std::alloc::Global;
 
-/// Runs an api command of a connection, and gives its reply, unless that is owed.
-pub(crate) fn run_api(draft: &mut Draft<'_>, conn: u32, api: &Api) -> Result<Option<Txt>, Memory>
+/// Runs an api command, and gives its answer, unless a job goes on that gives it later.
+pub(crate) fn run_api(
+    draft: &mut Draft<'_>,
+    giver: &Giver,
+    api: &Api,
+) -> Result<Option<Txt>, Memory>
     requires { IsInRange api.now }
     ensures base { draft.new.base ≡ draft.old.base }
-    ensures done { IfOk result (ComesTo (spec.done_by conn api.now (drafted draft.old)) (drafted draft.new)) }
+    ensures done { IfOk result (ComesTo (spec.done_by giver.now api.now (drafted draft.old)) (drafted draft.new)) }
 {
     match api {
-        Api::Expand { uuid: None, text } => run_expanded(draft, conn, text),
+        Api::Expand { uuid: None, text } => run_expanded(draft, giver, text),
         Api::Expand {
             uuid: Some(uuid),
             text,
-        } => run_over(draft, conn, uuid, text),
-        api => run_plainly(draft, conn, api),
+        } => run_over(draft, giver, uuid, text),
+        api => run_plainly(draft, giver, api),
     }
 }
 
 // Runs a text as an api command, once it is expanded over the globals.
-fn run_expanded(draft: &mut Draft<'_>, conn: u32, text: &Txt) -> Result<Option<Txt>, Memory>
+fn run_expanded(draft: &mut Draft<'_>, giver: &Giver, text: &Txt) -> Result<Option<Txt>, Memory>
     ensures base { draft.new.base ≡ draft.old.base }
     ensures done { IfOk result
-        (ComesTo (spec.done_by conn (Expand None text.now) (drafted draft.old)) (drafted draft.new)) }
+        (ComesTo (spec.done_by giver.now (Expand None text.now) (drafted draft.old)) (drafted draft.new)) }
 {
     let whole = whole_globally(draft, text)?;
-    run_whole(draft, conn, whole)
+    run_whole(draft, giver, whole)
 }
 
 // Runs a text as an api command, once it is expanded over what the live channel of an identifier knows.
 #[tactic(auto, unfolding(crate::specs::Texts::no_channel))]
-fn run_over(draft: &mut Draft<'_>, conn: u32, uuid: &Txt, text: &Txt) -> Result<Option<Txt>, Memory>
+fn run_over(
+    draft: &mut Draft<'_>,
+    giver: &Giver,
+    uuid: &Txt,
+    text: &Txt,
+) -> Result<Option<Txt>, Memory>
     ensures base { draft.new.base ≡ draft.old.base }
     ensures done { IfOk result
-        (ComesTo (spec.done_over conn text.now (spec.chan_named uuid.now (drafted draft.old)) (drafted draft.old))
+        (ComesTo (spec.done_over giver.now text.now (spec.chan_named uuid.now (drafted draft.old)) (drafted draft.old))
         (drafted draft.new)) }
 {
     let Some(chan) = chan_named(draft, uuid) else {
         return says(draft.alloc(), b"-ERR No such channel!\n");
     };
     let whole = argument_in(draft, chan, text)?;
-    run_whole(draft, conn, whole)
+    run_whole(draft, giver, whole)
 }
 
 // Runs a text that was expanded as an api command, unless it was too long.
 #[tactic(auto, unfolding(crate::specs::Texts::too_long_text))]
-fn run_whole(draft: &mut Draft<'_>, conn: u32, whole: Option<Txt>) -> Result<Option<Txt>, Memory>
+fn run_whole(
+    draft: &mut Draft<'_>,
+    giver: &Giver,
+    whole: Option<Txt>,
+) -> Result<Option<Txt>, Memory>
     ensures base { draft.new.base ≡ draft.old.base }
-    ensures done { IfOk result (ComesTo (spec.done_expanded conn whole (drafted draft.old)) (drafted draft.new)) }
+    ensures done { IfOk result (ComesTo (spec.done_expanded giver.now whole (drafted draft.old)) (drafted draft.new)) }
 {
     let alloc = draft.alloc();
     match whole {
         Some(whole) => {
             let api = Api::of_expanded(alloc, whole.as_bytes())?;
-            run_plainly(draft, conn, &api)
+            run_plainly(draft, giver, &api)
         }
         None => says(alloc, b"-ERR too long\n"),
     }
@@ -117,10 +130,10 @@ fn expand_globally(alloc: Global, globals: &Vars, text: &[u8]) -> Result<Txt, Re
 }
 
 // Runs an api command that expands no text.
-fn run_plainly(draft: &mut Draft<'_>, conn: u32, api: &Api) -> Result<Option<Txt>, Memory>
+fn run_plainly(draft: &mut Draft<'_>, giver: &Giver, api: &Api) -> Result<Option<Txt>, Memory>
     requires { IsInRange api.now }
     ensures base { draft.new.base ≡ draft.old.base }
-    ensures done { IfOk result (ComesTo (spec.done_plainly conn api.now (drafted draft.old)) (drafted draft.new)) }
+    ensures done { IfOk result (ComesTo (spec.done_plainly giver.now api.now (drafted draft.old)) (drafted draft.new)) }
 {
     let alloc = draft.alloc();
     match api {
@@ -129,7 +142,7 @@ fn run_plainly(draft: &mut Draft<'_>, conn: u32, api: &Api) -> Result<Option<Txt
         Api::CreateUuid => tell_identifier(draft),
         Api::GlobalGetvar { name } => get_global(alloc, draft.globals(), name.as_ref()),
         Api::GlobalSetvar { name, value } => answer_set(draft, name, value),
-        Api::Msleep { milliseconds } => sleep(draft, conn, *milliseconds),
+        Api::Msleep { milliseconds } => sleep(draft, giver, *milliseconds),
         Api::UuidExists { uuid } => tell_whether(draft, uuid),
         Api::UuidKill { uuid, cause } => kill(draft, uuid, *cause),
         Api::UuidBridge { uuid, other } => bridge_channels(draft, uuid, other),
@@ -150,7 +163,7 @@ fn run_plainly(draft: &mut Draft<'_>, conn: u32, api: &Api) -> Result<Option<Txt
             timeout,
         } => {
             let caller = caller_of(cid_name, cid_number)?;
-            originate(draft, conn, url, winner, &caller, *timeout)
+            originate(draft, giver, url, winner, &caller, *timeout)
         }
         Api::Usage(which) => Ok(Some(usage_text(alloc, usage(*which).as_bytes())?)),
         Api::Unknown(name) => Ok(Some(api_not_found(alloc, name.as_bytes())?)),
@@ -278,25 +291,33 @@ fn chan_named<'a>(draft: &'a Draft<'_>, uuid: &Txt) -> Option<&'a Chan>
 
 // ---- jobs
 
-// Owes the reply until so many milliseconds have passed.
+// Lets the answer come once so many milliseconds have passed.
 #[tactic(auto, unfolding(crate::specs::Texts::too_many_jobs))]
-fn sleep(draft: &mut Draft<'_>, conn: u32, milliseconds: u64) -> Result<Option<Txt>, Memory>
+fn sleep(draft: &mut Draft<'_>, giver: &Giver, milliseconds: u64) -> Result<Option<Txt>, Memory>
     ensures base { draft.new.base ≡ draft.old.base }
-    ensures done { IfOk result (ComesTo (spec.msleep_done conn milliseconds (drafted draft.old))
+    ensures done { IfOk result (ComesTo (spec.msleep_done giver.now milliseconds (drafted draft.old))
         (drafted draft.new)) }
 {
     if draft.is_full_of_jobs() {
         return says(draft.alloc(), b"-ERR too many jobs\n");
     }
-    begin_sleep(draft, conn, milliseconds)?;
+    begin_sleep(draft, giver, milliseconds)?;
     Ok(None)
 }
 
-// Tries the legs of a dial string, and owes the reply until one has won or all have failed.
+// Begins to wait so many milliseconds.
+fn begin_sleep(draft: &mut Draft<'_>, giver: &Giver, milliseconds: u64) -> Result<(), Memory>
+    ensures { Brings result draft.old draft.new (spec.sleep_begun giver.now milliseconds (drafted draft.old)) }
+{
+    let until = moment_after(draft.moment(), milliseconds.saturating_mul(1_000));
+    begin_job(draft, giver, JobWork::Sleep { until })
+}
+
+// Tries the legs of a dial string: the answer comes once one has won or all have failed.
 #[tactic(auto, unfolding(crate::specs::Texts::too_many_jobs))]
 fn originate(
     draft: &mut Draft<'_>,
-    conn: u32,
+    giver: &Giver,
     url: &Txt,
     winner: &Winner,
     caller: &Caller,
@@ -304,7 +325,7 @@ fn originate(
 ) -> Result<Option<Txt>, Memory>
     ensures base { draft.new.base ≡ draft.old.base }
     ensures done { IfOk result
-        (ComesTo (spec.originate_done conn url.now winner.now caller.now timeout (drafted draft.old))
+        (ComesTo (spec.originate_done giver.now url.now winner.now caller.now timeout (drafted draft.old))
         (drafted draft.new)) }
 {
     let alloc = draft.alloc();
@@ -312,7 +333,7 @@ fn originate(
         return says(alloc, b"-ERR too many jobs\n");
     }
     match parse(alloc, url.as_bytes()) {
-        Ok(dial) => dial_legs(draft, conn, &dial, winner, caller, timeout),
+        Ok(dial) => dial_legs(draft, giver, &dial, winner, caller, timeout),
         Err(fault) if fault.kind == DialKind::Memory => Err(Memory),
         Err(_fault) => Ok(Some(failed_text(alloc, Cause::InvalidNumberFormat)?)),
     }
@@ -321,7 +342,7 @@ fn originate(
 // Tries the legs of a dial string that has no fault.
 fn dial_legs(
     draft: &mut Draft<'_>,
-    conn: u32,
+    giver: &Giver,
     dial: &DialString<'_>,
     winner: &Winner,
     caller: &Caller,
@@ -329,7 +350,7 @@ fn dial_legs(
 ) -> Result<Option<Txt>, Memory>
     ensures base { draft.new.base ≡ draft.old.base }
     ensures done { IfOk result
-        (ComesTo (spec.dialed conn (Ok (dial_of dial.now)) winner.now caller.now timeout (drafted draft.old))
+        (ComesTo (spec.dialed giver.now (Ok (dial_of dial.now)) winner.now caller.now timeout (drafted draft.old))
         (drafted draft.new)) }
 {
     let alloc = draft.alloc();
@@ -338,7 +359,7 @@ fn dial_legs(
         Some(seconds) => Some(seconds),
         None => braces_timeout(alloc, dial)?,
     };
-    begin_originate(draft, conn, groups, winner, caller, timeout)?;
+    begin_originate(draft, giver, groups, winner, caller, timeout)?;
     Ok(None)
 }
 

@@ -2,6 +2,7 @@
 ghost use Rattle.std.specs.Prelude.{◌≡◌, ◌<◌, ◌^◌, ◌++◌, None, length, slice_get, IfOk};
 ghost use Rattle.std.specs.Option.{option_and_then};
 ghost use Rattle.fs_text.specs.declared.causes.Cause.TheVariants.{LoseRace, NoAnswer};
+ghost use Rattle.fs_orig.specs.declared.orig.Owner.TheVariants as owner;
 ghost use Rattle.fs_orig.specs.Legs as orig_legs;
 ghost use Rattle.fs_orig.specs.Verdicts.{next_group};
 ghost use Rattle.fs_state.specs.Drafts.{drafted, Brings};
@@ -11,21 +12,21 @@ ghost use Rattle.fs_state.specs.Switch.{chan_at, without_orig};
 ghost use Rattle.fs_machine.specs.declared.attempts.Party.TheVariants as party;
 ghost use Rattle.fs_machine.specs.Attempts as spec;
 ghost use Rattle.fs_machine.specs.Originations.{after_winning, GroupComesTo};
-ghost use Rattle.fs_machine.specs.Owing.{after_job_end};
+ghost use Rattle.fs_machine.specs.Owing.{job_number, after_job_begin, after_job_end};
 ghost use Rattle.fs_machine.specs.Texts as texts;
 
 use crate::bridging::{dial_group, fail_bridge, win_bridge};
 use crate::channels::{ChanChange, awaited_at, change_chan};
 use crate::hangups::hang_up_for;
 use crate::originations::make_group;
-use crate::owing::{begin_job, end_job};
+use crate::owing::{Giver, begin_job, end_job, job_number};
 use crate::texts::{failed_text, made_text};
 use fs_chan::moment_after;
 use fs_orig::{
     Caller, LegGroup, LegPlan, LegPlans, Orig, OrigLegs, Owner, Verdict, Winner, add_living_slots,
     judge, living_slots,
 };
-use fs_state::{Draft, JobWork};
+use fs_state::{Asker, Draft, JobWork};
 use fs_text::{Cause, Memory, Txt};
 use std::alloc::Global;
 
@@ -34,10 +35,10 @@ pub(crate) const DEFAULT_TIMEOUT: u64 = 60;
 
 /// Who tries an origination.
 pub(crate) enum Party {
-    /// A job, for the connection that is owed the reply: a leg that wins does what it asks.
+    /// A job, for whoever is told its answer: a leg that wins does what it asks.
     Job {
         job: u64,
-        conn: u32,
+        asker: Asker,
         winner: Winner,
         caller: Caller,
     },
@@ -52,7 +53,7 @@ impl Drop for Party {
         match self {
             Party::Job {
                 job: _,
-                conn: _,
+                asker: _asker,
                 winner: _winner,
                 caller: _caller,
             } => {}
@@ -77,34 +78,51 @@ pub(crate) struct Attempt {
 
 // ---- the beginning
 
-/// Begins an origination of these groups, to which the reply is owed.
+/// Begins an origination of these groups, which a job tries behind a command.
 pub(crate) fn begin_originate(
     draft: &mut Draft<'_>,
-    conn: u32,
+    giver: &Giver,
     groups: LegPlans,
     winner: &Winner,
     caller: &Caller,
     timeout: Option<u64>,
 ) -> Result<(), Memory>
     ensures { Brings result draft.old draft.new
-        (spec.originate_begun conn groups winner.now caller.now timeout (drafted draft.old)) }
+        (spec.originate_begun giver.now groups winner.now caller.now timeout (drafted draft.old)) }
 {
     let orig = draft.next_orig();
     let legs = make_group(draft, first_group(&groups), caller, orig)?;
-    let owner = Owner::Job(draft.next_job());
-    begin_orig(
-        draft,
-        owner,
-        groups,
-        legs,
-        timeout.unwrap_or(DEFAULT_TIMEOUT),
-    )?;
     let work = JobWork::Originate {
         orig,
         winner: winner.copy()?,
         caller: caller.copy()?,
     };
-    begin_job(draft, conn, work)
+    try_by_job(
+        draft,
+        giver,
+        groups,
+        legs,
+        timeout.unwrap_or(DEFAULT_TIMEOUT),
+        work,
+    )
+}
+
+// Begins the origination of the next number, with these legs of its first group, and lets a job try it by this work.
+fn try_by_job(
+    draft: &mut Draft<'_>,
+    giver: &Giver,
+    groups: LegPlans,
+    legs: OrigLegs,
+    timeout: u64,
+    work: JobWork,
+) -> Result<(), Memory>
+    ensures { Brings result draft.old draft.new
+        (after_job_begin giver.now work
+        (spec.orig_begun (owner.Job (job_number giver.now (drafted draft.old))) groups legs timeout (drafted draft.old))) }
+{
+    let owner = Owner::Job(job_number(draft, giver));
+    begin_orig(draft, owner, groups, legs, timeout)?;
+    begin_job(draft, giver, work)
 }
 
 /// The group that is tried first: less than 2^32 legs.
@@ -300,10 +318,10 @@ fn win(draft: &mut Draft<'_>, attempt: &Attempt, leg: &WonLeg) -> Result<(), Mem
     match &attempt.party {
         Party::Job {
             job,
-            conn,
+            asker,
             winner,
             ..
-        } => win_by_job(draft, attempt.orig, *job, *conn, winner, leg),
+        } => win_by_job(draft, attempt.orig, *job, asker, winner, leg),
         Party::Slot { slot } => win_by_slot(draft, attempt.orig, *slot, leg),
     }
 }
@@ -313,17 +331,17 @@ fn win_by_job(
     draft: &mut Draft<'_>,
     orig: u64,
     job: u64,
-    conn: u32,
+    asker: &Asker,
     winner: &Winner,
     leg: &WonLeg,
 ) -> Result<(), Memory>
     ensures { Brings result draft.old draft.new
-        (after_job_end job conn (texts.made_text leg.now.uuid)
+        (after_job_end job asker.now (texts.made_text leg.now.uuid)
         (without_orig orig (after_winning winner.now leg.now.slot (drafted draft.old)))) }
 {
     let reply = made_text(draft.alloc(), leg.uuid.as_bytes())?;
     let_win(draft, leg.slot, winner)?;
-    end_originate(draft, orig, job, conn, reply.as_bytes())
+    end_originate(draft, orig, job, asker, reply.as_bytes())
 }
 
 // Lets the leg in a slot run its application, or be routed.
@@ -352,7 +370,7 @@ fn fail(draft: &mut Draft<'_>, attempt: &Attempt, cause: Cause) -> Result<(), Me
     ensures { Brings result draft.old draft.new (spec.after_failure attempt.now cause (drafted draft.old)) }
 {
     match &attempt.party {
-        Party::Job { job, conn, .. } => fail_by_job(draft, attempt.orig, *job, *conn, cause),
+        Party::Job { job, asker, .. } => fail_by_job(draft, attempt.orig, *job, asker, cause),
         Party::Slot { slot } => fail_by_slot(draft, attempt.orig, *slot, cause),
     }
 }
@@ -362,14 +380,14 @@ fn fail_by_job(
     draft: &mut Draft<'_>,
     orig: u64,
     job: u64,
-    conn: u32,
+    asker: &Asker,
     cause: Cause,
 ) -> Result<(), Memory>
     ensures { Brings result draft.old draft.new
-        (after_job_end job conn (texts.failed_text cause) (without_orig orig (drafted draft.old))) }
+        (after_job_end job asker.now (texts.failed_text cause) (without_orig orig (drafted draft.old))) }
 {
     let reply = failed_text(draft.alloc(), cause)?;
-    end_originate(draft, orig, job, conn, reply.as_bytes())
+    end_originate(draft, orig, job, asker, reply.as_bytes())
 }
 
 // Lets the channel in a slot fail to bridge, if it still waits for the verdict.
@@ -397,12 +415,12 @@ fn end_originate(
     draft: &mut Draft<'_>,
     orig: u64,
     job: u64,
-    conn: u32,
+    asker: &Asker,
     reply: &[u8],
 ) -> Result<(), Memory>
     ensures { Brings result draft.old draft.new
-        (after_job_end job conn reply.now (without_orig orig (drafted draft.old))) }
+        (after_job_end job asker.now reply.now (without_orig orig (drafted draft.old))) }
 {
     draft.drop_orig(orig)?;
-    end_job(draft, job, conn, reply)
+    end_job(draft, job, asker, reply)
 }

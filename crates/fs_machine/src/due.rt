@@ -50,6 +50,7 @@ fn work_due(seen: &Seen<'_>, work: &JobWork) -> Option<Due>
     ensures { result ≡ spec.work_due seen.now work.now }
 {
     match work {
+        JobWork::Run => Some(Due::Now),
         JobWork::Sleep { until } => Some(due_at(seen.moment(), *until)),
         JobWork::Originate { orig, .. } => orig_due(seen, *orig),
     }

@@ -8,6 +8,7 @@ use Rattle.fs_text.specs.Cause.{cause_name}
 use Rattle.fs_text.specs.EventName.{event_name}
 use Rattle.fs_text.specs.Headers.{with_values, variable_header}
 use Rattle.fs_text.specs.Texts.{Text}
+use Rattle.fs_text.specs.Words.{without_spaces, word_of, behind_word}
 use Rattle.fs_text.specs.declared.causes.Cause.{Cause}
 use Rattle.fs_text.specs.declared.event_names.EventName.{EventName}
 use Rattle.fs_text.specs.declared.states.State.TheVariants.{CsDestroy}
@@ -29,6 +30,7 @@ use Rattle.fs_state.specs.declared.event.Event.{Event}
 use Rattle.fs_state.specs.declared.event.Detail.{Detail}
 use Rattle.fs_state.specs.declared.event.Detail.TheVariants as detail
 use Rattle.fs_state.specs.declared.gift.Gift.{Gift}
+use Rattle.fs_state.specs.declared.job.Background.{Background}
 use Rattle.fs_state.specs.declared.outgoing.Outgoing.TheVariants as outgoing
 use Rattle.fs_state.specs.declared.post.Post.{Post}
 use Rattle.fs_state.specs.Losses.{Losses, with_loss}
@@ -114,6 +116,14 @@ abbrev pub report_headers : Option Chan → Pairs
 report_headers None = []
 report_headers (Some c) = cause_headers c.cause ++ variable_headers c.vars
 
+-- a job in the background: its identifier, and the name and the arguments of its command
+abbrev pub job_headers : Background → Pairs
+job_headers job =
+    (codes "Job-UUID", job.uuid)
+    ∷ (codes "Job-Command", word_of (without_spaces job.command))
+    ∷ (codes "Job-Command-Arg", behind_word (without_spaces job.command))
+    ∷ []
+
 -- what an event tells beside its channel
 abbrev pub detail_headers : Switch → Switch → Option ℕ → Detail → Pairs
 detail_headers before s subject detail.Plain = []
@@ -122,6 +132,12 @@ detail_headers before s subject (detail.Bridge row) = bridge_headers before s ro
 detail_headers before s subject (detail.Unbridge row cause) = bridge_headers before s row ++ cause_header cause
 detail_headers before s subject (detail.Hangup cause) = cause_header cause
 detail_headers before s subject detail.Report = report_headers (subject_told before s subject)
+detail_headers before s subject (detail.Job job answer) = job_headers job
+
+-- what stands behind the headers of an event: the answer of a job
+abbrev pub body_in : Detail → Text
+body_in (detail.Job job answer) = answer
+body_in _ = []
 
 -- all headers of an event, where it has this number
 unfoldable pub headers_of : Switch → Switch → ℕ → Event → Pairs
@@ -132,7 +148,7 @@ headers_of before s number event =
 -- all that an event tells, where it has this number
 unfoldable pub telling_of : Switch → Switch → ℕ → Event → Telling
 telling_of before s number event =
-    record { name = event.name; subclass = []; headers = headers_of before s number event; body = [] }
+    record { name = event.name; subclass = []; headers = headers_of before s number event; body = body_in event.detail }
 
 -- all that events tell, the first of which has this number; the number stands still at 2^64 - 1
 abbrev pub tellings_from : Switch → Switch → ℕ → List Event → List Telling

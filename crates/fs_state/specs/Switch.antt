@@ -177,6 +177,10 @@ job_of s number = row_of s.jobs number
 abbrev pub without_job : ℕ → Switch → Switch
 without_job number s = record s { jobs = without_row s.jobs number }
 
+-- with one more job, of a number that none has
+abbrev pub with_job : ℕ → Job → Switch → Switch
+with_job number job s = record s { jobs = with_new_row s.jobs number job }
+
 -- with one more job, of the next number
 abbrev pub with_new_job : Job → Switch → Switch
 with_new_job job s = record s { drawn = numbers.with_job s.drawn; jobs = with_new_row s.jobs (next_job_number s) job }

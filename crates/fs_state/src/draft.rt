@@ -464,6 +464,14 @@ impl<'a> Draft<'a> {
         Ok(number)
     }
 
+    /// A job goes on under the number that it had.
+    pub fn put_job(&mut self, number: u64, job: Job) -> Result<(), Memory>
+        ensures { Brings result self.old self.new (spec.with_job number job (drafted self.old)) }
+    {
+        let core = self.core;
+        self.delta.jobs.add_row(&core.jobs, number, job)
+    }
+
     /// Ends the job of a number.
     pub fn drop_job(&mut self, number: u64) -> Result<(), Memory>
         ensures { Brings result self.old self.new (spec.without_job number (drafted self.old)) }

@@ -1,9 +1,10 @@
 //! What happens in an entry.
 ghost use Rattle.std.specs.Prelude.{◌≡◌, [], ◌∷◌, ◌++◌, OnOk, OnErr};
 
+use crate::job::Background;
 use fs_bridge::Row;
 use fs_chan::Action;
-use fs_text::{Cause, EventName, Memory};
+use fs_text::{Cause, EventName, Memory, Txt};
 use std::alloc::Global;
 use std::marker::Model;
 
@@ -42,11 +43,24 @@ pub enum Detail {
     Hangup(Cause),
     /// How the call was: why the channel was hung up, and its variables.
     Report,
+    /// The job in the background that has ended, and its answer.
+    Job(Background, Txt),
 }
 
 impl Detail {
     ghost use Rattle.std.specs.Prelude.{Option};
     ghost use Rattle.fs_state.specs.Counts.{hangup_in};
+    ghost use Rattle.fs_state.specs.Posting.{body_in};
+
+    /// The text that stands behind the headers: the answer of a job, or nothing.
+    pub fn body(&self) -> &[u8]
+        ensures { result.now ≡ body_in self.now }
+    {
+        match self {
+            Detail::Job(_, answer) => answer.as_bytes(),
+            _ => &[],
+        }
+    }
 
     /// Why a channel was hung up, where that is told.
     pub fn hangup(&self) -> Option<Cause>

@@ -2,28 +2,56 @@
 ghost use Rattle.std.specs.Prelude.{◌≡◌, IfOk};
 
 use fs_orig::{Caller, Winner};
-use fs_text::Memory;
+use fs_text::{Memory, Txt};
 
-/// Work that goes on behind a command, and in the end gives its reply.
+/// Work that goes on behind a command, and in the end gives its answer.
 pub struct Job {
-    /// The number of the connection that is owed the reply.
-    pub conn: u32,
-    /// What it waits for.
+    /// Who is told the answer.
+    pub asker: Asker,
+    /// What it does, or what it waits for.
     pub work: JobWork,
 }
 
 impl Drop for Job {
     fn drop(self) {
         let Job {
-            conn: _conn,
+            asker: _asker,
             work: _work,
         } = self;
     }
 }
 
-/// What a job waits for.
+/// Who is told the answer of a job.
+#[derive(Drop)]
+pub enum Asker {
+    /// The connection of this number, which is owed the reply to its command.
+    Conn { conn: u32 },
+    /// Whoever has subscribed the event that tells how a job in the background ends.
+    Background(Background),
+}
+
+/// A job in the background.
+pub struct Background {
+    /// Its identifier, which its client gave or the switch drew.
+    pub uuid: Txt,
+    /// The api command that it was begun with, in full.
+    pub command: Txt,
+}
+
+impl Drop for Background {
+    fn drop(self) {
+        let Background {
+            uuid: _uuid,
+            command: _command,
+        } = self;
+    }
+}
+
+/// What a job does, or what it waits for.
 #[derive(Drop)]
 pub enum JobWork {
+    /// The command that it was begun with is to be run, at once. Only a job in the background runs one.
+    Run,
     /// A moment, in microseconds.
     Sleep {
         until: u64,
@@ -37,14 +65,26 @@ pub enum JobWork {
     },
 }
 
-impl Job {
-    /// The same job once more.
-    pub fn copy(&self) -> Result<Job, Memory>
+impl Asker {
+    /// The same once more.
+    pub fn copy(&self) -> Result<Asker, Memory>
+        ensures { IfOk result (λ asker. asker ≡ self.now) }
+    {
+        Ok(match self {
+            Asker::Conn { conn } => Asker::Conn { conn: *conn },
+            Asker::Background(job) => Asker::Background(job.copy()?),
+        })
+    }
+}
+
+impl Background {
+    /// The same once more.
+    pub fn copy(&self) -> Result<Background, Memory>
         ensures { IfOk result (λ job. job ≡ self.now) }
     {
-        Ok(Job {
-            conn: self.conn,
-            work: self.work.copy()?,
+        Ok(Background {
+            uuid: self.uuid.copy()?,
+            command: self.command.copy()?,
         })
     }
 }
@@ -55,6 +95,7 @@ impl JobWork {
         ensures { IfOk result (λ work. work ≡ self.now) }
     {
         Ok(match self {
+            JobWork::Run => JobWork::Run,
             JobWork::Sleep { until } => JobWork::Sleep { until: *until },
             JobWork::Originate {
                 orig,

@@ -38,7 +38,7 @@ pub use draft::Draft;
 pub use drawn::Drawn;
 pub use event::{Detail, Event, Events};
 pub use gift::{Gift, Gifts};
-pub use job::{Job, JobWork};
+pub use job::{Asker, Background, Job, JobWork};
 pub use losses::{Loss, Losses};
 pub use moving::Moving;
 pub use outboxes::Outboxes;

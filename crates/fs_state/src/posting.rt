@@ -115,7 +115,7 @@ impl<'a> Draft<'a> {
     {
         text.clear();
         self.tell_headers(text, number, event)?;
-        text.end(b"")?;
+        text.end(event.detail.body())?;
         text.frame()
     }
 

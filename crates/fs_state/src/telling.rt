@@ -7,9 +7,12 @@ ghost use Rattle.fs_state.specs.Posting as spec;
 
 use crate::draft::Draft;
 use crate::event::{Detail, Event};
+use crate::job::Background;
 use fs_bridge::Row;
 use fs_chan::{Action, Chan};
-use fs_text::{Cause, EventName, HeaderSink, Memory, State, Txt, give, give_variable};
+use fs_text::{
+    Cause, EventName, HeaderSink, Memory, State, cut_word, give, give_variable, without_spaces,
+};
 use fs_vars::Vars;
 use itoa::Buffer;
 
@@ -119,6 +122,7 @@ impl<'a> Draft<'a> {
             }
             Detail::Hangup(cause) => tell_cause(sink, *cause),
             Detail::Report => self.tell_report(sink, event.subject),
+            Detail::Job(job, _) => tell_job(sink, job),
         }
     }
 
@@ -182,6 +186,16 @@ fn tell_cause<S: HeaderSink>(sink: &mut S, cause: Cause) -> Result<(), Memory>
     ensures { OnOk result (sink.new ≡ taking S.taken (with_values (spec.cause_header cause)) sink.old) }
 {
     give(sink, "Hangup-Cause", cause.name().as_bytes())
+}
+
+/// Tells a job in the background: its identifier, and the name and the arguments of its command.
+fn tell_job<S: HeaderSink>(sink: &mut S, job: &Background) -> Result<(), Memory>
+    ensures { OnOk result (sink.new ≡ taking S.taken (with_values (spec.job_headers job.now)) sink.old) }
+{
+    let (name, arguments) = cut_word(without_spaces(job.command.as_bytes()));
+    give(sink, "Job-UUID", job.uuid.as_bytes())?;
+    give(sink, "Job-Command", name)?;
+    give(sink, "Job-Command-Arg", arguments)
 }
 
 /// Tells variables, in order, with their names escaped.

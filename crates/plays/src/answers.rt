@@ -15,9 +15,12 @@ pub(crate) fn tell_answers(written: &[u8], answer: &mut Answer) {
 
 /// What stands in front of a header of a frame: an answer without a line end has the next frame behind it.
 pub(crate) fn without_header(line: &[u8]) -> &[u8] {
-    if line.starts_with(b"Content-Length: ") || line.starts_with(b"Reply-Text: ") {
+    if line.starts_with(b"Reply-Text: ") || line.starts_with(b"Job-UUID: ") {
         return b"";
     }
     let (name, _value) = cut_at(b':', line);
-    name.strip_suffix(b"Content-Type").unwrap_or(line)
+    match name.strip_suffix(b"Content-Type") {
+        Some(text) => text,
+        None => name.strip_suffix(b"Content-Length").unwrap_or(line),
+    }
 }

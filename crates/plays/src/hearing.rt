@@ -3,15 +3,17 @@
 use crate::answers::without_header;
 use case_desk::{Answer, is_line_end};
 
-/// Adds what stands in frames, in short: of an event its name, its number and the identifier of its channel in a line,
-/// of a reply its text, and of an answer its lines without a colon.
+/// Adds what stands in frames, in short: of an event its name, its number and the identifier of its channel or its job
+/// in a line, of a reply its text, with the identifier of a job that has begun behind it, and of an answer its lines
+/// without a colon.
 pub(crate) fn tell_heard(written: &[u8], answer: &mut Answer) {
     for line in written.split(is_line_end) {
         tell_line(line, answer);
     }
 }
 
-// Adds what is told of a line. The line of an event goes from its name to the identifier of its channel.
+// Adds what is told of a line. The line of an event goes from its name to the identifier of its channel or its job, and
+// that of a job that has begun from the text of the reply to its header.
 fn tell_line(line: &[u8], answer: &mut Answer) {
     if let Some(name) = line.strip_prefix(b"Event-Name: ") {
         answer.begin();
@@ -19,13 +21,30 @@ fn tell_line(line: &[u8], answer: &mut Answer) {
     } else if let Some(number) = line.strip_prefix(b"Event-Sequence: ") {
         answer.put(" ");
         answer.add(number);
-    } else if let Some(channel) = line.strip_prefix(b"Unique-ID: ") {
-        answer.put(" ");
-        answer.add(channel);
-        answer.end();
+    } else if let Some(begun) = line.strip_prefix(b"Reply-Text: +OK Job-UUID: ") {
+        answer.begin();
+        answer.put("+OK Job-UUID: ");
+        answer.add(begun);
     } else {
-        tell_other(line, answer);
+        tell_end(line, answer);
     }
+}
+
+// Adds what is told of a line that may end what was begun.
+fn tell_end(line: &[u8], answer: &mut Answer) {
+    if let Some(channel) = line.strip_prefix(b"Unique-ID: ") {
+        return tell_identifier(channel, answer);
+    }
+    match line.strip_prefix(b"Job-UUID: ") {
+        Some(job) => tell_identifier(job, answer),
+        None => tell_other(line, answer),
+    }
+}
+
+fn tell_identifier(identifier: &[u8], answer: &mut Answer) {
+    answer.put(" ");
+    answer.add(identifier);
+    answer.end();
 }
 
 fn tell_other(line: &[u8], answer: &mut Answer) {

@@ -9,4 +9,4 @@ pub returns : goal.returns
 unfolding spec.telling_of plain frame
 returns c =
     let headers = spec.headers_of c.args.self.now.base (drafted c.args.self.now) c.args.number c.args.event.now in
-    rw (c.in_ok-end.ensures, c.in_ok-tell_headers.ensures, c.clear.ensures, taking_lines headers []) at c.frame.ensures
+    rw (c.in_ok-end.ensures, c.body.ensures, c.in_ok-tell_headers.ensures, c.clear.ensures, taking_lines headers []) at c.frame.ensures

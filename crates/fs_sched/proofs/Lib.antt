@@ -1,0 +1,4 @@
+pub mod CivilLemmas
+pub mod TaskLemmas
+pub mod RunLemmas
+pub mod ThereLemmas

@@ -36,14 +36,13 @@ class Command:
 
 
 COMMANDS = {}
-COMING = {}
 
 
-def command(name, usage="", takes_text=False, known=COMMANDS):
+def command(name, usage="", takes_text=False):
     """Makes a function the api command of this name, with the words behind the name or the whole text."""
 
     def register(run):
-        known[name] = Command(usage, run, takes_text)
+        COMMANDS[name] = Command(usage, run, takes_text)
         return run
 
     return register
@@ -52,7 +51,7 @@ def command(name, usage="", takes_text=False, known=COMMANDS):
 def answer(switch, text):
     """What the api command answers that this text is."""
     name, rest = first_word(text)
-    asked = COMMANDS.get(name) or (COMING.get(name) if switch.coming else None)
+    asked = COMMANDS.get(name)
     if asked is None:
         return f"-ERR {name} Command not found!\n"
     try:
@@ -244,8 +243,9 @@ def bridgeable(switch, *identifiers):
     return both
 
 
-@command("fsctl", "shutdown", known=COMING)
+@command("fsctl", "shutdown")
 def fsctl(switch, words):
+    """The one word `shutdown` is known."""
     if words != ["shutdown"]:
         raise WrongUsage
     switch.shut_down()

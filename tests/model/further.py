@@ -1,4 +1,4 @@
-"""What plays of messages, of channels, of jobs and of what is still to come choose their commands of."""
+"""What plays of messages, of channels, of jobs and of shutdowns choose their commands of."""
 
 from dialplan import Action, Extension
 from random_plays import (

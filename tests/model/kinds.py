@@ -7,6 +7,7 @@ from layers import Layers
 from limits import Bytes, Limits, Room
 from messages import Messages, Variables
 from rings import Rings
+from shutdowns import Shutdowns
 from spelling import Spelling
 from streams import Blocks, Streams
 from times import Times
@@ -65,6 +66,6 @@ class Everything(Mixture, Further):
 
 ALL = (
     Words, Layers, Rings, Times, Bytes, Limits, Spelling, Room, Mixture, Messages, Variables, Jobs, Crowds,
-    Everything, Blocks, FurtherBlocks, Streams, FurtherStreams,
+    Shutdowns, Everything, Blocks, FurtherBlocks, Streams, FurtherStreams,
 )
 KINDS = {kind.__name__.lower(): kind for kind in ALL}

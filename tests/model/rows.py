@@ -13,7 +13,7 @@ from collections import Counter
 from functools import partial
 
 import load
-from api import COMING, COMMANDS
+from api import COMMANDS
 from blocks import Stream
 from dialplan import Action, Document, Extension
 from session import Session
@@ -71,10 +71,10 @@ def blocks(*lines):
 
 
 class Played:
-    """A play of one connection, in which the model knows what is still to come unless it is told not to."""
+    """A play of one connection."""
 
-    def __init__(self, document, pieces, coming=True):
-        self.session = Session(document, coming)
+    def __init__(self, document, pieces):
+        self.session = Session(document)
         self.result = self.session.play(pieces)
 
     def told(self):
@@ -360,7 +360,7 @@ def usages():
         "fsctl": "shutdown",
     }
     yield answers(*expected), [f"-USAGE: {usage}\n" for usage in expected.values()]
-    others = (COMMANDS | COMING).keys() - expected.keys()
+    others = COMMANDS.keys() - expected.keys()
     yield others, {"echo", "create_uuid", "global_getvar", "hupall"}
 
 
@@ -473,7 +473,7 @@ def shutdown():
 
 @row("a shutdown while an answer is owed")
 def shutdown_while_owed():
-    session = Session(EMPTY, coming=True)
+    session = Session(EMPTY)
     stream = Stream()
     for line in ("auth ClueCon", "event plain SHUTDOWN", "api msleep 1000"):
         stream.feed(f"{line}\n\n")
@@ -482,13 +482,6 @@ def shutdown_while_owed():
     session.run()
     said = [body for _, body in frames("".join(session.written))][3:]
     yield (named(said[0]), said[1:]), (["SHUTDOWN"], ["-ERR SYSTEM_SHUTDOWN\n", NOTICE])
-
-
-@row("what is still to come is not known to the model of today")
-def not_known_yet():
-    lines = [f"api {name}" for name in COMING]
-    said = Played(EMPTY, blocks("auth ClueCon", *lines), coming=False).told()[2:]
-    yield said, [f"-ERR {name} Command not found!\n" for name in COMING]
 
 
 @row("one call as a load")

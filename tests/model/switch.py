@@ -30,15 +30,11 @@ class Event:
 
 
 class Switch:
-    """One entry at a time changes it. The entry in hand collects its events, and an answer that was owed.
+    """One entry at a time changes it. The entry in hand collects its events, and an answer that was owed."""
 
-    Of what is still to come it knows nothing, unless it is asked to.
-    """
-
-    def __init__(self, document, journal, coming=False):
+    def __init__(self, document, journal):
         self.document = document
         self.journal = journal
-        self.coming = coming
         self.globals = Variables(OF_GLOBALS, document.global_values)
         self.channels = {}
         self.jobs = {}

@@ -1,6 +1,6 @@
 -- What is read as an api command keeps its limits.
-use Rattle.std.proofs.Common.{◌≡◌, ℕ, ◌≤◌, ◌&&◌, nat_le, Bool, true, false, [], ◌∷◌, Option, None, Some, Result, Ok, Err, IfOk, IfSome}
-use Rattle.std.proofs.Common.{codes, refl, sym, subst, arith}
+use Rattle.std.proofs.Common.{◌≡◌, ℕ, ◌≤◌, ◌==◌, ◌&&◌, nat_le, Bool, true, false, [], ◌∷◌, Option, None, Some, Result, Ok, Err, IfOk, IfSome}
+use Rattle.std.proofs.Common.{codes, length, refl, sym, subst, arith}
 use Rattle.std.proofs.lemmas.Bool.Decides.{nat_tests}
 use Rattle.std.specs.Prelude.{if◌then◌else◌}
 use Rattle.std.specs.Option.{option_and_then}
@@ -23,7 +23,7 @@ use Rattle.fs_api.specs.Words.{behind_quoted, quoted_word}
 use Rattle.fs_api.specs.Originates.{plain_word, originate_with, originate_to, originate_of}
 use Rattle.fs_api.specs.Readings.{names_channel, expand_of}
 use Rattle.fs_api.specs.Readings.{needs, global_setvar_of, global_getvar_of, msleep_for, uuid_exists_of, uuid_kill_of, uuid_getvar_of}
-use Rattle.fs_api.specs.Readings.{uuid_setvar_of, uuid_dump_of, uuid_bridge_of, uuid_park_of, hupall_of, api_named}
+use Rattle.fs_api.specs.Readings.{uuid_setvar_of, uuid_dump_of, uuid_bridge_of, uuid_park_of, hupall_of, fsctl_of, api_named}
 use Rattle.fs_api.specs.Transfers.{transfer_to, uuid_transfer_of}
 use Rattle.fs_api.specs.Ranges.{IsInRange}
 
@@ -65,6 +65,10 @@ expanding_in_range arguments =
     either IsInRange (names_channel arguments) _ _
     (λ _. needs_in_range which.Expand (Expand (Some (behind_byte 58 (word_of arguments)))) (behind_word arguments) (λ _. tt))
     (λ _. tt)
+
+ending_in_range : (arguments : Text) → IsInRange (fsctl_of arguments)
+ending_in_range arguments =
+    either IsInRange (bytes_eq (word_of arguments) (codes "shutdown") && length (behind_word arguments) == 0) _ _ (λ _. tt) (λ _. tt)
 
 getting_in_range : (arguments : Text) → IsInRange (global_getvar_of arguments)
 getting_in_range [] = tt
@@ -108,6 +112,7 @@ named_in_range name arguments =
     either IsInRange (bytes_eq name (codes "echo")) _ _ (λ _. tt)
     (λ _. either IsInRange (bytes_eq name (codes "expand")) _ _ (λ _. needs_in_range which.Expand expand_of arguments expanding_in_range)
     (λ _. either IsInRange (bytes_eq name (codes "create_uuid")) _ _ (λ _. tt)
+    (λ _. either IsInRange (bytes_eq name (codes "fsctl")) _ _ (λ _. ending_in_range arguments)
     (λ _. either IsInRange (bytes_eq name (codes "global_getvar")) _ _ (λ _. getting_in_range arguments)
     (λ _. either IsInRange (bytes_eq name (codes "global_setvar")) _ _ (λ _. needs_in_range which.GlobalSetvar global_setvar_of arguments
     (λ _. tt))
@@ -126,7 +131,7 @@ named_in_range name arguments =
     (λ _. either IsInRange (bytes_eq name (codes "uuid_setvar")) _ _
     (λ _. needs_in_range which.UuidSetvar uuid_setvar_of arguments setting_in_range)
     (λ _. either IsInRange (bytes_eq name (codes "uuid_transfer")) _ _ (λ _. transferring_in_range arguments)
-    (λ _. tt))))))))))))))))
+    (λ _. tt)))))))))))))))))
 
 -- what is read of a name and its arguments, once it is read
 pub IfOk-in_range : (name arguments : Text) (result : Result Api Memory) → IfOk result (λ api. api ≡ api_named name arguments) →

@@ -1,5 +1,5 @@
 -- How the text of an api command is read.
-use Rattle.std.specs.Prelude.{ℕ, nat_le, nat_lt, Bool, ◌&&◌, if◌then◌else◌, [], ◌∷◌, length, Option, None, Some, codes}
+use Rattle.std.specs.Prelude.{ℕ, ◌==◌, nat_le, nat_lt, Bool, ◌&&◌, if◌then◌else◌, [], ◌∷◌, length, Option, None, Some, codes}
 use Rattle.std.specs.Str.{bytes_eq}
 use Rattle.fs_text.specs.Number.{read_u64}
 use Rattle.fs_text.specs.Words.{name_in, value_in, before_byte, behind_byte, without_spaces, word_of, behind_word}
@@ -8,7 +8,7 @@ use Rattle.fs_text.specs.declared.causes.Cause.TheVariants.{ManagerRequest}
 use Rattle.fs_text.specs.Texts.{Text}
 use Rattle.fs_api.specs.declared.api.Api.{Api}
 use Rattle.fs_api.specs.declared.api.Api.TheVariants.{Echo, Expand, CreateUuid, GlobalGetvar, GlobalSetvar, Msleep, UuidExists, UuidKill}
-use Rattle.fs_api.specs.declared.api.Api.TheVariants.{UuidSetvar, UuidGetvar, UuidDump, UuidBridge, UuidPark, Hupall, Usage, Unknown}
+use Rattle.fs_api.specs.declared.api.Api.TheVariants.{UuidSetvar, UuidGetvar, UuidDump, UuidBridge, UuidPark, Hupall, Shutdown, Usage, Unknown}
 use Rattle.fs_api.specs.declared.usages.Which.{Which}
 use Rattle.fs_api.specs.declared.usages.Which.TheVariants as which
 use Rattle.fs_api.specs.Originates.{originate_of}
@@ -80,12 +80,18 @@ abbrev pub hupall_of : Text → Api
 hupall_of [] = Hupall ManagerRequest
 hupall_of (byte ∷ bytes) = Hupall (cause_or_clearing (word_of (byte ∷ bytes)))
 
+-- the one word `shutdown`, and nothing else
+abbrev pub fsctl_of : Text → Api
+fsctl_of arguments =
+    if bytes_eq (word_of arguments) (codes "shutdown") && length (behind_word arguments) == 0 then Shutdown else Usage which.Fsctl
+
 -- the api command of a name with these arguments
 unfoldable pub api_named : Text → Text → Api
 api_named name arguments =
     if bytes_eq name (codes "echo") then Echo arguments
     else (if bytes_eq name (codes "expand") then needs which.Expand expand_of arguments
     else (if bytes_eq name (codes "create_uuid") then CreateUuid
+    else (if bytes_eq name (codes "fsctl") then fsctl_of arguments
     else (if bytes_eq name (codes "global_getvar") then global_getvar_of arguments
     else (if bytes_eq name (codes "global_setvar") then needs which.GlobalSetvar global_setvar_of arguments
     else (if bytes_eq name (codes "hupall") then hupall_of arguments
@@ -99,7 +105,7 @@ api_named name arguments =
     else (if bytes_eq name (codes "uuid_park") then needs which.UuidPark uuid_park_of arguments
     else (if bytes_eq name (codes "uuid_setvar") then needs which.UuidSetvar uuid_setvar_of arguments
     else (if bytes_eq name (codes "uuid_transfer") then uuid_transfer_of arguments
-    else Unknown name)))))))))))))))
+    else Unknown name))))))))))))))))
 
 -- the api command that a text is
 abbrev pub api_of : Text → Api

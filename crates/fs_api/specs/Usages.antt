@@ -1,11 +1,12 @@
 -- How the api commands are to be written.
 use Rattle.std.specs.Prelude.{ℕ, List, codes}
 use Rattle.fs_api.specs.declared.usages.Which.{Which}
-use Rattle.fs_api.specs.declared.usages.Which.TheVariants.{Expand, GlobalSetvar, Msleep, Originate, UuidBridge, UuidDump}
+use Rattle.fs_api.specs.declared.usages.Which.TheVariants.{Expand, Fsctl, GlobalSetvar, Msleep, Originate, UuidBridge, UuidDump}
 use Rattle.fs_api.specs.declared.usages.Which.TheVariants.{UuidExists, UuidGetvar, UuidKill, UuidPark, UuidSetvar, UuidTransfer}
 
 unfoldable pub usage_of : Which → List ℕ
 usage_of Expand = codes "[uuid:U ]text*"
+usage_of Fsctl = codes "shutdown"
 usage_of GlobalSetvar = codes "<name>=<value>"
 usage_of Msleep = codes "<milliseconds>"
 usage_of Originate = codes "<call url> <exten>|&<app>(<args>) [dialplan] [context] [cid_name] [cid_num] [timeout]"

@@ -74,6 +74,8 @@ pub enum Api {
     Hupall {
         cause: Cause,
     },
+    /// The switch is to come to its end.
+    Shutdown,
     /// Legs are to be made, and the one that wins is to do something.
     Originate {
         url: Txt,
@@ -129,6 +131,7 @@ impl Drop for Api {
             } => {}
             Api::UuidDump { uuid: _uuid } => {}
             Api::Hupall { cause: _ } => {}
+            Api::Shutdown => {}
             Api::Originate {
                 url: _url,
                 winner: _winner,

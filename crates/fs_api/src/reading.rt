@@ -67,6 +67,8 @@ fn named(alloc: Global, name: &[u8], arguments: &[u8]) -> Result<Api, Memory>
         expand_of(alloc, arguments)
     } else if name == b"create_uuid".as_slice() {
         Ok(Api::CreateUuid)
+    } else if name == b"fsctl".as_slice() {
+        Ok(fsctl_of(arguments))
     } else if name == b"global_getvar".as_slice() {
         global_getvar_of(alloc, arguments)
     } else if name == b"global_setvar".as_slice() {
@@ -133,6 +135,17 @@ fn expand_over(alloc: Global, arguments: &[u8]) -> Result<Api, Memory>
     let uuid = Some(Txt::of(alloc, uuid)?);
     let text = Txt::of(alloc, text)?;
     Ok(Api::Expand { uuid, text })
+}
+
+fn fsctl_of(arguments: &[u8]) -> Api
+    ensures { result ≡ spec.fsctl_of arguments.now }
+{
+    let (word, behind) = cut_word(arguments);
+    if word == b"shutdown".as_slice() && behind.is_empty() {
+        Api::Shutdown
+    } else {
+        Api::Usage(Which::Fsctl)
+    }
 }
 
 fn global_getvar_of(alloc: Global, arguments: &[u8]) -> Result<Api, Memory>

@@ -7,6 +7,7 @@ ghost use Rattle.fs_api.specs.Usages.{usage_of};
 #[derive(Clone, Copy, Debug, PartialEq, Eq)]
 pub enum Which {
     Expand,
+    Fsctl,
     GlobalSetvar,
     Msleep,
     Originate,
@@ -27,6 +28,7 @@ pub fn usage(which: Which) -> &'static str
 {
     match which {
         Which::Expand => "[uuid:U ]text*",
+        Which::Fsctl => "shutdown",
         Which::GlobalSetvar => "<name>=<value>",
         Which::Msleep => "<milliseconds>",
         Which::Originate => {

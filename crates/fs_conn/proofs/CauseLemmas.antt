@@ -25,20 +25,20 @@ use Rattle.fs_machine.specs.Step.{refusal_of}
 use Rattle.fs_machine.specs.Frames.{commands_of}
 use Rattle.fs_machine.proofs.RefusalLemmas.{full_refused}
 use Rattle.fs_conn.specs.declared.end.End.{End}
-use Rattle.fs_conn.specs.declared.end.End.TheVariants.{Exit, AuthRefused, Eof, ReadFault, WriteFault, TooLong, BadLength, JournalFull}
+use Rattle.fs_conn.specs.declared.end.End.TheVariants.{Exit, AuthRefused, Stopped, Eof, ReadFault, WriteFault, TooLong, BadLength, JournalFull}
 use Rattle.fs_conn.specs.declared.end.End.TheVariants.{Memory, Runaway}
 use Rattle.fs_conn.specs.Play.{Play, switch_of, is_over, with_end, after_judging, after_trying_act, repeated, after_due_work, next_actor}
 use Rattle.fs_conn.specs.Play.{after_due_step, with_runaway_end_by, after_settling, after_settling_as, after_opening, after_conversing}
 use Rattle.fs_conn.specs.Play.{after_closing, end_by, farewell, end_behind, played, played_as}
 use Rattle.fs_conn.specs.Steps.{act_of, entry_of}
-use Rattle.fs_conn.specs.Ends.{EndsFor, IsFullAt, IsWork, IsWorkAt, EndsInWork, RanAway, HasCause}
+use Rattle.fs_conn.specs.Ends.{EndsFor, IsStoppedBy, IsFullAt, IsWork, IsWorkAt, EndsInWork, RanAway, HasCause}
 use Rattle.fs_conn.proofs.PlayLemmas.{goes_entered, goes_all_worked}
 use Rattle.fs_conn.proofs.RoundLemmas.{repeated_none}
 use Rattle.fs_conn.proofs.SettleLemmas.{worked_none}
 use Rattle.fs_conn.proofs.KeepLemmas.{Keeps, kept_repeated, kept_worked_once, kept_opened, kept_all_commanded, kept_closed}
 use Rattle.fs_conn.proofs.LawLemmas.{Any, IsRun, each_run, keeps_run, config_played}
 use Rattle.fs_conn.proofs.CloseLemmas.{IsFit, filled, longer_by, fit_entered, fit_due, worked_due}
-use Rattle.fs_conn.proofs.PartLemmas.{Parted, parted_closed, parted_last, Tells, tells_conversed}
+use Rattle.fs_conn.proofs.PartLemmas.{Parted, parted_closed, stopped_closed, parted_last, Tells, tells_conversed}
 
 -- ---- rounds of work
 
@@ -251,6 +251,7 @@ caused_closed config input =
 first_cause : (end : End) (p : Play) (fault : Option Fault) (read_failed : Bool) → EndsFirst (Some end) p → HasCause end p fault read_failed
 first_cause Exit p fault read_failed first = absurd first
 first_cause AuthRefused p fault read_failed first = absurd first
+first_cause Stopped p fault read_failed first = absurd first
 first_cause Eof p fault read_failed first = absurd first
 first_cause ReadFault p fault read_failed first = absurd first
 first_cause WriteFault p fault read_failed first = absurd first
@@ -269,14 +270,17 @@ cause_unparted p (Some faults.BadLength) read_failed = refl
 cause_unparted p None true = (refl, refl)
 cause_unparted p None false = (refl, refl)
 
--- or by its last command
+-- or by its last command, or by the end of the switch
 cause_behind : (last p : Play) (fault : Option Fault) (read_failed : Bool) (parting : Option Parting) → Tells last →
-    ((why : Parting) → Parted why last → Parted why p) → parting_at (switch_of last) 1 ≡ parting →
+    ((why : Parting) → Parted why last → Parted why p) → (IsStoppedBy last.config last.journal → IsStoppedBy p.config p.journal) →
+    parting_at (switch_of last) 1 ≡ parting →
     HasCause (end_behind (end_by parting) fault read_failed) p fault read_failed
-cause_behind last p fault read_failed (Some way.Exit) tells later is = later way.Exit (tells.parted way.Exit refl is)
-cause_behind last p fault read_failed (Some way.AuthRefused) tells later is = later way.AuthRefused (tells.parted way.AuthRefused refl is)
-cause_behind last p fault read_failed (Some way.EndOfInput) tells later is = cause_unparted p fault read_failed
-cause_behind last p fault read_failed None tells later is = cause_unparted p fault read_failed
+cause_behind last p fault read_failed (Some way.Exit) tells later still is = later way.Exit (tells.parted way.Exit refl is)
+cause_behind last p fault read_failed (Some way.AuthRefused) tells later still is =
+    later way.AuthRefused (tells.parted way.AuthRefused refl is)
+cause_behind last p fault read_failed (Some way.Stopped) tells later still is = still (tells.stopped is)
+cause_behind last p fault read_failed (Some way.EndOfInput) tells later still is = cause_unparted p fault read_failed
+cause_behind last p fault read_failed None tells later still is = cause_unparted p fault read_failed
 
 -- ---- every end
 
@@ -302,7 +306,7 @@ cause_played config input read_failed end is =
     let how = end_behind (farewell last) (fault_of (rest_of input)) read_failed in
     cause_ended how end closed (fault_of (rest_of input)) read_failed (caused_closed config input).cause
     (cause_behind last (record closed { end = Some how }) (fault_of (rest_of input)) read_failed (parting_at (switch_of last) 1)
-    (tells_conversed config input) (λ why h. parted_closed why last h) refl) is
+    (tells_conversed config input) (λ why h. parted_closed why last h) (λ h. stopped_closed last h) refl) is
 
 -- ---- the last command
 

@@ -21,7 +21,7 @@ use Rattle.fs_machine.specs.Step.{refusal_of, refused_where}
 use Rattle.fs_machine.specs.Frames.{command_in, commands_of}
 use Rattle.fs_machine.proofs.FrameLemmas.{command_refused}
 use Rattle.fs_conn.specs.declared.end.End.{End}
-use Rattle.fs_conn.specs.declared.end.End.TheVariants.{Exit, AuthRefused, Eof, ReadFault, WriteFault, TooLong, BadLength, JournalFull}
+use Rattle.fs_conn.specs.declared.end.End.TheVariants.{Exit, AuthRefused, Stopped, Eof, ReadFault, WriteFault, TooLong, BadLength, JournalFull}
 use Rattle.fs_conn.specs.declared.end.End.TheVariants.{Memory, Runaway}
 use Rattle.fs_conn.specs.Play.{Play, switch_of, is_over, with_end, after_judging, after_trying_act, after_following, after_act, reads_on}
 use Rattle.fs_conn.specs.Play.{takes_commands, after_command, after_commands, after_opening, after_conversing, after_closing, end_by}
@@ -213,6 +213,7 @@ input_late (TooLong len) is = refl
 input_late BadLength is = refl
 input_late Exit is = refl
 input_late AuthRefused is = refl
+input_late Stopped is = refl
 input_late WriteFault is = refl
 input_late (JournalFull cost limit) is = absurd (cc)
 input_late Memory is = refl
@@ -225,6 +226,7 @@ farewell_none None fault read_failed is = refl
 farewell_none (Some way.EndOfInput) fault read_failed is = refl
 farewell_none (Some way.Exit) fault read_failed is = absurd (cc is)
 farewell_none (Some way.AuthRefused) fault read_failed is = absurd (cc is)
+farewell_none (Some way.Stopped) fault read_failed is = absurd (cc is)
 
 -- a play that ended so with its connection was not over before
 ended_with : (how end : End) (p : Play) → Early p → (with_end how p).end ≡ Some end → is_early end ≡ false →

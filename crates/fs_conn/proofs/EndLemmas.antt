@@ -35,6 +35,7 @@ early_told : (end : End) → is_early end ≡ true → (is_told end ≡ true) ×
 early_told ends.Exit early = absurd (cc)
 early_told ends.Eof early = absurd (cc)
 early_told ends.AuthRefused early = absurd (cc)
+early_told ends.Stopped early = absurd (cc)
 early_told ends.ReadFault early = absurd (cc)
 early_told ends.WriteFault early = absurd (cc)
 early_told (ends.TooLong len) early = absurd (cc)
@@ -84,6 +85,7 @@ plays_told : (config : Configuration) (in0 in1 : Input) (out0 out1 : Output) (en
 plays_told config in0 in1 out0 out1 ends.Exit journal told done = done
 plays_told config in0 in1 out0 out1 ends.Eof journal told done = done
 plays_told config in0 in1 out0 out1 ends.AuthRefused journal told done = done
+plays_told config in0 in1 out0 out1 ends.Stopped journal told done = done
 plays_told config in0 in1 out0 out1 ends.ReadFault journal told done = done
 plays_told config in0 in1 out0 out1 ends.WriteFault journal told done = absurd (cc)
 plays_told config in0 in1 out0 out1 (ends.TooLong len) journal told done = done

@@ -13,7 +13,7 @@ use Rattle.fs_state.specs.declared.conn.Parting.TheVariants as parting
 use Rattle.fs_state.specs.Switch.{Switch, empty}
 use Rattle.fs_machine.specs.declared.entry.Entry.{Entry}
 use Rattle.fs_machine.specs.declared.entry.Act.{Act}
-use Rattle.fs_machine.specs.declared.entry.Act.TheVariants.{Arrive, Command, Take, Close, Work, Job}
+use Rattle.fs_machine.specs.declared.entry.Act.TheVariants.{Arrive, Command, Take, Close, Work, Job, Halt}
 use Rattle.fs_machine.specs.declared.refusal.Refusal.{Refusal}
 use Rattle.fs_machine.specs.declared.refusal.Refusal.TheVariants as refusal
 use Rattle.fs_machine.specs.Entries.{is_full}
@@ -22,14 +22,18 @@ use Rattle.fs_machine.specs.Questions.{parting_at, owes}
 use Rattle.fs_machine.specs.Step.{step, reads, refusal_of, refused_where}
 use Rattle.fs_machine.specs.Frames.{command_in, commands_of}
 use Rattle.fs_machine.specs.Concerns.{is_its_own, KeepsOrParts}
+use Rattle.fs_machine.specs.Runs.{run_from, IsRunFrom}
+use Rattle.fs_machine.proofs.RunLemmas.{is_run_more}
+use Rattle.fs_machine.proofs.StoppedMoves.{parts_at_end, goes_while_read}
 use Rattle.fs_machine.proofs.FramesLaws.{settings_run}
 use Rattle.fs_machine.proofs.FrameLemmas.{command_refused}
 use Rattle.fs_machine.proofs.PartLemmas.{others_part, take_keeps, CommandParts, command_parts, none_parted, arrival_unparted}
+use Rattle.fs_conn.specs.declared.end.End.{End}
 use Rattle.fs_conn.specs.declared.end.End.TheVariants.{Runaway}
 use Rattle.fs_conn.specs.Play.{Play, switch_of, new_play, is_over, after_judging, after_trying_act, reads_on, takes_commands, after_act}
 use Rattle.fs_conn.specs.Play.{after_command, after_commands, after_opening, after_conversing, after_closing}
 use Rattle.fs_conn.specs.Steps.{entry_of}
-use Rattle.fs_conn.specs.Ends.{PartsFor, command_at, IsPartedBy, EndsFor}
+use Rattle.fs_conn.specs.Ends.{PartsFor, command_at, IsPartedBy, EndsFor, IsStoppedBy}
 use Rattle.fs_conn.proofs.KeepLemmas.{Keeps, by_each, kept_followed, kept_closed}
 use Rattle.fs_conn.proofs.CloseLemmas.{longer_by, switch_longer}
 use Rattle.fs_conn.proofs.CommandLemmas.{IsSilent, commands_more, commands_append, both_hold}
@@ -57,34 +61,62 @@ parted_longer why config journal entry silent h = record {
   parted = h.parted;
 }
 
--- so an act that is no command leaves it
+-- nor does the entry by which the switch came to its end change
+stopped_longer : (config : Configuration) (journal : List Entry) (entry : Entry) → command_in 1 entry.act ≡ [] →
+    IsStoppedBy config journal → IsStoppedBy config (journal ++ entry ∷ [])
+stopped_longer config journal entry silent h = record {
+  before = h.before;
+  entry = h.entry;
+  behind = h.behind ++ entry ∷ [];
+  split = ap (λ entries. entries ++ entry ∷ []) h.split ∙ append_assoc h.before (h.entry ∷ h.behind) (entry ∷ []);
+  last =
+      commands_more h.behind entry ∙ ap (λ blocks. commands_of 1 h.behind ++ blocks) silent ∙ append-nil (commands_of 1 h.behind) ∙ h.last;
+  unstopped = h.unstopped;
+  stopped = h.stopped;
+  unparted = h.unparted;
+  parted = h.parted;
+}
+
+-- so an act that is no command leaves what is told of a journal
+module _ (Told : Configuration → List Entry → Type 0)
+    (longer : (config : Configuration) (journal : List Entry) (entry : Entry) → command_in 1 entry.act ≡ [] → Told config journal →
+    Told config (journal ++ entry ∷ [])) where
+  abbrev ToldOf : Play → Type 0
+  ToldOf p = Told p.config p.journal
+
+  told_judged : (cause : Option Refusal) (entry : Entry) (p : Play) → command_in 1 entry.act ≡ [] → ToldOf p →
+      ToldOf (after_judging cause entry p)
+  told_judged None entry p silent h = longer p.config p.journal entry silent h
+  told_judged (Some (refusal.JournalFull cost limit)) entry p silent h = h
+  told_judged (Some _) entry p silent h = h
+
+  keeps_told : Keeps IsSilent ToldOf
+  keeps_told = by_each IsSilent ToldOf (record {
+    works = λ slot. refl;
+    jobs = λ number. refl;
+    takes = refl;
+    enters =
+        λ act such p h. elim (is_over p) as (λ b. ToldOf
+        (cond b p (after_judging (refusal_of (switch_of p) (entry_of act p)) (entry_of act p) p))) [
+          | true ↦ h
+          | false ↦ told_judged (refusal_of (switch_of p) (entry_of act p)) (entry_of act p) p such h
+        ];
+    runs_away = λ p h. elim (is_over p) as (λ b. ToldOf (cond b p (record p { end = Some (Runaway 100000) }))) [ true ↦ h | false ↦ h ];
+    goes_on = λ moment p h. h;
+  })
+
+  -- the closing of the connection leaves it too
+  told_closed : (p : Play) → ToldOf p → ToldOf (after_closing p)
+  told_closed p h = kept_closed IsSilent ToldOf keeps_told refl refl p h
+
 abbrev pub Parted : Parting → Play → Type 0
 Parted why p = IsPartedBy why p.config p.journal
 
-parted_judged : (why : Parting) (cause : Option Refusal) (entry : Entry) (p : Play) → command_in 1 entry.act ≡ [] → Parted why p →
-    Parted why (after_judging cause entry p)
-parted_judged why None entry p silent h = parted_longer why p.config p.journal entry silent h
-parted_judged why (Some (refusal.JournalFull cost limit)) entry p silent h = h
-parted_judged why (Some _) entry p silent h = h
-
-keeps_parted : (why : Parting) → Keeps IsSilent (Parted why)
-keeps_parted why = by_each IsSilent (Parted why) (record {
-  works = λ slot. refl;
-  jobs = λ number. refl;
-  takes = refl;
-  enters =
-      λ act such p h. elim (is_over p) as (λ b. Parted why
-      (cond b p (after_judging (refusal_of (switch_of p) (entry_of act p)) (entry_of act p) p))) [
-        | true ↦ h
-        | false ↦ parted_judged why (refusal_of (switch_of p) (entry_of act p)) (entry_of act p) p such h
-      ];
-  runs_away = λ p h. elim (is_over p) as (λ b. Parted why (cond b p (record p { end = Some (Runaway 100000) }))) [ true ↦ h | false ↦ h ];
-  goes_on = λ moment p h. h;
-})
-
--- the closing of the connection leaves it too
 pub parted_closed : (why : Parting) (p : Play) → Parted why p → Parted why (after_closing p)
-parted_closed why p h = kept_closed IsSilent (Parted why) (keeps_parted why) refl refl p h
+parted_closed why p h = told_closed (IsPartedBy why) (parted_longer why) p h
+
+pub stopped_closed : (p : Play) → IsStoppedBy p.config p.journal → IsStoppedBy (after_closing p).config (after_closing p).journal
+stopped_closed p h = told_closed IsStoppedBy stopped_longer p h
 
 -- it ends the commands
 pub parted_last : (why : Parting) (config : Configuration) (journal : List Entry) → IsPartedBy why config journal →
@@ -101,10 +133,29 @@ parted_last why config journal h =
 
 -- ---- what a connection parts for
 
--- it has not parted while it reads commands, and what it parted for by its own doing its last command tells
+-- The journal is a run. The connection has not parted while it reads commands, what it parted for by its own doing its last command tells,
+-- and where it parted for the end of the switch an entry brought that.
 pub record Tells (p : Play) : Type 0 where
+  pub run : IsRunFrom (empty p.config) p.journal
   pub here : reads_on p ≡ true → parting_at (switch_of p) 1 ≡ None
   pub parted : (why : Parting) → is_its_own why ≡ true → parting_at (switch_of p) 1 ≡ Some why → Parted why p
+  pub stopped : parting_at (switch_of p) 1 ≡ Some parting.Stopped → IsStoppedBy p.config p.journal
+
+-- an entry by which one parts for it that read commands
+stops_now : (p : Play) (entry : Entry) → Tells p → reads_on p ≡ true →
+    parting_at (run_from (empty p.config) (p.journal ++ entry ∷ [])) 1 ≡ Some parting.Stopped →
+    IsStoppedBy p.config (p.journal ++ entry ∷ [])
+stops_now p entry h reading parts = record {
+  before = p.journal;
+  entry = entry;
+  behind = [];
+  split = refl;
+  last = refl;
+  unstopped = goes_while_read p.config p.journal 1 h.run reading;
+  stopped = parts_at_end p.config (p.journal ++ entry ∷ []) 1 parts;
+  unparted = h.here reading;
+  parted = parts;
+}
 
 -- acts that are none of its own, and Takes
 abbrev IsAside : Act → Type 0
@@ -117,6 +168,7 @@ aside_silent : (act : Act) → IsAside act → command_in 1 act ≡ []
 aside_silent (Work slot) such = refl
 aside_silent (Job number) such = refl
 aside_silent (Take taker) such = refl
+aside_silent Halt such = absurd such
 aside_silent Arrive such = absurd such
 aside_silent (Command giver block) such = absurd such
 aside_silent (Close gone how) such = absurd such
@@ -125,21 +177,27 @@ aside_keeps : (act : Act) (moment : ℕ) (s : Switch) → IsAside act → KeepsO
 aside_keeps (Work slot) moment s such = others_part 1 moment (Work slot) s tt
 aside_keeps (Job number) moment s such = others_part 1 moment (Job number) s tt
 aside_keeps (Take taker) moment s such = inl (take_keeps 1 moment taker s)
+aside_keeps Halt moment s such = absurd such
 aside_keeps Arrive moment s such = absurd such
 aside_keeps (Command giver block) moment s such = absurd such
 aside_keeps (Close gone how) moment s such = absurd such
 
 -- such an act was entered
-tells_aside : (act : Act) (p : Play) (t : Switch) → IsAside act → switch_of (longer_by act p) ≡ t → KeepsOrParts 1 (switch_of p) t →
-    Tells p → Tells (longer_by act p)
-tells_aside act p t such is (inl keeps) h = record {
+tells_aside : (act : Act) (p : Play) (t : Switch) → IsAside act → refusal_of (switch_of p) (entry_of act p) ≡ None →
+    switch_of (longer_by act p) ≡ t → KeepsOrParts 1 (switch_of p) t → Tells p → Tells (longer_by act p)
+tells_aside act p t such accepted is (inl keeps) h = record {
+  run = is_run_more (empty p.config) p.journal (entry_of act p) h.run accepted;
   here = λ reading. ap (λ (s : Switch). parting_at s 1) is
       ∙ (keeps.parting ∙ h.here (sym (ap reads keeps.phase) ∙ (sym (ap (λ (s : Switch). reads (phase_at s 1)) is) ∙ reading)));
   parted =
       λ why own same. parted_longer why p.config p.journal (entry_of act p) (aside_silent act such)
       (h.parted why own (sym keeps.parting ∙ (sym (ap (λ (s : Switch). parting_at s 1) is) ∙ same)));
+  stopped =
+      λ same. stopped_longer p.config p.journal (entry_of act p) (aside_silent act such)
+      (h.stopped (sym keeps.parting ∙ (sym (ap (λ (s : Switch). parting_at s 1) is) ∙ same)));
 }
-tells_aside act p t such is (inr parts) h = record {
+tells_aside act p t such accepted is (inr parts) h = record {
+  run = is_run_more (empty p.config) p.journal (entry_of act p) h.run accepted;
   here = λ reading. let none : reads (phase_at t 1) ≡ true = sym (ap (λ (s : Switch). reads (phase_at s 1)) is) ∙ reading in
       absurd (both_ways (reads (phase_at t 1)) (ap reads parts.ending) none);
   parted =
@@ -147,13 +205,20 @@ tells_aside act p t such is (inr parts) h = record {
       let one : parts.why ≡ why =
       same_Some parts.why why (sym parts.parting ∙ (sym (ap (λ (s : Switch). parting_at s 1) is) ∙ same)) in
       absurd (both_ways (is_its_own why) (sym (ap is_its_own one) ∙ parts.others) own);
+  stopped = λ same. stops_now p (entry_of act p) h parts.read same;
 }
 
-tells_judged : (cause : Option Refusal) (act : Act) (p : Play) → IsAside act → Tells p → Tells (after_judging cause (entry_of act p) p)
-tells_judged None act p such h =
-    tells_aside act p (step (switch_of p) (entry_of act p)).state such (switch_longer act p) (aside_keeps act p.clock (switch_of p) such) h
-tells_judged (Some (refusal.JournalFull cost limit)) act p such h = record { here = h.here; parted = h.parted }
-tells_judged (Some _) act p such h = h
+-- the same of a play with another end
+tells_same : (p : Play) (end : Option End) → Tells p → Tells (record p { end = end })
+tells_same p end h = record { run = h.run; here = h.here; parted = h.parted; stopped = h.stopped }
+
+tells_judged : (cause : Option Refusal) (act : Act) (p : Play) → IsAside act → refusal_of (switch_of p) (entry_of act p) ≡ cause → Tells p →
+    Tells (after_judging cause (entry_of act p) p)
+tells_judged None act p such judged h =
+    tells_aside act p (step (switch_of p) (entry_of act p)).state such judged (switch_longer act p)
+    (aside_keeps act p.clock (switch_of p) such) h
+tells_judged (Some (refusal.JournalFull cost limit)) act p such judged h = tells_same p _ h
+tells_judged (Some _) act p such judged h = h
 
 keeps_tells : Keeps IsAside Tells
 keeps_tells = by_each IsAside Tells (record {
@@ -164,14 +229,14 @@ keeps_tells = by_each IsAside Tells (record {
       λ act such p h. elim (is_over p) as (λ b. Tells
       (cond b p (after_judging (refusal_of (switch_of p) (entry_of act p)) (entry_of act p) p))) [
         | true ↦ h
-        | false ↦ tells_judged (refusal_of (switch_of p) (entry_of act p)) act p such h
+        | false ↦ tells_judged (refusal_of (switch_of p) (entry_of act p)) act p such refl h
       ];
   runs_away =
       λ p h. elim (is_over p) as (λ b. Tells (cond b p (record p { end = Some (Runaway 100000) }))) [
         | true ↦ h
-        | false ↦ record { here = h.here; parted = h.parted }
+        | false ↦ tells_same p (Some (Runaway 100000)) h
       ];
-  goes_on = λ moment p h. record { here = h.here; parted = h.parted };
+  goes_on = λ moment p h. record { run = h.run; here = h.here; parted = h.parted; stopped = h.stopped };
 })
 
 -- ---- its commands
@@ -185,10 +250,13 @@ reason parting.AuthRefused config block s t kept made is own =
     let told = made.refused is in
     (told.0, told.1, λ same. told.2 (same ∙ ap (λ (settings : Settings). settings.password) (sym kept)))
 reason parting.EndOfInput config block s t kept made is own = absurd (made.hears is)
+reason parting.Stopped config block s t kept made is own = absurd (cc)
 
-tells_command : (block : Text) (p : Play) (t : Switch) → reads_on p ≡ true → switch_of (longer_by (Command 1 block) p) ≡ t →
+tells_command : (block : Text) (p : Play) (t : Switch) → reads_on p ≡ true →
+    refusal_of (switch_of p) (entry_of (Command 1 block) p) ≡ None → switch_of (longer_by (Command 1 block) p) ≡ t →
     CommandParts 1 (command_of block) (switch_of p) t → Tells p → Tells (longer_by (Command 1 block) p)
-tells_command block p t reading is made h = record {
+tells_command block p t reading accepted is made h = record {
+  run = is_run_more (empty p.config) p.journal (entry_of (Command 1 block) p) h.run accepted;
   here = λ still.
       ap (λ (s : Switch). parting_at s 1) is ∙ made.reads_on (sym (ap (λ (s : Switch). reads (phase_at s 1)) is) ∙ still);
   parted = λ why own same. record {
@@ -199,15 +267,18 @@ tells_command block p t reading is made h = record {
     unparted = h.here reading;
     parted = same;
   };
+  stopped = λ same. stops_now p (entry_of (Command 1 block) p) h reading same;
 }
 
 -- a command that is refused is so since the journal is full
-tells_spoken : (block : Text) (p : Play) (full : Bool) → reads_on p ≡ true → Tells p →
+tells_spoken : (block : Text) (p : Play) (full : Bool) → reads_on p ≡ true →
+    refusal_of (switch_of p) (entry_of (Command 1 block) p)
+    ≡ refused_where full (refusal.JournalFull (switch_of p).cost (switch_of p).settings.journal_limit) None → Tells p →
     Tells (after_judging (refused_where full
     (refusal.JournalFull (switch_of p).cost (switch_of p).settings.journal_limit) None) (entry_of (Command 1 block) p) p)
-tells_spoken block p true reading h = record { here = h.here; parted = h.parted }
-tells_spoken block p false reading h =
-    tells_command block p (step (switch_of p) (entry_of (Command 1 block) p)).state reading (switch_longer (Command 1 block) p)
+tells_spoken block p true reading judged h = tells_same p _ h
+tells_spoken block p false reading judged h =
+    tells_command block p (step (switch_of p) (entry_of (Command 1 block) p)).state reading judged (switch_longer (Command 1 block) p)
     (command_parts 1 p.clock block (switch_of p) reading (h.here reading)) h
 
 tells_entered : (block : Text) (p : Play) → takes_commands p ≡ true → Tells p → Tells (after_trying_act (Command 1 block) p)
@@ -218,7 +289,7 @@ tells_entered block p takes h =
       | false ↦ let parts = both_hold (reads_on p) (owes (switch_of p) 1) takes in
           subst (λ (cause : Option Refusal). Tells (after_judging cause (entry_of (Command 1 block) p) p))
           (sym (command_refused (switch_of p) p.clock 1 block parts.0 parts.1))
-          (tells_spoken block p (is_full (switch_of p)) parts.0 h)
+          (tells_spoken block p (is_full (switch_of p)) parts.0 (command_refused (switch_of p) p.clock 1 block parts.0 parts.1) h)
     ]
 
 tells_commanded : (block : Text) (p : Play) → Tells p → Tells (after_command p block)
@@ -234,22 +305,24 @@ tells_all_commanded (block ∷ blocks) p h = tells_all_commanded blocks (after_c
 
 -- ---- its coming
 
-tells_unparted : (p : Play) → parting_at (switch_of p) 1 ≡ None → Tells p
-tells_unparted p none = record {
+tells_unparted : (p : Play) → IsRunFrom (empty p.config) p.journal → parting_at (switch_of p) 1 ≡ None → Tells p
+tells_unparted p run none = record {
+  run = run;
   here = λ reading. none;
   parted = λ why own same. absurd (none-some why (sym none ∙ same));
+  stopped = λ same. absurd (none-some parting.Stopped (sym none ∙ same));
 }
 
-tells_come : (cause : Option Refusal) (config : Configuration) →
+tells_come : (cause : Option Refusal) (config : Configuration) → refusal_of (empty config) (entry_of Arrive (new_play config)) ≡ cause →
     Tells (after_judging cause (entry_of Arrive (new_play config)) (new_play config))
-tells_come None config =
-    tells_unparted (longer_by Arrive (new_play config))
+tells_come None config judged =
+    tells_unparted (longer_by Arrive (new_play config)) (judged, tt)
     (ap (λ (s : Switch). parting_at s 1) (switch_longer Arrive (new_play config)) ∙ arrival_unparted config 0)
-tells_come (Some (refusal.JournalFull cost limit)) config = tells_unparted _ (none_parted config)
-tells_come (Some _) config = tells_unparted (new_play config) (none_parted config)
+tells_come (Some (refusal.JournalFull cost limit)) config judged = tells_unparted _ tt (none_parted config)
+tells_come (Some _) config judged = tells_unparted (new_play config) tt (none_parted config)
 
 pub tells_conversed : (config : Configuration) (input : List ℕ) → Tells (after_conversing config input)
 tells_conversed config input =
     tells_all_commanded (blocks_of input) (after_opening config)
     (kept_followed IsAside Tells keeps_tells (after_trying_act Arrive (new_play config))
-    (tells_come (refusal_of (switch_of (new_play config)) (entry_of Arrive (new_play config))) config))
+    (tells_come (refusal_of (switch_of (new_play config)) (entry_of Arrive (new_play config))) config refl))

@@ -30,7 +30,7 @@ use Rattle.fs_machine.specs.Here.{IsHere}
 use Rattle.fs_machine.specs.Step.{reads}
 use Rattle.fs_machine.specs.Owed.{PartsIn, AreOwed}
 use Rattle.fs_conn.specs.declared.end.End.{End}
-use Rattle.fs_conn.specs.declared.end.End.TheVariants.{Exit, AuthRefused, Eof}
+use Rattle.fs_conn.specs.declared.end.End.TheVariants.{Exit, AuthRefused, Stopped, Eof}
 use Rattle.fs_conn.specs.declared.stop.Stop.{Stop}
 use Rattle.fs_conn.specs.declared.stop.Stop.TheVariants.{Over, OutOfMemory, WriteFault}
 use Rattle.fs_conn.specs.declared.wire.Filled.{Filled}
@@ -86,6 +86,7 @@ reads_in Ready parting parts hears none = refl
 reads_in Ending None parts hears none = absurd (parts refl)
 reads_in Ending (Some way.Exit) parts hears none = absurd (cc)
 reads_in Ending (Some way.AuthRefused) parts hears none = absurd (cc)
+reads_in Ending (Some way.Stopped) parts hears none = absurd (cc)
 reads_in Ending (Some way.EndOfInput) parts hears none = absurd (hears refl)
 reads_in Closed parting parts hears none = absurd parts
 
@@ -351,6 +352,7 @@ farewell_told : (parting : Option Parting) (end : End) → end_by parting ≡ So
 farewell_told None end is = absurd (cc)
 farewell_told (Some way.Exit) end is = let same : Exit ≡ end = cc in subst IsFarewell same (refl, λ eof. cc)
 farewell_told (Some way.AuthRefused) end is = let same : AuthRefused ≡ end = cc in subst IsFarewell same (refl, λ eof. cc)
+farewell_told (Some way.Stopped) end is = let same : Stopped ≡ end = cc in subst IsFarewell same (refl, λ eof. cc)
 farewell_told (Some way.EndOfInput) end is = absurd (cc)
 
 -- the connection reads no further command

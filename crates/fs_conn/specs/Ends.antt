@@ -1,5 +1,5 @@
 -- What the end of a play shows.
-use Rattle.std.specs.Prelude.{◌≡◌, ◌≢◌, ℕ, Bool, true, false, List, [], ◌∷◌, ◌++◌, length, Option, None, Some}
+use Rattle.std.specs.Prelude.{◌≡◌, ◌≢◌, ℕ, Bool, true, false, List, [], ◌∷◌, ◌++◌, length, Option, None, Some, is_some}
 use Rattle.std.specs.List.{AllByRecursion}
 use Rattle.fs_doc.specs.Limits.{IsWithin}
 use Rattle.fs_doc.specs.Reading.{Configuration}
@@ -25,11 +25,12 @@ use Rattle.fs_conn.specs.Steps.{act_of}
 
 -- ---- by its last command
 
--- the commands for which a connection parts: `exit`, and `auth` with a password that is not this one
+-- the commands for which a connection parts by its own doing: `exit`, and `auth` with a password that is not this one
 abbrev pub PartsFor : Parting → Text → Read → Type 0
 PartsFor parting.Exit password read = read ≡ command.Exit
 PartsFor parting.AuthRefused password read = (given : Text) × (read ≡ command.Auth given) × (given ≢ password)
 PartsFor parting.EndOfInput password read = ⊥
+PartsFor parting.Stopped password read = ⊥
 
 -- the entry of a command of the connection
 abbrev pub command_at : ℕ → Text → Entry
@@ -58,6 +59,20 @@ pub record EndsFor (why : Parting) (password : Text) (blocks : List Text) : Type
   pub split : blocks ≡ earlier ++ block ∷ []
   pub is : PartsFor why password (command_of block)
 
+-- ---- by the end of the switch
+
+-- by an entry of a journal the switch came to its end, and by that the connection parted, which gives no command behind it
+pub record IsStoppedBy (config : Configuration) (journal : List Entry) : Type 0 where
+  pub before : List Entry
+  pub entry : Entry
+  pub behind : List Entry
+  pub split : journal ≡ before ++ entry ∷ behind
+  pub last : commands_of 1 behind ≡ []
+  pub unstopped : (run_from (empty config) before).stopping ≡ None
+  pub stopped : is_some (run_from (empty config) (before ++ entry ∷ [])).stopping ≡ true
+  pub unparted : parting_at (run_from (empty config) before) 1 ≡ None
+  pub parted : parting_at (run_from (empty config) (before ++ entry ∷ [])) 1 ≡ Some parting.Stopped
+
 -- ---- by its input
 
 -- an end that comes behind all blocks of the input
@@ -68,6 +83,7 @@ is_by_input (ends.TooLong len) = true
 is_by_input ends.BadLength = true
 is_by_input ends.Exit = false
 is_by_input ends.AuthRefused = false
+is_by_input ends.Stopped = false
 is_by_input ends.WriteFault = false
 is_by_input (ends.JournalFull cost limit) = false
 is_by_input ends.Memory = false
@@ -112,6 +128,7 @@ pub record RanAway (count : ℕ) (p : Play) : Type 0 where
 abbrev pub HasCause : End → Play → Option Fault → Bool → Type 0
 HasCause ends.Exit p fault read_failed = IsPartedBy parting.Exit p.config p.journal
 HasCause ends.AuthRefused p fault read_failed = IsPartedBy parting.AuthRefused p.config p.journal
+HasCause ends.Stopped p fault read_failed = IsStoppedBy p.config p.journal
 HasCause ends.Eof p fault read_failed = (fault ≡ None) × (read_failed ≡ false)
 HasCause ends.ReadFault p fault read_failed = (fault ≡ None) × (read_failed ≡ true)
 HasCause ends.WriteFault p fault read_failed = ⊥

@@ -25,7 +25,7 @@ use Rattle.fs_machine.specs.Frames.{handed_from}
 use Rattle.fs_machine.specs.Connections.{phase_at}
 use Rattle.fs_machine.specs.Questions.{parting_at, owes}
 use Rattle.fs_conn.specs.declared.end.End.{End}
-use Rattle.fs_conn.specs.declared.end.End.TheVariants.{Exit, AuthRefused, Eof, ReadFault, TooLong, BadLength, JournalFull, Runaway}
+use Rattle.fs_conn.specs.declared.end.End.TheVariants.{Exit, AuthRefused, Stopped, Eof, ReadFault, TooLong, BadLength, JournalFull, Runaway}
 
 -- a play so far: what the switch was configured by, its journal, the clock, and how the play ended, if it did
 pub record Play : Type 0 where
@@ -197,6 +197,7 @@ end_by None = None
 end_by (Some parting.Exit) = Some Exit
 end_by (Some parting.AuthRefused) = Some AuthRefused
 end_by (Some parting.EndOfInput) = None
+end_by (Some parting.Stopped) = Some Stopped
 
 -- how a connection ends that reads no further command, or none where it reads on
 abbrev pub farewell : Play → Option End

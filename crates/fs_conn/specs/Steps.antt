@@ -15,8 +15,8 @@ use Rattle.fs_machine.specs.declared.reply.Reply.{Reply}
 use Rattle.fs_machine.specs.Step.{step, refusal_of}
 use Rattle.fs_machine.specs.Frames.{handed_in}
 use Rattle.fs_conn.specs.declared.end.End.{End}
-use Rattle.fs_conn.specs.declared.end.End.TheVariants.{Exit, AuthRefused, Eof, ReadFault, WriteFault as ends_by_write, TooLong, BadLength}
-use Rattle.fs_conn.specs.declared.end.End.TheVariants.{JournalFull, Memory, Runaway}
+use Rattle.fs_conn.specs.declared.end.End.TheVariants.{Exit, AuthRefused, Stopped as ends_by_stop, Eof, ReadFault, WriteFault as ends_by_write}
+use Rattle.fs_conn.specs.declared.end.End.TheVariants.{TooLong, BadLength, JournalFull, Memory, Runaway}
 use Rattle.fs_conn.specs.declared.stop.Stop.{Stop}
 use Rattle.fs_conn.specs.declared.stop.Stop.TheVariants.{Over, OutOfMemory, WriteFault}
 use Rattle.fs_conn.specs.declared.wire.Filled.{Filled}
@@ -41,6 +41,7 @@ is_early (JournalFull cost limit) = true
 is_early (Runaway count) = true
 is_early Exit = false
 is_early AuthRefused = false
+is_early ends_by_stop = false
 is_early Eof = false
 is_early ReadFault = false
 is_early ends_by_write = false

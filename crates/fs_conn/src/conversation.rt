@@ -99,6 +99,7 @@ impl<L: Link> Play<'_, '_, L> {
         match self.machine.parting(CONN)? {
             Parting::Exit => Some(End::Exit),
             Parting::AuthRefused => Some(End::AuthRefused),
+            Parting::Stopped => Some(End::Stopped),
             Parting::EndOfInput => None,
         }
     }

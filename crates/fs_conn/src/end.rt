@@ -9,6 +9,8 @@ pub enum End {
     Eof,
     /// By a password that was refused.
     AuthRefused,
+    /// By the end of the switch.
+    Stopped,
     /// By a read that failed.
     ReadFault,
     /// By a write that failed.

@@ -1,5 +1,5 @@
 -- The walk goes on: commands, jobs and all acts.
-use Rattle.std.proofs.Common.{◌≡◌, ℕ, ◌*◌, nat_lt, Bool, true, false, if◌then◌else◌, [], ◌∷◌, Option, None, Some}
+use Rattle.std.proofs.Common.{◌≡◌, ℕ, zero, suc, ◌+◌, ◌*◌, ◌<◌, ◌≤◌, ◌⊎◌, inl, inr, length, arith, nat_lt, Bool, true, false, if◌then◌else◌, [], ◌∷◌, Option, None, Some}
 use Rattle.std.proofs.Common.{◌++◌, ◌∙◌, Result, Ok, Err, refl, sym, ap}
 use Rattle.std.specs.Prelude.{◌&&◌, map, codes}
 use Rattle.std.specs.Option.{option_or}
@@ -48,7 +48,7 @@ use Rattle.fs_chan.specs.Changes.{in_state, is_live, parked, transferred, takes_
 use Rattle.fs_chan.specs.Exports.{with_set}
 use Rattle.fs_chan.specs.declared.chan.Chan.{Chan}
 use Rattle.fs_chan.specs.declared.wait.Wait.TheVariants.{Ready}
-use Rattle.fs_state.specs.Switch.{Switch, chan_at, with_chan, job_of, without_job, slot_named, is_full_of_jobs}
+use Rattle.fs_state.specs.Switch.{Switch, chan_at, with_chan, with_event, job_of, without_job, slot_named, is_full_of_jobs}
 use Rattle.fs_state.specs.Moves.{plain_event, after_move}
 use Rattle.fs_state.specs.Hangups.{after_hangups, legs_at, lives, lives_at}
 use Rattle.fs_state.specs.Bridging.{can_join, joined_as, after_join}
@@ -71,7 +71,16 @@ use Rattle.fs_machine.specs.Leaving.{after_departure, after_arrival, sent_at, se
 use Rattle.fs_state.specs.Leaving.{after_leaving_others}
 use Rattle.fs_machine.proofs.LeaveLemmas.{left_free, parked_stays, transferred_stays}
 use Rattle.fs_machine.proofs.BondLeaves.{departed_lone}
-use Rattle.fs_machine.specs.Hangups.{all_slots}
+use Rattle.std.specs.List.{range_with_len}
+use Rattle.std.proofs.lemmas.Bool.{cases_eq}
+use Rattle.fs_bridge.specs.Hangups.{IsOneOf}
+use Rattle.fs_seats.proofs.HeldLemmas.{held_within}
+use Rattle.fs_state.specs.Ending.{ended}
+use Rattle.fs_text.specs.declared.causes.Cause.TheVariants.{SystemShutdown}
+use Rattle.fs_machine.specs.Shutdown.{shutdown_event, stopped_reply, after_shutdown}
+use Rattle.fs_machine.proofs.CameLemmas.{CameFrom, came_self, came_hung}
+use Rattle.fs_machine.proofs.CutLemmas.{slots_die}
+use Rattle.fs_machine.specs.Hangups.{all_slots, after_hangup_of_all}
 use Rattle.fs_machine.specs.Applications.{unless_too_long, argument_in}
 use Rattle.fs_machine.specs.Api.{kill_done, with_variable, variable_set_on, variable_set_at, sleep_begun, msleep_done, dialed}
 use Rattle.fs_machine.specs.Api.{originate_done}
@@ -84,7 +93,7 @@ use Rattle.fs_machine.specs.Step.{after_close, act_done}
 use Rattle.fs_machine.proofs.Kept.{IsApart, hold_in, Stays, Stage, Fact, KeptByCalls, DoesJob, KeptByJobs, KeptByDials, LeavesBy}
 use Rattle.fs_machine.proofs.Kept.{IsShortWinner}
 use Rattle.fs_machine.proofs.DrawnLemmas.{SameDrawn, both_left_drawn}
-use Rattle.fs_machine.proofs.Kept.{WasApart, MayGoOn, KeptByApi, KeptByCommands, KeptByMoves}
+use Rattle.fs_machine.proofs.Kept.{WasApart, AreDead, MayGoOn, KeptByApi, KeptByCommands, KeptByMoves}
 use Rattle.fs_machine.proofs.ShortLemmas.{NamesShort, api_short, expanded_short}
 use Rattle.fs_machine.proofs.DialLemmas.{dialed_groups}
 use Rattle.fs_machine.proofs.JoinLemmas.{apart_now, apart_hung, apart_left, DialsNone, left_dials, left_dials_still, CanMeet}
@@ -95,6 +104,38 @@ use Rattle.fs_machine.proofs.LimitLemmas.{with_set_limited}
 use Rattle.fs_machine.proofs.TryWalk.{verdict_kept}
 use Rattle.fs_machine.proofs.Walk.{worked_kept}
 use Rattle.fs_machine.proofs.RestLemmas.{hung_rest, does_same}
+
+-- ---- the end of the switch
+
+in_range : (from count slot : ℕ) → from ≤ slot → slot < from + count → IsOneOf slot (range_with_len from count)
+in_range from zero slot low high = absurd (omega (arith, low, high))
+in_range from (suc count) slot low high =
+    by (cases_eq from slot) (λ differ. in_range (from + 1) count slot (omega (arith, low, differ)) (omega (arith, high)))
+  where
+    by : (from ≡ slot) ⊎ (from ≡ slot → ⊥) → ((from ≡ slot → ⊥) → IsOneOf slot (range_with_len (from + 1) count)) →
+        IsOneOf slot (range_with_len from (suc count))
+    by (inl here) behind = inl (sym here)
+    by (inr differ) behind = inr (behind differ)
+
+-- behind the hangup of all nobody lives
+all_die : (cause : Cause) (s : Switch) → AreDead (after_hangup_of_all cause s)
+all_die cause s slot = by (chan_at (after_hangup_of_all cause s) slot) refl
+  where
+    by : (found : Option Chan) → chan_at (after_hangup_of_all cause s) slot ≡ found → lives_at (after_hangup_of_all cause s) slot ≡ false
+    by None is = ap lives is
+    by (Some c) is =
+        let came : CameFrom s slot c = came_hung (map (λ at. (at, cause)) (all_slots s)) s s (came_self s) slot c is in
+        let within : slot < length s.channels = held_within s.channels slot came.was came.there in
+        slots_die cause (all_slots s) s slot (in_range 0 (length s.channels) slot (omega arith) (omega (arith, within)))
+
+-- all are hung up, that is told, and nothing is left
+module _ (P : Fact) (calls : KeptByCalls P)
+    (ends : (reply notice : Text) (s : Switch) → AreDead s → P (Some 0) s → P (Some 1) (ended reply notice s)) where
+  shut_down_kept : (s : Switch) → P None s → P (Some 0) s → P (Some 1) (after_shutdown s)
+  unfolding after_shutdown
+  shut_down_kept s early h =
+      ends stopped_reply notice (with_event shutdown_event (after_hangup_of_all SystemShutdown s)) (all_die SystemShutdown s)
+      (calls.touches.told shutdown_event (refl, tt) (calls.hung (map (λ slot. (slot, SystemShutdown)) (all_slots s)) early h))
 
 -- ---- commands
 
@@ -271,6 +312,8 @@ module _ (who : Giver) (P : Fact) (calls : KeptByCalls P) (commands : KeptByApi 
       calls.more (sent_kept (transferred to) uuid (λ c live lone free. transferred_stays to c short live lone free) h)
   done_plainly_kept (api.Hupall cause) {s} may short h =
       calls.more (calls.hung (map (λ slot. (slot, cause)) (all_slots s)) h (commands.spent h))
+  done_plainly_kept api.Shutdown {s} may short h =
+      shut_down_kept P calls (λ reply notice t dead k. commands.ends reply notice {s = t} dead k) s h (commands.spent h)
   done_plainly_kept (api.Originate url winner cid_name cid_number timeout) may short h =
       calls.more (originated_kept url winner (record { name = cid_name; number = cid_number }) timeout may short h)
   done_plainly_kept (api.Usage which) may short h = calls.more (commands.spent h)
@@ -483,4 +526,6 @@ module _ (before : Switch) (P : Fact) (kept : KeptByMoves before P) where
   acted_kept (act.Take conn) h = kept.calls.more (kept.visits.taken conn (spent h))
   acted_kept (act.Close conn how) h = kept.calls.more (closed_kept how conn (spent h))
   acted_kept (act.Work slot) h = worked_kept before P kept.calls kept.dials slot h
+  acted_kept act.Halt h =
+      shut_down_kept P kept.calls (λ reply notice t dead k. kept.visits.halted reply notice {s = t} dead k) before h (spent h)
   acted_kept (act.Job number) h = job_kept before P kept.calls kept.dials kept.jobs number h (spent h)

@@ -1,6 +1,6 @@
 -- Each act leaves it so that whoever waits for an origination lives and owns it.
 use Rattle.std.proofs.Common.{◌≡◌, ℕ, ◌+◌, ◌-◌, ◌^◌, min, true, if◌then◌else◌, Bool, false, List, Option, None, Some, unwrap_or, ◌⊎◌, inl}
-use Rattle.std.proofs.Common.{inr, refl, sym, ap, subst, ◌∙◌}
+use Rattle.std.proofs.Common.{inr, refl, sym, ap, subst, ◌∙◌, length, true≢false}
 use Rattle.std.proofs.lemmas.Option.{same_Some}
 use Rattle.fs_text.specs.Texts.{Text}
 use Rattle.fs_bridge.specs.Bridges.{has_number_left}
@@ -18,7 +18,7 @@ use Rattle.fs_orig.specs.declared.winner.Winner.{Winner}
 use Rattle.fs_orig.specs.declared.winner.Winner.TheVariants.{App, Route}
 use Rattle.fs_orig.specs.Changes.{new_orig, may_enter_next, at_next_group}
 use Rattle.fs_orig.specs.Plans.{all_behind}
-use Rattle.fs_seats.specs.Seats.{held_in, with_held}
+use Rattle.fs_seats.specs.Seats.{no_seats, held_in, with_held}
 use Rattle.fs_seats.specs.Rows.{row_of, with_new_row}
 use Rattle.fs_state.specs.declared.conn.Conn.{Conn}
 use Rattle.fs_state.specs.declared.conn.Parting.TheVariants as parting
@@ -26,6 +26,7 @@ use Rattle.fs_state.specs.declared.job.Asker.{Asker}
 use Rattle.fs_state.specs.declared.job.JobWork.{JobWork}
 use Rattle.fs_state.specs.declared.job.JobWork.TheVariants.{Sleep, Originate}
 use Rattle.fs_state.specs.Switch.{Switch, chan_at, without_orig, next_orig_number}
+use Rattle.fs_state.specs.Hangups.{lives}
 use Rattle.fs_state.specs.Moves.{after_move}
 use Rattle.fs_state.proofs.LegTables.{Origs}
 use Rattle.fs_machine.specs.declared.call.Call.{Call}
@@ -40,7 +41,7 @@ use Rattle.fs_machine.specs.declared.owing.Giver.TheVariants as giver
 use Rattle.fs_machine.specs.Owing.{job_number, after_job_begin, background_begun, after_job_end}
 use Rattle.fs_chan.specs.Moments.{moment_after}
 use Rattle.fs_machine.proofs.Kept.{Stage, hold_in, Fact, KeptByTouches, KeptByCalls, KeptByBirths, DoesJob, raced, KeptByJobs, KeptByDials}
-use Rattle.fs_machine.proofs.Kept.{apart_by, goes_on_by, KeptByApi, KeptByCommands, KeptByMoves}
+use Rattle.fs_machine.proofs.Kept.{apart_by, AreDead, goes_on_by, KeptByApi, KeptByCommands, KeptByMoves}
 use Rattle.fs_machine.proofs.JoinLemmas.{both_left_kept}
 use Rattle.fs_machine.proofs.StayLemmas.{moved_there}
 use Rattle.fs_machine.proofs.NameLemmas.{leg_chan, far_chan, pair_channels}
@@ -86,7 +87,7 @@ births_born s slot held = record {
 group_born : (plans : List LegPlan) (caller : Caller) (number slot : ℕ) (s : Switch) → Awaits s →
     Born s slot (chan_at s slot) (group_made plans caller number s).state
 group_born plans caller number slot s h =
-    group_made_kept (λ b t. Born s slot (chan_at s slot) t) (births_born s slot (chan_at s slot)) plans caller number {n = 0} {s = s}
+    group_made_kept (λ b t. Born s slot (chan_at s slot) t) (births_born s slot (chan_at s slot)) plans caller number {s = s}
     (record { awaits = h; origs = refl; drawn = refl; there = λ c is. is })
 
 -- the next number is the same
@@ -263,6 +264,16 @@ module _ (before : Switch) (stand : LegsStand (roles_of before)) (left : has_num
       (rows_await NoSlot t.channels t.origs (with_new_row t.origs (next_orig_number t) new) (stay_new t.origs (next_orig_number t) new none)
       born.awaits)
 
+  -- where nobody lives, nobody waits
+  dead_await : (count : ℕ) (s : Switch) → AreDead s → Awaits s → Await NoSlot s.channels (no_seats count)
+  dead_await count s dead h = record {
+    own = λ slot number c there waits. absurd (none slot number c there waits);
+    live = h.live;
+  }
+    where
+      none : (slot number : ℕ) (c : Chan) → chan_at s slot ≡ Some c → awaited_by c ≡ Some number → ⊥
+      none slot number c there waits = true≢false (sym (h.live slot number c there waits) ∙ (sym (ap lives there) ∙ dead slot))
+
   api_wait : (by : Giver) → KeptByApi by Q → KeptByApi by Waiting
   api_wait by q = record {
     spent = λ h. (q.spent h.0, h.1);
@@ -275,6 +286,7 @@ module _ (before : Switch) (stand : LegsStand (roles_of before)) (left : has_num
       q.originates groups winner caller timeout (goes_on_by Waiting Q by s may (λ t k. k.0)) are short free h.0,
       originated_await by groups winner caller timeout s h,
     );
+    ends = λ reply notice {s = s} dead h. (q.ends reply notice dead h.0, dead_await (length s.origs) s dead h.1);
   }
 
   jobs_wait : KeptByJobs before Waiting
@@ -367,5 +379,7 @@ module _ (before : Switch) (stand : LegsStand (roles_of before)) (left : has_num
       taken = λ conn h. (kept.visits.taken conn h.0, h.1);
       silent = λ conn {s = s} h. (kept.visits.silent conn h.0, conn_await (parted parting.EndOfInput) conn s h.1);
       left = λ conn h. (kept.visits.left conn h.0, h.1);
+      halted = λ reply notice {s = s} dead h.
+          (kept.visits.halted reply notice dead h.0, dead_await (length s.origs) s dead h.1);
     };
   }

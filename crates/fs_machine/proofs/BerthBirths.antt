@@ -152,7 +152,7 @@ same_births s = record {
 
 group_same : (plans : List LegPlan) (caller : Caller) (number : ℕ) (s : Switch) → SameOrigs s (group_made plans caller number s).state
 group_same plans caller number s =
-    group_made_kept (λ b t. SameOrigs s t) (same_births s) plans caller number {n = 0} {s = s} (record { origs = refl; drawn = refl })
+    group_made_kept (λ b t. SameOrigs s t) (same_births s) plans caller number {s = s} (record { origs = refl; drawn = refl })
 
 -- ---- an origination begins
 

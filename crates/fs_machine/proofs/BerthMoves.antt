@@ -48,7 +48,7 @@ use Rattle.fs_machine.specs.declared.owing.Giver.TheVariants as giver
 use Rattle.fs_machine.specs.Owing.{job_number, after_job_begin, background_begun, after_job_end}
 use Rattle.fs_machine.specs.Sound.{IsLegIn}
 use Rattle.fs_machine.proofs.Kept.{Stage, Fact, Links, KeptByTouches, KeptByCalls, raced, HasWon, IsOver, KeptByJobs, KeptByDials}
-use Rattle.fs_machine.proofs.Kept.{apart_by, goes_on_by, KeptByApi, KeptByCommands, KeptByMoves}
+use Rattle.fs_machine.proofs.Kept.{apart_by, AreDead, goes_on_by, KeptByApi, KeptByCommands, KeptByMoves}
 use Rattle.fs_machine.proofs.StayLemmas.{state_told_kept, moved_there, changed_there}
 use Rattle.fs_machine.proofs.CameLemmas.{CameFrom, came_self, came_hung}
 use Rattle.fs_machine.proofs.ClosureLemmas.{NoneAtZero}
@@ -305,6 +305,11 @@ module _ (before : Switch) (stand : LegsStand (roles_of before)) (left : has_num
       begun_by_job who (Originate number winner caller) (orig_begun by groups made.legs (unwrap_or timeout 60) made.state)
       (begun_berthed (first_group groups) caller s new refl (room_for_job s h.0 free new) h.1)
 
+  -- where nobody lives, nobody names an origination
+  names_none : (s : Switch) → AreDead s → Q (Some 0) s → (slot number : ℕ) (c : Chan) → chan_at s slot ≡ Some c → c.leg_of ≡ Some number → ⊥
+  names_none s dead q slot number c there names =
+      dead_names s (all_lively s (bonds (Some 0) s q)) slot number c there names (dead slot)
+
   berthing_api : (by : Giver) → KeptByApi by Q → KeptByApi by Berthing
   berthing_api by q = record {
     spent = λ h. (q.spent h.0, h.1);
@@ -316,6 +321,10 @@ module _ (before : Switch) (stand : LegsStand (roles_of before)) (left : has_num
     originates = λ groups winner caller timeout {s = s} may are short free h. (
       q.originates groups winner caller timeout (goes_on_by Berthing Q by s may (λ t k. k.0)) are short free h.0,
       originated_berthed by groups winner caller timeout s free h,
+    );
+    ends = λ reply notice {s = s} dead h. (
+      q.ends reply notice dead h.0,
+      λ slot number c there names. absurd (names_none s dead h.0 slot number c there names),
     );
   }
 
@@ -404,5 +413,9 @@ module _ (before : Switch) (stand : LegsStand (roles_of before)) (left : has_num
       taken = λ conn h. (kept.visits.taken conn h.0, h.1);
       silent = λ conn {s = s} h. (kept.visits.silent conn h.0, conn_berthed (parted parting.EndOfInput) conn s h.1);
       left = λ conn h. (kept.visits.left conn h.0, h.1);
+      halted = λ reply notice {s = s} dead h. (
+        kept.visits.halted reply notice dead h.0,
+        λ slot number c there names. absurd (names_none s dead h.0 slot number c there names),
+      );
     };
   }

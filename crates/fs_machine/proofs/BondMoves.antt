@@ -363,11 +363,11 @@ dialed_bonds slot c groups timeout s there works h =
     begun = orig_begun (owner.Slot slot) groups made.legs timeout made.state
 
     made_bonds : Bonds made.state
-    made_bonds = group_made_kept Bonding bonds_births plans (caller_of c) number {n = 0} {s = s} h
+    made_bonds = group_made_kept Bonding bonds_births plans (caller_of c) number {s = s} h
 
     at : WorksAt made.state.channels slot
     at =
-        group_made_kept (λ b (t : Switch). WorksAt t.channels slot) (works_births slot) plans (caller_of c) number {n = 0} {s = s}
+        group_made_kept (λ b (t : Switch). WorksAt t.channels slot) (works_births slot) plans (caller_of c) number {s = s}
         (record { chan = c; there = there; works = works })
 
     put : (d : Chan) → chan_at begun slot ≡ Some d → IsAtWork d → Bonds (with_chan slot (Some (awaiting number d)) begun)
@@ -421,7 +421,7 @@ bonds_dials before = record {
   dials = λ slot c groups timeout {s = s} there works are h. dialed_bonds slot c groups timeout s there works h;
   regroups = λ number o plans caller {s = s} there next h.
       regrouped_bonds number (group_made plans caller number s)
-      (group_made_kept Bonding bonds_births plans caller number {n = 0} {s = s} h);
+      (group_made_kept Bonding bonds_births plans caller number {s = s} h);
   fails = λ slot orig cause {s = s} waits over h. failed_bonds cause slot (without_orig orig s) (awaits_peerless s slot orig waits h) h;
   wins = λ slot orig leg slots waits won h.
       bridge_won_bonds slot (unwrap_or leg.slot 0) (without_orig orig (raced slots before))

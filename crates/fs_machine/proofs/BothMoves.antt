@@ -47,6 +47,7 @@ module _ (P Q : Fact) where
       p.originates groups winner caller timeout (goes_on_by (Both P Q) P by s may (λ t k. k.0)) are short room h.0,
       q.originates groups winner caller timeout (goes_on_by (Both P Q) Q by s may (λ t k. k.1)) are short room h.1,
     );
+    ends = λ reply notice dead h. (p.ends reply notice dead h.0, q.ends reply notice dead h.1);
   }
 
   module _ (before : Switch) where
@@ -89,6 +90,7 @@ module _ (P Q : Fact) where
     taken = λ conn h. (p.taken conn h.0, q.taken conn h.1);
     silent = λ conn h. (p.silent conn h.0, q.silent conn h.1);
     left = λ conn h. (p.left conn h.0, q.left conn h.1);
+    halted = λ reply notice dead h. (p.halted reply notice dead h.0, q.halted reply notice dead h.1);
   }
 
   pub both_moves : (before : Switch) → KeptByMoves before P → KeptByMoves before Q → KeptByMoves before (Both P Q)

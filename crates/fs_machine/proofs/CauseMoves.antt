@@ -1,5 +1,5 @@
 -- Each act leaves each origination a leg, and each of its legs that died a cause.
-use Rattle.std.proofs.Common.{◌≡◌, ℕ, zero, suc, ◌+◌, Bool, true, false, if◌then◌else◌, List, [], ◌∷◌, slice_get, Option, None, Some}
+use Rattle.std.proofs.Common.{◌≡◌, ℕ, zero, suc, ◌+◌, Bool, true, false, if◌then◌else◌, List, [], ◌∷◌, length, slice_get, Option, None, Some}
 use Rattle.std.proofs.Common.{IsSome, option_and_then, unwrap_or, ◌⊎◌, inl, inr, refl, sym, ap, subst, ◌∙◌}
 use Rattle.std.specs.List.{slice_set}
 use Rattle.std.proofs.lemmas.Bool.{cases_eq}
@@ -24,7 +24,8 @@ use Rattle.fs_orig.specs.Changes.{at_next_group}
 use Rattle.fs_orig.specs.Endpoints.{endpoint_of}
 use Rattle.fs_orig.specs.Meaning.{IsWithCauses}
 use Rattle.fs_seats.specs.declared.numbered.Numbered.{Numbered}
-use Rattle.fs_seats.specs.Seats.{held_in, least_free}
+use Rattle.fs_seats.specs.Seats.{no_seats, held_in, least_free}
+use Rattle.fs_seats.proofs.HeldLemmas.{nothing_held}
 use Rattle.fs_seats.specs.Rows.{seat_of, row_of}
 use Rattle.fs_seats.proofs.RowLemmas.{each_put_at}
 use Rattle.fs_state.specs.declared.conn.Conn.{Conn}
@@ -340,7 +341,7 @@ begun_told by groups plans caller timeout s are some h =
     let made : MadeGroup = group_made plans caller (next_orig_number s) s in
     let o : Orig = new_orig by groups made.legs (moment_after made.state.moment (seconds timeout)) in
     each_put_at ToldIn made.state.origs (Some (record { number = next_orig_number made.state; held = o })) (least_free made.state.origs 0)
-    (group_made_kept Told told_births plans caller (next_orig_number s) {n = 0} {s = s} h)
+    (group_made_kept Told told_births plans caller (next_orig_number s) {s = s} h)
     (record {
       leg = group_has_leg plans caller (next_orig_number s) s some;
       causes = group_has_causes plans caller (next_orig_number s) s;
@@ -371,7 +372,7 @@ regroups_told : (number : ℕ) (o : Orig) (plans : List LegPlan) (caller : Calle
     ArePlans o plans → AllTold s.origs → AllTold (with_group number (group_made plans caller number s)).origs
 regroups_told number o plans caller s there are h =
     changed_told (at_next_group made.legs) enters number made.state
-    (group_made_kept Told told_births plans caller number {n = 0} {s = s} h)
+    (group_made_kept Told told_births plans caller number {s = s} h)
   where
     made : MadeGroup
     made = group_made plans caller number s
@@ -390,12 +391,17 @@ regroups_told number o plans caller s there are h =
         }
         by false = told
 
+-- where there is no origination
+none_told : (count : ℕ) → AllTold (no_seats {T = Numbered Orig} count)
+none_told count seat = subst ToldIn (sym (nothing_held (Numbered Orig) count seat)) tt
+
 told_api : (by : Giver) → KeptByApi by Told
 told_api by = record {
   spent = λ h. h;
   draws = λ h. h;
   sleeps = λ until {s = s} may room h. owing_told by (Sleep until) s h;
   originates = λ groups winner caller timeout {s = s} may are short room h. originates_told by groups winner caller timeout s are h;
+  ends = λ reply notice {s = s} dead h. none_told (length s.origs);
 }
 
 told_jobs : (before : Switch) → KeptByJobs before Told
@@ -449,5 +455,6 @@ told_moves before = record {
     taken = λ conn h. h;
     silent = λ conn {s = s} h. conn_told (parted parting.EndOfInput) conn s h;
     left = λ conn h. h;
+    halted = λ reply notice {s = s} dead h. none_told (length s.origs);
   };
 }

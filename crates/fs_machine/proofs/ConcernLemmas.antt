@@ -1,6 +1,6 @@
 -- Each entry of a run is for a connection its own, one of others, or the one by which it comes.
 use Rattle.std.proofs.Common.{◌≡◌, ◌≢◌, ℕ, ◌-◌, ◌^◌, ◌<◌, ◌≤◌, ◌==◌, Bool, true, false, not, if◌then◌else◌, List, [], ◌∷◌, ◌++◌, length}
-use Rattle.std.proofs.Common.{take, Option, None, Some, is_none, ◌⊎◌, inl, inr, refl, ap, subst, ◌∙◌}
+use Rattle.std.proofs.Common.{take, Option, None, Some, is_none, is_some, ◌⊎◌, inl, inr, refl, ap, subst, ◌∙◌}
 use Rattle.std.proofs.lemmas.Bool.{both_ways, eq-eqb, ne_eqb, cases_eq}
 use Rattle.std.proofs.lemmas.Option.{same_Some, none-some}
 use Rattle.fs_doc.specs.Reading.{Configuration}
@@ -15,7 +15,7 @@ use Rattle.fs_state.specs.Posting.{posts, with_posts}
 use Rattle.fs_state.specs.Switch.{Switch, empty, conn_of, waiting_for, without_conn, is_full_of_conns, at_moment, gift_of, all_given}
 use Rattle.fs_machine.specs.declared.entry.Entry.{Entry}
 use Rattle.fs_machine.specs.declared.entry.Act.{Act}
-use Rattle.fs_machine.specs.declared.entry.Act.TheVariants.{Arrive, Command, Take, Close, Work, Job}
+use Rattle.fs_machine.specs.declared.entry.Act.TheVariants.{Arrive, Command, Take, Close, Work, Job, Halt}
 use Rattle.fs_machine.specs.declared.entry.Closing.TheVariants.{EndOfInput, Sent, Failed}
 use Rattle.fs_machine.specs.declared.refusal.Refusal.TheVariants as refusal
 use Rattle.fs_machine.specs.Entries.{cost_of}
@@ -27,6 +27,7 @@ use Rattle.fs_machine.specs.Runs.{run_from, IsRunFrom}
 use Rattle.fs_machine.specs.Frames.{frames_among, given_in, given_by, handed_in, command_in}
 use Rattle.fs_machine.specs.Concerns.{actor_of, IsOwn, IsOthers, Comes, Concerns}
 use Rattle.fs_machine.proofs.KeepLemmas.{Settles, settles_same, Keeps, act_keeps}
+use Rattle.fs_machine.proofs.PartLemmas.{settled_parts}
 use Rattle.fs_machine.proofs.WaitingLemmas.{Ordered, none_closed, keeps_waiting, closed_waits, taken_other, without_other, number_new}
 use Rattle.fs_machine.proofs.PostLemmas.{among_append, posts_gone}
 use Rattle.fs_machine.proofs.WaitingLemmas.{arrived_ordered, arrived_waits, posted_ordered}
@@ -108,7 +109,7 @@ others conn s entry orderly none apart =
       actor = others_actor conn entry.act (at_moment entry.moment s) apart;
       commands = others_command conn entry.act (at_moment entry.moment s) apart;
       handed = others_handed conn entry.act s (at_moment entry.moment s) apart;
-      phase = inl (record { phase = spares.settles.phase; parting = spares.settles.parting });
+      phase = settled_parts conn s (step s entry).state spares.settles;
       owed = spares.settles.owed;
       frames =
           closed_waits (cost_of entry.act) (with_posts s (act_done entry.act (at_moment entry.moment s)).state) conn
@@ -146,6 +147,7 @@ actor_open (Close conn Failed) number s same none =
     (none_refused (is_closed (phase_at s conn)) refusal.Gone None none).0
 actor_open (Work slot) number s same none = absurd (none-some number same)
 actor_open (Job job) number s same none = absurd (none-some number same)
+actor_open Halt number s same none = absurd (none-some number same)
 
 -- one that is closed by an entry is given nothing
 closed_gives_none : (conn : ℕ) (s : Switch) (entry : Entry) → is_closed (phase_at (step s entry).state conn) ≡ true →
@@ -195,7 +197,8 @@ comes moment s orderly none =
     let there : conn_of (arrived (at_moment moment s)).state new ≡ Some new_conn =
     new_there s orderly.ordered room
     (none_refused (is_full_of_conns s) (refusal.TooMany (seats_for_conns s)) None
-    (not_refused s (record { moment = moment; act = Arrive }) none)).0 in
+    (none_refused (is_some s.stopping) refusal.Gone (refused_where (is_full_of_conns s) (refusal.TooMany (seats_for_conns s)) None)
+    (not_refused s (record { moment = moment; act = Arrive }) none)).1).0 in
     let t : Switch = (arrived (at_moment moment s)).state in
     let given : given_in new (with_posts s t) ≡ auth_request ∷ [] =
     ap (λ found. if is_closed (phase_of found) then [] else frames_among new (all_given (with_posts s t))) there

@@ -137,7 +137,7 @@ drawn_births s = record {
 
 group_made_drawn : (plans : List LegPlan) (caller : Caller) (orig : ℕ) (s : Switch) → SameDrawn s (group_made plans caller orig s).state
 group_made_drawn plans caller orig s =
-    group_made_kept (λ b t. SameDrawn s t) (drawn_births s) plans caller orig {n = 0} {s = s} refl
+    group_made_kept (λ b t. SameDrawn s t) (drawn_births s) plans caller orig {s = s} refl
 
 -- and an origination comes to them
 pub regrouped_drawn : (number : ℕ) (plans : List LegPlan) (caller : Caller) (s : Switch) →

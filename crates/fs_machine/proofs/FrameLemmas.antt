@@ -5,7 +5,7 @@ use Rattle.fs_text.specs.Texts.{Text}
 use Rattle.fs_state.specs.Switch.{Switch, waiting_for}
 use Rattle.fs_machine.specs.declared.entry.Entry.{Entry}
 use Rattle.fs_machine.specs.declared.entry.Act.{Act}
-use Rattle.fs_machine.specs.declared.entry.Act.TheVariants.{Arrive, Command, Take, Close, Work, Job}
+use Rattle.fs_machine.specs.declared.entry.Act.TheVariants.{Arrive, Command, Take, Close, Work, Job, Halt}
 use Rattle.fs_machine.specs.declared.reply.Reply.TheVariants as reply
 use Rattle.fs_machine.specs.declared.refusal.Refusal.TheVariants as refusal
 use Rattle.fs_machine.specs.Entries.{cost_of, is_full}
@@ -23,6 +23,7 @@ some_cost (Take conn) = omega arith
 some_cost (Close conn how) = omega arith
 some_cost (Work slot) = omega arith
 some_cost (Job number) = omega arith
+some_cost Halt = omega arith
 
 -- what a journal with one more entry hands out
 pub handed_more : (conn : ℕ) (s : Switch) (entries : List Entry) (entry : Entry) →

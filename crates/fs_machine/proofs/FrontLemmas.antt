@@ -41,6 +41,7 @@ use Rattle.fs_state.specs.declared.job.Asker.TheVariants as asker
 use Rattle.fs_state.specs.declared.job.JobWork.{JobWork}
 use Rattle.fs_state.specs.declared.job.JobWork.TheVariants.{Sleep, Originate}
 use Rattle.fs_state.specs.Counts.{Tallies}
+use Rattle.fs_state.specs.Ending.{ended}
 use Rattle.fs_state.specs.Switch.{Switch, chan_at, with_chan, with_bridge, conn_of, orig_of, next_orig_number}
 use Rattle.fs_state.specs.Switch.{with_new_job, without_job, without_orig, with_event, bridge_at, without_bridge}
 use Rattle.fs_state.specs.Switch.{with_next_identifier}
@@ -349,7 +350,7 @@ module _ (before : Switch) (P : Fact) (same : (b : Stage) (t u : Switch) → P b
       let begun : Switch = orig_begun (owner.Slot slot) groups made.legs timeout made.state in
       moved_remains (awaiting number) slot (Some 0) begun
       (λ d there. record { uuid = refl; partner = refl; live = refl; short = λ short. short })
-      (same (Some 0) made.state begun (group_made_kept P births plans (caller_of c) number {n = 0} {s = s} (births.spent h)) refl)
+      (same (Some 0) made.state begun (group_made_kept P births plans (caller_of c) number {s = s} (births.spent h)) refl)
 
   regroups_same : (number : ℕ) (made : MadeGroup) → P (Some 0) made.state → P (Some 0) (with_group number made)
   regroups_same number made h = same (Some 0) made.state _ h (orig_changed_front (at_next_group made.legs) number made.state)
@@ -359,7 +360,7 @@ module _ (before : Switch) (P : Fact) (same : (b : Stage) (t u : Switch) → P b
     spent = births.spent;
     dials = λ slot c groups timeout {s = s} there works are h. dialed_remains slot c groups timeout s h;
     regroups = λ number o plans caller {s = s} there next h. regroups_same number (group_made plans caller number s)
-        (group_made_kept P births plans caller number {n = 0} {s = s} h);
+        (group_made_kept P births plans caller number {s = s} h);
     fails = λ slot orig cause {s = s} waits over h. failed_remains cause slot (without_orig orig s)
         (same (Some 0) s (without_orig orig s) h refl);
     wins = λ slot orig leg slots waits won h.
@@ -401,7 +402,7 @@ module _ (before : Switch) (P : Fact) (same : (b : Stage) (t u : Switch) → P b
   originates_same by groups winner caller timeout s h =
       tried_same by groups winner caller (unwrap_or timeout 60) (next_orig_number s)
       (group_made (first_group groups) caller (next_orig_number s) s)
-      (group_made_kept P births (first_group groups) caller (next_orig_number s) {n = 0} {s = s} (births.spent h))
+      (group_made_kept P births (first_group groups) caller (next_orig_number s) {s = s} (births.spent h))
 
   api_same : (by : Giver) → KeptByApi by P
   api_same by = record {
@@ -409,6 +410,7 @@ module _ (before : Switch) (P : Fact) (same : (b : Stage) (t u : Switch) → P b
     draws = λ {s = s} h. draws s h;
     sleeps = λ until {s = s} may room h. same (Some 0) s _ (births.spent h) (begun_front by (Sleep until) s);
     originates = λ groups winner caller timeout {s = s} may are short room h. originates_same by groups winner caller timeout s h;
+    ends = λ reply notice {s = s} dead h. calls.more (same (Some 0) s (ended reply notice s) h refl);
   }
 
   backgrounds_same : (given : Option Text) (command : Text) (s : Switch) → P None s → P (Some 1) (background_begun given command s)
@@ -442,5 +444,6 @@ module _ (before : Switch) (P : Fact) (same : (b : Stage) (t u : Switch) → P b
       taken = λ conn h. same _ _ _ h refl;
       silent = λ conn {s = s} h. changed_same (parted parting.EndOfInput) conn 0 s h;
       left = λ conn h. same _ _ _ h refl;
+      halted = λ reply notice {s = s} dead h. calls.more (same (Some 0) s (ended reply notice s) h refl);
     };
   }

@@ -201,7 +201,7 @@ held_births = record {
 
 group_held : (plans : List LegPlan) (caller : Caller) (number : ℕ) (s : Switch) → AllHeld s →
     AllHeld (group_made plans caller number s).state
-group_held plans caller number s h = group_made_kept (λ b t. AllHeld t) held_births plans caller number {n = 0} {s = s} h
+group_held plans caller number s h = group_made_kept (λ b t. AllHeld t) held_births plans caller number {s = s} h
 
 dialed_held : (slot : ℕ) (c : Chan) (groups : List (List LegPlan)) (timeout : ℕ) (s : Switch) → AllHeld s →
     AllHeld (tried_by_slot slot groups timeout (next_orig_number s) (group_dialed (Some c) (first_group groups) (next_orig_number s) s))
@@ -305,6 +305,7 @@ module _ (before : Switch) (Q : Fact) (kept : KeptByMoves before Q) (bonds : (b 
       q.originates groups winner caller timeout (goes_on_by Holding Q by s may (λ t k. k.0)) are short free h.0,
       originated_held by groups winner caller timeout s h.1,
     );
+    ends = λ reply notice dead h. (q.ends reply notice dead h.0, h.1);
   }
 
   holding_jobs : KeptByJobs before Holding
@@ -374,5 +375,6 @@ module _ (before : Switch) (Q : Fact) (kept : KeptByMoves before Q) (bonds : (b 
       taken = λ conn h. (kept.visits.taken conn h.0, h.1);
       silent = λ conn {s = s} h. (kept.visits.silent conn h.0, conn_held (parted parting.EndOfInput) conn s h.1);
       left = λ conn h. (kept.visits.left conn h.0, h.1);
+      halted = λ reply notice dead h. (kept.visits.halted reply notice dead h.0, h.1);
     };
   }

@@ -132,8 +132,8 @@ module _ (x : Seen) where
   births_numbers : KeptByBirths (NumbersFrom x)
   births_numbers = record {
     spent = λ h. h;
-    pair = λ call orig a b {n = n} {s = s} short named first second h.
-        numbers_quietly n x (seen s) (seen (pair_made call orig a b s)) h (pair_numbers call orig a b s named first second);
+    pair = λ call orig a b {s = s} short named first second h.
+        numbers_quietly 0 x (seen s) (seen (pair_made call orig a b s)) h (pair_numbers call orig a b s named first second);
   }
 
   pub numbers_moves : (before : Switch) → KeptByMoves before (NumbersFrom x)

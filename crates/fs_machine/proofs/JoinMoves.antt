@@ -64,8 +64,8 @@ module _ (before : Switch) where
   calls = record {
     touches = touches;
     hung = λ named {s = s} early h. counts_same (Some 0) s (after_hangups named s) h (hung_drawn named s);
-    joined = λ kind caller answerer c d {n = n} {s = s} can there other one two first second was were h.
-        joined_counts kind caller answerer n s (was.drawn ∙ was.first);
+    joined = λ kind caller answerer c d {s = s} can there other one two first second was were h.
+        joined_counts kind caller answerer 0 s (was.drawn ∙ was.first);
     leaves = λ one other {s = s} first second early h.
         counts_same (Some 0) s (both_left one other s) h (both_left_drawn one other s first second);
     departs = λ slot {s = s} early h. counts_same (Some 0) s (after_departure slot s) h (departed_drawn slot s);
@@ -76,8 +76,8 @@ module _ (before : Switch) where
   births : KeptByBirths (Counting before)
   births = record {
     spent = λ {s = s} h. spent_counts s s h refl;
-    pair = λ call orig a b {n = n} {s = s} short named first second h.
-        counts_same (Some n) s (pair_made call orig a b s) h (pair_drawn call orig a b s);
+    pair = λ call orig a b {s = s} short named first second h.
+        counts_same (Some 0) s (pair_made call orig a b s) h (pair_drawn call orig a b s);
   }
 
   -- a leg that has won is joined to the channel that dialed it

@@ -1,10 +1,13 @@
--- Commands, work and jobs keep all connections in their seats, with what waits for them, and end no input.
+-- Commands, work, jobs and the end of the switch keep all connections in their seats, with what waits for them, and end no input.
 use Rattle.std.proofs.Common.{◌≡◌, ◌≢◌, ℕ, Bool, true, false, List, length, Option, None, Some, unwrap_or, option_and_then, ◌⊎◌, inl, inr}
-use Rattle.std.proofs.Common.{refl, sym, ap, subst, ◌∙◌}
+use Rattle.std.proofs.Common.{map, option_map, refl, sym, ap, subst, ◌∙◌}
 use Rattle.std.proofs.lemmas.Bool.{cases_eq}
+use Rattle.std.proofs.lemmas.List.{length-map}
 use Rattle.std.proofs.lemmas.Option.{same_Some, none-some}
 use Rattle.fs_text.specs.Texts.{Text}
+use Rattle.fs_text.specs.declared.causes.Cause.TheVariants.{SystemShutdown}
 use Rattle.fs_cmd.specs.Commands.{Command, command_of}
+use Rattle.fs_cmd.specs.Frames.{notice}
 use Rattle.fs_filter.specs.Subscriptions.{Subscription}
 use Rattle.fs_orig.specs.declared.caller.Caller.{Caller}
 use Rattle.fs_orig.specs.declared.leg.OrigLeg.{OrigLeg}
@@ -18,7 +21,8 @@ use Rattle.fs_seats.proofs.RowLemmas.{each_put_at, length_put_at, SameNumbers, h
 use Rattle.fs_seats.proofs.RowLemmas.{row_of-with_row_same, row_of-with_row_other}
 use Rattle.fs_state.specs.Outboxes.{Frames}
 use Rattle.fs_state.specs.declared.conn.Conn.{Conn}
-use Rattle.fs_state.specs.declared.conn.Phase.TheVariants.{Fresh}
+use Rattle.fs_state.specs.declared.conn.Phase.{Phase}
+use Rattle.fs_state.specs.declared.conn.Phase.TheVariants.{Fresh, Ready, Ending, Closed}
 use Rattle.fs_state.specs.declared.conn.Parting.{Parting}
 use Rattle.fs_state.specs.declared.conn.Parting.TheVariants as parting
 use Rattle.fs_state.specs.declared.job.Asker.{Asker}
@@ -27,7 +31,8 @@ use Rattle.fs_state.specs.declared.job.JobWork.{JobWork}
 use Rattle.fs_state.specs.declared.job.JobWork.TheVariants.{Sleep, Originate}
 use Rattle.fs_state.specs.Switch.{Switch, conn_of, next_orig_number, with_new_job, without_job}
 use Rattle.fs_state.specs.Switch.{with_next_identifier}
-use Rattle.fs_state.specs.Switch.{without_orig, with_frame_now, with_notice}
+use Rattle.fs_state.specs.Switch.{without_orig, with_frame_now, with_notice, with_event}
+use Rattle.fs_state.specs.Ending.{released, released_in, ended}
 use Rattle.fs_machine.specs.declared.entry.Act.{Act}
 use Rattle.fs_machine.specs.declared.entry.Act.TheVariants as act
 use Rattle.fs_machine.specs.declared.entry.Closing.TheVariants as closing
@@ -43,10 +48,13 @@ use Rattle.fs_machine.specs.declared.owing.Giver.TheVariants as giver
 use Rattle.fs_machine.specs.Owing.{job_number, after_job_begin, background_begun, after_job_end}
 use Rattle.fs_machine.specs.Commands.{command_done}
 use Rattle.fs_machine.specs.Work.{after_work}
-use Rattle.fs_machine.specs.Step.{is_closed, act_done}
+use Rattle.fs_machine.specs.Hangups.{all_slots, after_hangup_of_all}
+use Rattle.fs_machine.specs.Shutdown.{shutdown_event, stopped_reply, after_shutdown}
+use Rattle.fs_machine.specs.Step.{reads, is_closed, act_done}
 use Rattle.fs_machine.proofs.Kept.{Fact, KeptByCalls, raced, KeptByApi, KeptByJobs, KeptByDials, LeavesBy, KeptByCommands}
-use Rattle.fs_machine.proofs.RestLemmas.{Rest, rest_of, calls_by_rest, dials_by_rest, group_made_rest, worked_rest, won_rest}
+use Rattle.fs_machine.proofs.RestLemmas.{Rest, rest_of, calls_by_rest, dials_by_rest, group_made_rest, worked_rest, won_rest, hung_rest}
 use Rattle.fs_machine.proofs.ActWalk.{job_kept, commanded_kept}
+use Rattle.fs_machine.proofs.StopLemmas.{let_off, released_held, released_numbers, ended_conn}
 
 -- the connections of a switch, with what waits for them and what numbers them
 pub record Sockets : Type 0 where
@@ -71,18 +79,39 @@ is_shut (Some row) = is_closed row.held.phase
 abbrev pub AreOpen : List (Option (Numbered Conn)) → Type 0
 AreOpen rows = (seat : ℕ) → is_shut (held_in rows seat) ≡ false
 
--- a connection stays in its phase, has parted for what it had parted for, and is owed nothing if it was owed nothing
-pub record Settles (old new : Option Conn) : Type 0 where
+-- a connection stays in its phase, and has parted for what it had parted for
+pub record IsLeft (old new : Option Conn) : Type 0 where
   pub phase : phase_of new ≡ phase_of old
   pub parting : option_and_then parting_of new ≡ option_and_then parting_of old
+
+-- it read commands, and has parted by the end of the switch
+pub record IsStopped (old new : Option Conn) : Type 0 where
+  pub read : reads (phase_of old) ≡ true
+  pub ending : phase_of new ≡ Ending
+  pub parting : option_and_then parting_of new ≡ Some parting.Stopped
+
+-- it is left or stopped, and is owed nothing if it was owed nothing
+pub record Settles (old new : Option Conn) : Type 0 where
+  pub way : IsLeft old new ⊎ IsStopped old new
   pub owed : option_and_then owed_of old ≡ None → option_and_then owed_of new ≡ None
 
 pub settles_same : (old new : Option Conn) → new ≡ old → Settles old new
 settles_same old new same = record {
-  phase = ap phase_of same;
-  parting = ap (option_and_then parting_of) same;
+  way = inl (record { phase = ap phase_of same; parting = ap (option_and_then parting_of) same });
   owed = λ none. ap (option_and_then owed_of) same ∙ none;
 }
+
+-- one that is stopped reads no commands, so that it is not stopped again
+ways_on : (old mid new : Option Conn) → IsLeft old mid ⊎ IsStopped old mid → IsLeft mid new ⊎ IsStopped mid new →
+    IsLeft old new ⊎ IsStopped old new
+ways_on old mid new (inl first) (inl second) =
+    inl (record { phase = second.phase ∙ first.phase; parting = second.parting ∙ first.parting })
+ways_on old mid new (inl first) (inr second) =
+    inr (record { read = sym (ap reads first.phase) ∙ second.read; ending = second.ending; parting = second.parting })
+ways_on old mid new (inr first) (inl second) =
+    inr (record { read = first.read; ending = second.phase ∙ first.ending; parting = second.parting ∙ first.parting })
+ways_on old mid new (inr first) (inr second) =
+    let none : reads Ending ≡ true = sym (ap reads first.ending) ∙ second.read in absurd (cc none)
 
 -- its input has not ended
 abbrev pub Hears : Option Conn → Type 0
@@ -90,6 +119,14 @@ Hears conn = option_and_then parting_of conn ≢ Some parting.EndOfInput
 
 hears_same : (old new : Option Conn) → new ≡ old → Hears old → Hears new
 hears_same old new same heard = subst Hears (sym same) heard
+
+-- one that settles hears if it heard
+settled_hears : (old new : Option Conn) → Settles old new → Hears old → Hears new
+settled_hears old new settles heard = by settles.way
+  where
+    by : IsLeft old new ⊎ IsStopped old new → Hears new
+    by (inl stays) same = heard (sym stays.parting ∙ same)
+    by (inr stops) same = let none : Some parting.Stopped ≡ Some parting.EndOfInput = sym stops.parting ∙ same in cc none
 
 -- The connections of one switch stand where those of another do, and the same waits for them. All settle but the one, if there is one,
 -- whose
@@ -126,8 +163,7 @@ keeps_trans s t u first second = record {
   drawn = second.drawn ∙ first.drawn;
   opened = λ each. second.opened (first.opened each);
   others = λ number apart. record {
-    phase = (second.others number apart).phase ∙ (first.others number apart).phase;
-    parting = (second.others number apart).parting ∙ (first.others number apart).parting;
+    way = ways_on (conn_of s number) (conn_of t number) (conn_of u number) (first.others number apart).way (second.others number apart).way;
     owed = λ none. (second.others number apart).owed ((first.others number apart).owed none);
   };
   hears = λ none number heard. second.hears none number (first.hears none number heard);
@@ -211,14 +247,55 @@ abbrev pub ends_input : Parting → Bool
 ends_input parting.Exit = false
 ends_input parting.AuthRefused = false
 ends_input parting.EndOfInput = true
+ends_input parting.Stopped = false
 
 parted_hears : (why : Parting) → HearsOn (ends_input why) (parted why)
 parted_hears parting.Exit none c heard same = cc
 parted_hears parting.AuthRefused none c heard same = cc
 parted_hears parting.EndOfInput none c heard same = cc
+parted_hears parting.Stopped none c heard same = cc
 
 parted_keeps : (why : Parting) (conn : ℕ) (s : Switch) → Keeps (Some conn) (ends_input why) s (conn_changed (parted why) conn s)
 parted_keeps why conn s = own_changed_keeps (parted why) (λ c h. refl) (parted_hears why) conn s
+
+-- ---- all connections part
+
+-- each settles
+let_off_settles : (found : Option Conn) → Settles found (option_map let_off found)
+let_off_settles None = settles_same None None refl
+let_off_settles (Some c) = by c.phase refl
+  where
+    by : (now : Phase) → c.phase ≡ now → Settles (Some c) (Some (released_in now c))
+    by Fresh is = record { way = inr (record { read = ap reads is; ending = refl; parting = refl }); owed = λ none. refl }
+    by Ready is = record { way = inr (record { read = ap reads is; ending = refl; parting = refl }); owed = λ none. refl }
+    by Ending is = record { way = inl (record { phase = refl; parting = refl }); owed = λ none. refl }
+    by Closed is = record { way = inl (record { phase = refl; parting = refl }); owed = λ none. refl }
+
+-- and none goes
+released_open : (held : Option (Numbered Conn)) → is_shut held ≡ false → is_shut (released held) ≡ false
+released_open None shut = refl
+released_open (Some row) shut = by row.held.phase
+  where
+    by : (now : Phase) → is_closed (released_in now row.held).phase ≡ false
+    by Fresh = refl
+    by Ready = refl
+    by Ending = shut
+    by Closed = shut
+
+pub stop_settles : (reply notice : Text) (s : Switch) (number : ℕ) → Settles (conn_of s number) (conn_of (ended reply notice s) number)
+stop_settles reply notice s number =
+    subst (Settles (conn_of s number)) (sym (ended_conn reply notice s number)) (let_off_settles (conn_of s number))
+
+stop_keeps : {who : Option ℕ} {may_end : Bool} → (reply notice : Text) (s : Switch) → Keeps who may_end s (ended reply notice s)
+stop_keeps reply notice s = record {
+  numbers = released_numbers s.conns;
+  seats = length-map s.conns released;
+  outboxes = refl;
+  drawn = refl;
+  opened = λ each seat. ap is_shut (released_held s.conns seat) ∙ released_open (held_in s.conns seat) (each seat);
+  others = λ number apart. stop_settles reply notice s number;
+  hears = λ none number. settled_hears (conn_of s number) (conn_of (ended reply notice s) number) (stop_settles reply notice s number);
+}
 
 -- ---- jobs
 
@@ -239,8 +316,8 @@ ended_keeps : {who : Option ℕ} → (number : ℕ) (from : Asker) (answer : Tex
 ended_keeps number (asker.Conn conn) answer s =
     keeps_on s (conn_changed not_owed conn (without_job number s)) (after_job_end number (asker.Conn conn) answer s)
     (keeps_trans s (without_job number s) (conn_changed not_owed conn (without_job number s)) (keeps_same s (without_job number s) refl)
-    (conn_changed_keeps not_owed (λ c h. h) (λ none c heard. heard) conn (λ apart c. record { phase = refl; parting = refl; owed = λ none. refl })
-    (without_job number s)))
+    (conn_changed_keeps not_owed (λ c h. h) (λ none c heard. heard) conn
+    (λ apart c. record { way = inl (record { phase = refl; parting = refl }); owed = λ none. refl }) (without_job number s)))
     refl
 ended_keeps number (asker.Background job) answer s = keeps_same s (after_job_end number (asker.Background job) answer s) refl
 
@@ -280,6 +357,7 @@ module _ (by : Giver) (s : Switch) where
     draws = λ {s = t} h. keeps_on s t (with_next_identifier t) h refl;
     sleeps = λ until may room h. sleeps_keep until h;
     originates = λ groups winner caller timeout may are short room h. originates_keep groups winner caller timeout h;
+    ends = λ reply notice {s = t} dead h. keeps_trans s t (ended reply notice t) h (stop_keeps reply notice t);
   }
 
 -- the jobs that run a command, and those that end
@@ -336,6 +414,7 @@ module _ (conn : ℕ) (s : Switch) where
   leaves_keeps parting.AuthRefused {t} leaves h =
       keeps_trans s t (conn_changed (parted parting.AuthRefused) conn t) h (parted_keeps parting.AuthRefused conn t)
   leaves_keeps parting.EndOfInput leaves h = absurd leaves
+  leaves_keeps parting.Stopped leaves h = absurd leaves
 
   background_keeps : (given : Option Text) (command : Text) {t : Switch} → Keeps (Some conn) false s t →
       Keeps (Some conn) false s (background_begun given command t)
@@ -365,6 +444,15 @@ commanded_keeps : (conn : ℕ) (command : Command) (s : Switch) → Keeps (Some 
 commanded_keeps conn command s =
     commanded_kept conn (KeepsFrom (Some conn) s) (calls_keep (Some conn) s) (commands_keep conn s) command {s = s} (keeps_refl s)
 
+halt_keeps : (s : Switch) → Keeps None false s (after_shutdown s)
+unfolding after_shutdown
+halt_keeps s =
+    let told : Switch = with_event shutdown_event (after_hangup_of_all SystemShutdown s) in
+    keeps_trans s told (ended stopped_reply notice told)
+    (keeps_same s told
+    (sockets_same s (after_hangup_of_all SystemShutdown s) (hung_rest (map (λ slot. (slot, SystemShutdown)) (all_slots s)) s)))
+    (stop_keeps stopped_reply notice told)
+
 -- those that open no connection, close none, and take no frame
 abbrev pub ActKeeps : Act → Switch → Type 0
 ActKeeps act.Arrive s = Unit {0}
@@ -380,4 +468,5 @@ act_keeps (act.Command conn block) s = commanded_keeps conn (command_of block) s
 act_keeps (act.Close conn closing.EndOfInput) s = parted_keeps parting.EndOfInput conn s
 act_keeps (act.Work slot) s = work_keeps slot s
 act_keeps (act.Job number) s = job_done_keeps number s
+act_keeps act.Halt s = halt_keeps s
 act_keeps _ s = tt

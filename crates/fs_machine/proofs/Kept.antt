@@ -41,6 +41,7 @@ use Rattle.fs_state.specs.Switch.{Switch, chan_at, with_chan, bridge_at, is_full
 use Rattle.fs_state.specs.Switch.{with_frame_taken}
 use Rattle.fs_state.specs.Switch.{with_event}
 use Rattle.fs_state.specs.Switch.{next_orig_number, orig_of, without_orig, with_frame_now, with_notice, with_next_identifier}
+use Rattle.fs_state.specs.Ending.{ended}
 use Rattle.fs_state.specs.Moves.{orig_changed, leg_changed}
 use Rattle.fs_state.specs.Hangups.{lives_at, after_hangups, after_hangups_for}
 use Rattle.fs_state.specs.Bridging.{can_join, joined_as}
@@ -158,10 +159,10 @@ apart_by slot was tells = record { past = was.past; first = tells was.past was.f
 pub record KeptByCalls (P : Fact) : Type 0 where
   pub touches : KeptByTouches P
   pub hung : (named : Members) {s : Switch} → P None s → P (Some 0) s → P (Some 0) (after_hangups named s)
-  pub joined : (kind : BridgeKind) (caller answerer : ℕ) (c d : Chan) {n : ℕ} {s : Switch} → can_join caller answerer s ≡ true →
+  pub joined : (kind : BridgeKind) (caller answerer : ℕ) (c d : Chan) {s : Switch} → can_join caller answerer s ≡ true →
       chan_at s caller ≡ Some c → chan_at s answerer ≡ Some d → c.leg_of ≡ None → d.leg_of ≡ None →
-      awaited_by c ≡ None → awaited_by d ≡ None → WasApart P s caller → WasApart P s answerer → P (Some n) s →
-      P (Some n) (joined_as kind caller answerer s)
+      awaited_by c ≡ None → awaited_by d ≡ None → WasApart P s caller → WasApart P s answerer → P (Some 0) s →
+      P (Some 0) (joined_as kind caller answerer s)
   pub leaves : (one other : ℕ) {s : Switch} → IsApart s one → IsApart s other → P None s → P (Some 0) s → P (Some 0) (both_left one other s)
   pub departs : (slot : ℕ) {s : Switch} → P None s → P (Some 0) s → P (Some 0) (after_departure slot s)
   pub more : {s : Switch} → P (Some 0) s → P (Some 1) s
@@ -176,11 +177,11 @@ pub record IsShortCall (call : Call) : Type 0 where
 -- how channels are born: each pair fills two slots, and draws no more identifiers than that
 pub record KeptByBirths (P : Fact) : Type 0 where
   pub spent : {s : Switch} → P None s → P (Some 0) s
-  pub pair : (call : Call) (orig a b : ℕ) {n : ℕ} {s : Switch} → IsShortCall call →
+  pub pair : (call : Call) (orig a b : ℕ) {s : Switch} → IsShortCall call →
       is_misnamed call.uuid s ≡ false →
       IsFree Chan s.channels 1 a →
       IsFree Chan s.channels (a + 1) b →
-      P (Some n) s → P (Some n) (pair_made call orig a b s)
+      P (Some 0) s → P (Some 0) (pair_made call orig a b s)
 
 -- ---- moves of those who try originations
 
@@ -254,6 +255,10 @@ goes_on_by P Q (giver.Conn conn) s may tells = may
 goes_on_by P Q (giver.Job number job) s may tells =
     record { past = may.past; first = tells may.past may.first; does = may.does; left = may.left }
 
+-- nobody lives any more
+abbrev pub AreDead : Switch → Type 0
+AreDead s = (slot : ℕ) → lives_at s slot ≡ false
+
 -- what api commands do to what is no channel
 pub record KeptByApi (by : Giver) (P : Fact) : Type 0 where
   pub spent : {s : Switch} → P None s → P (Some 0) s
@@ -263,6 +268,7 @@ pub record KeptByApi (by : Giver) (P : Fact) : Type 0 where
   pub originates : (groups : List (List LegPlan)) (winner : Winner) (caller : Caller) (timeout : Option ℕ) {s : Switch} →
       MayGoOn P by s → AreGroups groups → IsShortWinner winner → is_full_of_jobs s ≡ false → P None s →
       P (Some 0) (originate_begun by groups winner caller timeout s)
+  pub ends : (reply notice : Text) {s : Switch} → AreDead s → P (Some 0) s → P (Some 1) (ended reply notice s)
 
 -- the jobs that run a command, and those that end
 pub record KeptByJobs (before : Switch) (P : Fact) : Type 0 where
@@ -307,6 +313,7 @@ abbrev pub LeavesBy : Parting → Type 0
 LeavesBy parting.Exit = Unit {0}
 LeavesBy parting.AuthRefused = Unit {0}
 LeavesBy parting.EndOfInput = ⊥
+LeavesBy parting.Stopped = ⊥
 
 -- what the commands of a connection do
 pub record KeptByCommands (conn : ℕ) (P : Fact) : Type 0 where
@@ -320,12 +327,13 @@ pub record KeptByCommands (conn : ℕ) (P : Fact) : Type 0 where
   pub backgrounds : (given : Option Text) (command : Text) {s : Switch} → is_full_of_jobs s ≡ false → P None s →
       P (Some 1) (background_begun given command s)
 
--- how connections come and go, and take their frames
+-- how connections come and go, and take their frames, and how the switch is brought to its end by nobody's command
 pub record KeptByVisits (P : Fact) : Type 0 where
   pub arrived : {s : Switch} → P None s → P (Some 0) (arrived s).state
   pub taken : (conn : ℕ) {s : Switch} → P (Some 0) s → P (Some 0) (with_frame_taken conn s)
   pub silent : (conn : ℕ) {s : Switch} → P (Some 0) s → P (Some 0) (conn_changed (parted parting.EndOfInput) conn s)
   pub left : (conn : ℕ) {s : Switch} → P (Some 0) s → P (Some 0) (without_conn conn s)
+  pub halted : (reply notice : Text) {s : Switch} → AreDead s → P (Some 0) s → P (Some 1) (ended reply notice s)
 
 -- every move of an entry that begins in a switch
 pub record KeptByMoves (before : Switch) (P : Fact) : Type 0 where

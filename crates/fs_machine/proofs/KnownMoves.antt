@@ -159,6 +159,7 @@ early_api before by = record {
   draws = λ {s = s} h. early_spent before s h;
   sleeps = λ until {s = s} may room h. begun_early before by (Sleep until) s (early_spent before s h);
   originates = λ groups winner caller timeout {s = s} may are short room h. originated_early before by groups winner caller timeout s h;
+  ends = λ reply notice dead h. h;
 }
 
 pub early_moves : (before : Switch) → KeptByMoves before (Early before)
@@ -201,6 +202,7 @@ early_moves before = record {
     taken = λ conn h. h;
     silent = λ conn {s = s} h. conn_early before 0 (parted parting.EndOfInput) conn s h;
     left = λ conn h. h;
+    halted = λ reply notice dead h. h;
   };
 }
 

@@ -213,8 +213,8 @@ group_stands (plan ∷ plans) caller number s =
     let made : Made = leg_made plan caller number s in
     with_first_stands number s made (group_made plans caller number made.state) (leg_stands plan caller number s)
     (group_stands plans caller number made.state)
-    (λ slot c there. leg_made_kept (λ b t. chan_at t slot ≡ Some c) (spared_births slot c) plan caller number {n = 0} {s = s} there)
-    (λ slot c there. group_made_kept (λ b t. chan_at t slot ≡ Some c) (spared_births slot c) plans caller number {n = 0} {s = made.state}
+    (λ slot c there. leg_made_kept (λ b t. chan_at t slot ≡ Some c) (spared_births slot c) plan caller number {s = s} there)
+    (λ slot c there. group_made_kept (λ b t. chan_at t slot ≡ Some c) (spared_births slot c) plans caller number {s = made.state}
     there)
 
 -- ---- an origination begins

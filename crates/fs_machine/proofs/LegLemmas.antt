@@ -10,7 +10,8 @@ use Rattle.fs_chan.specs.Changes.{is_live, hung_up}
 use Rattle.fs_chan.specs.Bridging.{awaited_by}
 use Rattle.fs_orig.specs.declared.orig.Orig.{Orig}
 use Rattle.fs_orig.specs.Changes.{with_leg_answer, with_leg_death, with_answer, with_death}
-use Rattle.fs_seats.specs.Seats.{held_in, with_held}
+use Rattle.fs_seats.specs.declared.numbered.Numbered.{Numbered}
+use Rattle.fs_seats.specs.Seats.{no_seats, held_in, with_held}
 use Rattle.fs_seats.specs.Rows.{has_number, row_of, with_row, without_row}
 use Rattle.fs_seats.proofs.HeldLemmas.{held_here, held_there, held_within}
 use Rattle.fs_seats.proofs.RowLemmas.{AreDistinct, AreWithin, row_gone, none_stands, distinct_same, numbers-with_row, distinct-without_row}
@@ -22,6 +23,7 @@ use Rattle.fs_state.proofs.LegTables.{Origs, Berth, berthed, berth_at, in_slot, 
 use Rattle.fs_state.proofs.LegTables.{touched_spares, changed_fewer, without_fewer, death_leaves_none}
 use Rattle.fs_machine.proofs.StayLemmas.{state_told_kept}
 use Rattle.fs_machine.proofs.HangLemmas.{given_up_kept}
+use Rattle.fs_machine.proofs.StopLemmas.{none_distinct, none_within, none_berthed}
 
 abbrev pub Channels : Type 0
 Channels = List (Option Chan)
@@ -56,6 +58,16 @@ pub record LegsStand (r : Roles) : Type 0 where
   pub within : AreWithin r.drawn r.origs
   pub stand : (seat position : ℕ) (berth : Berth) → berth_at r.origs seat position ≡ Some berth → IsLegOf r.channels berth
   pub apart : (seat p q : ℕ) (berth : Berth) → berth_at r.origs seat p ≡ Some berth → berth_at r.origs seat q ≡ Some berth → p ≡ q
+
+-- none stands where there is no origination
+pub no_legs : (channels : Channels) (count drawn : ℕ) →
+    LegsStand (record { channels = channels; origs = no_seats {T = Numbered Orig} count; drawn = drawn })
+no_legs channels count drawn = record {
+  distinct = none_distinct Orig count;
+  within = none_within Orig count drawn;
+  stand = λ seat position berth has. absurd (none_berthed count seat position berth has);
+  apart = λ seat p q berth first second. absurd (none_berthed count seat p berth first);
+}
 
 -- a leg stands where its channel is there still
 abbrev pub leg_still : (channels new : Channels) (berth : Berth) (leg : IsLegOf channels berth) → held_in new leg.at ≡ Some leg.chan →

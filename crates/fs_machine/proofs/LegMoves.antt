@@ -1,5 +1,5 @@
 -- Each act leaves each living leg of an origination a live channel that names the origination.
-use Rattle.std.proofs.Common.{◌≡◌, ℕ, ◌+◌, ◌-◌, ◌<◌, ◌^◌, min, Bool, true, false, List, [], ◌∷◌, Option, None, Some, option_and_then}
+use Rattle.std.proofs.Common.{◌≡◌, ℕ, ◌+◌, ◌-◌, ◌<◌, ◌^◌, min, Bool, true, false, List, [], ◌∷◌, length, Option, None, Some, option_and_then}
 use Rattle.std.proofs.Common.{unwrap_or, ◌⊎◌, inl, inr, refl, sym, ap, subst, ◌∙◌, arith, map}
 use Rattle.std.proofs.lemmas.Bool.{cases_eq, both_ways}
 use Rattle.std.proofs.lemmas.Option.{same_Some}
@@ -58,7 +58,7 @@ use Rattle.fs_machine.proofs.JoinLemmas.{both_left_kept}
 use Rattle.fs_machine.proofs.StayLemmas.{state_told_kept, moved_there, changed_there, orig_changed_channels}
 use Rattle.fs_machine.proofs.HangLemmas.{dies, given_up_kept, hangups_kept}
 use Rattle.fs_machine.proofs.Walk.{disposed_kept, group_made_kept}
-use Rattle.fs_machine.proofs.LegLemmas.{Channels, Roles, roles_of, IsLegOf, LegsStand, legs_cut, legs_follow, free_follows, put_legs}
+use Rattle.fs_machine.proofs.LegLemmas.{Channels, Roles, roles_of, IsLegOf, LegsStand, no_legs, legs_cut, legs_follow, free_follows, put_legs}
 use Rattle.fs_machine.proofs.LegLemmas.{without_legs, given_up_legs, answered_legs}
 use Rattle.fs_machine.proofs.LegBirths.{pair_roles, pair_legs, GroupStands, group_stands, new_orig_legs, regrouped_legs}
 use Rattle.fs_machine.proofs.LegHangups.{settles_leg, hung_legs, winning_leg}
@@ -90,7 +90,7 @@ births_drawn n = record {
 pub group_drawn : (plans : List LegPlan) (caller : Caller) (number : ℕ) (s : Switch) →
     (group_made plans caller number s).state.drawn.origs ≡ s.drawn.origs
 group_drawn plans caller number s =
-    group_made_kept (λ b t. t.drawn.origs ≡ s.drawn.origs) (births_drawn s.drawn.origs) plans caller number {n = 0} {s = s} refl
+    group_made_kept (λ b t. t.drawn.origs ≡ s.drawn.origs) (births_drawn s.drawn.origs) plans caller number {s = s} refl
 
 -- ---- legs stand as long as few originations were tried, so that the next number is new
 
@@ -364,7 +364,7 @@ originates_legs : (who : Giver) (groups : List (List LegPlan)) (winner : Winner)
     Stand (roles_of s) → Stand (roles_of (originate_begun who groups winner caller timeout s))
 originates_legs who groups winner caller timeout s h =
     tried (group_made plans caller (next_orig_number s) s) (same_next plans caller s) (group_stands plans caller (next_orig_number s) s)
-    (group_made_kept Legs legs_births plans caller (next_orig_number s) {n = 0} {s = s} h)
+    (group_made_kept Legs legs_births plans caller (next_orig_number s) {s = s} h)
   where
     plans : List LegPlan
     plans = first_group groups
@@ -385,7 +385,7 @@ dialed_legs : (slot : ℕ) (c : Chan) (groups : List (List LegPlan)) (timeout : 
 dialed_legs slot c groups timeout s h =
     tried (group_made plans (caller_of c) (next_orig_number s) s) (same_next plans (caller_of c) s)
     (group_stands plans (caller_of c) (next_orig_number s) s)
-    (group_made_kept Legs legs_births plans (caller_of c) (next_orig_number s) {n = 0} {s = s} h)
+    (group_made_kept Legs legs_births plans (caller_of c) (next_orig_number s) {s = s} h)
   where
     plans : List LegPlan
     plans = all_behind (exported_pairs c.vars) (first_group groups)
@@ -405,7 +405,7 @@ regroups_legs number plans caller s h few =
     let fewer : made.state.drawn.origs < 2 ^ 62 =
     subst (λ (n : ℕ). n < 2 ^ 62) (orig_changed_drawn (at_next_group made.legs) number made.state) few in
     regrouped_legs number made.legs s.channels made.state (group_stands plans caller number s)
-    (group_made_kept Legs legs_births plans caller number {n = 0} {s = s} h fewer)
+    (group_made_kept Legs legs_births plans caller number {s = s} h fewer)
 
 -- ---- every move
 
@@ -433,6 +433,7 @@ legs_api by = record {
   draws = λ h. h;
   sleeps = λ until {s = s} may room h. same_roles s (after_job_begin by (Sleep until) s) (begun_roles by (Sleep until) s) h;
   originates = λ groups winner caller timeout {s = s} may are short room h. originates_legs by groups winner caller timeout s h;
+  ends = λ reply notice {s = s} dead h few. no_legs s.channels (length s.origs) s.drawn.origs;
 }
 
 -- the legs that stood before stand as others lose the race
@@ -482,5 +483,6 @@ module _ (before : Switch) (stand : LegsStand (roles_of before)) where
       silent = λ conn {s = s} h. same_roles s (conn_changed (parted parting.EndOfInput) conn s)
           (conn_roles (parted parting.EndOfInput) conn s) h;
       left = λ conn h. h;
+      halted = λ reply notice {s = s} dead h few. no_legs s.channels (length s.origs) s.drawn.origs;
     };
   }

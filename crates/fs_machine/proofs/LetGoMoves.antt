@@ -285,10 +285,10 @@ module _ (before : Switch) where
       IsLetGo (held_in channels q) cause → q ≡ slot → ⊥
   filled channels slot q c cause free go same = none-some go.chan (sym free ∙ (ap (held_in channels) (sym same) ∙ go.there))
 
-  pair_ended : (call : Call) (orig a b n : ℕ) (s : Switch) → IsShortCall call → held_in s.channels a ≡ None → held_in s.channels b ≡ None →
-      Ending before (Some n) s →
-      Ending before (Some n) (pair_made call orig a b s)
-  pair_ended call orig a b n s short first second h =
+  pair_ended : (call : Call) (orig a b : ℕ) (s : Switch) → IsShortCall call → held_in s.channels a ≡ None → held_in s.channels b ≡ None →
+      Ending before (Some 0) s →
+      Ending before (Some 0) (pair_made call orig a b s)
+  pair_ended call orig a b s short first second h =
       subst (λ (channels : List (Option Chan)). EndedIn before channels (pair_made call orig a b s).news) (sym (pair_channels call orig a b s))
       (subst (EndedIn before (with_held (with_held s.channels a (Some leg)) b (Some far))) (sym (pair_news call.uuid call orig a b s))
       (record {
@@ -320,7 +320,7 @@ module _ (before : Switch) where
   births_end : KeptByBirths (Ending before)
   births_end = record {
     spent = λ {s = s} h. spent_at s h;
-    pair = λ call orig a b {n = n} {s = s} short named first second h. pair_ended call orig a b n s short first.free second.free h;
+    pair = λ call orig a b {s = s} short named first second h. pair_ended call orig a b s short first.free second.free h;
   }
 
   -- ---- a leg wins
@@ -490,8 +490,8 @@ module _ (before : Switch) (bonds : Bonds before) (stand : LegsStand (roles_of b
   calls_end = record {
     touches = touches_end before;
     hung = λ named {s = s} early h. core_ended before 0 (after_hangups named s) (hung_core before named s (early_core s early));
-    joined = λ kind caller answerer c d {n = n} {s = s} can there other one two first second was were h.
-        joined_ended before kind caller answerer n s (was_apart before caller was) (was_apart before answerer were) h;
+    joined = λ kind caller answerer c d {s = s} can there other one two first second was were h.
+        joined_ended before kind caller answerer 0 s (was_apart before caller was) (was_apart before answerer were) h;
     leaves = λ one other {s = s} first second early h.
         core_ended before 0 (both_left one other s)
         (both_left_kept (Core before Nothing) (λ named t k. hung_core before named t k) (λ slot t apart k. left_core before slot t k) one
@@ -514,7 +514,7 @@ module _ (before : Switch) (bonds : Bonds before) (stand : LegsStand (roles_of b
       let begun : Switch = orig_begun (owner.Slot slot) groups made.legs timeout made.state in
       moved_at before (Some 0) (awaiting number) slot begun (λ d. spares_same d (awaiting number d) refl refl)
       (same_at before (Some 0) made.state begun
-      (group_made_kept (Ending before) (births_end before) plans (caller_of c) number {n = 0} {s = s} (spent_at before s h)) refl)
+      (group_made_kept (Ending before) (births_end before) plans (caller_of c) number {s = s} (spent_at before s h)) refl)
 
   regrouped_ended : (number : ℕ) (made : MadeGroup) → Ending before (Some 0) made.state → Ending before (Some 0) (with_group number made)
   regrouped_ended number made h =
@@ -526,7 +526,7 @@ module _ (before : Switch) (bonds : Bonds before) (stand : LegsStand (roles_of b
     dials = λ slot c groups timeout {s = s} there works are h. dialed_ended slot c groups timeout s h;
     regroups = λ number o plans caller {s = s} there next h.
         regrouped_ended number (group_made plans caller number s)
-        (group_made_kept (Ending before) (births_end before) plans caller number {n = 0} {s = s} h);
+        (group_made_kept (Ending before) (births_end before) plans caller number {s = s} h);
     fails = λ slot orig cause {s = s} waits over h.
         core_ended before 0 (after_bridge_failure cause slot (without_orig orig s))
         (failed_core before cause slot (without_orig orig s)

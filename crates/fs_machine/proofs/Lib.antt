@@ -16,6 +16,7 @@ pub mod LeaveLemmas
 pub mod JoinLemmas
 pub mod CameLemmas
 pub mod CutLemmas
+pub mod StopLemmas
 pub mod LivingLemmas
 pub mod TryWalk
 pub mod Walk
@@ -45,6 +46,7 @@ pub mod RefusalLemmas
 pub mod OwedTables
 pub mod OwedLosses
 pub mod OwedBooks
+pub mod OwedEnds
 pub mod OwedLemmas
 pub mod OwedJobs
 pub mod OwedActs
@@ -76,6 +78,8 @@ pub mod BondTables
 pub mod BondHangups
 pub mod KnownMoves
 pub mod StandingLemmas
+pub mod StillMoves
+pub mod StoppedMoves
 pub mod OwedLaws
 pub mod BondChanges
 pub mod BondLeaves

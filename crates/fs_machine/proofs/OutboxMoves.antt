@@ -1,6 +1,7 @@
 -- In every run few events wait for each connection: an entry answers and gives no other frames than replies, and posts what has room.
 use Rattle.std.proofs.Common.{◌≡◌, ℕ, ◌+◌, ◌-◌, ◌^◌, ◌<◌, ◌≤◌, ◌==◌, Bool, true, false, if◌then◌else◌, List, [], ◌∷◌, ◌++◌, length}
 use Rattle.std.proofs.Common.{Option, None, Some, unwrap_or, ◌⊎◌, inl, inr, refl, sym, ap, subst, ◌∙◌, arith}
+use Rattle.std.specs.Prelude.{flat_map}
 use Rattle.std.proofs.lemmas.Bool.{cases_eq}
 use Rattle.std.proofs.lemmas.List.Sums.{count_by-le-length}
 use Rattle.fs_text.specs.Texts.{Text}
@@ -11,8 +12,11 @@ use Rattle.fs_orig.specs.declared.caller.Caller.{Caller}
 use Rattle.fs_orig.specs.declared.orig.Owner.TheVariants as owner
 use Rattle.fs_orig.specs.declared.plan.LegPlan.{LegPlan}
 use Rattle.fs_orig.specs.declared.winner.Winner.{Winner}
+use Rattle.fs_seats.specs.declared.numbered.Numbered.{Numbered}
 use Rattle.fs_state.specs.declared.conn.Conn.{Conn}
 use Rattle.fs_state.specs.declared.conn.Parting.TheVariants as parting
+use Rattle.fs_state.specs.declared.conn.Phase.{Phase}
+use Rattle.fs_state.specs.declared.conn.Phase.TheVariants as phase
 use Rattle.fs_state.specs.declared.gift.Gift.{Gift}
 use Rattle.fs_state.specs.declared.job.Asker.{Asker}
 use Rattle.fs_state.specs.declared.job.Asker.TheVariants as asker
@@ -24,6 +28,7 @@ use Rattle.fs_state.specs.Frames.{Frames, is_event, events_in}
 use Rattle.fs_state.specs.Posting.{most_events, room_behind, posts, with_posts}
 use Rattle.fs_state.specs.Switch.{Switch, empty, conn_of, next_orig_number, with_new_job, without_job}
 use Rattle.fs_state.specs.Switch.{without_orig, without_conn, outgoing_for, with_frame_taken, gift_of, at_moment, all_given, after_entry}
+use Rattle.fs_state.specs.Ending.{last_reply, last_notice, last_replies, last_notices, ended}
 use Rattle.fs_state.proofs.GiftLemmas.{events_append, events_drop}
 use Rattle.fs_machine.specs.declared.entry.Entry.{Entry}
 use Rattle.fs_machine.specs.declared.entry.Act.{Act}
@@ -67,12 +72,40 @@ one_reply conn other text = by (conn == other)
     by true = refl
     by false = refl
 
--- so it is with a reply more
+-- so it is with more of them
+replies_more : (gifts more : List Gift) → AreReplies gifts → AreReplies more → AreReplies (gifts ++ more)
+replies_more gifts more h k other =
+    ap events_in (frames_append other gifts more)
+    ∙ events_append (frames_for other gifts) (frames_for other more)
+    ∙ omega (arith, h other, k other)
+
 reply_more : (conn : ℕ) (text : Text) (gifts : List Gift) → AreReplies gifts → AreReplies (gifts ++ gift_of conn text ∷ [])
-reply_more conn text gifts h other =
-    ap events_in (frames_append other gifts (gift_of conn text ∷ []))
-    ∙ events_append (frames_for other gifts) (frames_for other (gift_of conn text ∷ []))
-    ∙ omega (arith, h other, one_reply conn other text)
+reply_more conn text gifts h = replies_more gifts (gift_of conn text ∷ []) h (λ other. one_reply conn other text)
+
+-- and with those that each seat gives
+replies_each : {A : Type 0} → (gives : A → List Gift) → ((held : A) → AreReplies (gives held)) → (rows : List A) →
+    AreReplies (flat_map gives rows)
+replies_each gives each [] = λ conn. refl
+replies_each gives each (held ∷ rows) = replies_more (gives held) (flat_map gives rows) (each held) (replies_each gives each rows)
+
+-- what a connection is given at the end of the switch
+are_last_replies : (reply : Text) (held : Option (Numbered Conn)) → AreReplies (last_replies reply held)
+are_last_replies reply None = λ conn. refl
+are_last_replies reply (Some row) = by row.held.owed
+  where
+    by : (owed : Option ℕ) → AreReplies (last_reply row.number reply owed)
+    by None = λ conn. refl
+    by (Some since) = λ conn. one_reply row.number conn reply
+
+are_last_notices : (notice : Text) (held : Option (Numbered Conn)) → AreReplies (last_notices notice held)
+are_last_notices notice None = λ conn. refl
+are_last_notices notice (Some row) = by row.held.phase
+  where
+    by : (now : Phase) → AreReplies (last_notice row.number notice now)
+    by phase.Fresh = λ conn. one_reply row.number conn notice
+    by phase.Ready = λ conn. one_reply row.number conn notice
+    by phase.Ending = λ conn. refl
+    by phase.Closed = λ conn. refl
 
 -- what is given that is no event
 abbrev Replies : Switch → Type 0
@@ -116,6 +149,14 @@ background_replies : (given : Option Text) (command : Text) (s : Switch) → Rep
 background_replies None command s h = h
 background_replies (Some uuid) command s h = h
 
+stopped_replies : (reply notice : Text) (s : Switch) → Replies s → Replies (ended reply notice s)
+stopped_replies reply notice s h = (
+  h.0,
+  replies_more s.late (flat_map (last_replies reply) s.conns) h.1 (replies_each (last_replies reply) (are_last_replies reply) s.conns),
+  replies_more s.notices (flat_map (last_notices notice) s.conns) h.2
+      (replies_each (last_notices notice) (are_last_notices notice) s.conns),
+)
+
 -- every move gives replies alone
 abbrev Replying : Fact
 Replying b s = Replies s
@@ -126,6 +167,7 @@ replying_api by = record {
   draws = λ h. h;
   sleeps = λ until {s = s} may room h. owing_replies by (Sleep until) s h;
   originates = λ groups winner caller timeout {s = s} may are short room h. originates_replies by groups winner caller timeout s h;
+  ends = λ reply notice {s = s} dead h. stopped_replies reply notice s h;
 }
 
 replying_moves : (before : Switch) → KeptByMoves before Replying
@@ -157,6 +199,7 @@ replying_moves before = record {
     taken = λ conn h. h;
     silent = λ conn {s = s} h. changed_replies (parted parting.EndOfInput) conn s h;
     left = λ conn h. h;
+    halted = λ reply notice {s = s} dead h. stopped_replies reply notice s h;
   };
 }
 

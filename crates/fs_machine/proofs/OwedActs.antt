@@ -1,10 +1,13 @@
 -- What entries do keeps the facts on connections, on jobs and on originations.
 use Rattle.std.proofs.Common.{◌≡◌, ℕ, true, false, not, List, Option, None, Some, is_none, unwrap_or, refl, sym, ap, subst, ◌∙◌, ◌≤◌, ◌<◌}
-use Rattle.std.proofs.Common.{◌^◌, ◌+◌, arith}
+use Rattle.std.proofs.Common.{◌^◌, ◌+◌, map, arith}
 use Rattle.std.specs.Option.{option_and_then}
 use Rattle.std.proofs.lemmas.Bool.{false≢true, not-false}
 use Rattle.fs_text.specs.Texts.{Text}
+use Rattle.fs_text.specs.declared.causes.Cause.TheVariants.{SystemShutdown}
+use Rattle.fs_bridge.specs.Closure.{Members}
 use Rattle.fs_cmd.specs.Commands.{command_of}
+use Rattle.fs_cmd.specs.Frames.{notice}
 use Rattle.fs_filter.specs.Subscriptions.{Subscription}
 use Rattle.fs_orig.specs.declared.caller.Caller.{Caller}
 use Rattle.fs_orig.specs.declared.leg.OrigLeg.{OrigLeg}
@@ -23,13 +26,16 @@ use Rattle.fs_state.specs.declared.job.Asker.TheVariants as asker
 use Rattle.fs_state.specs.declared.job.Background.{Background}
 use Rattle.fs_state.specs.declared.job.JobWork.TheVariants as work
 use Rattle.fs_state.specs.Switch.{Switch, conn_of, is_full_of_jobs, without_job, without_orig, with_frame_now, with_notice}
-use Rattle.fs_state.specs.Switch.{next_orig_number}
+use Rattle.fs_state.specs.Switch.{next_orig_number, with_event}
+use Rattle.fs_state.specs.Hangups.{after_hangups}
 use Rattle.fs_machine.specs.declared.entry.Act.{Act}
 use Rattle.fs_machine.specs.declared.entry.Act.TheVariants as act
 use Rattle.fs_machine.specs.declared.entry.Closing.{Closing}
 use Rattle.fs_machine.specs.declared.entry.Closing.TheVariants as closing
 use Rattle.fs_machine.specs.declared.refusal.Refusal.TheVariants as refusal
 use Rattle.fs_machine.specs.Texts.{made_text, failed_text}
+use Rattle.fs_machine.specs.Hangups.{all_slots, after_hangup_of_all}
+use Rattle.fs_machine.specs.Shutdown.{shutdown_event, stopped_reply, after_shutdown}
 use Rattle.fs_machine.specs.Connections.{phase_of, phase_at, conn_changed, admitted, parted, with_subs_changed}
 use Rattle.fs_machine.specs.Questions.{owed_of, owed_to}
 use Rattle.fs_machine.specs.Originations.{group_made, after_winning, seconds, MadeGroup}
@@ -46,6 +52,7 @@ use Rattle.fs_machine.proofs.RestLemmas.{does_same, won_rest}
 use Rattle.fs_machine.proofs.OrderLemmas.{none_refused}
 use Rattle.fs_machine.proofs.ActWalk.{job_kept, commanded_kept}
 use Rattle.fs_machine.proofs.OwedBooks.{Books, books_of, Sound, Goes, Few, SlotsAreFew, books_lose}
+use Rattle.fs_machine.proofs.OwedEnds.{goes_ended}
 use Rattle.fs_machine.proofs.OwedJobs.{near_self, parts_of, goes_conn, goes_gone, goes_arrived, goes_sleep, goes_originate, goes_woken}
 use Rattle.fs_machine.proofs.OwedJobs.{goes_over, goes_drawn, MayBegin, goes_background, goes_out, out_may}
 use Rattle.fs_text.specs.declared.causes.Cause.{Cause}
@@ -61,7 +68,7 @@ use Rattle.fs_machine.specs.Bridging.{caller_of, group_dialed, after_bridge_fail
 use Rattle.fs_machine.specs.Dialing.{tried_by_slot}
 use Rattle.fs_machine.proofs.OwedTables.{by_job, by_slot, owned_in, untold_added}
 use Rattle.fs_machine.proofs.OwedLosses.{Loses, moved_loses, winning_loses, calls_by_losses, failure_loses, bridge_won_loses, group_loses}
-use Rattle.fs_machine.proofs.OwedLosses.{regrouped_loses, OwnsAwaited, awaited_loses, winning_numbers}
+use Rattle.fs_machine.proofs.OwedLosses.{regrouped_loses, OwnsAwaited, awaited_loses, winning_numbers, hung_loses}
 
 -- ---- refusals
 
@@ -177,6 +184,7 @@ module _ (b : Books) (by : Giver) (few : Few b) (has : LetsBegin b by) where
     sleeps = λ until {s = s} may room h. sleeps_go until s may room h;
     originates = λ groups winner caller timeout {s = s} may are short room h.
         originates_go groups winner caller timeout s may room h;
+    ends = λ reply notice {s = s} dead h. goes_ended b reply notice s h;
   }
 
 -- ---- the commands of a connection
@@ -244,8 +252,8 @@ module _ (before : Switch) (Q : Fact) (kept : KeptByMoves before Q) (owns : (b :
   both_called = record {
     touches = both_touched;
     hung = λ named early h. ((calls_go b).hung named early.0 h.0, kept.calls.hung named early.1 h.1);
-    joined = λ kind caller answerer c d {n = n} {s = s} can there other one two idle spare was were h. (
-      (calls_go b).joined kind caller answerer c d {n = n} {s = s} can there other one two idle spare
+    joined = λ kind caller answerer c d {s = s} can there other one two idle spare was were h. (
+      (calls_go b).joined kind caller answerer c d {s = s} can there other one two idle spare
           (apart_by caller was (λ t k. k.0)) (apart_by answerer were (λ t k. k.0)) h.0,
       kept.calls.joined kind caller answerer c d can there other one two idle spare (apart_by caller was (λ t k. k.1))
           (apart_by answerer were (λ t k. k.1)) h.1,
@@ -294,6 +302,7 @@ module _ (before : Switch) (Q : Fact) (kept : KeptByMoves before Q) (owns : (b :
           originates_go b by few has groups winner caller timeout s (goes_on_by (Beside b Q) (GoesFrom b) by s may (λ t k. k.0)) room h.0,
           runs.originates groups winner caller timeout (goes_on_by (Beside b Q) Q by s may (λ t k. k.1)) are short room h.1,
         );
+        ends = λ reply notice {s = s} dead h. (goes_ended b reply notice s h.0, runs.ends reply notice dead h.1);
       }
 
   jobs_go : KeptByJobs before (Beside b Q)
@@ -377,6 +386,14 @@ closed_goes closing.EndOfInput conn s h =
 closed_goes closing.Sent conn s h = goes_gone (books_of s) conn s h
 closed_goes closing.Failed conn s h = goes_gone (books_of s) conn s h
 
+-- all are hung up, and nothing is left
+halted_goes : (b : Books) (s : Switch) → Goes b (books_of s) → Goes b (books_of (after_shutdown s))
+unfolding after_shutdown
+halted_goes b s h =
+    let named : Members = map (λ slot. (slot, SystemShutdown)) (all_slots s) in
+    goes_ended b stopped_reply notice (with_event shutdown_event (after_hangup_of_all SystemShutdown s))
+    (goes_loses b (Some 0) s (after_hangups named s) h (hung_loses named s))
+
 -- the books of a switch are what they were
 at_first : (s : Switch) → Sound (books_of s) → SlotsAreFew s → GoesFrom (books_of s) None s
 at_first s h slots = (h, refl, slots)
@@ -397,6 +414,8 @@ goes_acted (act.Close conn how) s Q kept owns numbers accepts few h slots q =
 goes_acted (act.Work slot) s Q kept owns numbers accepts few h slots q =
     (worked_kept s (Beside (books_of s) Q) (both_called s Q kept owns numbers (books_of s) few)
     (dials_go s Q kept owns numbers (books_of s) few) slot (at_first s h slots, q)).0
+goes_acted act.Halt s Q kept owns numbers accepts few h slots q =
+    halted_goes (books_of s) s (goes_spent (books_of s) s (at_first s h slots))
 goes_acted (act.Job number) s Q kept owns numbers accepts few h slots q =
     (job_kept s (Beside (books_of s) Q) (both_called s Q kept owns numbers (books_of s) few)
     (dials_go s Q kept owns numbers (books_of s) few) (jobs_go s Q kept owns numbers (books_of s) few) number

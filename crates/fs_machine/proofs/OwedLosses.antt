@@ -301,8 +301,8 @@ calls_by_losses P loses more = record {
         (changed_loses (leg_changed (λ position. with_answer position seat) slot) (answer_keeps seat slot) number s);
   };
   hung = λ named {s = s} early h. loses (Some 0) s (after_hangups named s) h (hung_loses named s);
-  joined = λ kind caller answerer c d {n = n} {s = s} can there other one two idle spare was were h.
-      loses (Some n) s (joined_as kind caller answerer s) h (joined_loses kind caller answerer s);
+  joined = λ kind caller answerer c d {s = s} can there other one two idle spare was were h.
+      loses (Some 0) s (joined_as kind caller answerer s) h (joined_loses kind caller answerer s);
   leaves = λ one other {s = s} first second early h. loses (Some 0) s (both_left one other s) h
       (both_left_kept (λ (t : Switch). Loses s t) (λ named t k. loses_trans s t (after_hangups named t) k (hung_loses named t))
       (λ slot t apart k. loses_trans s t (after_leaving slot t) k (left_loses slot t)) one other s first second (self s));
@@ -359,7 +359,7 @@ births_lose s = record {
 }
 
 pub group_loses : (plans : List LegPlan) (caller : Caller) (orig : ℕ) (s : Switch) → Loses s (group_made plans caller orig s).state
-group_loses plans caller orig s = group_made_kept (λ b t. Loses s t) (births_lose s) plans caller orig {n = 0} {s = s} (self s)
+group_loses plans caller orig s = group_made_kept (λ b t. Loses s t) (births_lose s) plans caller orig {s = s} (self s)
 
 pub regrouped_loses : (number : ℕ) (plans : List LegPlan) (caller : Caller) (s : Switch) →
     Loses s (with_group number (group_made plans caller number s))

@@ -1,25 +1,20 @@
 -- An entry keeps connections, jobs, and the originations that jobs own as they must be, and what each number cost.
-use Rattle.std.proofs.Common.{◌≡◌, ◌+◌, ◌-◌, ◌*◌, ◌^◌, ◌≤◌, min, None, refl, ◌∙◌, arith, ◌<◌}
+use Rattle.std.proofs.Common.{◌≡◌, ◌+◌, ◌-◌, ◌*◌, ◌^◌, ◌≤◌, min, None, refl, arith, ◌<◌}
 use Rattle.std.proofs.lemmas.Bool.{ltb-false}
-use Rattle.std.proofs.lemmas.List.{length-map}
 use Rattle.fs_doc.specs.Reading.{Configuration}
-use Rattle.fs_orig.specs.declared.orig.Orig.{Orig}
-use Rattle.fs_seats.specs.declared.numbered.Numbered.{Numbered}
 use Rattle.fs_seats.specs.Seats.{no_seats}
-use Rattle.fs_seats.proofs.TableLemmas.{none_held, taken_in, one_if, none_taken}
+use Rattle.fs_seats.proofs.TableLemmas.{none_held}
 use Rattle.fs_seats.proofs.NumberLemmas.{none_numbered, Numbers}
-use Rattle.fs_state.specs.declared.job.Job.{Job}
 use Rattle.fs_state.specs.Switch.{Switch, empty, at_moment}
-use Rattle.fs_state.proofs.SlotLemmas.{no_seats_length}
 use Rattle.fs_machine.specs.declared.entry.Entry.{Entry}
 use Rattle.fs_machine.specs.Entries.{cost_of}
 use Rattle.fs_machine.specs.Step.{act_done, step, refusal_of}
-use Rattle.fs_machine.proofs.OwedBooks.{Books, books_of, trying_in, Sound, Goes, Few, Paid, SlotsAreFew}
+use Rattle.fs_machine.proofs.OwedBooks.{Books, books_of, Sound, Goes, Few, Paid, SlotsAreFew}
 use Rattle.fs_machine.proofs.FrameLemmas.{some_cost}
 use Rattle.fs_machine.proofs.OrderLemmas.{not_full, not_refused}
 use Rattle.fs_machine.proofs.OwedActs.{goes_acted}
 use Rattle.fs_machine.proofs.Kept.{Stage, Fact, KeptByMoves}
-use Rattle.fs_machine.proofs.OwedTables.{by_job, by_slot, owned_at, owned_in, taken_apart, none_owned}
+use Rattle.fs_machine.proofs.OwedEnds.{owes_nobody, tries_nothing}
 use Rattle.fs_machine.proofs.OwedLosses.{OwnsAwaited}
 
 -- all facts on a state that a run comes to
@@ -34,31 +29,13 @@ holds_empty config small = record {
       numbers = none_numbered config.settings.max_connections;
       parts = λ p a is. absurd (none_held config.settings.max_connections p a is);
       job_numbers = none_numbered 1024;
-      owes = record {
-        owed = λ p a since is o. absurd (none_held config.settings.max_connections p a is);
-        owes = λ q job p a is_job is e. absurd (none_held 1024 q job is_job);
-        alone = λ q r a c conn is_a is_c one two. absurd (none_held 1024 q a is_a);
-        within = λ q job conn is for. absurd (none_held 1024 q job is);
-      };
+      owes = owes_nobody (no_seats config.settings.max_connections) 1024 0
+          (λ p a is. absurd (none_held config.settings.max_connections p a is));
     };
-    tries = record {
-      there = λ q job number is t. absurd (none_held 1024 q job is);
-      alone = λ q r a c number is_a is_c ta tc. absurd (none_held 1024 q a is_a);
-      within = λ p number is. absurd (none_owned by_job 1280 p number is);
-      fewer = fewer;
-      job_seats = no_seats_length (Numbered Job) 1024;
-      orig_seats = length-map (no_seats {T = Numbered Orig} 1280) (owned_at by_job) ∙ no_seats_length (Numbered Orig) 1280;
-    };
+    tries = tries_nothing 1024 1280 0 refl refl;
   };
   paid = record { conns = omega arith; jobs = omega arith; origs = omega arith; limit = small };
 }
-  where
-    fewer : taken_in (owned_in by_job (no_seats {T = Numbered Orig} 1280)) ≤ trying_in (no_seats {T = Numbered Job} 1024)
-    fewer =
-        let apart : taken_in (no_seats {T = Numbered Orig} 1280) ≡ taken_in (owned_in by_job (no_seats {T = Numbered Orig} 1280))
-        + taken_in (owned_in by_slot (no_seats {T = Numbered Orig} 1280)) = taken_apart (no_seats {T = Numbered Orig} 1280) in
-        let none : taken_in (no_seats {T = Numbered Orig} 1280) ≡ 0 = none_taken {T = Numbered Orig} one_if 1280 refl in
-        omega (arith, apart, none)
 
 -- where few numbers were drawn, the next entry comes to all that it must, beside a fact that tells whose originations there are
 pub holds_step : (s : Switch) (entry : Entry) (Q : Fact) → KeptByMoves (at_moment entry.moment s) Q →

@@ -1,5 +1,5 @@
 -- Each act leaves those waiting that own what they dialed, and whoever waits owns what it waits for, if that is there.
-use Rattle.std.proofs.Common.{◌≡◌, ℕ, ◌+◌, ◌-◌, ◌<◌, ◌^◌, Bool, true, false, if◌then◌else◌, List, [], ◌∷◌, Option, None, Some}
+use Rattle.std.proofs.Common.{◌≡◌, ℕ, ◌+◌, ◌-◌, ◌<◌, ◌^◌, Bool, true, false, if◌then◌else◌, List, [], ◌∷◌, length, Option, None, Some}
 use Rattle.std.proofs.Common.{option_and_then, unwrap_or, refl, sym, ap, subst, ◌∙◌, arith, true≢false, ◌≤◌, ◌==◌, ◌++◌, map, length-set}
 use Rattle.std.specs.Prelude.{is_some}
 use Rattle.std.proofs.lemmas.Bool.{false≢true, eqb-true}
@@ -28,7 +28,7 @@ use Rattle.fs_orig.specs.Legs.{is_at}
 use Rattle.fs_orig.specs.Changes.{with_answer, may_enter_next, at_next_group}
 use Rattle.fs_orig.specs.Plans.{all_behind}
 use Rattle.fs_seats.specs.declared.numbered.Numbered.{Numbered}
-use Rattle.fs_seats.specs.Seats.{held_in, with_held}
+use Rattle.fs_seats.specs.Seats.{no_seats, held_in, with_held}
 use Rattle.fs_seats.specs.Rows.{has_number}
 use Rattle.fs_seats.proofs.HeldLemmas.{IsFree, held_within}
 use Rattle.fs_seats.proofs.NumberLemmas.{Numbers}
@@ -76,6 +76,7 @@ use Rattle.fs_machine.proofs.OwnerLeaves.{others_owned}
 use Rattle.fs_machine.proofs.LegMoves.{orig_changed_drawn, group_drawn}
 use Rattle.fs_machine.proofs.LegMoves.{conn_roles, begun_roles, background_roles, ended_roles, won_roles}
 use Rattle.fs_machine.proofs.LegMoves.{same_next}
+use Rattle.fs_machine.proofs.StopLemmas.{none_distinct, none_within, no_rows}
 
 -- ---- the fact
 
@@ -275,7 +276,7 @@ owned_births = record {
 made_owned : (plans : List LegPlan) (caller : Caller) (number : ℕ) (s : Switch) → Owned (roles_of s) →
     Owned (roles_of (group_made plans caller number s).state)
 made_owned plans caller number s h =
-    group_made_kept (λ b t. Owned (roles_of t)) owned_births plans caller number {n = 0} {s = s} h
+    group_made_kept (λ b t. Owned (roles_of t)) owned_births plans caller number {s = s} h
 
 next_keeps : (legs : List OrigLeg) → KeepsOwner (at_next_group legs)
 next_keeps legs o = by (may_enter_next o)
@@ -332,7 +333,7 @@ dials_owned : (slot : ℕ) (c : Chan) (groups : List (List LegPlan)) (timeout : 
 dials_owned slot c groups timeout s there works apt room h =
     tried (group_made plans (caller_of c) (next_orig_number s) s) (made_next plans (caller_of c) s room).0
     (made_next plans (caller_of c) s room).1
-    (group_made_kept (λ b t. chan_at t slot ≡ Some c) (spared_births slot c) plans (caller_of c) (next_orig_number s) {n = 0} {s = s} there)
+    (group_made_kept (λ b t. chan_at t slot ≡ Some c) (spared_births slot c) plans (caller_of c) (next_orig_number s) {s = s} there)
     (made_owned plans (caller_of c) (next_orig_number s) s h)
   where
     plans : List LegPlan
@@ -482,8 +483,8 @@ module _ (before : Switch) (stand : LegsStand (roles_of before)) (bonding : Kept
       owned = hung_owned named s h.bonds h.owned;
       room = tt;
     };
-    joined = λ kind a b c d {n = n} {s = s} can one two lone alone first second was were h. record {
-      bonds = bonding.calls.joined kind a b c d {n = n} {s = s} can one two lone alone first second
+    joined = λ kind a b c d {s = s} can one two lone alone first second was were h. record {
+      bonds = bonding.calls.joined kind a b c d {s = s} can one two lone alone first second
           (apart_by a was (λ t k. k.bonds)) (apart_by b were (λ t k. k.bonds)) h.bonds;
       owned = joined_owned kind a b c d s one two first second h.owned;
       room = tt;
@@ -553,6 +554,17 @@ module _ (before : Switch) (stand : LegsStand (roles_of before)) (bonding : Kept
   conn_owned : (change : Conn → Conn) (conn : ℕ) (s : Switch) → Owned (roles_of s) → Owned (roles_of (conn_changed change conn s))
   conn_owned change conn s h = subst Owned (sym (conn_roles change conn s)) h
 
+  -- no origination is left
+  nothing_owned : (r : Roles) (count : ℕ) → Owned r → Owned (record r { origs = no_seats {T = Numbered Orig} count })
+  nothing_owned r count h = record {
+    distinct = none_distinct Orig count;
+    within = none_within Orig count r.drawn;
+    wait = λ slot number o there owned. absurd (none-some o (sym (no_rows count number) ∙ there));
+    own = λ slot number c o there waits is. absurd (none-some o (sym (no_rows count number) ∙ is));
+    drawn = h.drawn;
+    lone = h.lone;
+  }
+
   owning_api : (by : Giver) → KeptByApi by Bonding → KeptByApi by Owning
   owning_api by bonds = record {
     spent = λ {s = s} h. record { bonds = bonds.spent {s = s} h.bonds; owned = h.owned; room = tt };
@@ -565,6 +577,11 @@ module _ (before : Switch) (stand : LegsStand (roles_of before)) (bonding : Kept
     originates = λ groups winner caller timeout {s = s} may are short room h. record {
       bonds = bonds.originates groups winner caller timeout {s = s} (goes_on_by Owning Bonding by s may (λ t k. k.bonds)) are short room h.bonds;
       owned = originates_owned by groups winner caller timeout s h.room h.owned;
+      room = tt;
+    };
+    ends = λ reply notice {s = s} dead h. record {
+      bonds = bonds.ends reply notice {s = s} dead h.bonds;
+      owned = nothing_owned (roles_of s) (length s.origs) h.owned;
       room = tt;
     };
   }
@@ -632,5 +649,10 @@ module _ (before : Switch) (stand : LegsStand (roles_of before)) (bonding : Kept
         room = tt;
       };
       left = λ conn {s = s} h. record { bonds = bonding.visits.left conn {s = s} h.bonds; owned = h.owned; room = tt };
+      halted = λ reply notice {s = s} dead h. record {
+        bonds = bonding.visits.halted reply notice {s = s} dead h.bonds;
+        owned = nothing_owned (roles_of s) (length s.origs) h.owned;
+        room = tt;
+      };
     };
   }

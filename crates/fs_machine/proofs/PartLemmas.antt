@@ -1,10 +1,10 @@
 -- What a connection parts for: its own command, or what others do.
-use Rattle.std.proofs.Common.{◌≡◌, ◌≢◌, ℕ, zero, suc, ◌+◌, Bool, true, false, if◌then◌else◌, List, [], ◌∷◌, Option, None, Some, unwrap_or, inl}
-use Rattle.std.proofs.Common.{refl, sym, ap, ◌∙◌}
+use Rattle.std.proofs.Common.{◌≡◌, ◌≢◌, ℕ, zero, suc, ◌+◌, Bool, true, false, if◌then◌else◌, List, [], ◌∷◌, Option, None, Some, unwrap_or}
+use Rattle.std.proofs.Common.{◌⊎◌, inl, inr, refl, sym, ap, ◌∙◌}
 use Rattle.std.specs.Option.{option_and_then}
 use Rattle.std.specs.Str.{bytes_eq}
 use Rattle.std.proofs.lemmas.Bool.{both_ways}
-use Rattle.std.proofs.lemmas.Option.{none-some}
+use Rattle.std.proofs.lemmas.Option.{same_Some, none-some}
 use Rattle.std.proofs.lemmas.Slice.Eq.{bytes_eq-Decides}
 use Rattle.fs_text.specs.Texts.{Text}
 use Rattle.fs_cmd.specs.Commands as command
@@ -37,6 +37,7 @@ use Rattle.fs_state.specs.declared.job.JobWork.{JobWork}
 use Rattle.fs_state.specs.declared.job.JobWork.TheVariants.{Sleep, Originate}
 use Rattle.fs_state.specs.Switch.{Switch, empty, conn_of, next_orig_number, next_job_number, is_full_of_jobs, with_new_job, at_moment}
 use Rattle.fs_state.specs.Switch.{with_next_identifier, chan_at, with_chan, slot_named}
+use Rattle.fs_state.specs.Ending.{ended}
 use Rattle.fs_state.specs.Hangups.{after_hangup}
 use Rattle.fs_machine.specs.declared.entry.Act.{Act}
 use Rattle.fs_machine.specs.declared.entry.Act.TheVariants as act
@@ -53,12 +54,12 @@ use Rattle.fs_machine.specs.Commands.{with_begun_told, after_background}
 use Rattle.fs_machine.specs.Commands.{queued_on, message_done, message_done_at, message_sent, command_done_in, command_done}
 use Rattle.fs_machine.specs.Done.{Done}
 use Rattle.fs_machine.specs.Step.{reads, new_conn, step}
-use Rattle.fs_machine.specs.Concerns.{KeepsPhase, KeepsOrParts}
+use Rattle.fs_machine.specs.Concerns.{is_its_own, KeepsPhase, IsParted, KeepsOrParts}
 use Rattle.fs_machine.proofs.Kept.{Fact, KeptByCalls, KeptByApi}
 use Rattle.fs_machine.proofs.ShortLemmas.{api_short}
-use Rattle.fs_machine.proofs.RestLemmas.{Rest, calls_by_rest, group_made_rest}
+use Rattle.fs_machine.proofs.RestLemmas.{Rest, calls_by_rest, group_made_rest, hung_rest}
 use Rattle.fs_machine.proofs.ActWalk.{done_kept}
-use Rattle.fs_machine.proofs.KeepLemmas.{row_changed, Settles, act_keeps}
+use Rattle.fs_machine.proofs.KeepLemmas.{row_changed, IsLeft, IsStopped, Settles, stop_settles, act_keeps}
 
 -- ---- a connection stays
 
@@ -85,13 +86,40 @@ changed_keeps change phase_stays parting_stays conn s = by (conn_of s conn) refl
 
 -- ---- others
 
-settled_keeps : (conn : ℕ) (s t : Switch) → Settles (conn_of s conn) (conn_of t conn) → KeepsPhase conn s t
-settled_keeps conn s t settles = record { phase = settles.phase; parting = settles.parting }
+-- one that settles stays or parts
+pub settled_parts : (conn : ℕ) (s t : Switch) → Settles (conn_of s conn) (conn_of t conn) → KeepsOrParts conn s t
+settled_parts conn s t settles = by settles.way
+  where
+    by : IsLeft (conn_of s conn) (conn_of t conn) ⊎ IsStopped (conn_of s conn) (conn_of t conn) → KeepsOrParts conn s t
+    by (inl stays) = inl (record { phase = stays.phase; parting = stays.parting })
+    by (inr stops) =
+        inr (record { read = stops.read; ending = stops.ending; why = parting.Stopped; parting = stops.parting; others = refl })
+
+-- one that has parted reads no commands, so that it parts once
+parts_trans : (conn : ℕ) (s t u : Switch) → KeepsOrParts conn s t → KeepsOrParts conn t u → KeepsOrParts conn s u
+parts_trans conn s t u (inl first) (inl second) = inl (keeps_trans conn s t u first second)
+parts_trans conn s t u (inl first) (inr second) = inr (record {
+  read = sym (ap reads first.phase) ∙ second.read;
+  ending = second.ending;
+  why = second.why;
+  parting = second.parting;
+  others = second.others;
+})
+parts_trans conn s t u (inr first) (inl second) = inr (record {
+  read = first.read;
+  ending = second.phase ∙ first.ending;
+  why = first.why;
+  parting = second.parting ∙ first.parting;
+  others = first.others;
+})
+parts_trans conn s t u (inr first) (inr second) =
+    let none : reads phase.Ending ≡ true = sym (ap reads first.ending) ∙ second.read in absurd (cc none)
 
 -- an act of nobody
 abbrev pub IsOfNobody : Act → Type 0
 IsOfNobody (act.Work slot) = Unit {0}
 IsOfNobody (act.Job number) = Unit {0}
+IsOfNobody act.Halt = Unit {0}
 IsOfNobody _ = ⊥
 
 -- it keeps a connection in its phase, or parts it
@@ -99,11 +127,14 @@ pub others_part : (conn moment : ℕ) (a : Act) (s : Switch) → IsOfNobody a �
     KeepsOrParts conn s (step s (record { moment = moment; act = a })).state
 unfolding step
 others_part conn moment (act.Work slot) s such =
-    inl (settled_keeps conn s (step s (record { moment = moment; act = act.Work slot })).state
-    ((act_keeps (act.Work slot) (at_moment moment s)).others conn (none-some conn)))
+    settled_parts conn s (step s (record { moment = moment; act = act.Work slot })).state
+    ((act_keeps (act.Work slot) (at_moment moment s)).others conn (none-some conn))
 others_part conn moment (act.Job number) s such =
-    inl (settled_keeps conn s (step s (record { moment = moment; act = act.Job number })).state
-    ((act_keeps (act.Job number) (at_moment moment s)).others conn (none-some conn)))
+    settled_parts conn s (step s (record { moment = moment; act = act.Job number })).state
+    ((act_keeps (act.Job number) (at_moment moment s)).others conn (none-some conn))
+others_part conn moment act.Halt s such =
+    settled_parts conn s (step s (record { moment = moment; act = act.Halt })).state
+    ((act_keeps act.Halt (at_moment moment s)).others conn (none-some conn))
 others_part conn moment act.Arrive s such = absurd such
 others_part conn moment (act.Command giver block) s such = absurd such
 others_part conn moment (act.Take taker) s such = absurd such
@@ -118,44 +149,47 @@ take_keeps conn moment taker s = record { phase = refl; parting = refl }
 -- ---- api commands
 
 abbrev KeepsFrom : ℕ → Switch → Fact
-KeepsFrom conn s b t = KeepsPhase conn s t
+KeepsFrom conn s b t = KeepsOrParts conn s t
 
 module _ (conn : ℕ) (s : Switch) where
   calls_keep : KeptByCalls (KeepsFrom conn s)
   calls_keep =
       calls_by_rest (KeepsFrom conn s)
-      (λ b t u h same. keeps_trans conn s t u h (keeps_same conn t u (ap (λ (r : Rest). row_of r.conns conn) same))) (λ t h. h)
+      (λ b t u h same. parts_trans conn s t u h (inl (keeps_same conn t u (ap (λ (r : Rest). row_of r.conns conn) same)))) (λ t h. h)
 
-  owing_keeps : (work : JobWork) (t : Switch) → KeepsPhase conn s t → KeepsPhase conn s (after_job_begin (giver.Conn conn) work t)
+  owing_keeps : (work : JobWork) (t : Switch) → KeepsOrParts conn s t → KeepsOrParts conn s (after_job_begin (giver.Conn conn) work t)
   owing_keeps work t h =
       let begun : Switch = with_new_job (record { asker = asker.Conn conn; work = work }) t in
-      keeps_trans conn s t (after_job_begin (giver.Conn conn) work t) h
-      (keeps_trans conn t begun (after_job_begin (giver.Conn conn) work t) (keeps_same conn t begun refl)
-      (changed_keeps (owed_since t.entries) (λ c. refl) (λ c. refl) conn begun))
+      parts_trans conn s t (after_job_begin (giver.Conn conn) work t) h
+      (inl (keeps_trans conn t begun (after_job_begin (giver.Conn conn) work t) (keeps_same conn t begun refl)
+      (changed_keeps (owed_since t.entries) (λ c. refl) (λ c. refl) conn begun)))
 
   originates_keeps : (groups : List (List LegPlan)) (winner : Winner) (caller : Caller) (timeout : Option ℕ) (t : Switch) →
-      KeepsPhase conn s t → KeepsPhase conn s (originate_begun (giver.Conn conn) groups winner caller timeout t)
+      KeepsOrParts conn s t → KeepsOrParts conn s (originate_begun (giver.Conn conn) groups winner caller timeout t)
   originates_keeps groups winner caller timeout t h =
       let made : MadeGroup = group_made (first_group groups) caller (next_orig_number t) t in
       let begun : Switch =
       orig_begun (owner.Job (next_job_number made.state)) groups made.legs (unwrap_or timeout 60) made.state in
       owing_keeps (Originate (next_orig_number t) winner caller) begun
-      (keeps_trans conn s t begun h
-      (keeps_same conn t begun
-      (ap (λ (r : Rest). row_of r.conns conn) (group_made_rest (first_group groups) caller (next_orig_number t) t))))
+      (parts_trans conn s t begun h
+      (inl (keeps_same conn t begun
+      (ap (λ (r : Rest). row_of r.conns conn) (group_made_rest (first_group groups) caller (next_orig_number t) t)))))
 
   api_keeps : KeptByApi (giver.Conn conn) (KeepsFrom conn s)
   api_keeps = record {
     spent = λ h. h;
-    draws = λ {s = t} h. keeps_trans conn s t (with_next_identifier t) h (keeps_same conn t (with_next_identifier t) refl);
+    draws = λ {s = t} h. parts_trans conn s t (with_next_identifier t) h (inl (keeps_same conn t (with_next_identifier t) refl));
     sleeps = λ until {s = t} may room h. owing_keeps (Sleep until) t h;
     originates = λ groups winner caller timeout {s = t} may are short room h. originates_keeps groups winner caller timeout t h;
+    ends = λ reply notice {s = t} dead h. parts_trans conn s t (ended reply notice t) h
+        (settled_parts conn t (ended reply notice t) (stop_settles reply notice t conn));
   }
 
-  -- they leave the connection that gives them as it is
-  done_keeps : (text : Text) → KeepsPhase conn s (done_by (giver.Conn conn) (api_of text) s).state
-  done_keeps text =
-      done_kept (giver.Conn conn) (KeepsFrom conn s) calls_keep api_keeps (api_of text) {s = s} tt (api_short text) (keeps_same conn s s refl)
+  -- they leave the connection that gives them as it is, or part it by the end of the switch
+  done_parts : (text : Text) → KeepsOrParts conn s (done_by (giver.Conn conn) (api_of text) s).state
+  done_parts text =
+      done_kept (giver.Conn conn) (KeepsFrom conn s) calls_keep api_keeps (api_of text) {s = s} tt (api_short text)
+      (inl (keeps_same conn s s refl))
 
 -- ---- a command of its own
 
@@ -177,6 +211,26 @@ unparted conn given s t none = record {
 
 keeps_unparted : (conn : ℕ) (given : Command) (s t : Switch) → parting_at s conn ≡ None → KeepsPhase conn s t → CommandParts conn given s t
 keeps_unparted conn given s t none keeps = unparted conn given s t (keeps.parting ∙ none)
+
+-- it has parted, but not by its own doing
+others_parted : (conn : ℕ) (given : Command) (s t : Switch) → IsParted conn s t → CommandParts conn given s t
+others_parted conn given s t parts = record {
+  reads_on = λ reading. let none : reads phase.Ending ≡ true = ap reads (sym parts.ending) ∙ reading in absurd (cc none);
+  exit = λ is. absurd (apart parting.Exit refl is);
+  refused = λ is. absurd (apart parting.AuthRefused refl is);
+  hears = λ is. apart parting.EndOfInput refl is;
+}
+  where
+    apart : (why : Parting) → is_its_own why ≡ true → parting_at t conn ≡ Some why → ⊥
+    apart why own is =
+        let same : why ≡ parts.why = same_Some why parts.why (sym is ∙ parts.parting) in
+        both_ways (is_its_own why) (ap is_its_own same ∙ parts.others) own
+
+-- it stays, or it has parted so
+parts_unparted : (conn : ℕ) (given : Command) (s t : Switch) → parting_at s conn ≡ None → KeepsOrParts conn s t →
+    CommandParts conn given s t
+parts_unparted conn given s t none (inl keeps) = keeps_unparted conn given s t none keeps
+parts_unparted conn given s t none (inr parts) = others_parted conn given s t parts
 
 -- the password opens the way
 admitted_unparted : (conn : ℕ) (s : Switch) → parting_at s conn ≡ None → parting_at (conn_changed admitted conn s) conn ≡ None
@@ -263,9 +317,11 @@ subscribed_keeps conn Plain names s = asked_keeps conn _ _ s
 subscribed_keeps conn Json names s = replied_keeps conn format_unsupported s
 subscribed_keeps conn Xml names s = replied_keeps conn format_unsupported s
 
-responded_keeps : (conn : ℕ) (answer : Option Text) (s t : Switch) → KeepsPhase conn s t → KeepsPhase conn s (with_response_of conn answer t)
-responded_keeps conn None s t keeps = keeps
-responded_keeps conn (Some answer) s t keeps = keeps_trans conn s t (with_response_of conn (Some answer) t) keeps (keeps_same conn t _ refl)
+responded_parts : (conn : ℕ) (answer : Option Text) (s t : Switch) → KeepsOrParts conn s t →
+    KeepsOrParts conn s (with_response_of conn answer t)
+responded_parts conn None s t keeps = keeps
+responded_parts conn (Some answer) s t keeps =
+    parts_trans conn s t (with_response_of conn (Some answer) t) keeps (inl (keeps_same conn t _ refl))
 
 queued_keeps : (conn : ℕ) (uuid : Text) (message : Action) (slot : ℕ) (found : Option Chan) (s : Switch) →
     KeepsPhase conn s (queued_on conn uuid message slot found s)
@@ -281,7 +337,7 @@ message_keeps conn uuid (Execute application argument) slot s =
 message_keeps conn uuid (Hangup cause) slot s =
     let hung : Switch = after_hangup cause slot s in
     let keeps : KeepsPhase conn s hung =
-    (calls_keep conn s).hung ((slot, cause) ∷ []) {s = s} (keeps_same conn s s refl) (keeps_same conn s s refl) in
+    keeps_same conn s hung (ap (λ (r : Rest). row_of r.conns conn) (hung_rest ((slot, cause) ∷ []) s)) in
     keeps_trans conn s hung (with_reply conn message_taken hung) keeps (keeps_same conn hung (with_reply conn message_taken hung) refl)
 message_keeps conn uuid BadCall slot s = replied_keeps conn invalid_call s
 
@@ -317,7 +373,7 @@ commanded_parts conn phase.Ready (command.Auth word) s reading at none =
 commanded_parts conn phase.Ready command.Exit s reading at none = dismisses conn s (ap reads at ∙ reading)
 commanded_parts conn phase.Ready (command.Api text) s reading at none =
     let done : Done = done_by (giver.Conn conn) (api_of text) s in
-    keeps_unparted conn (command.Api text) s _ none (responded_keeps conn done.reply s done.state (done_keeps conn s text))
+    parts_unparted conn (command.Api text) s _ none (responded_parts conn done.reply s done.state (done_parts conn s text))
 commanded_parts conn phase.Ready (command.Event form names) s reading at none =
     keeps_unparted conn (command.Event form names) s _ none (subscribed_keeps conn form names s)
 commanded_parts conn phase.Ready (command.Nixevent names) s reading at none =

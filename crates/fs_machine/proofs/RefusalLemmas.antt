@@ -5,7 +5,7 @@ use Rattle.fs_chan.specs.declared.due.Due.TheVariants.{Now, At}
 use Rattle.fs_state.specs.Switch.{Switch, waiting_for, is_full_of_conns, at_moment}
 use Rattle.fs_machine.specs.declared.entry.Entry.{Entry}
 use Rattle.fs_machine.specs.declared.entry.Act.{Act}
-use Rattle.fs_machine.specs.declared.entry.Act.TheVariants.{Arrive, Command, Take, Close, Work, Job}
+use Rattle.fs_machine.specs.declared.entry.Act.TheVariants.{Arrive, Command, Take, Close, Work, Job, Halt}
 use Rattle.fs_machine.specs.declared.entry.Closing.{Closing}
 use Rattle.fs_machine.specs.declared.entry.Closing.TheVariants.{EndOfInput, Sent, Failed}
 use Rattle.fs_machine.specs.declared.refusal.Refusal.{Refusal}
@@ -63,8 +63,10 @@ not_closing conn Failed s cost limit =
 
 not_acting : (act : Act) (s : Switch) (cost limit : ℕ) → refused_act act s ≢ Some (refusal.JournalFull cost limit)
 not_acting Arrive s cost limit =
-    not_full (is_full_of_conns s) (refusal.TooMany (seats_for_conns s)) None cost limit (many (seats_for_conns s) cost limit)
-    (nothing cost limit)
+    not_full (is_some s.stopping) refusal.Gone (refused_where (is_full_of_conns s) (refusal.TooMany (seats_for_conns s)) None) cost limit
+    (gone cost limit)
+    (not_full (is_full_of_conns s) (refusal.TooMany (seats_for_conns s)) None cost limit (many (seats_for_conns s) cost limit)
+    (nothing cost limit))
 not_acting (Command conn block) s cost limit =
     not_full (not (reads (phase_at s conn))) refusal.Gone (busy (owed_to s conn)) cost limit (gone cost limit)
     (not_busy (owed_to s conn) cost limit)
@@ -75,6 +77,7 @@ not_acting (Take conn) s cost limit =
 not_acting (Close conn how) s cost limit = not_closing conn how s cost limit
 not_acting (Work slot) s cost limit = not_yet (slot_due slot s) cost limit
 not_acting (Job number) s cost limit = not_yet (job_due number s) cost limit
+not_acting Halt s cost limit = not_full (is_some s.stopping) refusal.Gone None cost limit (gone cost limit) (nothing cost limit)
 
 -- an entry that is refused so comes where the journal is full
 pub full_refused : (s : Switch) (entry : Entry) (cost limit : ℕ) → refusal_of s entry ≡ Some (refusal.JournalFull cost limit) →

@@ -61,6 +61,7 @@ pub record Rest : Type 0 where
   pub jobs_drawn : ℕ
   pub conns_drawn : ℕ
   pub moment : ℕ
+  pub stopping : Option ℕ
   pub entries : ℕ
   pub cost : ℕ
   pub counts : Tallies
@@ -78,6 +79,7 @@ rest_of s = record {
   jobs_drawn = s.drawn.jobs;
   conns_drawn = s.drawn.conns;
   moment = s.moment;
+  stopping = s.stopping;
   entries = s.entries;
   cost = s.cost;
   counts = s.counts;
@@ -129,7 +131,7 @@ peer_rest slot other s = by (chan_at s other)
     by None = refl
     by (Some c) = changed_rest (bridged (peer_of other c)) slot s
 
-joined_rest : (kind : BridgeKind) (caller answerer : ℕ) (s : Switch) → rest_of (joined_as kind caller answerer s) ≡ rest_of s
+pub joined_rest : (kind : BridgeKind) (caller answerer : ℕ) (s : Switch) → rest_of (joined_as kind caller answerer s) ≡ rest_of s
 joined_rest kind caller answerer s =
     let t : Switch = with_bridge caller answerer kind s in
     peer_rest answerer caller (with_peer caller answerer t) ∙ peer_rest caller answerer t
@@ -157,8 +159,8 @@ module _ (P : Fact) (same : (b : Stage) (t u : Switch) → P b t → rest_of u �
   calls_by_rest = record {
     touches = touches_by_rest;
     hung = λ named {s = s} early h. same (Some 0) s _ h (hung_rest named s);
-    joined = λ kind caller answerer c d {n = n} {s = s} can there other one two first second was were h.
-        same (Some n) s _ h (joined_rest kind caller answerer s);
+    joined = λ kind caller answerer c d {s = s} can there other one two first second was were h.
+        same (Some 0) s _ h (joined_rest kind caller answerer s);
     leaves = λ one other {s = s} first second early h. same (Some 0) s _ h
         (both_left_kept (λ (t : Switch). rest_of t ≡ rest_of s) (λ named t k. hung_rest named t ∙ k) (λ slot t apart k. left_rest slot t ∙ k)
         one other s first second refl);
@@ -218,14 +220,14 @@ pub births_by_rest : (P : Fact) → ((b : Stage) (t u : Switch) → P b t → re
     ((t : Switch) → P None t → P (Some 0) t) → KeptByBirths P
 births_by_rest P same spent = record {
   spent = λ {s = s} h. spent s h;
-  pair = λ call orig a b {n = n} {s = s} short named first second h.
-      same (Some n) s (pair_made call orig a b s) h (pair_rest call orig a b s);
+  pair = λ call orig a b {s = s} short named first second h.
+      same (Some 0) s (pair_made call orig a b s) h (pair_rest call orig a b s);
 }
 
 pub group_made_rest : (plans : List LegPlan) (caller : Caller) (orig : ℕ) (s : Switch) →
     rest_of (group_made plans caller orig s).state ≡ rest_of s
 group_made_rest plans caller orig s =
-    group_made_kept (SameRest s) (births_by_rest (SameRest s) (λ b t u h e. e ∙ h) (λ t h. h)) plans caller orig {n = 0} {s = s} refl
+    group_made_kept (SameRest s) (births_by_rest (SameRest s) (λ b t u h e. e ∙ h) (λ t h. h)) plans caller orig {s = s} refl
 
 -- and an origination comes to them
 pub regrouped_rest : (number : ℕ) (plans : List LegPlan) (caller : Caller) (s : Switch) →

@@ -210,13 +210,21 @@ joining_short : (arguments : Text) → NamesShort (readings.uuid_bridge_of argum
 joining_short arguments =
     needs_short which.UuidBridge (λ other. api.UuidBridge (word_of arguments) (word_of other)) (behind_word arguments) (λ other. tt)
 
+controlling_short : (arguments : Text) → NamesShort (readings.fsctl_of arguments)
+controlling_short arguments = by (bytes_eq (word_of arguments) (codes "shutdown") && length (behind_word arguments) == 0)
+  where
+    by : (test : Bool) → NamesShort (if test then api.Shutdown else api.Usage which.Fsctl)
+    by true = tt
+    by false = tt
+
 -- whichever name it has
-command_short : (echoes expands creates gets sets hangs sleeps tries bridges dumps exists reads kills parks changes sends : Bool)
+command_short : (echoes expands creates controls gets sets hangs sleeps tries bridges dumps exists reads kills parks changes sends : Bool)
     (name arguments : Text) →
     NamesShort
     (if echoes then api.Echo arguments
     else (if expands then readings.needs which.Expand readings.expand_of arguments
     else (if creates then api.CreateUuid
+    else (if controls then readings.fsctl_of arguments
     else (if gets then readings.global_getvar_of arguments
     else (if sets then readings.needs which.GlobalSetvar readings.global_setvar_of arguments
     else (if hangs then readings.hupall_of arguments
@@ -230,44 +238,46 @@ command_short : (echoes expands creates gets sets hangs sleeps tries bridges dum
     else (if parks then readings.needs which.UuidPark readings.uuid_park_of arguments
     else (if changes then readings.needs which.UuidSetvar readings.uuid_setvar_of arguments
     else (if sends then transfers.uuid_transfer_of arguments
-    else api.Unknown name))))))))))))))))
-command_short true expands creates gets sets hangs sleeps tries bridges dumps exists reads kills parks changes sends name arguments =
+    else api.Unknown name)))))))))))))))))
+command_short true expands creates controls gets sets hangs sleeps tries bridges dumps exists reads kills parks changes sends name arguments =
     tt
-command_short false true creates gets sets hangs sleeps tries bridges dumps exists reads kills parks changes sends name arguments =
+command_short false true creates controls gets sets hangs sleeps tries bridges dumps exists reads kills parks changes sends name arguments =
     needs_short which.Expand readings.expand_of arguments expanding_short
-command_short false false true gets sets hangs sleeps tries bridges dumps exists reads kills parks changes sends name arguments =
+command_short false false true controls gets sets hangs sleeps tries bridges dumps exists reads kills parks changes sends name arguments =
     tt
-command_short false false false true sets hangs sleeps tries bridges dumps exists reads kills parks changes sends name arguments =
+command_short false false false true gets sets hangs sleeps tries bridges dumps exists reads kills parks changes sends name arguments =
+    controlling_short arguments
+command_short false false false false true sets hangs sleeps tries bridges dumps exists reads kills parks changes sends name arguments =
     getting_short arguments
-command_short false false false false true hangs sleeps tries bridges dumps exists reads kills parks changes sends name arguments =
+command_short false false false false false true hangs sleeps tries bridges dumps exists reads kills parks changes sends name arguments =
     needs_short which.GlobalSetvar readings.global_setvar_of arguments (λ text. tt)
-command_short false false false false false true sleeps tries bridges dumps exists reads kills parks changes sends name arguments =
+command_short false false false false false false true sleeps tries bridges dumps exists reads kills parks changes sends name arguments =
     hanging_short arguments
-command_short false false false false false false true tries bridges dumps exists reads kills parks changes sends name arguments =
+command_short false false false false false false false true tries bridges dumps exists reads kills parks changes sends name arguments =
     sleeping_short (read_u64 (word_of arguments))
-command_short false false false false false false false true bridges dumps exists reads kills parks changes sends name arguments =
+command_short false false false false false false false false true bridges dumps exists reads kills parks changes sends name arguments =
     originate_short arguments
-command_short false false false false false false false false true dumps exists reads kills parks changes sends name arguments =
+command_short false false false false false false false false false true dumps exists reads kills parks changes sends name arguments =
     needs_short which.UuidBridge readings.uuid_bridge_of arguments joining_short
-command_short false false false false false false false false false true exists reads kills parks changes sends name arguments =
+command_short false false false false false false false false false false true exists reads kills parks changes sends name arguments =
     needs_short which.UuidDump readings.uuid_dump_of arguments (λ text. tt)
-command_short false false false false false false false false false false true reads kills parks changes sends name arguments =
+command_short false false false false false false false false false false false true reads kills parks changes sends name arguments =
     needs_short which.UuidExists readings.uuid_exists_of arguments (λ text. tt)
-command_short false false false false false false false false false false false true kills parks changes sends name arguments =
+command_short false false false false false false false false false false false false true kills parks changes sends name arguments =
     needs_short which.UuidGetvar readings.uuid_getvar_of arguments reading_short
-command_short false false false false false false false false false false false false true parks changes sends name arguments =
+command_short false false false false false false false false false false false false false true parks changes sends name arguments =
     needs_short which.UuidKill readings.uuid_kill_of arguments (λ text. tt)
-command_short false false false false false false false false false false false false false true changes sends name arguments =
+command_short false false false false false false false false false false false false false false true changes sends name arguments =
     needs_short which.UuidPark readings.uuid_park_of arguments (λ text. tt)
-command_short false false false false false false false false false false false false false false true sends name arguments =
+command_short false false false false false false false false false false false false false false false true sends name arguments =
     needs_short which.UuidSetvar readings.uuid_setvar_of arguments setting_short
-command_short false false false false false false false false false false false false false false false true name arguments =
+command_short false false false false false false false false false false false false false false false false true name arguments =
     transferring_short arguments
-command_short false false false false false false false false false false false false false false false false name arguments = tt
+command_short false false false false false false false false false false false false false false false false false name arguments = tt
 
 named_short : (name arguments : Text) → NamesShort (api_named name arguments)
 unfolding api_named
-named_short name arguments = command_short _ _ _ _ _ _ _ _ _ _ _ _ _ _ _ _ name arguments
+named_short name arguments = command_short _ _ _ _ _ _ _ _ _ _ _ _ _ _ _ _ _ name arguments
 
 pub api_short : (text : Text) → NamesShort (api_of text)
 api_short text = named_short (word_of (without_spaces text)) (behind_word (without_spaces text))

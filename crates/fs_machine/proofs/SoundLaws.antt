@@ -29,6 +29,7 @@ use Rattle.fs_machine.proofs.SoundLemmas.{partners_agree, live_has_partner, prof
 use Rattle.fs_machine.proofs.SoundLemmas.{run_legs_undecided, failures_are_told, run_rows_agree, run_waits_bridged, owners_wait}
 use Rattle.fs_machine.proofs.OwedLaws.{run_is_owed}
 use Rattle.fs_machine.proofs.OutboxMoves.{events_are_few}
+use Rattle.fs_machine.proofs.StillMoves.{stopped_is_over, is_still}
 
 -- the state behind every run is
 pub sound_run : (config : Configuration) (entries : List Entry) → IsWithin config → IsRunFrom (empty config) entries →
@@ -46,6 +47,7 @@ sound_run config entries within run = record {
   owners = owners_wait config entries within run;
   owed = run_is_owed config entries within run;
   events = events_are_few config entries within run;
+  still = λ stops. is_still (run_from (empty config) entries) (stopped_is_over config entries run stops);
   numbers = number_left (run_from (empty config) entries) (standing_run config entries within run);
 }
 

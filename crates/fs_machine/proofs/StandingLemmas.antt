@@ -3,8 +3,8 @@ use Rattle.std.proofs.lemmas.List.{length-map}
 use Rattle.fs_seats.proofs.TableLemmas.{taken_in, row_found, none_held}
 use Rattle.fs_machine.proofs.OwedBooks.{trying_in, books_of, SlotsAreFew}
 use Rattle.fs_machine.proofs.OwedLemmas.{trying_most}
-use Rattle.fs_machine.proofs.OwedTables.{by_job, of_slot, owned_at, owned_in, none_owned}
-use Rattle.fs_machine.proofs.TrialMoves.{trials_of, AreApart}
+use Rattle.fs_machine.proofs.OwedTables.{by_job, owned_at, owned_in}
+use Rattle.fs_machine.proofs.TrialMoves.{trials_of, AreApart, none_apart}
 use Rattle.fs_machine.proofs.AwaitedLemmas.{Awaits}
 use Rattle.fs_machine.proofs.AwaitedMoves.{awaited_moves}
 use Rattle.fs_machine.proofs.KnownMoves.{Known, known_moves, jobs_apart, fresh_number, room_there, room_for_job}
@@ -14,12 +14,11 @@ use Rattle.fs_machine.proofs.BerthLemmas.{Berthed}
 use Rattle.fs_machine.proofs.BerthMoves.{berthing_moves}
 use Rattle.std.proofs.Common.{refl, ◌≡◌, ℕ, ◌+◌, ◌-◌, ◌*◌, ◌^◌, ◌<◌, ◌≤◌, min, true, List, [], ◌∷◌, length, None, Some, sym, ap, subst}
 use Rattle.std.proofs.Common.{option_and_then, ◌∙◌, arith}
-use Rattle.std.proofs.lemmas.Bool.{both_ways, lt-ltb, ltb-false}
+use Rattle.std.proofs.lemmas.Bool.{lt-ltb, ltb-false}
 use Rattle.std.proofs.lemmas.Option.{none-some}
 use Rattle.fs_bridge.specs.Bridges.{no_bridges, has_number_left}
 use Rattle.fs_bridge.specs.Laws.{IsSound}
 use Rattle.fs_machine.specs.declared.entry.Act.{Act}
-use Rattle.fs_seats.specs.Rows.{has_number}
 use Rattle.fs_machine.proofs.BondRows.{RowsFit}
 use Rattle.fs_doc.specs.Limits.{IsWithin}
 use Rattle.fs_doc.specs.Reading.{Configuration}
@@ -31,7 +30,6 @@ use Rattle.fs_seats.proofs.HeldLemmas.{nothing_held}
 use Rattle.fs_doc.specs.declared.settings.Settings.{Settings}
 use Rattle.fs_state.specs.Switch.{Switch, empty, chan_at, orig_of, at_moment}
 use Rattle.fs_state.specs.Moves.{partner_of}
-use Rattle.fs_state.proofs.LegTables.{Berth, berth_at, berth_number}
 use Rattle.fs_state.proofs.SlotLemmas.{no_seats_length}
 use Rattle.fs_machine.specs.declared.entry.Entry.{Entry}
 use Rattle.fs_machine.specs.Entries.{cost_of}
@@ -45,7 +43,7 @@ use Rattle.fs_machine.proofs.OrderLemmas.{acted_settings, acted_cost, not_full, 
 use Rattle.fs_machine.proofs.ActWalk.{acted_kept}
 use Rattle.fs_machine.proofs.PartnerMoves.{ArePaired, Partners, partners_moves}
 use Rattle.fs_machine.proofs.SeenLemmas.{seen, numbers_stay}
-use Rattle.fs_machine.proofs.LegLemmas.{roles_of, LegsStand}
+use Rattle.fs_machine.proofs.LegLemmas.{roles_of, LegsStand, no_legs}
 use Rattle.fs_machine.proofs.LegMoves.{Legs, legs_moves}
 use Rattle.fs_machine.proofs.BondTables.{Bonds}
 use Rattle.fs_machine.proofs.BondMoves.{bonds_moves}
@@ -53,6 +51,7 @@ use Rattle.fs_machine.proofs.OwnerLemmas.{Owned}
 use Rattle.fs_machine.proofs.OwnerMoves.{Owners, Owning, owners_of, owners_moves}
 use Rattle.fs_machine.proofs.SlotCounts.{few_slots}
 use Rattle.fs_machine.proofs.OwedSteps.{Holds, holds_empty, holds_step, few_drawn}
+use Rattle.fs_machine.proofs.StopLemmas.{none_distinct, none_within}
 
 -- what is owed, the legs of originations, bridges, whose originations there are, partners, what jobs try, who waits for what, which legs
 -- channels are, how many slots there are, and what each number of a bridge cost
@@ -99,24 +98,6 @@ nothing_paired config = record {
   zero = nothing_held Chan (config.settings.max_sessions + 1) 0;
 }
 
--- none stands in an empty table
-none_stands : (T : Type 0) (count number seat : ℕ) → has_number number (held_in (no_seats {T = Numbered T} count) seat) ≡ true → ⊥
-none_stands T count number seat stands =
-    both_ways (has_number number (held_in (no_seats {T = Numbered T} count) seat))
-    (ap (has_number number) (nothing_held (Numbered T) count seat)) stands
-
-none_berthed : (seat position : ℕ) (berth : Berth) → berth_at (no_seats {T = Numbered Orig} 1280) seat position ≡ Some berth → ⊥
-none_berthed seat position berth h =
-    none_stands Orig 1280 berth.number seat (berth_number position (held_in (no_seats {T = Numbered Orig} 1280) seat) berth h)
-
-nothing_stands : (config : Configuration) → LegsStand (roles_of (empty config))
-nothing_stands config = record {
-  distinct = λ number p q is_p is_q. absurd (none_stands Orig 1280 number p is_p);
-  within = λ number p is. absurd (none_stands Orig 1280 number p is);
-  stand = λ seat position berth has. absurd (none_berthed seat position berth has);
-  apart = λ seat p q berth first second. absurd (none_berthed seat p berth first);
-}
-
 no_chan : (config : Configuration) (slot : ℕ) (c : Chan) → chan_at (empty config) slot ≡ Some c → ⊥
 no_chan config slot c there = none-some c (sym (nothing_held Chan (config.settings.max_sessions + 1) slot) ∙ there)
 
@@ -154,8 +135,8 @@ nothing_bonded config = record {
 
 nothing_owned : (config : Configuration) → Owned (roles_of (empty config))
 nothing_owned config = record {
-  distinct = λ number p q is_p is_q. absurd (none_stands Orig 1280 number p is_p);
-  within = λ number p is. absurd (none_stands Orig 1280 number p is);
+  distinct = none_distinct Orig 1280;
+  within = none_within Orig 1280 0;
   wait = λ slot number o is owned. absurd (no_orig config number o is);
   own = λ slot number c o there waits is. absurd (no_chan config slot c there);
   drawn = λ slot number c there waits. absurd (no_chan config slot c there);
@@ -163,16 +144,12 @@ nothing_owned config = record {
 }
 
 nothing_tried : (config : Configuration) → AreApart (trials_of (empty config))
-nothing_tried config = record {
-  tried = λ q job number there tries. absurd (none_held 1024 q job there);
-  owned = λ p number there. absurd (none_owned of_slot 1280 p number there);
-  apart = λ q p number job there tries is. absurd (none_held 1024 q job there);
-}
+nothing_tried config = none_apart 1024 1280 0
 
 pub standing_empty : (config : Configuration) → IsWithin config → Standing (empty config)
 standing_empty config within = record {
   holds = holds_empty config within.settings.journal.1;
-  legs = nothing_stands config;
+  legs = no_legs (empty config).channels 1280 0;
   bonds = nothing_bonded config;
   owned = nothing_owned config;
   paired = nothing_paired config;

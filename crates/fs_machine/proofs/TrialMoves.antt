@@ -2,7 +2,7 @@
 use Rattle.fs_text.specs.Texts.{Text}
 use Rattle.fs_state.specs.declared.conn.Parting.TheVariants as parting
 use Rattle.fs_state.specs.declared.job.JobWork.TheVariants.{Run, Sleep, Originate}
-use Rattle.std.proofs.Common.{unwrap_or, ◌≡◌, ℕ, ◌+◌, ◌-◌, ◌^◌, ◌<◌, ◌≤◌, List, Option, None, Some, refl, sym, ap, subst, ◌∙◌, inl, inr}
+use Rattle.std.proofs.Common.{unwrap_or, ◌≡◌, ℕ, ◌+◌, ◌-◌, ◌^◌, ◌<◌, ◌≤◌, List, length, Option, None, Some, refl, sym, ap, subst, ◌∙◌, inl, inr}
 use Rattle.std.proofs.Common.{arith}
 use Rattle.std.proofs.lemmas.Option.{none-some, same_Some}
 use Rattle.fs_machine.specs.Texts.{made_text, failed_text}
@@ -13,7 +13,7 @@ use Rattle.fs_machine.specs.Bridging.{after_bridge_failure, after_bridge_win, ca
 use Rattle.fs_machine.proofs.Kept.{raced, KeptByApi, KeptByMoves, Stage}
 use Rattle.fs_machine.proofs.OwedLosses.{winning_loses, calls_by_losses, failure_loses, bridge_won_loses, regrouped_loses, Loses}
 use Rattle.fs_machine.proofs.OwedLosses.{moved_loses, group_loses}
-use Rattle.fs_machine.proofs.OwedTables.{owned_added, of_slot, owned_in, left_stood, untold_added}
+use Rattle.fs_machine.proofs.OwedTables.{owned_added, of_slot, owned_in, none_owned, left_stood, untold_added}
 use Rattle.fs_chan.specs.declared.chan.Chan.{Chan}
 use Rattle.fs_chan.specs.Bridging.{exported_pairs, awaiting}
 use Rattle.fs_chan.specs.Moments.{moment_after}
@@ -26,9 +26,9 @@ use Rattle.fs_orig.specs.declared.winner.Winner.{Winner}
 use Rattle.fs_orig.specs.Changes.{new_orig}
 use Rattle.fs_orig.specs.Plans.{all_behind}
 use Rattle.fs_seats.specs.declared.numbered.Numbered.{Numbered}
-use Rattle.fs_seats.specs.Seats.{held_in, with_held, least_free}
+use Rattle.fs_seats.specs.Seats.{no_seats, held_in, with_held, least_free}
 use Rattle.fs_seats.specs.Rows.{seat_of, with_held_at, with_new_row, without_row}
-use Rattle.fs_seats.proofs.TableLemmas.{IsWrittenOrKept, written_or_kept, kept_without}
+use Rattle.fs_seats.proofs.TableLemmas.{IsWrittenOrKept, written_or_kept, kept_without, none_held}
 use Rattle.fs_state.specs.declared.conn.Conn.{Conn}
 use Rattle.fs_state.specs.declared.job.Asker.{Asker}
 use Rattle.fs_state.specs.declared.job.Asker.TheVariants as asker
@@ -306,6 +306,16 @@ dials_trials slot c groups timeout s h =
         (subst (λ (n : ℕ). AreApart (record { jobs = t.jobs; owned = with_held (owned_in of_slot t.origs) p (Some n); drawn = n }))
         (sym next) (more_owned (trials_of t) p h))
 
+-- ---- nothing is left
+
+pub none_apart : (jobs origs drawn : ℕ) →
+    AreApart (record { jobs = no_seats jobs; owned = owned_in of_slot (no_seats origs); drawn = drawn })
+none_apart jobs origs drawn = record {
+  tried = λ q job number there tries. absurd (none_held jobs q job there);
+  owned = λ p number is. absurd (none_owned of_slot origs p number is);
+  apart = λ q p number job there tries is. none_held jobs q job there;
+}
+
 -- ---- every move
 
 trying_api : (by : Giver) → KeptByApi by Trying
@@ -314,6 +324,7 @@ trying_api by = record {
   draws = λ h. record { apart = h.apart; next = tt };
   sleeps = λ until {s = s} may room h. begun_trials by (Sleep until) s (λ number tries. absurd (none-some number tries)) h.apart;
   originates = λ groups winner caller timeout {s = s} may are short room h. originates_trials by groups winner caller timeout s h;
+  ends = λ reply notice {s = s} dead h. record { apart = none_apart (length s.jobs) (length s.origs) s.drawn.origs; next = tt };
 }
 
 pub trying_moves : (before : Switch) → KeptByMoves before Trying
@@ -358,5 +369,6 @@ trying_moves before = record {
     taken = λ conn h. record { apart = h.apart; next = tt };
     silent = λ conn {s = s} h. conn_trials (Some 0) (parted parting.EndOfInput) conn s h;
     left = λ conn h. record { apart = h.apart; next = tt };
+    halted = λ reply notice {s = s} dead h. record { apart = none_apart (length s.jobs) (length s.origs) s.drawn.origs; next = tt };
   };
 }

@@ -485,51 +485,51 @@ module _ (P : Fact) (births : KeptByBirths P) where
   either_made true x y first second = first
   either_made false x y first second = second
 
-  pair_kept : (call : Call) (orig : ℕ) {n : ℕ} {s : Switch} → IsShortCall call →
-      is_misnamed call.uuid s ≡ false → P (Some n) s → P (Some n) (made_in call orig (free_pair s) s).state
-  pair_kept call orig {n} {s} short named h = first (free_slot 1 s) refl
+  pair_kept : (call : Call) (orig : ℕ) {s : Switch} → IsShortCall call →
+      is_misnamed call.uuid s ≡ false → P (Some 0) s → P (Some 0) (made_in call orig (free_pair s) s).state
+  pair_kept call orig {s} short named h = first (free_slot 1 s) refl
     where
       second : (a : ℕ) → free_slot 1 s ≡ Some a → (found : Option ℕ) → free_slot (a + 1) s ≡ found →
-          P (Some n) (made_in call orig (option_map (λ b. (a, b)) found) s).state
+          P (Some 0) (made_in call orig (option_map (λ b. (a, b)) found) s).state
       second a is_a None is = h
       second a is_a (Some b) is =
           births.pair call orig a b short named (free_seat Chan s.channels 1 a is_a) (free_seat Chan s.channels (a + 1) b is) h
 
       first : (found : Option ℕ) → free_slot 1 s ≡ found →
-          P (Some n) (made_in call orig (option_and_then (with_second s) found) s).state
+          P (Some 0) (made_in call orig (option_and_then (with_second s) found) s).state
       first None is = h
       first (Some a) is = second a is (free_slot (a + 1) s) refl
 
-  with_kept : (exten context : Text) (vars : Option Variables) (caller : Caller) (orig : ℕ) {n : ℕ} {s : Switch} →
-      endpoints.IsShortAddress exten context → ((v : Variables) → vars ≡ Some v → AreLimited v) → P (Some n) s →
-      P (Some n) (made_with exten context vars caller orig s).state
+  with_kept : (exten context : Text) (vars : Option Variables) (caller : Caller) (orig : ℕ) {s : Switch} →
+      endpoints.IsShortAddress exten context → ((v : Variables) → vars ≡ Some v → AreLimited v) → P (Some 0) s →
+      P (Some 0) (made_with exten context vars caller orig s).state
   with_kept exten context None caller orig short limited h = h
-  with_kept exten context (Some vars) caller orig {n} {s} short limited h = by (is_misnamed (own_uuid vars) s) refl
+  with_kept exten context (Some vars) caller orig {s} short limited h = by (is_misnamed (own_uuid vars) s) refl
     where
       call : Call
       call = call_with exten context vars caller
 
       by : (test : Bool) → is_misnamed (own_uuid vars) s ≡ test →
-          P (Some n) (if test then made_dead NormalTemporaryFailure s else loopback_made call orig s).state
+          P (Some 0) (if test then made_dead NormalTemporaryFailure s else loopback_made call orig s).state
       by true is = h
       by false is =
           either_made (is_congested s) _ _ h (pair_kept call orig (record { address = short; vars = limited vars refl }) is h)
 
-  made_kept : (endpoint : Endpoint) (pairs : List (Text × Text)) (caller : Caller) (orig : ℕ) {n : ℕ} {s : Switch} →
-      endpoints.IsShortEndpoint endpoint → P (Some n) s →
-      P (Some n) (made_of endpoint pairs caller orig s).state
+  made_kept : (endpoint : Endpoint) (pairs : List (Text × Text)) (caller : Caller) (orig : ℕ) {s : Switch} →
+      endpoints.IsShortEndpoint endpoint → P (Some 0) s →
+      P (Some 0) (made_of endpoint pairs caller orig s).state
   made_kept (Dead cause) pairs caller orig short h = h
   made_kept (Loopback exten context) pairs caller orig short h =
       with_kept exten context (set_all pairs no_variables) caller orig short
       (λ vars is. set_all_limited pairs no_variables vars is none_limited) h
 
-  pub leg_made_kept : (plan : LegPlan) (caller : Caller) (orig : ℕ) {n : ℕ} {s : Switch} → P (Some n) s →
-      P (Some n) (leg_made plan caller orig s).state
+  pub leg_made_kept : (plan : LegPlan) (caller : Caller) (orig : ℕ) {s : Switch} → P (Some 0) s →
+      P (Some 0) (leg_made plan caller orig s).state
   unfolding leg_made
   leg_made_kept plan caller orig h = made_kept (endpoint_of plan.endpoint) plan.pairs caller orig (endpoint_short plan.endpoint) h
 
-  pub group_made_kept : (plans : List LegPlan) (caller : Caller) (orig : ℕ) {n : ℕ} {s : Switch} → P (Some n) s →
-      P (Some n) (group_made plans caller orig s).state
+  pub group_made_kept : (plans : List LegPlan) (caller : Caller) (orig : ℕ) {s : Switch} → P (Some 0) s →
+      P (Some 0) (group_made plans caller orig s).state
   group_made_kept [] caller orig h = h
-  group_made_kept (plan ∷ plans) caller orig {n} {s} h =
-      group_made_kept plans caller orig {n = n} {s = (leg_made plan caller orig s).state} (leg_made_kept plan caller orig h)
+  group_made_kept (plan ∷ plans) caller orig {s} h =
+      group_made_kept plans caller orig {s = (leg_made plan caller orig s).state} (leg_made_kept plan caller orig h)

@@ -1,12 +1,13 @@
 -- Each act keeps the texts short by which the winners of originations are to be routed.
-use Rattle.std.proofs.Common.{◌≡◌, ℕ, List, Option, None, Some, unwrap_or, refl, sym, ap, subst}
+use Rattle.std.proofs.Common.{◌≡◌, ℕ, List, length, Option, None, Some, unwrap_or, refl, sym, ap, subst}
 use Rattle.fs_text.specs.Texts.{Text}
 use Rattle.fs_orig.specs.declared.caller.Caller.{Caller}
 use Rattle.fs_orig.specs.declared.orig.Owner.TheVariants as owner
 use Rattle.fs_orig.specs.declared.plan.LegPlan.{LegPlan}
 use Rattle.fs_orig.specs.declared.winner.Winner.{Winner}
 use Rattle.fs_seats.specs.declared.numbered.Numbered.{Numbered}
-use Rattle.fs_seats.specs.Seats.{held_in, least_free}
+use Rattle.fs_seats.specs.Seats.{no_seats, held_in, least_free}
+use Rattle.fs_seats.proofs.HeldLemmas.{nothing_held}
 use Rattle.fs_seats.specs.Rows.{seat_of, with_new_row}
 use Rattle.fs_seats.proofs.RowLemmas.{each_put_at}
 use Rattle.fs_seats.proofs.TableLemmas.{row_found}
@@ -100,12 +101,17 @@ originates_winners by groups winner caller timeout s short h =
     short
     (rest_winners s made.state (group_made_rest (first_group groups) caller (next_orig_number s) s) h)
 
+-- where there is no job
+no_winners : (count : ℕ) → WinnersAreShort (no_seats {T = Numbered Job} count)
+no_winners count seat = subst ShortIn (sym (nothing_held (Numbered Job) count seat)) tt
+
 winners_api : (by : Giver) → KeptByApi by Winners
 winners_api by = record {
   spent = λ h. h;
   draws = λ h. h;
   sleeps = λ until {s = s} may room h. owing_winners by (Sleep until) s tt h;
   originates = λ groups winner caller timeout {s = s} may are short room h. originates_winners by groups winner caller timeout s short h;
+  ends = λ reply notice {s = s} dead h. no_winners (length s.jobs);
 }
 
 -- a job in the background has no winner yet
@@ -150,5 +156,6 @@ winners_moves before = record {
     silent = λ conn {s = s} h. same_winners s (conn_changed (parted parting.EndOfInput) conn s)
         (conn_jobs (parted parting.EndOfInput) conn s) h;
     left = λ conn h. h;
+    halted = λ reply notice {s = s} dead h. no_winners (length s.jobs);
   };
 }

@@ -7,7 +7,7 @@ use Rattle.fs_state.specs.declared.conn.Parting.TheVariants as parting
 use Rattle.fs_state.specs.Switch.{Switch, waiting_for}
 use Rattle.fs_machine.specs.declared.entry.Entry.{Entry}
 use Rattle.fs_machine.specs.declared.entry.Act.{Act}
-use Rattle.fs_machine.specs.declared.entry.Act.TheVariants.{Arrive, Command, Take, Close, Work, Job}
+use Rattle.fs_machine.specs.declared.entry.Act.TheVariants.{Arrive, Command, Take, Close, Work, Job, Halt}
 use Rattle.fs_machine.specs.Connections.{phase_at}
 use Rattle.fs_machine.specs.Questions.{owed_to, parting_at}
 use Rattle.fs_machine.specs.Step.{reads, is_closed, step}
@@ -21,6 +21,7 @@ actor_of (Take conn) = Some conn
 actor_of (Close conn how) = Some conn
 actor_of (Work slot) = None
 actor_of (Job number) = None
+actor_of Halt = None
 
 -- An act of its own, while it is open. What waited for it, and then what it is given, is what is handed out to it, and then what waits.
 -- If the act closes it, it is given nothing.
@@ -36,6 +37,7 @@ abbrev pub is_its_own : Parting → Bool
 is_its_own parting.Exit = true
 is_its_own parting.AuthRefused = true
 is_its_own parting.EndOfInput = true
+is_its_own parting.Stopped = false
 
 -- it stays in its phase, and has parted for what it had parted for
 pub record KeepsPhase (conn : ℕ) (s t : Switch) : Type 0 where

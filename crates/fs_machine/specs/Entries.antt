@@ -2,7 +2,7 @@
 use Rattle.std.specs.Prelude.{ℕ, ◌+◌, ◌-◌, ◌^◌, ◌≤◌, min, Bool, length, nat_lt}
 use Rattle.fs_state.specs.Switch.{Switch}
 use Rattle.fs_machine.specs.declared.entry.Act.{Act}
-use Rattle.fs_machine.specs.declared.entry.Act.TheVariants.{Arrive, Command, Take, Close, Work, Job}
+use Rattle.fs_machine.specs.declared.entry.Act.TheVariants.{Arrive, Command, Take, Close, Work, Job, Halt}
 
 -- what an entry costs: 64, and for a command the bytes of its block
 abbrev pub cost_of : Act → ℕ
@@ -12,6 +12,7 @@ cost_of (Take conn) = 64
 cost_of (Close conn how) = 64
 cost_of (Work slot) = 64
 cost_of (Job number) = 64
+cost_of Halt = 64
 
 -- the largest entry, of 65,600, would pass the limit
 abbrev pub is_full : Switch → Bool

@@ -15,6 +15,7 @@ pub mod Work
 pub mod Jobs
 pub mod Done
 pub mod Hangups
+pub mod Shutdown
 pub mod Joining
 pub mod Leaving
 pub mod Dumping

@@ -22,8 +22,10 @@ use Rattle.fs_orig.specs.Meaning.{IsWithCauses, IsLastToDie}
 use Rattle.fs_orig.specs.Verdicts.{verdict_of}
 use Rattle.fs_state.specs.Outboxes.{events_in}
 use Rattle.fs_state.specs.Posting.{most_events}
-use Rattle.fs_state.specs.Switch.{Switch, chan_at, bridge_at, orig_of, outgoing_for}
+use Rattle.fs_state.specs.Switch.{Switch, chan_at, bridge_at, orig_of, job_at, outgoing_for}
+use Rattle.fs_machine.specs.Connections.{phase_at}
 use Rattle.fs_machine.specs.Owed.{AreOwed}
+use Rattle.fs_machine.specs.Step.{reads}
 
 -- a live channel stands in a slot, and the one in another slot is its loopback partner
 pub record HasPartner (s : Switch) (slot other : ℕ) : Type 0 where
@@ -160,6 +162,12 @@ pub record OwnersWait (s : Switch) : Type 0 where
 pub record EventsAreFew (s : Switch) : Type 0 where
   pub each : (conn : ℕ) → events_in (outgoing_for s conn) ≤ most_events
 
+-- nothing goes on any more: no channel is live, there is no job, and no connection reads commands
+pub record IsStill (s : Switch) : Type 0 where
+  pub channels : (slot : ℕ) (c : Chan) → chan_at s slot ≡ Some c → is_live c ≡ false
+  pub jobs : (seat : ℕ) → job_at s seat ≡ None
+  pub conns : (conn : ℕ) → reads (phase_at s conn) ≡ false
+
 -- what holds of the state of every machine
 pub record IsSound (s : Switch) : Type 0 where
   pub partners : PartnersAgree s
@@ -174,5 +182,7 @@ pub record IsSound (s : Switch) : Type 0 where
   pub owners : OwnersWait s
   pub owed : AreOwed s
   pub events : EventsAreFew s
+  -- so it is once the switch has come to its end
+  pub still : is_some s.stopping ≡ true → IsStill s
   -- there is a number for one more bridge
   pub numbers : has_number_left s.bridges ≡ true

@@ -16,7 +16,7 @@ use Rattle.fs_state.specs.Switch.{Switch, with_new_conn, without_conn, with_fram
 use Rattle.fs_state.specs.Switch.{at_moment, after_entry}
 use Rattle.fs_machine.specs.declared.entry.Entry.{Entry}
 use Rattle.fs_machine.specs.declared.entry.Act.{Act}
-use Rattle.fs_machine.specs.declared.entry.Act.TheVariants.{Arrive, Command, Take, Close, Work, Job}
+use Rattle.fs_machine.specs.declared.entry.Act.TheVariants.{Arrive, Command, Take, Close, Work, Job, Halt}
 use Rattle.fs_machine.specs.declared.entry.Closing.{Closing}
 use Rattle.fs_machine.specs.declared.entry.Closing.TheVariants.{EndOfInput, Sent, Failed}
 use Rattle.fs_machine.specs.declared.reply.Reply.{Reply}
@@ -30,6 +30,7 @@ use Rattle.fs_machine.specs.Due.{slot_due, job_due}
 use Rattle.fs_machine.specs.Work.{after_work}
 use Rattle.fs_machine.specs.Jobs.{job_done}
 use Rattle.fs_machine.specs.Commands.{command_done}
+use Rattle.fs_machine.specs.Shutdown.{after_shutdown}
 
 -- ---- refusals
 
@@ -95,15 +96,24 @@ refused_command conn s = refused_where (not (reads (phase_at s conn))) refusal.G
 abbrev pub seats_for_conns : Switch → ℕ
 seats_for_conns s = min (length s.conns) (2 ^ 16 - 1)
 
+-- nobody comes, and nobody stops it, once the switch has come to its end
+abbrev pub refused_at_end : Switch → Option Refusal → Option Refusal
+refused_at_end s otherwise = refused_where (is_some s.stopping) refusal.Gone otherwise
+
+-- why nobody can come
+abbrev pub refused_arrival : Switch → Option Refusal
+refused_arrival s = refused_at_end s (refused_where (is_full_of_conns s) (refusal.TooMany (seats_for_conns s)) None)
+
 -- why an act is refused
 abbrev pub refused_act : Act → Switch → Option Refusal
-refused_act Arrive s = refused_where (is_full_of_conns s) (refusal.TooMany (seats_for_conns s)) None
+refused_act Arrive s = refused_arrival s
 refused_act (Command conn block) s = refused_command conn s
 refused_act (Take conn) s =
     refused_where (is_closed (phase_at s conn)) refusal.Gone (refused_where (length (waiting_for s conn) == 0) refusal.Empty None)
 refused_act (Close conn how) s = refused_close conn how s
 refused_act (Work slot) s = not_due (slot_due slot s)
 refused_act (Job number) s = not_due (job_due number s)
+refused_act Halt s = refused_at_end s None
 
 -- the first refusal of an entry
 unfoldable pub refusal_of : Switch → Entry → Option Refusal
@@ -159,6 +169,7 @@ act_done (Take conn) s = taken conn s
 act_done (Close conn how) s = record { state = after_close how conn s; reply = reply.Closed }
 act_done (Work slot) s = record { state = after_work slot s; reply = reply.Worked }
 act_done (Job number) s = record { state = job_done number s; reply = reply.Worked }
+act_done Halt s = record { state = after_shutdown s; reply = reply.Halted }
 
 -- the state behind an entry, and its reply: its act is done, and its events are posted; defined also for what is refused
 unfoldable pub step : Switch → Entry → Acted

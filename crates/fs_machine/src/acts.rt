@@ -11,6 +11,7 @@ use crate::entry::{Act, Closing};
 use crate::jobs::do_job;
 use crate::questions::owed_to;
 use crate::reply::Reply;
+use crate::shutdown::shut_down;
 use crate::work::work;
 use fs_cmd::{Command, auth_request};
 use fs_filter::SharedSubs;
@@ -45,6 +46,10 @@ pub(crate) fn do_act(draft: &mut Draft<'_>, dialplan: &Dialplan, act: &Act) -> R
         Act::Job { job } => {
             do_job(draft, *job)?;
             Ok(Reply::Worked)
+        }
+        Act::Halt => {
+            shut_down(draft)?;
+            Ok(Reply::Halted)
         }
     }
 }

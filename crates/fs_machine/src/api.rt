@@ -22,6 +22,7 @@ use crate::hangups::hang_up_everyone;
 use crate::joining::bridge_channels;
 use crate::leaving::{Onward, send_channel};
 use crate::owing::{Giver, begin_job};
+use crate::shutdown::shut_down;
 use crate::texts::{api_not_found, failed_text, hupall_text, says, usage_text};
 use fs_api::{Api, usage};
 use fs_chan::{Chan, moment_after};
@@ -155,6 +156,7 @@ fn run_plainly(draft: &mut Draft<'_>, giver: &Giver, api: &Api) -> Result<Option
         Api::UuidGetvar { uuid, name } => get_variable(draft, uuid, name),
         Api::UuidDump { uuid } => dump_channel(draft, uuid),
         Api::Hupall { cause } => hang_up_all(draft, *cause),
+        Api::Shutdown => stop_switch(draft),
         Api::Originate {
             url,
             winner,
@@ -217,6 +219,16 @@ fn hang_up_all(draft: &mut Draft<'_>, cause: Cause) -> Result<Option<Txt>, Memor
     let reply = hupall_text(draft.alloc(), cause)?;
     hang_up_everyone(draft, cause)?;
     Ok(Some(reply))
+}
+
+// Lets the switch come to its end.
+#[tactic(auto, unfolding(crate::specs::Texts::ok))]
+fn stop_switch(draft: &mut Draft<'_>) -> Result<Option<Txt>, Memory>
+    ensures base { draft.new.base ≡ draft.old.base }
+    ensures done { IfOk result (ComesTo (spec.shutdown_done (drafted draft.old)) (drafted draft.new)) }
+{
+    shut_down(draft)?;
+    says(draft.alloc(), b"+OK\n")
 }
 
 // Draws an identifier.

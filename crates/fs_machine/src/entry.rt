@@ -40,6 +40,8 @@ pub enum Act {
     Work { slot: u16 },
     /// The job of a number does so.
     Job { job: u64 },
+    /// The switch comes to its end.
+    Halt,
 }
 
 /// How a connection comes to its end.
@@ -82,6 +84,7 @@ impl Act {
             },
             Act::Work { slot } => Act::Work { slot: *slot },
             Act::Job { job } => Act::Job { job: *job },
+            Act::Halt => Act::Halt,
         })
     }
 }

@@ -1,10 +1,10 @@
 //! What holds of every run. These functions do nothing: each stands for its contract.
 
-ghost use Rattle.std.specs.Prelude.{◌≡◌, ◌≢◌, ℕ, true, false, List, [], ◌∷◌, ◌++◌};
+ghost use Rattle.std.specs.Prelude.{◌≡◌, ◌≢◌, ℕ, true, false, List, [], ◌∷◌, ◌++◌, None, is_some};
 ghost use Rattle.fs_text.specs.Texts.{Text};
 ghost use Rattle.fs_doc.specs.Limits.{IsWithin};
 ghost use Rattle.fs_doc.specs.Reading.{Configuration};
-ghost use Rattle.fs_state.specs.Switch.{waiting_for, at_moment};
+ghost use Rattle.fs_state.specs.Switch.{chan_at, waiting_for, at_moment};
 ghost use Rattle.fs_machine.specs.declared.due.DueActor.TheVariants as actor;
 ghost use Rattle.fs_machine.specs.declared.entry.Entry.{Entry};
 ghost use Rattle.fs_machine.specs.BridgeEvents.{BridgesAreTold, EndsStandBehind, BridgesAreCounted, events_in};
@@ -65,6 +65,18 @@ pub fn identifiers_differ()
 pub fn runs_are_sound()
     ensures { (config : Configuration) (entries : List Entry) → IsWithin config → IsRun config entries
         → IsSound (state_after config entries) }
+{}
+
+/// In a run none of whose entries is refused a switch that has come to its end stays so by the same entry, and a slot that
+/// is empty then stays empty.
+pub fn stays_stopped()
+    ensures stopping { (config : Configuration) (entries more : List Entry)
+        → IsRun config (entries ++ more) → is_some (state_after config entries).stopping ≡ true
+        → (state_after config (entries ++ more)).stopping ≡ (state_after config entries).stopping }
+    ensures empty { (config : Configuration) (entries more : List Entry) (slot : ℕ)
+        → IsRun config (entries ++ more) → is_some (state_after config entries).stopping ≡ true
+        → chan_at (state_after config entries) slot ≡ None
+        → chan_at (state_after config (entries ++ more)) slot ≡ None }
 {}
 
 /// In every run, where the configuration keeps its limits, and at whatever moment, a channel whose origination is won

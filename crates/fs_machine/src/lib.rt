@@ -30,6 +30,7 @@ mod refusal;
 mod refused;
 mod replies;
 mod reply;
+mod shutdown;
 mod subscribing;
 mod terms;
 mod texts;
@@ -41,7 +42,7 @@ pub use journal::Journal;
 pub use laws::{
     bridges_are_counted, bridges_are_told, concerns_each_connection, ends_are_recorded,
     events_are_named, hands_out_what_it_gives, identifiers_differ, owes_to_its_jobs,
-    partners_agree, runs_are_sound, winners_can_join,
+    partners_agree, runs_are_sound, stays_stopped, winners_can_join,
 };
 pub use machine::{Change, Machine};
 pub use refusal::Refusal;

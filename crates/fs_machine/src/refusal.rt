@@ -10,7 +10,7 @@ use std::alloc::AllocError;
 pub enum Refusal {
     /// The journal's cost so far leaves no room for the largest entry.
     JournalFull { cost: u64, limit: u64 },
-    /// The connection reads no commands, or is not there.
+    /// The connection reads no commands, or is not there; or the switch has come to its end.
     Gone,
     /// As many connections as there may be are there.
     TooMany { live: u16 },

@@ -24,15 +24,28 @@ pub(crate) fn refused_act(seen: &Seen<'_>, act: &Act) -> Option<Refusal>
         Act::Close { conn, how } => refused_close(seen, *conn, *how),
         Act::Work { slot } => not_due(slot_due(seen, *slot)),
         Act::Job { job } => not_due(job_due(seen, *job)),
+        Act::Halt => refused_halt(seen),
     }
 }
 
 fn refused_arrival(seen: &Seen<'_>) -> Option<Refusal>
     ensures { result ≡ spec.refused_act act.Arrive seen.now }
 {
+    if seen.is_stopping() {
+        return Some(Refusal::Gone);
+    }
     if seen.is_full() {
         let live = seen.conn_seats().min(usize::from(u16::MAX)) as u16;
         return Some(Refusal::TooMany { live });
+    }
+    None
+}
+
+fn refused_halt(seen: &Seen<'_>) -> Option<Refusal>
+    ensures { result ≡ spec.refused_act act.Halt seen.now }
+{
+    if seen.is_stopping() {
+        return Some(Refusal::Gone);
     }
     None
 }

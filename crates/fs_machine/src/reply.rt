@@ -15,4 +15,6 @@ pub enum Reply {
     Closed,
     /// A channel or a job did what it had to do.
     Worked,
+    /// The switch has come to its end.
+    Halted,
 }

@@ -1,7 +1,7 @@
 //! Writes over a table.
 ghost use Rattle.std.specs.Prelude.{◌≡◌, [], ◌∷◌, ◌++◌, Option, Some, length, MatchOption, OnOk, OnErr};
 ghost use Rattle.std.specs.Option.{option_copied};
-ghost use Rattle.fs_seats.specs.Seats.{with_held};
+ghost use Rattle.fs_seats.specs.Seats.{no_seats, with_held};
 ghost use Rattle.fs_seats.specs.Sheets as spec;
 ghost use Rattle.fs_seats.specs.Overlays.{over, held_at, put_at, taken_back};
 ghost use Rattle.fs_seats.specs.declared.sheet.Write.{Write};
@@ -62,6 +62,18 @@ impl<T: Drop> Sheet<T> {
         ensures err { OnErr result (self.new ≡ self.old) }
     {
         self.put(seat, held)
+    }
+
+    /// Writes over a table: nothing is to stand at any seat.
+    #[tactic(auto, using(crate::proofs::EmptyLemmas::emptied_rules))]
+    pub fn clear_over(&mut self, kept: &Seats<T>) -> Result<(), Memory>
+        ensures ok { OnOk result (spec.written kept.now self.new ≡ no_seats (length kept.now)) }
+    {
+        self.writes.clear();
+        for seat in 0..kept.filled() {
+            self.put_over(kept, seat, None)?;
+        }
+        Ok(())
     }
 
     /// How many writes there are.

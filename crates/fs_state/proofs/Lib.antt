@@ -7,3 +7,4 @@ pub mod LegTables
 pub mod GiftLemmas
 pub mod HangupLemmas
 pub mod PostLemmas
+pub mod EndLemmas

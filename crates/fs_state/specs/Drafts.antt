@@ -22,6 +22,7 @@ after s d = record s {
   outboxes = outboxes_after d.outbox s.outboxes;
   drawn = d.drawn;
   moment = d.moment;
+  stopping = d.stopping;
   losses = unwrap_or d.losses s.losses;
   news = d.news;
   replies = d.replies;
@@ -30,7 +31,7 @@ after s d = record s {
   notices = d.notices;
 }
 
--- a change of nothing, whatever was drawn and whenever
+-- a change of nothing, whatever was drawn and whenever, and whether or not the switch came to its end
 abbrev pub IsBlank : Delta → Type 0
 IsBlank d = d ≡ record {
   globals = None;
@@ -42,6 +43,7 @@ IsBlank d = d ≡ record {
   outbox = Unchanged;
   drawn = d.drawn;
   moment = d.moment;
+  stopping = d.stopping;
   losses = None;
   news = [];
   replies = [];

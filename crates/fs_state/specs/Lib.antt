@@ -5,6 +5,7 @@ pub mod Frames
 pub mod Outboxes
 pub mod Switch
 pub mod Drafts
+pub mod Ending
 pub mod Moves
 pub mod Hangups
 pub mod Leaving

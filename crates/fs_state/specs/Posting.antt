@@ -124,6 +124,10 @@ job_headers job =
     ∷ (codes "Job-Command-Arg", behind_word (without_spaces job.command))
     ∷ []
 
+-- that the switch comes to its end
+abbrev pub shutdown_headers : Pairs
+shutdown_headers = (codes "Event-Info", codes "System Shutting Down") ∷ []
+
 -- what an event tells beside its channel
 abbrev pub detail_headers : Switch → Switch → Option ℕ → Detail → Pairs
 detail_headers before s subject detail.Plain = []
@@ -133,6 +137,7 @@ detail_headers before s subject (detail.Unbridge row cause) = bridge_headers bef
 detail_headers before s subject (detail.Hangup cause) = cause_header cause
 detail_headers before s subject detail.Report = report_headers (subject_told before s subject)
 detail_headers before s subject (detail.Job job answer) = job_headers job
+detail_headers before s subject detail.Shutdown = shutdown_headers
 
 -- what stands behind the headers of an event: the answer of a job
 abbrev pub body_in : Detail → Text

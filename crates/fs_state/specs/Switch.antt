@@ -1,5 +1,5 @@
 -- The state of a switch.
-use Rattle.std.specs.Prelude.{ℕ, ◌+◌, ◌-◌, ◌^◌, min, max, Bool, false, ◌&&◌, List, [], ◌∷◌, ◌++◌, position, Option, None, Some, is_none}
+use Rattle.std.specs.Prelude.{ℕ, ◌+◌, ◌-◌, ◌^◌, min, max, Bool, false, ◌&&◌, List, [], ◌∷◌, ◌++◌, length, position, Option, None, Some, is_none}
 use Rattle.std.specs.Prelude.{is_some}
 use Rattle.std.specs.Str.{bytes_eq}
 use Rattle.fs_text.specs.CoreId as core_id
@@ -165,6 +165,10 @@ with_orig number orig s = record s { origs = with_row s.origs number orig }
 abbrev pub without_orig : ℕ → Switch → Switch
 without_orig number s = record s { origs = without_row s.origs number }
 
+-- without any origination
+abbrev pub without_origs : Switch → Switch
+without_origs s = record s { origs = no_seats (length s.origs) }
+
 -- with one more origination, of the next number
 abbrev pub with_new_orig : Orig → Switch → Switch
 with_new_orig orig s = record s { drawn = numbers.with_orig s.drawn; origs = with_new_row s.origs (next_orig_number s) orig }
@@ -185,6 +189,10 @@ with_job number job s = record s { jobs = with_new_row s.jobs number job }
 abbrev pub with_new_job : Job → Switch → Switch
 with_new_job job s = record s { drawn = numbers.with_job s.drawn; jobs = with_new_row s.jobs (next_job_number s) job }
 
+-- with this connection at a seat
+abbrev pub with_conn_at : ℕ → Numbered Conn → Switch → Switch
+with_conn_at seat row s = record s { conns = with_held s.conns seat (Some row) }
+
 -- what stands at a seat for a job
 abbrev pub job_at : Switch → ℕ → Option (Numbered Job)
 job_at s seat = held_in s.jobs seat
@@ -192,6 +200,10 @@ job_at s seat = held_in s.jobs seat
 -- each seat for a job is taken
 abbrev pub is_full_of_jobs : Switch → Bool
 is_full_of_jobs s = is_none (least_free s.jobs 0)
+
+-- without any job
+abbrev pub without_jobs : Switch → Switch
+without_jobs s = record s { jobs = no_seats (length s.jobs) }
 
 -- the connection of a number
 abbrev pub conn_of : Switch → ℕ → Option Conn
@@ -241,6 +253,10 @@ without_conn number s =
 -- the clock comes to a moment; it never goes back
 abbrev pub at_moment : ℕ → Switch → Switch
 at_moment now s = record s { moment = max s.moment now }
+
+-- the switch comes to its end by the entry in hand
+abbrev pub stopped : Switch → Switch
+stopped s = record s { stopping = Some s.entries }
 
 -- something happened
 abbrev pub with_event : Event → Switch → Switch

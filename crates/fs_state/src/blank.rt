@@ -65,6 +65,7 @@ fn unchanged(alloc: Global) -> Delta
         outbox: OutboxChange::Unchanged,
         drawn: Drawn::none(),
         moment: 0,
+        stopping: None,
         losses: None,
         news: Events::new(alloc),
         replies: Gifts::new(alloc),

@@ -25,6 +25,8 @@ pub enum Parting {
     AuthRefused,
     /// The end of its input.
     EndOfInput,
+    /// The end of the switch.
+    Stopped,
 }
 
 /// A connection of the event socket.

@@ -42,6 +42,8 @@ pub struct Delta {
     pub drawn: Drawn,
     /// The moment of the entry, in microseconds.
     pub moment: u64,
+    /// The place of the entry by which the switch came to its end, once one did.
+    pub stopping: Option<u64>,
     /// What connections have lost, where that changes.
     pub losses: Option<Losses>,
     /// What happens in it.
@@ -68,6 +70,7 @@ impl Drop for Delta {
             outbox: _outbox,
             drawn: _drawn,
             moment: _moment,
+            stopping: _stopping,
             losses: _losses,
             news: _news,
             replies: _replies,

@@ -63,6 +63,7 @@ impl<'a> Draft<'a> {
         let mut delta = blank.into_delta();
         delta.drawn = core.drawn;
         delta.moment = core.moment;
+        delta.stopping = core.stopping;
         Draft { core, delta }
     }
 
@@ -147,6 +148,14 @@ impl<'a> Draft<'a> {
         ensures outbox { self.new.delta.outbox ≡ self.old.delta.outbox }
     {
         self.delta.moment = self.delta.moment.max(now);
+    }
+
+    /// The switch comes to its end by the entry in hand.
+    pub(crate) fn stop(&mut self)
+        ensures base { self.new.base ≡ self.old.base }
+        ensures stopped { drafted self.new ≡ spec.stopped (drafted self.old) }
+    {
+        self.delta.stopping = Some(self.place());
     }
 
     /// Something happens.
@@ -443,6 +452,15 @@ impl<'a> Draft<'a> {
         self.delta.origs.drop_row(&core.origs, number)
     }
 
+    /// Ends all originations.
+    #[tactic(auto, using(fs_seats::proofs::SeatLemmas::written_length))]
+    pub(crate) fn drop_origs(&mut self) -> Result<(), Memory>
+        ensures { Brings result self.old self.new (spec.without_origs (drafted self.old)) }
+    {
+        let core = self.core;
+        self.delta.origs.clear_over(&core.origs)
+    }
+
     // ---- jobs
 
     /// The job of a number.
@@ -480,6 +498,15 @@ impl<'a> Draft<'a> {
         self.delta.jobs.drop_row(&core.jobs, number)
     }
 
+    /// Ends all jobs.
+    #[tactic(auto, using(fs_seats::proofs::SeatLemmas::written_length))]
+    pub(crate) fn drop_jobs(&mut self) -> Result<(), Memory>
+        ensures { Brings result self.old self.new (spec.without_jobs (drafted self.old)) }
+    {
+        let core = self.core;
+        self.delta.jobs.clear_over(&core.jobs)
+    }
+
     /// Whether each seat for a job is taken.
     pub fn is_full_of_jobs(&self) -> bool
         ensures { result ≡ spec.is_full_of_jobs (drafted self.now) }
@@ -509,6 +536,14 @@ impl<'a> Draft<'a> {
         ensures { option_copied result ≡ spec.conn_of (drafted self.now) number }
     {
         self.conns().lend_row(u64::from(number))
+    }
+
+    /// Puts a connection at a seat.
+    pub(crate) fn put_conn_at(&mut self, seat: usize, row: Numbered<Conn>) -> Result<(), Memory>
+        ensures { Brings result self.old self.new (spec.with_conn_at seat row (drafted self.old)) }
+    {
+        let core = self.core;
+        self.delta.conns.put_over(&core.conns, seat, Some(row))
     }
 
     /// Puts a connection in the place of the one of this number.

@@ -45,6 +45,8 @@ pub enum Detail {
     Report,
     /// The job in the background that has ended, and its answer.
     Job(Background, Txt),
+    /// That the switch comes to its end.
+    Shutdown,
 }
 
 impl Detail {

@@ -51,14 +51,21 @@ impl Gifts {
         }
     }
 
-    /// A frame that is no event is given, too.
+    /// A frame that is no event is given to a connection, too.
     pub fn push(&mut self, conn: u32, text: Txt) -> Result<(), Memory>
+        ensures ok { OnOk result (self.new ≡ self.old ++ gift_of conn text ∷ []) }
+        ensures err { OnErr result (self.new ≡ self.old) }
+    {
+        self.push_to(u64::from(conn), text)
+    }
+
+    /// The same, to the connection of a number.
+    pub(crate) fn push_to(&mut self, conn: u64, text: Txt) -> Result<(), Memory>
         ensures ok { OnOk result (self.new ≡ self.old ++ gift_of conn text ∷ []) }
         ensures err { OnErr result (self.new ≡ self.old) }
     {
         let mut frames = Frames::new(*self.gifts.allocator());
         frames.push(Outgoing::Reply(text))?;
-        let conn = u64::from(conn);
         self.add(Gift { conn, frames })
     }
 

@@ -12,6 +12,7 @@ mod counts;
 mod delta;
 mod draft;
 mod drawn;
+mod ending;
 mod event;
 mod gift;
 mod groups;

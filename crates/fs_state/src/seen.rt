@@ -1,5 +1,5 @@
 //! A switch as it is seen at a moment, of which nothing changes.
-ghost use Rattle.std.specs.Prelude.{◌≡◌, ◌≤◌, length};
+ghost use Rattle.std.specs.Prelude.{◌≡◌, ◌≤◌, is_some, length};
 ghost use Rattle.std.specs.Option.{option_copied};
 ghost use Rattle.fs_seats.specs.Seats.{IsEmptyFrom};
 ghost use Rattle.fs_state.specs.Switch as spec;
@@ -41,6 +41,14 @@ impl<'a> Seen<'a> {
         ensures { result ≡ self.now.moment }
     {
         self.moment
+    }
+
+    /// Whether the switch comes to its end.
+    pub fn is_stopping(&self) -> bool
+        ensures { result ≡ is_some self.now.stopping }
+    {
+        let core = self.core;
+        core.stopping.is_some()
     }
 
     /// The channel in a slot.

@@ -302,6 +302,7 @@ impl Core {
         delta.outbox = OutboxChange::Unchanged;
         self.drawn = delta.drawn;
         self.moment = delta.moment;
+        self.stopping = delta.stopping;
         self.take_losses(delta.losses.take());
     }
 

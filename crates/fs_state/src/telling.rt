@@ -123,6 +123,7 @@ impl<'a> Draft<'a> {
             Detail::Hangup(cause) => tell_cause(sink, *cause),
             Detail::Report => self.tell_report(sink, event.subject),
             Detail::Job(job, _) => tell_job(sink, job),
+            Detail::Shutdown => tell_shutdown(sink),
         }
     }
 
@@ -196,6 +197,13 @@ fn tell_job<S: HeaderSink>(sink: &mut S, job: &Background) -> Result<(), Memory>
     give(sink, "Job-UUID", job.uuid.as_bytes())?;
     give(sink, "Job-Command", name)?;
     give(sink, "Job-Command-Arg", arguments)
+}
+
+/// Tells that the switch comes to its end.
+fn tell_shutdown<S: HeaderSink>(sink: &mut S) -> Result<(), Memory>
+    ensures { OnOk result (sink.new ≡ taking S.taken (with_values spec.shutdown_headers) sink.old) }
+{
+    give(sink, "Event-Info", b"System Shutting Down")
 }
 
 /// Tells variables, in order, with their names escaped.

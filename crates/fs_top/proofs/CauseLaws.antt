@@ -46,6 +46,7 @@ unreadable_end : (end : End) (p : PlaySoFar) (fault : Option Fault) (read_failed
 unreadable_end ends.Exit p fault read_failed four cause = absurd (cc)
 unreadable_end ends.Eof p fault read_failed four cause = absurd (cc)
 unreadable_end ends.AuthRefused p fault read_failed four cause = absurd (cc)
+unreadable_end ends.Stopped p fault read_failed four cause = absurd (cc)
 unreadable_end ends.ReadFault p fault read_failed four cause = cause.1
 unreadable_end ends.WriteFault p fault read_failed four cause = absurd cause
 unreadable_end (ends.TooLong len) p fault read_failed four cause = absurd (cc)
@@ -81,6 +82,7 @@ bad_block_end : (end : End) (p : PlaySoFar) (fault : Option Fault) (read_failed 
 bad_block_end ends.Exit p fault read_failed ten cause = absurd (cc)
 bad_block_end ends.Eof p fault read_failed ten cause = absurd (cc)
 bad_block_end ends.AuthRefused p fault read_failed ten cause = absurd (cc)
+bad_block_end ends.Stopped p fault read_failed ten cause = absurd (cc)
 bad_block_end ends.ReadFault p fault read_failed ten cause = absurd (cc)
 bad_block_end ends.WriteFault p fault read_failed ten cause = absurd cause
 bad_block_end (ends.TooLong len) p fault read_failed ten cause = (faults.TooLong len, cause, refl)
@@ -116,6 +118,7 @@ full_end : (end : End) (p : PlaySoFar) (fault : Option Fault) (read_failed : Boo
 full_end ends.Exit p fault read_failed eight cause = absurd (cc)
 full_end ends.Eof p fault read_failed eight cause = absurd (cc)
 full_end ends.AuthRefused p fault read_failed eight cause = absurd (cc)
+full_end ends.Stopped p fault read_failed eight cause = absurd (cc)
 full_end ends.ReadFault p fault read_failed eight cause = absurd (cc)
 full_end ends.WriteFault p fault read_failed eight cause = absurd cause
 full_end (ends.TooLong len) p fault read_failed eight cause = absurd (cc)
@@ -150,6 +153,7 @@ away_end : (end : End) (p : PlaySoFar) (fault : Option Fault) (read_failed : Boo
 away_end ends.Exit p fault read_failed nine cause = absurd (cc)
 away_end ends.Eof p fault read_failed nine cause = absurd (cc)
 away_end ends.AuthRefused p fault read_failed nine cause = absurd (cc)
+away_end ends.Stopped p fault read_failed nine cause = absurd (cc)
 away_end ends.ReadFault p fault read_failed nine cause = absurd (cc)
 away_end ends.WriteFault p fault read_failed nine cause = absurd cause
 away_end (ends.TooLong len) p fault read_failed nine cause = absurd (cc)
@@ -297,6 +301,7 @@ unwritten_end : (end : End) (p : PlaySoFar) (fault : Option Fault) (read_failed 
 unwritten_end ends.Exit p fault read_failed five cause = cc
 unwritten_end ends.Eof p fault read_failed five cause = cc
 unwritten_end ends.AuthRefused p fault read_failed five cause = cc
+unwritten_end ends.Stopped p fault read_failed five cause = cc
 unwritten_end ends.ReadFault p fault read_failed five cause = cc
 unwritten_end ends.WriteFault p fault read_failed five cause = cause
 unwritten_end (ends.TooLong len) p fault read_failed five cause = cc
@@ -376,6 +381,7 @@ end_not_3 : (end : End) → status_of_end end ≡ 3 → ⊥
 end_not_3 ends.Exit three = cc
 end_not_3 ends.Eof three = cc
 end_not_3 ends.AuthRefused three = cc
+end_not_3 ends.Stopped three = cc
 end_not_3 ends.ReadFault three = cc
 end_not_3 ends.WriteFault three = cc
 end_not_3 (ends.TooLong len) three = cc

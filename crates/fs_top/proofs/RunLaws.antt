@@ -107,6 +107,7 @@ eof_is : (end : End) → IsTrue (is_eof end) → end ≡ ends.Eof
 eof_is ends.Exit h = absurd (cc)
 eof_is ends.Eof h = refl
 eof_is ends.AuthRefused h = absurd (cc)
+eof_is ends.Stopped h = absurd (cc)
 eof_is ends.ReadFault h = absurd (cc)
 eof_is ends.WriteFault h = absurd (cc)
 eof_is (ends.TooLong len) h = absurd (cc)
@@ -161,6 +162,8 @@ answers_ended c file in0 in1 out0 out1 ends.Exit journal plays = answers_finishe
 answers_ended c file in0 in1 out0 out1 ends.Eof journal plays = answers_finished c file in0 in1 out0 out1 ends.Eof journal plays
 answers_ended c file in0 in1 out0 out1 ends.AuthRefused journal plays =
     answers_finished c file in0 in1 out0 out1 ends.AuthRefused journal plays
+answers_ended c file in0 in1 out0 out1 ends.Stopped journal plays =
+    answers_finished c file in0 in1 out0 out1 ends.Stopped journal plays
 answers_ended c file in0 in1 out0 out1 ends.ReadFault journal plays = answers_finished c file in0 in1 out0 out1 ends.ReadFault journal plays
 answers_ended c file in0 in1 out0 out1 (ends.TooLong len) journal plays =
     answers_finished c file in0 in1 out0 out1 (ends.TooLong len) journal plays
@@ -336,6 +339,8 @@ loads_ended c count start to out0 ends.Eof journal plays faults other =
     loads_finished c count start to dropped out0 ends.Eof journal plays faults (λ tallies. refl)
 loads_ended c count start to out0 ends.AuthRefused journal plays faults other =
     loads_finished c count start to dropped out0 ends.AuthRefused journal plays faults (λ tallies. refl)
+loads_ended c count start to out0 ends.Stopped journal plays faults other =
+    loads_finished c count start to dropped out0 ends.Stopped journal plays faults (λ tallies. refl)
 loads_ended c count start to out0 ends.ReadFault journal plays faults other =
     loads_finished c count start to dropped out0 ends.ReadFault journal plays faults (λ tallies. refl)
 loads_ended c count start to out0 (ends.TooLong len) journal plays faults other =

@@ -137,6 +137,7 @@ abbrev pub line_of_end : End → List ℕ
 line_of_end ends.Exit = []
 line_of_end ends.Eof = []
 line_of_end ends.AuthRefused = []
+line_of_end ends.Stopped = []
 line_of_end ends.ReadFault = read_fault_line
 line_of_end ends.WriteFault = write_fault_line
 line_of_end (ends.TooLong len) = too_long_line len
@@ -150,6 +151,7 @@ abbrev pub status_of_end : End → ℕ
 status_of_end ends.Exit = 0
 status_of_end ends.Eof = 0
 status_of_end ends.AuthRefused = 0
+status_of_end ends.Stopped = 0
 status_of_end ends.ReadFault = 4
 status_of_end ends.WriteFault = 5
 status_of_end (ends.TooLong len) = 10
@@ -163,6 +165,7 @@ abbrev pub is_eof : End → Bool
 is_eof ends.Exit = false
 is_eof ends.Eof = true
 is_eof ends.AuthRefused = false
+is_eof ends.Stopped = false
 is_eof ends.ReadFault = false
 is_eof ends.WriteFault = false
 is_eof (ends.TooLong len) = false

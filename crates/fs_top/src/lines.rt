@@ -37,7 +37,7 @@ fn say_end<E: Sink>(err: &mut E, end: End) -> Sent
     ensures { SendDid (E.output err.old) (E.output err.new) result (spec.line_of_end end) }
 {
     match end {
-        End::Exit | End::AuthRefused | End::Eof => send_all(err, b""),
+        End::Exit | End::AuthRefused | End::Stopped | End::Eof => send_all(err, b""),
         End::ReadFault => send_all(err, b"fsw: read fault\n"),
         End::TooLong { len } => say_too_long(err, len),
         End::BadLength => say_bad_length(err),

@@ -31,7 +31,8 @@ impl<'a> Outcome<'a> {
         ensures { result ≡ status_of_outcome self.entry }
     {
         match self {
-            Outcome::Printed | Outcome::Ended(End::Exit | End::AuthRefused | End::Eof) => 0,
+            Outcome::Printed
+            | Outcome::Ended(End::Exit | End::AuthRefused | End::Stopped | End::Eof) => 0,
             Outcome::Ended(End::Memory) => 1,
             Outcome::Usage => 2,
             Outcome::BadDocument(_) | Outcome::BadPattern(_) => 3,

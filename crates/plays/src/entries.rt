@@ -5,12 +5,13 @@ use crate::bridging::tell_entry;
 use crate::hearing::tell_heard;
 use crate::played::machine_of;
 use case_desk::{Answer, Table, cut, number_of, slot_of};
-use fs_machine::{Act, Entry, Machine, Reply};
+use fs_machine::{Act, Closing, Entry, Machine, Reply};
 use fs_text::{Memory, Txt};
 
-/// Answers `entries STEPS`, with `;` between them: `arrive`, `say CONNECTION LINE`, `take CONNECTION`, `job NUMBER`,
-/// `hear CONNECTION COUNT`, by which so many frames are taken, and `work SLOTS` with an entry for each slot. It tells
-/// what `bridging` tells, refusals, and the frames that are taken, those of `hear` in short.
+/// Answers `entries STEPS`, with `;` between them: `arrive`, `say CONNECTION LINE`, `take CONNECTION`, `leave CONNECTION`
+/// by the end of its input, `close CONNECTION` with all sent, `job NUMBER`, `halt`, `hear CONNECTION COUNT`, by which so
+/// many frames are taken, and `work SLOTS` with an entry for each slot. It tells what `bridging` tells, refusals, and the
+/// frames that are taken, those of `hear` in short.
 pub(crate) fn tell_entries(table: &Table, steps: &str, answer: &mut Answer) {
     if let Some(mut machine) = machine_of(table, answer) {
         for step in steps.split(';') {
@@ -39,6 +40,9 @@ fn tell_step(machine: &mut Machine, step: &str, answer: &mut Answer) {
             },
             answer,
         ),
+        "leave" => close(machine, rest, Closing::EndOfInput, answer),
+        "close" => close(machine, rest, Closing::Sent, answer),
+        "halt" => tell_act(machine, Act::Halt, answer),
         "work" => work(machine, rest, answer),
         "hear" => hear(machine, rest, answer),
         _ => answer.line("no step"),
@@ -47,6 +51,18 @@ fn tell_step(machine: &mut Machine, step: &str, answer: &mut Answer) {
 
 fn conn_of(word: &str) -> u32 {
     u32::from(slot_of(word))
+}
+
+// Makes the entry by which a connection begins to end, or ends.
+fn close(machine: &mut Machine, conn: &str, how: Closing, answer: &mut Answer) {
+    tell_act(
+        machine,
+        Act::Close {
+            conn: conn_of(conn),
+            how,
+        },
+        answer,
+    );
 }
 
 // Makes an entry for each slot.

@@ -3,17 +3,17 @@
 use crate::answers::without_header;
 use case_desk::{Answer, is_line_end};
 
-/// Adds what stands in frames, in short: of an event its name, its number and the identifier of its channel or its job
-/// in a line, of a reply its text, with the identifier of a job that has begun behind it, and of an answer its lines
-/// without a colon.
+/// Adds what stands in frames, in short: of an event its name, its number and the identifier of its channel or its job,
+/// if it tells of one, in a line, of a reply its text, with the identifier of a job that has begun behind it, and of an
+/// answer its lines without a colon.
 pub(crate) fn tell_heard(written: &[u8], answer: &mut Answer) {
     for line in written.split(is_line_end) {
         tell_line(line, answer);
     }
 }
 
-// Adds what is told of a line. The line of an event goes from its name to the identifier of its channel or its job, and
-// that of a job that has begun from the text of the reply to its header.
+// Adds what is told of a line. The line of an event goes from its name to the identifier of its channel or its job, or
+// to what it tells of the switch, and that of a job that has begun from the text of the reply to its header.
 fn tell_line(line: &[u8], answer: &mut Answer) {
     if let Some(name) = line.strip_prefix(b"Event-Name: ") {
         answer.begin();
@@ -34,6 +34,9 @@ fn tell_line(line: &[u8], answer: &mut Answer) {
 fn tell_end(line: &[u8], answer: &mut Answer) {
     if let Some(channel) = line.strip_prefix(b"Unique-ID: ") {
         return tell_identifier(channel, answer);
+    }
+    if line.starts_with(b"Event-Info: ") {
+        return answer.end();
     }
     match line.strip_prefix(b"Job-UUID: ") {
         Some(job) => tell_identifier(job, answer),

@@ -1,4 +1,4 @@
-"""Kinds of plays of what is still to come."""
+"""A kind of plays that end by a shutdown."""
 
 from further import Further
 
@@ -24,6 +24,3 @@ class Shutdowns(Further):
             (1, lambda: self.channel_command(session)),
             (1, self.event_command),
         )
-
-
-COMING_KINDS = {"shutdowns": Shutdowns}

@@ -15,7 +15,7 @@ use Rattle.fs_machine.specs.declared.entry.Act.TheVariants.{Arrive, Command, Tak
 use Rattle.fs_machine.specs.declared.entry.Closing.TheVariants.{EndOfInput, Sent}
 use Rattle.fs_machine.specs.declared.refusal.Refusal.TheVariants as refusal
 use Rattle.fs_machine.specs.Entries.{is_full}
-use Rattle.fs_machine.specs.Connections.{phase_at}
+use Rattle.fs_calls.specs.Connections.{phase_at}
 use Rattle.fs_machine.specs.Questions.{owed_to}
 use Rattle.fs_machine.specs.Step.{is_closed, refused_where, busy}
 use Rattle.fs_machine.proofs.OrderLemmas.{not_refused}

@@ -18,7 +18,7 @@ use Rattle.fs_machine.specs.declared.entry.Closing.TheVariants.{EndOfInput, Sent
 use Rattle.fs_machine.specs.declared.refusal.Refusal.{Refusal}
 use Rattle.fs_machine.specs.declared.refusal.Refusal.TheVariants as refusal
 use Rattle.fs_machine.specs.Entries.{cost_of, is_full}
-use Rattle.fs_machine.specs.Connections.{phase_at}
+use Rattle.fs_calls.specs.Connections.{phase_at}
 use Rattle.fs_machine.specs.Questions.{owes}
 use Rattle.fs_machine.specs.Here.{IsHere}
 use Rattle.fs_machine.specs.Owed.{AreOwed}

@@ -17,7 +17,7 @@ use Rattle.fs_machine.specs.declared.entry.Closing.TheVariants.{EndOfInput, Sent
 use Rattle.fs_machine.specs.declared.refusal.Refusal.{Refusal}
 use Rattle.fs_machine.specs.declared.refusal.Refusal.TheVariants as refusal
 use Rattle.fs_machine.specs.Entries.{is_full}
-use Rattle.fs_machine.specs.Connections.{phase_at}
+use Rattle.fs_calls.specs.Connections.{phase_at}
 use Rattle.fs_machine.specs.Step.{step, is_closed, refused_where, refusal_of}
 use Rattle.fs_machine.specs.Runs.{run_from, IsRunFrom}
 use Rattle.fs_machine.specs.Frames.{frames_from, handed_from}

@@ -17,7 +17,7 @@ use Rattle.fs_machine.specs.declared.entry.Act.TheVariants.{Arrive, Command, Tak
 use Rattle.fs_machine.specs.declared.refusal.Refusal.{Refusal}
 use Rattle.fs_machine.specs.declared.refusal.Refusal.TheVariants as refusal
 use Rattle.fs_machine.specs.Entries.{is_full}
-use Rattle.fs_machine.specs.Connections.{phase_at}
+use Rattle.fs_calls.specs.Connections.{phase_at}
 use Rattle.fs_machine.specs.Questions.{parting_at, owes}
 use Rattle.fs_machine.specs.Step.{step, reads, refusal_of, refused_where}
 use Rattle.fs_machine.specs.Frames.{command_in, commands_of}

@@ -9,7 +9,7 @@ use Rattle.fs_machine.specs.declared.entry.Act.TheVariants.{Arrive, Command, Tak
 use Rattle.fs_machine.specs.declared.reply.Reply.TheVariants as reply
 use Rattle.fs_machine.specs.declared.refusal.Refusal.TheVariants as refusal
 use Rattle.fs_machine.specs.Entries.{cost_of, is_full}
-use Rattle.fs_machine.specs.Connections.{phase_at}
+use Rattle.fs_calls.specs.Connections.{phase_at}
 use Rattle.fs_machine.specs.Questions.{owed_to, owes}
 use Rattle.fs_machine.specs.Step.{step, refusal_of, reads, refused_where, busy}
 use Rattle.fs_machine.specs.Runs.{run_from}

@@ -24,13 +24,13 @@ use Rattle.fs_machine.specs.declared.reply.Reply.TheVariants as reply
 use Rattle.fs_machine.specs.declared.refusal.Refusal.{Refusal}
 use Rattle.fs_machine.specs.declared.refusal.Refusal.TheVariants as refusal
 use Rattle.fs_machine.specs.Entries.{cost_of, is_full}
-use Rattle.fs_machine.specs.Connections.{phase_at, conn_changed, parted}
+use Rattle.fs_calls.specs.Connections.{phase_at, conn_changed, parted}
 use Rattle.fs_machine.specs.Questions.{owed_to}
 use Rattle.fs_machine.specs.Due.{slot_due, job_due}
-use Rattle.fs_machine.specs.Work.{after_work}
-use Rattle.fs_machine.specs.Jobs.{job_done}
-use Rattle.fs_machine.specs.Commands.{command_done}
-use Rattle.fs_machine.specs.Shutdown.{after_shutdown}
+use Rattle.fs_calls.specs.Work.{after_work}
+use Rattle.fs_calls.specs.Jobs.{job_done}
+use Rattle.fs_calls.specs.Commands.{command_done}
+use Rattle.fs_calls.specs.Shutdown.{after_shutdown}
 
 -- ---- refusals
 

@@ -2,14 +2,14 @@
 
 ghost use Rattle.std.specs.Prelude.{◌≡◌};
 ghost use Rattle.fs_machine.specs.declared.entry.Act.TheVariants as act;
-ghost use Rattle.fs_machine.specs.Connections as connections;
+ghost use Rattle.fs_calls.specs.Connections as connections;
 ghost use Rattle.fs_machine.specs.Questions as questions;
 ghost use Rattle.fs_machine.specs.Step as spec;
 
-use crate::connections::phase_of;
 use crate::due::{job_due, slot_due};
 use crate::entry::{Act, Closing};
 use crate::refusal::Refusal;
+use fs_calls::phase_of;
 use fs_chan::Due;
 use fs_state::{Phase, Seen};
 

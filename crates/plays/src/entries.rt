@@ -8,10 +8,10 @@ use case_desk::{Answer, Table, cut, number_of, slot_of};
 use fs_machine::{Act, Closing, Entry, Machine, Reply};
 use fs_text::{Memory, Txt};
 
-/// Answers `entries STEPS`, with `;` between them: `arrive`, `say CONNECTION LINE`, `take CONNECTION`, `leave CONNECTION`
-/// by the end of its input, `close CONNECTION` with all sent, `job NUMBER`, `halt`, `hear CONNECTION COUNT`, by which so
-/// many frames are taken, and `work SLOTS` with an entry for each slot. It tells what `bridging` tells, refusals, and the
-/// frames that are taken, those of `hear` in short.
+/// Answers `entries STEPS`, with `;` between them: `arrive`, `say CONNECTION LINE`, `take CONNECTION`,
+/// `leave CONNECTION` by the end of its input, `close CONNECTION` with all sent, `job NUMBER`, `halt`,
+/// `hear CONNECTION COUNT`, by which so many frames are taken, and `work SLOTS` with an entry for each slot. It tells
+/// what `bridging` tells, refusals, and the frames that are taken, those of `hear` in short.
 pub(crate) fn tell_entries(table: &Table, steps: &str, answer: &mut Answer) {
     if let Some(mut machine) = machine_of(table, answer) {
         for step in steps.split(';') {

@@ -9,9 +9,10 @@ pub fn calendar_law()
     ensures { calendar.MinutesAreKnown }
 {}
 
-/// Law: once a task is added, those that were there are there, and the new one; once some are deleted, those that are not
-/// meant. The task that fires is the least by moment and number of those that are there, and its moment has come. Over
-/// any steps each task fires at most once, and of two that are there at one place and both fire, the lesser fires first.
+/// Law: once a task is added, those that were there are there, and the new one; once some are deleted, those that are
+/// not meant. The task that fires is the least by moment and number of those that are there, and its moment has come.
+/// Over any steps each task fires at most once, and of two that are there at one place and both fire, the lesser
+/// fires first.
 pub fn tasks_law()
     ensures added { law.AddedIsThere }
     ensures deleted { law.DeletedAreGone }

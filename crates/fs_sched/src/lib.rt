@@ -1,7 +1,7 @@
 //! Conditions on the time of day and the date, and tasks that wait for their moments.
 //!
-//! The conditions are those of FreeSWITCH's time of day routing, and the tasks those that `sched_api`, `sched_hangup` and
-//! `sched_del` of its module mod_commands add and delete.
+//! The conditions are those of FreeSWITCH's time of day routing, and the tasks those that `sched_api`, `sched_hangup`
+//! and `sched_del` of its module mod_commands add and delete.
 #![tactic(auto)]
 
 mod civil;

@@ -10,8 +10,8 @@ use std::marker::Model;
 
 /// Ranges of the values of a field, each as its first value and its last, which both belong to it.
 ///
-/// One whose first value is the greater goes round the end of the field: from hour 22 to hour 5 are the eight hours of a
-/// night.
+/// One whose first value is the greater goes round the end of the field: from hour 22 to hour 5 are the eight hours
+/// of a night.
 #[derive(Drop)]
 pub struct Ranges {
     ranges: Vec<(u8, u8)>,

@@ -44,9 +44,9 @@ impl TimeField {
 
     /// The ranges that the text of an attribute says: values, and ranges as `9-17`, with commas between them.
     ///
-    /// A value is 1 to 20 decimal digits, leading zeros too; a day of the week is also `sun`, `mon` and so on to `sat`, in
-    /// lower case. `None` exactly where some part of the text is neither a value of the field nor two with a `-` between
-    /// them.
+    /// A value is 1 to 20 decimal digits, leading zeros too; a day of the week is also `sun`, `mon` and so on to
+    /// `sat`, in lower case. `None` exactly where some part of the text is neither a value of the field nor two with
+    /// a `-` between them.
     pub fn read(self, alloc: Global, text: &[u8]) -> Result<Option<Ranges>, Memory>
         ensures { IfOk result (λ ranges. ranges ≡ spec.ranges_of self text.now) }
     {

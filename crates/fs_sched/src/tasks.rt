@@ -70,8 +70,8 @@ impl Tasks {
         let _tasks = &self.tasks;
     }
 
-    /// Adds a task of this group that is due at a moment, and gives its number: one more than the last one that was added
-    /// had. `None` exactly where 1,024 tasks are there.
+    /// Adds a task of this group that is due at a moment, and gives its number: one more than the last one that was
+    /// added had. `None` exactly where 1,024 tasks are there.
     ///
     /// Behind the number 2^64 - 1 there is none: a further task is refused as for want of memory.
     pub fn add(&mut self, moment: u64, group: &[u8], what: What) -> Result<Option<u64>, Memory>
@@ -96,8 +96,8 @@ impl Tasks {
         Ok(Some(number))
     }
 
-    /// Takes out all tasks of the group that is this text, and the task of the number that its decimal digits say. Answers
-    /// how many they were. It takes no memory.
+    /// Takes out all tasks of the group that is this text, and the task of the number that its decimal digits say.
+    /// Answers how many they were. It takes no memory.
     pub fn delete(&mut self, key: &[u8]) -> u32
         ensures count { result ≡ spec.meant key.now self.old }
         ensures left { self.new ≡ spec.without_tasks key.now self.old }
@@ -122,7 +122,8 @@ impl Tasks {
         self.tasks.first()
     }
 
-    /// Takes out the task that is due next and gives it, if its moment has come: it is `now` or before. It takes no memory.
+    /// Takes out the task that is due next and gives it, if its moment has come: it is `now` or before. It takes no
+    /// memory.
     pub fn fire(&mut self, now: u64) -> Option<Task>
         ensures fired { result ≡ spec.fired_of now self.old.tasks }
         ensures left { self.new ≡ spec.after_fire now self.old }

@@ -75,7 +75,8 @@ impl Times {
         self.times.as_slice()
     }
 
-    /// Whether all conditions hold of what is shown. Where nothing is shown none holds, so they hold only if there is none.
+    /// Whether all conditions hold of what is shown. Where nothing is shown none holds, so they hold only if there is
+    /// none.
     pub fn hold(&self, fields: Option<Fields>) -> bool
         ensures { result ≡ spec.hold self.now fields }
     {

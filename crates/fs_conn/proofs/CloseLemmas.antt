@@ -8,7 +8,7 @@ use Rattle.fs_frame.specs.Block.{fault_of}
 use Rattle.fs_frame.specs.Blocks.{blocks_of, rest_of}
 use Rattle.fs_doc.specs.declared.settings.Settings.{Settings}
 use Rattle.fs_state.specs.declared.conn.Phase.TheVariants.{Ending}
-use Rattle.fs_state.specs.Switch.{Switch, empty, waiting_for, at_moment}
+use Rattle.fs_state.specs.Switch.{Switch, empty, waiting_for, at_moment, is_full}
 use Rattle.fs_machine.specs.declared.due.DueActor.{DueActor}
 use Rattle.fs_machine.specs.declared.due.DueActor.TheVariants as due
 use Rattle.fs_machine.specs.declared.entry.Entry.{Entry}
@@ -17,8 +17,8 @@ use Rattle.fs_machine.specs.declared.entry.Act.TheVariants.{Arrive, Command, Tak
 use Rattle.fs_machine.specs.declared.entry.Closing.TheVariants.{EndOfInput, Sent}
 use Rattle.fs_machine.specs.declared.refusal.Refusal.{Refusal}
 use Rattle.fs_machine.specs.declared.refusal.Refusal.TheVariants as refusal
-use Rattle.fs_machine.specs.Entries.{cost_of, is_full}
-use Rattle.fs_calls.specs.Connections.{phase_at}
+use Rattle.fs_machine.specs.Entries.{cost_of}
+use Rattle.fs_machine.specs.Connections.{phase_at}
 use Rattle.fs_machine.specs.Questions.{owes}
 use Rattle.fs_machine.specs.Here.{IsHere}
 use Rattle.fs_machine.specs.Owed.{AreOwed}

@@ -15,7 +15,7 @@ use Rattle.fs_machine.specs.declared.entry.Act.{Act}
 use Rattle.fs_machine.specs.declared.entry.Act.TheVariants.{Command}
 use Rattle.fs_machine.specs.declared.refusal.Refusal.{Refusal}
 use Rattle.fs_machine.specs.declared.refusal.Refusal.TheVariants as refusal
-use Rattle.fs_machine.specs.Entries.{is_full}
+use Rattle.fs_state.specs.Switch.{is_full}
 use Rattle.fs_machine.specs.Questions.{parting_at, owes}
 use Rattle.fs_machine.specs.Step.{refusal_of, refused_where}
 use Rattle.fs_machine.specs.Frames.{command_in, commands_of}

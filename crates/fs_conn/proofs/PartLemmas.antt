@@ -10,14 +10,13 @@ use Rattle.fs_text.specs.Texts.{Text}
 use Rattle.fs_cmd.specs.Commands.{command_of}
 use Rattle.fs_state.specs.declared.conn.Parting.{Parting}
 use Rattle.fs_state.specs.declared.conn.Parting.TheVariants as parting
-use Rattle.fs_state.specs.Switch.{Switch, empty}
+use Rattle.fs_state.specs.Switch.{Switch, empty, is_full}
 use Rattle.fs_machine.specs.declared.entry.Entry.{Entry}
 use Rattle.fs_machine.specs.declared.entry.Act.{Act}
 use Rattle.fs_machine.specs.declared.entry.Act.TheVariants.{Arrive, Command, Take, Close, Work, Job, Halt}
 use Rattle.fs_machine.specs.declared.refusal.Refusal.{Refusal}
 use Rattle.fs_machine.specs.declared.refusal.Refusal.TheVariants as refusal
-use Rattle.fs_machine.specs.Entries.{is_full}
-use Rattle.fs_calls.specs.Connections.{phase_at}
+use Rattle.fs_machine.specs.Connections.{phase_at}
 use Rattle.fs_machine.specs.Questions.{parting_at, owes}
 use Rattle.fs_machine.specs.Step.{step, reads, refusal_of, refused_where}
 use Rattle.fs_machine.specs.Frames.{command_in, commands_of}

@@ -3,13 +3,13 @@ use Rattle.std.proofs.Common.{◌≡◌, ℕ, ◌+◌, ◌-◌, ◌^◌, ◌≤�
 use Rattle.std.proofs.Common.{Result, Ok, Err, refl, sym, ap, ◌∙◌, subst, append-nil, length-append, arith}
 use Rattle.std.specs.List.{concat}
 use Rattle.std.proofs.lemmas.List.Folds.{concat-append}
-use Rattle.fs_state.specs.Switch.{empty}
+use Rattle.fs_state.specs.Switch.{empty, is_full}
 use Rattle.fs_machine.specs.declared.entry.Entry.{Entry}
 use Rattle.fs_machine.specs.declared.entry.Act.{Act}
 use Rattle.fs_machine.specs.declared.entry.Act.TheVariants.{Command}
 use Rattle.fs_machine.specs.declared.reply.Reply.{Reply}
 use Rattle.fs_machine.specs.declared.refusal.Refusal.TheVariants as refusal
-use Rattle.fs_machine.specs.Entries.{cost_of, is_full}
+use Rattle.fs_machine.specs.Entries.{cost_of}
 use Rattle.fs_machine.specs.Questions.{owes}
 use Rattle.fs_machine.specs.Step.{step, refusal_of, refused_where}
 use Rattle.fs_machine.specs.Runs.{View, state_of}

@@ -24,7 +24,7 @@ use Rattle.fs_state.specs.declared.conn.Parting.TheVariants as way
 use Rattle.fs_state.specs.Switch.{Switch, conn_of}
 use Rattle.fs_machine.specs.declared.entry.Act.TheVariants.{Arrive, Command, Close}
 use Rattle.fs_machine.specs.declared.entry.Closing.TheVariants.{EndOfInput}
-use Rattle.fs_calls.specs.Connections.{phase_of, phase_at}
+use Rattle.fs_machine.specs.Connections.{phase_of, phase_at}
 use Rattle.fs_machine.specs.Questions.{parting_of, parting_at, owes}
 use Rattle.fs_machine.specs.Here.{IsHere}
 use Rattle.fs_machine.specs.Step.{reads}

@@ -10,11 +10,10 @@ use Rattle.fs_cmd.specs.Commands as command
 use Rattle.fs_cmd.specs.Commands.{Command as Read, command_of}
 use Rattle.fs_state.specs.declared.conn.Parting.{Parting}
 use Rattle.fs_state.specs.declared.conn.Parting.TheVariants as parting
-use Rattle.fs_state.specs.Switch.{Switch, empty}
+use Rattle.fs_state.specs.Switch.{Switch, empty, is_full}
 use Rattle.fs_machine.specs.declared.entry.Entry.{Entry}
 use Rattle.fs_machine.specs.declared.entry.Act.{Act}
 use Rattle.fs_machine.specs.declared.entry.Act.TheVariants.{Command, Work, Job}
-use Rattle.fs_machine.specs.Entries.{is_full}
 use Rattle.fs_machine.specs.Questions.{parting_at}
 use Rattle.fs_machine.specs.Runs.{run_from}
 use Rattle.fs_machine.specs.Frames.{commands_of}

@@ -8,7 +8,7 @@ use Rattle.fs_frame.specs.declared.fault.Fault.{Fault}
 use Rattle.fs_frame.specs.declared.fault.Fault.TheVariants as faults
 use Rattle.fs_state.specs.declared.conn.Parting.{Parting}
 use Rattle.fs_state.specs.declared.conn.Parting.TheVariants as parting
-use Rattle.fs_state.specs.Switch.{Switch, empty, waiting_for}
+use Rattle.fs_state.specs.Switch.{Switch, empty, waiting_for, is_full}
 use Rattle.fs_machine.specs.declared.due.DueActor.{DueActor}
 use Rattle.fs_machine.specs.declared.due.DueActor.TheVariants as actor
 use Rattle.fs_machine.specs.declared.entry.Entry.{Entry}
@@ -17,12 +17,11 @@ use Rattle.fs_machine.specs.declared.entry.Act.TheVariants.{Arrive, Command, Tak
 use Rattle.fs_machine.specs.declared.entry.Closing.TheVariants.{EndOfInput, Sent}
 use Rattle.fs_machine.specs.declared.refusal.Refusal.{Refusal}
 use Rattle.fs_machine.specs.declared.refusal.Refusal.TheVariants as refusal
-use Rattle.fs_machine.specs.Entries.{is_full}
 use Rattle.fs_machine.specs.Due.{next_due}
 use Rattle.fs_machine.specs.Step.{refusal_of, reads}
 use Rattle.fs_machine.specs.Runs.{run_from}
 use Rattle.fs_machine.specs.Frames.{handed_from}
-use Rattle.fs_calls.specs.Connections.{phase_at}
+use Rattle.fs_machine.specs.Connections.{phase_at}
 use Rattle.fs_machine.specs.Questions.{parting_at, owes}
 use Rattle.fs_conn.specs.declared.end.End.{End}
 use Rattle.fs_conn.specs.declared.end.End.TheVariants.{Exit, AuthRefused, Stopped, Eof, ReadFault, TooLong, BadLength, JournalFull, Runaway}

@@ -56,18 +56,18 @@ use Rattle.fs_machine.specs.declared.entry.Act.{Act}
 use Rattle.fs_machine.specs.declared.entry.Act.TheVariants as act
 use Rattle.fs_machine.specs.declared.entry.Closing.{Closing}
 use Rattle.fs_machine.specs.declared.entry.Closing.TheVariants as closing
-use Rattle.fs_calls.specs.declared.attempts.Party.TheVariants as party
-use Rattle.fs_calls.specs.declared.owing.Giver.{Giver}
-use Rattle.fs_calls.specs.declared.owing.Giver.TheVariants as giver
-use Rattle.fs_calls.specs.Texts.{ok, too_many_jobs, made_text, no_channel, not_ready}
-use Rattle.fs_calls.specs.Connections.{phase_at, conn_changed, admitted, subs_at}
-use Rattle.fs_calls.specs.Attempts.{after_verdict_on}
-use Rattle.fs_calls.specs.Owing.{job_uuid, background_begun, job_event}
-use Rattle.fs_calls.specs.Jobs.{told_if, command_run, after_job_work, job_done_from, job_done}
-use Rattle.fs_calls.specs.Done.{Done, says, no_reply_yet}
-use Rattle.fs_calls.specs.Joining.{both_left, in_the_way, after_leaving, both_in_media, joined_done, bridged_unless, bridge_done_at}
-use Rattle.fs_calls.specs.Joining.{uuid_bridge_done, is_ready}
-use Rattle.fs_calls.specs.Leaving.{after_departure, after_arrival, sent_at, sent_done}
+use Rattle.fs_machine.specs.declared.attempts.Party.TheVariants as party
+use Rattle.fs_machine.specs.declared.owing.Giver.{Giver}
+use Rattle.fs_machine.specs.declared.owing.Giver.TheVariants as giver
+use Rattle.fs_machine.specs.Texts.{ok, too_many_jobs, made_text, no_channel, not_ready}
+use Rattle.fs_machine.specs.Connections.{phase_at, conn_changed, admitted, subs_at}
+use Rattle.fs_machine.specs.Attempts.{after_verdict_on}
+use Rattle.fs_machine.specs.Owing.{job_uuid, background_begun, job_event}
+use Rattle.fs_machine.specs.Jobs.{told_if, command_run, after_job_work, job_done_from, job_done}
+use Rattle.fs_machine.specs.Done.{Done, says, no_reply_yet}
+use Rattle.fs_machine.specs.Joining.{both_left, in_the_way, after_leaving, both_in_media, joined_done, bridged_unless, bridge_done_at}
+use Rattle.fs_machine.specs.Joining.{uuid_bridge_done, is_ready}
+use Rattle.fs_machine.specs.Leaving.{after_departure, after_arrival, sent_at, sent_done}
 use Rattle.fs_state.specs.Leaving.{after_leaving_others}
 use Rattle.fs_machine.proofs.LeaveLemmas.{left_free, parked_stays, transferred_stays}
 use Rattle.fs_machine.proofs.BondLeaves.{departed_lone}
@@ -77,18 +77,18 @@ use Rattle.fs_bridge.specs.Hangups.{IsOneOf}
 use Rattle.fs_seats.proofs.HeldLemmas.{held_within}
 use Rattle.fs_state.specs.Ending.{ended}
 use Rattle.fs_text.specs.declared.causes.Cause.TheVariants.{SystemShutdown}
-use Rattle.fs_calls.specs.Shutdown.{shutdown_event, stopped_reply, after_shutdown}
+use Rattle.fs_machine.specs.Shutdown.{shutdown_event, stopped_reply, after_shutdown}
 use Rattle.fs_machine.proofs.CameLemmas.{CameFrom, came_self, came_hung}
 use Rattle.fs_machine.proofs.CutLemmas.{slots_die}
-use Rattle.fs_calls.specs.Hangups.{all_slots, after_hangup_of_all}
-use Rattle.fs_calls.specs.Applications.{unless_too_long, argument_in}
-use Rattle.fs_calls.specs.Api.{kill_done, with_variable, variable_set_on, variable_set_at, sleep_begun, msleep_done, dialed}
-use Rattle.fs_calls.specs.Api.{originate_done}
-use Rattle.fs_calls.specs.Api.{chan_named, done_plainly, done_expanded, done_over, done_by}
-use Rattle.fs_calls.specs.Commands.{with_reply, after_dismissal, after_password, with_response_of, command_done_in, command_done}
-use Rattle.fs_calls.specs.Commands.{after_asking, unless_unknown, after_subscribing, after_unsubscribing, after_silence, after_deletion}
-use Rattle.fs_calls.specs.Commands.{with_begun_told, after_background}
-use Rattle.fs_calls.specs.Commands.{with_filter_added, with_filters_deleted, queued_on, message_done, message_done_at, message_sent}
+use Rattle.fs_machine.specs.Hangups.{all_slots, after_hangup_of_all}
+use Rattle.fs_machine.specs.Applications.{unless_too_long, argument_in}
+use Rattle.fs_machine.specs.Api.{kill_done, with_variable, variable_set_on, variable_set_at, sleep_begun, msleep_done, dialed}
+use Rattle.fs_machine.specs.Api.{originate_done}
+use Rattle.fs_machine.specs.Api.{chan_named, done_plainly, done_expanded, done_over, done_by}
+use Rattle.fs_machine.specs.Commands.{with_reply, after_dismissal, after_password, with_response_of, command_done_in, command_done}
+use Rattle.fs_machine.specs.Commands.{after_asking, unless_unknown, after_subscribing, after_unsubscribing, after_silence, after_deletion}
+use Rattle.fs_machine.specs.Commands.{with_begun_told, after_background}
+use Rattle.fs_machine.specs.Commands.{with_filter_added, with_filters_deleted, queued_on, message_done, message_done_at, message_sent}
 use Rattle.fs_machine.specs.Step.{after_close, act_done}
 use Rattle.fs_machine.proofs.Kept.{IsApart, hold_in, Stays, Stage, Fact, KeptByCalls, DoesJob, KeptByJobs, KeptByDials, LeavesBy}
 use Rattle.fs_machine.proofs.Kept.{IsShortWinner}

@@ -28,10 +28,10 @@ use Rattle.fs_state.specs.Moves.{hangup_event}
 use Rattle.fs_state.specs.Moves.{after_hangup_from, after_one_hangup}
 use Rattle.fs_state.specs.Hangups.{lives, lives_at, after_hangups, after_hangup}
 use Rattle.fs_state.specs.Bridging.{can_join, peer_of, with_peer_from, with_peer, joined_as}
-use Rattle.fs_calls.specs.Attempts.{awaits}
-use Rattle.fs_calls.specs.Bridging.{goes_on, after_going_on, bridge_failed_from, after_bridge_failure, disposed, after_bridge_win}
-use Rattle.fs_calls.specs.Joining.{after_leaving}
-use Rattle.fs_calls.specs.Leaving.{after_departure}
+use Rattle.fs_machine.specs.Attempts.{awaits}
+use Rattle.fs_machine.specs.Bridging.{goes_on, after_going_on, bridge_failed_from, after_bridge_failure, disposed, after_bridge_win}
+use Rattle.fs_machine.specs.Joining.{after_leaving}
+use Rattle.fs_machine.specs.Leaving.{after_departure}
 use Rattle.fs_machine.proofs.LeaveLemmas.{departed_kept}
 use Rattle.fs_machine.proofs.Kept.{Stage, hold_in, Links, Stays, KeptByTouches}
 use Rattle.fs_machine.proofs.StayLemmas.{exchange_lives, moved_there, changed_there, state_told_kept, orig_changed_channels}

@@ -23,9 +23,9 @@ use Rattle.fs_seats.proofs.TableLemmas.{IsWrittenOrKept, written_or_kept}
 use Rattle.fs_state.specs.Switch.{Switch, chan_at, free_slot, orig_of, next_orig_number, with_orig, with_new_orig}
 use Rattle.fs_state.specs.Moves.{orig_changed_from, orig_changed}
 use Rattle.fs_state.proofs.LegTables.{Origs, in_slot, berth_of, berth_its, HasSeat, row_there}
-use Rattle.fs_calls.specs.declared.call.Call.{Call}
-use Rattle.fs_calls.specs.Originations.{set_all, no_variables, own_uuid, call_with, is_misnamed, Made, made_dead, is_congested, made_in}
-use Rattle.fs_calls.specs.Originations.{with_second, free_pair, loopback_made, made_with, made_of, leg_made, MadeGroup, group_made}
+use Rattle.fs_machine.specs.declared.call.Call.{Call}
+use Rattle.fs_machine.specs.Originations.{set_all, no_variables, own_uuid, call_with, is_misnamed, Made, made_dead, is_congested, made_in}
+use Rattle.fs_machine.specs.Originations.{with_second, free_pair, loopback_made, made_with, made_of, leg_made, MadeGroup, group_made}
 use Rattle.fs_machine.specs.Sound.{IsLegIn}
 use Rattle.fs_machine.proofs.Kept.{KeptByBirths}
 use Rattle.fs_machine.proofs.ShortLemmas.{left_holds}

@@ -30,8 +30,8 @@ use Rattle.fs_state.specs.Moves.{hangup_event, is_owner, given_up_by, orig_given
 use Rattle.fs_state.specs.Hangups.{lives, lives_at, living_in, legs_at, row_at, world_of, living_of, after_survival, after_hangups}
 use Rattle.fs_state.specs.Leaving.{leaver, dropped_by, after_parting, after_leaving_others}
 use Rattle.fs_state.proofs.LegTables.{Origs, berth_at, in_slot}
-use Rattle.fs_calls.specs.Joining.{after_leaving, both_left}
-use Rattle.fs_calls.specs.Leaving.{after_departure}
+use Rattle.fs_machine.specs.Joining.{after_leaving, both_left}
+use Rattle.fs_machine.specs.Leaving.{after_departure}
 use Rattle.fs_machine.specs.Sound.{IsLegIn}
 use Rattle.fs_machine.proofs.StayLemmas.{park_lives, idle_lives, state_told_kept, changed_there}
 use Rattle.fs_machine.proofs.CameLemmas.{IsLess, CameFrom, Came, rest_less, park_less, hung_less, freed_less, came_self}

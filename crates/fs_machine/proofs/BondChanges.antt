@@ -16,8 +16,8 @@ use Rattle.fs_seats.proofs.HeldLemmas.{IsFree, held_here, held_there, held_withi
 use Rattle.fs_seats.proofs.TableLemmas.{IsWrittenOrKept, written_or_kept, kept_without, still_there, not_free, one_there}
 use Rattle.fs_state.specs.Switch.{Switch}
 use Rattle.fs_state.specs.Bridging.{peer_of}
-use Rattle.fs_calls.specs.declared.call.Call.{Call}
-use Rattle.fs_calls.specs.Originations.{leg_end, pair_made}
+use Rattle.fs_machine.specs.declared.call.Call.{Call}
+use Rattle.fs_machine.specs.Originations.{leg_end, pair_made}
 use Rattle.fs_machine.proofs.Kept.{IsApt}
 use Rattle.fs_machine.proofs.LegLemmas.{Channels}
 use Rattle.fs_machine.proofs.NameLemmas.{leg_by, leg_chan, far_chan, pair_in, pair_channels}

@@ -23,8 +23,8 @@ use Rattle.fs_state.specs.Switch.{Switch, chan_at, with_chan, bridge_at, without
 use Rattle.fs_state.specs.Moves.{application_event, running_at, with_changed_chan, after_move, orig_given_up}
 use Rattle.fs_state.specs.Hangups.{lives_at, has_peer, world_of, row_at, after_end, after_outliving, after_survival, after_hangups}
 use Rattle.fs_state.specs.Leaving.{leaver, dropped_by, left_behind, after_parting, after_leaving_others}
-use Rattle.fs_calls.specs.Joining.{after_leaving}
-use Rattle.fs_calls.specs.Leaving.{after_departure}
+use Rattle.fs_machine.specs.Joining.{after_leaving}
+use Rattle.fs_machine.specs.Leaving.{after_departure}
 use Rattle.fs_machine.proofs.StayLemmas.{park_lives, orig_changed_channels, moved_there, changed_there}
 use Rattle.fs_machine.proofs.HangLemmas.{dies, Falls, Cut, Unbridged, Rests, Parks, given_up_kept, hangups_kept}
 use Rattle.fs_machine.proofs.HangLemmas.{Settles, Freed, Resumes, Halts}

@@ -32,12 +32,12 @@ use Rattle.fs_state.specs.Moves.{with_changed_chan_from, after_move_from, after_
 use Rattle.fs_state.specs.Moves.{orig_given_up}
 use Rattle.fs_state.specs.Hangups.{lives, lives_at}
 use Rattle.fs_state.specs.Bridging.{bridge_event, can_join, peer_of, with_peer_from, with_peer, joined_as}
-use Rattle.fs_calls.specs.Originations.{MadeGroup, group_made, won_by, after_winning}
-use Rattle.fs_calls.specs.Attempts.{first_group, orig_begun, awaits, with_group}
-use Rattle.fs_calls.specs.Bridging.{caller_of, group_dialed, goes_on, after_going_on, disposed, bridge_failed_from, after_bridge_failure}
-use Rattle.fs_calls.specs.Bridging.{after_bridge_win}
-use Rattle.fs_calls.specs.Dialing.{tried_by_slot}
-use Rattle.fs_calls.specs.Joining.{after_leaving}
+use Rattle.fs_machine.specs.Originations.{MadeGroup, group_made, won_by, after_winning}
+use Rattle.fs_machine.specs.Attempts.{first_group, orig_begun, awaits, with_group}
+use Rattle.fs_machine.specs.Bridging.{caller_of, group_dialed, goes_on, after_going_on, disposed, bridge_failed_from, after_bridge_failure}
+use Rattle.fs_machine.specs.Bridging.{after_bridge_win}
+use Rattle.fs_machine.specs.Dialing.{tried_by_slot}
+use Rattle.fs_machine.specs.Joining.{after_leaving}
 use Rattle.fs_machine.proofs.Kept.{Stage, Links, IsApt, IsAtWork, KeptByTouches, KeptByCalls, KeptByBirths, KeptByDials, KeptByMoves, raced}
 use Rattle.fs_machine.proofs.Kept.{HasWon}
 use Rattle.fs_machine.proofs.StayLemmas.{WorksAt, is_at_work, exchange_lives, execute_lives, routing_lives, state_told_kept, moved_there}

@@ -1,8 +1,8 @@
 -- Two facts that each bear every move do so together.
 use Rattle.std.proofs.Common.{ℕ}
 use Rattle.fs_state.specs.Switch.{Switch}
-use Rattle.fs_calls.specs.declared.owing.Giver.{Giver}
-use Rattle.fs_calls.specs.declared.owing.Giver.TheVariants as giver
+use Rattle.fs_machine.specs.declared.owing.Giver.{Giver}
+use Rattle.fs_machine.specs.declared.owing.Giver.TheVariants as giver
 use Rattle.fs_machine.proofs.Kept.{apart_by, goes_on_by, Fact, KeptByTouches, KeptByCalls, KeptByApi, KeptByJobs, KeptByDials}
 use Rattle.fs_machine.proofs.Kept.{KeptByCommands, KeptByVisits, KeptByMoves}
 

@@ -14,9 +14,9 @@ use Rattle.fs_text.specs.Texts.{Text}
 use Rattle.fs_state.specs.declared.event.Event.{Event}
 use Rattle.fs_state.specs.Switch.{Switch, chan_at, with_bridge, with_next_identifier}
 use Rattle.fs_state.specs.Bridging.{bridge_event, can_join, peer_of, with_peer_from, with_peer, joined_as}
-use Rattle.fs_calls.specs.declared.call.Call.{Call}
+use Rattle.fs_machine.specs.declared.call.Call.{Call}
 use Rattle.fs_machine.specs.BridgeEvents.{begun, ended}
-use Rattle.fs_calls.specs.Originations.{leg_end, far_end, named_end_made, end_made, pair_made, won_by, after_winning}
+use Rattle.fs_machine.specs.Originations.{leg_end, far_end, named_end_made, end_made, pair_made, won_by, after_winning}
 use Rattle.fs_machine.proofs.Kept.{Stage, Fact, KeptByBirths, raced, KeptByMoves}
 use Rattle.fs_machine.proofs.WonLemmas.{joins_apart, caller_lone, answerer_lone}
 use Rattle.fs_machine.proofs.FrontLemmas.{Front, front_of, KeptByRemains, calls_by_remains, dials_by_remains, moves_by_front}

@@ -15,7 +15,7 @@ use Rattle.fs_seats.proofs.TableLemmas.{IsWrittenOrKept, written_or_kept}
 use Rattle.fs_state.specs.Switch.{Switch, chan_at, with_chan}
 use Rattle.fs_state.specs.Moves.{orig_changed, orig_given_up}
 use Rattle.fs_state.specs.Hangups.{after_hangups}
-use Rattle.fs_calls.specs.Joining.{after_leaving}
+use Rattle.fs_machine.specs.Joining.{after_leaving}
 use Rattle.fs_machine.proofs.Kept.{hold_in}
 use Rattle.fs_machine.proofs.StayLemmas.{rest_free, changed_there, orig_changed_channels}
 use Rattle.fs_machine.proofs.ClosureLemmas.{hangs_up}

@@ -38,16 +38,16 @@ use Rattle.fs_state.specs.Switch.{Switch, chan_at, orig_of, next_orig_number, wi
 use Rattle.fs_state.specs.Switch.{without_orig, with_bridge}
 use Rattle.fs_state.specs.Moves.{orig_changed_from, orig_changed, leg_changed_at, leg_changed, after_move, orig_given_up}
 use Rattle.fs_state.proofs.LegTables.{Origs, row_there, set_here, set_there}
-use Rattle.fs_calls.specs.declared.call.Call.{Call}
-use Rattle.fs_calls.specs.Texts.{made_text, failed_text}
-use Rattle.fs_calls.specs.Connections.{conn_changed, admitted, parted, owed_since, not_owed, with_subs_changed}
-use Rattle.fs_calls.specs.Originations.{set_all, no_variables, own_uuid, call_with, is_misnamed, seconds, made_dead, is_congested}
-use Rattle.fs_calls.specs.Originations.{made_in, free_pair, loopback_made, made_with, made_of, leg_made, MadeGroup, group_made, won_by}
-use Rattle.fs_calls.specs.Originations.{after_winning, leg_end}
-use Rattle.fs_calls.specs.Attempts.{first_group, orig_begun, originate_begun, with_group}
-use Rattle.fs_calls.specs.declared.owing.Giver.{Giver}
-use Rattle.fs_calls.specs.declared.owing.Giver.TheVariants as giver
-use Rattle.fs_calls.specs.Owing.{job_number, after_job_begin, background_begun, after_job_end}
+use Rattle.fs_machine.specs.declared.call.Call.{Call}
+use Rattle.fs_machine.specs.Texts.{made_text, failed_text}
+use Rattle.fs_machine.specs.Connections.{conn_changed, admitted, parted, owed_since, not_owed, with_subs_changed}
+use Rattle.fs_machine.specs.Originations.{set_all, no_variables, own_uuid, call_with, is_misnamed, seconds, made_dead, is_congested}
+use Rattle.fs_machine.specs.Originations.{made_in, free_pair, loopback_made, made_with, made_of, leg_made, MadeGroup, group_made, won_by}
+use Rattle.fs_machine.specs.Originations.{after_winning, leg_end}
+use Rattle.fs_machine.specs.Attempts.{first_group, orig_begun, originate_begun, with_group}
+use Rattle.fs_machine.specs.declared.owing.Giver.{Giver}
+use Rattle.fs_machine.specs.declared.owing.Giver.TheVariants as giver
+use Rattle.fs_machine.specs.Owing.{job_number, after_job_begin, background_begun, after_job_end}
 use Rattle.fs_machine.proofs.Kept.{Fact, KeptByBirths, raced, AreGroups, KeptByMoves, KeptByTouches, KeptByApi, KeptByJobs, KeptByDials}
 use Rattle.fs_machine.proofs.Kept.{ArePlans}
 use Rattle.fs_machine.proofs.Walk.{group_made_kept, behind_filled, disposed_kept}
@@ -62,11 +62,11 @@ use Rattle.fs_orig.specs.declared.orig.Owner.{Owner}
 use Rattle.fs_orig.specs.Plans.{all_behind}
 use Rattle.fs_state.specs.Hangups.{after_hangups}
 use Rattle.fs_state.specs.Bridging.{peer_of, with_peer_from, with_peer, joined_as}
-use Rattle.fs_calls.specs.Bridging.{caller_of, group_dialed, goes_on, after_going_on, bridge_failed_from, after_bridge_failure, disposed}
-use Rattle.fs_calls.specs.Bridging.{after_bridge_win}
-use Rattle.fs_calls.specs.Dialing.{tried_by_slot}
-use Rattle.fs_calls.specs.Joining.{after_leaving}
-use Rattle.fs_calls.specs.Leaving.{after_departure}
+use Rattle.fs_machine.specs.Bridging.{caller_of, group_dialed, goes_on, after_going_on, bridge_failed_from, after_bridge_failure, disposed}
+use Rattle.fs_machine.specs.Bridging.{after_bridge_win}
+use Rattle.fs_machine.specs.Dialing.{tried_by_slot}
+use Rattle.fs_machine.specs.Joining.{after_leaving}
+use Rattle.fs_machine.specs.Leaving.{after_departure}
 use Rattle.fs_machine.proofs.JoinLemmas.{both_left_kept}
 use Rattle.fs_machine.proofs.LeaveLemmas.{departed_kept}
 use Rattle.fs_machine.proofs.NameLemmas.{leg_by}

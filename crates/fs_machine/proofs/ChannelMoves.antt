@@ -20,9 +20,9 @@ use Rattle.fs_state.specs.declared.job.JobWork.TheVariants.{Originate}
 use Rattle.fs_state.specs.Switch.{Switch, chan_at, with_chan, with_next_identifier, identifier_of}
 use Rattle.fs_state.specs.Moves.{after_move_from, after_move, orig_changed}
 use Rattle.fs_state.specs.Hangups.{after_hangups}
-use Rattle.fs_calls.specs.declared.call.Call.{Call}
-use Rattle.fs_calls.specs.declared.originations.End.{End}
-use Rattle.fs_calls.specs.Originations.{target_of, end_of, leg_end, far_end, pair_made, leg_uuid, is_misnamed, won_by, after_winning}
+use Rattle.fs_machine.specs.declared.call.Call.{Call}
+use Rattle.fs_machine.specs.declared.originations.End.{End}
+use Rattle.fs_machine.specs.Originations.{target_of, end_of, leg_end, far_end, pair_made, leg_uuid, is_misnamed, won_by, after_winning}
 use Rattle.fs_machine.proofs.Kept.{Stage, Fact, Remains, DoesJob, raced, IsShortWinner, KeptByBirths, KeptByMoves}
 use Rattle.fs_machine.proofs.ShortLemmas.{sent_short, uuid_short, profile_short}
 use Rattle.fs_machine.proofs.StayLemmas.{hangup_dead, state_told_kept, moved_there}

@@ -14,7 +14,7 @@ use Rattle.fs_state.specs.Switch.{Switch, conn_of, waiting_for, at_moment}
 use Rattle.fs_machine.specs.declared.entry.Act.TheVariants.{Take, Close}
 use Rattle.fs_machine.specs.declared.entry.Closing.TheVariants.{EndOfInput, Sent}
 use Rattle.fs_machine.specs.declared.refusal.Refusal.TheVariants as refusal
-use Rattle.fs_calls.specs.Connections.{phase_of, phase_at, parted, conn_changed_from}
+use Rattle.fs_machine.specs.Connections.{phase_of, phase_at, parted, conn_changed_from}
 use Rattle.fs_machine.specs.Questions.{owed_of, owes}
 use Rattle.fs_machine.specs.Owed.{PartsIn, Parts, AreOwed}
 use Rattle.fs_machine.specs.Step.{step, reads, is_closed, is_ending, refused_where, refused_act}

@@ -19,7 +19,7 @@ use Rattle.fs_machine.specs.declared.entry.Act.TheVariants.{Arrive, Command, Tak
 use Rattle.fs_machine.specs.declared.entry.Closing.TheVariants.{EndOfInput, Sent, Failed}
 use Rattle.fs_machine.specs.declared.refusal.Refusal.TheVariants as refusal
 use Rattle.fs_machine.specs.Entries.{cost_of}
-use Rattle.fs_calls.specs.Connections.{phase_of, phase_at}
+use Rattle.fs_machine.specs.Connections.{phase_of, phase_at}
 use Rattle.fs_machine.specs.Questions.{owed_to}
 use Rattle.fs_machine.specs.Step.{reads, is_closed, busy, refused_where, refused_act, refusal_of, seats_for_conns, new_conn, arrived}
 use Rattle.fs_machine.specs.Step.{act_done, step}

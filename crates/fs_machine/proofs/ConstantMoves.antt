@@ -4,7 +4,7 @@ use Rattle.fs_doc.specs.declared.settings.Settings.{Settings}
 use Rattle.fs_state.specs.Counts.{Tallies}
 use Rattle.fs_state.specs.Switch.{Switch}
 use Rattle.fs_machine.specs.declared.entry.Act.{Act}
-use Rattle.fs_calls.specs.Originations.{after_winning}
+use Rattle.fs_machine.specs.Originations.{after_winning}
 use Rattle.fs_machine.specs.Step.{act_done}
 use Rattle.fs_machine.proofs.Kept.{Fact, raced, KeptByMoves}
 use Rattle.fs_machine.proofs.RestLemmas.{Rest, rest_of, calls_by_rest, births_by_rest, dials_by_rest, won_rest}

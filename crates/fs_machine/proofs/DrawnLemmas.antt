@@ -18,13 +18,13 @@ use Rattle.fs_state.specs.Switch.{Switch, chan_at, with_bridge, orig_of, next_or
 use Rattle.fs_state.specs.Moves.{after_move, with_changed_chan, orig_changed_from, orig_changed, leg_changed, orig_given_up}
 use Rattle.fs_state.specs.Hangups.{after_hangups}
 use Rattle.fs_state.specs.Bridging.{peer_of, with_peer_from, with_peer, joined_as}
-use Rattle.fs_calls.specs.declared.call.Call.{Call}
-use Rattle.fs_calls.specs.Originations.{leg_end, pair_made, MadeGroup, group_made, won_by, after_winning}
-use Rattle.fs_calls.specs.Attempts.{first_group, orig_begun, with_group}
-use Rattle.fs_calls.specs.Bridging.{caller_of, group_dialed, goes_on, after_going_on, bridge_failed_from, after_bridge_failure, disposed}
-use Rattle.fs_calls.specs.Dialing.{tried_by_slot}
-use Rattle.fs_calls.specs.Joining.{after_leaving, both_left}
-use Rattle.fs_calls.specs.Leaving.{after_departure}
+use Rattle.fs_machine.specs.declared.call.Call.{Call}
+use Rattle.fs_machine.specs.Originations.{leg_end, pair_made, MadeGroup, group_made, won_by, after_winning}
+use Rattle.fs_machine.specs.Attempts.{first_group, orig_begun, with_group}
+use Rattle.fs_machine.specs.Bridging.{caller_of, group_dialed, goes_on, after_going_on, bridge_failed_from, after_bridge_failure, disposed}
+use Rattle.fs_machine.specs.Dialing.{tried_by_slot}
+use Rattle.fs_machine.specs.Joining.{after_leaving, both_left}
+use Rattle.fs_machine.specs.Leaving.{after_departure}
 use Rattle.fs_machine.proofs.JoinLemmas.{both_left_kept}
 use Rattle.fs_machine.proofs.Kept.{IsApart, KeptByTouches, KeptByBirths}
 use Rattle.fs_machine.proofs.LeaveLemmas.{departed_kept}

@@ -36,8 +36,8 @@ use Rattle.fs_state.specs.Moves.{with_changed_chan_from, with_changed_chan, afte
 use Rattle.fs_state.specs.Hangups.{lives, lives_at, vars_of, row_at, Ended, world_of, living_of, after_ends, after_members}
 use Rattle.fs_state.specs.Hangups.{after_outliving, after_survival, after_survivals, after_hangups}
 use Rattle.fs_state.specs.Leaving.{leaver, dropped_by, left_behind, after_parting, after_leaving_others}
-use Rattle.fs_calls.specs.Joining.{after_leaving}
-use Rattle.fs_calls.specs.Leaving.{after_departure}
+use Rattle.fs_machine.specs.Joining.{after_leaving}
+use Rattle.fs_machine.specs.Leaving.{after_departure}
 use Rattle.fs_machine.proofs.StayLemmas.{state_told_kept, moved_there, changed_there, orig_changed_channels}
 use Rattle.fs_machine.proofs.CameLemmas.{CameFrom, rest_holds, falls_less, came_self, came_hung}
 use Rattle.fs_machine.proofs.TieLemmas.{lives_as}

@@ -14,9 +14,9 @@ use Rattle.fs_seats.proofs.HeldLemmas.{IsFree, held_there}
 use Rattle.fs_state.specs.Switch.{Switch, chan_at, with_chan, with_next_identifier, identifier_of}
 use Rattle.fs_state.specs.Moves.{after_move_from, after_move, orig_changed}
 use Rattle.fs_state.specs.Hangups.{after_hangups}
-use Rattle.fs_calls.specs.declared.call.Call.{Call}
-use Rattle.fs_calls.specs.declared.originations.End.{End}
-use Rattle.fs_calls.specs.Originations.{end_of, end_made, named_end_made, leg_end, far_end, pair_made, is_misnamed, won_by, after_winning}
+use Rattle.fs_machine.specs.declared.call.Call.{Call}
+use Rattle.fs_machine.specs.declared.originations.End.{End}
+use Rattle.fs_machine.specs.Originations.{end_of, end_made, named_end_made, leg_end, far_end, pair_made, is_misnamed, won_by, after_winning}
 use Rattle.fs_machine.proofs.Kept.{Stage, Fact, KeptByBirths, raced, KeptByMoves}
 use Rattle.fs_machine.proofs.StayLemmas.{state_told_kept, moved_there}
 use Rattle.fs_machine.proofs.ClosureLemmas.{hangs_up}

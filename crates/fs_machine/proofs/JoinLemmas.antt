@@ -23,8 +23,8 @@ use Rattle.fs_state.specs.Switch.{Switch, chan_at, with_chan, bridge_at, with_br
 use Rattle.fs_state.specs.Moves.{with_changed_chan_from, after_move, orig_changed_from, orig_changed, orig_given_up}
 use Rattle.fs_state.specs.Hangups.{legs_at, after_hangups, lives, lives_at}
 use Rattle.fs_state.specs.Bridging.{can_join, peer_of, with_peer_from, with_peer, joined_as, after_join}
-use Rattle.fs_calls.specs.Joining.{is_early, is_ready, is_answered, in_the_way, after_leaving, both_left}
-use Rattle.fs_calls.specs.Texts.{same_channel, not_ready, not_answered, already_bridged}
+use Rattle.fs_machine.specs.Joining.{is_early, is_ready, is_answered, in_the_way, after_leaving, both_left}
+use Rattle.fs_machine.specs.Texts.{same_channel, not_ready, not_answered, already_bridged}
 use Rattle.fs_machine.proofs.ShortLemmas.{left_holds, right_holds}
 use Rattle.fs_machine.proofs.Kept.{Stage, Stays, IsApart}
 use Rattle.fs_machine.proofs.StayLemmas.{exchange_lives, same_vars, moved_there, changed_there}

@@ -10,12 +10,12 @@ use Rattle.fs_state.specs.Moves.{after_move, orig_changed, leg_changed}
 use Rattle.fs_state.specs.Hangups.{after_hangups}
 use Rattle.fs_state.specs.Bridging.{joined_as}
 use Rattle.fs_machine.specs.declared.entry.Act.{Act}
-use Rattle.fs_calls.specs.Bridging.{group_dialed, after_bridge_win, after_bridge_failure}
-use Rattle.fs_calls.specs.Dialing.{tried_by_slot}
-use Rattle.fs_calls.specs.Joining.{both_left}
-use Rattle.fs_calls.specs.Leaving.{after_departure}
-use Rattle.fs_calls.specs.Originations.{pair_made, group_made, after_winning}
-use Rattle.fs_calls.specs.Attempts.{first_group, with_group}
+use Rattle.fs_machine.specs.Bridging.{group_dialed, after_bridge_win, after_bridge_failure}
+use Rattle.fs_machine.specs.Dialing.{tried_by_slot}
+use Rattle.fs_machine.specs.Joining.{both_left}
+use Rattle.fs_machine.specs.Leaving.{after_departure}
+use Rattle.fs_machine.specs.Originations.{pair_made, group_made, after_winning}
+use Rattle.fs_machine.specs.Attempts.{first_group, with_group}
 use Rattle.fs_machine.specs.Step.{act_done}
 use Rattle.fs_machine.proofs.ActWalk.{acted_kept}
 use Rattle.fs_machine.proofs.DrawnLemmas.{SameDrawn, orig_changed_drawn, moved_drawn, hung_drawn, both_left_drawn, departed_drawn, won_drawn}

@@ -16,7 +16,7 @@ use Rattle.fs_state.specs.Switch.{Switch, chan_at, bridge_at}
 use Rattle.fs_state.specs.Hangups.{lives}
 use Rattle.fs_state.specs.Bridging.{can_join}
 use Rattle.fs_state.proofs.LegTables.{berthed}
-use Rattle.fs_calls.specs.Attempts.{awaits}
+use Rattle.fs_machine.specs.Attempts.{awaits}
 use Rattle.fs_machine.proofs.Kept.{raced, HasWon}
 use Rattle.fs_machine.proofs.DrawnLemmas.{hung_drawn}
 use Rattle.fs_machine.proofs.LegLemmas.{roles_of, IsLegOf, LegsStand}

@@ -36,20 +36,20 @@ use Rattle.fs_state.specs.Ending.{released, released_in, ended}
 use Rattle.fs_machine.specs.declared.entry.Act.{Act}
 use Rattle.fs_machine.specs.declared.entry.Act.TheVariants as act
 use Rattle.fs_machine.specs.declared.entry.Closing.TheVariants as closing
-use Rattle.fs_calls.specs.Texts.{made_text, failed_text}
-use Rattle.fs_calls.specs.Connections.{conn_changed_from, conn_changed, admitted, parted, owed_since, not_owed, phase_of, phase_at}
-use Rattle.fs_calls.specs.Connections.{with_subs_changed}
+use Rattle.fs_machine.specs.Texts.{made_text, failed_text}
+use Rattle.fs_machine.specs.Connections.{conn_changed_from, conn_changed, admitted, parted, owed_since, not_owed, phase_of, phase_at}
+use Rattle.fs_machine.specs.Connections.{with_subs_changed}
 use Rattle.fs_machine.specs.Questions.{parting_of, owed_of}
-use Rattle.fs_calls.specs.Originations.{MadeGroup, group_made, after_winning}
-use Rattle.fs_calls.specs.Attempts.{first_group, orig_begun, tried_by_job, originate_begun}
-use Rattle.fs_calls.specs.Jobs.{job_done}
-use Rattle.fs_calls.specs.declared.owing.Giver.{Giver}
-use Rattle.fs_calls.specs.declared.owing.Giver.TheVariants as giver
-use Rattle.fs_calls.specs.Owing.{job_number, after_job_begin, background_begun, after_job_end}
-use Rattle.fs_calls.specs.Commands.{command_done}
-use Rattle.fs_calls.specs.Work.{after_work}
-use Rattle.fs_calls.specs.Hangups.{all_slots, after_hangup_of_all}
-use Rattle.fs_calls.specs.Shutdown.{shutdown_event, stopped_reply, after_shutdown}
+use Rattle.fs_machine.specs.Originations.{MadeGroup, group_made, after_winning}
+use Rattle.fs_machine.specs.Attempts.{first_group, orig_begun, tried_by_job, originate_begun}
+use Rattle.fs_machine.specs.Jobs.{job_done}
+use Rattle.fs_machine.specs.declared.owing.Giver.{Giver}
+use Rattle.fs_machine.specs.declared.owing.Giver.TheVariants as giver
+use Rattle.fs_machine.specs.Owing.{job_number, after_job_begin, background_begun, after_job_end}
+use Rattle.fs_machine.specs.Commands.{command_done}
+use Rattle.fs_machine.specs.Work.{after_work}
+use Rattle.fs_machine.specs.Hangups.{all_slots, after_hangup_of_all}
+use Rattle.fs_machine.specs.Shutdown.{shutdown_event, stopped_reply, after_shutdown}
 use Rattle.fs_machine.specs.Step.{reads, is_closed, act_done}
 use Rattle.fs_machine.proofs.Kept.{Fact, KeptByCalls, raced, KeptByApi, KeptByJobs, KeptByDials, LeavesBy, KeptByCommands}
 use Rattle.fs_machine.proofs.RestLemmas.{Rest, rest_of, calls_by_rest, dials_by_rest, group_made_rest, worked_rest, won_rest, hung_rest}

@@ -45,20 +45,20 @@ use Rattle.fs_state.specs.Ending.{ended}
 use Rattle.fs_state.specs.Moves.{orig_changed, leg_changed}
 use Rattle.fs_state.specs.Hangups.{lives_at, after_hangups, after_hangups_for}
 use Rattle.fs_state.specs.Bridging.{can_join, joined_as}
-use Rattle.fs_calls.specs.declared.attempts.Party.TheVariants as party
-use Rattle.fs_calls.specs.declared.attempts.WonLeg.{WonLeg}
-use Rattle.fs_calls.specs.declared.call.Call.{Call}
-use Rattle.fs_calls.specs.declared.owing.Giver.{Giver}
-use Rattle.fs_calls.specs.declared.owing.Giver.TheVariants as giver
+use Rattle.fs_machine.specs.declared.attempts.Party.TheVariants as party
+use Rattle.fs_machine.specs.declared.attempts.WonLeg.{WonLeg}
+use Rattle.fs_machine.specs.declared.call.Call.{Call}
+use Rattle.fs_machine.specs.declared.owing.Giver.{Giver}
+use Rattle.fs_machine.specs.declared.owing.Giver.TheVariants as giver
 use Rattle.fs_machine.specs.EventNames.{can_tell}
-use Rattle.fs_calls.specs.Connections.{phase_at, conn_changed, admitted, parted, with_subs_changed}
-use Rattle.fs_calls.specs.Originations.{pair_made, is_misnamed, target_of, group_made}
-use Rattle.fs_calls.specs.Bridging.{after_bridge_failure, after_bridge_win, group_dialed}
-use Rattle.fs_calls.specs.Attempts.{first_group, originate_begun, awaits, failed_for, won_in, won_for, death_of, with_group}
-use Rattle.fs_calls.specs.Dialing.{tried_by_slot}
-use Rattle.fs_calls.specs.Joining.{both_left}
-use Rattle.fs_calls.specs.Leaving.{after_departure}
-use Rattle.fs_calls.specs.Owing.{after_job_begin, background_begun, after_job_end}
+use Rattle.fs_machine.specs.Connections.{phase_at, conn_changed, admitted, parted, with_subs_changed}
+use Rattle.fs_machine.specs.Originations.{pair_made, is_misnamed, target_of, group_made}
+use Rattle.fs_machine.specs.Bridging.{after_bridge_failure, after_bridge_win, group_dialed}
+use Rattle.fs_machine.specs.Attempts.{first_group, originate_begun, awaits, failed_for, won_in, won_for, death_of, with_group}
+use Rattle.fs_machine.specs.Dialing.{tried_by_slot}
+use Rattle.fs_machine.specs.Joining.{both_left}
+use Rattle.fs_machine.specs.Leaving.{after_departure}
+use Rattle.fs_machine.specs.Owing.{after_job_begin, background_begun, after_job_end}
 use Rattle.fs_machine.specs.Step.{arrived}
 use Rattle.fs_machine.specs.Sound.{is_idle, HasLeg}
 use Rattle.fs_machine.proofs.LimitLemmas.{AreLimited, cause_key}

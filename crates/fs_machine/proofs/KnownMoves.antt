@@ -27,15 +27,15 @@ use Rattle.fs_state.specs.declared.job.JobWork.TheVariants.{Run, Sleep, Originat
 use Rattle.fs_state.specs.Switch.{Switch, chan_at, next_orig_number, is_full_of_jobs, without_orig, with_new_job, without_job}
 use Rattle.fs_state.specs.Switch.{with_frame_now, with_notice}
 use Rattle.fs_state.specs.Moves.{after_move}
-use Rattle.fs_calls.specs.Texts.{made_text, failed_text}
-use Rattle.fs_calls.specs.Connections.{conn_changed, admitted, parted, owed_since, not_owed, with_subs_changed}
-use Rattle.fs_calls.specs.Originations.{MadeGroup, group_made, after_winning}
-use Rattle.fs_calls.specs.Attempts.{first_group, orig_begun, originate_begun, with_group}
-use Rattle.fs_calls.specs.Bridging.{after_bridge_failure, after_bridge_win, caller_of, group_dialed}
-use Rattle.fs_calls.specs.Dialing.{tried_by_slot}
-use Rattle.fs_calls.specs.declared.owing.Giver.{Giver}
-use Rattle.fs_calls.specs.declared.owing.Giver.TheVariants as giver
-use Rattle.fs_calls.specs.Owing.{job_number, after_job_begin, background_begun, after_job_end}
+use Rattle.fs_machine.specs.Texts.{made_text, failed_text}
+use Rattle.fs_machine.specs.Connections.{conn_changed, admitted, parted, owed_since, not_owed, with_subs_changed}
+use Rattle.fs_machine.specs.Originations.{MadeGroup, group_made, after_winning}
+use Rattle.fs_machine.specs.Attempts.{first_group, orig_begun, originate_begun, with_group}
+use Rattle.fs_machine.specs.Bridging.{after_bridge_failure, after_bridge_win, caller_of, group_dialed}
+use Rattle.fs_machine.specs.Dialing.{tried_by_slot}
+use Rattle.fs_machine.specs.declared.owing.Giver.{Giver}
+use Rattle.fs_machine.specs.declared.owing.Giver.TheVariants as giver
+use Rattle.fs_machine.specs.Owing.{job_number, after_job_begin, background_begun, after_job_end}
 use Rattle.fs_machine.proofs.Kept.{Stage, Fact, raced, DoesJob, KeptByApi, KeptByMoves}
 use Rattle.fs_machine.proofs.BondMoves.{bonds_moves}
 use Rattle.fs_machine.proofs.BothMoves.{Both, both_moves}

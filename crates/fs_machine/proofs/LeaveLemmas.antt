@@ -23,8 +23,8 @@ use Rattle.fs_state.specs.Switch.{Switch, chan_at, with_chan, without_bridge, wi
 use Rattle.fs_state.specs.Moves.{with_changed_chan_from, orig_given_up, after_one_hangup}
 use Rattle.fs_state.specs.Hangups.{row_at, unbridge_event, after_end, after_survival, after_survivals, after_hangups}
 use Rattle.fs_state.specs.Leaving.{dropped_by, left_behind, after_parting, after_leaving_others}
-use Rattle.fs_calls.specs.Joining.{after_leaving}
-use Rattle.fs_calls.specs.Leaving.{after_departure}
+use Rattle.fs_machine.specs.Joining.{after_leaving}
+use Rattle.fs_machine.specs.Leaving.{after_departure}
 use Rattle.fs_machine.proofs.Kept.{Stage, hold_in, Links, links_of, Stays}
 use Rattle.fs_machine.proofs.ShortLemmas.{sent_short}
 use Rattle.fs_machine.proofs.StayLemmas.{same_vars, free_links, rest_free, rest_links, park_lives, routing_lives}

@@ -26,10 +26,10 @@ use Rattle.fs_state.specs.Switch.{Switch, chan_at, free_slot, next_orig_number, 
 use Rattle.fs_state.specs.Moves.{orig_changed_from, orig_changed}
 use Rattle.fs_state.proofs.LegTables.{Berth, berthed, berth_if, berth_of, berth_at, berth_number, berth_its, row_there, HasSeat, changed_fewer}
 use Rattle.fs_state.proofs.LegTables.{changed_or_old, new_or_old}
-use Rattle.fs_calls.specs.declared.call.Call.{Call}
-use Rattle.fs_calls.specs.Originations.{end_made, leg_end, far_end, pair_made, set_all, no_variables, own_uuid, call_with, is_misnamed}
-use Rattle.fs_calls.specs.Originations.{Made, made_dead, is_congested, made_in, with_second, free_pair, loopback_made, made_with, made_of}
-use Rattle.fs_calls.specs.Originations.{leg_made, MadeGroup, group_made}
+use Rattle.fs_machine.specs.declared.call.Call.{Call}
+use Rattle.fs_machine.specs.Originations.{end_made, leg_end, far_end, pair_made, set_all, no_variables, own_uuid, call_with, is_misnamed}
+use Rattle.fs_machine.specs.Originations.{Made, made_dead, is_congested, made_in, with_second, free_pair, loopback_made, made_with, made_of}
+use Rattle.fs_machine.specs.Originations.{leg_made, MadeGroup, group_made}
 use Rattle.fs_machine.proofs.NameLemmas.{leg_by, leg_chan, far_chan, pair_channels}
 use Rattle.fs_machine.proofs.Kept.{KeptByBirths}
 use Rattle.fs_machine.proofs.StayLemmas.{new_lives}

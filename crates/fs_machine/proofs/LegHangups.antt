@@ -15,7 +15,7 @@ use Rattle.fs_seats.proofs.HeldLemmas.{held_here, held_there, held_within}
 use Rattle.fs_state.specs.Switch.{Switch, chan_at, with_chan}
 use Rattle.fs_state.specs.Hangups.{after_hangups}
 use Rattle.fs_state.proofs.LegTables.{berthed, berth_if, berth_of, berth_in, berth_at, row_there}
-use Rattle.fs_calls.specs.Attempts.{death_of}
+use Rattle.fs_machine.specs.Attempts.{death_of}
 use Rattle.fs_machine.specs.Sound.{HasLeg, IsLegIn, LegsAreChannels}
 use Rattle.fs_machine.proofs.FrontLemmas.{Lively}
 use Rattle.fs_machine.proofs.Kept.{raced, HasWon}

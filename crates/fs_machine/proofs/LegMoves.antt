@@ -39,18 +39,18 @@ use Rattle.fs_state.specs.Moves.{orig_given_up}
 use Rattle.fs_state.specs.Hangups.{after_hangups}
 use Rattle.fs_state.specs.Bridging.{peer_of, with_peer_from, with_peer, joined_as}
 use Rattle.fs_state.proofs.LegTables.{berthed, berth_at, in_slot, berth_number, without_fewer}
-use Rattle.fs_calls.specs.Texts.{made_text, failed_text}
-use Rattle.fs_calls.specs.Connections.{conn_changed, admitted, parted, owed_since, not_owed, with_subs_changed}
-use Rattle.fs_calls.specs.Originations.{MadeGroup, group_made, won_by, after_winning}
-use Rattle.fs_calls.specs.Attempts.{first_group, orig_begun, tried_by_job, originate_begun, with_group}
-use Rattle.fs_calls.specs.declared.owing.Giver.{Giver}
-use Rattle.fs_calls.specs.declared.owing.Giver.TheVariants as giver
-use Rattle.fs_calls.specs.Owing.{job_number, after_job_begin, background_begun, after_job_end}
-use Rattle.fs_calls.specs.Bridging.{caller_of, group_dialed, goes_on, after_going_on, bridge_failed_from, after_bridge_failure}
-use Rattle.fs_calls.specs.Bridging.{after_bridge_win, disposed}
-use Rattle.fs_calls.specs.Dialing.{tried_by_slot}
-use Rattle.fs_calls.specs.Joining.{after_leaving}
-use Rattle.fs_calls.specs.Leaving.{after_departure}
+use Rattle.fs_machine.specs.Texts.{made_text, failed_text}
+use Rattle.fs_machine.specs.Connections.{conn_changed, admitted, parted, owed_since, not_owed, with_subs_changed}
+use Rattle.fs_machine.specs.Originations.{MadeGroup, group_made, won_by, after_winning}
+use Rattle.fs_machine.specs.Attempts.{first_group, orig_begun, tried_by_job, originate_begun, with_group}
+use Rattle.fs_machine.specs.declared.owing.Giver.{Giver}
+use Rattle.fs_machine.specs.declared.owing.Giver.TheVariants as giver
+use Rattle.fs_machine.specs.Owing.{job_number, after_job_begin, background_begun, after_job_end}
+use Rattle.fs_machine.specs.Bridging.{caller_of, group_dialed, goes_on, after_going_on, bridge_failed_from, after_bridge_failure}
+use Rattle.fs_machine.specs.Bridging.{after_bridge_win, disposed}
+use Rattle.fs_machine.specs.Dialing.{tried_by_slot}
+use Rattle.fs_machine.specs.Joining.{after_leaving}
+use Rattle.fs_machine.specs.Leaving.{after_departure}
 use Rattle.fs_machine.proofs.LeaveLemmas.{departed_kept}
 use Rattle.fs_machine.proofs.FrontLemmas.{conn_unread}
 use Rattle.fs_machine.proofs.Kept.{Fact, Links, KeptByTouches, KeptByCalls, KeptByBirths, KeptByApi, KeptByDials, raced, KeptByMoves}

@@ -43,8 +43,8 @@ use Rattle.fs_state.specs.Hangups.{with_end_told, untold_by, after_member, after
 use Rattle.fs_state.specs.Hangups.{after_closure, after_hangups}
 use Rattle.fs_state.specs.Leaving.{dropped_by, after_parting, after_leaving_others}
 use Rattle.fs_machine.specs.FirstEnds.{IsLetGo}
-use Rattle.fs_calls.specs.Joining.{after_leaving}
-use Rattle.fs_calls.specs.Leaving.{after_departure}
+use Rattle.fs_machine.specs.Joining.{after_leaving}
+use Rattle.fs_machine.specs.Leaving.{after_departure}
 use Rattle.fs_machine.proofs.Kept.{IsOfNoBridge, TellsNoBridge}
 use Rattle.fs_machine.proofs.StayLemmas.{application_plain, moved_plain, state_plain_kept, changed_there}
 use Rattle.fs_machine.proofs.ListCounts.{counts_front, one_passes}

@@ -36,15 +36,15 @@ use Rattle.fs_state.specs.Switch.{Switch, chan_at, with_chan, bridge_at, with_br
 use Rattle.fs_state.specs.Moves.{plain_event, after_move, orig_changed, leg_changed, after_answer}
 use Rattle.fs_state.specs.Hangups.{after_hangups}
 use Rattle.fs_state.specs.Bridging.{bridge_event, can_join, peer_of, with_peer_from, with_peer, joined_as}
-use Rattle.fs_calls.specs.declared.call.Call.{Call}
+use Rattle.fs_machine.specs.declared.call.Call.{Call}
 use Rattle.fs_machine.specs.FirstEnds.{IsLetGo}
-use Rattle.fs_calls.specs.Attempts.{first_group, orig_begun, awaits, with_group}
-use Rattle.fs_calls.specs.Bridging.{caller_of, group_dialed, goes_on, after_going_on, bridge_failed_from, after_bridge_failure, disposed}
-use Rattle.fs_calls.specs.Bridging.{after_win_told, after_bridge_win}
-use Rattle.fs_calls.specs.Dialing.{tried_by_slot}
-use Rattle.fs_calls.specs.Joining.{both_left}
-use Rattle.fs_calls.specs.Leaving.{after_departure}
-use Rattle.fs_calls.specs.Originations.{MadeGroup, group_made, pair_made, leg_end, far_end, end_made, named_end_made, won_by, after_winning}
+use Rattle.fs_machine.specs.Attempts.{first_group, orig_begun, awaits, with_group}
+use Rattle.fs_machine.specs.Bridging.{caller_of, group_dialed, goes_on, after_going_on, bridge_failed_from, after_bridge_failure, disposed}
+use Rattle.fs_machine.specs.Bridging.{after_win_told, after_bridge_win}
+use Rattle.fs_machine.specs.Dialing.{tried_by_slot}
+use Rattle.fs_machine.specs.Joining.{both_left}
+use Rattle.fs_machine.specs.Leaving.{after_departure}
+use Rattle.fs_machine.specs.Originations.{MadeGroup, group_made, pair_made, leg_end, far_end, end_made, named_end_made, won_by, after_winning}
 use Rattle.fs_machine.proofs.Kept.{Stage, Fact, TellsNoBridge, Links, Stays, KeptByTouches, WasApart, KeptByCalls}
 use Rattle.fs_machine.proofs.Kept.{IsShortCall, KeptByBirths, raced, HasWon, HasHung, KeptByDials, KeptByMoves}
 use Rattle.fs_machine.proofs.StayLemmas.{moved_plain, changed_there}

@@ -1,4 +1,6 @@
+pub mod ArgumentLemmas
 pub mod RunLemmas
+pub mod GroupLemmas
 pub mod FrameLemmas
 pub mod DueLemmas
 pub mod ListCounts
@@ -6,6 +8,7 @@ pub mod LimitLemmas
 pub mod Kept
 pub mod DialLemmas
 pub mod ShortLemmas
+pub mod DumpLemmas
 pub mod StayLemmas
 pub mod ClosureLemmas
 pub mod HangLemmas
@@ -54,6 +57,7 @@ pub mod DueLaws
 pub mod CloseLaws
 pub mod PartnerLemmas
 pub mod SeenLemmas
+pub mod TermLemmas
 pub mod TieLemmas
 pub mod PartnerMoves
 pub mod IdentifierMoves
@@ -83,7 +87,9 @@ pub mod BondMoves
 pub mod SoundLemmas
 pub mod OutboxMoves
 pub mod SoundLaws
+pub mod AskingLemmas
 pub mod CountLemmas
+pub mod RangeLemmas
 pub mod SlotCounts
 pub mod BondLaws
 pub mod AwaitedTables

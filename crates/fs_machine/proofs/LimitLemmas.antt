@@ -34,8 +34,8 @@ use Rattle.fs_plan.specs.Inline.{after_assignment, inline_done}
 use Rattle.fs_plan.specs.Hunting.{expanded_in, test_done, with_hunt_action, action_done, actions_done, Evaluated, evaluated_to, Looked}
 use Rattle.fs_plan.specs.Hunting.{stops, chosen_actions_done, condition_done, looked_at, conditions_done, at_extension}
 use Rattle.fs_plan.specs.Hunting.{after_extension, extension_done, extensions_done, extensions_of, new_hunt, hunted}
-use Rattle.fs_calls.specs.Originations.{no_variables, set_all}
-use Rattle.fs_calls.specs.Work.{found_in}
+use Rattle.fs_machine.specs.Originations.{no_variables, set_all}
+use Rattle.fs_machine.specs.Work.{found_in}
 use Rattle.fs_machine.proofs.ListCounts.{counts_front}
 
 -- variables of a channel, within the limits

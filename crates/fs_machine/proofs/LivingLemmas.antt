@@ -11,7 +11,7 @@ use Rattle.fs_orig.specs.declared.plan.LegPlan.{LegPlan}
 use Rattle.fs_orig.specs.declared.verdict.Verdict.TheVariants.{Wait, Failed, Expired}
 use Rattle.fs_orig.specs.Legs.{lives, any_lives, living_slot, living_slots, last_cause, winner}
 use Rattle.fs_orig.specs.Verdicts.{expired_leg, least_deadline, next_group, won_or, leg_expired_or, next_or_failed, verdict_of}
-use Rattle.fs_calls.specs.Attempts.{others}
+use Rattle.fs_machine.specs.Attempts.{others}
 
 -- ---- who lives
 

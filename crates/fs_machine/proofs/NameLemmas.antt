@@ -11,10 +11,10 @@ use Rattle.fs_chan.specs.declared.chan.Chan.{Chan}
 use Rattle.fs_seats.specs.Seats.{held_in, with_held, first_seat}
 use Rattle.fs_seats.proofs.RowLemmas.{none_found}
 use Rattle.fs_state.specs.Switch.{Switch, is_called, is_held, with_next_identifier, identifier_of}
-use Rattle.fs_calls.specs.declared.call.Call.{Call}
-use Rattle.fs_calls.specs.declared.originations.End.{End}
-use Rattle.fs_calls.specs.Originations.{end_of, end_made, end_made_as, named_end_made, leg_end, far_end, pair_made, is_visible, is_name}
-use Rattle.fs_calls.specs.Originations.{is_free, is_misnamed, leg_uuid}
+use Rattle.fs_machine.specs.declared.call.Call.{Call}
+use Rattle.fs_machine.specs.declared.originations.End.{End}
+use Rattle.fs_machine.specs.Originations.{end_of, end_made, end_made_as, named_end_made, leg_end, far_end, pair_made, is_visible, is_name}
+use Rattle.fs_machine.specs.Originations.{is_free, is_misnamed, leg_uuid}
 use Rattle.fs_machine.proofs.SeenLemmas.{uuid_of, uuid_in}
 use Rattle.fs_machine.proofs.ShortLemmas.{left_holds, right_holds, uuid_short}
 

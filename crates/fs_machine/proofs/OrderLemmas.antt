@@ -12,7 +12,7 @@ use Rattle.fs_doc.specs.declared.settings.Settings.{Settings}
 use Rattle.fs_state.specs.declared.conn.Conn.{Conn}
 use Rattle.fs_state.specs.Frames.{texts_of}
 use Rattle.fs_state.specs.Posting.{with_posts}
-use Rattle.fs_state.specs.Switch.{Switch, empty, waiting_at, outgoing_for, waiting_for, at_moment, after_entry}
+use Rattle.fs_state.specs.Switch.{Switch, empty, waiting_at, outgoing_for, waiting_for, at_moment, after_entry, is_full}
 use Rattle.fs_state.proofs.GiftLemmas.{none_waits, as_many}
 use Rattle.fs_machine.specs.declared.entry.Entry.{Entry}
 use Rattle.fs_machine.specs.declared.entry.Act.{Act}
@@ -20,7 +20,7 @@ use Rattle.fs_machine.specs.declared.entry.Act.TheVariants.{Arrive, Take, Close}
 use Rattle.fs_machine.specs.declared.entry.Closing.TheVariants.{Sent, Failed}
 use Rattle.fs_machine.specs.declared.refusal.Refusal.{Refusal}
 use Rattle.fs_machine.specs.declared.refusal.Refusal.TheVariants as refusal
-use Rattle.fs_machine.specs.Entries.{cost_of, is_full}
+use Rattle.fs_machine.specs.Entries.{cost_of}
 use Rattle.fs_machine.specs.Step.{refused_where, refused_act, refusal_of, act_done, step}
 use Rattle.fs_machine.specs.Runs.{run_from, IsRunFrom}
 use Rattle.fs_machine.proofs.ConstantMoves.{Constants, acted_constants}

@@ -34,15 +34,15 @@ use Rattle.fs_machine.specs.declared.entry.Entry.{Entry}
 use Rattle.fs_machine.specs.declared.entry.Act.{Act}
 use Rattle.fs_machine.specs.declared.entry.Act.TheVariants.{Arrive, Take, Close}
 use Rattle.fs_machine.specs.declared.entry.Closing.TheVariants.{Sent, Failed}
-use Rattle.fs_calls.specs.Texts.{made_text, failed_text}
-use Rattle.fs_calls.specs.Connections.{phase_at, conn_changed_from, conn_changed, admitted, parted, owed_since, not_owed}
-use Rattle.fs_calls.specs.Connections.{with_subs_changed}
+use Rattle.fs_machine.specs.Texts.{made_text, failed_text}
+use Rattle.fs_machine.specs.Connections.{phase_at, conn_changed_from, conn_changed, admitted, parted, owed_since, not_owed}
+use Rattle.fs_machine.specs.Connections.{with_subs_changed}
 use Rattle.fs_machine.specs.Entries.{cost_of}
-use Rattle.fs_calls.specs.Originations.{MadeGroup, group_made, after_winning}
-use Rattle.fs_calls.specs.Attempts.{first_group, orig_begun, originate_begun}
-use Rattle.fs_calls.specs.declared.owing.Giver.{Giver}
-use Rattle.fs_calls.specs.declared.owing.Giver.TheVariants as giver
-use Rattle.fs_calls.specs.Owing.{job_number, after_job_begin, background_begun, after_job_end}
+use Rattle.fs_machine.specs.Originations.{MadeGroup, group_made, after_winning}
+use Rattle.fs_machine.specs.Attempts.{first_group, orig_begun, originate_begun}
+use Rattle.fs_machine.specs.declared.owing.Giver.{Giver}
+use Rattle.fs_machine.specs.declared.owing.Giver.TheVariants as giver
+use Rattle.fs_machine.specs.Owing.{job_number, after_job_begin, background_begun, after_job_end}
 use Rattle.fs_machine.specs.Runs.{run_from, IsRunFrom}
 use Rattle.fs_machine.specs.Sound.{EventsAreFew}
 use Rattle.fs_machine.specs.Step.{is_closed, refusal_of, act_done, step}

@@ -33,16 +33,16 @@ use Rattle.fs_machine.specs.declared.entry.Act.TheVariants as act
 use Rattle.fs_machine.specs.declared.entry.Closing.{Closing}
 use Rattle.fs_machine.specs.declared.entry.Closing.TheVariants as closing
 use Rattle.fs_machine.specs.declared.refusal.Refusal.TheVariants as refusal
-use Rattle.fs_calls.specs.Texts.{made_text, failed_text}
-use Rattle.fs_calls.specs.Hangups.{all_slots, after_hangup_of_all}
-use Rattle.fs_calls.specs.Shutdown.{shutdown_event, stopped_reply, after_shutdown}
-use Rattle.fs_calls.specs.Connections.{phase_of, phase_at, conn_changed, admitted, parted, with_subs_changed}
+use Rattle.fs_machine.specs.Texts.{made_text, failed_text}
+use Rattle.fs_machine.specs.Hangups.{all_slots, after_hangup_of_all}
+use Rattle.fs_machine.specs.Shutdown.{shutdown_event, stopped_reply, after_shutdown}
+use Rattle.fs_machine.specs.Connections.{phase_of, phase_at, conn_changed, admitted, parted, with_subs_changed}
 use Rattle.fs_machine.specs.Questions.{owed_of, owed_to}
-use Rattle.fs_calls.specs.Originations.{group_made, after_winning, seconds, MadeGroup}
-use Rattle.fs_calls.specs.Attempts.{originate_begun, with_group, first_group, orig_begun, awaits}
-use Rattle.fs_calls.specs.declared.owing.Giver.{Giver}
-use Rattle.fs_calls.specs.declared.owing.Giver.TheVariants as giver
-use Rattle.fs_calls.specs.Owing.{after_job_begin, background_begun, after_job_end}
+use Rattle.fs_machine.specs.Originations.{group_made, after_winning, seconds, MadeGroup}
+use Rattle.fs_machine.specs.Attempts.{originate_begun, with_group, first_group, orig_begun, awaits}
+use Rattle.fs_machine.specs.declared.owing.Giver.{Giver}
+use Rattle.fs_machine.specs.declared.owing.Giver.TheVariants as giver
+use Rattle.fs_machine.specs.Owing.{after_job_begin, background_begun, after_job_end}
 use Rattle.fs_machine.specs.Step.{reads, busy, refused_act, after_close, act_done}
 use Rattle.fs_machine.specs.Owed.{PartsIn}
 use Rattle.fs_machine.proofs.Kept.{Stage, Fact, KeptByCalls, DoesJob, raced, KeptByJobs, KeptByCommands, KeptByTouches, KeptByDials}
@@ -64,8 +64,8 @@ use Rattle.fs_orig.specs.Changes.{new_orig}
 use Rattle.fs_orig.specs.Plans.{all_behind}
 use Rattle.fs_seats.proofs.NumberLemmas.{Numbers}
 use Rattle.fs_state.specs.Moves.{after_move}
-use Rattle.fs_calls.specs.Bridging.{caller_of, group_dialed, after_bridge_failure, after_bridge_win}
-use Rattle.fs_calls.specs.Dialing.{tried_by_slot}
+use Rattle.fs_machine.specs.Bridging.{caller_of, group_dialed, after_bridge_failure, after_bridge_win}
+use Rattle.fs_machine.specs.Dialing.{tried_by_slot}
 use Rattle.fs_machine.proofs.OwedTables.{by_job, by_slot, owned_in, untold_added}
 use Rattle.fs_machine.proofs.OwedLosses.{Loses, moved_loses, winning_loses, calls_by_losses, failure_loses, bridge_won_loses, group_loses}
 use Rattle.fs_machine.proofs.OwedLosses.{regrouped_loses, OwnsAwaited, awaited_loses, winning_numbers, hung_loses}

@@ -25,12 +25,12 @@ use Rattle.fs_state.specs.declared.job.JobWork.{JobWork}
 use Rattle.fs_state.specs.declared.job.JobWork.TheVariants.{Run, Sleep, Originate}
 use Rattle.fs_state.specs.Switch.{Switch, next_orig_number, next_job_number, conn_of, with_conn, with_new_job, with_new_orig, without_job}
 use Rattle.fs_state.specs.Switch.{without_conn, without_orig}
-use Rattle.fs_calls.specs.Connections.{conn_changed_from, conn_changed, owed_since, not_owed}
-use Rattle.fs_calls.specs.Originations.{seconds, MadeGroup, group_made}
-use Rattle.fs_calls.specs.Attempts.{first_group, tried_by_job, originate_begun}
-use Rattle.fs_calls.specs.declared.owing.Giver.{Giver}
-use Rattle.fs_calls.specs.declared.owing.Giver.TheVariants as giver
-use Rattle.fs_calls.specs.Owing.{job_number, after_owing, after_job_begin, job_uuid, background_begun, after_job_end}
+use Rattle.fs_machine.specs.Connections.{conn_changed_from, conn_changed, owed_since, not_owed}
+use Rattle.fs_machine.specs.Originations.{seconds, MadeGroup, group_made}
+use Rattle.fs_machine.specs.Attempts.{first_group, tried_by_job, originate_begun}
+use Rattle.fs_machine.specs.declared.owing.Giver.{Giver}
+use Rattle.fs_machine.specs.declared.owing.Giver.TheVariants as giver
+use Rattle.fs_machine.specs.Owing.{job_number, after_owing, after_job_begin, job_uuid, background_begun, after_job_end}
 use Rattle.fs_machine.specs.Step.{new_conn, arrived}
 use Rattle.fs_machine.specs.Owed.{Parts}
 use Rattle.fs_machine.proofs.OwedBooks.{Conns, Jobs, Books, books_of, books_same, PartEach, Linked, HasNumber, tried_by, trying_in, Tries}

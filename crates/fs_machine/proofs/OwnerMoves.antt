@@ -42,19 +42,19 @@ use Rattle.fs_state.specs.Moves.{after_move_from, orig_changed, leg_changed, aft
 use Rattle.fs_state.specs.Hangups.{legs_at, after_hangups}
 use Rattle.fs_state.specs.Bridging.{peer_of, with_peer_from, with_peer, joined_as}
 use Rattle.fs_state.proofs.LegTables.{berthed}
-use Rattle.fs_calls.specs.declared.call.Call.{Call}
-use Rattle.fs_calls.specs.Texts.{made_text, failed_text}
-use Rattle.fs_calls.specs.Connections.{conn_changed, admitted, parted, with_subs_changed}
-use Rattle.fs_calls.specs.Originations.{pair_made, MadeGroup, group_made, won_by, after_winning}
-use Rattle.fs_calls.specs.Attempts.{first_group, orig_begun, tried_by_job, originate_begun, with_group, awaits}
-use Rattle.fs_calls.specs.declared.owing.Giver.{Giver}
-use Rattle.fs_calls.specs.declared.owing.Giver.TheVariants as giver
-use Rattle.fs_calls.specs.Owing.{job_number, after_job_end}
+use Rattle.fs_machine.specs.declared.call.Call.{Call}
+use Rattle.fs_machine.specs.Texts.{made_text, failed_text}
+use Rattle.fs_machine.specs.Connections.{conn_changed, admitted, parted, with_subs_changed}
+use Rattle.fs_machine.specs.Originations.{pair_made, MadeGroup, group_made, won_by, after_winning}
+use Rattle.fs_machine.specs.Attempts.{first_group, orig_begun, tried_by_job, originate_begun, with_group, awaits}
+use Rattle.fs_machine.specs.declared.owing.Giver.{Giver}
+use Rattle.fs_machine.specs.declared.owing.Giver.TheVariants as giver
+use Rattle.fs_machine.specs.Owing.{job_number, after_job_end}
 use Rattle.fs_machine.specs.Sound.{Awaits, IsOwnedBy}
-use Rattle.fs_calls.specs.Bridging.{caller_of, group_dialed, goes_on, after_going_on, bridge_failed_from, after_bridge_failure}
-use Rattle.fs_calls.specs.Bridging.{after_bridge_win, disposed}
-use Rattle.fs_calls.specs.Dialing.{tried_by_slot}
-use Rattle.fs_calls.specs.Joining.{after_leaving, both_left}
+use Rattle.fs_machine.specs.Bridging.{caller_of, group_dialed, goes_on, after_going_on, bridge_failed_from, after_bridge_failure}
+use Rattle.fs_machine.specs.Bridging.{after_bridge_win, disposed}
+use Rattle.fs_machine.specs.Dialing.{tried_by_slot}
+use Rattle.fs_machine.specs.Joining.{after_leaving, both_left}
 use Rattle.fs_state.specs.Leaving.{after_leaving_others}
 use Rattle.fs_machine.proofs.NameLemmas.{leg_chan, far_chan, pair_channels}
 use Rattle.fs_machine.proofs.Kept.{Stage, Fact, Links, Stays, KeptByTouches, KeptByCalls, KeptByBirths, KeptByDials, raced, KeptByMoves}

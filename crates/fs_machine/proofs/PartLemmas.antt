@@ -41,18 +41,18 @@ use Rattle.fs_state.specs.Ending.{ended}
 use Rattle.fs_state.specs.Hangups.{after_hangup}
 use Rattle.fs_machine.specs.declared.entry.Act.{Act}
 use Rattle.fs_machine.specs.declared.entry.Act.TheVariants as act
-use Rattle.fs_calls.specs.Connections.{phase_of, phase_at, conn_changed_from, conn_changed, admitted, parted, owed_since}
-use Rattle.fs_calls.specs.Connections.{with_subs_changed, subs_at}
+use Rattle.fs_machine.specs.Connections.{phase_of, phase_at, conn_changed_from, conn_changed, admitted, parted, owed_since}
+use Rattle.fs_machine.specs.Connections.{with_subs_changed, subs_at}
 use Rattle.fs_machine.specs.Questions.{parting_of, parting_at}
-use Rattle.fs_calls.specs.Originations.{MadeGroup, group_made}
-use Rattle.fs_calls.specs.Attempts.{first_group, orig_begun, originate_begun}
-use Rattle.fs_calls.specs.declared.owing.Giver.TheVariants as giver
-use Rattle.fs_calls.specs.Owing.{after_job_begin, job_uuid, background_begun}
-use Rattle.fs_calls.specs.Api.{done_by}
-use Rattle.fs_calls.specs.Commands.{with_reply, after_dismissal, after_password, with_response_of, after_asking, after_subscribing}
-use Rattle.fs_calls.specs.Commands.{with_begun_told, after_background}
-use Rattle.fs_calls.specs.Commands.{queued_on, message_done, message_done_at, message_sent, command_done_in, command_done}
-use Rattle.fs_calls.specs.Done.{Done}
+use Rattle.fs_machine.specs.Originations.{MadeGroup, group_made}
+use Rattle.fs_machine.specs.Attempts.{first_group, orig_begun, originate_begun}
+use Rattle.fs_machine.specs.declared.owing.Giver.TheVariants as giver
+use Rattle.fs_machine.specs.Owing.{after_job_begin, job_uuid, background_begun}
+use Rattle.fs_machine.specs.Api.{done_by}
+use Rattle.fs_machine.specs.Commands.{with_reply, after_dismissal, after_password, with_response_of, after_asking, after_subscribing}
+use Rattle.fs_machine.specs.Commands.{with_begun_told, after_background}
+use Rattle.fs_machine.specs.Commands.{queued_on, message_done, message_done_at, message_sent, command_done_in, command_done}
+use Rattle.fs_machine.specs.Done.{Done}
 use Rattle.fs_machine.specs.Step.{reads, new_conn, step}
 use Rattle.fs_machine.specs.Concerns.{is_its_own, KeepsPhase, IsParted, KeepsOrParts}
 use Rattle.fs_machine.proofs.Kept.{Fact, KeptByCalls, KeptByApi}

@@ -20,8 +20,8 @@ use Rattle.fs_state.specs.Switch.{Switch, chan_at, with_chan, without_bridge, wi
 use Rattle.fs_state.specs.Moves.{after_move_from, after_move, orig_changed, partner_of, after_one_hangup}
 use Rattle.fs_state.specs.Hangups.{world_of, living_of, Ended, after_ends, is_leg_of, with_end_told, untold_by, after_member, after_members}
 use Rattle.fs_state.specs.Hangups.{after_survivals, after_hangups}
-use Rattle.fs_calls.specs.declared.call.Call.{Call}
-use Rattle.fs_calls.specs.Originations.{pair_made, won_by, after_winning}
+use Rattle.fs_machine.specs.declared.call.Call.{Call}
+use Rattle.fs_machine.specs.Originations.{pair_made, won_by, after_winning}
 use Rattle.fs_machine.proofs.Kept.{Stage, Fact, Remains, KeptByBirths, raced, KeptByMoves}
 use Rattle.fs_machine.proofs.StayLemmas.{new_lives, execute_lives, routing_lives, park_lives, exchange_lives, state_told_kept, moved_there}
 use Rattle.fs_machine.proofs.StayLemmas.{orig_changed_channels}

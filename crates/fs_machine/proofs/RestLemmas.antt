@@ -34,17 +34,17 @@ use Rattle.fs_state.specs.Moves.{after_move, with_changed_chan, orig_changed_fro
 use Rattle.fs_state.specs.Moves.{after_answer, orig_given_up}
 use Rattle.fs_state.specs.Hangups.{after_hangups}
 use Rattle.fs_state.specs.Bridging.{can_join, peer_of, with_peer_from, with_peer, joined_as}
-use Rattle.fs_calls.specs.declared.call.Call.{Call}
-use Rattle.fs_calls.specs.Originations.{leg_end, pair_made, MadeGroup, group_made, won_by, after_winning}
-use Rattle.fs_calls.specs.Attempts.{first_group, orig_begun, with_group}
-use Rattle.fs_calls.specs.Bridging.{caller_of, group_dialed, goes_on, after_going_on, bridge_failed_from, after_bridge_failure, disposed}
-use Rattle.fs_calls.specs.Bridging.{after_bridge_win}
-use Rattle.fs_calls.specs.Dialing.{tried_by_slot}
-use Rattle.fs_calls.specs.Joining.{after_leaving}
-use Rattle.fs_calls.specs.Leaving.{after_departure}
+use Rattle.fs_machine.specs.declared.call.Call.{Call}
+use Rattle.fs_machine.specs.Originations.{leg_end, pair_made, MadeGroup, group_made, won_by, after_winning}
+use Rattle.fs_machine.specs.Attempts.{first_group, orig_begun, with_group}
+use Rattle.fs_machine.specs.Bridging.{caller_of, group_dialed, goes_on, after_going_on, bridge_failed_from, after_bridge_failure, disposed}
+use Rattle.fs_machine.specs.Bridging.{after_bridge_win}
+use Rattle.fs_machine.specs.Dialing.{tried_by_slot}
+use Rattle.fs_machine.specs.Joining.{after_leaving}
+use Rattle.fs_machine.specs.Leaving.{after_departure}
 use Rattle.fs_machine.proofs.JoinLemmas.{both_left_kept}
 use Rattle.fs_machine.proofs.LeaveLemmas.{departed_kept}
-use Rattle.fs_calls.specs.Work.{after_work}
+use Rattle.fs_machine.specs.Work.{after_work}
 use Rattle.fs_machine.proofs.Kept.{Stage, Fact, KeptByTouches, KeptByCalls, KeptByBirths, DoesJob, KeptByDials, raced}
 use Rattle.fs_machine.proofs.NameLemmas.{leg_by}
 use Rattle.fs_machine.proofs.StayLemmas.{moved_there, changed_there}

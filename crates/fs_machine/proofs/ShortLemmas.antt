@@ -38,8 +38,8 @@ use Rattle.fs_orig.specs.declared.winner.Winner.{Winner}
 use Rattle.fs_orig.specs.Endpoints as endpoints
 use Rattle.fs_orig.specs.Endpoints.{endpoint_of}
 use Rattle.fs_orig.proofs.EndpointLemmas.{part_or_short}
-use Rattle.fs_calls.specs.declared.call.Call.{Call}
-use Rattle.fs_calls.specs.Originations.{cut, loopback_name, loopback_profile}
+use Rattle.fs_machine.specs.declared.call.Call.{Call}
+use Rattle.fs_machine.specs.Originations.{cut, loopback_name, loopback_profile}
 use Rattle.fs_machine.proofs.Kept.{IsShortWinner}
 
 -- ---- tests

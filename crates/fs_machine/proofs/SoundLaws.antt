@@ -10,9 +10,9 @@ use Rattle.fs_doc.specs.Reading.{Configuration}
 use Rattle.fs_doc.specs.Limits.{IsWithin}
 use Rattle.fs_state.specs.Switch.{Switch, empty, chan_at, without_orig, at_moment}
 use Rattle.fs_state.specs.Bridging.{can_join}
-use Rattle.fs_calls.specs.declared.attempts.WonLeg.{WonLeg}
-use Rattle.fs_calls.specs.Attempts.{won_in, won_leg, others, after_losses, death_of}
-use Rattle.fs_calls.specs.Bridging.{after_win_told}
+use Rattle.fs_machine.specs.declared.attempts.WonLeg.{WonLeg}
+use Rattle.fs_machine.specs.Attempts.{won_in, won_leg, others, after_losses, death_of}
+use Rattle.fs_machine.specs.Bridging.{after_win_told}
 use Rattle.fs_machine.specs.declared.entry.Entry.{Entry}
 use Rattle.fs_machine.specs.Runs.{run_from, IsRunFrom, StandsFor}
 use Rattle.fs_machine.specs.Sound.{HasLeg, IsSound}

@@ -24,7 +24,7 @@ use Rattle.fs_text.specs.Texts.{Text}
 use Rattle.fs_vars.specs.Pairs.{same_text, value_of}
 use Rattle.fs_vars.specs.Variables.{Variables}
 use Rattle.fs_chan.specs.declared.assignment.Assignment.{Assignment}
-use Rattle.fs_calls.specs.Applications.{with_assignment}
+use Rattle.fs_machine.specs.Applications.{with_assignment}
 use Rattle.fs_orig.specs.declared.orig.Orig.{Orig}
 use Rattle.fs_orig.specs.Changes.{with_answer}
 use Rattle.fs_seats.specs.Seats.{held_in, with_held}
@@ -34,7 +34,7 @@ use Rattle.fs_state.specs.Switch.{Switch, chan_at, with_chan, orig_of, with_even
 use Rattle.fs_state.specs.Moves.{plain_event, with_leaving_event, with_coming_event, with_state_events, with_changed_chan_from}
 use Rattle.fs_state.specs.Moves.{with_changed_chan, after_move_from, after_move, with_running, orig_changed_from, orig_changed, leg_changed}
 use Rattle.fs_state.specs.Moves.{application_event, its_leg_changed, after_answer_from, after_one_answer, partner_at, for_slot, after_answer}
-use Rattle.fs_calls.specs.Work.{first_state, with_variables}
+use Rattle.fs_machine.specs.Work.{first_state, with_variables}
 use Rattle.fs_machine.specs.Sound.{is_idle}
 use Rattle.fs_machine.proofs.LimitLemmas.{AreLimited, cause_key, with_set_limited, with_set_stays}
 use Rattle.fs_machine.proofs.Kept.{Stage, hold_in, Links, links_of, IsApt, IsAtWork, KeepsVars, Stays, TellsNoBridge}

@@ -5,11 +5,11 @@ use Rattle.fs_state.specs.declared.job.JobWork.TheVariants.{Run, Sleep, Originat
 use Rattle.std.proofs.Common.{unwrap_or, ◌≡◌, ℕ, ◌+◌, ◌-◌, ◌^◌, ◌<◌, ◌≤◌, List, length, Option, None, Some, refl, sym, ap, subst, ◌∙◌, inl, inr}
 use Rattle.std.proofs.Common.{arith}
 use Rattle.std.proofs.lemmas.Option.{none-some, same_Some}
-use Rattle.fs_calls.specs.Texts.{made_text, failed_text}
-use Rattle.fs_calls.specs.Connections.{admitted, parted, conn_changed, owed_since, not_owed, with_subs_changed}
-use Rattle.fs_calls.specs.Originations.{after_winning, seconds, MadeGroup, group_made}
-use Rattle.fs_calls.specs.Attempts.{with_group, first_group, orig_begun, originate_begun}
-use Rattle.fs_calls.specs.Bridging.{after_bridge_failure, after_bridge_win, caller_of, group_dialed}
+use Rattle.fs_machine.specs.Texts.{made_text, failed_text}
+use Rattle.fs_machine.specs.Connections.{admitted, parted, conn_changed, owed_since, not_owed, with_subs_changed}
+use Rattle.fs_machine.specs.Originations.{after_winning, seconds, MadeGroup, group_made}
+use Rattle.fs_machine.specs.Attempts.{with_group, first_group, orig_begun, originate_begun}
+use Rattle.fs_machine.specs.Bridging.{after_bridge_failure, after_bridge_win, caller_of, group_dialed}
 use Rattle.fs_machine.proofs.Kept.{raced, KeptByApi, KeptByMoves, Stage}
 use Rattle.fs_machine.proofs.OwedLosses.{winning_loses, calls_by_losses, failure_loses, bridge_won_loses, regrouped_loses, Loses}
 use Rattle.fs_machine.proofs.OwedLosses.{moved_loses, group_loses}
@@ -37,10 +37,10 @@ use Rattle.fs_state.specs.declared.job.JobWork.{JobWork}
 use Rattle.fs_state.specs.Switch.{Switch, next_orig_number, next_job_number, with_new_job, without_job, without_orig}
 use Rattle.fs_state.specs.Switch.{with_next_identifier}
 use Rattle.fs_state.specs.Moves.{after_move}
-use Rattle.fs_calls.specs.Dialing.{tried_by_slot}
-use Rattle.fs_calls.specs.declared.owing.Giver.{Giver}
-use Rattle.fs_calls.specs.declared.owing.Giver.TheVariants as giver
-use Rattle.fs_calls.specs.Owing.{job_number, after_job_begin, job_uuid, background_begun, after_job_end}
+use Rattle.fs_machine.specs.Dialing.{tried_by_slot}
+use Rattle.fs_machine.specs.declared.owing.Giver.{Giver}
+use Rattle.fs_machine.specs.declared.owing.Giver.TheVariants as giver
+use Rattle.fs_machine.specs.Owing.{job_number, after_job_begin, job_uuid, background_begun, after_job_end}
 use Rattle.fs_machine.proofs.FrontLemmas.{conn_unread}
 use Rattle.fs_machine.proofs.RestLemmas.{Rest}
 use Rattle.fs_machine.proofs.OwedBooks.{Jobs, tried_by}

@@ -21,10 +21,10 @@ use Rattle.fs_orig.proofs.VerdictLemmas.{next_may_be_entered, winner_lives}
 use Rattle.fs_state.specs.Switch.{Switch, chan_at, orig_of}
 use Rattle.fs_state.specs.Moves.{for_slot}
 use Rattle.fs_state.specs.Hangups.{lives, lives_at, after_hangups, after_hangup}
-use Rattle.fs_calls.specs.declared.attempts.Attempt.{Attempt}
-use Rattle.fs_calls.specs.declared.attempts.WonLeg.{WonLeg}
-use Rattle.fs_calls.specs.Attempts.{failed_for, won_in, won_leg, won_for, group_for, with_group, others, death_of, after_race_by, after_winning_at}
-use Rattle.fs_calls.specs.Attempts.{after_leg_expiry, after_next_group, after_verdict, after_verdict_from, after_verdict_on}
+use Rattle.fs_machine.specs.declared.attempts.Attempt.{Attempt}
+use Rattle.fs_machine.specs.declared.attempts.WonLeg.{WonLeg}
+use Rattle.fs_machine.specs.Attempts.{failed_for, won_in, won_leg, won_for, group_for, with_group, others, death_of, after_race_by, after_winning_at}
+use Rattle.fs_machine.specs.Attempts.{after_leg_expiry, after_next_group, after_verdict, after_verdict_from, after_verdict_on}
 use Rattle.fs_machine.specs.Sound.{HasLeg}
 use Rattle.fs_machine.proofs.Kept.{Fact, KeptByCalls, raced, HasWon, IsOver, won_of}
 use Rattle.fs_machine.proofs.CameLemmas.{CameFrom, came_self, came_hung}

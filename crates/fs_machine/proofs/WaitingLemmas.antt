@@ -21,7 +21,7 @@ use Rattle.fs_state.specs.Switch.{Switch, waiting_at, outgoing_for, waiting_for,
 use Rattle.fs_state.specs.Switch.{after_entry}
 use Rattle.fs_state.proofs.GiftLemmas.{AreQuiet, quiet_less, quiet_taken, quiet_delivered, changed_length, given_length, delivered_length}
 use Rattle.fs_state.proofs.GiftLemmas.{one_given, texts_append, texts_drop}
-use Rattle.fs_calls.specs.Connections.{phase_of, phase_at}
+use Rattle.fs_machine.specs.Connections.{phase_of, phase_at}
 use Rattle.fs_machine.specs.Step.{is_closed, new_conn, arrived}
 use Rattle.fs_machine.specs.Frames.{frames_among, given_in}
 use Rattle.fs_machine.proofs.PostLemmas.{frames_for, texts_for, nothing_posted}

@@ -52,18 +52,18 @@ use Rattle.fs_state.specs.Moves.{plain_event, application_event, running_at, rep
 use Rattle.fs_state.specs.Moves.{run_on, after_completion, its_leg_changed, after_answer_from, after_one_answer, partner_at, for_slot}
 use Rattle.fs_state.specs.Moves.{after_answer, after_report, after_destroy}
 use Rattle.fs_state.specs.Hangups.{after_hangup}
-use Rattle.fs_calls.specs.declared.attempts.Party.TheVariants as party
-use Rattle.fs_calls.specs.declared.call.Call.{Call}
-use Rattle.fs_calls.specs.Applications.{with_assignment, after_assignment, after_sleep, state_at, after_park_in, after_effect}
-use Rattle.fs_calls.specs.Applications.{argument_in, executed_within, after_running_next, after_running_from, after_running}
-use Rattle.fs_calls.specs.Attempts.{awaits, failed_for, won_for, group_for, with_group, after_verdict_on}
-use Rattle.fs_calls.specs.Bridging.{caller_of, group_dialed, goes_on, after_going_on, bridge_failed_from, after_bridge_failure}
-use Rattle.fs_calls.specs.Bridging.{after_bridge_win, disposed}
-use Rattle.fs_calls.specs.Dialing.{bridge_timeout, bridge_begun_from, bridge_dialed, after_dialing}
-use Rattle.fs_calls.specs.Work.{with_variables, routed_to, has_xml, actions_for, too_long_cause, found_for, routed_by, after_routing_from}
-use Rattle.fs_calls.specs.Work.{first_state, after_wait, after_work_in, after_work_from, after_work}
-use Rattle.fs_calls.specs.Originations.{Made, made_dead, made_in, with_second, free_pair, is_congested, loopback_made, set_all}
-use Rattle.fs_calls.specs.Originations.{no_variables, own_uuid, call_with, is_misnamed, made_with, made_of, leg_made, group_made}
+use Rattle.fs_machine.specs.declared.attempts.Party.TheVariants as party
+use Rattle.fs_machine.specs.declared.call.Call.{Call}
+use Rattle.fs_machine.specs.Applications.{with_assignment, after_assignment, after_sleep, state_at, after_park_in, after_effect}
+use Rattle.fs_machine.specs.Applications.{argument_in, executed_within, after_running_next, after_running_from, after_running}
+use Rattle.fs_machine.specs.Attempts.{awaits, failed_for, won_for, group_for, with_group, after_verdict_on}
+use Rattle.fs_machine.specs.Bridging.{caller_of, group_dialed, goes_on, after_going_on, bridge_failed_from, after_bridge_failure}
+use Rattle.fs_machine.specs.Bridging.{after_bridge_win, disposed}
+use Rattle.fs_machine.specs.Dialing.{bridge_timeout, bridge_begun_from, bridge_dialed, after_dialing}
+use Rattle.fs_machine.specs.Work.{with_variables, routed_to, has_xml, actions_for, too_long_cause, found_for, routed_by, after_routing_from}
+use Rattle.fs_machine.specs.Work.{first_state, after_wait, after_work_in, after_work_from, after_work}
+use Rattle.fs_machine.specs.Originations.{Made, made_dead, made_in, with_second, free_pair, is_congested, loopback_made, set_all}
+use Rattle.fs_machine.specs.Originations.{no_variables, own_uuid, call_with, is_misnamed, made_with, made_of, leg_made, group_made}
 use Rattle.fs_machine.proofs.DialLemmas.{dialed_groups}
 use Rattle.fs_machine.proofs.ShortLemmas.{sent_short, application_short, endpoint_short}
 use Rattle.fs_machine.specs.Sound.{is_idle}

@@ -20,13 +20,13 @@ use Rattle.fs_state.specs.declared.job.JobWork.{JobWork}
 use Rattle.fs_state.specs.declared.job.JobWork.TheVariants.{Run, Sleep, Originate}
 use Rattle.fs_state.specs.Switch.{Switch, next_orig_number, next_job_number, with_new_job, without_job, without_orig}
 use Rattle.fs_state.specs.Switch.{with_next_identifier}
-use Rattle.fs_calls.specs.Texts.{made_text, failed_text}
-use Rattle.fs_calls.specs.Connections.{conn_changed, admitted, parted, owed_since, not_owed, with_subs_changed}
-use Rattle.fs_calls.specs.Originations.{MadeGroup, group_made, after_winning}
-use Rattle.fs_calls.specs.Attempts.{first_group, orig_begun, originate_begun}
-use Rattle.fs_calls.specs.declared.owing.Giver.{Giver}
-use Rattle.fs_calls.specs.declared.owing.Giver.TheVariants as giver
-use Rattle.fs_calls.specs.Owing.{job_number, after_job_begin, job_uuid, background_begun, after_job_end}
+use Rattle.fs_machine.specs.Texts.{made_text, failed_text}
+use Rattle.fs_machine.specs.Connections.{conn_changed, admitted, parted, owed_since, not_owed, with_subs_changed}
+use Rattle.fs_machine.specs.Originations.{MadeGroup, group_made, after_winning}
+use Rattle.fs_machine.specs.Attempts.{first_group, orig_begun, originate_begun}
+use Rattle.fs_machine.specs.declared.owing.Giver.{Giver}
+use Rattle.fs_machine.specs.declared.owing.Giver.TheVariants as giver
+use Rattle.fs_machine.specs.Owing.{job_number, after_job_begin, job_uuid, background_begun, after_job_end}
 use Rattle.fs_machine.proofs.Kept.{Fact, DoesJob, raced, IsShortWinner, KeptByApi, KeptByMoves}
 use Rattle.fs_machine.proofs.FrontLemmas.{conn_unread}
 use Rattle.fs_machine.proofs.RestLemmas.{Rest, rest_of, calls_by_rest, dials_by_rest, group_made_rest, won_rest}

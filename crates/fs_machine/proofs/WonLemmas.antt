@@ -15,7 +15,7 @@ use Rattle.fs_state.specs.Switch.{Switch, with_chan, bridge_at, orig_of}
 use Rattle.fs_state.specs.Moves.{after_move, after_answer, orig_changed_from, leg_changed}
 use Rattle.fs_state.specs.Hangups.{lives, lives_at}
 use Rattle.fs_state.specs.Bridging.{can_join, joined_as}
-use Rattle.fs_calls.specs.Bridging.{after_win_told, joined_to_leg, after_bridge_win}
+use Rattle.fs_machine.specs.Bridging.{after_win_told, joined_to_leg, after_bridge_win}
 use Rattle.fs_machine.proofs.ShortLemmas.{left_holds, right_holds}
 use Rattle.fs_machine.proofs.Kept.{KeptByTouches}
 use Rattle.fs_machine.proofs.Walk.{answered_kept, disposed_kept}

@@ -8,7 +8,7 @@ use Rattle.fs_state.specs.Posting.{with_posts}
 use Rattle.fs_machine.specs.declared.entry.Entry.{Entry}
 use Rattle.fs_machine.specs.declared.entry.Act.{Act}
 use Rattle.fs_machine.specs.declared.entry.Act.TheVariants.{Command, Take}
-use Rattle.fs_calls.specs.Connections.{phase_at}
+use Rattle.fs_machine.specs.Connections.{phase_at}
 use Rattle.fs_machine.specs.Step.{is_closed, act_done, step}
 
 -- ---- what is given

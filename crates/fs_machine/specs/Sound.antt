@@ -23,7 +23,7 @@ use Rattle.fs_orig.specs.Verdicts.{verdict_of}
 use Rattle.fs_state.specs.Outboxes.{events_in}
 use Rattle.fs_state.specs.Posting.{most_events}
 use Rattle.fs_state.specs.Switch.{Switch, chan_at, bridge_at, orig_of, job_at, outgoing_for}
-use Rattle.fs_calls.specs.Connections.{phase_at}
+use Rattle.fs_machine.specs.Connections.{phase_at}
 use Rattle.fs_machine.specs.Owed.{AreOwed}
 use Rattle.fs_machine.specs.Step.{reads}
 

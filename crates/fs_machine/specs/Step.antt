@@ -12,7 +12,7 @@ use Rattle.fs_state.specs.declared.conn.Parting.TheVariants as parting
 use Rattle.fs_filter.specs.Subscriptions.{nothing}
 use Rattle.fs_state.specs.Drawn as numbers
 use Rattle.fs_state.specs.Posting.{with_posts}
-use Rattle.fs_state.specs.Switch.{Switch, with_new_conn, without_conn, with_frame_taken, waiting_for, is_full_of_conns, with_frame_now}
+use Rattle.fs_state.specs.Switch.{Switch, with_new_conn, without_conn, with_frame_taken, waiting_for, is_full_of_conns, with_frame_now, is_full}
 use Rattle.fs_state.specs.Switch.{at_moment, after_entry}
 use Rattle.fs_machine.specs.declared.entry.Entry.{Entry}
 use Rattle.fs_machine.specs.declared.entry.Act.{Act}
@@ -23,14 +23,14 @@ use Rattle.fs_machine.specs.declared.reply.Reply.{Reply}
 use Rattle.fs_machine.specs.declared.reply.Reply.TheVariants as reply
 use Rattle.fs_machine.specs.declared.refusal.Refusal.{Refusal}
 use Rattle.fs_machine.specs.declared.refusal.Refusal.TheVariants as refusal
-use Rattle.fs_machine.specs.Entries.{cost_of, is_full}
-use Rattle.fs_calls.specs.Connections.{phase_at, conn_changed, parted}
+use Rattle.fs_machine.specs.Entries.{cost_of}
+use Rattle.fs_machine.specs.Connections.{phase_at, conn_changed, parted}
 use Rattle.fs_machine.specs.Questions.{owed_to}
 use Rattle.fs_machine.specs.Due.{slot_due, job_due}
-use Rattle.fs_calls.specs.Work.{after_work}
-use Rattle.fs_calls.specs.Jobs.{job_done}
-use Rattle.fs_calls.specs.Commands.{command_done}
-use Rattle.fs_calls.specs.Shutdown.{after_shutdown}
+use Rattle.fs_machine.specs.Work.{after_work}
+use Rattle.fs_machine.specs.Jobs.{job_done}
+use Rattle.fs_machine.specs.Commands.{command_done}
+use Rattle.fs_machine.specs.Shutdown.{after_shutdown}
 
 -- ---- refusals
 

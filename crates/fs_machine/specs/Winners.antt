@@ -6,9 +6,9 @@ use Rattle.fs_orig.specs.declared.verdict.Verdict.TheVariants.{Won}
 use Rattle.fs_orig.specs.Verdicts.{verdict_of}
 use Rattle.fs_state.specs.Switch.{Switch, chan_at, orig_of, without_orig}
 use Rattle.fs_state.specs.Bridging.{can_join}
-use Rattle.fs_calls.specs.declared.attempts.WonLeg.{WonLeg}
-use Rattle.fs_calls.specs.Attempts.{awaits, won_leg, after_losses, death_of}
-use Rattle.fs_calls.specs.Bridging.{after_win_told}
+use Rattle.fs_machine.specs.declared.attempts.WonLeg.{WonLeg}
+use Rattle.fs_machine.specs.Attempts.{awaits, won_leg, after_losses, death_of}
+use Rattle.fs_machine.specs.Bridging.{after_win_told}
 
 -- The origination of a number is won by this leg, as a switch stands at its moment. Once the others have lost the race, the leg lives, and the
 -- channel in a slot waits for the origination.

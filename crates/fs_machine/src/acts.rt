@@ -5,10 +5,14 @@ ghost use Rattle.fs_state.specs.declared.delta.OutboxChange.TheVariants.{Unchang
 ghost use Rattle.fs_state.specs.Drafts.{drafted, Brings};
 ghost use Rattle.fs_machine.specs.Step as spec;
 
+use crate::commands::do_command;
+use crate::connections::part;
 use crate::entry::{Act, Closing};
+use crate::jobs::do_job;
 use crate::questions::owed_to;
 use crate::reply::Reply;
-use fs_calls::{do_command, do_job, do_work, part, shut_down};
+use crate::shutdown::shut_down;
+use crate::work::work;
 use fs_cmd::{Command, auth_request};
 use fs_filter::SharedSubs;
 use fs_frame::Block;
@@ -36,7 +40,7 @@ pub(crate) fn do_act(draft: &mut Draft<'_>, dialplan: &Dialplan, act: &Act) -> R
             Ok(Reply::Closed)
         }
         Act::Work { slot } => {
-            do_work(draft, dialplan, *slot)?;
+            work(draft, dialplan, *slot)?;
             Ok(Reply::Worked)
         }
         Act::Job { job } => {

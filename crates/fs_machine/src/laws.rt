@@ -8,7 +8,7 @@ ghost use Rattle.fs_state.specs.Switch.{chan_at, waiting_for, at_moment};
 ghost use Rattle.fs_machine.specs.declared.due.DueActor.TheVariants as actor;
 ghost use Rattle.fs_machine.specs.declared.entry.Entry.{Entry};
 ghost use Rattle.fs_machine.specs.BridgeEvents.{BridgesAreTold, EndsStandBehind, BridgesAreCounted, events_in};
-ghost use Rattle.fs_calls.specs.Connections.{phase_at};
+ghost use Rattle.fs_machine.specs.Connections.{phase_at};
 ghost use Rattle.fs_machine.specs.Due.{next_due};
 ghost use Rattle.fs_machine.specs.EventNames.{AreNamed};
 ghost use Rattle.fs_machine.specs.Events.{events_by};

@@ -2,15 +2,39 @@
 #![tactic(auto)]
 
 mod acts;
+mod api;
+mod applications;
+mod attempts;
+mod bridging;
+mod call;
+mod channels;
+mod commands;
+mod connections;
+mod dialing;
 mod due;
+mod dumping;
 mod entry;
+mod globals;
+mod hangups;
+mod jobs;
+mod joining;
 mod journal;
 mod laws;
+mod leaving;
 mod machine;
+mod messages;
+mod originations;
+mod owing;
 mod questions;
 mod refusal;
 mod refused;
+mod replies;
 mod reply;
+mod shutdown;
+mod subscribing;
+mod terms;
+mod texts;
+mod work;
 
 pub use due::DueActor;
 pub use entry::{Act, Closing, Entry};

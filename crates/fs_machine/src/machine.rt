@@ -4,8 +4,8 @@ ghost use Rattle.std.specs.Prelude.{◌≡◌, ◌≤◌, [], ◌∷◌, ◌++�
 ghost use Rattle.fs_doc.specs.Limits.{IsWithin};
 ghost use Rattle.fs_state.specs.declared.delta.OutboxChange.TheVariants.{Unchanged};
 ghost use Rattle.fs_state.specs.Drafts.{after, drafted, Fits};
-ghost use Rattle.fs_state.specs.Switch.{empty};
-ghost use Rattle.fs_machine.specs.Entries.{is_full, HasRoomWithin, cost_with};
+ghost use Rattle.fs_state.specs.Switch.{empty, HasRoomWithin};
+ghost use Rattle.fs_machine.specs.Entries.{cost_with};
 ghost use Rattle.fs_machine.specs.Step.{act_done, step, refusal_of, IsRefusedFor, ComesTo};
 ghost use Rattle.fs_machine.specs.Runs as spec;
 ghost use Rattle.fs_machine.specs.Sound.{IsSound};
@@ -24,9 +24,6 @@ use fs_text::Memory;
 use std::alloc::Global;
 use std::marker::Model;
 use std::sync::Arc;
-
-/// What the largest entry costs.
-const LARGEST_COST: u64 = 65_600;
 
 /// A switch with the journal of its entries.
 ///
@@ -223,7 +220,7 @@ fn prepare_entry(
     ensures prepared { IfOk result (λ change. (change.entry ≡ asked.entry.now)
         × spec.IsPrepared core.now asked.entry.now change.delta change.reply) }
 {
-    if is_full(core) {
+    if core.is_full() {
         let limit = core.settings().journal_limit;
         let cost = core.cost();
         return Err(Refusal::JournalFull { cost, limit });
@@ -258,13 +255,4 @@ fn enter(
 {
     let reply = do_act(draft, dialplan, &asked.act)?;
     Ok((asked.copy()?, reply))
-}
-
-// Whether the largest entry would pass the limit of the journal.
-fn is_full(core: &Core) -> bool
-    ensures exact { result ≡ is_full core.now }
-    ensures free { result ≡ false → HasRoomWithin core.now.settings.journal_limit core.now }
-{
-    let limit = core.settings().journal_limit;
-    limit < LARGEST_COST || core.cost() > limit - LARGEST_COST
 }

@@ -4,17 +4,17 @@ ghost use Rattle.std.specs.Prelude.{◌≡◌, ◌<◌, ℕ, length, is_some};
 ghost use Rattle.fs_state.specs.Drafts.{drafted};
 ghost use Rattle.fs_state.specs.Switch.{chan_at, waiting_for, at_moment};
 ghost use Rattle.fs_machine.specs.declared.due.DueActor.TheVariants as actor;
-ghost use Rattle.fs_calls.specs.Connections as connections;
+ghost use Rattle.fs_machine.specs.Connections as connections;
 ghost use Rattle.fs_machine.specs.Due as due;
 ghost use Rattle.fs_machine.specs.Events.{happened, events_of, CountsAll, CountsEvents, CountsHangups};
 ghost use Rattle.fs_machine.specs.Questions as spec;
 ghost use Rattle.fs_machine.specs.Runs.{state_of};
 ghost use Rattle.fs_machine.specs.Step.{reads};
 
+use crate::connections::phase_of;
 use crate::due::{DueActor, due_among_all, due_among_jobs, due_in_slot};
 use crate::machine::Machine;
 use crate::refused::reads;
-use fs_calls::phase_of;
 use fs_state::{Core, Counts, Draft, Parting, Phase, Seen};
 
 impl Machine {

@@ -2,14 +2,14 @@
 
 ghost use Rattle.std.specs.Prelude.{◌≡◌};
 ghost use Rattle.fs_machine.specs.declared.entry.Act.TheVariants as act;
-ghost use Rattle.fs_calls.specs.Connections as connections;
+ghost use Rattle.fs_machine.specs.Connections as connections;
 ghost use Rattle.fs_machine.specs.Questions as questions;
 ghost use Rattle.fs_machine.specs.Step as spec;
 
+use crate::connections::phase_of;
 use crate::due::{job_due, slot_due};
 use crate::entry::{Act, Closing};
 use crate::refusal::Refusal;
-use fs_calls::phase_of;
 use fs_chan::Due;
 use fs_state::{Phase, Seen};
 
@@ -34,7 +34,7 @@ fn refused_arrival(seen: &Seen<'_>) -> Option<Refusal>
     if seen.is_stopping() {
         return Some(Refusal::Gone);
     }
-    if seen.is_full() {
+    if seen.is_full_of_conns() {
         let live = seen.conn_seats().min(usize::from(u16::MAX)) as u16;
         return Some(Refusal::TooMany { live });
     }

@@ -1,5 +1,5 @@
 -- The state of a switch.
-use Rattle.std.specs.Prelude.{ℕ, ◌+◌, ◌-◌, ◌^◌, min, max, Bool, false, ◌&&◌, List, [], ◌∷◌, ◌++◌, length, position, Option, None, Some, is_none}
+use Rattle.std.specs.Prelude.{ℕ, ◌+◌, ◌-◌, ◌^◌, ◌≤◌, min, max, nat_lt, Bool, false, ◌&&◌, List, [], ◌∷◌, ◌++◌, length, position, Option, None, Some, is_none}
 use Rattle.std.specs.Prelude.{is_some}
 use Rattle.std.specs.Str.{bytes_eq}
 use Rattle.fs_text.specs.CoreId as core_id
@@ -216,6 +216,14 @@ with_conn number conn s = record s { conns = with_row s.conns number conn }
 -- with one more connection, of the next number
 abbrev pub with_new_conn : Conn → Switch → Switch
 with_new_conn conn s = record s { drawn = numbers.with_conn s.drawn; conns = with_new_row s.conns (numbers.with_conn s.drawn).conns conn }
+
+-- the largest entry, of 65,600, would pass the limit
+abbrev pub is_full : Switch → Bool
+is_full s = nat_lt s.settings.journal_limit (s.cost + 65600)
+
+-- the largest entry passes neither this limit nor 64 bits
+abbrev pub HasRoomWithin : ℕ → Switch → Type 0
+HasRoomWithin limit s = s.cost + 65600 ≤ min limit (2 ^ 64 - 1)
 
 -- each seat for a connection is taken
 abbrev pub is_full_of_conns : Switch → Bool

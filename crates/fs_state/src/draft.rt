@@ -570,13 +570,6 @@ impl<'a> Draft<'a> {
         Ok(number)
     }
 
-    /// Whether each seat for a connection is taken.
-    pub fn is_full(&self) -> bool
-        ensures { result ≡ spec.is_full_of_conns (drafted self.now) }
-    {
-        self.conns().least_free(0).is_none()
-    }
-
     /// How many connections there may be.
     pub fn conn_seats(&self) -> usize
         ensures { result ≡ length (drafted self.now).conns }

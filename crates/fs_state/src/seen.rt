@@ -118,7 +118,7 @@ impl<'a> Seen<'a> {
     }
 
     /// Whether each seat for a connection is taken.
-    pub fn is_full(&self) -> bool
+    pub fn is_full_of_conns(&self) -> bool
         ensures { result ≡ spec.is_full_of_conns self.now }
     {
         let core = self.core;

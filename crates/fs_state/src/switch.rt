@@ -1,6 +1,6 @@
 //! The state of a switch between two entries.
 ghost use Rattle.std.specs.Arc.{arc_value};
-ghost use Rattle.std.specs.Prelude.{◌≡◌, ◌≤◌, length, IfOk, unwrap_or};
+ghost use Rattle.std.specs.Prelude.{◌≡◌, ◌≤◌, false, length, IfOk, unwrap_or};
 ghost use Rattle.std.specs.Option.{option_copied};
 ghost use Rattle.fs_seats.specs.Seats.{no_seats, IsEmptyFrom};
 ghost use Rattle.fs_state.specs.Outboxes.{no_outboxes, outboxes_after};
@@ -30,6 +30,8 @@ use std::sync::Arc;
 const ORIGS: usize = 1_280;
 /// How many jobs there may be.
 const JOBS: usize = 1_024;
+/// What the largest entry costs.
+const LARGEST_COST: u64 = 65_600;
 
 /// The state of a switch between two entries. A contract sees it as the record of what is there.
 pub struct Core {
@@ -181,6 +183,15 @@ impl Core {
         ensures { result ≡ self.now.cost }
     {
         self.cost
+    }
+
+    /// Whether its journal is full: the largest entry, of 65,600, would pass the limit.
+    pub fn is_full(&self) -> bool
+        ensures exact { result ≡ spec.is_full self.now }
+        ensures free { result ≡ false → spec.HasRoomWithin self.now.settings.journal_limit self.now }
+    {
+        let limit = self.settings().journal_limit;
+        limit < LARGEST_COST || self.cost > limit - LARGEST_COST
     }
 
     /// The place of the entry by which it came to its end, once one did.

@@ -1,6 +1,0 @@
-pub mod ArgumentLemmas
-pub mod GroupLemmas
-pub mod DumpLemmas
-pub mod TermLemmas
-pub mod AskingLemmas
-pub mod RangeLemmas

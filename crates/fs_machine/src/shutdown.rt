@@ -1,0 +1,35 @@
+//! The end of the switch: all channels are hung up, nothing is left to be done, and all connections part.
+
+ghost use Rattle.fs_state.specs.Drafts.{drafted, Brings};
+ghost use Rattle.fs_state.specs.Switch.{with_event};
+ghost use Rattle.fs_machine.specs.Shutdown as spec;
+
+use crate::hangups::hang_up_everyone;
+use crate::texts::failed_text;
+use fs_cmd::{api_reply, notice};
+use fs_state::{Detail, Draft, Event};
+use fs_text::{Cause, EventName, Memory};
+
+/// Lets the switch come to its end.
+#[tactic(auto, unfolding(crate::specs::Shutdown::after_shutdown))]
+pub(crate) fn shut_down(draft: &mut Draft<'_>) -> Result<(), Memory>
+    ensures { Brings result draft.old draft.new (spec.after_shutdown (drafted draft.old)) }
+{
+    hang_up_everyone(draft, Cause::SystemShutdown)?;
+    tell_end(draft)?;
+    let answer = failed_text(draft.alloc(), Cause::SystemShutdown)?;
+    let reply = api_reply(draft.alloc(), answer.as_bytes())?;
+    let notice = notice(draft.alloc())?;
+    draft.end(&reply, &notice)
+}
+
+// Tells that the switch comes to its end.
+fn tell_end(draft: &mut Draft<'_>) -> Result<(), Memory>
+    ensures { Brings result draft.old draft.new (with_event spec.shutdown_event (drafted draft.old)) }
+{
+    draft.tell(Event {
+        name: EventName::Shutdown,
+        subject: None,
+        detail: Detail::Shutdown,
+    })
+}

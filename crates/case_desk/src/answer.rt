@@ -1,5 +1,7 @@
 //! The answer to a case: lines that are indented, with `%XX` for a byte that is no sign or mark of ASCII.
 
+ghost use Rattle.std.specs.Prelude.{◌≡◌, Ok, IfSome};
+
 use fs_text::Memory;
 use percent_encoding::{AsciiSet, CONTROLS, ascii_set, percent_encode};
 use std::alloc::Global;
@@ -48,7 +50,9 @@ impl Answer {
     }
 
     /// What was made, if there was memory for it. Otherwise that is noted.
-    pub fn made<T: Drop>(&mut self, made: Result<T, Memory>) -> Option<T> {
+    pub fn made<T: Drop>(&mut self, made: Result<T, Memory>) -> Option<T>
+        ensures { IfSome result (λ value. made ≡ Ok value) }
+    {
         match made {
             Ok(value) => Some(value),
             Err(memory) => {

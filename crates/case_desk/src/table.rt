@@ -1,5 +1,7 @@
 //! What the lines in front of a case laid out: a file, what a link gives, and which calls fail.
 
+ghost use Rattle.std.specs.Prelude.{◌≡◌, false, IfOk};
+
 use crate::answer::Answer;
 use crate::words::{cut, length_of};
 use fs_ports::{MemFiles, MemLink};
@@ -171,8 +173,10 @@ impl Table {
         Ok(held.push((name, Txt::of(self.alloc, &self.file)?))?)
     }
 
-    /// A link that gives the input, and takes so many bytes.
-    pub fn link(&self, room: usize) -> Result<MemLink, Memory> {
+    /// A link that gives the input, and takes so many bytes. Its reads do not have to be tried again.
+    pub fn link(&self, room: usize) -> Result<MemLink, Memory>
+        ensures { IfOk result (λ link. link.is_held ≡ false) }
+    {
         MemLink::new(
             self.alloc,
             &self.input,

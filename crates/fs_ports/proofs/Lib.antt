@@ -1,4 +1,5 @@
 pub mod Sides
+mod Firsts
 mod Fronts
 mod Tapes
 mod Readings

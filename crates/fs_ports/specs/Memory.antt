@@ -1,31 +1,62 @@
 -- What a link and files in memory tell.
-use Rattle.std.specs.Prelude.{ℕ, ◌==◌, true, List, [], take, Option, None, Some, if◌then◌else◌}
+use Rattle.std.specs.Prelude.{ℕ, ◌==◌, ◌<◌, ◌≤◌, Bool, false, not, List, [], take, Option, None, Some, if◌then◌else◌}
 use Rattle.std.specs.Str.{bytes_eq}
 use Rattle.std.specs.List.{list_any, find}
 use Rattle.std.specs.Option.{option_map}
 use Rattle.fs_ports.specs.Counts.{raised}
-use Rattle.fs_ports.specs.Ports.{Input, Output}
+use Rattle.fs_ports.specs.Ports.{Input, Output, IsNewLink}
 use Rattle.fs_ports.specs.Loads.{LoadCounts}
+use Rattle.fs_ports.specs.declared.hold.Reach.{Reach}
+use Rattle.fs_ports.specs.declared.hold.Reach.TheVariants.{To, NotYet, Over}
 use Rattle.fs_ports.specs.declared.files.Load.{Load}
 use Rattle.fs_ports.specs.declared.files.Load.TheVariants.{Got, Absent, Failed}
 
--- a link in memory: the bytes taken, left and written, and the calls that failed
+-- a link in memory: the bytes taken, left and written, the calls that failed, and whether something may hold up its reads
 pub record Tape : Type 0 where
   pub taken : List ℕ
   pub left : List ℕ
   pub read_faults : ℕ
   pub written : List ℕ
   pub write_faults : ℕ
+  pub is_held : Bool
 
 -- a link of these bytes, before any call
 abbrev pub new_tape : List ℕ → Tape
-new_tape input = record { taken = []; left = input; read_faults = 0; written = []; write_faults = 0 }
+new_tape input = record { taken = []; left = input; read_faults = 0; written = []; write_faults = 0; is_held = false }
+
+-- the bytes left, which a link that is held does not tell, as it may drop them
+abbrev pub told_left : Bool → List ℕ → Option (List ℕ)
+told_left is_held left = if is_held then None else Some left
 
 abbrev pub tape_input : Tape → Input
-tape_input tape = record { taken = Some tape.taken; left = Some tape.left; faults = tape.read_faults; waits = true }
+tape_input tape = record {
+  taken = Some tape.taken;
+  left = told_left tape.is_held tape.left;
+  faults = tape.read_faults;
+  waits = not tape.is_held;
+}
 
 abbrev pub tape_output : Tape → Output
 tape_output tape = record { written = Some tape.written; faults = tape.write_faults }
+
+-- nothing was taken from this link or written to it yet, and no call failed
+abbrev pub IsNewTape : Tape → Type 0
+IsNewTape tape = IsNewLink (tape_input tape) (tape_output tape)
+
+-- where a read ends that would give the bytes between two places: it gives some if there are any
+abbrev pub Reaches : ℕ → ℕ → Reach → Type 0
+Reaches at end (To to) = (at ≤ to) × (to ≤ end) × (at < end → at < to)
+Reaches at end NotYet = at < end
+Reaches at end Over = at < end
+
+-- links in memory that are handed out in turn: those to come, and the calls that failed
+pub record Queue : Type 0 where
+  pub links : List Tape
+  pub faults : ℕ
+
+-- these links, before any call
+abbrev pub new_queue : List Tape → Queue
+new_queue links = record { links = links; faults = 0 }
 
 -- files in memory: their names and bytes, the numbers of the loads that fail and the loads so far, and the same of builds that find a
 -- pattern too large

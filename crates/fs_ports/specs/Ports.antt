@@ -1,5 +1,5 @@
 -- What is told of the two sides of a link, and what a read and a write do to them.
-use Rattle.std.specs.Prelude.{◌≡◌, ℕ, ◌<◌, ◌≤◌, Bool, IsTrue, List, ◌++◌, length, take, Option}
+use Rattle.std.specs.Prelude.{◌≡◌, ℕ, ◌<◌, ◌≤◌, Bool, IsTrue, List, [], ◌++◌, length, take, Option, IfSome}
 use Rattle.std.specs.Io.KnownBytes.{append_known, prepend_known, IsAtEnd}
 use Rattle.fs_ports.specs.Counts.{raised}
 use Rattle.fs_ports.specs.declared.port.Read.{Read}
@@ -20,6 +20,13 @@ pub record Input : Type 0 where
 pub record Output : Type 0 where
   pub written : Option (List ℕ)
   pub faults : ℕ
+
+-- nothing was taken or written yet, where the link tells it, and no call failed
+pub record IsNewLink (input : Input) (output : Output) : Type 0 where
+  pub taken : IfSome input.taken (λ bytes. bytes ≡ [])
+  pub written : IfSome output.written (λ bytes. bytes ≡ [])
+  pub read_faults : input.faults ≡ 0
+  pub write_faults : output.faults ≡ 0
 
 -- these bytes went from those left to those taken
 pub record Reads (old new : Input) (bytes : List ℕ) : Type 0 where

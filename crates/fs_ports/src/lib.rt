@@ -4,23 +4,53 @@
 //! in that call, and no other call raises it.
 #![tactic(auto)]
 
+mod bells;
+mod clock;
 mod counts;
+mod dialer;
 mod disk_files;
+mod door;
 mod files;
+mod flag;
 mod gate;
+mod hold;
+mod mem_dialer;
+mod mem_door;
 mod mem_files;
 mod mem_link;
+mod mem_links;
 mod patterns;
 mod port;
+mod raise;
+mod real_clock;
 mod send;
 mod stdio;
+mod step_clock;
+mod tcp_dial;
+mod tcp_door;
+mod tcp_link;
+#[cfg(test)]
+mod tests;
 
+pub use bells::{Bells, Seat};
+pub use clock::Clock;
+pub use dialer::{Dialed, Dialer};
 pub use disk_files::DiskFiles;
+pub use door::{Accept, Door, Listen};
 pub use files::{Files, LOAD_LIMIT, Load};
+pub use flag::Flag;
 pub use gate::{Gate, NoGate};
+pub use mem_dialer::MemDialer;
+pub use mem_door::MemDoor;
 pub use mem_files::MemFiles;
 pub use mem_link::MemLink;
+pub use mem_links::MemLinks;
 pub use patterns::{Built, Patterns, Store};
 pub use port::{Link, Port, Read, Sink, Source, Write};
+pub use real_clock::RealClock;
 pub use send::{Sent, send_all};
 pub use stdio::Stdio;
+pub use step_clock::StepClock;
+pub use tcp_dial::TcpDial;
+pub use tcp_door::TcpDoor;
+pub use tcp_link::TcpLink;

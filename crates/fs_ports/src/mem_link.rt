@@ -1,10 +1,13 @@
 //! A link in memory.
 
-ghost use Rattle.std.specs.Prelude.{◌≡◌, ◌<◌, ◌≤◌, [], length, take, min, IfOk};
+ghost use Rattle.std.specs.Prelude.{◌≡◌, ◌<◌, ◌≤◌, [], true, length, take, min, IfOk};
 ghost use Rattle.fs_ports.specs.Memory.{tape_input, new_tape, tape_output};
 
 use crate::counts::raised;
+use crate::flag::Flag;
+use crate::hold::{self, Hold, Reach};
 use crate::port::{Link, Port, Read, Sink, Source, Write};
+use crate::raise::{self, Raise};
 use fs_text::Memory;
 use std::alloc::Global;
 use std::marker::Model;
@@ -13,6 +16,7 @@ use std::marker::Model;
 ///
 /// Reads and writes that are to fail are named by their numbers, counted from 1.
 pub struct MemLink {
+    alloc: Global,
     input: Vec<u8>,
     at: usize,
     cuts: Vec<usize>,
@@ -24,11 +28,14 @@ pub struct MemLink {
     failed_writes: Vec<u64>,
     writes: u64,
     write_faults: u64,
+    hold: Option<Hold>,
+    raise: Option<Raise>,
 }
 
 impl Drop for MemLink {
     fn drop(self) {
         let MemLink {
+            alloc: _alloc,
             input: _input,
             at: _at,
             cuts: _cuts,
@@ -40,12 +47,14 @@ impl Drop for MemLink {
             failed_writes: _failed_writes,
             writes: _writes,
             write_faults: _write_faults,
+            hold: _hold,
+            raise: _raise,
         } = self;
     }
 }
 
 impl Model for MemLink {
-    ghost use Rattle.std.specs.Prelude.{take, drop, length, ◌≤◌, vec_capacity};
+    ghost use Rattle.std.specs.Prelude.{take, drop, length, ◌≤◌, is_some, vec_capacity};
     ghost use Rattle.fs_ports.specs.Memory.{Tape};
 
     ghost Value = { Tape };
@@ -56,6 +65,7 @@ impl Model for MemLink {
       read_faults = l.read_faults;
       written = l.output.items;
       write_faults = l.write_faults;
+      is_held = is_some l.hold;
     } };
 
     ghost invariant = { λ l. (l.at ≤ length l.input.items)
@@ -76,6 +86,7 @@ impl MemLink {
         ensures { IfOk result (λ link. link ≡ new_tape input.now) }
     {
         Ok(MemLink {
+            alloc,
             input: Vec::from_slice(alloc, input)?,
             at: 0,
             cuts: Vec::from_slice(alloc, cuts)?,
@@ -87,6 +98,52 @@ impl MemLink {
             failed_writes: Vec::from_slice(alloc, failed_writes)?,
             writes: 0,
             write_faults: 0,
+            hold: None,
+            raise: None,
+        })
+    }
+
+    /// The link, with the bytes from this place on held: a read that would give one of them answers that none is there
+    /// yet while the flag is down, so many times at most. Then it drops what is left.
+    pub fn held(self, from: usize, flag: Flag, turns: u64) -> MemLink
+        ensures { result ≡ record self { is_held = true } }
+    {
+        let mut link = self;
+        link.hold = Some(Hold::new(from, flag, turns));
+        link
+    }
+
+    /// The link, which raises the flag when so many bytes were written.
+    pub fn raises(self, at: usize, flag: Flag) -> MemLink
+        ensures { result ≡ self }
+    {
+        let mut link = self;
+        link.raise = Some(Raise::new(at, flag));
+        raise::written(&link.raise, link.output.len());
+        link
+    }
+
+    /// A link that stands where this one does, with the same flags.
+    pub fn copy(&self) -> Result<MemLink, Memory>
+        ensures { IfOk result (λ link. link ≡ self.now) }
+    {
+        let mut output = Vec::with_capacity(self.alloc, self.room)?;
+        output.extend_from_slice(&self.output)?;
+        Ok(MemLink {
+            alloc: self.alloc,
+            input: Vec::from_slice(self.alloc, &self.input)?,
+            at: self.at,
+            cuts: Vec::from_slice(self.alloc, &self.cuts)?,
+            failed_reads: Vec::from_slice(self.alloc, &self.failed_reads)?,
+            reads: self.reads,
+            read_faults: self.read_faults,
+            output,
+            room: self.room,
+            failed_writes: Vec::from_slice(self.alloc, &self.failed_writes)?,
+            writes: self.writes,
+            write_faults: self.write_faults,
+            hold: hold::copied(&self.hold)?,
+            raise: raise::copied(&self.raise)?,
         })
     }
 
@@ -112,6 +169,14 @@ impl Source for MemLink {
             return Read::Failed;
         }
         let end = piece_end(&self.cuts, self.at, self.input.len());
+        let end = match hold::reach_of(&mut self.hold, self.at, end) {
+            Reach::To(end) => end,
+            Reach::NotYet => return Read::NotYet,
+            Reach::Over => {
+                self.input.truncate(self.at);
+                return Read::End;
+            }
+        };
         let n = copy_front(&self.input[self.at..end], buf);
         if n == 0 {
             return Read::End;
@@ -121,7 +186,7 @@ impl Source for MemLink {
     }
 
     fn waits(&self) -> bool {
-        true
+        self.hold.is_none()
     }
 }
 
@@ -134,7 +199,10 @@ impl Sink for MemLink {
             return Write::Failed;
         }
         match self.output.extend_from_slice(&bytes[..n]) {
-            Ok(()) => Write::Took(n),
+            Ok(()) => {
+                raise::written(&self.raise, self.output.len());
+                Write::Took(n)
+            }
             Err(_) => unreachable!(),
         }
     }

@@ -1,0 +1,6 @@
+use Rattle.std.proofs.lemmas.List.Elements.{All-tail}
+use Rattle.fs_ports.specs.Memory.{IsNewTape}
+use Rattle.fs_ports.proofs.mem_door.MemDoorDoor.accept.Goals as goal
+
+pub invariant_of-self-2 : goal.invariant_of-self-2
+invariant_of-self-2 c = All-tail IsNewTape c.in-Some.link c.take_first.new.self (rw c.in-Some.ensures at c.self.invariant)

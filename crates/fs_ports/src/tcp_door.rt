@@ -1,0 +1,104 @@
+//! A socket of the system that others connect to.
+
+use crate::bells::Bells;
+use crate::counts::raised;
+use crate::door::{Accept, Door, Listen};
+use crate::tcp_link::TcpLink;
+use fs_text::Txt;
+use std::io::ErrorKind;
+use std::net::{Net, TcpListener, TcpStream};
+use std::os::fd::AsRawFd;
+use std::time;
+
+/// A socket of the system that others connect to. A link that came belongs to the seat of the door at first.
+#[derive(Drop)]
+pub struct TcpDoor<'a, R: Net<Listener = TcpListener, Stream = TcpStream> + time::Clock> {
+    system: &'a R,
+    bells: &'a Bells,
+    listener: Option<TcpListener>,
+    faults: u64,
+}
+
+impl<'a, R: Net<Listener = TcpListener, Stream = TcpStream> + time::Clock> TcpDoor<'a, R> {
+    /// A door that does not listen yet.
+    pub fn new(system: &'a R, bells: &'a Bells) -> TcpDoor<'a, R> {
+        TcpDoor {
+            system,
+            bells,
+            listener: None,
+            faults: 0,
+        }
+    }
+}
+
+impl<'a, R: Net<Listener = TcpListener, Stream = TcpStream> + time::Clock + Sync> Door
+    for TcpDoor<'a, R> {
+    type Link = TcpLink<'a, R>;
+
+    ghost door_faults = { λ door. door.faults };
+
+    fn listen(&mut self, ip: &Txt, port: u16) -> Listen {
+        match listener(self.system, ip, port) {
+            Some(listener) => {
+                self.listener = Some(listener);
+                Listen::Listening
+            }
+            None => {
+                self.faults = raised(self.faults);
+                Listen::Failed
+            }
+        }
+    }
+
+    fn accept(&mut self) -> Accept<TcpLink<'a, R>> {
+        match next(&self.listener, self.bells) {
+            Came::Stream(stream) => {
+                let seat = self.bells.door();
+                if let Some(link) = TcpLink::new(self.system, self.bells, seat, stream) {
+                    return Accept::Came(link);
+                }
+            }
+            Came::NotYet => return Accept::NotYet,
+            Came::Failed => {}
+        }
+        self.faults = raised(self.faults);
+        Accept::Failed
+    }
+}
+
+// What the socket of a door gave.
+#[derive(Drop)]
+enum Came {
+    Stream(TcpStream),
+    NotYet,
+    Failed,
+}
+
+// The next connection, if the door listens.
+fn next(listener: &Option<TcpListener>, bells: &Bells) -> Came {
+    let Some(listener) = listener else {
+        return Came::Failed;
+    };
+    match listener.accept() {
+        Ok((stream, _)) => Came::Stream(stream),
+        Err(e) => match e.kind() {
+            ErrorKind::WouldBlock | ErrorKind::Interrupted => {
+                bells.door().set_dry(listener.as_raw_fd());
+                Came::NotYet
+            }
+            _ => Came::Failed,
+        },
+    }
+}
+
+// A socket that listens here, and whose accepts do not wait.
+fn listener<R: Net<Listener = TcpListener, Stream = TcpStream>>(
+    system: &R,
+    ip: &Txt,
+    port: u16,
+) -> Option<TcpListener> {
+    let ip = str::from_utf8(ip.as_bytes()).ok()?;
+    let listener = TcpListener::bind(system, (ip, port)).ok()?;
+    listener.set_nonblocking(true).ok()?;
+    Some(listener)
+}

@@ -4,7 +4,7 @@ use std::sync::atomic::{AtomicU64, Ordering};
 use std::{hint, thread};
 
 // How many bells there are. Callers whose tickets are a multiple of that apart share one.
-const BELLS: usize = 64;
+const BELLS: usize = 512;
 
 // How often who is next reads the turn before it yields its processor at each read.
 const QUICK_READS: u32 = 100;

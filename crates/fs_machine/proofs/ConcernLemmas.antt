@@ -38,7 +38,7 @@ use Rattle.fs_machine.proofs.FramesLaws.{close_refused, Lost, entry_follows, non
 -- ---- whose act it is
 
 -- the connection whose act it is, or that comes by it
-abbrev whose : Act → Switch → Option ℕ
+abbrev pub whose : Act → Switch → Option ℕ
 whose Arrive s = Some (numbers.with_conn s.drawn).conns
 whose act s = actor_of act
 
@@ -97,7 +97,7 @@ others_handed conn (Take taker) s t apart =
     ap (λ b. if b then take 1 (waiting_for s conn) else []) (ne_eqb taker conn (λ same. apart (ap Some same)))
 others_handed conn _ s t apart = refl
 
-others : (conn : ℕ) (s : Switch) (entry : Entry) → Orderly s → refusal_of s entry ≡ None →
+pub others : (conn : ℕ) (s : Switch) (entry : Entry) → Orderly s → refusal_of s entry ≡ None →
     (whose entry.act (at_moment entry.moment s) ≡ Some conn → ⊥) → IsOthers conn s entry
 unfolding step given_by
 others conn s entry orderly none apart =
@@ -121,7 +121,7 @@ others conn s entry orderly none apart =
 -- ---- an act of its own
 
 -- one that reads commands is open
-reads_open : (now : Phase) → not (reads now) ≡ false → is_closed now ≡ false
+pub reads_open : (now : Phase) → not (reads now) ≡ false → is_closed now ≡ false
 reads_open Fresh e = refl
 reads_open Ready e = refl
 reads_open Ending e = refl
@@ -150,13 +150,13 @@ actor_open (Job job) number s same none = absurd (none-some number same)
 actor_open Halt number s same none = absurd (none-some number same)
 
 -- one that is closed by an entry is given nothing
-closed_gives_none : (conn : ℕ) (s : Switch) (entry : Entry) → is_closed (phase_at (step s entry).state conn) ≡ true →
+pub closed_gives_none : (conn : ℕ) (s : Switch) (entry : Entry) → is_closed (phase_at (step s entry).state conn) ≡ true →
     given_by conn s entry ≡ []
 unfolding step given_by
 closed_gives_none conn s entry gone =
     ap (λ b. if b then [] else frames_among conn (all_given (with_posts s (act_done entry.act (at_moment entry.moment s)).state))) gone
 
-own : (conn : ℕ) (s : Switch) (entry : Entry) → Orderly s → refusal_of s entry ≡ None → actor_of entry.act ≡ Some conn → IsOwn conn s entry
+pub own : (conn : ℕ) (s : Switch) (entry : Entry) → Orderly s → refusal_of s entry ≡ None → actor_of entry.act ≡ Some conn → IsOwn conn s entry
 own conn s entry orderly none actor = record {
   actor = actor;
   was_open = actor_open entry.act conn (at_moment entry.moment s) actor (not_refused s entry none);
@@ -186,7 +186,7 @@ new_there s ordered room free = by (least_free s.conns 0) refl free
         row_of-with_new_row_same s.conns (numbers.with_conn s.drawn).conns new_conn put ordered.distinct (number_new s ordered room) is
 
 -- it is asked for the password
-comes : (moment : ℕ) (s : Switch) → Orderly s → refusal_of s (record { moment = moment; act = Arrive }) ≡ None →
+pub comes : (moment : ℕ) (s : Switch) → Orderly s → refusal_of s (record { moment = moment; act = Arrive }) ≡ None →
     Comes (numbers.with_conn s.drawn).conns s (record { moment = moment; act = Arrive })
 unfolding step given_by
 comes moment s orderly none =

@@ -340,7 +340,7 @@ handed_open config entries conn limit run is_open =
     ∙ ap (λ frames. handed_from conn (empty config) entries ++ frames) (all.waits is_open)
 
 -- what entries give with one more
-frames_more : (conn : ℕ) (s : Switch) (entries : List Entry) (entry : Entry) →
+pub frames_more : (conn : ℕ) (s : Switch) (entries : List Entry) (entry : Entry) →
     frames_from conn s (entries ++ entry ∷ []) ≡ frames_from conn s entries ++ given_by conn (run_from s entries) entry
 frames_more conn s [] entry = append-nil (given_by conn s entry)
 frames_more conn s (first ∷ entries) entry =

@@ -105,3 +105,5 @@ pub mod BerthMoves
 pub mod LetGoLemmas
 pub mod LetGoMoves
 pub mod LetGoLaws
+pub mod ArrivalLemmas
+pub mod QuietLemmas

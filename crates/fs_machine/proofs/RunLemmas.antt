@@ -20,6 +20,17 @@ pub is_run_more : (s : Switch) (entries : List Entry) (entry : Entry) → IsRunF
 is_run_more s [] entry run defined = (defined, tt)
 is_run_more s (first ∷ entries) entry run defined = (run.0, is_run_more (step s first).state entries entry run.1 defined)
 
+-- the state behind entries and more of them, and the run of them
+pub run_behind : (s : Switch) (entries more : List Entry) → run_from s (entries ++ more) ≡ run_from (run_from s entries) more
+run_behind s [] more = refl
+run_behind s (entry ∷ entries) more = run_behind (step s entry).state entries more
+
+pub runs_both : (s : Switch) (entries more : List Entry) → IsRunFrom s (entries ++ more) → IsRunFrom s entries × IsRunFrom (run_from s entries) more
+runs_both s [] more run = (tt, run)
+runs_both s (entry ∷ entries) more run =
+    let both = runs_both (step s entry).state entries more run.1 in
+    ((run.0, both.0), both.1)
+
 -- what was prepared from the state that a journal makes is the state that the longer one makes
 pub stands_more : (config : Configuration) (kept : Switch) (journal : List Entry) (entry : Entry) (delta : Delta) (reply : Reply) →
     StandsFor config kept journal →

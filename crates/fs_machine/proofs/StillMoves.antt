@@ -71,6 +71,7 @@ use Rattle.fs_machine.proofs.OrderLemmas.{none_refused, not_refused}
 use Rattle.fs_machine.proofs.FrontLemmas.{conn_unread}
 use Rattle.fs_machine.proofs.RestLemmas.{Rest, rest_of, calls_by_rest, dials_by_rest, group_made_rest, joined_rest, won_rest}
 use Rattle.fs_machine.proofs.ActWalk.{acted_kept}
+use Rattle.fs_machine.proofs.RunLemmas.{run_behind, runs_both}
 
 -- ---- a switch that has come to its end
 
@@ -493,17 +494,6 @@ run_remains s (entry ∷ more) run h =
       stopping = rest.stopping ∙ first.stopping;
       empty = λ slot none. rest.empty slot (first.empty slot none);
     }
-
--- the state behind entries and more of them, and the run of them
-run_behind : (s : Switch) (entries more : List Entry) → run_from s (entries ++ more) ≡ run_from (run_from s entries) more
-run_behind s [] more = refl
-run_behind s (entry ∷ entries) more = run_behind (step s entry).state entries more
-
-runs_both : (s : Switch) (entries more : List Entry) → IsRunFrom s (entries ++ more) → IsRunFrom s entries × IsRunFrom (run_from s entries) more
-runs_both s [] more run = (tt, run)
-runs_both s (entry ∷ entries) more run =
-    let both = runs_both (step s entry).state entries more run.1 in
-    ((run.0, both.0), both.1)
 
 remains_stopped : (config : Configuration) (entries more : List Entry) → IsRunFrom (empty config) (entries ++ more) →
     is_some (run_from (empty config) entries).stopping ≡ true →

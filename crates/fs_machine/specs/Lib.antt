@@ -34,3 +34,5 @@ pub mod Sound
 pub mod Winners
 pub mod Journals
 pub mod Laws
+pub mod Turned
+pub mod Carried

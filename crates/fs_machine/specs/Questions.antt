@@ -30,6 +30,10 @@ owes s conn = is_some (owed_to s conn)
 abbrev pub lost : Switch → ℕ → ℕ
 lost s conn = lost_in conn s.losses
 
+-- how many jobs are left
+abbrev pub jobs_left : Switch → ℕ
+jobs_left s = count_by is_some s.jobs
+
 -- how many slots hold a channel
 abbrev pub live : Switch → ℕ
 live s = count_by is_some s.channels

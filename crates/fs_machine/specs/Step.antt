@@ -115,6 +115,10 @@ refused_act (Work slot) s = not_due (slot_due slot s)
 refused_act (Job number) s = not_due (job_due number s)
 refused_act Halt s = refused_at_end s None
 
+-- why each entry is refused, where the journal is full
+abbrev pub refused_as_full : Switch → Option Refusal
+refused_as_full s = refused_where (is_full s) (refusal.JournalFull s.cost s.settings.journal_limit) None
+
 -- the first refusal of an entry
 unfoldable pub refusal_of : Switch → Entry → Option Refusal
 refusal_of s entry =

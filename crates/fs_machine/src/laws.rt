@@ -1,12 +1,15 @@
 //! What holds of every run. These functions do nothing: each stands for its contract.
 
-ghost use Rattle.std.specs.Prelude.{◌≡◌, ◌≢◌, ℕ, true, false, List, [], ◌∷◌, ◌++◌, None, is_some};
+ghost use Rattle.std.specs.Prelude.{◌≡◌, ◌≢◌, ℕ, true, false, List, [], ◌∷◌, ◌++◌, None, Some, is_some};
 ghost use Rattle.fs_text.specs.Texts.{Text};
 ghost use Rattle.fs_doc.specs.Limits.{IsWithin};
 ghost use Rattle.fs_doc.specs.Reading.{Configuration};
 ghost use Rattle.fs_state.specs.Switch.{chan_at, waiting_for, at_moment};
 ghost use Rattle.fs_machine.specs.declared.due.DueActor.TheVariants as actor;
 ghost use Rattle.fs_machine.specs.declared.entry.Entry.{Entry};
+ghost use Rattle.fs_machine.specs.declared.entry.Act.TheVariants.{Arrive};
+ghost use Rattle.fs_machine.specs.declared.reply.Reply.{Reply};
+ghost use Rattle.fs_machine.specs.declared.reply.Reply.TheVariants as reply;
 ghost use Rattle.fs_machine.specs.BridgeEvents.{BridgesAreTold, EndsStandBehind, BridgesAreCounted, events_in};
 ghost use Rattle.fs_machine.specs.Connections.{phase_at};
 ghost use Rattle.fs_machine.specs.Due.{next_due};
@@ -20,6 +23,9 @@ ghost use Rattle.fs_machine.specs.Laws.{IsLimited, IsRun, state_after, given_to,
 ghost use Rattle.fs_machine.specs.Owed.{AreOwed};
 ghost use Rattle.fs_machine.specs.Sound.{PartnersAgree, IdentifiersDiffer, IsSound};
 ghost use Rattle.fs_machine.specs.Winners.{WinnersCanJoin};
+ghost use Rattle.fs_machine.specs.Turned.{IsJournal, Answers, opens, names};
+ghost use Rattle.fs_machine.specs.Carried.{HasCome, Carries, Does, Begins};
+ghost use Rattle.fs_book.specs.Opened.{OwnsNumber, NoneNames, Quiet};
 
 /// The frames that a run hands out to a connection are the first of those that it gives it, each once and in their
 /// order. While the connection is open, the others wait. Once it is closed with all sent, there are no others.
@@ -122,4 +128,24 @@ pub fn ends_are_recorded()
         → IsRun config (entries ++ entry ∷ [])
         → EndsAreRecorded (state_after config entries) (state_after config (entries ++ entry ∷ []))
         (events_by (state_after config entries) entry) }
+{}
+
+/// A connection that comes is told the number that its entry opens in the journal.
+pub fn arrivals_are_numbered()
+    ensures { (config : Configuration) (log : List Entry) (moment : ℕ) (answer : Reply)
+        → Answers config log (record { moment = moment; act = Arrive }) answer
+        → (number : ℕ) × (answer ≡ reply.Arrived number)
+        × (opens config log (record { moment = moment; act = Arrive }) ≡ Some number) }
+{}
+
+/// A connection that has come is left as it is where a run goes on without naming it, but that it may be given frames
+/// while it is open, and may be made to part; and what an entry of its own does to it.
+pub fn carries_each_connection()
+    ensures begins { (conn : ℕ) (config : Configuration) (log : List Entry) (mine : List ℕ) → IsJournal config log
+        → OwnsNumber opens config conn log mine → NoneNames names conn log → Begins conn config log }
+    ensures carries { (conn : ℕ) (config : Configuration) (old new : List Entry) → IsJournal config new
+        → HasCome conn (state_after config old) → Quiet names conn old new → Carries conn config old new }
+    ensures does { (conn : ℕ) (config : Configuration) (before : List Entry) (entry : Entry) (reply : Reply)
+        → Answers config before entry reply → HasCome conn (state_after config before) → names entry ≡ Some conn
+        → Does conn config before entry }
 {}

@@ -34,15 +34,17 @@ mod shutdown;
 mod subscribing;
 mod terms;
 mod texts;
+mod turned;
 mod work;
 
 pub use due::DueActor;
 pub use entry::{Act, Closing, Entry};
 pub use journal::Journal;
 pub use laws::{
-    bridges_are_counted, bridges_are_told, concerns_each_connection, ends_are_recorded,
-    events_are_named, hands_out_what_it_gives, identifiers_differ, owes_to_its_jobs,
-    partners_agree, runs_are_sound, stays_stopped, winners_can_join,
+    arrivals_are_numbered, bridges_are_counted, bridges_are_told, carries_each_connection,
+    concerns_each_connection, ends_are_recorded, events_are_named, hands_out_what_it_gives,
+    identifiers_differ, owes_to_its_jobs, partners_agree, runs_are_sound, stays_stopped,
+    winners_can_join,
 };
 pub use machine::{Change, Machine};
 pub use refusal::Refusal;

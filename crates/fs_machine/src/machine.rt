@@ -124,6 +124,7 @@ impl Machine {
     pub fn sound(&self)
         ensures state { IsSound (spec.state_of self.now) }
         ensures config { IsWithin self.now.config }
+        ensures run { spec.IsRunFrom (empty self.now.config) self.now.journal }
     {
         let _journal = &self.journal;
     }

@@ -9,11 +9,12 @@ ghost use Rattle.fs_machine.specs.Due as due;
 ghost use Rattle.fs_machine.specs.Events.{happened, events_of, CountsAll, CountsEvents, CountsHangups};
 ghost use Rattle.fs_machine.specs.Questions as spec;
 ghost use Rattle.fs_machine.specs.Runs.{state_of};
-ghost use Rattle.fs_machine.specs.Step.{reads};
+ghost use Rattle.fs_machine.specs.Step.{reads, refused_as_full};
 
 use crate::connections::phase_of;
 use crate::due::{DueActor, due_among_all, due_among_jobs, due_in_slot};
 use crate::machine::Machine;
+use crate::refusal::Refusal;
 use crate::refused::reads;
 use fs_state::{Core, Counts, Draft, Parting, Phase, Seen};
 
@@ -81,11 +82,31 @@ impl Machine {
         self.core.cost()
     }
 
+    /// The place in the journal of the entry that comes next.
+    pub fn place(&self) -> u64
+        ensures { result ≡ length self.now.journal }
+    {
+        self.journal().entries().len() as u64
+    }
+
     /// The most that its entries may cost.
     pub fn limit(&self) -> u64
         ensures { result ≡ self.now.config.settings.journal_limit }
     {
         self.config.settings().journal_limit
+    }
+
+    /// Why each entry is refused, where the journal is full.
+    pub fn full(&self) -> Option<Refusal>
+        ensures { result ≡ refused_as_full (state_of self.now) }
+    {
+        let core = &self.core;
+        if !core.is_full() {
+            return None;
+        }
+        let limit = core.settings().journal_limit;
+        let cost = core.cost();
+        Some(Refusal::JournalFull { cost, limit })
     }
 
     /// Whether the switch comes to its end.

@@ -1,0 +1,57 @@
+-- The switch as a state that takes entries in turn.
+use Rattle.std.specs.Prelude.{◌≡◌, ℕ, Bool, true, false, List, Option, None}
+use Rattle.fs_doc.specs.Reading.{Configuration}
+use Rattle.fs_doc.specs.Limits.{IsWithin}
+use Rattle.fs_machine.specs.declared.entry.Entry.{Entry}
+use Rattle.fs_machine.specs.declared.entry.Act.{Act}
+use Rattle.fs_machine.specs.declared.entry.Act.TheVariants.{Arrive, Command, Take, Close, Work, Job, Halt}
+use Rattle.fs_machine.specs.declared.reply.Reply.{Reply}
+use Rattle.fs_machine.specs.declared.refusal.Refusal.{Refusal}
+use Rattle.fs_machine.specs.Step.{step, refusal_of, IsRefusedFor}
+use Rattle.fs_machine.specs.Runs.{View}
+use Rattle.fs_machine.specs.Laws.{IsRun, state_after}
+use Rattle.fs_machine.specs.Concerns.{actor_of}
+use Rattle.fs_book.specs.Numbered.{by_count}
+
+-- what a machine was configured by
+abbrev pub configured : View → Configuration
+configured m = m.config
+
+-- the configuration keeps its limits, and no entry is refused
+pub record IsJournal (config : Configuration) (log : List Entry) : Type 0 where
+  pub within : IsWithin config
+  pub run : IsRun config log
+
+-- after these the entry is taken, with this reply
+pub record Answers (config : Configuration) (log : List Entry) (entry : Entry) (reply : Reply) : Type 0 where
+  pub before : IsJournal config log
+  pub defined : refusal_of (state_after config log) entry ≡ None
+  pub reply_is : reply ≡ (step (state_after config log) entry).reply
+
+-- after these the entry is refused, or there is no memory for it
+pub record Refuses (config : Configuration) (log : List Entry) (entry : Entry) (why : Refusal) : Type 0 where
+  pub before : IsJournal config log
+  pub cause : IsRefusedFor (state_after config log) entry why
+
+-- ---- the numbers of connections
+
+abbrev pub is_arrival : Act → Bool
+is_arrival Arrive = true
+is_arrival (Command conn block) = false
+is_arrival (Take conn) = false
+is_arrival (Close conn how) = false
+is_arrival (Work slot) = false
+is_arrival (Job number) = false
+is_arrival Halt = false
+
+-- an entry by which a connection comes
+abbrev pub arrives : Entry → Bool
+arrives entry = is_arrival entry.act
+
+-- the number that it opens: connections are numbered from 1 on, in their order
+abbrev pub opens : Configuration → List Entry → Entry → Option ℕ
+opens config log entry = by_count arrives log entry
+
+-- the connection whose entry it is
+abbrev pub names : Entry → Option ℕ
+names entry = actor_of entry.act

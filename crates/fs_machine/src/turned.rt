@@ -1,0 +1,55 @@
+//! The machine as a state that takes entries in turn.
+
+use crate::entry::Entry;
+use crate::machine::Machine;
+use crate::refusal::Refusal;
+use crate::reply::Reply;
+use fs_book::Turned;
+use fs_doc::Config;
+
+impl Turned for Machine {
+    ghost use Rattle.fs_book.specs.Numbered.{by_count_once};
+    ghost use Rattle.fs_machine.specs.Turned.{Answers, Refuses, opens, names, arrives};
+
+    type Start = Config;
+
+    type Entry = Entry;
+
+    type Logged = Entry;
+
+    type Answer = Reply;
+
+    type Refusal = Refusal;
+
+    ghost start = { λ m. m.config };
+
+    ghost journal = { λ m. m.journal };
+
+    ghost logged = { λ entry. entry };
+
+    ghost fits = { λ _ _ _. Unit {0} };
+
+    ghost answers = { Answers };
+
+    ghost refuses = { Refuses };
+
+    ghost opens = { opens };
+
+    ghost names = { names };
+
+    ghost opens_once = { by_count_once arrives };
+
+    ghost fits_longer = { λ _ _ _ _ _ fit. fit };
+
+    fn turn(&mut self, entry: Entry) -> Result<Reply, Refusal> {
+        self.sound();
+        match self.step(&entry) {
+            Ok(reply) => Ok(reply),
+            Err(refusal) => Err(refusal),
+        }
+    }
+
+    fn place(&self) -> u64 {
+        self.place()
+    }
+}

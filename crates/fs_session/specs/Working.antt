@@ -1,0 +1,129 @@
+-- What a turn does, and what comes of it where there is nothing to do.
+use Rattle.std.specs.Prelude.{◌≡◌, ◌≢◌, ℕ, ◌==◌, ◌&&◌, if◌then◌else◌, Bool, true, false, List, [], ◌∷◌, ◌++◌, length, Option, None, Some, Result, Ok, Err, is_some, is_none}
+use mathlib.Core.List.{IsPrefix}
+use Rattle.fs_doc.specs.Reading.{Configuration}
+use Rattle.fs_state.specs.Switch.{Switch, chan_at}
+use Rattle.fs_machine.specs.declared.entry.Entry.{Entry}
+use Rattle.fs_machine.specs.declared.entry.Act.{Act}
+use Rattle.fs_machine.specs.declared.entry.Act.TheVariants as act
+use Rattle.fs_machine.specs.declared.due.DueActor.{DueActor}
+use Rattle.fs_machine.specs.declared.due.DueActor.TheVariants as due
+use Rattle.fs_machine.specs.declared.refusal.Refusal.{Refusal}
+use Rattle.fs_machine.specs.declared.refusal.Refusal.TheVariants as refusal
+use Rattle.fs_machine.specs.declared.reply.Reply.{Reply}
+use Rattle.fs_machine.specs.Due.{next_slot, next_job}
+use Rattle.fs_machine.specs.Questions.{jobs_left}
+use Rattle.fs_machine.specs.Step.{refused_as_full}
+use Rattle.fs_machine.specs.Laws.{state_after}
+use Rattle.fs_machine.specs.Turned.{IsJournal, Answers}
+use Rattle.fs_session.specs.declared.actor.Actor.{Actor}
+use Rattle.fs_session.specs.declared.actor.Actor.TheVariants.{Slot, Jobs}
+use Rattle.fs_session.specs.declared.actor.Errand.{Errand}
+use Rattle.fs_session.specs.declared.actor.Errand.TheVariants as errand
+use Rattle.fs_session.specs.declared.standing.Standing.{Standing}
+use Rattle.fs_session.specs.declared.standing.Standing.TheVariants.{Full, Over, Due}
+use Rattle.fs_session.specs.declared.standing.StandingOf.{StandingOf}
+use Rattle.fs_session.specs.declared.worked.Worked.{Worked}
+use Rattle.fs_session.specs.declared.worked.Worked.TheVariants.{Did, Idle, Stopped, Refused}
+
+-- ---- how an actor stands
+
+-- the switch has come to its end, and nothing of the actor is left
+abbrev pub is_over : Actor → Switch → Bool
+is_over (Slot slot) s = is_some s.stopping && is_none (chan_at s slot)
+is_over Jobs s = is_some s.stopping && (jobs_left s == 0)
+
+-- what the actor has to do, seen at a moment
+abbrev pub due_of : Actor → ℕ → Switch → DueActor
+due_of (Slot slot) now s = next_slot slot now s
+due_of Jobs now s = next_job now s
+
+-- unless the journal is full
+abbrev pub standing_unless : Option Refusal → Standing → Standing
+standing_unless None otherwise = otherwise
+standing_unless (Some why) otherwise = Full why
+
+-- a full journal comes before all else
+abbrev pub standing : Actor → ℕ → Switch → Standing
+standing actor now s = standing_unless (refused_as_full s) (if is_over actor s then Over else Due (due_of actor now s))
+
+-- what a look tells: these entries are a run, and so the actor stands behind them
+pub record TellsActor (asked : StandingOf) (config : Configuration) (log : List Entry) (answer : Standing) : Type 0 where
+  pub run : IsJournal config log
+  pub stands : answer ≡ standing asked.actor asked.now (state_after config log)
+
+-- ---- what comes of a turn
+
+-- the act by which this is done
+abbrev pub act_of : Errand → Act
+act_of (errand.Slot slot) = act.Work slot
+act_of (errand.Job job) = act.Job job
+
+-- what is to be done where an actor stands so, or else what comes of its turn
+abbrev pub judged : Standing → Result Errand Worked
+judged (Full why) = Err (Refused why)
+judged Over = Err Stopped
+judged (Due due.Never) = Err (Idle None)
+judged (Due (due.Later next)) = Err (Idle (Some next))
+judged (Due (due.Slot slot)) = Ok (errand.Slot slot)
+judged (Due (due.Job job)) = Ok (errand.Job job)
+
+-- the act is a turn of this actor: the work of its slot, or that of one of the jobs
+abbrev pub IsTurnOf : Actor → Act → Type 0
+IsTurnOf (Slot slot) done = done ≡ act.Work slot
+IsTurnOf Jobs done = (job : ℕ) × (done ≡ act.Job job)
+
+-- no later try can do better
+abbrev pub is_final : Refusal → Bool
+is_final (refusal.JournalFull cost limit) = true
+is_final refusal.Memory = true
+is_final _ = false
+
+module _ (config : Configuration) (seen : List Entry) (mine : List ℕ) (seen' : List Entry) (mine' : List ℕ) where
+  -- An entry was made, at this place and moment, of which this holds. Others may have entered something before it.
+  pub record Gained (IsIt : Act → Type 0) (now place : ℕ) : Type 0 where
+    pub before : List Entry
+    pub front : IsPrefix seen before
+    pub act : Act
+    pub is : IsIt act
+    pub sees : seen' ≡ before ++ record { moment = now; act = act } ∷ []
+    pub at : place ≡ length before
+    pub more : mine' ≡ mine ++ place ∷ []
+    pub reply : Reply
+    pub answers : Answers config before (record { moment = now; act = act }) reply
+
+  -- none was made, and what is seen is a run
+  pub record Stays : Type 0 where
+    pub front : IsPrefix seen seen'
+    pub same : mine' ≡ mine
+    pub run : IsJournal config seen'
+
+  -- none was made, and so the actor stands behind all that is seen
+  pub record Stands (actor : Actor) (now : ℕ) (how : Standing) : Type 0 where
+    pub stays : Stays
+    pub stands : standing actor now (state_after config seen') ≡ how
+
+  -- none was made, for this reason, which is that the journal is full or that there was no memory
+  pub record Fails (why : Refusal) : Type 0 where
+    pub stays : Stays
+    pub cause : why ≢ refusal.Memory → refused_as_full (state_after config seen') ≡ Some why
+
+  -- what came of a turn of an actor at a moment
+  abbrev pub Works : Actor → ℕ → Worked → Type 0
+  Works actor now (Did place) = Gained (IsTurnOf actor) now place
+  Works actor now (Idle None) = Stands actor now (Due due.Never)
+  Works actor now (Idle (Some next)) = Stands actor now (Due (due.Later next))
+  Works actor now Stopped = Stands actor now Over
+  Works actor now (Refused why) = Fails why
+
+  -- the same, or nothing came of it
+  abbrev pub Tries : Actor → ℕ → Option Worked → Type 0
+  Tries actor now (Some worked) = Works actor now worked
+  Tries actor now None = Stays
+
+  -- what came of trying to do this
+  abbrev pub Attempts : Errand → ℕ → Option Worked → Type 0
+  Attempts errand now (Some (Did place)) = Gained (λ done. done ≡ act_of errand) now place
+  Attempts errand now (Some (Refused why)) = Fails why
+  Attempts errand now (Some _) = ⊥
+  Attempts errand now None = Stays

@@ -1,0 +1,16 @@
+//! What comes of a turn.
+
+use fs_machine::Refusal;
+
+/// What comes of a turn.
+#[derive(Clone, Copy, Debug, PartialEq, Eq)]
+pub enum Worked {
+    /// The one thing that was to be done is done, by the entry at this place in the journal.
+    Did(u64),
+    /// There is nothing to do before this moment, in microseconds, or unless others bring something.
+    Idle { next: Option<u64> },
+    /// The switch has come to its end, and nothing of this actor is left.
+    Stopped,
+    /// The journal is full, or there was no memory.
+    Refused(Refusal),
+}

@@ -15,3 +15,8 @@ mod AgreeLemmas
 mod CommandLemmas
 mod PartLemmas
 pub mod CauseLemmas
+mod OwnerLemmas
+mod TalkLemmas
+pub mod ToldLemmas
+mod ArriveLemmas
+mod PartingLemmas

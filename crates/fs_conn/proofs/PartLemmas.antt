@@ -241,15 +241,15 @@ keeps_tells = by_each IsAside Tells (record {
 -- ---- its commands
 
 -- the reason that a command is for what it brings
-reason : (why : Parting) (config : Configuration) (block : Text) (s t : Switch) → s.settings ≡ config.settings →
-    CommandParts 1 (command_of block) s t → parting_at t 1 ≡ Some why → is_its_own why ≡ true → PartsFor why config.settings.password
+pub reason : (conn : ℕ) (why : Parting) (config : Configuration) (block : Text) (s t : Switch) → s.settings ≡ config.settings →
+    CommandParts conn (command_of block) s t → parting_at t conn ≡ Some why → is_its_own why ≡ true → PartsFor why config.settings.password
     (command_of block)
-reason parting.Exit config block s t kept made is own = made.exit is
-reason parting.AuthRefused config block s t kept made is own =
+reason conn parting.Exit config block s t kept made is own = made.exit is
+reason conn parting.AuthRefused config block s t kept made is own =
     let told = made.refused is in
     (told.0, told.1, λ same. told.2 (same ∙ ap (λ (settings : Settings). settings.password) (sym kept)))
-reason parting.EndOfInput config block s t kept made is own = absurd (made.hears is)
-reason parting.Stopped config block s t kept made is own = absurd (cc)
+reason conn parting.EndOfInput config block s t kept made is own = absurd (made.hears is)
+reason conn parting.Stopped config block s t kept made is own = absurd (cc)
 
 tells_command : (block : Text) (p : Play) (t : Switch) → reads_on p ≡ true →
     refusal_of (switch_of p) (entry_of (Command 1 block) p) ≡ None → switch_of (longer_by (Command 1 block) p) ≡ t →
@@ -261,7 +261,7 @@ tells_command block p t reading accepted is made h = record {
   parted = λ why own same. record {
     command = record { before = p.journal; moment = p.clock; block = block; behind = []; split = refl; last = refl };
     is =
-        reason why p.config block (switch_of p) t (settings_run (empty p.config) p.journal) made
+        reason 1 why p.config block (switch_of p) t (settings_run (empty p.config) p.journal) made
         (sym (ap (λ (s : Switch). parting_at s 1) is) ∙ same) own;
     unparted = h.here reading;
     parted = same;

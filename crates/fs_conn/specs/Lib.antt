@@ -4,3 +4,6 @@ pub mod Wired
 pub mod Playing
 pub mod Turns
 pub mod Ends
+pub mod Owning
+pub mod Talks
+pub mod Partings

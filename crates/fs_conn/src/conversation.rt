@@ -14,7 +14,6 @@ use crate::stop::Stop;
 use crate::wire::Filled;
 use fs_frame::{Blocks, Next};
 use fs_ports::Link;
-use fs_state::Parting;
 
 // What one turn of a conversation came to.
 #[derive(Clone, Copy, Debug)]
@@ -96,11 +95,6 @@ impl<L: Link> Play<'_, '_, L> {
     fn farewell(&self) -> Option<End>
         ensures { result ≡ spec.farewell (play_of (seen self.now)) }
     {
-        match self.machine.parting(CONN)? {
-            Parting::Exit => Some(End::Exit),
-            Parting::AuthRefused => Some(End::AuthRefused),
-            Parting::Stopped => Some(End::Stopped),
-            Parting::EndOfInput => None,
-        }
+        End::by_parting(self.machine.parting(CONN))
     }
 }

@@ -1,4 +1,9 @@
-//! How a play ends.
+//! How a connection ends.
+
+ghost use Rattle.std.specs.Prelude.{◌≡◌};
+ghost use Rattle.fs_conn.specs.Play.{end_by};
+
+use fs_state::Parting;
 
 /// How a connection came to its end.
 #[derive(Clone, Copy, Debug, PartialEq, Eq)]
@@ -27,4 +32,18 @@ pub enum End {
     /// By channels and jobs that do not come to rest: so many entries in a row were worked at one moment, and
     /// something was still due.
     Runaway { count: u64 },
+}
+
+impl End {
+    // How a connection ends that reads no further command, by what it parted for.
+    pub(crate) fn by_parting(parting: Option<Parting>) -> Option<End>
+        ensures { result ≡ end_by parting }
+    {
+        match parting? {
+            Parting::Exit => Some(End::Exit),
+            Parting::AuthRefused => Some(End::AuthRefused),
+            Parting::Stopped => Some(End::Stopped),
+            Parting::EndOfInput => None,
+        }
+    }
 }

@@ -4,20 +4,24 @@ ghost use Rattle.std.specs.Prelude.{◌≡◌, ℕ, ◌≤◌, Bool, true, false
 ghost use Rattle.std.specs.List.{concat};
 ghost use Rattle.fs_doc.specs.Limits.{IsWithin};
 ghost use Rattle.fs_doc.specs.Reading.{Configuration};
+ghost use Rattle.fs_ports.specs.Ports.{Input, Output};
 ghost use Rattle.fs_frame.specs.Block.{fault_of};
 ghost use Rattle.fs_frame.specs.Blocks.{blocks_of, rest_of};
 ghost use Rattle.fs_state.specs.declared.conn.Parting.TheVariants as parting;
 ghost use Rattle.fs_state.specs.Switch.{empty};
+ghost use Rattle.fs_book.specs.Opened.{Quiet};
 ghost use Rattle.fs_machine.specs.declared.entry.Entry.{Entry};
 ghost use Rattle.fs_machine.specs.declared.entry.Act.TheVariants.{Close};
 ghost use Rattle.fs_machine.specs.declared.entry.Closing.TheVariants.{Sent};
 ghost use Rattle.fs_machine.specs.Runs.{IsRunFrom};
 ghost use Rattle.fs_machine.specs.Frames.{commands_of, frames_from};
+ghost use Rattle.fs_machine.specs.Turned.{IsJournal, names};
 ghost use Rattle.fs_conn.specs.declared.end.End.{End};
 ghost use Rattle.fs_conn.specs.declared.end.End.TheVariants as ends;
 ghost use Rattle.fs_conn.specs.Play.{bytes_handed, by_room, played_as, played};
 ghost use Rattle.fs_conn.specs.Steps.{is_early};
 ghost use Rattle.fs_conn.specs.Ends.{EndsFor, is_by_input, HasCause};
+ghost use Rattle.fs_conn.specs.Talks.{Told};
 
 /// The journal of a play is a run of the machine from the empty switch: no entry of it is refused, in particular none
 /// comes where the journal is full.
@@ -88,4 +92,11 @@ pub fn closes_at_its_end()
 pub fn refuses_only_when_full()
     ensures { (config : Configuration) (input : List ℕ) (read_failed : Bool)
         → IsWithin config → played config input read_failed ≡ played_as by_room config input read_failed }
+{}
+
+/// What is told of a conversation stays true where the journal goes on without naming the connection.
+pub fn stays_told()
+    ensures { (config : Configuration) (conn : ℕ) (in0 : Input) (out0 : Output) (log log' : List Entry) (in1 : Input)
+        (out1 : Output) (end : End) → IsJournal config log' → Quiet names conn log log'
+        → Told config conn in0 out0 log in1 out1 end → Told config conn in0 out0 log' in1 out1 end }
 {}

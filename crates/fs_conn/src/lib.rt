@@ -1,22 +1,32 @@
-//! The play of one connection over the channel machine.
+//! The play of one connection over the channel machine, and its conversation beside others over a book.
 #![tactic(auto)]
 
+mod closing;
 mod connection;
 mod conversation;
+mod conversing;
 mod end;
 mod ending;
 mod entering;
+mod handing;
 mod laws;
+mod owner;
 mod playing;
+mod round;
+mod rounds;
 mod sending;
 mod settling;
+mod standing;
 mod stop;
 mod unsent;
+mod welcoming;
 mod wire;
 
 pub use connection::play;
+pub use conversing::converse;
 pub use end::End;
 pub use laws::{
     closes_at_its_end, ends_for_a_cause, enters_commands_once, hands_out_its_frames, plays_a_run,
     refuses_only_when_full,
 };
+pub use welcoming::welcome;

@@ -1,0 +1,359 @@
+-- What rounds of a conversation come to, how it begins, and what is told of it at its end.
+use Rattle.std.proofs.Common.{◌≡◌, ◌⊎◌, inl, inr, ℕ, true, false, if◌then◌else◌, List, [], ◌∷◌, ◌++◌, length, drop, Some}
+use Rattle.std.proofs.Common.{Result, Ok, Err, refl, ap, sym, subst, ◌∙◌, append_assoc, append-nil}
+use Rattle.std.proofs.lemmas.Bool.{eq-eqb}
+use Rattle.std.proofs.lemmas.List.Folds.{concat-append}
+use Rattle.std.specs.List.{AllByRecursion, concat}
+use Rattle.fs_text.specs.Texts.{Text}
+use Rattle.fs_doc.specs.Reading.{Configuration}
+use Rattle.fs_ports.specs.Counts.{raised}
+use Rattle.fs_ports.specs.Ports.{Input, Output, Reads, Writes}
+use Rattle.fs_ports.proofs.Sides.{writes_nothing, reads_both, reads_nothing, stopped_sooner}
+use Rattle.fs_frame.specs.Block.{IsBlock, fault_of}
+use Rattle.fs_frame.specs.Blocks.{blocks_of, rest_of}
+use Rattle.fs_frame.specs.declared.fault.Fault.{Fault}
+use Rattle.fs_frame.proofs.BlockLaws.{AllByRecursion-append, blocks_of-append, rest_of-append}
+use Rattle.fs_book.specs.Opened.{NoneNames, Quiet}
+use Rattle.fs_book.proofs.Lists.{prefix_self, prefix_trans}
+use Rattle.fs_state.specs.declared.conn.Parting.TheVariants as way
+use Rattle.fs_machine.specs.declared.entry.Entry.{Entry}
+use Rattle.fs_machine.specs.declared.entry.Act.TheVariants.{Command}
+use Rattle.fs_machine.specs.declared.reply.Reply.{Reply}
+use Rattle.fs_machine.specs.Frames.{commands_of}
+use Rattle.fs_machine.specs.Laws.{given_to, handed_to}
+use Rattle.fs_machine.specs.Turned.{IsJournal, names}
+use Rattle.fs_machine.specs.Carried.{is_sent}
+use Rattle.fs_machine.proofs.QuietLemmas.{carries, does, begins}
+use Rattle.fs_conn.specs.declared.end.End.{End}
+use Rattle.fs_conn.specs.declared.end.End.TheVariants as ends
+use Rattle.fs_conn.specs.declared.stop.Stop.{Stop}
+use Rattle.fs_conn.specs.declared.stop.Stop.TheVariants as stops
+use Rattle.fs_conn.specs.declared.round.Round.{Round}
+use Rattle.fs_conn.specs.declared.round.Round.TheVariants.{GoOn, Done}
+use Rattle.fs_conn.specs.Owning.{OwnsConn, entry_at, Entered}
+use Rattle.fs_conn.specs.Talks.{Point, point, bytes_given, FrontWritten, PartedEnd}
+use Rattle.fs_conn.specs.Talks.{Base, Holds, HasStopped, OverCause, Over, Rounds, Handles, Departed, Hung, ends_sent, EndWrote, EndCause}
+use Rattle.fs_conn.specs.Talks.{Told, Talks}
+use Rattle.fs_conn.proofs.PartingLemmas.{at_front, parted_by_command, stopped_by_end, by_up, stopped_up}
+use Rattle.fs_conn.proofs.TalkLemmas.{or_none, full_up, front_longer, holds_quiet, stops_holds, idle_before, gains_push}
+
+-- bytes that have no block are all behind their blocks
+rest_whole : (rest : List ℕ) → blocks_of rest ≡ [] → rest_of rest ≡ rest
+unfolding rest_of
+rest_whole rest none = ap (λ (bs : List (List ℕ)). drop (length (concat bs)) rest) none
+
+behind : (bs : List (List ℕ)) (rest : List ℕ) (fault : Fault) → AllByRecursion IsBlock bs → blocks_of rest ≡ [] →
+    fault_of rest ≡ Some fault → fault_of (rest_of (concat bs ++ rest)) ≡ Some fault
+behind bs rest fault are none is = ap fault_of (rest_of-append bs rest are ∙ rest_whole rest none) ∙ is
+
+bytes_push : (bs : List (List ℕ)) (b rest : List ℕ) → concat (bs ++ b ∷ []) ++ rest ≡ concat bs ++ (b ++ rest)
+bytes_push bs b rest =
+    ap (λ xs. xs ++ rest) (concat-append bs (b ∷ []) ∙ ap (λ xs. concat bs ++ xs) (append-nil b)) ∙ append_assoc (concat bs) b rest
+
+module _ (may : ℕ → Type 0) (config : Configuration) (conn : ℕ) where
+  -- a block became a command
+  pub commanded : (from : Point) (log log' : List Entry) (mine mine' : List ℕ) (in1 : Input) (out1 : Output) (b rest : List ℕ)
+      (answer : Reply) → IsBlock b → Entered may config conn log mine log' mine' (Command conn b) answer
+      → Holds may config conn from (point log mine in1 out1) (b ++ rest) → Holds may config conn from (point log' mine' in1 out1) rest
+  commanded from log log' mine mine' in1 out1 b rest answer is n h =
+      let now = holds_quiet may config conn from log n.before mine mine in1 out1 (b ++ rest)
+      (idle_before may config conn log log' mine mine' _ answer n) h in
+      let e : Entry = entry_at n.moment (Command conn b) in
+      let d = does conn config n.before e answer n.answers now.base.come refl in
+      let more : commands_of conn (n.before ++ e ∷ []) ≡ commands_of conn n.before ++ b ∷ [] =
+      d.commands ∙ ap (λ t. commands_of conn n.before ++ (if t then b ∷ [] else [])) (eq-eqb conn conn refl) in
+      let P : List Entry → Type 0 = λ j. Holds may config conn from (point j mine' in1 out1) rest in
+      subst P n.sees (record {
+        base = record {
+          later = prefix_trans from.log n.before (n.before ++ e ∷ []) now.base.later (e ∷ [], refl);
+          gains = gains_push may config conn from.mine n.before e mine mine' refl n.told n.more now.base.gains;
+          run = d.run;
+          come = d.come;
+          are_blocks =
+              subst (λ (bs : List (List ℕ)). AllByRecursion IsBlock bs) (sym more)
+              (AllByRecursion-append IsBlock (commands_of conn n.before) (b ∷ []) now.base.are_blocks (is, tt));
+          reads =
+              subst (λ (bs : List ℕ). Reads from.input in1 bs)
+              (sym (ap (λ bs. concat bs ++ rest) more ∙ bytes_push (commands_of conn n.before) b rest)) now.base.reads;
+        };
+        live = d.shut;
+        unsent = d.sent ∙ or_none (is_sent conn n.before) false now.unsent;
+        written =
+            subst (λ (fs : List Text). Writes from.output out1 (concat fs))
+            (sym (d.handed ∙ append-nil (handed_to conn config n.before))) now.written;
+      })
+
+  -- more was read
+  pub read_on : (from : Point) (log : List Entry) (mine : List ℕ) (in1 in2 : Input) (out1 : Output) (rest piece : List ℕ) →
+      Reads in1 in2 piece → Holds may config conn from (point log mine in1 out1) rest
+      → Holds may config conn from (point log mine in2 out1) (rest ++ piece)
+  read_on from log mine in1 in2 out1 rest piece more h = record {
+    base = record {
+      later = h.base.later;
+      gains = h.base.gains;
+      run = h.base.run;
+      come = h.base.come;
+      are_blocks = h.base.are_blocks;
+      reads =
+          subst (λ (bs : List ℕ). Reads from.input in2 bs) (append_assoc (concat (commands_of conn log)) rest piece)
+          (reads_both from.input in1 in2 (concat (commands_of conn log) ++ rest) piece h.base.reads more);
+    };
+    live = h.live;
+    unsent = h.unsent;
+    written = h.written;
+  }
+
+  -- a read failed
+  pub read_failed_on : (from : Point) (log : List Entry) (mine : List ℕ) (in1 : Input) (out1 : Output) (rest : List ℕ) →
+      Holds may config conn from (point log mine in1 out1) rest
+      → Holds may config conn from (point log mine (record in1 { faults = raised in1.faults }) out1) rest
+  read_failed_on from log mine in1 out1 rest h = record {
+    base = record {
+      later = h.base.later;
+      gains = h.base.gains;
+      run = h.base.run;
+      come = h.base.come;
+      are_blocks = h.base.are_blocks;
+      reads = record { taken = h.base.reads.taken; left = h.base.reads.left; waits = h.base.reads.waits };
+    };
+    live = h.live;
+    unsent = h.unsent;
+    written = h.written;
+  }
+
+  -- there was no memory for what was read
+  pub turns_stopped : (from : Point) (log : List Entry) (mine : List ℕ) (in1 in2 : Input) (out1 : Output) (rest piece : List ℕ) →
+      Reads in1 in2 piece → Holds may config conn from (point log mine in1 out1) rest
+      → (left : List ℕ) × HasStopped may config conn from (point log mine in2 out1) left stops.OutOfMemory
+  turns_stopped from log mine in1 in2 out1 rest piece more h = (
+    rest ++ piece,
+    stops_holds may config conn from log mine in2 out1 (rest ++ piece)
+        (read_on from log mine in1 in2 out1 rest piece more h),
+  )
+
+  -- the connection had parted
+  departed_cause : (from now : Point) (rest : List ℕ) (end : End) → PartedEnd config conn now.log end →
+      OverCause may config conn end from now rest
+  departed_cause from now rest ends.Exit parted = parted
+  departed_cause from now rest ends.AuthRefused parted = parted
+  departed_cause from now rest ends.Stopped parted = parted
+  departed_cause from now rest _ parted = absurd parted
+
+  pub turns_departed : (from now : Point) (rest left : List ℕ) (result : Result Round Stop) →
+      Departed may config conn from now rest result → Rounds may config conn from now left result
+  turns_departed from now rest left (Ok GoOn) d = absurd d
+  turns_departed from now rest left (Ok (Done e)) d =
+      record { rest = rest; finishes = d.1; cause = departed_cause from now rest e d.0 }
+  turns_departed from now rest left (Err stop) d = (rest, d)
+
+  pub handles_departed : (from now : Point) (b rest : List ℕ) (result : Result Round Stop) →
+      Departed may config conn from now (b ++ rest) result → Handles may config conn b from now rest result
+  handles_departed from now b rest (Ok GoOn) d = absurd d
+  handles_departed from now b rest (Ok (Done e)) d = d
+  handles_departed from now b rest (Err stop) d = d
+
+  pub turns_handled : (from now : Point) (b rest : List ℕ) (result : Result Round Stop) → now.input.faults ≡ from.input.faults →
+      Handles may config conn b from now rest result → Rounds may config conn from now rest result
+  turns_handled from now b rest (Ok GoOn) same h = (h, same)
+  turns_handled from now b rest (Ok (Done e)) same h =
+      record { rest = b ++ rest; finishes = h.1; cause = departed_cause from now (b ++ rest) e h.0 }
+  turns_handled from now b rest (Err stop) same h = (b ++ rest, h)
+
+  hung_over : (from now : Point) (rest : List ℕ) (e end : End) → (e ≡ end) ⊎ PartedEnd config conn now.log e →
+      OverCause may config conn end from now rest → OverCause may config conn e from now rest
+  hung_over from now rest e end (inl same) cause = subst (λ (x : End). OverCause may config conn x from now rest) (sym same) cause
+  hung_over from now rest e end (inr parted) cause = departed_cause from now rest e parted
+
+  pub turns_hung : (from now : Point) (rest left : List ℕ) (end : End) (result : Result Round Stop) →
+      OverCause may config conn end from now rest → Hung may config conn end from now rest result
+      → Rounds may config conn from now left result
+  turns_hung from now rest left end (Ok GoOn) cause h = absurd h
+  turns_hung from now rest left end (Ok (Done e)) cause h =
+      record { rest = rest; finishes = h.1; cause = hung_over from now rest e end h.0 cause }
+  turns_hung from now rest left end (Err stop) cause h = (rest, h)
+
+  -- ---- how it begins
+
+  pub holds_first : (log : List Entry) (mine : List ℕ) (in0 : Input) (out0 : Output) → IsJournal config log →
+      OwnsConn config conn log mine → NoneNames names conn log
+      → Holds may config conn (point log mine in0 out0) (point log mine in0 out0) []
+  holds_first log mine in0 out0 run owns none =
+      let b = begins conn config log mine run owns none in
+      record {
+        base = record {
+          later = prefix_self log;
+          gains = record { places = []; more = sym (append-nil mine); each = tt };
+          run = run;
+          come = b.come;
+          are_blocks = subst (λ (bs : List (List ℕ)). AllByRecursion IsBlock bs) (sym b.commands) tt;
+          reads = subst (λ (bs : List (List ℕ)). Reads in0 in0 (concat bs ++ [])) (sym b.commands) (reads_nothing in0);
+        };
+        live = b.open_yet;
+        unsent = b.unsent;
+        written = subst (λ (fs : List Text). Writes out0 out0 (concat fs)) (sym b.handed) (writes_nothing out0);
+      }
+
+  -- ---- how it ends
+
+  over_sent : (from now : Point) (rest : List ℕ) (end : End) → OverCause may config conn end from now rest → ends_sent end ≡ true
+  over_sent from now rest ends.Exit cause = refl
+  over_sent from now rest ends.AuthRefused cause = refl
+  over_sent from now rest ends.Stopped cause = refl
+  over_sent from now rest ends.Eof cause = refl
+  over_sent from now rest ends.ReadFault cause = refl
+  over_sent from now rest (ends.TooLong len) cause = refl
+  over_sent from now rest ends.BadLength cause = refl
+  over_sent from now rest ends.WriteFault cause = absurd cause
+  over_sent from now rest (ends.JournalFull cost limit) cause = absurd cause
+  over_sent from now rest ends.Memory cause = absurd cause
+  over_sent from now rest (ends.Runaway count) cause = absurd cause
+
+  over_wrote : (from now : Point) (rest : List ℕ) (end : End) (bytes : List ℕ) → OverCause may config conn end from now rest →
+      FrontWritten from.output now.output bytes → EndWrote end from.output now.output bytes
+  over_wrote from now rest ends.WriteFault bytes cause w = absurd cause
+  over_wrote from now rest _ bytes cause w = w
+
+  over_cause : (from now : Point) (rest : List ℕ) (end : End) → IsJournal config now.log → AllByRecursion IsBlock (commands_of conn now.log) →
+      OverCause may config conn end from now rest
+      → EndCause end config conn now.log from.input now.input (concat (commands_of conn now.log) ++ rest) (blocks_of rest)
+  over_cause from now rest ends.Exit run are cause =
+      parted_by_command config conn now.log way.Exit run refl (λ same. cc) (at_front config conn now.log way.Exit run cause)
+  over_cause from now rest ends.AuthRefused run are cause =
+      parted_by_command config conn now.log way.AuthRefused run refl (λ same. cc) (at_front config conn now.log way.AuthRefused run cause)
+  over_cause from now rest ends.Stopped run are cause =
+      stopped_by_end config conn now.log run (at_front config conn now.log way.Stopped run cause)
+  over_cause from now rest ends.Eof run are cause = cause
+  over_cause from now rest ends.ReadFault run are cause = cause
+  over_cause from now rest (ends.TooLong len) run are cause = (cause.0, behind (commands_of conn now.log) rest _ are cause.0 cause.1)
+  over_cause from now rest ends.BadLength run are cause = (cause.0, behind (commands_of conn now.log) rest _ are cause.0 cause.1)
+  over_cause from now rest ends.WriteFault run are cause = absurd cause
+  over_cause from now rest (ends.JournalFull cost limit) run are cause = absurd cause
+  over_cause from now rest ends.Memory run are cause = absurd cause
+  over_cause from now rest (ends.Runaway count) run are cause = absurd cause
+
+  whole : (out0 out1 : Output) (bytes : List ℕ) → Writes out0 out1 bytes → FrontWritten out0 out1 bytes
+  whole out0 out1 bytes w = record { front = bytes; back = []; split = sym (append-nil bytes); writes = w }
+
+  pub ends_over : (from now : Point) (end : End) → Over may config conn from now end → Talks may config conn from now end
+  ends_over from now end o =
+      let f = o.finishes in
+      record {
+        later = f.base.later;
+        gains = f.base.gains;
+        told = record {
+          run = f.base.run;
+          come = f.base.come;
+          taken = concat (commands_of conn now.log) ++ o.rest;
+          reads = f.base.reads;
+          others = blocks_of o.rest;
+          commands_are = blocks_of-append (commands_of conn now.log) o.rest f.base.are_blocks;
+          wrote =
+              over_wrote from now o.rest end (bytes_given config conn now.log) o.cause
+              (whole from.output now.output (bytes_given config conn now.log) f.written);
+          sent = f.sent ∙ sym (over_sent from now o.rest end o.cause);
+          all = λ is. (f.written, f.shut);
+          cause = over_cause from now o.rest end f.base.run f.base.are_blocks o.cause;
+        };
+      }
+
+  ends_stopped : (from now : Point) (rest : List ℕ) (end : End) → Base may config conn from now rest →
+      is_sent conn now.log ≡ false → ends_sent end ≡ false
+      → EndWrote end from.output now.output (bytes_given config conn now.log)
+      → EndCause end config conn now.log from.input now.input (concat (commands_of conn now.log) ++ rest) (blocks_of rest)
+      → Talks may config conn from now end
+  ends_stopped from now rest end base unsent not_sent wrote cause = record {
+    later = base.later;
+    gains = base.gains;
+    told = record {
+      run = base.run;
+      come = base.come;
+      taken = concat (commands_of conn now.log) ++ rest;
+      reads = base.reads;
+      others = blocks_of rest;
+      commands_are = blocks_of-append (commands_of conn now.log) rest base.are_blocks;
+      wrote = wrote;
+      sent = unsent ∙ sym not_sent;
+      all = λ is. absurd (let z : false ≡ true = sym unsent ∙ is in cc z);
+      cause = cause;
+    };
+  }
+
+  pub ends_memory : (from now : Point) (rest : List ℕ) → HasStopped may config conn from now rest stops.OutOfMemory →
+      Talks may config conn from now ends.Memory
+  ends_memory from now rest s = ends_stopped from now rest ends.Memory s.base s.unsent refl s.did tt
+
+  pub ends_write : (from now : Point) (rest : List ℕ) → HasStopped may config conn from now rest stops.WriteFault →
+      Talks may config conn from now ends.WriteFault
+  ends_write from now rest s = ends_stopped from now rest ends.WriteFault s.base s.unsent refl s.did tt
+
+  pub ends_early : (from now : Point) (rest : List ℕ) (end : End) → HasStopped may config conn from now rest (stops.Over end) →
+      Talks may config conn from now end
+  ends_early from now rest (ends.JournalFull cost limit) s =
+      ends_stopped from now rest (ends.JournalFull cost limit) s.base s.unsent refl s.did.0 s.did.1
+  ends_early from now rest ends.Exit s = absurd s.did.1
+  ends_early from now rest ends.AuthRefused s = absurd s.did.1
+  ends_early from now rest ends.Stopped s = absurd s.did.1
+  ends_early from now rest ends.Eof s = absurd s.did.1
+  ends_early from now rest ends.ReadFault s = absurd s.did.1
+  ends_early from now rest (ends.TooLong len) s = absurd s.did.1
+  ends_early from now rest ends.BadLength s = absurd s.did.1
+  ends_early from now rest ends.WriteFault s = absurd s.did.1
+  ends_early from now rest ends.Memory s = absurd s.did.1
+  ends_early from now rest (ends.Runaway count) s = absurd s.did.1
+
+-- ---- what is told stays true where the journal goes on without naming the connection
+
+wrote_longer : (end : End) (out0 out1 : Output) (bytes more : List ℕ) → EndWrote end out0 out1 bytes → EndWrote end out0 out1 (bytes ++ more)
+wrote_longer ends.WriteFault out0 out1 bytes more w = stopped_sooner out0 out1 bytes more w
+wrote_longer ends.Exit out0 out1 bytes more w = front_longer out0 out1 bytes more w
+wrote_longer ends.AuthRefused out0 out1 bytes more w = front_longer out0 out1 bytes more w
+wrote_longer ends.Stopped out0 out1 bytes more w = front_longer out0 out1 bytes more w
+wrote_longer ends.Eof out0 out1 bytes more w = front_longer out0 out1 bytes more w
+wrote_longer ends.ReadFault out0 out1 bytes more w = front_longer out0 out1 bytes more w
+wrote_longer (ends.TooLong len) out0 out1 bytes more w = front_longer out0 out1 bytes more w
+wrote_longer ends.BadLength out0 out1 bytes more w = front_longer out0 out1 bytes more w
+wrote_longer (ends.JournalFull cost limit) out0 out1 bytes more w = front_longer out0 out1 bytes more w
+wrote_longer ends.Memory out0 out1 bytes more w = front_longer out0 out1 bytes more w
+wrote_longer (ends.Runaway count) out0 out1 bytes more w = front_longer out0 out1 bytes more w
+
+cause_up : (end : End) (config : Configuration) (conn : ℕ) (log log' : List Entry) (in0 in1 : Input) (taken : List ℕ)
+    (others : List (List ℕ)) → Quiet names conn log log' → EndCause end config conn log in0 in1 taken others
+    → EndCause end config conn log' in0 in1 taken others
+cause_up ends.Exit config conn log log' in0 in1 taken others quiet cause = by_up config conn log log' way.Exit quiet cause
+cause_up ends.AuthRefused config conn log log' in0 in1 taken others quiet cause = by_up config conn log log' way.AuthRefused quiet cause
+cause_up ends.Stopped config conn log log' in0 in1 taken others quiet cause = stopped_up config conn log log' quiet cause
+cause_up ends.Eof config conn log log' in0 in1 taken others quiet cause = cause
+cause_up ends.ReadFault config conn log log' in0 in1 taken others quiet cause = cause
+cause_up (ends.TooLong len) config conn log log' in0 in1 taken others quiet cause = cause
+cause_up ends.BadLength config conn log log' in0 in1 taken others quiet cause = cause
+cause_up ends.WriteFault config conn log log' in0 in1 taken others quiet cause = cause
+cause_up (ends.JournalFull cost limit) config conn log log' in0 in1 taken others quiet cause =
+    full_up config log log' cost limit (quiet.more, quiet.split) cause
+cause_up ends.Memory config conn log log' in0 in1 taken others quiet cause = cause
+cause_up (ends.Runaway count) config conn log log' in0 in1 taken others quiet cause = cause
+
+pub told_up : (config : Configuration) (conn : ℕ) (in0 : Input) (out0 : Output) (log log' : List Entry) (in1 : Input) (out1 : Output)
+    (end : End) → IsJournal config log' → Quiet names conn log log' → Told config conn in0 out0 log in1 out1 end
+    → Told config conn in0 out0 log' in1 out1 end
+told_up config conn in0 out0 log log' in1 out1 end run quiet t =
+    let k = carries conn config log log' run t.come quiet in
+    let bytes : bytes_given config conn log' ≡ bytes_given config conn log ++ concat k.more =
+    ap concat k.given ∙ concat-append (given_to conn config log) k.more in
+    record {
+      run = run;
+      come = k.come;
+      taken = t.taken;
+      reads = t.reads;
+      others = t.others;
+      commands_are = t.commands_are ∙ ap (λ bs. bs ++ t.others) (sym k.commands);
+      wrote =
+          subst (λ (xs : List ℕ). EndWrote end out0 out1 xs) (sym bytes)
+          (wrote_longer end out0 out1 (bytes_given config conn log) (concat k.more) t.wrote);
+      sent = k.sent ∙ t.sent;
+      all = λ is.
+          let all = t.all (sym k.sent ∙ is) in (
+            subst (λ (fs : List Text). Writes out0 out1 (concat fs)) (sym (k.silent all.1)) all.0,
+            k.shut ∙ all.1,
+          );
+      cause = cause_up end config conn log log' in0 in1 t.taken t.others quiet t.cause;
+    }

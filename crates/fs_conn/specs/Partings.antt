@@ -1,0 +1,36 @@
+-- By which entry of a journal a connection parted, among others who enter.
+use Rattle.std.specs.Prelude.{◌≡◌, ℕ, true, List, [], ◌∷◌, ◌++◌, None, Some, is_some}
+use Rattle.fs_doc.specs.Reading.{Configuration}
+use Rattle.fs_text.specs.Texts.{Text}
+use Rattle.fs_cmd.specs.Commands.{command_of}
+use Rattle.fs_state.specs.declared.conn.Parting.{Parting}
+use Rattle.fs_state.specs.declared.conn.Parting.TheVariants as parting
+use Rattle.fs_machine.specs.declared.entry.Entry.{Entry}
+use Rattle.fs_machine.specs.declared.entry.Act.TheVariants.{Command}
+use Rattle.fs_machine.specs.Questions.{parting_at}
+use Rattle.fs_machine.specs.Frames.{commands_of}
+use Rattle.fs_machine.specs.Laws.{state_after}
+use Rattle.fs_conn.specs.Ends.{PartsFor}
+
+-- the entry of a journal by which a connection parted for this, with what stands before and behind it; behind it it gave no command
+pub record PartedAt (config : Configuration) (conn : ℕ) (log : List Entry) (why : Parting) : Type 0 where
+  pub before : List Entry
+  pub entry : Entry
+  pub behind : List Entry
+  pub split : log ≡ before ++ entry ∷ behind
+  pub last : commands_of conn behind ≡ []
+  pub unparted : parting_at (state_after config before) conn ≡ None
+  pub parted : parting_at (state_after config (before ++ entry ∷ [])) conn ≡ Some why
+
+-- that entry was a command of the connection, one for which it parts so
+pub record PartedBy (config : Configuration) (conn : ℕ) (log : List Entry) (why : Parting) : Type 0 where
+  pub at : PartedAt config conn log why
+  pub block : Text
+  pub gives : at.entry.act ≡ Command conn block
+  pub is : PartsFor why config.settings.password (command_of block)
+
+-- by that entry the switch came to its end
+pub record StoppedBy (config : Configuration) (conn : ℕ) (log : List Entry) : Type 0 where
+  pub at : PartedAt config conn log parting.Stopped
+  pub unstopped : (state_after config at.before).stopping ≡ None
+  pub stopped : is_some (state_after config (at.before ++ at.entry ∷ [])).stopping ≡ true

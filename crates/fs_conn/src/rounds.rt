@@ -1,0 +1,239 @@
+//! One round of a conversation: what waits goes out, and then comes a block or a read.
+
+ghost use Rattle.std.specs.Prelude.{◌≡◌, ◌++◌, List, ℕ};
+ghost use Rattle.fs_ports.specs.Ports.{Input};
+ghost use Rattle.fs_frame.specs.Block.{IsBlock};
+ghost use Rattle.fs_frame.specs.Blocks.{HasNoBlock};
+ghost use Rattle.fs_book.specs.Passes.{seen, mine, met, parts, opening_state, IsPassOf};
+ghost use Rattle.fs_machine.specs.Turned.{configured};
+ghost use Rattle.fs_conn.specs.Owning.{OwnsConn};
+ghost use Rattle.fs_conn.specs.Talks.{Point, point, Holds, Gets, Handles, Hung, Departed, Rounds};
+
+use crate::closing::{depart, hang_up};
+use crate::end::End;
+use crate::handing::{attempt, drain};
+use crate::owner::look;
+use crate::round::{Piece, Round};
+use crate::stop::Stop;
+use fs_book::{Book, Pass};
+use fs_frame::{Blocks, Next};
+use fs_machine::{Act, Machine};
+use fs_ports::{Clock, Link, Read};
+use fs_text::Txt;
+use std::alloc::Global;
+use std::sync::Wait;
+
+/// How many bytes a read takes at most.
+const MOST_BYTES: usize = 16_384;
+
+// Reads once.
+fn get<L: Link>(blocks: &mut Blocks, link: &mut L) -> Result<Piece, Stop>
+    ensures gets { Gets (L.input link.old) (L.input link.new) blocks.old blocks.new result }
+    ensures output { L.output link.new ≡ L.output link.old }
+{
+    let mut buf = [0; MOST_BYTES];
+    match link.read(&mut buf) {
+        Read::Got(n) => match blocks.feed(&buf[..n]) {
+            Ok(()) => Ok(Piece::More),
+            Err(_) => Err(Stop::OutOfMemory),
+        },
+        Read::NotYet => Ok(Piece::NotYet),
+        Read::End => Ok(Piece::AtEnd),
+        Read::Failed => Ok(Piece::Failed),
+    }
+}
+
+// Enters a command.
+fn handle<R: Wait, C: Clock, L: Link>(
+    rt: &R,
+    book: &Book<Machine>,
+    pass: &mut Pass<Machine>,
+    alloc: Global,
+    conn: u32,
+    clock: &C,
+    block: &[u8],
+    link: &mut L,
+) -> Result<Round, Stop>
+    requires book { IsPassOf configured book.now pass.old }
+    requires owns { OwnsConn (configured (opening_state book.now)) conn (seen pass.old) (mine pass.old) }
+    requires block { IsBlock block.now }
+    ensures book { IsPassOf configured book.now pass.new }
+    ensures owns { OwnsConn (configured (opening_state book.now)) conn (seen pass.new) (mine pass.new) }
+    ensures kept { (met pass.new ≡ met pass.old) × (parts pass.new ≡ parts pass.old) }
+    ensures input { L.input link.new ≡ L.input link.old }
+    ensures handles { (from : Point) (rest : List ℕ)
+        → Holds (C.tells clock.now) (configured (opening_state book.now)) conn from
+        (point (seen pass.old) (mine pass.old) (L.input link.old) (L.output link.old)) (block.now ++ rest)
+        → Handles (C.tells clock.now) (configured (opening_state book.now)) conn block.now from
+        (point (seen pass.new) (mine pass.new) (L.input link.new) (L.output link.new)) rest result }
+{
+    let Ok(command) = Txt::of(alloc, block) else {
+        return Err(Stop::OutOfMemory);
+    };
+    match attempt(
+        rt,
+        book,
+        pass,
+        conn,
+        clock,
+        Act::Command {
+            conn,
+            block: command,
+        },
+    ) {
+        Ok(Some(_)) => return Ok(Round::GoOn),
+        Ok(None) => {}
+        Err(stop) => return Err(stop),
+    }
+    leave(rt, book, pass, conn, clock, link)
+}
+
+// Ends a conversation that was made to read no further command.
+fn leave<R: Wait, C: Clock, L: Link>(
+    rt: &R,
+    book: &Book<Machine>,
+    pass: &mut Pass<Machine>,
+    conn: u32,
+    clock: &C,
+    link: &mut L,
+) -> Result<Round, Stop>
+    requires book { IsPassOf configured book.now pass.old }
+    requires owns { OwnsConn (configured (opening_state book.now)) conn (seen pass.old) (mine pass.old) }
+    ensures book { IsPassOf configured book.now pass.new }
+    ensures owns { OwnsConn (configured (opening_state book.now)) conn (seen pass.new) (mine pass.new) }
+    ensures kept { (met pass.new ≡ met pass.old) × (parts pass.new ≡ parts pass.old) }
+    ensures input { L.input link.new ≡ L.input link.old }
+    ensures departed { (from : Point) (rest : List ℕ)
+        → Holds (C.tells clock.now) (configured (opening_state book.now)) conn from
+        (point (seen pass.old) (mine pass.old) (L.input link.old) (L.output link.old)) rest
+        → Departed (C.tells clock.now) (configured (opening_state book.now)) conn from
+        (point (seen pass.new) (mine pass.new) (L.input link.new) (L.output link.new)) rest result }
+{
+    match depart(rt, book, pass, conn, clock, link) {
+        Ok(end) => Ok(Round::Done(end)),
+        Err(stop) => Err(stop),
+    }
+}
+
+// Ends a conversation for this reason.
+fn ended<R: Wait, C: Clock, L: Link>(
+    rt: &R,
+    book: &Book<Machine>,
+    pass: &mut Pass<Machine>,
+    conn: u32,
+    clock: &C,
+    link: &mut L,
+    end: End,
+) -> Result<Round, Stop>
+    requires book { IsPassOf configured book.now pass.old }
+    requires owns { OwnsConn (configured (opening_state book.now)) conn (seen pass.old) (mine pass.old) }
+    ensures book { IsPassOf configured book.now pass.new }
+    ensures owns { OwnsConn (configured (opening_state book.now)) conn (seen pass.new) (mine pass.new) }
+    ensures kept { (met pass.new ≡ met pass.old) × (parts pass.new ≡ parts pass.old) }
+    ensures input { L.input link.new ≡ L.input link.old }
+    ensures hung { (from : Point) (rest : List ℕ)
+        → Holds (C.tells clock.now) (configured (opening_state book.now)) conn from
+        (point (seen pass.old) (mine pass.old) (L.input link.old) (L.output link.old)) rest
+        → Hung (C.tells clock.now) (configured (opening_state book.now)) conn end from
+        (point (seen pass.new) (mine pass.new) (L.input link.new) (L.output link.new)) rest result }
+{
+    match hang_up(rt, book, pass, conn, clock, link, end) {
+        Ok(end) => Ok(Round::Done(end)),
+        Err(stop) => Err(stop),
+    }
+}
+
+// Reads more, where no block stands in front.
+fn read_more<R: Wait, C: Clock, L: Link>(
+    rt: &R,
+    book: &Book<Machine>,
+    pass: &mut Pass<Machine>,
+    conn: u32,
+    clock: &C,
+    blocks: &mut Blocks,
+    link: &mut L,
+) -> Result<Round, Stop>
+    requires book { IsPassOf configured book.now pass.old }
+    requires owns { OwnsConn (configured (opening_state book.now)) conn (seen pass.old) (mine pass.old) }
+    requires none { HasNoBlock blocks.old.rest }
+    ensures book { IsPassOf configured book.now pass.new }
+    ensures owns { OwnsConn (configured (opening_state book.now)) conn (seen pass.new) (mine pass.new) }
+    ensures kept { (met pass.new ≡ met pass.old) × (parts pass.new ≡ parts pass.old) }
+    ensures turns { (from : Point)
+        → Holds (C.tells clock.now) (configured (opening_state book.now)) conn from
+        (point (seen pass.old) (mine pass.old) (L.input link.old) (L.output link.old)) blocks.old.rest
+        → (L.input link.old).faults ≡ from.input.faults
+        → Rounds (C.tells clock.now) (configured (opening_state book.now)) conn from
+        (point (seen pass.new) (mine pass.new) (L.input link.new) (L.output link.new)) blocks.new.rest result }
+{
+    match get(blocks, link) {
+        Ok(Piece::More) => return Ok(Round::GoOn),
+        Ok(Piece::NotYet) => {
+            clock.nap();
+            return Ok(Round::GoOn);
+        }
+        Ok(Piece::AtEnd) => return ended(rt, book, pass, conn, clock, link, End::Eof),
+        Ok(Piece::Failed) => return ended(rt, book, pass, conn, clock, link, End::ReadFault),
+        Err(stop) => return Err(stop),
+    }
+}
+
+/// Writes what waits, and then enters a command or reads more; or ends.
+pub(crate) fn take_round<R: Wait, C: Clock, L: Link>(
+    rt: &R,
+    book: &Book<Machine>,
+    pass: &mut Pass<Machine>,
+    alloc: Global,
+    conn: u32,
+    clock: &C,
+    blocks: &mut Blocks,
+    link: &mut L,
+) -> Result<Round, Stop>
+    requires book { IsPassOf configured book.now pass.old }
+    requires owns { OwnsConn (configured (opening_state book.now)) conn (seen pass.old) (mine pass.old) }
+    ensures book { IsPassOf configured book.now pass.new }
+    ensures owns { OwnsConn (configured (opening_state book.now)) conn (seen pass.new) (mine pass.new) }
+    ensures kept { (met pass.new ≡ met pass.old) × (parts pass.new ≡ parts pass.old) }
+    ensures turns { (from : Point)
+        → Holds (C.tells clock.now) (configured (opening_state book.now)) conn from
+        (point (seen pass.old) (mine pass.old) (L.input link.old) (L.output link.old)) blocks.old.rest
+        → (L.input link.old).faults ≡ from.input.faults
+        → Rounds (C.tells clock.now) (configured (opening_state book.now)) conn from
+        (point (seen pass.new) (mine pass.new) (L.input link.new) (L.output link.new)) blocks.new.rest result }
+{
+    match drain(rt, book, pass, conn, clock, link) {
+        Ok(()) => {}
+        Err(stop) => return Err(stop),
+    }
+    let standing = look(rt, book, pass, conn);
+    if !standing.reads {
+        return leave(rt, book, pass, conn, clock, link);
+    }
+    if standing.owed {
+        clock.nap();
+        return Ok(Round::GoOn);
+    }
+    match blocks.next_block() {
+        Next::Block(block) => return handle(
+            rt,
+            book,
+            pass,
+            alloc,
+            conn,
+            clock,
+            block.bytes(),
+            link,
+        ),
+        Next::NeedMore => return read_more(rt, book, pass, conn, clock, blocks, link),
+        Next::TooLong { len } => return ended(
+            rt,
+            book,
+            pass,
+            conn,
+            clock,
+            link,
+            End::TooLong { len },
+        ),
+        Next::BadLength => return ended(rt, book, pass, conn, clock, link, End::BadLength),
+    }
+}

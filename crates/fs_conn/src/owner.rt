@@ -11,11 +11,11 @@ ghost use Rattle.fs_conn.specs.Owning.{OwnsConn, Entered, Refused, standing_of};
 
 use crate::standing::{Standing, StandingOf};
 use fs_book::{Book, Pass};
-use fs_machine::{Act, Entry, Machine, Refusal, Reply};
+use fs_machine::{Act, Answer, Entry, Machine, Refusal, Reply};
 use fs_ports::Clock;
 use std::sync::Wait;
 
-/// Enters an act of the connection, at the clock's moment.
+/// Enters an act of the connection, at the clock's moment, and wakes whoever has something to do since.
 pub(crate) fn enter<R: Wait, C: Clock>(
     rt: &R,
     book: &Book<Machine>,
@@ -37,7 +37,11 @@ pub(crate) fn enter<R: Wait, C: Clock>(
 {
     let moment = clock.now();
     match book.submit(rt, pass, Entry { moment, act }) {
-        Ok(receipt) => Ok(receipt.answer),
+        Ok(receipt) => {
+            let Answer { reply, wakes } = receipt.answer;
+            clock.wake(&wakes);
+            Ok(reply)
+        }
         Err(refusal) => Err(refusal),
     }
 }

@@ -33,7 +33,7 @@ pub fn welcome<R: Wait, C: Clock>(
     let act = Act::Arrive;
     match book.submit(rt, pass, Entry { moment, act }) {
         Ok(receipt) => {
-            let Reply::Arrived(conn) = receipt.answer else {
+            let Reply::Arrived(conn) = receipt.answer.reply else {
                 unreachable!()
             };
             Ok(conn)

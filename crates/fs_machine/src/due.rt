@@ -125,9 +125,9 @@ fn due_slot(seen: &Seen<'_>) -> Option<u16>
     None
 }
 
-// The least number of a job that has something to do.
+/// The least number of a job that has something to do.
 #[tactic(auto, using(fs_seats::proofs::LeastLemmas::least_next, fs_seats::proofs::LeastLemmas::least_empty))]
-fn due_job(seen: &Seen<'_>) -> Option<u64>
+pub(crate) fn due_job(seen: &Seen<'_>) -> Option<u64>
     ensures { result ≡ spec.due_job seen.now }
 {
     let mut least = None;
@@ -180,7 +180,8 @@ fn row_due(seen: &Seen<'_>, row: Option<&Numbered<Job>>) -> Option<Due>
     work_due(seen, &row?.held.work)
 }
 
-fn is_now(due: Option<Due>) -> bool
+/// Whether it is at once.
+pub(crate) fn is_now(due: Option<Due>) -> bool
     ensures { result ≡ spec.is_now due }
 {
     matches!(due, Some(Due::Now))

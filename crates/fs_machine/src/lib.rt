@@ -2,6 +2,7 @@
 #![tactic(auto)]
 
 mod acts;
+mod answer;
 mod api;
 mod applications;
 mod attempts;
@@ -37,6 +38,7 @@ mod texts;
 mod turned;
 mod work;
 
+pub use answer::Answer;
 pub use due::DueActor;
 pub use entry::{Act, Closing, Entry};
 pub use journal::Journal;

@@ -1,9 +1,9 @@
 //! The machine as a state that takes entries in turn.
 
+use crate::answer::Answer;
 use crate::entry::Entry;
 use crate::machine::Machine;
 use crate::refusal::Refusal;
-use crate::reply::Reply;
 use fs_book::Turned;
 use fs_doc::Config;
 
@@ -17,7 +17,7 @@ impl Turned for Machine {
 
     type Logged = Entry;
 
-    type Answer = Reply;
+    type Answer = Answer;
 
     type Refusal = Refusal;
 
@@ -29,7 +29,7 @@ impl Turned for Machine {
 
     ghost fits = { λ _ _ _. Unit {0} };
 
-    ghost answers = { Answers };
+    ghost answers = { λ config log entry answer. Answers config log entry answer.reply };
 
     ghost refuses = { Refuses };
 
@@ -41,10 +41,13 @@ impl Turned for Machine {
 
     ghost fits_longer = { λ _ _ _ _ _ fit. fit };
 
-    fn turn(&mut self, entry: Entry) -> Result<Reply, Refusal> {
+    fn turn(&mut self, entry: Entry) -> Result<Answer, Refusal> {
         self.sound();
         match self.step(&entry) {
-            Ok(reply) => Ok(reply),
+            Ok(reply) => {
+                let wakes = self.wakes_after(&entry.act);
+                Ok(Answer { reply, wakes })
+            }
             Err(refusal) => Err(refusal),
         }
     }

@@ -1,19 +1,23 @@
-//! Seats of lanes, where they sleep until somebody rings or bytes come.
+//! Seats, where each sleeper sleeps until somebody rings or bytes come.
 
+use crate::sleeper::Sleeper;
+use crate::wakes::{FREE, Wakes};
 use fs_text::Memory;
 use libc::net;
 use libc::types::pollfd;
 use std::alloc::Global;
-use std::sync::atomic::{AtomicBool, AtomicI64, Ordering};
+use std::sync::atomic::{AtomicBool, AtomicI64, AtomicU64, Ordering};
 
 // In place of a descriptor. A poll passes over it.
 const NONE: i32 = -1;
 
-/// Where a lane sleeps. Whoever has something for the lane rings afterwards.
-pub struct Seat {
+// Where somebody sleeps. Whoever has something for the sleeper rings afterwards.
+pub(crate) struct Seat {
     bell: i32,
     rung: AtomicBool,
     is_asleep: AtomicBool,
+    // The connection that is served here.
+    conn: AtomicU64,
     // The descriptor of the socket that had no more bytes for now.
     dry: AtomicI64,
     // A wait for a write may have taken a ring.
@@ -26,6 +30,7 @@ impl Drop for Seat {
             bell,
             rung: _rung,
             is_asleep: _is_asleep,
+            conn: _conn,
             dry: _dry,
             has_waited: _has_waited,
         } = self;
@@ -44,17 +49,29 @@ impl Seat {
             bell,
             rung: AtomicBool::new(false),
             is_asleep: AtomicBool::new(false),
+            conn: AtomicU64::new(u64::from(FREE)),
             dry: AtomicI64::new(i64::from(NONE)),
             has_waited: AtomicBool::new(false),
         })
     }
 
-    /// Wakes the lane, or keeps it from its next sleep.
-    pub fn ring(&self) {
+    // Wakes the sleeper, or keeps it from its next sleep.
+    fn ring(&self) {
         self.rung.store(true, Ordering::SeqCst);
         if self.is_asleep.swap(false, Ordering::SeqCst) {
             libc::write(self.bell, &1u64.to_ne_bytes());
         }
+    }
+
+    // This connection is served here.
+    pub(crate) fn serve(&self, conn: u32) {
+        self.conn.store(u64::from(conn), Ordering::SeqCst);
+    }
+
+    // Whether whoever sleeps here is to be woken for its connection.
+    fn is_named_by(&self, wakes: &Wakes) -> bool {
+        let conn = self.conn.load(Ordering::SeqCst);
+        wakes.has_conn(u32::try_from(conn).unwrap_or(FREE))
     }
 
     // The socket has nothing for now, so that the next sleep ends where something comes.
@@ -62,13 +79,19 @@ impl Seat {
         self.dry.store(i64::from(socket), Ordering::SeqCst);
     }
 
+    // No socket ends the next sleep.
+    pub(crate) fn forget_dry(&self) {
+        self.dry.store(i64::from(NONE), Ordering::SeqCst);
+    }
+
     // Sleeps until somebody rings, or something comes to a socket that was dry, or the time is up. After a wait for a
-    // write it does not sleep, so that the lane looks again.
-    pub(crate) fn sleep(&self, millis: i32) {
+    // write it does not sleep, so that the sleeper looks again.
+    pub(crate) fn sleep(&self, millis: u64) {
         let dry = self.dry.swap(i64::from(NONE), Ordering::SeqCst);
         if self.has_waited.swap(false, Ordering::SeqCst) {
             return;
         }
+        let millis = i32::try_from(millis).unwrap_or(i32::MAX);
         self.wait(i32::try_from(dry).unwrap_or(NONE), net::POLLIN, millis);
     }
 
@@ -78,7 +101,13 @@ impl Seat {
         self.has_waited.store(true, Ordering::SeqCst);
     }
 
-    // The lane looks again after each wait, so that no ring is lost.
+    // Sleeps until somebody rings, or the socket has bytes, or the time is up.
+    pub(crate) fn wait_readable(&self, socket: i32, millis: i32) {
+        self.wait(socket, net::POLLIN, millis);
+        self.has_waited.store(true, Ordering::SeqCst);
+    }
+
+    // The sleeper looks again after each wait, so that no ring is lost.
     fn wait(&self, socket: i32, events: i16, millis: i32) {
         self.is_asleep.store(true, Ordering::SeqCst);
         if !self.rung.swap(false, Ordering::SeqCst) {
@@ -108,55 +137,89 @@ impl Seat {
     }
 }
 
-/// The seats of a server, and whether all is over.
+/// The seats of a server.
 #[derive(Drop)]
 pub struct Bells {
-    seats: Vec<Seat>,
     door: Seat,
-    over: AtomicBool,
+    jobs: Seat,
+    slots: Vec<Seat>,
+    lanes: Vec<Seat>,
 }
 
 impl Bells {
-    /// Seats for so many lanes and one for the door, if the system has the descriptors.
-    pub fn new(alloc: Global, lanes: usize) -> Result<Option<Bells>, Memory> {
-        let mut seats = Vec::with_capacity(alloc, lanes)?;
-        for _ in 0..lanes {
-            let Some(seat) = Seat::new() else {
-                return Ok(None);
-            };
-            seats.push(seat)?;
-        }
-        let Some(door) = Seat::new() else {
+    /// Seats for so many slots, numbered from 0 on, and so many lanes for links, if the system has the descriptors.
+    pub fn new(alloc: Global, slots: usize, lanes: usize) -> Result<Option<Bells>, Memory> {
+        let (Some(slots), Some(lanes)) = (seats(alloc, slots)?, seats(alloc, lanes)?) else {
+            return Ok(None);
+        };
+        let (Some(door), Some(jobs)) = (Seat::new(), Seat::new()) else {
             return Ok(None);
         };
         Ok(Some(Bells {
-            seats,
             door,
-            over: AtomicBool::new(false),
+            jobs,
+            slots,
+            lanes,
         }))
     }
 
-    /// The seats of the lanes.
-    pub fn seats(&self) -> &[Seat] {
-        &self.seats
-    }
-
-    /// The seat of the door.
-    pub fn door(&self) -> &Seat {
+    // The seat at the door, where whoever has no seat sits, too.
+    pub(crate) fn door(&self) -> &Seat {
         &self.door
     }
 
-    /// Whether all is over.
-    pub fn is_over(&self) -> bool {
-        self.over.load(Ordering::SeqCst)
+    // The seat of a sleeper.
+    pub(crate) fn seat(&self, sleeper: Sleeper) -> &Seat {
+        let seat = match sleeper {
+            Sleeper::Door => None,
+            Sleeper::Jobs => Some(&self.jobs),
+            Sleeper::Slot(slot) => self.slots.get(usize::from(slot)),
+            Sleeper::Lane(lane) => self.lanes.get(usize::from(lane)),
+        };
+        seat.unwrap_or(&self.door)
     }
 
-    /// Says that all is over, and wakes each lane.
-    pub fn end(&self) {
-        self.over.store(true, Ordering::SeqCst);
-        self.door.ring();
-        for seat in &self.seats {
-            seat.ring();
+    // Rings for these, but not at the seat of who rings.
+    pub(crate) fn ring(&self, wakes: &Wakes, own: &Seat) {
+        let is_everybody = wakes.is_everybody();
+        if is_everybody {
+            ring_other(&self.door, own);
         }
+        if is_everybody || wakes.has_jobs() {
+            ring_other(&self.jobs, own);
+        }
+        self.ring_slots(wakes, own);
+        for seat in &self.lanes {
+            if is_everybody || seat.is_named_by(wakes) {
+                ring_other(seat, own);
+            }
+        }
+    }
+
+    fn ring_slots(&self, wakes: &Wakes, own: &Seat) {
+        for (slot, seat) in self.slots.iter().enumerate() {
+            if wakes.is_everybody() || wakes.has_slot(u16::try_from(slot).unwrap_or(u16::MAX)) {
+                ring_other(seat, own);
+            }
+        }
+    }
+}
+
+// So many seats, if the system has the descriptors.
+fn seats(alloc: Global, count: usize) -> Result<Option<Vec<Seat>>, Memory> {
+    let mut seats = Vec::with_capacity(alloc, count)?;
+    for _ in 0..count {
+        let Some(seat) = Seat::new() else {
+            return Ok(None);
+        };
+        seats.push(seat)?;
+    }
+    Ok(Some(seats))
+}
+
+// Rings at a seat, unless it is one's own.
+fn ring_other(seat: &Seat, own: &Seat) {
+    if seat.bell != own.bell {
+        seat.ring();
     }
 }

@@ -3,6 +3,8 @@
 ghost use Rattle.std.specs.Prelude.{◌≡◌, ◌<◌, length};
 ghost use Rattle.fs_ports.specs.Ports.{Input, Output, ReadDid, WriteDid};
 
+use crate::sleeper::Sleeper;
+
 /// What a read answered.
 #[derive(Clone, Copy, Debug, PartialEq, Eq)]
 pub enum Read {
@@ -55,4 +57,16 @@ pub trait Sink: Port {
 }
 
 /// A connection: bytes come from it and go to it.
-pub trait Link: Source + Sink + Send + Drop {}
+pub trait Link: Source + Sink + Send + Drop {
+    /// Says who sleeps until something comes.
+    fn belong_to(&mut self, _sleeper: Sleeper)
+        ensures input { Self.input self.new ≡ Self.input self.old }
+        ensures output { Self.output self.new ≡ Self.output self.old }
+    {}
+
+    /// Ends the connection, of which nothing more is to be read or written. What is told of it stays.
+    fn hang_up(&mut self)
+        ensures input { Self.input self.new ≡ Self.input self.old }
+        ensures output { Self.output self.new ≡ Self.output self.old }
+    {}
+}

@@ -3,10 +3,11 @@
 ghost use Rattle.std.specs.Prelude.{◌≡◌};
 
 use crate::clock::Clock;
+use crate::sleeper::Sleeper;
 use std::sync::atomic::{AtomicU64, Ordering};
 use std::thread;
 
-/// A clock in memory, which goes on by a step at each nap.
+/// A clock in memory, which goes on by a step at each nap. Each sleeper has one of its own, which goes on by itself.
 #[derive(Drop)]
 pub struct StepClock {
     start: u64,
@@ -41,5 +42,13 @@ impl Clock for StepClock {
     fn nap(&self) {
         self.naps.fetch_add(1, Ordering::SeqCst);
         thread::yield_now();
+    }
+
+    fn of_sleeper(&self, _sleeper: Sleeper) -> StepClock {
+        StepClock {
+            start: self.start,
+            step: self.step,
+            naps: AtomicU64::new(self.naps.load(Ordering::SeqCst)),
+        }
     }
 }

@@ -2,7 +2,7 @@
 
 ghost use Rattle.std.specs.Prelude.{◌≡◌, IfOk};
 
-use crate::bells::{Bells, Seat};
+use crate::bells::Bells;
 use crate::counts::raised;
 use crate::dialer::{Dialed, Dialer};
 use crate::tcp_link::TcpLink;
@@ -10,31 +10,22 @@ use fs_text::{Memory, Txt};
 use std::net::{Net, TcpListener, TcpStream};
 use std::time;
 
-/// What connects sockets of the system for the lane of a seat.
+/// What connects sockets of the system. A link that it gave belongs to the seat of the door at first.
 #[derive(Drop)]
 pub struct TcpDial<'a, R: Net<Listener = TcpListener, Stream = TcpStream> + time::Clock> {
     system: &'a R,
     bells: &'a Bells,
-    seat: &'a Seat,
     faults: u64,
 }
 
 impl<'a, R: Net<Listener = TcpListener, Stream = TcpStream> + time::Clock> TcpDial<'a, R> {
     /// A dialer of which no dial has failed yet.
-    pub fn new(system: &'a R, bells: &'a Bells, seat: &'a Seat) -> TcpDial<'a, R> {
+    pub fn new(system: &'a R, bells: &'a Bells) -> TcpDial<'a, R> {
         TcpDial {
             system,
             bells,
-            seat,
             faults: 0,
         }
-    }
-
-    /// Gives the dialer to the lane of this seat.
-    pub fn sit(&mut self, seat: &'a Seat)
-        ensures { self.new.faults ≡ self.old.faults }
-    {
-        self.seat = seat;
     }
 }
 
@@ -46,7 +37,8 @@ impl<'a, R: Net<Listener = TcpListener, Stream = TcpStream> + time::Clock + Sync
 
     fn dial(&mut self, host: &Txt, port: u16) -> Dialed<TcpLink<'a, R>> {
         if let Some(stream) = stream(self.system, host, port) {
-            if let Some(link) = TcpLink::new(self.system, self.bells, self.seat, stream) {
+            let seat = self.bells.door();
+            if let Some(link) = TcpLink::new(self.system, self.bells, seat, stream) {
                 return Dialed::Link(link);
             }
         }
@@ -58,7 +50,6 @@ impl<'a, R: Net<Listener = TcpListener, Stream = TcpStream> + time::Clock + Sync
         Ok(TcpDial {
             system: self.system,
             bells: self.bells,
-            seat: self.seat,
             faults: self.faults,
         })
     }

@@ -54,15 +54,18 @@ impl<'a, R: Net<Listener = TcpListener, Stream = TcpStream> + time::Clock + Sync
         match next(&self.listener, self.bells) {
             Came::Stream(stream) => {
                 let seat = self.bells.door();
-                if let Some(link) = TcpLink::new(self.system, self.bells, seat, stream) {
-                    return Accept::Came(link);
+                match TcpLink::new(self.system, self.bells, seat, stream) {
+                    Some(link) => Accept::Came(link),
+                    // It is dropped, and the next one is looked for.
+                    None => Accept::NotYet,
                 }
             }
-            Came::NotYet => return Accept::NotYet,
-            Came::Failed => {}
+            Came::NotYet => Accept::NotYet,
+            Came::Failed => {
+                self.faults = raised(self.faults);
+                Accept::Failed
+            }
         }
-        self.faults = raised(self.faults);
-        Accept::Failed
     }
 }
 
@@ -74,20 +77,34 @@ enum Came {
     Failed,
 }
 
-// The next connection, if the door listens.
+// The next connection, if the door listens. Where the system cannot give one for now, as for want of descriptors, whoever
+// asks sleeps for a nap before it asks again; else until somebody comes.
 fn next(listener: &Option<TcpListener>, bells: &Bells) -> Came {
     let Some(listener) = listener else {
         return Came::Failed;
     };
-    match listener.accept() {
-        Ok((stream, _)) => Came::Stream(stream),
-        Err(e) => match e.kind() {
-            ErrorKind::WouldBlock | ErrorKind::Interrupted => {
-                bells.door().set_dry(listener.as_raw_fd());
-                Came::NotYet
-            }
-            _ => Came::Failed,
-        },
+    let seat = bells.door();
+    seat.set_dry(listener.as_raw_fd());
+    let e = match listener.accept() {
+        Ok((stream, _)) => return Came::Stream(stream),
+        Err(e) => e,
+    };
+    match e.kind() {
+        ErrorKind::WouldBlock | ErrorKind::Interrupted => return Came::NotYet,
+        _ => {}
+    }
+    if is_for_good(e.raw_os_error()) {
+        return Came::Failed;
+    }
+    seat.forget_dry();
+    Came::NotYet
+}
+
+// Whether an accept that failed so always fails: there is no socket, or it does not listen.
+fn is_for_good(code: Option<i32>) -> bool {
+    match code {
+        Some(code) => code == libc::EBADF || code == libc::EINVAL || code == libc::ENOTSOCK,
+        None => false,
     }
 }
 

@@ -193,7 +193,7 @@ module _ (config : Configuration) (seen mid : List Entry) (mine mine' : List ℕ
   -- what came of a turn that others came before
   pub works_on : (who : Actor) (now : ℕ) (worked : Worked) → Works config mid mine' seen'' mine'' who now worked →
       Works config seen mine seen'' mine'' who now worked
-  works_on who now (Did place) works = gained_on (IsTurnOf who) (IsTurnOf who) now place (λ done is. is) works
+  works_on who now (Did place wakes) works = gained_on (IsTurnOf who) (IsTurnOf who) now place (λ done is. is) works
   works_on who now (Idle None) works = stands_on who now (Due actor.Never) works
   works_on who now (Idle (Some next)) works = stands_on who now (Due (actor.Later next)) works
   works_on who now Stopped works = stands_on who now Over works
@@ -208,7 +208,7 @@ module _ (config : Configuration) (seen mid : List Entry) (mine mine' : List ℕ
   pub tries_by : (who : Actor) (todo : Errand) (now : ℕ) (worked : Option Worked) → IsTurnOf who (act_of todo) →
       Attempts config mid mine' seen'' mine'' todo now worked → Tries config seen mine seen'' mine'' who now worked
   tries_by who todo now None turn tries = stays_on tries
-  tries_by who todo now (Some (Did place)) turn tries =
+  tries_by who todo now (Some (Did place wakes)) turn tries =
       gained_on (λ done. done ≡ act_of todo) (IsTurnOf who) now place
       (λ done is. subst (λ (a : Act). IsTurnOf who a) (sym is) turn) tries
   tries_by who todo now (Some (Refused why)) turn tries = fails_on why tries

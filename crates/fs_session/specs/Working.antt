@@ -110,7 +110,7 @@ module _ (config : Configuration) (seen : List Entry) (mine : List ℕ) (seen' :
 
   -- what came of a turn of an actor at a moment
   abbrev pub Works : Actor → ℕ → Worked → Type 0
-  Works actor now (Did place) = Gained (IsTurnOf actor) now place
+  Works actor now (Did place wakes) = Gained (IsTurnOf actor) now place
   Works actor now (Idle None) = Stands actor now (Due due.Never)
   Works actor now (Idle (Some next)) = Stands actor now (Due (due.Later next))
   Works actor now Stopped = Stands actor now Over
@@ -123,7 +123,7 @@ module _ (config : Configuration) (seen : List Entry) (mine : List ℕ) (seen' :
 
   -- what came of trying to do this
   abbrev pub Attempts : Errand → ℕ → Option Worked → Type 0
-  Attempts errand now (Some (Did place)) = Gained (λ done. done ≡ act_of errand) now place
+  Attempts errand now (Some (Did place wakes)) = Gained (λ done. done ≡ act_of errand) now place
   Attempts errand now (Some (Refused why)) = Fails why
   Attempts errand now (Some _) = ⊥
   Attempts errand now None = Stays

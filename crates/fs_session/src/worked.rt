@@ -1,12 +1,14 @@
 //! What comes of a turn.
 
 use fs_machine::Refusal;
+use fs_ports::Wakes;
 
 /// What comes of a turn.
 #[derive(Clone, Copy, Debug, PartialEq, Eq)]
 pub enum Worked {
-    /// The one thing that was to be done is done, by the entry at this place in the journal.
-    Did(u64),
+    /// The one thing that was to be done is done, by the entry at this place in the journal; these may have something
+    /// to do since.
+    Did(u64, Wakes),
     /// There is nothing to do before this moment, in microseconds, or unless others bring something.
     Idle { next: Option<u64> },
     /// The switch has come to its end, and nothing of this actor is left.

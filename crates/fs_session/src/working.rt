@@ -110,7 +110,7 @@ fn attempt<R: Wait>(
 {
     let act = act_of(errand);
     match book.submit(rt, pass, Entry { moment: now, act }) {
-        Ok(receipt) => Some(Worked::Did(receipt.place)),
+        Ok(receipt) => Some(Worked::Did(receipt.place, receipt.answer.wakes)),
         Err(refusal) if is_final(refusal) => Some(Worked::Refused(refusal)),
         Err(_) => None,
     }

@@ -205,6 +205,10 @@ is_full_of_jobs s = is_none (least_free s.jobs 0)
 abbrev pub without_jobs : Switch → Switch
 without_jobs s = record s { jobs = no_seats (length s.jobs) }
 
+-- what stands at a seat for a connection
+abbrev pub conn_at : Switch → ℕ → Option (Numbered Conn)
+conn_at s seat = held_in s.conns seat
+
 -- the connection of a number
 abbrev pub conn_of : Switch → ℕ → Option Conn
 conn_of s number = row_of s.conns number

@@ -259,6 +259,13 @@ impl Core {
         self.conns.len()
     }
 
+    /// What stands at a seat for a connection; past the last one stands nothing.
+    pub fn conn_at(&self, seat: usize) -> Option<&Numbered<Conn>>
+        ensures { option_copied result ≡ spec.conn_at self.now seat }
+    {
+        self.conns.get(seat)
+    }
+
     /// The connection of a number.
     pub fn conn(&self, number: u32) -> Option<&Conn>
         ensures { option_copied result ≡ spec.conn_of self.now number }

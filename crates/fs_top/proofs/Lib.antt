@@ -1,5 +1,13 @@
 mod CauseLaws
 mod CompleteLaws
 mod CountLaws
+mod CrossingLemmas
+mod DoorLemmas
+mod GatherLemmas
+mod LaneLemmas
 mod PartLaws
 mod RunLaws
+mod SendLemmas
+mod ServeLaws
+mod SettleLaws
+mod StandLemmas

@@ -3,3 +3,8 @@ pub mod Counted
 pub mod Told
 pub mod Runs
 pub mod Reading
+pub mod Lanes
+pub mod Standing
+pub mod Doors
+pub mod Headline
+pub mod Serving

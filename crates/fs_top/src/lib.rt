@@ -1,11 +1,24 @@
-//! The program: what it answers to its words, over files and one link.
+//! The program: it runs the words of the command line over files and a link, or serves whoever connects, and has a
+//! status.
 #![tactic(auto)]
 
+mod accepting;
 mod asked;
+mod beside;
+mod came;
+mod conns;
 mod counted;
+mod course;
 mod documents;
+mod ending;
+mod gathering;
+mod lanes;
+mod laning;
 mod lines;
 mod outcome;
 mod program;
+mod serving;
 
+pub use conns::Conn;
 pub use program::{Status, run};
+pub use serving::{Served, is_serve, serve};

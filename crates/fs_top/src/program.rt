@@ -1,6 +1,6 @@
 //! The run: the words, the file, its document, its patterns, and what is asked of them.
 
-ghost use Rattle.std.specs.Prelude.{◌≡◌, ◌↔◌, ◌⊎◌, [], None, Some, IsTrue};
+ghost use Rattle.std.specs.Prelude.{◌≡◌, ◌↔◌, ◌⊎◌, [], None, Some, IsTrue, false};
 ghost use Rattle.fs_ports.specs.Counts as counts;
 ghost use Rattle.fs_doc.specs.Reading.{Configuration};
 ghost use Rattle.fs_top.specs.Counted as counted;
@@ -11,6 +11,7 @@ ghost use Rattle.fs_top.specs.Runs.{PlaysTo, Loads, Answers, OverBytes, OverConf
 ghost use Rattle.fs_top.specs.Runs.{CarriesOutAs};
 ghost use Rattle.fs_top.specs.Runs.{HasConfig, HasFault, HasRefusal, CountRose, FillsJournal, MeetsBadBlock, RunsAway};
 ghost use Rattle.fs_top.specs.Runs.{IsGiven, NoneRose, DoesAll};
+ghost use Rattle.fs_top.specs.Serving.{is_serve};
 
 use crate::asked::Asked;
 use crate::counted::counts_text;
@@ -46,7 +47,8 @@ pub fn run<F: Files, L: Link, E: Sink>(
     link: &mut L,
     err: &mut E,
 ) -> Status
-    requires { IsTrue (L.input link.old).waits }
+    requires words { is_serve words.now ≡ false }
+    requires waits { IsTrue (L.input link.old).waits }
 
     // The output, the line and the status are those that are told for these words, for what the file gave, for the
     // pattern that was refused, if any, and for what was taken from the link; or a front of this output, with status 5
@@ -166,8 +168,8 @@ fn over_bytes<'a, F: Files, L: Link>(
     }
 }
 
-// A document that was not read.
-fn not_read<'a>(fault: DocFault) -> Outcome<'a>
+/// A document that was not read.
+pub(crate) fn not_read<'a>(fault: DocFault) -> Outcome<'a>
     ensures { result ≡ not_read fault }
 {
     match fault.kind {
@@ -195,8 +197,8 @@ fn over_config<'a, F: Files, L: Link>(
     }
 }
 
-// A dialplan that was not built.
-fn not_built<'a>(fault: PlanFault) -> Outcome<'a>
+/// A dialplan that was not built.
+pub(crate) fn not_built<'a>(fault: PlanFault) -> Outcome<'a>
     ensures { result ≡ not_built fault }
 {
     match fault {

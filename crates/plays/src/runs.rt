@@ -3,7 +3,7 @@
 use case_desk::{Answer, Table};
 use fs_ports::MemLink;
 use fs_text::{Memory, Txt};
-use fs_top::run;
+use fs_top::{is_serve, run};
 
 // The most that is written.
 const ROOM: usize = 1_000_000;
@@ -22,6 +22,10 @@ fn answer_run(
     answer: &mut Answer,
 ) -> Result<(), Memory> {
     let words = texts_of(words, answer);
+    if is_serve(&words) {
+        answer.line("no run");
+        return Ok(());
+    }
     let mut files = table.files()?;
     let mut link = table.link(ROOM)?;
     let mut err = MemLink::new(answer.alloc(), &[], &[], &[], &[], ROOM)?;

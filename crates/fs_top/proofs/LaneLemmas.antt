@@ -1,0 +1,536 @@
+-- What a lane keeps of its connections where its pass goes on.
+use Rattle.std.proofs.Common.{◌≡◌, ◌≢◌, ℕ, zero, suc, ◌+◌, ◌<◌, ◌≤◌, ◌⊎◌, inl, inr, Bool, List, [], ◌∷◌, ◌++◌, length, Option, None, Some, refl, sym}
+use Rattle.std.proofs.Common.{ap, subst, ◌∙◌, cond, eqb, arith, append_assoc, append-nil, length-append}
+use Rattle.std.specs.Prelude.{slice_get, slice_index_or, take, map, if◌then◌else◌}
+use Rattle.std.specs.List.{All, AllByRecursion, Contains}
+use Rattle.std.proofs.lemmas.Bool.{cases_eq}
+use Rattle.std.proofs.lemmas.Bool.Decides.{nat_tests}
+use Rattle.std.proofs.lemmas.Option.{none-some, same_Some}
+use Rattle.std.proofs.lemmas.List.Elements.{All-push, Contains-append_left, Contains-append_right}
+use Rattle.std.proofs.lemmas.List.{map-append}
+use mathlib.Core.List.{IsPrefix}
+use mathlib.Core.Logic.{dite}
+use mathlib.Core.Option.{some}
+use lib.ListN.{get_elem?}
+use native.Mathlib.Decide.{dec_lt}
+use Rattle.fs_doc.specs.Reading.{Configuration}
+use Rattle.fs_ports.specs.Ports.{Input, Output, IsNewLink}
+use Rattle.fs_book.specs.Counts.{times, total}
+use Rattle.fs_book.specs.Numbered.{count_among, by_count_once}
+use Rattle.fs_book.specs.Opened.{OpensAt, NamesAt, OwnsNumber, Owned, Quiet}
+use Rattle.fs_book.proofs.Lists.{prefix_trans, prefix_get, prefix_got, prefix_take, last_get, last_take, times_before, times_push, total_append}
+use Rattle.fs_book.proofs.Opening.{opens_up, owns_up}
+use Rattle.fs_book.proofs.Quiets.{quiet_places, quiet_owned}
+use Rattle.fs_machine.specs.declared.entry.Entry.{Entry}
+use Rattle.fs_machine.specs.declared.entry.Act.{Act}
+use Rattle.fs_machine.specs.declared.entry.Act.TheVariants.{Arrive, Command, Take, Close, Work, Job, Halt}
+use Rattle.fs_machine.specs.Concerns.{actor_of}
+use Rattle.fs_machine.specs.Turned.{IsJournal, opens, names, arrives, is_arrival}
+use Rattle.fs_conn.specs.declared.end.End.{End}
+use Rattle.fs_conn.specs.Owning.{OwnsConn, entry_at, Welcomed}
+use Rattle.fs_conn.specs.Talks.{Told, Gains, MadeAt}
+use Rattle.fs_conn.proofs.ToldLemmas.{told_up}
+use Rattle.fs_session.specs.declared.actor.Actor.{Actor}
+use Rattle.fs_session.specs.declared.actor.Actor.TheVariants.{Slot, Jobs}
+use Rattle.fs_session.specs.declared.worked.Worked.{Worked}
+use Rattle.fs_session.specs.declared.worked.Worked.TheVariants.{Did, Idle, Stopped, Refused}
+use Rattle.fs_session.specs.Working.{Works, Stays, IsTurnOf}
+use Rattle.fs_state.specs.Switch.{empty}
+use Rattle.fs_machine.proofs.RunLemmas.{is_run_more}
+use Rattle.fs_top.specs.declared.conns.Conn.{Conn}
+use Rattle.fs_top.specs.Lanes.{IsHeld, IsServed, AreAll, AreOnce, AreAllowed, MayEnter, Keeps, number_of}
+
+-- a place of two lists together stands in one of them
+pub times_either : (p : ℕ) (front back : List ℕ) → 0 < times p (front ++ back) → (0 < times p front) ⊎ (0 < times p back)
+times_either p [] back has = inr has
+times_either p (q ∷ front) back has = by (times p (q ∷ [])) refl (times_either p front back)
+  where
+    more : (0 < times p front) ⊎ (0 < times p back) → (0 < times p (q ∷ front)) ⊎ (0 < times p back)
+    more (inl in_front) = inl (omega (arith, in_front))
+    more (inr in_back) = inr in_back
+
+    by : (n : ℕ) → times p (q ∷ []) ≡ n → (0 < times p (front ++ back) → (0 < times p front) ⊎ (0 < times p back)) →
+        (0 < times p (q ∷ front)) ⊎ (0 < times p back)
+    by zero is rest = more (rest (omega (arith, has, is)))
+    by (suc n) is rest = inl (omega (arith, is))
+
+pub times_front : (p : ℕ) (front back : List ℕ) → 0 < times p front → 0 < times p (front ++ back)
+times_front p [] back has = absurd (omega (arith, has))
+times_front p (q ∷ front) back has = by (times p front) refl (times_front p front back)
+  where
+    by : (n : ℕ) → times p front ≡ n → (0 < times p front → 0 < times p (front ++ back)) → 0 < times p ((q ∷ front) ++ back)
+    by zero is rest = omega (arith, has, is)
+    by (suc n) is rest = let more = rest (omega (arith, is)) in omega (arith, more)
+
+-- a pass that goes on: its own places are more, and those of the passes that were met into it are as they were
+module _ (config : Configuration) (start : Option Configuration) (is : start ≡ Some config) (seen seen' : List Entry)
+    (mine gained : List ℕ) (met : List (List ℕ)) (front : IsPrefix seen seen')
+    (below : (k : ℕ) (l : List ℕ) → get_elem? (mine ∷ met) k ≡ some l → (p : ℕ) → 0 < times p l → p < length seen)
+    (owned : Owned opens names start ((mine ++ gained) ∷ met) seen') (number : ℕ)
+    (apart : (p : ℕ) (entry : Entry) → 0 < times p gained → slice_get seen' p ≡ Some entry → names entry ≢ Some number) where
+  pub held_on : IsHeld config seen (mine ∷ met) number → IsHeld config seen' ((mine ++ gained) ∷ met) number
+  held_on held = by held.at held.there
+    where
+      by : (k : ℕ) → get_elem? (mine ∷ met) k ≡ some held.places → IsHeld config seen' ((mine ++ gained) ∷ met) number
+      by zero there =
+          let same : mine ≡ held.places = cc there in
+          let own = owns_up opens config number seen seen' held.places front held.owns in record {
+            at = 0;
+            places = mine ++ gained;
+            there = refl;
+            owns = (
+              own.0,
+              times_front own.0 mine gained (subst (λ (ps : List ℕ). 0 < times own.0 ps) (sym same) own.1),
+              own.2,
+            );
+          }
+      by (suc k) there = record {
+        at = suc k;
+        places = held.places;
+        there = there;
+        owns = owns_up opens config number seen seen' held.places front held.owns;
+      }
+
+  pub quiet_on : IsHeld config seen (mine ∷ met) number → Quiet names number seen seen'
+  quiet_on held = by held.at held.there
+    where
+      by : (k : ℕ) → get_elem? (mine ∷ met) k ≡ some held.places → Quiet names number seen seen'
+      by zero there =
+          let same : mine ≡ held.places = cc there in
+          let own = owns_up opens config number seen seen' held.places front held.owns in
+          quiet_places names number seen seen' front
+          (λ p named.
+          elim (times_either p mine gained
+          (owned config is 0 (mine ++ gained) refl own.0 number
+          (times_front own.0 mine gained (subst (λ (ps : List ℕ). 0 < times own.0 ps) (sym same) own.1)) own.2 p named))
+          [ inl old ↦ below 0 mine refl p old | inr new ↦ absurd (apart p named.0 new named.1 named.2) ])
+      by (suc k) there =
+          quiet_owned opens names config number start ((mine ++ gained) ∷ met) (suc k) held.places seen seen' is there front
+          (below (suc k) held.places there) owned held.owns
+
+  -- a connection that was served is told so in what the pass sees then
+  pub served_on : (stays : (in0 : Input) (out0 : Output) (in1 : Input) (out1 : Output) (end : End) → Quiet names number seen seen' →
+      Told config number in0 out0 seen in1 out1 end → Told config number in0 out0 seen' in1 out1 end) → (input : Input) (output : Output)
+      (end : End) → IsServed config seen (mine ∷ met) number input output end →
+      IsServed config seen' ((mine ++ gained) ∷ met) number input output end
+  served_on stays input output end served = record {
+    held = held_on served.held;
+    input0 = served.input0;
+    output0 = served.output0;
+    is_new = served.is_new;
+    told = stays served.input0 served.output0 input output end (quiet_on served.held) served.told;
+  }
+
+-- ---- numbers that stand among others
+
+counts_same : (p q : ℕ) → p ≡ q → ◌≡◌ {A = ℕ} (cond (eqb p q) 1 0) 1
+counts_same p q same = grind (arith, nat_tests)
+
+counts_other : (p q : ℕ) → p ≢ q → ◌≡◌ {A = ℕ} (cond (eqb p q) 1 0) 0
+counts_other p q differs = grind (arith, nat_tests)
+
+-- a number that none of these connections has stands nowhere among their numbers
+pub times_none : {L : Type 0} (number : ℕ) (conns : List (Conn L)) → All (λ conn. conn.number ≢ number) conns →
+    times number (map number_of conns) ≡ 0
+times_none number [] none = refl
+times_none number (conn ∷ conns) none =
+    let rest = times_none number conns (λ k d inside. none (suc k) d (omega (arith, inside))) in
+    let here = counts_other conn.number number (none 0 conn (omega arith)) in omega (arith, rest, here)
+
+-- ---- places that were gained
+
+eq_or_not : (p q : ℕ) → 0 < times p (q ∷ []) → q ≡ p
+eq_or_not p q has =
+    elim (cases_eq q p) [ inl same ↦ same | inr differ ↦ absurd (omega (arith, times_before p q [] (λ same. differ (sym same)) has)) ]
+
+-- what holds of each of these places holds of one of them
+each_of : (P : ℕ → Type 0) (places : List ℕ) → AllByRecursion P places → (p : ℕ) → 0 < times p places → P p
+each_of P [] each p has = absurd (omega (arith, has))
+each_of P (q ∷ places) each p has =
+    elim (times_either p (q ∷ []) places has)
+    [ inl here ↦ subst P (eq_or_not p q here) each.0 | inr later ↦ each_of P places each.1 p later ]
+
+opens_down : (config : Configuration) (seen seen' : List Entry) (p number : ℕ) → IsPrefix seen seen' → p < length seen →
+    OpensAt opens config seen' p number → OpensAt opens config seen p number
+opens_down config seen seen' p number front inside opened = (
+  opened.0,
+  prefix_got seen seen' p opened.0 front inside opened.1,
+  ap (λ (log : List Entry). opens config log opened.0) (sym (prefix_take seen seen' p front (omega (arith, inside)))) ∙ opened.2,
+)
+
+module _ (config : Configuration) (seen seen' : List Entry) (mine gained : List ℕ) (met : List (List ℕ)) (front : IsPrefix seen seen')
+    (below : (k : ℕ) (l : List ℕ) → get_elem? (mine ∷ met) k ≡ some l → (p : ℕ) → 0 < times p l → p < length seen) where
+  -- a place of a list of the pass is one of before, or was gained
+  place_of : (k : ℕ) (places : List ℕ) → get_elem? ((mine ++ gained) ∷ met) k ≡ some places → (p : ℕ) → 0 < times p places →
+      ((j : ℕ) × (l : List ℕ) × (get_elem? (mine ∷ met) j ≡ some l) × (0 < times p l)) ⊎ (0 < times p gained)
+  place_of zero places there p has =
+      let same : mine ++ gained ≡ places = cc there in
+      elim (times_either p mine gained (subst (λ (ps : List ℕ). 0 < times p ps) (sym same) has))
+      [ inl old ↦ inl (0, mine, refl, old) | inr new ↦ inr new ]
+  place_of (suc k) places there p has = inl (suc k, places, there, has)
+
+  pub all_on : (numbers numbers' : List ℕ) → ((n : ℕ) → Contains numbers n → Contains numbers' n) →
+      AreAll config seen (mine ∷ met) numbers
+      → ((p n : ℕ) → 0 < times p gained → OpensAt opens config seen' p n → Contains numbers' n)
+      → AreAll config seen' ((mine ++ gained) ∷ met) numbers'
+  all_on numbers numbers' more all new k places there p n has opened =
+      elim (place_of k places there p has) [
+        | inl old ↦
+            more n (all old.0 old.1 old.2 p n old.3
+            (opens_down config seen seen' p n front (below old.0 old.1 old.2 p old.3) opened))
+        | inr is_new ↦ new p n is_new opened
+      ]
+
+  pub allowed_on : (may : Entry → Type 0) → AreAllowed config seen (mine ∷ met) may →
+      ((p : ℕ) (entry : Entry) → 0 < times p gained → slice_get seen' p ≡ Some entry → may entry)
+      → AreAllowed config seen' ((mine ++ gained) ∷ met) may
+  allowed_on may allowed new k places there p entry has at =
+      elim (place_of k places there p has) [
+        | inl old ↦
+            allowed old.0 old.1 old.2 p entry old.3 (prefix_got seen seen' p entry front (below old.0 old.1 old.2 p old.3) at)
+        | inr is_new ↦ new p entry is_new at
+      ]
+
+  -- a place that the pass had not seen opens no number of these connections
+  pub once_on : {L : Type 0} (conns : List (Conn L)) → All (λ conn. IsHeld config seen (mine ∷ met) conn.number) conns →
+      AreOnce config seen (mine ∷ met) (map number_of conns)
+      → AreOnce config seen' ((mine ++ gained) ∷ met) (map number_of conns)
+  once_on conns held once p number opened =
+      dite (dec_lt p (length seen))
+      (λ inside.
+      let least = once p number (opens_down config seen seen' p number front inside opened) in
+      let joined = total_append (λ (q : ℕ). cond (eqb q p) 1 0) mine gained in omega (arith, least, joined))
+      (λ outside.
+      let none = times_none number conns
+      (λ k d here same.
+      let c = slice_index_or conns k d in
+      let h = held k d here in
+      let q = h.owns.0 in
+      let inside = below h.at h.places h.there q h.owns.1 in
+      let its = subst (λ n. OpensAt opens config seen' q n) same (opens_up opens config seen seen' q c.number front h.owns.2) in
+      let one : q ≡ p = by_count_once arrives config seen' q p number its opened in omega (arith, inside, one, outside)) in
+      omega (arith, none))
+
+-- ---- a link that is served from its coming to its end
+
+abbrev opened_where : Bool → List Entry → Option ℕ
+opened_where test log = if test then Some (suc (count_among arrives log)) else None
+
+opens_none : (act : Act) (log : List Entry) (conn n : ℕ) → actor_of act ≡ Some conn → opened_where (is_arrival act) log ≢ Some n
+opens_none Arrive log conn n named opened = absurd (cc named)
+opens_none (Command c block) log conn n named opened = absurd (cc opened)
+opens_none (Take c) log conn n named opened = absurd (cc opened)
+opens_none (Close c how) log conn n named opened = absurd (cc opened)
+opens_none (Work slot) log conn n named opened = absurd (cc named)
+opens_none (Job number) log conn n named opened = absurd (cc named)
+opens_none Halt log conn n named opened = absurd (cc named)
+
+-- an entry that names a connection opens none
+named_opens_none : (config : Configuration) (log : List Entry) (entry : Entry) (conn n : ℕ) → names entry ≡ Some conn →
+    opens config log entry ≢ Some n
+named_opens_none config log entry conn n named opened = opens_none entry.act log conn n named opened
+
+-- what a served link leaves
+module _ (may : ℕ → Type 0) (halts : Type 0) (config : Configuration) (start : Option Configuration) (is : start ≡ Some config)
+    (seen seen' seen'' : List Entry) (mine mine' mine'' : List ℕ) (met : List (List ℕ))
+    (below : (k : ℕ) (l : List ℕ) → get_elem? (mine ∷ met) k ≡ some l → (p : ℕ) → 0 < times p l → p < length seen) (conn : ℕ)
+    (welcomed : Welcomed may config seen mine seen' mine' conn) (later : IsPrefix seen' seen'')
+    (gains : Gains may conn mine' seen'' mine'') (owned : Owned opens names start (mine'' ∷ met) seen'') where
+  abbrev place : ℕ
+  place = length welcomed.before
+
+  abbrev gained : List ℕ
+  gained = place ∷ gains.places
+
+  all_mine : mine'' ≡ mine ++ gained
+  all_mine = gains.more ∙ (ap (λ (ps : List ℕ). ps ++ gains.places) welcomed.more ∙ append_assoc mine (place ∷ []) gains.places)
+
+  whole : IsPrefix seen seen''
+  whole =
+      prefix_trans seen seen' seen''
+      (prefix_trans seen welcomed.before seen' welcomed.front (entry_at welcomed.moment Arrive ∷ [], sym welcomed.sees)) later
+
+  coming_at : slice_get seen'' place ≡ Some (entry_at welcomed.moment Arrive)
+  coming_at =
+      prefix_get seen' seen'' place (entry_at welcomed.moment Arrive) later
+      (ap (λ (log : List Entry). slice_get log place) welcomed.sees ∙ last_get welcomed.before (entry_at welcomed.moment Arrive))
+
+  taken : take place seen'' ≡ welcomed.before
+  taken =
+      prefix_take seen' seen'' place later
+      (subst (λ (log : List Entry). place ≤ length log) (sym welcomed.sees)
+      (omega (arith, length-append welcomed.before (entry_at welcomed.moment Arrive ∷ []))))
+      ∙ (ap (λ (log : List Entry). take place log) welcomed.sees ∙ last_take welcomed.before (entry_at welcomed.moment Arrive))
+
+  abbrev opened_at : OpensAt opens config seen'' place conn
+  opened_at = (
+    entry_at welcomed.moment Arrive,
+    coming_at,
+    ap (λ (log : List Entry). opens config log (entry_at welcomed.moment Arrive)) taken ∙ welcomed.opened,
+  )
+
+  times_gained : (p : ℕ) → 0 < times p gained → (place ≡ p) ⊎ MadeAt may conn seen'' p
+  times_gained p has =
+      elim (times_either p (place ∷ []) gains.places has)
+      [ inl here ↦ inl (eq_or_not p place here) | inr there ↦ inr (each_of (MadeAt may conn seen'') gains.places gains.each p there) ]
+
+  is_coming : (p : ℕ) (entry : Entry) → place ≡ p → slice_get seen'' p ≡ Some entry → entry_at welcomed.moment Arrive ≡ entry
+  is_coming p entry here at =
+      same_Some (entry_at welcomed.moment Arrive) entry (sym coming_at ∙ (ap (λ q. slice_get seen'' q) here ∙ at))
+
+  owned_all : Owned opens names start ((mine ++ gained) ∷ met) seen''
+  owned_all = subst (λ (ps : List ℕ). Owned opens names start (ps ∷ met) seen'') all_mine owned
+
+  -- a connection that the lane served before is another one
+  other : (number : ℕ) → IsHeld config seen (mine ∷ met) number → number ≢ conn
+  other number held same =
+      let q = held.owns.0 in
+      let inside = below held.at held.places held.there q held.owns.1 in
+      let opened = subst (λ n. OpensAt opens config seen'' q n) same (opens_up opens config seen seen'' q number whole held.owns.2) in
+      let once : q ≡ place = by_count_once arrives config seen'' q place conn opened opened_at in
+      let lasts = ap length welcomed.front.1 in
+      let joined = length-append seen welcomed.front.0 in omega (arith, inside, once, lasts, joined)
+
+  apart : (number : ℕ) → number ≢ conn → (p : ℕ) (entry : Entry) → 0 < times p gained → slice_get seen'' p ≡ Some entry →
+      names entry ≢ Some number
+  apart number differs p entry has at named =
+      elim (times_gained p has) [
+        | inl here ↦ absurd (none-some number (ap names (is_coming p entry here at) ∙ named))
+        | inr made ↦
+            let same : made.0 ≡ entry = same_Some made.0 entry (sym made.1 ∙ at) in
+            absurd (differs (same_Some number conn (sym named ∙ (sym (ap names same) ∙ made.2))))
+      ]
+
+  new_numbers : (numbers : List ℕ) (p n : ℕ) → 0 < times p gained → OpensAt opens config seen'' p n → Contains (numbers ++ conn ∷ []) n
+  new_numbers numbers p n has opened =
+      elim (times_gained p has) [
+        | inl here ↦
+            let same = is_coming p opened.0 here opened.1 in
+            let number_is : ◌≡◌ {A = Option ℕ} (Some conn) (Some n) =
+            sym opened_at.2
+            ∙ (ap (λ q. opens config (take q seen'') (entry_at welcomed.moment Arrive)) here
+            ∙ (ap (λ (e : Entry). opens config (take p seen'') e) same ∙ opened.2)) in
+            Contains-append_right numbers (conn ∷ []) n (0, omega arith, same_Some conn n number_is)
+        | inr made ↦
+            let same : made.0 ≡ opened.0 = same_Some made.0 opened.0 (sym made.1 ∙ opened.1) in
+            absurd (named_opens_none config (take p seen'') opened.0 conn n (sym (ap names same) ∙ made.2) opened.2)
+      ]
+
+  new_allowed : (p : ℕ) (entry : Entry) → 0 < times p gained → slice_get seen'' p ≡ Some entry → MayEnter may halts entry
+  new_allowed p entry has at =
+      elim (times_gained p has) [
+        | inl here ↦
+            subst (λ (e : Entry). MayEnter may halts e) (is_coming p entry here at) (welcomed.told, λ halted. absurd (cc halted))
+        | inr made ↦
+            let same : made.0 ≡ entry = same_Some made.0 entry (sym made.1 ∙ at) in
+            subst (λ (e : Entry). MayEnter may halts e) same
+            (made.3, λ halted. absurd (none-some conn (sym (ap actor_of halted) ∙ made.2)))
+      ]
+
+  -- the number of the new connection stands among them once
+  new_once : {L : Type 0} (conns : List (Conn L)) → All (λ conn. IsHeld config seen (mine ∷ met) conn.number) conns →
+      AreOnce config seen (mine ∷ met) (map number_of conns)
+      → AreOnce config seen'' ((mine ++ gained) ∷ met) (map number_of conns ++ conn ∷ [])
+  new_once conns held once p number opened =
+      let most = once_on config seen seen'' mine gained met whole below conns held once p number opened in
+      let pushed = times_push number conn (map number_of conns) in
+      elim (cases_eq conn number) [
+        | inl same ↦
+            let none =
+            times_none number conns (λ k d here is. other (slice_index_or conns k d).number (held k d here) (is ∙ sym same)) in
+            let one : p ≡ place =
+            by_count_once arrives config seen'' p place conn (subst (λ n. OpensAt opens config seen'' p n) (sym same) opened) opened_at in
+            let joined = total_append (λ (q : ℕ). cond (eqb q p) 1 0) mine gained in
+            let here = counts_same place p (sym one) in
+            let there = counts_same conn number same in omega (arith, pushed, none, joined, here, there)
+        | inr differ ↦ let there = counts_other conn number differ in omega (arith, most, pushed, there)
+      ]
+
+  -- the lane keeps those that it served, and the new one
+  pub keeps_served : {L : Type 0} (input : L → Input) (output : L → Output) (conns : List (Conn L)) (new : Conn L) (in0 : Input)
+      (out0 : Output) (in1 : Input) (out1 : Output) → conn ≡ new.number → input new.link ≡ in1 → output new.link ≡ out1
+      → Keeps input output (MayEnter may halts) config seen (mine ∷ met) conns → IsNewLink in0 out0
+      → IsJournal config seen'' → OwnsConn config conn seen'' mine''
+      → Told config conn in0 out0 seen'' in1 out1 new.end
+      → Keeps input output (MayEnter may halts) config seen'' (mine'' ∷ met) (conns ++ new ∷ [])
+  keeps_served input output conns new in0 out0 in1 out1 number input_is output_is keeps is_new run owns told =
+      subst (λ (ps : List ℕ). Keeps input output (MayEnter may halts) config seen'' (ps ∷ met) (conns ++ new ∷ [])) (sym all_mine) (record {
+        run = run;
+        served =
+            All-push
+            (λ c. IsServed config seen'' ((mine ++ gained) ∷ met) c.number (input c.link) (output c.link) c.end) conns new
+            (λ k d inside.
+            let c = slice_index_or conns k d in
+            let was = keeps.served k d inside in
+            served_on config start is seen seen'' mine gained met whole below owned_all c.number
+            (apart c.number (other c.number was.held))
+            (λ i o i' o' end quiet before. told_up config c.number i o seen seen'' i' o' end run quiet before) (input c.link) (output c.link)
+            c.end was)
+            (subst (λ n. IsServed config seen'' ((mine ++ gained) ∷ met) n (input new.link) (output new.link) new.end) number
+            (record {
+              held = record {
+                at = 0;
+                places = mine ++ gained;
+                there = refl;
+                owns = subst (λ (ps : List ℕ). OwnsConn config conn seen'' ps) all_mine owns;
+              };
+              input0 = in0;
+              output0 = out0;
+              is_new = is_new;
+              told =
+                  subst (λ i. Told config conn in0 out0 seen'' i (output new.link) new.end) (sym input_is)
+                  (subst (λ o. Told config conn in0 out0 seen'' in1 o new.end) (sym output_is) told);
+            }));
+        all =
+            subst (λ (ns : List ℕ). AreAll config seen'' ((mine ++ gained) ∷ met) ns)
+            (ap (λ n. map number_of conns ++ n ∷ []) number ∙ sym (map-append number_of conns (new ∷ [])))
+            (all_on config seen seen'' mine gained met whole below (map number_of conns) (map number_of conns ++ conn ∷ [])
+            (λ n there. Contains-append_left (map number_of conns) (conn ∷ []) n there) keeps.all (new_numbers (map number_of conns)));
+        once =
+            subst (λ (ns : List ℕ). AreOnce config seen'' ((mine ++ gained) ∷ met) ns)
+            (ap (λ n. map number_of conns ++ n ∷ []) number ∙ sym (map-append number_of conns (new ∷ [])))
+            (new_once conns (λ k d inside. (keeps.served k d inside).held) keeps.once);
+        allowed = allowed_on config seen seen'' mine gained met whole below (MayEnter may halts) keeps.allowed new_allowed;
+      })
+
+-- what may be entered by a lane may be entered by one that may enter more
+pub keeps_may : {L : Type 0} (input : L → Input) (output : L → Output) (may may' : Entry → Type 0) (config : Configuration)
+    (seen : List Entry) (lists : List (List ℕ)) (conns : List (Conn L)) → ((entry : Entry) → may entry → may' entry)
+    → Keeps input output may config seen lists conns → Keeps input output may' config seen lists conns
+keeps_may input output may may' config seen lists conns more keeps = record {
+  run = keeps.run;
+  served = keeps.served;
+  all = keeps.all;
+  once = keeps.once;
+  allowed = λ k places there p entry has at. more entry (keeps.allowed k places there p entry has at);
+}
+
+-- a lane that entered nothing keeps what it kept
+pub keeps_away : {L : Type 0} (input : L → Input) (output : L → Output) (may : Entry → Type 0) (config : Configuration)
+    (start : Option Configuration) (seen seen' : List Entry) (mine : List ℕ) (met : List (List ℕ)) (conns : List (Conn L)) →
+    start ≡ Some config → IsPrefix seen seen'
+    → ((k : ℕ) (l : List ℕ) → get_elem? (mine ∷ met) k ≡ some l → (p : ℕ) → 0 < times p l → p < length seen)
+    → Owned opens names start (mine ∷ met) seen' → IsJournal config seen' → Keeps input output may config seen (mine ∷ met) conns
+    → Keeps input output may config seen' (mine ∷ met) conns
+keeps_away input output may config start seen seen' mine met conns is front below owned run keeps =
+    let same : mine ++ [] ≡ mine = append-nil mine in
+    let owned' = subst (λ (ps : List ℕ). Owned opens names start (ps ∷ met) seen') (sym same) owned in
+    subst (λ (ps : List ℕ). Keeps input output may config seen' (ps ∷ met) conns) same (record {
+      run = run;
+      served =
+          λ k d inside.
+          let c = slice_index_or conns k d in
+          served_on config start is seen seen' mine [] met front below owned' c.number (λ p entry has. absurd (omega (arith, has)))
+          (λ i o i' o' end quiet before. told_up config c.number i o seen seen' i' o' end run quiet before) (input c.link)
+          (output c.link) c.end (keeps.served k d inside);
+      all =
+          all_on config seen seen' mine [] met front below (map number_of conns) (map number_of conns) (λ n there. there) keeps.all
+          (λ p n has. absurd (omega (arith, has)));
+      once = once_on config seen seen' mine [] met front below conns (λ k d inside. (keeps.served k d inside).held) keeps.once;
+      allowed = allowed_on config seen seen' mine [] met front below may keeps.allowed (λ p entry has. absurd (omega (arith, has)));
+    })
+
+-- the same, where its lists are told to be as they were
+pub keeps_looked : {L : Type 0} (input : L → Input) (output : L → Output) (may : Entry → Type 0) (config : Configuration)
+    (start : Option Configuration) (seen seen' : List Entry) (mine mine' : List ℕ) (met met' : List (List ℕ)) (conns : List (Conn L)) →
+    start ≡ Some config → IsPrefix seen seen' → mine' ≡ mine → met' ≡ met
+    → ((k : ℕ) (l : List ℕ) → get_elem? (mine ∷ met) k ≡ some l → (p : ℕ) → 0 < times p l → p < length seen)
+    → Owned opens names start (mine' ∷ met') seen' → IsJournal config seen' → Keeps input output may config seen (mine ∷ met) conns
+    → Keeps input output may config seen' (mine' ∷ met') conns
+keeps_looked input output may config start seen seen' mine mine' met met' conns is front mine_is met_is below owned run keeps =
+    subst (λ (ms : List (List ℕ)). Keeps input output may config seen' (mine' ∷ ms) conns) (sym met_is)
+    (subst (λ (ps : List ℕ). Keeps input output may config seen' (ps ∷ met) conns) (sym mine_is)
+    (keeps_away input output may config start seen seen' mine met conns is front below
+    (subst (λ (ps : List ℕ). Owned opens names start (ps ∷ met) seen') mine_is
+    (subst (λ (ms : List (List ℕ)). Owned opens names start (mine' ∷ ms) seen') met_is owned)) run keeps))
+
+-- ---- an entry that concerns no connection
+
+one_place : (p place : ℕ) (log log' : List Entry) (entry entry' : Entry) → log' ≡ log ++ entry ∷ [] → place ≡ length log →
+    0 < times p (place ∷ []) → slice_get log' p ≡ Some entry' → entry ≡ entry'
+one_place p place log log' entry entry' sees at has there =
+    let here : length log ≡ p = sym at ∙ eq_or_not p place has in
+    same_Some entry entry'
+    (sym (last_get log entry) ∙ (ap (λ (l : List Entry). slice_get l (length log)) (sym sees) ∙ (ap (λ q. slice_get log' q) here ∙ there)))
+
+-- a lane that entered one such entry keeps what it kept
+pub keeps_entered : {L : Type 0} (input : L → Input) (output : L → Output) (may : Entry → Type 0) (config : Configuration)
+    (start : Option Configuration) (seen before seen' : List Entry) (mine mine' : List ℕ) (met : List (List ℕ)) (conns : List (Conn L))
+    (place : ℕ) (entry : Entry) → start ≡ Some config → IsPrefix seen before → seen' ≡ before ++ entry ∷ [] → place ≡ length before
+    → mine' ≡ mine ++ place ∷ [] → names entry ≡ None → ((log : List Entry) (n : ℕ) → opens config log entry ≢ Some n)
+    → may entry → IsJournal config seen'
+    → ((k : ℕ) (l : List ℕ) → get_elem? (mine ∷ met) k ≡ some l → (p : ℕ) → 0 < times p l → p < length seen)
+    → Owned opens names start (mine' ∷ met) seen' → Keeps input output may config seen (mine ∷ met) conns
+    → Keeps input output may config seen' (mine' ∷ met) conns
+keeps_entered input output may config start seen before seen' mine mine' met conns place entry is front sees at more unnamed closed told run
+    below owned keeps =
+    let owned' = subst (λ (ps : List ℕ). Owned opens names start (ps ∷ met) seen') more owned in
+    let whole : IsPrefix seen seen' = prefix_trans seen before seen' front (entry ∷ [], sym sees) in
+    subst (λ (ps : List ℕ). Keeps input output may config seen' (ps ∷ met) conns) (sym more) (record {
+      run = run;
+      served =
+          λ k d inside.
+          let c = slice_index_or conns k d in
+          served_on config start is seen seen' mine (place ∷ []) met whole below owned' c.number
+          (λ p e has there named.
+          none-some c.number (sym unnamed ∙ (ap names (one_place p place before seen' entry e sees at has there) ∙ named)))
+          (λ i o i' o' end quiet told. told_up config c.number i o seen seen' i' o' end run quiet told) (input c.link) (output c.link)
+          c.end (keeps.served k d inside);
+      all =
+          all_on config seen seen' mine (place ∷ []) met whole below (map number_of conns) (map number_of conns) (λ n there. there) keeps.all
+          (λ p n has opened.
+          absurd
+          (closed (take p seen') n
+          (ap (λ (e : Entry). opens config (take p seen') e) (one_place p place before seen' entry opened.0 sees at has opened.1)
+          ∙ opened.2)));
+      once =
+          once_on config seen seen' mine (place ∷ []) met whole below conns (λ k d inside. (keeps.served k d inside).held) keeps.once;
+      allowed =
+          allowed_on config seen seen' mine (place ∷ []) met whole below may keeps.allowed
+          (λ p e has there. subst may (one_place p place before seen' entry e sees at has there) told);
+    })
+
+turn_is_open : (who : Actor) (done : Act) (moment : ℕ) → IsTurnOf who done →
+    (names (entry_at moment done) ≡ None) × (done ≢ Halt)
+    × ((config : Configuration) (log : List Entry) (n : ℕ) → opens config log (entry_at moment done) ≢ Some n)
+turn_is_open (Slot slot) done moment is = (
+  ap (λ a. names (entry_at moment a)) is,
+  λ halted. absurd (cc (is, halted)),
+  λ config log n opened.
+      let e : ◌≡◌ {A = Option ℕ} None (Some n) = sym (ap (λ a. opens config log (entry_at moment a)) is) ∙ opened in none-some n e,
+)
+turn_is_open Jobs done moment is = (
+  ap (λ a. names (entry_at moment a)) is.1,
+  λ halted. absurd (cc (is.1, halted)),
+  λ config log n opened.
+      let e : ◌≡◌ {A = Option ℕ} None (Some n) = sym (ap (λ a. opens config log (entry_at moment a)) is.1) ∙ opened in none-some n e,
+)
+
+-- a lane that worked keeps what it kept
+module _ {L : Type 0} (input : L → Input) (output : L → Output) (may : ℕ → Type 0) (halts : Type 0) (config : Configuration)
+    (start : Option Configuration) (seen seen' : List Entry) (mine mine' : List ℕ) (met met' : List (List ℕ))
+    (conns : List (Conn L)) (is : start ≡ Some config) (met_is : met' ≡ met)
+    (below : (k : ℕ) (l : List ℕ) → get_elem? (mine ∷ met) k ≡ some l → (p : ℕ) → 0 < times p l → p < length seen)
+    (owned : Owned opens names start (mine' ∷ met') seen')
+    (keeps : Keeps input output (MayEnter may halts) config seen (mine ∷ met) conns) where
+  keeps_stays : Stays config seen mine seen' mine' → Keeps input output (MayEnter may halts) config seen' (mine' ∷ met') conns
+  keeps_stays stays =
+      keeps_looked input output (MayEnter may halts) config start seen seen' mine mine' met met' conns is stays.front stays.same met_is below
+      owned stays.run keeps
+
+  pub keeps_worked : (who : Actor) (now : ℕ) (worked : Worked) → may now → Works config seen mine seen' mine' who now worked →
+      Keeps input output (MayEnter may halts) config seen' (mine' ∷ met') conns
+  keeps_worked who now (Did place wakes) told gained =
+      let free = turn_is_open who gained.act now gained.is in
+      let entry = entry_at now gained.act in
+      subst (λ (ms : List (List ℕ)). Keeps input output (MayEnter may halts) config seen' (mine' ∷ ms) conns) (sym met_is)
+      (keeps_entered input output (MayEnter may halts) config start seen gained.before seen' mine mine' met conns place entry is gained.front
+      gained.sees gained.at gained.more free.0 (free.2 config) (told, λ halted. absurd (free.1 halted))
+      (subst (λ (log : List Entry). IsJournal config log) (sym gained.sees) (record {
+        within = gained.answers.before.within;
+        run = is_run_more (empty config) gained.before entry gained.answers.before.run gained.answers.defined;
+      })) below (subst (λ (ms : List (List ℕ)). Owned opens names start (mine' ∷ ms) seen') met_is owned) keeps)
+  keeps_worked who now (Idle None) told works = keeps_stays works.stays
+  keeps_worked who now (Idle (Some next)) told works = keeps_stays works.stays
+  keeps_worked who now Stopped told works = keeps_stays works.stays
+  keeps_worked who now (Refused why) told works = keeps_stays works.stays

@@ -1,0 +1,13 @@
+use Rattle.std.proofs.Common.{◌∷◌}
+use Rattle.fs_book.specs.Passes.{seen, mine, met, opening_state}
+use Rattle.fs_machine.specs.Turned.{configured}
+use Rattle.fs_top.specs.Doors.{Rose}
+use Rattle.fs_top.specs.Lanes.{MayEnter}
+use Rattle.fs_top.proofs.GatherLemmas.{headline}
+use Rattle.fs_top.proofs.gathering.close.Goals as goal
+
+pub returns-clause-headline : goal.returns-clause-headline
+returns-clause-headline g c = λ from to keeps.
+    headline g.L.Port.input g.L.Port.output (MayEnter (g.C.Clock.tells c.args.clock.now) (Rose from to))
+    (configured (opening_state c.args.book)) (seen c.args.pass) (mine c.args.pass ∷ met c.args.pass) c.args.conns.now.items
+    c.close.ensures.lists keeps

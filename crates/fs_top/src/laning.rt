@@ -1,0 +1,144 @@
+//! A lane serves one link after another, and keeps the connections.
+
+ghost use Rattle.std.specs.Prelude.{◌≡◌, ◌<◌, [], ◌∷◌, ◌++◌};
+ghost use Rattle.std.specs.Vec.{vec_len, vec_capacity};
+ghost use Rattle.fs_ports.specs.Ports.{IsNewLink};
+ghost use Rattle.fs_book.specs.Passes.{seen, mine, met, parts, opening_state, IsPassOf};
+ghost use Rattle.fs_machine.specs.Turned.{configured};
+ghost use Rattle.fs_top.specs.Lanes.{Keeps, MayEnter};
+
+use crate::came::Came;
+use crate::conns::Conn;
+use crate::ending::is_ending;
+use fs_book::{Book, Pass};
+use fs_conn::{converse, welcome};
+use fs_machine::{Machine, Refusal};
+use fs_ports::{Clock, Link, Sleeper};
+use fs_session::{Actor, Worked, work_once};
+use std::alloc::Global;
+use std::sync::Wait;
+
+// Serves a new link to its end, and keeps its connection. Where it is turned away, it is dropped.
+fn serve_one<R: Wait, C: Clock, L: Link>(
+    rt: &R,
+    alloc: Global,
+    book: &Book<Machine>,
+    pass: &mut Pass<Machine>,
+    clock: &C,
+    conns: &mut Vec<Conn<L>>,
+    link: L,
+) -> Result<(), Refusal>
+    requires book { IsPassOf configured book.now pass.old }
+    requires new { IsNewLink (L.input link) (L.output link) }
+    requires room { vec_len conns.old < vec_capacity conns.old }
+    requires keeps { Keeps L.input L.output (MayEnter (C.tells clock.now) ⊥) (configured (opening_state book.now))
+        (seen pass.old) (mine pass.old ∷ met pass.old) conns.old.items }
+    ensures book { IsPassOf configured book.now pass.new }
+    ensures parts { parts pass.new ≡ parts pass.old }
+    ensures keeps { Keeps L.input L.output (MayEnter (C.tells clock.now) ⊥) (configured (opening_state book.now))
+        (seen pass.new) (mine pass.new ∷ met pass.new) conns.new.items }
+{
+    let mut link = link;
+    let number = welcome(rt, book, pass, clock)?;
+    clock.serve(number);
+    let end = converse(rt, alloc, book, pass, number, &mut link, clock);
+    clock.serve_nobody();
+    link.hang_up();
+    keep(conns, Conn { number, link, end });
+    Ok(())
+}
+
+// Puts a connection behind the others, where there is room for it.
+fn keep<L: Link>(conns: &mut Vec<Conn<L>>, conn: Conn<L>)
+    requires { vec_len conns.old < vec_capacity conns.old }
+    ensures { conns.new.items ≡ conns.old.items ++ conn ∷ [] }
+{
+    conns.push(conn).unwrap();
+}
+
+/// Serves links that came, one after another, until the switch has come to its end or its journal is full.
+pub(crate) fn serve_links<R: Wait, C: Clock, L: Link>(
+    rt: &R,
+    alloc: Global,
+    book: &Book<Machine>,
+    came: &Came<L>,
+    pass: &mut Pass<Machine>,
+    sleeper: Sleeper,
+    clock: &C,
+    conns: &mut Vec<Conn<L>>,
+)
+    requires book { IsPassOf configured book.now pass.old }
+    requires keeps { Keeps L.input L.output (MayEnter (C.tells clock.now) ⊥) (configured (opening_state book.now))
+        (seen pass.old) (mine pass.old ∷ met pass.old) conns.old.items }
+    ensures book { IsPassOf configured book.now pass.new }
+    ensures parts { parts pass.new ≡ parts pass.old }
+    ensures keeps { Keeps L.input L.output (MayEnter (C.tells clock.now) ⊥) (configured (opening_state book.now))
+        (seen pass.new) (mine pass.new ∷ met pass.new) conns.new.items }
+{
+    'links: for _ in rt.forever() {
+        if is_ending(rt, book, pass) {
+            return;
+        }
+        if !serve_next(rt, alloc, book, came, pass, sleeper, clock, conns) {
+            clock.nap();
+        }
+    }
+}
+
+// Serves the first link that waits, and says whether there was one, and room for its connection, and it was not turned
+// away.
+fn serve_next<R: Wait, C: Clock, L: Link>(
+    rt: &R,
+    alloc: Global,
+    book: &Book<Machine>,
+    came: &Came<L>,
+    pass: &mut Pass<Machine>,
+    sleeper: Sleeper,
+    clock: &C,
+    conns: &mut Vec<Conn<L>>,
+) -> bool
+    requires book { IsPassOf configured book.now pass.old }
+    requires keeps { Keeps L.input L.output (MayEnter (C.tells clock.now) ⊥) (configured (opening_state book.now))
+        (seen pass.old) (mine pass.old ∷ met pass.old) conns.old.items }
+    ensures book { IsPassOf configured book.now pass.new }
+    ensures parts { parts pass.new ≡ parts pass.old }
+    ensures keeps { Keeps L.input L.output (MayEnter (C.tells clock.now) ⊥) (configured (opening_state book.now))
+        (seen pass.new) (mine pass.new ∷ met pass.new) conns.new.items }
+{
+    if conns.reserve(1).is_err() {
+        return false;
+    }
+    let Some(mut link) = came.take(rt) else {
+        return false;
+    };
+    link.belong_to(sleeper);
+    serve_one(rt, alloc, book, pass, clock, conns, link).is_ok()
+}
+
+/// Works a slot, or the jobs, again and again until the switch has come to its end and nothing of it is left, or its
+/// journal is full.
+pub(crate) fn run_session<R: Wait, C: Clock, L: Link>(
+    rt: &R,
+    book: &Book<Machine>,
+    pass: &mut Pass<Machine>,
+    actor: Actor,
+    clock: &C,
+    conns: &Vec<Conn<L>>,
+)
+    requires book { IsPassOf configured book.now pass.old }
+    requires keeps { Keeps L.input L.output (MayEnter (C.tells clock.now) ⊥) (configured (opening_state book.now))
+        (seen pass.old) (mine pass.old ∷ met pass.old) conns.now.items }
+    ensures book { IsPassOf configured book.now pass.new }
+    ensures parts { parts pass.new ≡ parts pass.old }
+    ensures keeps { Keeps L.input L.output (MayEnter (C.tells clock.now) ⊥) (configured (opening_state book.now))
+        (seen pass.new) (mine pass.new ∷ met pass.new) conns.now.items }
+{
+    'turns: for _ in rt.forever() {
+        match work_once(rt, book, pass, actor, clock.now()) {
+            Worked::Did(_, wakes) => clock.wake(&wakes),
+            Worked::Idle { next: Some(moment) } => clock.nap_until(moment),
+            Worked::Idle { next: None } | Worked::Refused(Refusal::Memory) => clock.nap(),
+            Worked::Stopped | Worked::Refused(_) => return,
+        }
+    }
+}

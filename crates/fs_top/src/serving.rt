@@ -1,0 +1,351 @@
+//! A server: the file, its document, the door, and the switch with all its threads.
+
+ghost use Rattle.std.specs.Prelude.{◌≡◌, ◌⊎◌, ◌^◌, [], true, false, IfOk, IfErr, MatchResult};
+ghost use Rattle.std.specs.List.{list_any};
+ghost use Rattle.fs_doc.specs.Reading.{Configuration};
+ghost use Rattle.fs_state.specs.Switch.{is_full};
+ghost use Rattle.fs_machine.specs.Laws.{state_after};
+ghost use Rattle.fs_top.specs.declared.course.Course.TheVariants as courses;
+ghost use Rattle.fs_top.specs.declared.outcome.Outcome.TheVariants as outcomes;
+ghost use Rattle.fs_top.specs.Doors.{Rose};
+ghost use Rattle.fs_book.specs.Passes.{opening_state, IsFirstPass, IsPassOf};
+ghost use Rattle.fs_conn.specs.declared.end.End.TheVariants as ends;
+ghost use Rattle.fs_machine.specs.Runs.{state_of};
+ghost use Rattle.fs_machine.specs.Turned.{configured, IsJournal};
+ghost use Rattle.fs_top.specs.Headline as headline;
+ghost use Rattle.fs_top.specs.Headline.{Headline, IsShutDown, status_behind};
+ghost use Rattle.fs_top.specs.Lanes.{MayEnter, is_settled};
+ghost use Rattle.fs_top.specs.Serving as spec;
+
+use crate::beside::run_beside;
+use crate::came::Came;
+use crate::conns::Conn;
+use crate::course::Course;
+use crate::ending::settle;
+use crate::gathering::{close, gather, make_lanes};
+use crate::lanes::kinds_for;
+use crate::outcome::Outcome;
+use crate::program::{Status, not_built, not_read};
+use fs_book::{Book, Pass};
+use fs_conn::End;
+use fs_doc::{Config, read_config};
+use fs_machine::{Act, Entry, Journal, Machine, Refusal};
+use fs_plan::Dialplan;
+use fs_ports::{Clock, Door, Files, Link, Listen, Load, Sink};
+use fs_text::{Memory, Txt};
+use std::alloc::Global;
+use std::sync::{Arc, Wait};
+use std::thread::Threads;
+
+/// Whether the words of the command line are `serve FILE`.
+pub fn is_serve(words: &[Txt]) -> bool
+    ensures { result ≡ spec.is_serve words.now }
+{
+    match words {
+        [word, _] => word.as_bytes() == b"serve".as_slice(),
+        _ => false,
+    }
+}
+
+/// What a server came to.
+#[derive(Drop)]
+pub struct Served<L: Link> {
+    /// The status that the program ends with.
+    pub status: Status,
+    /// The journal that the switch closed with. It is empty where nothing was served, and where memory was wanting.
+    pub journal: Journal,
+    /// The connections that came, each as it was left. There are none where the journal is empty.
+    pub conns: Vec<Conn<L>>,
+}
+
+/// What a server comes to, before its line is printed.
+#[derive(Drop)]
+struct Ran<'a, L: Link> {
+    course: Course<'a>,
+    journal: Journal,
+    conns: Vec<Conn<L>>,
+}
+
+impl<'a, L: Link> Ran<'a, L> {
+    // Nothing was served, and this is why.
+    fn nothing(alloc: Global, course: Course<'a>) -> Ran<'a, L>
+        ensures course { result.course ≡ course.entry }
+        ensures journal { result.journal.entries ≡ [] }
+        ensures conns { result.conns.items ≡ [] }
+    {
+        Ran {
+            course,
+            journal: Journal::new(alloc),
+            conns: Vec::new(alloc),
+        }
+    }
+
+    // Memory was wanting.
+    fn without_memory(alloc: Global) -> Ran<'a, L>
+        ensures course { result.course ≡ courses.Run (outcomes.Ended ends.Memory) }
+        ensures journal { result.journal.entries ≡ [] }
+        ensures conns { result.conns.items ≡ [] }
+    {
+        Ran::nothing(alloc, Course::Run(Outcome::Ended(End::Memory)))
+    }
+}
+
+/// Serves the file that the words `serve FILE` name: listens where its document says, takes in whoever connects,
+/// converses with as many at once as the document allows, and works all channels and jobs, each in a thread of its own,
+/// until a `fsctl shutdown` ends the switch, its journal is full, or the door fails.
+///
+/// On `err` it prints one line where the status is not 0. A fault of `err` changes no status. Where no thread can be
+/// made, what should run beside one another runs one after another, and may never end.
+pub fn serve<R: Threads + Wait + Sync, F: Files, D: Door + Send, C: Clock, E: Sink>(
+    rt: &R,
+    alloc: Global,
+    words: &[Txt],
+    files: &mut F,
+    door: &mut D,
+    clock: &C,
+    err: &mut E,
+) -> Served<D::Link>
+    requires { spec.is_serve words.now ≡ true }
+
+    // Either nothing was entered; or the file is read as a configuration, and the journal is a run of it from the empty
+    // switch, each connection that came in it was served once, and is told over it: its commands stand in it once, in
+    // the order read, and the bytes written to it are a front of its frames. Each moment is one that the clock may
+    // tell, and the door failed where an entry halts the switch.
+    ensures headline { ((result.journal.entries ≡ []) × (result.conns.items ≡ [])) ⊎ ((c : Configuration)
+        × spec.IsReadAs (F.next_load files.old) (spec.file_served words.now) c
+        × (result.status.code ≡ status_behind c result.journal.entries)
+        × Headline D.Link.input D.Link.output
+        (MayEnter (C.tells clock.now) (Rose (D.door_faults door.old) (D.door_faults door.new)))
+        c result.journal.entries result.conns.items) }
+
+    // Each status has its cause.
+    ensures shutdown { result.status.code ≡ 0 → (c : Configuration)
+        × spec.IsReadAs (F.next_load files.old) (spec.file_served words.now) c
+        × IsShutDown c result.journal.entries }
+    ensures document { result.status.code ≡ 3 → spec.IsNoDocument (F.next_load files.old) (spec.file_served words.now)
+        (F.sizes files.old) (F.sizes files.new) }
+    ensures unreadable { result.status.code ≡ 4 → spec.IsUnread (F.next_load files.old) (spec.file_served words.now)
+        (F.counts files.old) (F.counts files.new) }
+    ensures door { result.status.code ≡ 7 → Rose (D.door_faults door.old) (D.door_faults door.new) }
+    ensures full { result.status.code ≡ 8 → (c : Configuration)
+        × spec.IsReadAs (F.next_load files.old) (spec.file_served words.now) c
+        × (is_full (state_after c result.journal.entries) ≡ true) }
+    ensures codes { spec.IsStatus result.status.code }
+
+    // The line of what it came to was printed on `err`, or a front of it.
+    ensures said { spec.Says (E.output err.old) (E.output err.new) result.status.code }
+{
+    let name = file_of(words);
+    let ran = serve_file(rt, alloc, name, files, door, clock);
+    let _sent = ran.course.say(err);
+    let Ran {
+        course,
+        journal,
+        conns,
+    } = ran;
+    let code = course.status();
+    Served {
+        status: Status { code },
+        journal,
+        conns,
+    }
+}
+
+// The file that is to be served.
+fn file_of(words: &[Txt]) -> &Txt
+    requires { spec.is_serve words.now ≡ true }
+    ensures { result.now ≡ spec.file_served words.now }
+{
+    match words {
+        [_, name] => name,
+        _ => unreachable!(),
+    }
+}
+
+// Serves a file.
+fn serve_file<'a, R: Threads + Wait + Sync, F: Files, D: Door + Send, C: Clock>(
+    rt: &R,
+    alloc: Global,
+    name: &'a Txt,
+    files: &mut F,
+    door: &mut D,
+    clock: &C,
+) -> Ran<'a, D::Link>
+    ensures { spec.Serves D.Link.input D.Link.output (C.tells clock.now) (F.next_load files.old) name.now
+        (F.counts files.old) (F.counts files.new) (F.sizes files.old) (F.sizes files.new)
+        (D.door_faults door.old) (D.door_faults door.new) result.course result.journal.entries result.conns.items }
+{
+    let bytes = match files.load(name) {
+        Ok(Load::Got(bytes)) => bytes,
+        Ok(Load::Absent) => return Ran::nothing(alloc, Course::Run(Outcome::CannotRead { name })),
+        Ok(Load::Failed) => return Ran::nothing(alloc, Course::Run(Outcome::CannotRead { name })),
+        Err(Memory) => return Ran::without_memory(alloc),
+    };
+    serve_bytes(rt, alloc, bytes.as_bytes(), files, door, clock)
+}
+
+// Serves the document in these bytes.
+fn serve_bytes<'a, R: Threads + Wait + Sync, F: Files, D: Door + Send, C: Clock>(
+    rt: &R,
+    alloc: Global,
+    bytes: &[u8],
+    files: &mut F,
+    door: &mut D,
+    clock: &C,
+) -> Ran<'a, D::Link>
+    ensures { spec.ServesBytes D.Link.input D.Link.output (C.tells clock.now) bytes.now
+        (F.sizes files.old) (F.sizes files.new) (D.door_faults door.old) (D.door_faults door.new)
+        result.course result.journal.entries result.conns.items }
+{
+    match read_config(alloc, bytes) {
+        Ok(config) => match Dialplan::build(alloc, &config, files) {
+            Ok(plan) => serve_config(rt, alloc, config, plan, door, clock),
+            Err(fault) => Ran::nothing(alloc, Course::Run(not_built(fault))),
+        },
+        Err(fault) => Ran::nothing(alloc, Course::Run(not_read(fault))),
+    }
+}
+
+// Listens where a configuration says, and serves it.
+fn serve_config<'a, R: Threads + Wait + Sync, D: Door + Send, C: Clock>(
+    rt: &R,
+    alloc: Global,
+    config: Config,
+    plan: Dialplan,
+    door: &mut D,
+    clock: &C,
+) -> Ran<'a, D::Link>
+    requires { plan ≡ config.contexts }
+    ensures { spec.ServesConfig D.Link.input D.Link.output (C.tells clock.now) config
+        (D.door_faults door.old) (D.door_faults door.new) result.course result.journal.entries result.conns.items }
+{
+    let settings = config.settings();
+    let slots = settings.max_sessions;
+    let links = settings.max_connections;
+    match door.listen(&settings.listen_ip, settings.listen_port) {
+        Listen::Listening => {}
+        Listen::Failed => return Ran::nothing(alloc, Course::DoorFault),
+    }
+    match Machine::new(alloc, config, plan) {
+        Ok(machine) => serve_machine(rt, alloc, machine, slots, links, door, clock),
+        Err(Memory) => Ran::without_memory(alloc),
+    }
+}
+
+// Serves a switch to which nothing has happened.
+fn serve_machine<'a, R: Threads + Wait + Sync, D: Door + Send, C: Clock>(
+    rt: &R,
+    alloc: Global,
+    machine: Machine,
+    slots: u16,
+    links: u16,
+    door: &mut D,
+    clock: &C,
+) -> Ran<'a, D::Link>
+    requires { machine.journal ≡ [] }
+    ensures { spec.ServesConfig D.Link.input D.Link.output (C.tells clock.now) machine.config
+        (D.door_faults door.old) (D.door_faults door.new) result.course result.journal.entries result.conns.items }
+{
+    machine.sound();
+    let Ok((book, pass)) = Book::start(alloc, machine) else {
+        return Ran::without_memory(alloc);
+    };
+    match serve_book(rt, alloc, book, pass, slots, links, door, clock) {
+        Ok((machine, conns)) => conclude(machine, conns),
+        Err(Memory) => Ran::without_memory(alloc),
+    }
+}
+
+// Serves over a book to which nothing has happened, and closes it.
+fn serve_book<R: Threads + Wait + Sync, D: Door + Send, C: Clock>(
+    rt: &R,
+    alloc: Global,
+    book: Book<Machine>,
+    pass: Pass<Machine>,
+    slots: u16,
+    links: u16,
+    door: &mut D,
+    clock: &C,
+) -> Result<(Machine, Vec<Conn<D::Link>>), Memory>
+    requires book { IsPassOf configured book pass }
+    requires first { IsFirstPass pass }
+    requires run { IsJournal (configured (opening_state book)) [] }
+    ensures { IfOk result (λ r. spec.Ends D.Link.input D.Link.output (C.tells clock.now)
+        (configured (opening_state book)) (D.door_faults door.old) (D.door_faults door.new)
+        r.0.config r.0.journal r.1.items) }
+{
+    let mut pass = pass;
+    let mut conns = Vec::new(alloc);
+    let came = Arc::new(alloc, Came::new(alloc))?;
+    let kinds = kinds_for(alloc, slots, links)?;
+    let mut lanes = make_lanes(alloc, &book, &mut pass, clock, &came, kinds)?;
+    run_beside(
+        rt,
+        &book,
+        &came,
+        clock,
+        door,
+        &mut pass,
+        lanes.as_mut_slice(),
+    );
+    gather(&book, &mut pass, clock, &mut conns, lanes)?;
+    settle(rt, &book, &mut pass, clock);
+    let machine = close(book, pass, clock, &conns);
+    Ok((machine, conns))
+}
+
+// What a switch came to that has run to its end.
+fn conclude<'a, L: Link>(machine: Machine, conns: Vec<Conn<L>>) -> Ran<'a, L>
+    requires { is_settled (state_of machine) ≡ true }
+    ensures course { spec.Concludes machine.config machine.journal result.course }
+    ensures journal { result.journal.entries ≡ machine.journal }
+    ensures conns { result.conns.items ≡ conns.items }
+{
+    machine.sound();
+    let course = course_behind(&machine);
+    Ran {
+        course,
+        journal: machine.into_journal(),
+        conns,
+    }
+}
+
+// How a server ended: its journal is full, or an entry halted the switch, or a shutdown ended it.
+fn course_behind<'a>(machine: &Machine) -> Course<'a>
+    requires { is_settled (state_of machine.now) ≡ true }
+    ensures { spec.Concludes machine.now.config machine.now.journal result }
+{
+    match machine.full() {
+        Some(Refusal::JournalFull { cost, limit }) => {
+            Course::Run(Outcome::Ended(End::JournalFull { cost, limit }))
+        }
+        _ => course_of_stop(machine),
+    }
+}
+
+// How a server ended whose journal is not full.
+fn course_of_stop<'a>(machine: &Machine) -> Course<'a>
+    requires settled { is_settled (state_of machine.now) ≡ true }
+    requires free { is_full (state_of machine.now) ≡ false }
+    ensures { spec.Concludes machine.now.config machine.now.journal result }
+{
+    if has_halt(machine.journal().entries()) {
+        Course::DoorFault
+    } else {
+        Course::Run(Outcome::Printed)
+    }
+}
+
+// Whether one of the entries halts the switch.
+fn has_halt(entries: &[Entry]) -> bool
+    ensures { result ≡ list_any headline.is_halt entries.now }
+{
+    entries.iter().any(is_halt)
+}
+
+// Whether an entry halts the switch.
+fn is_halt(entry: &Entry) -> bool
+    ensures { result ≡ headline.is_halt entry.now }
+{
+    matches!(entry.act, Act::Halt)
+}

@@ -1,6 +1,7 @@
 //! What the lines in front of a case laid out: a file, what a link gives, and which calls fail.
 
 ghost use Rattle.std.specs.Prelude.{◌≡◌, false, IfOk};
+ghost use Rattle.fs_ports.specs.Memory.{IsNewTape};
 
 use crate::answer::Answer;
 use crate::words::{cut, length_of};
@@ -175,7 +176,8 @@ impl Table {
 
     /// A link that gives the input, and takes so many bytes. Its reads do not have to be tried again.
     pub fn link(&self, room: usize) -> Result<MemLink, Memory>
-        ensures { IfOk result (λ link. link.is_held ≡ false) }
+        ensures new { IfOk result (λ link. IsNewTape link) }
+        ensures held { IfOk result (λ link. link.is_held ≡ false) }
     {
         MemLink::new(
             self.alloc,

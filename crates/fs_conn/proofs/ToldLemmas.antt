@@ -31,7 +31,7 @@ use Rattle.fs_conn.specs.declared.stop.Stop.TheVariants as stops
 use Rattle.fs_conn.specs.declared.round.Round.{Round}
 use Rattle.fs_conn.specs.declared.round.Round.TheVariants.{GoOn, Done}
 use Rattle.fs_conn.specs.Owning.{OwnsConn, entry_at, Entered}
-use Rattle.fs_conn.specs.Talks.{Point, point, bytes_given, FrontWritten, PartedEnd}
+use Rattle.fs_conn.specs.Talks.{Point, point, bytes_given, FrontWritten, PartedEnd, IfTried, LacksBlock, tried_of}
 use Rattle.fs_conn.specs.Talks.{Base, Holds, HasStopped, OverCause, Over, Rounds, Handles, Departed, Hung, ends_sent, EndWrote, EndCause}
 use Rattle.fs_conn.specs.Talks.{Told, Talks}
 use Rattle.fs_conn.proofs.PartingLemmas.{at_front, parted_by_command, stopped_by_end, by_up, stopped_up}
@@ -171,6 +171,11 @@ module _ (may : ℕ → Type 0) (config : Configuration) (conn : ℕ) where
   turns_hung from now rest left end (Ok (Done e)) cause h =
       record { rest = rest; finishes = h.1; cause = hung_over from now rest e end h.0 cause }
   turns_hung from now rest left end (Err stop) cause h = (rest, h)
+
+  pub if_tried : (from now : Point) (rest : List ℕ) (result : Result Round Stop) → Rounds may config conn from now rest result →
+      IfTried may config conn from now rest (tried_of result)
+  if_tried from now rest (Ok round) r = r
+  if_tried from now rest (Err stop) r = r
 
   -- ---- how it begins
 
@@ -357,3 +362,8 @@ told_up config conn in0 out0 log log' in1 out1 end run quiet t =
           );
       cause = cause_up end config conn log log' in0 in1 t.taken t.others quiet t.cause;
     }
+
+-- what was tried needs no more bytes
+pub lacks_none : (rest : List ℕ) (result : Result Round Stop) → LacksBlock rest (tried_of result)
+lacks_none rest (Ok round) = tt
+lacks_none rest (Err stop) = tt

@@ -7,7 +7,7 @@ use Rattle.fs_doc.specs.Reading.{Configuration}
 use Rattle.fs_ports.specs.Counts.{raised}
 use Rattle.fs_ports.specs.Ports.{Input, Output, Reads, Writes, Stopped}
 use Rattle.fs_frame.specs.Block.{IsBlock, fault_of}
-use Rattle.fs_frame.specs.Blocks.{blocks_of, rest_of}
+use Rattle.fs_frame.specs.Blocks.{HasNoBlock, blocks_of, rest_of}
 use Rattle.fs_frame.specs.Stream.{Stream, fed_with}
 use Rattle.fs_frame.specs.declared.fault.Fault.TheVariants as faults
 use Rattle.fs_book.specs.Opened.{Quiet}
@@ -192,6 +192,22 @@ module _ (may : ℕ → Type 0) (config : Configuration) (conn : ℕ) where
   Rounds from now rest (Ok rounds.GoOn) = Holds from now rest × (now.input.faults ≡ from.input.faults)
   Rounds from now rest (Ok (rounds.Done end)) = Over from now end
   Rounds from now rest (Err stop) = (left : List ℕ) × HasStopped from now left stop
+
+  -- what a part of a round came to, if it was tried; else the conversation goes on
+  abbrev pub IfTried : Point → Point → List ℕ → Result (Option Round) Stop → Type 0
+  IfTried from now rest (Ok (Some round)) = Rounds from now rest (Ok round)
+  IfTried from now rest (Ok None) = Holds from now rest × (now.input.faults ≡ from.input.faults)
+  IfTried from now rest (Err stop) = Rounds from now rest (Err stop)
+
+-- a part of a round that was tried came to this
+abbrev pub tried_of : Result Round Stop → Result (Option Round) Stop
+tried_of (Ok round) = Ok (Some round)
+tried_of (Err stop) = Err stop
+
+-- where nothing was tried, no block stands in front
+abbrev pub LacksBlock : List ℕ → Result (Option Round) Stop → Type 0
+LacksBlock rest (Ok None) = HasNoBlock rest
+LacksBlock rest _ = Unit {0}
 
 -- what a read did
 abbrev pub Gets : Input → Input → Stream → Stream → Result Piece Stop → Type 0

@@ -7,7 +7,7 @@ ghost use Rattle.fs_frame.specs.Blocks.{HasNoBlock};
 ghost use Rattle.fs_book.specs.Passes.{seen, mine, met, parts, opening_state, IsPassOf};
 ghost use Rattle.fs_machine.specs.Turned.{configured};
 ghost use Rattle.fs_conn.specs.Owning.{OwnsConn};
-ghost use Rattle.fs_conn.specs.Talks.{Point, point, Holds, Gets, Handles, Hung, Departed, Rounds};
+ghost use Rattle.fs_conn.specs.Talks.{Point, point, Holds, Gets, Handles, Hung, Departed, Rounds, IfTried, LacksBlock, tried_of};
 
 use crate::closing::{depart, hang_up};
 use crate::end::End;
@@ -143,11 +143,125 @@ fn ended<R: Wait, C: Clock, L: Link>(
     }
 }
 
-// Reads more, where no block stands in front.
+// Enters the block in front as a command, or ends where none can come. None where more has to be read first.
+fn enter_next<R: Wait, C: Clock, L: Link>(
+    rt: &R,
+    book: &Book<Machine>,
+    pass: &mut Pass<Machine>,
+    alloc: Global,
+    conn: u32,
+    clock: &C,
+    blocks: &mut Blocks,
+    link: &mut L,
+) -> Result<Option<Round>, Stop>
+    requires book { IsPassOf configured book.now pass.old }
+    requires owns { OwnsConn (configured (opening_state book.now)) conn (seen pass.old) (mine pass.old) }
+    ensures book { IsPassOf configured book.now pass.new }
+    ensures owns { OwnsConn (configured (opening_state book.now)) conn (seen pass.new) (mine pass.new) }
+    ensures kept { (met pass.new ≡ met pass.old) × (parts pass.new ≡ parts pass.old) }
+    ensures none { LacksBlock blocks.new.rest result }
+    ensures turns { (from : Point)
+        → Holds (C.tells clock.now) (configured (opening_state book.now)) conn from
+        (point (seen pass.old) (mine pass.old) (L.input link.old) (L.output link.old)) blocks.old.rest
+        → (L.input link.old).faults ≡ from.input.faults
+        → IfTried (C.tells clock.now) (configured (opening_state book.now)) conn from
+        (point (seen pass.new) (mine pass.new) (L.input link.new) (L.output link.new)) blocks.new.rest result }
+{
+    match blocks.next_block() {
+        Next::Block(block) => {
+            let bytes = block.bytes();
+            tried(handle(rt, book, pass, alloc, conn, clock, bytes, link))
+        }
+        Next::NeedMore => Ok(None),
+        Next::TooLong { len } => {
+            let end = End::TooLong { len };
+            tried(ended(rt, book, pass, conn, clock, link, end))
+        }
+        Next::BadLength => tried(ended(rt, book, pass, conn, clock, link, End::BadLength)),
+    }
+}
+
+// What a part of a round came to that was tried.
+fn tried(round: Result<Round, Stop>) -> Result<Option<Round>, Stop>
+    ensures { result ≡ tried_of round }
+{
+    match round {
+        Ok(round) => Ok(Some(round)),
+        Err(stop) => Err(stop),
+    }
+}
+
+// Enters the block in front where bytes have come, if one is whole by them.
+fn enter_read<R: Wait, C: Clock, L: Link>(
+    rt: &R,
+    book: &Book<Machine>,
+    pass: &mut Pass<Machine>,
+    alloc: Global,
+    conn: u32,
+    clock: &C,
+    blocks: &mut Blocks,
+    link: &mut L,
+) -> Result<Round, Stop>
+    requires book { IsPassOf configured book.now pass.old }
+    requires owns { OwnsConn (configured (opening_state book.now)) conn (seen pass.old) (mine pass.old) }
+    ensures book { IsPassOf configured book.now pass.new }
+    ensures owns { OwnsConn (configured (opening_state book.now)) conn (seen pass.new) (mine pass.new) }
+    ensures kept { (met pass.new ≡ met pass.old) × (parts pass.new ≡ parts pass.old) }
+    ensures turns { (from : Point)
+        → Holds (C.tells clock.now) (configured (opening_state book.now)) conn from
+        (point (seen pass.old) (mine pass.old) (L.input link.old) (L.output link.old)) blocks.old.rest
+        → (L.input link.old).faults ≡ from.input.faults
+        → Rounds (C.tells clock.now) (configured (opening_state book.now)) conn from
+        (point (seen pass.new) (mine pass.new) (L.input link.new) (L.output link.new)) blocks.new.rest result }
+{
+    match enter_next(rt, book, pass, alloc, conn, clock, blocks, link) {
+        Ok(Some(round)) => Ok(round),
+        Ok(None) => Ok(Round::GoOn),
+        Err(stop) => Err(stop),
+    }
+}
+
+// Reads, where no block stands in front, and enters what came. None where nothing came yet.
+fn read_on<R: Wait, C: Clock, L: Link>(
+    rt: &R,
+    book: &Book<Machine>,
+    pass: &mut Pass<Machine>,
+    alloc: Global,
+    conn: u32,
+    clock: &C,
+    blocks: &mut Blocks,
+    link: &mut L,
+) -> Result<Option<Round>, Stop>
+    requires book { IsPassOf configured book.now pass.old }
+    requires owns { OwnsConn (configured (opening_state book.now)) conn (seen pass.old) (mine pass.old) }
+    requires none { HasNoBlock blocks.old.rest }
+    ensures book { IsPassOf configured book.now pass.new }
+    ensures owns { OwnsConn (configured (opening_state book.now)) conn (seen pass.new) (mine pass.new) }
+    ensures kept { (met pass.new ≡ met pass.old) × (parts pass.new ≡ parts pass.old) }
+    ensures none { LacksBlock blocks.new.rest result }
+    ensures turns { (from : Point)
+        → Holds (C.tells clock.now) (configured (opening_state book.now)) conn from
+        (point (seen pass.old) (mine pass.old) (L.input link.old) (L.output link.old)) blocks.old.rest
+        → (L.input link.old).faults ≡ from.input.faults
+        → IfTried (C.tells clock.now) (configured (opening_state book.now)) conn from
+        (point (seen pass.new) (mine pass.new) (L.input link.new) (L.output link.new)) blocks.new.rest result }
+{
+    match get(blocks, link) {
+        Ok(Piece::More) => tried(enter_read(rt, book, pass, alloc, conn, clock, blocks, link)),
+        Ok(Piece::NotYet) => Ok(None),
+        Ok(Piece::AtEnd) => tried(ended(rt, book, pass, conn, clock, link, End::Eof)),
+        Ok(Piece::Failed) => tried(ended(rt, book, pass, conn, clock, link, End::ReadFault)),
+        Err(stop) => Err(stop),
+    }
+}
+
+// Reads, where no block stands in front. Where nothing came yet it naps, and then tries once more, since most naps end
+// when bytes come.
 fn read_more<R: Wait, C: Clock, L: Link>(
     rt: &R,
     book: &Book<Machine>,
     pass: &mut Pass<Machine>,
+    alloc: Global,
     conn: u32,
     clock: &C,
     blocks: &mut Blocks,
@@ -166,15 +280,15 @@ fn read_more<R: Wait, C: Clock, L: Link>(
         → Rounds (C.tells clock.now) (configured (opening_state book.now)) conn from
         (point (seen pass.new) (mine pass.new) (L.input link.new) (L.output link.new)) blocks.new.rest result }
 {
-    match get(blocks, link) {
-        Ok(Piece::More) => return Ok(Round::GoOn),
-        Ok(Piece::NotYet) => {
-            clock.nap();
-            return Ok(Round::GoOn);
-        }
-        Ok(Piece::AtEnd) => return ended(rt, book, pass, conn, clock, link, End::Eof),
-        Ok(Piece::Failed) => return ended(rt, book, pass, conn, clock, link, End::ReadFault),
+    match read_on(rt, book, pass, alloc, conn, clock, blocks, link) {
+        Ok(Some(round)) => return Ok(round),
+        Ok(None) => clock.nap(),
         Err(stop) => return Err(stop),
+    }
+    match read_on(rt, book, pass, alloc, conn, clock, blocks, link) {
+        Ok(Some(round)) => Ok(round),
+        Ok(None) => Ok(Round::GoOn),
+        Err(stop) => Err(stop),
     }
 }
 
@@ -213,27 +327,9 @@ pub(crate) fn take_round<R: Wait, C: Clock, L: Link>(
         clock.nap();
         return Ok(Round::GoOn);
     }
-    match blocks.next_block() {
-        Next::Block(block) => return handle(
-            rt,
-            book,
-            pass,
-            alloc,
-            conn,
-            clock,
-            block.bytes(),
-            link,
-        ),
-        Next::NeedMore => return read_more(rt, book, pass, conn, clock, blocks, link),
-        Next::TooLong { len } => return ended(
-            rt,
-            book,
-            pass,
-            conn,
-            clock,
-            link,
-            End::TooLong { len },
-        ),
-        Next::BadLength => return ended(rt, book, pass, conn, clock, link, End::BadLength),
+    match enter_next(rt, book, pass, alloc, conn, clock, blocks, link) {
+        Ok(Some(round)) => Ok(round),
+        Ok(None) => read_more(rt, book, pass, alloc, conn, clock, blocks, link),
+        Err(stop) => Err(stop),
     }
 }

@@ -1,6 +1,6 @@
 //! A server: the file, its document, the door, and the switch with all its threads.
 
-ghost use Rattle.std.specs.Prelude.{◌≡◌, ◌⊎◌, ◌^◌, [], true, false, IfOk, IfErr, MatchResult};
+ghost use Rattle.std.specs.Prelude.{◌≡◌, ◌⊎◌, ◌^◌, [], ◌∷◌, true, false, IfOk, IfErr, OnOk, MatchResult};
 ghost use Rattle.std.specs.List.{list_any};
 ghost use Rattle.fs_doc.specs.Reading.{Configuration};
 ghost use Rattle.fs_state.specs.Switch.{is_full};
@@ -8,13 +8,13 @@ ghost use Rattle.fs_machine.specs.Laws.{state_after};
 ghost use Rattle.fs_top.specs.declared.course.Course.TheVariants as courses;
 ghost use Rattle.fs_top.specs.declared.outcome.Outcome.TheVariants as outcomes;
 ghost use Rattle.fs_top.specs.Doors.{Rose};
-ghost use Rattle.fs_book.specs.Passes.{opening_state, IsFirstPass, IsPassOf};
+ghost use Rattle.fs_book.specs.Passes.{seen, mine, met, parts, opening_state, IsFirstPass, IsPassOf};
 ghost use Rattle.fs_conn.specs.declared.end.End.TheVariants as ends;
 ghost use Rattle.fs_machine.specs.Runs.{state_of};
 ghost use Rattle.fs_machine.specs.Turned.{configured, IsJournal};
 ghost use Rattle.fs_top.specs.Headline as headline;
 ghost use Rattle.fs_top.specs.Headline.{Headline, IsShutDown, status_behind};
-ghost use Rattle.fs_top.specs.Lanes.{MayEnter, is_settled};
+ghost use Rattle.fs_top.specs.Lanes.{Keeps, MayEnter, is_settled};
 ghost use Rattle.fs_top.specs.Serving as spec;
 
 use crate::beside::run_beside;
@@ -275,23 +275,41 @@ fn serve_book<R: Threads + Wait + Sync, D: Door + Send, C: Clock>(
         r.0.config r.0.journal r.1.items) }
 {
     let mut pass = pass;
+    let conns = serve_to_end(rt, alloc, &book, &mut pass, slots, links, door, clock)?;
+    let machine = close(book, pass, clock, &conns);
+    Ok((machine, conns))
+}
+
+// Serves over a book to which nothing has happened, until the switch is settled, and gives the connections that came.
+fn serve_to_end<R: Threads + Wait + Sync, D: Door + Send, C: Clock>(
+    rt: &R,
+    alloc: Global,
+    book: &Book<Machine>,
+    pass: &mut Pass<Machine>,
+    slots: u16,
+    links: u16,
+    door: &mut D,
+    clock: &C,
+) -> Result<Vec<Conn<D::Link>>, Memory>
+    requires book { IsPassOf configured book.now pass.old }
+    requires first { IsFirstPass pass.old }
+    requires run { IsJournal (configured (opening_state book.now)) [] }
+    ensures book { IsPassOf configured book.now pass.new }
+    ensures parts { OnOk result (parts pass.new ≡ 2 ^ 62) }
+    ensures keeps { IfOk result (λ conns. Keeps D.Link.input D.Link.output
+        (MayEnter (C.tells clock.now) (Rose (D.door_faults door.old) (D.door_faults door.new)))
+        (configured (opening_state book.now)) (seen pass.new) (mine pass.new ∷ met pass.new) conns.items) }
+    ensures settled { OnOk result
+        (is_settled (state_after (configured (opening_state book.now)) (seen pass.new)) ≡ true) }
+{
     let mut conns = Vec::new(alloc);
     let came = Arc::new(alloc, Came::new(alloc))?;
     let kinds = kinds_for(alloc, slots, links)?;
-    let mut lanes = make_lanes(alloc, &book, &mut pass, clock, &came, kinds)?;
-    run_beside(
-        rt,
-        &book,
-        &came,
-        clock,
-        door,
-        &mut pass,
-        lanes.as_mut_slice(),
-    );
-    gather(&book, &mut pass, clock, &mut conns, lanes)?;
-    settle(rt, &book, &mut pass, clock);
-    let machine = close(book, pass, clock, &conns);
-    Ok((machine, conns))
+    let mut lanes = make_lanes(alloc, book, pass, clock, &came, kinds)?;
+    run_beside(rt, book, &came, clock, door, pass, lanes.as_mut_slice());
+    gather(book, pass, clock, &mut conns, lanes)?;
+    settle(rt, book, pass, clock);
+    Ok(conns)
 }
 
 // What a switch came to that has run to its end.

@@ -1,5 +1,6 @@
 """The applications that a channel runs as its actions."""
 
+import queues
 from channels import Wait
 from dialing import DialFault, read_dial_string
 from dialplan import INLINE, assign
@@ -7,10 +8,18 @@ from hangups import hang_up, leave
 from originations import USUAL_SECONDS, originate
 from races import fail_bridge
 from tables import State, cause_or, words_of
-from variables import LONGEST_NAME, ExpansionTooLong, expand, read_milliseconds, read_seconds
+from variables import (
+    LONGEST_NAME,
+    ExpansionTooLong,
+    expand,
+    read_milliseconds,
+    read_number,
+    read_seconds,
+)
 
 TOLD_OF_ARGUMENT = 1024
 UNKNOWN_APPLICATION = "DESTINATION_OUT_OF_ORDER"
+LAST_PORT = 65535
 
 
 def run_action(switch, channel, action):
@@ -25,7 +34,13 @@ def run_action(switch, channel, action):
     if action.application in INLINE:
         run_assignment(switch, channel, action.application, argument)
     else:
-        APPLICATIONS.get(action.application, run_unknown)(switch, channel, argument)
+        application(switch, action.application)(switch, channel, argument)
+
+
+def application(switch, name):
+    """What the application of this name does. What is still to come is known to some switches alone."""
+    coming = COMING if switch.coming else {}
+    return APPLICATIONS.get(name) or coming.get(name) or run_unknown
 
 
 def run_assignment(switch, channel, application, argument):
@@ -98,6 +113,42 @@ def transfer(switch, channel, words):
         switch.enter(channel, State.CS_ROUTING)
 
 
+def run_fifo(switch, channel, argument):
+    """`NAME in` enters a queue. `NAME out` takes a caller, and waits for one unless it is told not to.
+
+    The name ends in front of its last `!`. Where it is empty, and in any other form, the channel is hung up.
+    """
+    named, does, how = (words_of(argument) + ["", "", ""])[:3]
+    queue = named.rpartition("!")[0] if "!" in named else named
+    if not queue or does not in ("in", "out"):
+        run_unknown(switch, channel, argument)
+        return
+    switch.answer(channel)
+    if does == "in":
+        queues.enter(switch, channel, queue)
+    elif switch.queues.first(queue):
+        queues.take(switch, channel, queue)
+    elif how == "nowait":
+        switch.complete(channel)
+    else:
+        channel.wait_for(Wait.CALLER, queue=queue)
+
+
+def run_socket(switch, channel, argument):
+    """The channel waits for a connection to its first word. Where that is no target it goes on at once."""
+    if is_target((words_of(argument) or [""])[0]):
+        channel.wait_for(Wait.CONNECTION)
+    else:
+        switch.complete(channel)
+
+
+def is_target(text):
+    """A host and a port from 1 to 65,535, parted by the last colon."""
+    host, _, port = text.rpartition(":")
+    number = read_number(port)
+    return host != "" and number is not None and 1 <= number <= LAST_PORT
+
+
 APPLICATIONS = {
     "answer": run_answer,
     "sleep": run_sleep,
@@ -105,4 +156,10 @@ APPLICATIONS = {
     "bridge": run_bridge,
     "park": run_park,
     "transfer": run_transfer,
+}
+
+# what the program does not know yet
+COMING = {
+    "fifo": run_fifo,
+    "socket": run_socket,
 }

@@ -9,6 +9,7 @@ from channels import Channel, Wait
 class Kind(Enum):
     DIALED = "a channel dialed it"
     JOINED = "a command joined two channels"
+    TAKEN = "a channel took a caller of a queue"
 
 
 @dataclass(frozen=True)
@@ -38,9 +39,13 @@ class Bridge:
 
     def outcome(self, leg, cause):
         """What this leg does where the other one died of the cause."""
-        if self.kind is Kind.DIALED and leg is self.caller:
+        if self.ends_as_caller(leg):
             return Outcome(cause) if leg.variables.get("hangup_after_bridge") == "true" else GOES_ON
         return PARKS if leg.variables.get("park_after_bridge") == "true" else Outcome("NORMAL_CLEARING")
+
+    def ends_as_caller(self, leg):
+        """Who dialed does, and either of two whom a queue brought together."""
+        return self.kind is Kind.TAKEN or self.kind is Kind.DIALED and leg is self.caller
 
     def headers(self):
         return [

@@ -15,6 +15,9 @@ class Wait(Enum):
     LEGS = 2
     BRIDGE = 3
     COMMANDS = 4
+    QUEUE = 5
+    CALLER = 6
+    CONNECTION = 7
 
 
 @dataclass
@@ -52,6 +55,7 @@ class Channel:
     wait: Wait = Wait.NOTHING
     wakes: int = 0
     dialed: object = None
+    queue: str = None
     answered: bool = False
     cause: str = ""
     routed: int = 0
@@ -75,10 +79,12 @@ class Channel:
         """Commands can move a channel that has been set up and is no leg that is not decided yet."""
         return self.state not in (State.CS_NEW, State.CS_INIT) and self.leg is None
 
-    def wait_for(self, wait, wakes=0, dialed=None):
+    def wait_for(self, wait, wakes=0, dialed=None, queue=None):
+        """A taker waits for a caller of a queue."""
         self.wait = wait
         self.wakes = wakes
         self.dialed = dialed
+        self.queue = queue
 
     def rest(self):
         """A parked channel waits for commands, any other one for nothing."""

@@ -5,7 +5,7 @@ from dataclasses import dataclass, replace
 
 import api
 from dialplan import Action
-from frames import Subscription, api_response, command_reply, known_names
+from frames import Names, Subscription, api_response, command_reply, known_names
 from hangups import hang_up
 from jobs import MOST_JOBS
 from tables import cause_or, words_of
@@ -112,18 +112,18 @@ class Connection:
         words = words_of(block.rest)
         if words[:1] in (["json"], ["xml"]):
             return "-ERR event format not supported"
-        names = known_names(words)
-        if not names:
+        named = known_names(words)
+        if not named.events:
             return NO_KEYWORDS
-        self.subscription = replace(self.subscription, names=self.subscription.names | names)
+        self.subscription = replace(self.subscription, names=self.subscription.names.with_more(named))
         self.listening = True
         return "+OK event listener enabled plain"
 
     def nixevent(self, block):
-        names = known_names(words_of(block.rest))
-        if not names:
+        named = known_names(words_of(block.rest))
+        if not named.events:
             return NO_KEYWORDS
-        self.subscription = replace(self.subscription, names=self.subscription.names - names)
+        self.subscription = replace(self.subscription, names=self.subscription.names.without(named))
         return "+OK event listener disabled"
 
     def noevents(self, _block):
@@ -131,7 +131,7 @@ class Connection:
         if not self.listening:
             return "-ERR not listening for events"
         self.listening = False
-        self.subscription = replace(self.subscription, names=frozenset())
+        self.subscription = replace(self.subscription, names=Names())
         return "+OK no longer listening for events"
 
     def filter(self, block):

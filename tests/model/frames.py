@@ -1,6 +1,6 @@
 """What a connection reads: replies, event texts, and which events it has subscribed."""
 
-from dataclasses import dataclass
+from dataclasses import dataclass, replace
 
 from tables import EVENTS, SWITCH_IDENTIFIER
 
@@ -36,6 +36,7 @@ def event_headers(event, sequence, moment):
     """All headers of an event in their order. One whose value is empty is left out."""
     headers = [
         ("Event-Name", event.name),
+        ("Event-Subclass", event.subclass),
         ("Core-UUID", SWITCH_IDENTIFIER),
         ("Event-Sequence", str(sequence)),
         ("Event-Date-Timestamp", str(moment)),
@@ -65,21 +66,48 @@ def event_frame(headers, body=""):
 
 
 @dataclass(frozen=True)
-class Subscription:
-    """The names of events that a connection is sent, and its filters, of which one is enough."""
+class Names:
+    """Names of events, and subclasses of CUSTOM: some by their names, or every one."""
 
-    names: frozenset = frozenset()
-    filters: tuple = ()
+    events: frozenset = frozenset()
+    subclasses: frozenset = frozenset()
+    every_subclass: bool = False
 
-    def wants(self, headers):
-        name = headers[0][1]
-        return name in self.names and (not self.filters or any(wanted in headers for wanted in self.filters))
+    def has(self, event):
+        """A CUSTOM event goes by its subclass alone."""
+        if event.name == "CUSTOM":
+            return self.every_subclass or event.subclass in self.subclasses
+        return event.name in self.events
+
+    def with_more(self, named):
+        return Names(
+            self.events | named.events,
+            self.subclasses | named.subclasses,
+            self.every_subclass or named.every_subclass,
+        )
+
+    def without(self, named):
+        """CUSTOM alone takes all subclasses out. Of every subclass none goes by its name."""
+        events = self.events - named.events
+        if named.every_subclass or "CUSTOM" in named.events and not named.subclasses:
+            return Names(events)
+        return replace(self, events=events, subclasses=self.subclasses - named.subclasses)
 
 
 def known_names(words):
-    """The names of events among the words. All words behind CUSTOM are subclasses."""
-    if "CUSTOM" in words:
-        words = words[: words.index("CUSTOM") + 1]
-    if "ALL" in words:
-        return frozenset(EVENTS)
-    return frozenset(words) & frozenset(EVENTS)
+    """All words behind CUSTOM are subclasses, and ALL in front of it is all there is."""
+    before = words[: words.index("CUSTOM") + 1] if "CUSTOM" in words else words
+    if "ALL" in before:
+        return Names(frozenset(EVENTS), every_subclass=True)
+    return Names(frozenset(before) & frozenset(EVENTS), frozenset(words[len(before) :]))
+
+
+@dataclass(frozen=True)
+class Subscription:
+    """What a connection is sent, and its filters, of which one is enough."""
+
+    names: Names = Names()
+    filters: tuple = ()
+
+    def lets_through(self, headers):
+        return not self.filters or any(wanted in headers for wanted in self.filters)

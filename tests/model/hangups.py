@@ -1,9 +1,10 @@
 """The hangup closure: who is hung up with whom, of what, and what is told of it.
 
-And how a channel leaves its bridge and its legs, and lives on.
+And how a channel leaves its bridge, its legs and its queue, and lives on.
 """
 
 import bridges
+import queues
 from channels import Wait
 from tables import State
 
@@ -21,6 +22,7 @@ def hang_up(switch, causes):
     for bridge, cause in ended.items():
         bridges.end(bridge, cause)
     for channel in by_slot(members):
+        queues.leave(switch, channel)
         tell_bridge_of(switch, channel, ended)
         hang_up_one(switch, channel, members[channel])
     for channel in by_slot(survivors):
@@ -104,7 +106,8 @@ def leave(switch, channels):
     for channel in channels:
         if channel.bridge:
             leave_bridge(switch, channel)
-    for channel in channels:
+    for channel in by_slot(channels):
+        queues.leave(switch, channel)
         channel.drop_actions()
         channel.rest()
 

@@ -64,9 +64,9 @@ class Waiting:
 
 
 class Session:
-    def __init__(self, document):
+    def __init__(self, document, coming=False):
         self.journal = Journal(document.journal_limit)
-        self.switch = Switch(document, self.journal)
+        self.switch = Switch(document, self.journal, coming)
         self.stream = Stream()
         self.connection = Connection(self.switch)
         self.waiting = deque()
@@ -126,10 +126,10 @@ class Session:
         self.events_told[event.name] += 1
         if event.name == "CHANNEL_HANGUP":
             self.hangups[event.channel.cause] += 1
-        if event.name not in subscription.names:
+        if not subscription.names.has(event):
             return
         headers = event_headers(event, self.events_told.total(), self.switch.now)
-        if subscription.wants(headers) and self.waiting_events < MOST_WAITING_EVENTS:
+        if subscription.lets_through(headers) and self.waiting_events < MOST_WAITING_EVENTS:
             self.waiting_events += 1
             self.waiting.append(Waiting(event_frame(headers, event.body), of_event=True))
 

@@ -8,6 +8,7 @@ from channels import Channel, Wait
 from dialplan import hunt
 from hangups import by_slot, hang_up
 from jobs import Job
+from queues import Queues, take
 from races import conclude
 from tables import State, identifier
 from variables import OF_GLOBALS, ExpansionTooLong, Variables
@@ -27,16 +28,22 @@ class Event:
     further: tuple = ()
     with_variables: bool = False
     body: str = ""
+    subclass: str = ""
 
 
 class Switch:
-    """One entry at a time changes it. The entry in hand collects its events, and an answer that was owed."""
+    """One entry at a time changes it. The entry in hand collects its events, and an answer that was owed.
 
-    def __init__(self, document, journal):
+    A switch to which `coming` is said knows the applications that are still to come.
+    """
+
+    def __init__(self, document, journal, coming=False):
+        self.coming = coming
         self.document = document
         self.journal = journal
         self.globals = Variables(OF_GLOBALS, document.global_values)
         self.channels = {}
+        self.queues = Queues()
         self.jobs = {}
         self.now = 0
         self.entry = 0
@@ -59,8 +66,8 @@ class Switch:
         """How a job ended is told last."""
         return self.events + self.ends_of_jobs
 
-    def tell(self, name, channel=None, further=(), with_variables=False):
-        self.events.append(Event(name, channel, tuple(further), with_variables))
+    def tell(self, name, channel=None, further=(), with_variables=False, subclass=""):
+        self.events.append(Event(name, channel, tuple(further), with_variables, subclass=subclass))
 
     def scope(self, channel):
         """Where the names of a text are looked for that is expanded for this channel."""
@@ -151,12 +158,14 @@ class Switch:
             return self.now
         if channel.state not in STATES_OF_ACTIONS:
             return None
-        if channel.wait is Wait.NOTHING:
+        if channel.wait in (Wait.NOTHING, Wait.CONNECTION):
             return self.now
         if channel.wait is Wait.COMMANDS:
             return self.now if channel.messages else None
         if channel.wait is Wait.SLEEP:
             return max(self.now, channel.wakes)
+        if channel.wait is Wait.CALLER:
+            return self.now if self.queues.first(channel.queue) else None
         return channel.dialed.due(self.now) if channel.wait is Wait.LEGS else None
 
     def moments(self):
@@ -220,12 +229,14 @@ def route(switch, channel):
 
 
 def go_on(switch, channel):
-    """A channel that executes wakes, decides its race, or runs its next message or else its next action.
+    """A channel that executes wakes, decides its race, takes a caller, or runs its next message or action.
 
-    Where it has none of them it is hung up.
+    Where it has none of them it is hung up. In a play no connection can be had: who waits for one goes on.
     """
-    if channel.wait is Wait.SLEEP:
+    if channel.wait in (Wait.SLEEP, Wait.CONNECTION):
         switch.complete(channel)
+    elif channel.wait is Wait.CALLER:
+        take(switch, channel, channel.queue)
     elif channel.wait is Wait.LEGS:
         conclude(switch, channel.dialed)
     elif channel.messages:

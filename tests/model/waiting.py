@@ -124,6 +124,13 @@ class Queues(Trying):
         counts = range(1, self.one_of(2, 3, 4))
         self.numbers += [f"{does}{count}" for does in ("in", "out") for count in counts]
 
+    def document(self):
+        """Now and then one with room for many callers."""
+        document = super().document()
+        if self.chance(0.25):
+            document.slots = 128
+        return document
+
     def extension(self, layer):
         number = self.numbers[layer]
         if number.startswith(("in", "out")):
@@ -203,12 +210,17 @@ class Queues(Trying):
             f"api uuid_setvar {channel} park_after_bridge true",
         )
 
+    def crowd(self):
+        """Several calls, of which most wait in queues."""
+        return "\n\n".join(self.some(self.call, 3, 5, 8))
+
     def command(self, session):
         usual = super().command
         return self.chosen(
             session,
             (5, lambda: usual(session)),
             (6, self.call),
+            (0.3, self.crowd),
             (4, lambda: self.message(session)),
             (1, lambda: self.joined(session)),
             (1.5, lambda: self.said_to(session)),

@@ -1,0 +1,4 @@
+pub mod AddressLemmas
+pub mod LawLemmas
+pub mod LineLemmas
+pub mod WordLemmas

@@ -1,0 +1,3 @@
+pub mod Greetings
+pub mod Laws
+pub mod Targets

@@ -1,7 +1,8 @@
 -- The set of the code holds the bytes of the definition, so that both escape alike.
 use Rattle.std.proofs.Common.{◌≡◌, ◌<◌, ◌≤◌, ◌&&◌, ◌||◌, ℕ, Bool, true, false, List, [], ◌∷◌, nat_lt, nat_le, All, refl, sym, ◌∙◌, inl, inr}
 use Rattle.std.proofs.Common.{arith, Result, Ok, Err, IfOk}
-use Rattle.std.proofs.lemmas.Bool.{agree_below_at, cases_lt}
+use Rattle.std.specs.List.{list_any}
+use Rattle.std.proofs.lemmas.Bool.{agree_below_at, cases_lt, or_parts}
 use Rattle.std.proofs.lemmas.Bool.Decides.{nat_tests}
 use Rattle.percent_encoding.specs.AsciiSet.{should_percent_encode}
 use Rattle.percent_encoding.specs.Percent.{percent_encode, percent_decode}
@@ -30,6 +31,14 @@ pub percent_encode-is-escape : (text : List ℕ) → percent_encode MARKS text �
 unfolding percent_encode escape
 percent_encode-is-escape [] = refl
 percent_encode-is-escape (b ∷ rest) = rw (same_test b, percent_encode-is-escape rest) refl
+
+-- text with no byte that is escaped stays as it is
+pub escape_of_kept : (text : List ℕ) → list_any is_escaped text ≡ false → escape text ≡ text
+unfolding escape
+escape_of_kept [] none = refl
+escape_of_kept (b ∷ rest) none =
+    let both = or_parts (is_escaped b) (list_any is_escaped rest) none in
+    rw (both.0, escape_of_kept rest both.1) refl
 
 -- an upper-case digit of an escape
 is_digit : ℕ → Bool

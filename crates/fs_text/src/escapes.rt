@@ -1,8 +1,9 @@
 //! How the values of headers are escaped.
 
 ghost use Rattle.std.specs.Prelude.{◌≡◌, ◌<◌, ◌++◌, ℕ, List, IfOk, OnOk, All};
+ghost use Rattle.std.specs.List.{list_any};
 ghost use Rattle.percent_encoding.specs.Percent.{percent_decode};
-ghost use Rattle.fs_text.specs.Escape.{escape, IsClean};
+ghost use Rattle.fs_text.specs.Escape.{escape, is_escaped, IsClean};
 
 use crate::memory::Memory;
 use crate::text::Txt;
@@ -35,6 +36,33 @@ const MARKS: AsciiSet = ascii_set!(
         .add(b'}')
 );
 
+// A byte that is escaped, in the table below.
+const E: bool = true;
+
+// A byte that is kept.
+const K: bool = false;
+
+// Whether each byte is escaped.
+#[rattlefmt::skip]
+static ESCAPED: [bool; 256] = [
+    E, E, E, E, E, E, E, E, E, E, E, E, E, E, E, E,
+    E, E, E, E, E, E, E, E, E, E, E, E, E, E, E, E,
+    E, K, E, E, K, E, E, K, K, K, K, E, K, K, K, K,
+    K, K, K, K, K, K, K, K, K, K, E, E, E, E, E, E,
+    E, K, K, K, K, K, K, K, K, K, K, K, K, K, K, K,
+    K, K, K, K, K, K, K, K, K, K, K, E, E, E, E, K,
+    E, K, K, K, K, K, K, K, K, K, K, K, K, K, K, K,
+    K, K, K, K, K, K, K, K, K, K, K, E, E, E, K, E,
+    E, E, E, E, E, E, E, E, E, E, E, E, E, E, E, E,
+    E, E, E, E, E, E, E, E, E, E, E, E, E, E, E, E,
+    E, E, E, E, E, E, E, E, E, E, E, E, E, E, E, E,
+    E, E, E, E, E, E, E, E, E, E, E, E, E, E, E, E,
+    E, E, E, E, E, E, E, E, E, E, E, E, E, E, E, E,
+    E, E, E, E, E, E, E, E, E, E, E, E, E, E, E, E,
+    E, E, E, E, E, E, E, E, E, E, E, E, E, E, E, E,
+    E, E, E, E, E, E, E, E, E, E, E, E, E, E, E, E,
+];
+
 /// The text with some bytes as `%` and two upper-case hexadecimal digits, as the value of a header
 /// is written.
 ///
@@ -48,10 +76,36 @@ pub fn escape(alloc: Global, bytes: &[u8]) -> Result<Txt, Memory>
     Txt::from_vec(escaped)
 }
 
+// Whether the byte is escaped.
+#[inline(always)]
+fn is_escaped(byte: u8) -> bool
+    ensures { result ≡ is_escaped byte }
+{
+    ESCAPED[usize::from(byte)]
+}
+
+// Whether some byte is escaped. The loop has no way out before its end, and so costs few instructions a byte.
+#[tactic(auto, using(std::proofs::lemmas::List::Folds::list_any_more))]
+fn has_escaped(bytes: &[u8]) -> bool
+    ensures { result ≡ list_any is_escaped bytes.now }
+{
+    let mut any = false;
+    for byte in bytes {
+        any |= is_escaped(*byte);
+    }
+    any
+}
+
 /// Adds the escapes of some bytes to a text.
+///
+/// Most values have no byte that is escaped, and are added whole.
 pub fn push_escaped(text: &mut Vec<u8>, bytes: &[u8]) -> Result<(), Memory>
     ensures { OnOk result (text.new.items ≡ text.old.items ++ escape bytes.now) }
 {
+    if !bytes.is_empty() && !has_escaped(bytes) {
+        text.extend_from_slice(bytes)?;
+        return Ok(());
+    }
     for piece in percent_encode(bytes, MARKS) {
         text.extend_from_slice(piece.as_bytes())?;
     }

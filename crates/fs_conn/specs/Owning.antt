@@ -1,9 +1,9 @@
 -- What the owner of a connection enters in a book, and what it asks.
-use Rattle.std.specs.Prelude.{◌≡◌, ℕ, List, [], ◌∷◌, ◌++◌, length, Some}
+use Rattle.std.specs.Prelude.{◌≡◌, ◌==◌, not, ℕ, List, [], ◌∷◌, ◌++◌, length, Some}
 use mathlib.Core.List.{IsPrefix}
 use Rattle.fs_doc.specs.Reading.{Configuration}
 use Rattle.fs_book.specs.Opened.{OwnsNumber, NoneNames, Quiet}
-use Rattle.fs_state.specs.Switch.{Switch}
+use Rattle.fs_state.specs.Switch.{Switch, waiting_for}
 use Rattle.fs_machine.specs.declared.entry.Entry.{Entry}
 use Rattle.fs_machine.specs.declared.entry.Act.{Act}
 use Rattle.fs_machine.specs.declared.entry.Act.TheVariants.{Arrive}
@@ -70,7 +70,12 @@ pub record TurnedAway (config : Configuration) (seen : List Entry) (mine : List 
 
 -- how a connection stands
 abbrev pub standing_of : ℕ → Switch → Standing
-standing_of conn s = record { reads = reads (phase_at s conn); owed = owes s conn; parting = parting_at s conn }
+standing_of conn s = record {
+  reads = reads (phase_at s conn);
+  owed = owes s conn;
+  waits = not (length (waiting_for s conn) == 0);
+  parting = parting_at s conn;
+}
 
 -- what a look tells: these entries are a run, and so the connection stands behind them
 pub record TellsConn (asked : StandingOf) (config : Configuration) (log : List Entry) (answer : Standing) : Type 0 where

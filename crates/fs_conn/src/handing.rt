@@ -72,6 +72,37 @@ fn take<R: Wait, C: Clock>(
     }
 }
 
+/// Takes and writes the next frame, and says whether one waited.
+pub(crate) fn hand_next<R: Wait, C: Clock, L: Link>(
+    rt: &R,
+    book: &Book<Machine>,
+    pass: &mut Pass<Machine>,
+    conn: u32,
+    clock: &C,
+    link: &mut L,
+) -> Result<bool, Stop>
+    requires book { IsPassOf configured book.now pass.old }
+    requires owns { OwnsConn (configured (opening_state book.now)) conn (seen pass.old) (mine pass.old) }
+    ensures book { IsPassOf configured book.now pass.new }
+    ensures owns { OwnsConn (configured (opening_state book.now)) conn (seen pass.new) (mine pass.new) }
+    ensures kept { (met pass.new ≡ met pass.old) × (parts pass.new ≡ parts pass.old) }
+    ensures input { L.input link.new ≡ L.input link.old }
+    ensures drains { (from : Point) (rest : List ℕ)
+        → Holds (C.tells clock.now) (configured (opening_state book.now)) conn from
+        (point (seen pass.old) (mine pass.old) (L.input link.old) (L.output link.old)) rest
+        → GoesOn (C.tells clock.now) (configured (opening_state book.now)) conn from
+        (point (seen pass.new) (mine pass.new) (L.input link.new) (L.output link.new)) rest result }
+{
+    match take(rt, book, pass, conn, clock) {
+        Ok(Some(frame)) => match send_all(link, frame.as_bytes()) {
+            Sent::All => Ok(true),
+            Sent::Failed => Err(Stop::WriteFault),
+        },
+        Ok(None) => Ok(false),
+        Err(stop) => Err(stop),
+    }
+}
+
 /// Takes and writes all frames that wait.
 pub(crate) fn drain<R: Wait, C: Clock, L: Link>(
     rt: &R,
@@ -94,12 +125,9 @@ pub(crate) fn drain<R: Wait, C: Clock, L: Link>(
         (point (seen pass.new) (mine pass.new) (L.input link.new) (L.output link.new)) rest result }
 {
     'frames: for _ in rt.forever() {
-        match take(rt, book, pass, conn, clock) {
-            Ok(Some(frame)) => match send_all(link, frame.as_bytes()) {
-                Sent::All => {}
-                Sent::Failed => return Err(Stop::WriteFault),
-            },
-            Ok(None) => return Ok(()),
+        match hand_next(rt, book, pass, conn, clock, link) {
+            Ok(true) => {}
+            Ok(false) => return Ok(()),
             Err(stop) => return Err(stop),
         }
     }

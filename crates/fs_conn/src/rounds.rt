@@ -7,11 +7,12 @@ ghost use Rattle.fs_frame.specs.Blocks.{HasNoBlock};
 ghost use Rattle.fs_book.specs.Passes.{seen, mine, met, parts, opening_state, IsPassOf};
 ghost use Rattle.fs_machine.specs.Turned.{configured};
 ghost use Rattle.fs_conn.specs.Owning.{OwnsConn};
-ghost use Rattle.fs_conn.specs.Talks.{Point, point, Holds, Gets, Handles, Hung, Departed, Rounds, IfTried, LacksBlock, tried_of};
+ghost use Rattle.fs_conn.specs.Talks.{Point, point, Holds, Gets, Handles, Hung, Departed, Rounds};
+ghost use Rattle.fs_conn.specs.Talks.{IfTried, LacksBlock, tried_of};
 
 use crate::closing::{depart, hang_up};
 use crate::end::End;
-use crate::handing::{attempt, drain};
+use crate::handing::{attempt, drain, hand_next};
 use crate::owner::look;
 use crate::round::{Piece, Round};
 use crate::stop::Stop;
@@ -315,11 +316,17 @@ pub(crate) fn take_round<R: Wait, C: Clock, L: Link>(
         → Rounds (C.tells clock.now) (configured (opening_state book.now)) conn from
         (point (seen pass.new) (mine pass.new) (L.input link.new) (L.output link.new)) blocks.new.rest result }
 {
-    match drain(rt, book, pass, conn, clock, link) {
-        Ok(()) => {}
+    match hand_next(rt, book, pass, conn, clock, link) {
+        Ok(_) => {}
         Err(stop) => return Err(stop),
     }
     let standing = look(rt, book, pass, conn);
+    if standing.waits {
+        return match drain(rt, book, pass, conn, clock, link) {
+            Ok(()) => Ok(Round::GoOn),
+            Err(stop) => Err(stop),
+        };
+    }
     if !standing.reads {
         return leave(rt, book, pass, conn, clock, link);
     }

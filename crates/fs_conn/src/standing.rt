@@ -11,6 +11,8 @@ pub(crate) struct Standing {
     pub(crate) reads: bool,
     /// It is owed a reply.
     pub(crate) owed: bool,
+    /// A frame waits for it.
+    pub(crate) waits: bool,
     /// Why it reads none.
     pub(crate) parting: Option<Parting>,
 }
@@ -33,6 +35,7 @@ impl Ask<Machine> for StandingOf {
         Standing {
             reads: state.reads(self.conn),
             owed: state.owes(self.conn),
+            waits: state.waiting(self.conn) != 0,
             parting: state.parting(self.conn),
         }
     }

@@ -118,7 +118,8 @@ fn try_by_job(
 ) -> Result<(), Memory>
     ensures { Brings result draft.old draft.new
         (after_job_begin giver.now work
-        (spec.orig_begun (owner.Job (job_number giver.now (drafted draft.old))) groups legs timeout (drafted draft.old))) }
+        (spec.orig_begun (owner.Job (job_number giver.now (drafted draft.old))) groups legs timeout
+        (drafted draft.old))) }
 {
     let owner = Owner::Job(job_number(draft, giver));
     begin_orig(draft, owner, groups, legs, timeout)?;

@@ -79,7 +79,8 @@ fn run_taken_out(
 ) -> Result<Option<Txt>, Memory>
     ensures base { draft.new.base ≡ draft.old.base }
     ensures done { IfOk result
-        (ComesTo (done_by (giver.Job number job.now) (api_of job.now.command) (drafted draft.old)) (drafted draft.new)) }
+        (ComesTo (done_by (giver.Job number job.now) (api_of job.now.command) (drafted draft.old))
+        (drafted draft.new)) }
 {
     let api = Api::of(draft.alloc(), job.command.as_bytes())?;
     let giver = Giver::Job {

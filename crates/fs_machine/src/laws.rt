@@ -73,8 +73,8 @@ pub fn runs_are_sound()
         → IsSound (state_after config entries) }
 {}
 
-/// In a run none of whose entries is refused a switch that has come to its end stays so by the same entry, and a slot that
-/// is empty then stays empty.
+/// In a run none of whose entries is refused a switch that has come to its end stays so by the same entry, and a slot
+/// that is empty then stays empty.
 pub fn stays_stopped()
     ensures stopping { (config : Configuration) (entries more : List Entry)
         → IsRun config (entries ++ more) → is_some (state_after config entries).stopping ≡ true

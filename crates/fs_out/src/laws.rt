@@ -10,6 +10,7 @@ ghost use Rattle.fs_out.specs.declared.target.Target.{Target};
 /// Law: an address is parted at its last colon, whatever stands before that, and a target is read back from the text
 /// that says it.
 pub fn read_back()
-    ensures parts { (host port : List ℕ) → list_any (is_byte 58) port ≡ false → parts_of (host ++ 58 ∷ port) ≡ Some (host, port) }
+    ensures parts { (host port : List ℕ) → list_any (is_byte 58) port ≡ false
+        → parts_of (host ++ 58 ∷ port) ≡ Some (host, port) }
     ensures target { (target : Target) → IsTarget target → target_of (spelled target) ≡ Ok target }
 {}

@@ -77,8 +77,8 @@ enum Came {
     Failed,
 }
 
-// The next connection, if the door listens. Where the system cannot give one for now, as for want of descriptors, whoever
-// asks sleeps for a nap before it asks again; else until somebody comes.
+// The next connection, if the door listens. Where the system cannot give one for now, as for want of descriptors,
+// whoever asks sleeps for a nap before it asks again; else until somebody comes.
 fn next(listener: &Option<TcpListener>, bells: &Bells) -> Came {
     let Some(listener) = listener else {
         return Came::Failed;

@@ -69,8 +69,8 @@ impl<'a, R: time::Clock> TcpLink<'a, R> {
         None
     }
 
-    // Tells the other side that nothing more comes, and drops what it still sends, until it has ended, too, or for a while.
-    // A socket that is closed over bytes that nobody has read takes back what it has not delivered.
+    // Tells the other side that nothing more comes, and drops what it still sends, until it has ended, too, or for a
+    // while. A socket that is closed over bytes that nobody has read takes back what it has not delivered.
     fn linger(&self) -> Option<()> {
         let mut stream = self.stream.as_ref()?;
         stream.shutdown(Shutdown::Write).ok()?;

@@ -11,8 +11,8 @@ use fs_seats::{Numbered, Table};
 use fs_text::{Memory, Txt};
 
 impl<'a> Draft<'a> {
-    /// The switch comes to its end by the entry in hand: no job and no origination is left, each connection that is owed
-    /// a reply gets this one, and each that reads commands reads no further one, and gets this notice.
+    /// The switch comes to its end by the entry in hand: no job and no origination is left, each connection that is
+    /// owed a reply gets this one, and each that reads commands reads no further one, and gets this notice.
     pub fn end(&mut self, reply: &Txt, notice: &Txt) -> Result<(), Memory>
         ensures { Brings result self.old self.new (spec.ended reply.now notice.now (drafted self.old)) }
     {

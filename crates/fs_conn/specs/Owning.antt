@@ -1,20 +1,17 @@
 -- What the owner of a connection enters in a book, and what it asks.
-use Rattle.std.specs.Prelude.{◌≡◌, ◌==◌, not, ℕ, List, [], ◌∷◌, ◌++◌, length, Some}
+use Rattle.std.specs.Prelude.{◌≡◌, ℕ, List, [], ◌∷◌, ◌++◌, length, Some}
 use mathlib.Core.List.{IsPrefix}
 use Rattle.fs_doc.specs.Reading.{Configuration}
 use Rattle.fs_book.specs.Opened.{OwnsNumber, NoneNames, Quiet}
-use Rattle.fs_state.specs.Switch.{Switch, waiting_for}
 use Rattle.fs_machine.specs.declared.entry.Entry.{Entry}
 use Rattle.fs_machine.specs.declared.entry.Act.{Act}
 use Rattle.fs_machine.specs.declared.entry.Act.TheVariants.{Arrive}
 use Rattle.fs_machine.specs.declared.reply.Reply.{Reply}
 use Rattle.fs_machine.specs.declared.refusal.Refusal.{Refusal}
-use Rattle.fs_machine.specs.Connections.{phase_at}
-use Rattle.fs_machine.specs.Questions.{parting_at, owes}
-use Rattle.fs_machine.specs.Step.{reads}
+use Rattle.fs_machine.specs.declared.standing.Standing.{Standing}
+use Rattle.fs_machine.specs.Standing.{standing_of}
 use Rattle.fs_machine.specs.Laws.{state_after}
 use Rattle.fs_machine.specs.Turned.{IsJournal, Answers, Refuses, opens, names}
-use Rattle.fs_conn.specs.declared.standing.Standing.{Standing}
 use Rattle.fs_conn.specs.declared.standing.StandingOf.{StandingOf}
 
 -- a pass that has seen this, with these places, owns the connection
@@ -67,15 +64,6 @@ pub record TurnedAway (config : Configuration) (seen : List Entry) (mine : List 
   pub front : IsPrefix seen seen'
   pub same : mine' ≡ mine
   pub refuses : Refuses config seen' (entry_at moment Arrive) why
-
--- how a connection stands
-abbrev pub standing_of : ℕ → Switch → Standing
-standing_of conn s = record {
-  reads = reads (phase_at s conn);
-  owed = owes s conn;
-  waits = not (length (waiting_for s conn) == 0);
-  parting = parting_at s conn;
-}
 
 -- what a look tells: these entries are a run, and so the connection stands behind them
 pub record TellsConn (asked : StandingOf) (config : Configuration) (log : List Entry) (answer : Standing) : Type 0 where

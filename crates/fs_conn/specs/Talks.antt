@@ -11,6 +11,7 @@ use Rattle.fs_frame.specs.Blocks.{HasNoBlock, blocks_of, rest_of}
 use Rattle.fs_frame.specs.Stream.{Stream, fed_with}
 use Rattle.fs_frame.specs.declared.fault.Fault.TheVariants as faults
 use Rattle.fs_book.specs.Opened.{Quiet}
+use Rattle.fs_state.specs.Switch.{Switch}
 use Rattle.fs_state.specs.declared.conn.Parting.{Parting}
 use Rattle.fs_state.specs.declared.conn.Parting.TheVariants as parting
 use Rattle.fs_machine.specs.declared.entry.Entry.{Entry}
@@ -18,11 +19,15 @@ use Rattle.fs_machine.specs.declared.entry.Act.{Act}
 use Rattle.fs_machine.specs.declared.entry.Act.TheVariants.{Take}
 use Rattle.fs_machine.specs.declared.reply.Reply.{Reply}
 use Rattle.fs_machine.specs.declared.reply.Reply.TheVariants as reply
+use Rattle.fs_machine.specs.declared.answer.Answer.{Answer}
+use Rattle.fs_machine.specs.declared.standing.Standing.{Standing}
 use Rattle.fs_machine.specs.Questions.{parting_at}
 use Rattle.fs_machine.specs.Frames.{commands_of}
 use Rattle.fs_machine.specs.Laws.{state_after, given_to, handed_to}
+use Rattle.fs_machine.specs.Standing.{standing_of, standing_by}
 use Rattle.fs_machine.specs.Turned.{IsJournal, names}
 use Rattle.fs_machine.specs.Carried.{HasCome, is_sent, is_shut_at}
+use Rattle.fs_conn.specs.declared.handing.Taken.{Taken}
 use Rattle.fs_conn.specs.declared.end.End.{End}
 use Rattle.fs_conn.specs.declared.end.End.TheVariants as ends
 use Rattle.fs_conn.specs.declared.stop.Stop.{Stop}
@@ -99,6 +104,22 @@ StopDid config conn log out0 out1 (stops.Over end) = FrontWritten out0 out1 (byt
 StopDid config conn log out0 out1 stops.OutOfMemory = FrontWritten out0 out1 (bytes_given config conn log)
 StopDid config conn log out0 out1 stops.WriteFault = Stopped out0 out1 (bytes_given config conn log)
 
+-- the reply to an act that was tried, if it was entered
+abbrev pub replied : Result (Option Answer) Stop → Result (Option Reply) Stop
+replied (Ok (Some answer)) = Ok (Some answer.reply)
+replied (Ok None) = Ok None
+replied (Err stop) = Err stop
+
+-- how the connection whose act was entered stands since
+abbrev pub StandsBy : Act → Switch → Result (Option Answer) Stop → Type 0
+StandsBy act s (Ok (Some answer)) = answer.standing ≡ standing_by act s
+StandsBy act s _ = Unit {0}
+
+-- so a connection stands, if it is told
+abbrev pub StandsSo : ℕ → Switch → Result (Option Standing) Stop → Type 0
+StandsSo conn s (Ok (Some standing)) = standing ≡ standing_of conn s
+StandsSo conn s _ = Unit {0}
+
 -- nothing was entered that names the connection
 pub record Idles (config : Configuration) (conn : ℕ) (seen : List Entry) (mine : List ℕ) (seen' : List Entry) (mine' : List ℕ)
     : Type 0 where
@@ -144,9 +165,11 @@ module _ (may : ℕ → Type 0) (config : Configuration) (conn : ℕ) where
   Tries seen mine seen' mine' act (Err stops.OutOfMemory) = Idles config conn seen mine seen' mine'
   Tries seen mine seen' mine' act (Err stops.WriteFault) = ⊥
 
-  -- the frame that was taken, if one waited
-  abbrev pub Takes : List Entry → List ℕ → List Entry → List ℕ → Result (Option (List ℕ)) Stop → Type 0
-  Takes seen mine seen' mine' (Ok (Some frame)) = Entered may config conn seen mine seen' mine' (Take conn) (reply.Frame frame)
+  -- the frame that was taken, if one waited, and how the connection stands since
+  abbrev pub Takes : List Entry → List ℕ → List Entry → List ℕ → Result (Option Taken) Stop → Type 0
+  Takes seen mine seen' mine' (Ok (Some taken)) =
+      Entered may config conn seen mine seen' mine' (Take conn) (reply.Frame taken.frame)
+      × (taken.standing ≡ standing_of conn (state_after config seen'))
   Takes seen mine seen' mine' (Ok None) = Idles config conn seen mine seen' mine'
   Takes seen mine seen' mine' (Err (stops.Over end)) = Idles config conn seen mine seen' mine' × EarlyEnd config seen' end
   Takes seen mine seen' mine' (Err stops.OutOfMemory) = Idles config conn seen mine seen' mine'

@@ -3,15 +3,16 @@
 ghost use Rattle.std.specs.Prelude.{◌≡◌, List, ℕ, Some};
 ghost use Rattle.fs_book.specs.Passes.{seen, mine, met, parts, opening_state, IsPassOf};
 ghost use Rattle.fs_machine.specs.Concerns.{actor_of};
+ghost use Rattle.fs_machine.specs.Laws.{state_after};
 ghost use Rattle.fs_machine.specs.Turned.{configured};
 ghost use Rattle.fs_conn.specs.Owning.{OwnsConn};
-ghost use Rattle.fs_conn.specs.Talks.{Point, point, Holds, Tries, Takes, GoesOn};
+ghost use Rattle.fs_conn.specs.Talks.{Point, point, Holds, Tries, Takes, GoesOn, replied, StandsBy, StandsSo};
 
 use crate::end::End;
 use crate::owner::enter;
 use crate::stop::Stop;
 use fs_book::{Book, Pass};
-use fs_machine::{Act, Machine, Refusal, Reply};
+use fs_machine::{Act, Answer, Machine, Refusal, Reply, Standing};
 use fs_ports::{Clock, Link, Sent, send_all};
 use fs_text::Txt;
 use std::sync::Wait;
@@ -24,7 +25,7 @@ pub(crate) fn attempt<R: Wait, C: Clock>(
     conn: u32,
     clock: &C,
     act: Act,
-) -> Result<Option<Reply>, Stop>
+) -> Result<Option<Answer>, Stop>
     requires book { IsPassOf configured book.now pass.old }
     requires owns { OwnsConn (configured (opening_state book.now)) conn (seen pass.old) (mine pass.old) }
     requires names { actor_of act ≡ Some conn }
@@ -32,16 +33,24 @@ pub(crate) fn attempt<R: Wait, C: Clock>(
     ensures owns { OwnsConn (configured (opening_state book.now)) conn (seen pass.new) (mine pass.new) }
     ensures kept { (met pass.new ≡ met pass.old) × (parts pass.new ≡ parts pass.old) }
     ensures tries { Tries (C.tells clock.now) (configured (opening_state book.now)) conn
-        (seen pass.old) (mine pass.old) (seen pass.new) (mine pass.new) act result }
+        (seen pass.old) (mine pass.old) (seen pass.new) (mine pass.new) act (replied result) }
+    ensures stands { StandsBy act (state_after (configured (opening_state book.now)) (seen pass.new)) result }
 {
     match enter(rt, book, pass, conn, clock, act) {
-        Ok(reply) => Ok(Some(reply)),
+        Ok(answer) => Ok(Some(answer)),
         Err(Refusal::JournalFull { cost, limit }) => {
             Err(Stop::Over(End::JournalFull { cost, limit }))
         }
         Err(Refusal::Memory) => Err(Stop::OutOfMemory),
         Err(_) => Ok(None),
     }
+}
+
+// A frame that was taken, and how its connection stands since.
+#[derive(Drop)]
+struct Taken {
+    frame: Txt,
+    standing: Standing,
 }
 
 // Takes the next frame, if one waits.
@@ -51,7 +60,7 @@ fn take<R: Wait, C: Clock>(
     pass: &mut Pass<Machine>,
     conn: u32,
     clock: &C,
-) -> Result<Option<Txt>, Stop>
+) -> Result<Option<Taken>, Stop>
     requires book { IsPassOf configured book.now pass.old }
     requires owns { OwnsConn (configured (opening_state book.now)) conn (seen pass.old) (mine pass.old) }
     ensures book { IsPassOf configured book.now pass.new }
@@ -61,18 +70,26 @@ fn take<R: Wait, C: Clock>(
         (seen pass.old) (mine pass.old) (seen pass.new) (mine pass.new) result }
 {
     match attempt(rt, book, pass, conn, clock, Act::Take { conn }) {
-        Ok(Some(reply)) => {
+        Ok(Some(answer)) => {
+            let Answer {
+                reply,
+                standing,
+                wakes: _wakes,
+            } = answer;
             let Reply::Frame(frame) = reply else {
                 unreachable!()
             };
-            Ok(Some(frame))
+            let Some(standing) = standing else {
+                unreachable!()
+            };
+            Ok(Some(Taken { frame, standing }))
         }
         Ok(None) => Ok(None),
         Err(stop) => Err(stop),
     }
 }
 
-/// Takes and writes the next frame, and says whether one waited.
+/// Takes and writes the next frame, if one waits, and says how the connection stands since.
 pub(crate) fn hand_next<R: Wait, C: Clock, L: Link>(
     rt: &R,
     book: &Book<Machine>,
@@ -80,7 +97,7 @@ pub(crate) fn hand_next<R: Wait, C: Clock, L: Link>(
     conn: u32,
     clock: &C,
     link: &mut L,
-) -> Result<bool, Stop>
+) -> Result<Option<Standing>, Stop>
     requires book { IsPassOf configured book.now pass.old }
     requires owns { OwnsConn (configured (opening_state book.now)) conn (seen pass.old) (mine pass.old) }
     ensures book { IsPassOf configured book.now pass.new }
@@ -92,13 +109,14 @@ pub(crate) fn hand_next<R: Wait, C: Clock, L: Link>(
         (point (seen pass.old) (mine pass.old) (L.input link.old) (L.output link.old)) rest
         → GoesOn (C.tells clock.now) (configured (opening_state book.now)) conn from
         (point (seen pass.new) (mine pass.new) (L.input link.new) (L.output link.new)) rest result }
+    ensures stands { StandsSo conn (state_after (configured (opening_state book.now)) (seen pass.new)) result }
 {
     match take(rt, book, pass, conn, clock) {
-        Ok(Some(frame)) => match send_all(link, frame.as_bytes()) {
-            Sent::All => Ok(true),
+        Ok(Some(taken)) => match send_all(link, taken.frame.as_bytes()) {
+            Sent::All => Ok(Some(taken.standing)),
             Sent::Failed => Err(Stop::WriteFault),
         },
-        Ok(None) => Ok(false),
+        Ok(None) => Ok(None),
         Err(stop) => Err(stop),
     }
 }
@@ -126,8 +144,8 @@ pub(crate) fn drain<R: Wait, C: Clock, L: Link>(
 {
     'frames: for _ in rt.forever() {
         match hand_next(rt, book, pass, conn, clock, link) {
-            Ok(true) => {}
-            Ok(false) => return Ok(()),
+            Ok(Some(_)) => {}
+            Ok(None) => return Ok(()),
             Err(stop) => return Err(stop),
         }
     }

@@ -7,11 +7,12 @@ ghost use Rattle.fs_machine.specs.Concerns.{actor_of};
 ghost use Rattle.fs_machine.specs.Laws.{state_after};
 ghost use Rattle.fs_machine.specs.Turned.{IsJournal, names};
 ghost use Rattle.fs_machine.specs.Turned.{configured};
-ghost use Rattle.fs_conn.specs.Owning.{OwnsConn, Entered, Refused, standing_of};
+ghost use Rattle.fs_machine.specs.Standing.{standing_of, standing_by};
+ghost use Rattle.fs_conn.specs.Owning.{OwnsConn, Entered, Refused};
 
-use crate::standing::{Standing, StandingOf};
+use crate::standing::StandingOf;
 use fs_book::{Book, Pass};
-use fs_machine::{Act, Answer, Entry, Machine, Refusal, Reply};
+use fs_machine::{Act, Answer, Entry, Machine, Refusal, Standing};
 use fs_ports::Clock;
 use std::sync::Wait;
 
@@ -23,24 +24,25 @@ pub(crate) fn enter<R: Wait, C: Clock>(
     conn: u32,
     clock: &C,
     act: Act,
-) -> Result<Reply, Refusal>
+) -> Result<Answer, Refusal>
     requires book { IsPassOf configured book.now pass.old }
     requires owns { OwnsConn (configured (opening_state book.now)) conn (seen pass.old) (mine pass.old) }
     requires names { actor_of act ≡ Some conn }
     ensures book { IsPassOf configured book.now pass.new }
     ensures owns { OwnsConn (configured (opening_state book.now)) conn (seen pass.new) (mine pass.new) }
     ensures kept { (met pass.new ≡ met pass.old) × (parts pass.new ≡ parts pass.old) }
-    ensures ok { IfOk result (Entered (C.tells clock.now) (configured (opening_state book.now)) conn
-        (seen pass.old) (mine pass.old) (seen pass.new) (mine pass.new) act) }
+    ensures ok { IfOk result (λ answer. Entered (C.tells clock.now) (configured (opening_state book.now)) conn
+        (seen pass.old) (mine pass.old) (seen pass.new) (mine pass.new) act answer.reply) }
+    ensures stands { IfOk result (λ answer. answer.standing
+        ≡ standing_by act (state_after (configured (opening_state book.now)) (seen pass.new))) }
     ensures err { IfErr result (Refused (configured (opening_state book.now)) conn
         (seen pass.old) (mine pass.old) (seen pass.new) (mine pass.new) act) }
 {
     let moment = clock.now();
     match book.submit(rt, pass, Entry { moment, act }) {
         Ok(receipt) => {
-            let Answer { reply, wakes } = receipt.answer;
-            clock.wake(&wakes);
-            Ok(reply)
+            clock.wake(&receipt.answer.wakes);
+            Ok(receipt.answer)
         }
         Err(refusal) => Err(refusal),
     }

@@ -1,24 +1,26 @@
 //! One round of a conversation: what waits goes out, and then comes a block or a read.
 
-ghost use Rattle.std.specs.Prelude.{◌≡◌, ◌++◌, List, ℕ};
+ghost use Rattle.std.specs.Prelude.{◌≡◌, ◌++◌, List, ℕ, IfOk};
 ghost use Rattle.fs_ports.specs.Ports.{Input};
 ghost use Rattle.fs_frame.specs.Block.{IsBlock};
 ghost use Rattle.fs_frame.specs.Blocks.{HasNoBlock};
 ghost use Rattle.fs_book.specs.Passes.{seen, mine, met, parts, opening_state, IsPassOf};
+ghost use Rattle.fs_machine.specs.Laws.{state_after};
+ghost use Rattle.fs_machine.specs.Standing.{standing_of};
 ghost use Rattle.fs_machine.specs.Turned.{configured};
 ghost use Rattle.fs_conn.specs.Owning.{OwnsConn};
-ghost use Rattle.fs_conn.specs.Talks.{Point, point, Holds, Gets, Handles, Hung, Departed, Rounds};
+ghost use Rattle.fs_conn.specs.Talks.{Point, point, Holds, GoesOn, Gets, Handles, Hung, Departed, Rounds};
 ghost use Rattle.fs_conn.specs.Talks.{IfTried, LacksBlock, tried_of};
 
 use crate::closing::{depart, hang_up};
 use crate::end::End;
-use crate::handing::{attempt, drain, hand_next};
+use crate::handing::{attempt, hand_next};
 use crate::owner::look;
 use crate::round::{Piece, Round};
 use crate::stop::Stop;
 use fs_book::{Book, Pass};
 use fs_frame::{Blocks, Next};
-use fs_machine::{Act, Machine};
+use fs_machine::{Act, Machine, Standing};
 use fs_ports::{Clock, Link, Read};
 use fs_text::Txt;
 use std::alloc::Global;
@@ -293,7 +295,37 @@ fn read_more<R: Wait, C: Clock, L: Link>(
     }
 }
 
-/// Writes what waits, and then enters a command or reads more; or ends.
+// Takes and writes the next frame, if one waits, and says how the connection stands then.
+fn hand_over<R: Wait, C: Clock, L: Link>(
+    rt: &R,
+    book: &Book<Machine>,
+    pass: &mut Pass<Machine>,
+    conn: u32,
+    clock: &C,
+    link: &mut L,
+) -> Result<Standing, Stop>
+    requires book { IsPassOf configured book.now pass.old }
+    requires owns { OwnsConn (configured (opening_state book.now)) conn (seen pass.old) (mine pass.old) }
+    ensures book { IsPassOf configured book.now pass.new }
+    ensures owns { OwnsConn (configured (opening_state book.now)) conn (seen pass.new) (mine pass.new) }
+    ensures kept { (met pass.new ≡ met pass.old) × (parts pass.new ≡ parts pass.old) }
+    ensures input { L.input link.new ≡ L.input link.old }
+    ensures hands { (from : Point) (rest : List ℕ)
+        → Holds (C.tells clock.now) (configured (opening_state book.now)) conn from
+        (point (seen pass.old) (mine pass.old) (L.input link.old) (L.output link.old)) rest
+        → GoesOn (C.tells clock.now) (configured (opening_state book.now)) conn from
+        (point (seen pass.new) (mine pass.new) (L.input link.new) (L.output link.new)) rest result }
+    ensures stands { IfOk result
+        (λ standing. standing ≡ standing_of conn (state_after (configured (opening_state book.now)) (seen pass.new))) }
+{
+    match hand_next(rt, book, pass, conn, clock, link) {
+        Ok(Some(standing)) => Ok(standing),
+        Ok(None) => Ok(look(rt, book, pass, conn)),
+        Err(stop) => Err(stop),
+    }
+}
+
+/// Writes a frame that waits, or enters a command or reads more; or ends.
 pub(crate) fn take_round<R: Wait, C: Clock, L: Link>(
     rt: &R,
     book: &Book<Machine>,
@@ -316,16 +348,12 @@ pub(crate) fn take_round<R: Wait, C: Clock, L: Link>(
         → Rounds (C.tells clock.now) (configured (opening_state book.now)) conn from
         (point (seen pass.new) (mine pass.new) (L.input link.new) (L.output link.new)) blocks.new.rest result }
 {
-    match hand_next(rt, book, pass, conn, clock, link) {
-        Ok(_) => {}
+    let standing = match hand_over(rt, book, pass, conn, clock, link) {
+        Ok(standing) => standing,
         Err(stop) => return Err(stop),
-    }
-    let standing = look(rt, book, pass, conn);
+    };
     if standing.waits {
-        return match drain(rt, book, pass, conn, clock, link) {
-            Ok(()) => Ok(Round::GoOn),
-            Err(stop) => Err(stop),
-        };
+        return Ok(Round::GoOn);
     }
     if !standing.reads {
         return leave(rt, book, pass, conn, clock, link);

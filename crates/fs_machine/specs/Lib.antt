@@ -30,6 +30,7 @@ pub mod EventNames
 pub mod BridgeEvents
 pub mod FirstEnds
 pub mod Concerns
+pub mod Standing
 pub mod Sound
 pub mod Winners
 pub mod Journals

@@ -1,7 +1,8 @@
 -- The switch as a state that takes entries in turn.
-use Rattle.std.specs.Prelude.{◌≡◌, ℕ, Bool, true, false, List, Option, None}
+use Rattle.std.specs.Prelude.{◌≡◌, ℕ, Bool, true, false, List, [], ◌∷◌, ◌++◌, Option, None}
 use Rattle.fs_doc.specs.Reading.{Configuration}
 use Rattle.fs_doc.specs.Limits.{IsWithin}
+use Rattle.fs_machine.specs.declared.answer.Answer.{Answer}
 use Rattle.fs_machine.specs.declared.entry.Entry.{Entry}
 use Rattle.fs_machine.specs.declared.entry.Act.{Act}
 use Rattle.fs_machine.specs.declared.entry.Act.TheVariants.{Arrive, Command, Take, Close, Work, Job, Halt}
@@ -11,6 +12,7 @@ use Rattle.fs_machine.specs.Step.{step, refusal_of, IsRefusedFor}
 use Rattle.fs_machine.specs.Runs.{View}
 use Rattle.fs_machine.specs.Laws.{IsRun, state_after}
 use Rattle.fs_machine.specs.Concerns.{actor_of}
+use Rattle.fs_machine.specs.Standing.{standing_by}
 use Rattle.fs_book.specs.Numbered.{by_count}
 
 -- what a machine was configured by
@@ -27,6 +29,12 @@ pub record Answers (config : Configuration) (log : List Entry) (entry : Entry) (
   pub before : IsJournal config log
   pub defined : refusal_of (state_after config log) entry ≡ None
   pub reply_is : reply ≡ (step (state_after config log) entry).reply
+
+-- after these the entry is taken, and whoever submitted it is told so
+pub record Tells (config : Configuration) (log : List Entry) (entry : Entry) (answer : Answer) : Type 0 where
+  pub answers : Answers config log entry answer.reply
+  -- how the connection whose act it was stands since
+  pub stands : answer.standing ≡ standing_by entry.act (state_after config (log ++ entry ∷ []))
 
 -- after these the entry is refused, or there is no memory for it
 pub record Refuses (config : Configuration) (log : List Entry) (entry : Entry) (why : Refusal) : Type 0 where

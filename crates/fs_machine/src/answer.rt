@@ -4,39 +4,52 @@ use crate::due::{due_job, is_now, slot_due};
 use crate::entry::Act;
 use crate::machine::Machine;
 use crate::reply::Reply;
+use crate::standing::Standing;
 use fs_ports::Wakes;
 use fs_state::{Core, Seen};
 
-/// What a submitted entry is answered: the reply to it, and who may have something to do since.
-///
-/// Of the latter no contract speaks: it only tells whoever submitted whom to wake.
+/// What a submitted entry is answered.
 #[derive(Drop)]
 pub struct Answer {
+    /// The reply to it.
     pub reply: Reply,
+    /// How the connection whose act it was stands since; none where it was nobody's.
+    pub standing: Option<Standing>,
+    /// Who may have something to do since. No contract speaks of it: it only tells whoever submitted whom to wake.
     pub wakes: Wakes,
 }
 
 impl Machine {
-    /// Who may have something to do since an act was done.
-    pub(crate) fn wakes_after(&self, act: &Act) -> Wakes {
+    /// Who may have something to do since an act was done, before which so many events had happened.
+    pub(crate) fn wakes_after(&self, act: &Act, events: u64) -> Wakes {
         let core = &self.core;
         if core.is_full() || core.stopping().is_some() {
             return Wakes::everybody();
         }
         match act {
             Act::Arrive | Act::Take { .. } | Act::Close { .. } => Wakes::nobody(),
-            Act::Command { .. } => busy_in(core, core.filled_jobs() > 0),
-            Act::Work { .. } | Act::Job { .. } | Act::Halt => busy_in(core, false),
+            Act::Command { .. } => {
+                let mut wakes = busy_in(core, core.filled_jobs() > 0);
+                // Only events bring frames to others than the one whose command it was.
+                if core.counts().all() != events {
+                    add_conns(&mut wakes, core);
+                }
+                wakes
+            }
+            Act::Work { .. } | Act::Job { .. } | Act::Halt => {
+                let mut wakes = busy_in(core, false);
+                add_conns(&mut wakes, core);
+                wakes
+            }
         }
     }
 }
 
-// The slots, the jobs and the connections for which there is something.
+// The slots and the jobs for which there is something.
 fn busy_in(core: &Core, may_begin_jobs: bool) -> Wakes {
     let seen = Seen::of(core, core.moment());
     let mut wakes = Wakes::nobody();
     add_slots(&mut wakes, &seen);
-    add_conns(&mut wakes, core);
     if may_begin_jobs || due_job(&seen).is_some() {
         wakes.add_jobs();
     }

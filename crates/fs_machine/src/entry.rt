@@ -1,6 +1,7 @@
 //! The entries of the journal, and what each costs.
 
 ghost use Rattle.std.specs.Prelude.{◌≡◌, ◌<◌, ◌+◌, ◌^◌, IfOk};
+ghost use Rattle.fs_machine.specs.Concerns.{actor_of};
 ghost use Rattle.fs_machine.specs.Entries.{cost_of};
 
 use fs_text::{Memory, Txt};
@@ -64,6 +65,18 @@ impl Act {
         match self {
             Act::Command { block, .. } => ENTRY_COST + block.as_bytes().len() as u64,
             _ => ENTRY_COST,
+        }
+    }
+
+    /// The connection whose act it is; none where it is nobody's.
+    pub(crate) fn conn(&self) -> Option<u32>
+        ensures { result ≡ actor_of self.now }
+    {
+        match self {
+            Act::Command { conn, .. } => Some(*conn),
+            Act::Take { conn } => Some(*conn),
+            Act::Close { conn, .. } => Some(*conn),
+            _ => None,
         }
     }
 

@@ -32,6 +32,7 @@ mod refused;
 mod replies;
 mod reply;
 mod shutdown;
+mod standing;
 mod subscribing;
 mod terms;
 mod texts;
@@ -51,3 +52,4 @@ pub use laws::{
 pub use machine::{Change, Machine};
 pub use refusal::Refusal;
 pub use reply::Reply;
+pub use standing::Standing;

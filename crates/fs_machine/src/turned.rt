@@ -9,7 +9,7 @@ use fs_doc::Config;
 
 impl Turned for Machine {
     ghost use Rattle.fs_book.specs.Numbered.{by_count_once};
-    ghost use Rattle.fs_machine.specs.Turned.{Answers, Refuses, opens, names, arrives};
+    ghost use Rattle.fs_machine.specs.Turned.{Tells, Refuses, opens, names, arrives};
 
     type Start = Config;
 
@@ -29,7 +29,7 @@ impl Turned for Machine {
 
     ghost fits = { λ _ _ _. Unit {0} };
 
-    ghost answers = { λ config log entry answer. Answers config log entry answer.reply };
+    ghost answers = { Tells };
 
     ghost refuses = { Refuses };
 
@@ -43,10 +43,16 @@ impl Turned for Machine {
 
     fn turn(&mut self, entry: Entry) -> Result<Answer, Refusal> {
         self.sound();
+        let events = self.core.counts().all();
         match self.step(&entry) {
             Ok(reply) => {
-                let wakes = self.wakes_after(&entry.act);
-                Ok(Answer { reply, wakes })
+                let standing = self.standing_by(&entry.act);
+                let wakes = self.wakes_after(&entry.act, events);
+                Ok(Answer {
+                    reply,
+                    standing,
+                    wakes,
+                })
             }
             Err(refusal) => Err(refusal),
         }

@@ -1,6 +1,6 @@
 use Rattle.std.proofs.Common.{sym, ap, ◌∙◌}
 use Rattle.fs_book.specs.Passes.{seen, mine, opening_state}
-use Rattle.fs_conn.specs.declared.standing.Standing.{Standing}
+use Rattle.fs_machine.specs.declared.standing.Standing.{Standing}
 use Rattle.fs_conn.specs.Play.{end_by}
 use Rattle.fs_machine.specs.Turned.{configured}
 use Rattle.fs_conn.proofs.TalkLemmas.{idle_by, holds_quiet, stops_holds, parted_by, departs_closed}

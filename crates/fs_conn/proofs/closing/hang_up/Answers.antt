@@ -9,7 +9,7 @@ returns-in-Ok-Some-clause-hangs g c = λ from rest h.
     hangs_closed _ _ _ from _ rest c.args.end c.wait_out.result
     (c.wait_out.ensures.closes from rest
     (input_ended _ _ _ from (seen c.args.pass.now) (seen c.attempt.new.pass) (mine c.args.pass.now) (mine c.attempt.new.pass) _ _ rest
-    c.in-Ok-Some.field-0-0 (rw c.in-Ok-Some.field-0-is at c.in-Ok-Some.ensures.tries) h))
+    c.in-Ok-Some.field-0-0.reply (rw c.in-Ok-Some.field-0-is at c.in-Ok-Some.ensures.tries) h))
 
 pub returns-in-Ok-None-clause-hangs : goal.returns-in-Ok-None-clause-hangs
 returns-in-Ok-None-clause-hangs g c = λ from rest h.

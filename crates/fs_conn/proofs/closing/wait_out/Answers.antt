@@ -12,7 +12,7 @@ pub returns-in-Ok-Some-clause-closes : goal.returns-in-Ok-Some-clause-closes
 returns-in-Ok-Some-clause-closes g c = λ from rest h. (
   refl,
   finishes _ _ _ from (seen c.drain.new.pass) (seen c.attempt.new.pass) (mine c.drain.new.pass) (mine c.attempt.new.pass) _ _ rest
-      c.in-Ok-Some.field-0-0 (rw c.in-Ok-Some.field-0-is at c.in-Ok-Some.ensures.tries)
+      c.in-Ok-Some.field-0-0.reply (rw c.in-Ok-Some.field-0-is at c.in-Ok-Some.ensures.tries)
       (c.in-Ok.ensures.drains from rest (c.waits.invariant.holds from rest h)),
 )
 

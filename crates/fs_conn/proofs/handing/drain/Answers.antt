@@ -1,4 +1,3 @@
-use Rattle.std.proofs.Common.{◌∙◌}
 use Rattle.fs_conn.proofs.handing.drain.Goals as goal
 
 pub returns-in-Err-clause-drains : goal.returns-in-Err-clause-drains

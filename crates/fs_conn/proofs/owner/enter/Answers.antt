@@ -16,7 +16,12 @@ returns-in-Ok-clause-ok g c =
     let ok = c.in-Ok.ensures.ok in
     entered_by (configured (opening_state c.args.book.now)) c.args.conn _ new.seat.me.0.start (mine old) (mine new) (met new) (seen old)
     (seen new) ok.0 c.now-moment.result c.args.act c.in-Ok.receipt.place c.in-Ok.receipt.answer.reply c.submit.ensures.book.1 c.now-moment.ensures ok.1 ok.2 ok.3
-    ok.4 ok.5 (old.sound.places 0 (mine old) refl) new.sound.owned c.requires.owns
+    ok.4 ok.5.answers (old.sound.places 0 (mine old) refl) new.sound.owned c.requires.owns
+
+pub returns-in-Ok-clause-stands : goal.returns-in-Ok-clause-stands
+returns-in-Ok-clause-stands g c =
+    let ok = c.in-Ok.ensures.ok in
+    rw (← ok.2) at ok.5.stands
 
 pub returns-in-Err-clause-owns : goal.returns-in-Err-clause-owns
 returns-in-Err-clause-owns g c =

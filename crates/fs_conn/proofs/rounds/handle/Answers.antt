@@ -10,7 +10,7 @@ returns-in_default-clause-handles g c = λ from rest h. stops_holds _ _ _ from (
 pub returns-in-Ok-Some-clause-handles : goal.returns-in-Ok-Some-clause-handles
 returns-in-Ok-Some-clause-handles g c = λ from rest h.
     commanded _ _ _ from (seen c.args.pass.now) (seen c.attempt.new.pass) (mine c.args.pass.now) (mine c.attempt.new.pass) _ _
-    c.args.block.now rest c.in-Ok-Some.field-0-0 c.requires.block
+    c.args.block.now rest c.in-Ok-Some.field-0-0.reply c.requires.block
     (rw (← c.in-Ok.ensures) (rw c.in-Ok-Some.field-0-is at c.in-Ok-Some.ensures.tries)) h
 
 pub returns-in-Err-clause-handles : goal.returns-in-Err-clause-handles

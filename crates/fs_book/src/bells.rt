@@ -9,13 +9,17 @@ const BELLS: usize = 512;
 // How often who is next reads the turn before it yields its processor at each read.
 const QUICK_READS: u32 = 100;
 
-// How often it reads the turn before it sleeps.
-const AWAKE_READS: u32 = 120;
+// How often a caller that is near reads the turn before it sleeps.
+const AWAKE_READS: u32 = 200;
+
+// So many callers, those whose turns are next, stay awake a while, since to yield a processor costs less than to be
+// woken.
+const NEAR: u64 = 16;
 
 // What a bell shows that nobody has set.
 const SILENT: u64 = 0;
 
-// How often a caller has read the turn as the next one, and whether it has set its bell since it last slept.
+// How often a caller has read the turn as one that is near, and whether it has set its bell since it last slept.
 #[derive(Drop)]
 pub struct Patience {
     reads: u32,
@@ -46,11 +50,11 @@ impl Bells {
         }
     }
 
-    // Lets a caller wait that has a ticket, and read the turn of an earlier one. Only who is next stays awake a while.
+    // Lets a caller wait that has a ticket, and read the turn of an earlier one. Only who is near stays awake a while.
     pub fn wait(&self, rt: &impl Wait, patience: &mut Patience, ticket: u64, turn: u64) {
-        let is_next = turn.wrapping_add(1) == ticket;
-        if is_next && patience.reads < AWAKE_READS {
-            if patience.reads < QUICK_READS {
+        let ahead = ticket.wrapping_sub(turn);
+        if ahead <= NEAR && patience.reads < AWAKE_READS {
+            if ahead == 1 && patience.reads < QUICK_READS {
                 hint::spin_loop();
             } else {
                 thread::yield_now();
@@ -66,9 +70,9 @@ impl Bells {
         }
     }
 
-    // Wakes the caller to whom the turn was passed, and the one behind, so that it is awake by its own turn.
+    // Wakes the caller to whom the turn was passed, and the one that is near since, so that it is awake in time.
     pub fn ring(&self, turn: u64) {
-        for ticket in [turn, turn.wrapping_add(1)] {
+        for ticket in [turn, turn.wrapping_add(NEAR)] {
             let bell = self.bell(ticket);
             if bell.load(Ordering::SeqCst) != SILENT {
                 bell.store(SILENT, Ordering::SeqCst);
